@@ -1,0 +1,73 @@
+-- What reads and writes do to the bytes that a stream shows, how its failed calls are counted, and
+-- what a stream in memory does.
+use Rattle.std.specs.Prelude.{ℕ, ◌+◌, ◌-◌, ◌^◌, ◌≤◌, min, List, ◌++◌, Option, option_map, Result, Ok, Err, Bool, false, ◌||◌, nat_lt, ◌==◌, length, drop, []}
+
+-- the bytes that a stream shows, with more at their end
+abbrev pub followed_by : Option (List ℕ) → List ℕ → Option (List ℕ)
+followed_by shown bytes = option_map (λ xs. xs ++ bytes) shown
+
+-- the bytes that a stream shows, with others in front
+abbrev pub after_bytes : List ℕ → Option (List ℕ) → Option (List ℕ)
+after_bytes bytes shown = option_map (λ xs. bytes ++ xs) shown
+
+-- the greatest value of a count, at which it stays
+abbrev pub most : ℕ
+most = 2 ^ 64 - 1
+
+abbrev pub one_more : ℕ → ℕ
+one_more count = min (count + 1) most
+
+-- a call failed in between, as far as the count can tell
+abbrev pub FailedSince : ℕ → ℕ → Type 0
+FailedSince old new = one_more old ≤ new
+
+-- whether a write took some of the bytes that it was handed
+abbrev pub takes_some : {E : Type 0} → Result ℕ E → List ℕ → Bool
+takes_some (Ok n) bytes = nat_lt 0 n || (length bytes == 0)
+takes_some (Err e) bytes = false
+
+-- ---- a stream in memory
+
+-- what reads will give and writes gave, how many bytes may be written in all, how many move in a call,
+-- which call fails, and how many were made and failed
+pub record Memory : Type 0 where
+  pub left : List ℕ
+  pub written : List ℕ
+  pub room : ℕ
+  pub piece : ℕ
+  pub fail_at : ℕ
+  pub calls : ℕ
+  pub failed : ℕ
+
+-- before its first call
+abbrev pub fresh : List ℕ → ℕ → ℕ → ℕ → Memory
+fresh input room piece fail_at =
+    record { left = input; written = []; room = room; piece = piece; fail_at = fail_at; calls = 0; failed = 0 }
+
+-- whether the next call is the one that fails, and whether a write fails at the next call
+abbrev pub is_call : Memory → Bool
+is_call s = one_more s.calls == s.fail_at
+
+abbrev pub is_full : Memory → Bool
+is_full s = is_call s || (length s.written == s.room)
+
+-- one more call was made; a call was refused
+abbrev pub called : Memory → Memory
+called s = record s { calls = one_more s.calls }
+
+abbrev pub refused : Memory → Memory
+refused s = record s { failed = one_more s.failed }
+
+-- how many bytes a read gives into a buffer, and a write takes of as many
+abbrev pub given_count : Memory → ℕ → ℕ
+given_count s buffer = min buffer (min s.piece (length s.left))
+
+abbrev pub taken_count : Memory → ℕ → ℕ
+taken_count s bytes = min bytes (min s.piece (s.room - length s.written))
+
+-- so many bytes were read; these were written
+abbrev pub given : Memory → ℕ → Memory
+given s n = record s { left = drop n s.left }
+
+abbrev pub taken : Memory → List ℕ → Memory
+taken s bytes = record s { written = s.written ++ bytes }

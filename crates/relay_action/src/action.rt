@@ -1,0 +1,118 @@
+//! What is done to a document.
+ghost use Rattle.std.specs.Prelude.{IsUtf8, ◌≡◌, IfOk, IfErr, OnOk, None, unwrap_or};
+ghost use Rattle.std.specs.List.{list_any};
+ghost use Rattle.relay_action.specs.Limits.{HasLength, IsOneLine, is_line_end, source_limit};
+
+use crate::fault::ActionFault;
+use crate::text::Text;
+use std::alloc::{AllocError, Global};
+
+/// The most bytes of a source.
+pub const SOURCE_LIMIT: usize = 1_048_576;
+
+/// What an index action stores: a text of 1 to 1,048,576 bytes on one line, so with no line feed and
+/// no carriage return. It is not parsed.
+#[derive(Debug, Drop)]
+pub struct Source {
+    text: Text,
+    pub ghost length_ok: { HasLength source_limit text },
+    pub ghost line_ok: { IsOneLine text },
+    pub ghost utf8: { ∥ IsUtf8 text ∥₁ },
+}
+
+impl Source {
+    /// The text.
+    pub fn text(&self) -> &str
+        ensures { result.now ≡ self.now.text }
+    {
+        self.text.as_str()
+    }
+
+    /// An equal source. `AllocError`: there was no memory for its text.
+    pub fn copy(&self) -> Result<Source, AllocError>
+        ensures { IfOk result (λ s. s ≡ self.now) }
+    {
+        Ok(Source {
+            text: self.text.copy()?,
+        })
+    }
+}
+
+// Whether a byte that ends a line, or may, stands among the bytes.
+fn holds_line_end(bytes: &[u8]) -> bool
+    ensures { result ≡ list_any is_line_end bytes.now }
+{
+    bytes.iter().any(|b| *b == b'\n' || *b == b'\r')
+}
+
+/// The kind of an action: the name that the bulk API has for it.
+#[derive(Clone, Copy, Debug, PartialEq, Eq)]
+pub enum ActionKind {
+    /// `index`: the source becomes the document.
+    Index,
+    /// `delete`: the document is removed.
+    Delete,
+}
+
+/// What is done to a document.
+#[derive(Debug, Drop)]
+pub enum Action {
+    /// The source becomes the document.
+    Index(Source),
+    /// The document is removed.
+    Delete,
+}
+
+impl Action {
+    ghost use Rattle.relay_action.specs.Faults.{source_fault};
+    ghost use Rattle.relay_action.specs.Actions.{IsIndexOf, kind_of};
+
+    /// The action that stores a source, which it copies. The faults are those of [`ActionFault`] from
+    /// `SourceEmpty` to `SourceNewline`, the first that holds, and then `Memory`.
+    pub fn index(alloc: Global, source: &str) -> Result<Action, ActionFault>
+        ensures ok { IfOk result (IsIndexOf source.now) }
+        ensures accepted { OnOk result (source_fault source.now ≡ None) }
+        ensures refused { IfErr result
+            (λ e. e ≡ unwrap_or (source_fault source.now) ActionFault.Memory) }
+    {
+        if source.is_empty() {
+            return Err(ActionFault::SourceEmpty);
+        }
+        if source.len() > SOURCE_LIMIT {
+            return Err(ActionFault::SourceLong);
+        }
+        if holds_line_end(source.as_bytes()) {
+            return Err(ActionFault::SourceNewline);
+        }
+        Ok(Action::Index(Source {
+            text: Text::new(alloc, source).map_err(|_| ActionFault::Memory)?,
+        }))
+    }
+
+    /// The action that removes a document.
+    pub fn delete() -> Action
+        ensures { result ≡ Action.Delete }
+    {
+        Action::Delete
+    }
+
+    /// Its kind.
+    pub fn kind(&self) -> ActionKind
+        ensures { result ≡ kind_of self.now }
+    {
+        match self {
+            Action::Index(_) => ActionKind::Index,
+            Action::Delete => ActionKind::Delete,
+        }
+    }
+
+    /// An equal action. `AllocError`: there was no memory for its source.
+    pub fn copy(&self) -> Result<Action, AllocError>
+        ensures { IfOk result (λ a. a ≡ self.now) }
+    {
+        match self {
+            Action::Index(source) => Ok(Action::Index(source.copy()?)),
+            Action::Delete => Ok(Action::Delete),
+        }
+    }
+}

@@ -1,0 +1,33 @@
+//! The words that all other crates share: documents, sources, actions and writes, which keep the
+//! limits in their types, operations and the mail that carries them to a lane, and the byte streams
+//! that are read and written. It stands on no other crate of the workspace.
+//!
+//! It carries these promises: a constructor accepts exactly what keeps the limits, a copy equals its
+//! original, and a stream that shows its bytes shows exactly those that went through it.
+#![tactic(auto)]
+
+pub mod action;
+pub mod fault;
+pub mod key;
+pub mod list;
+pub mod mail;
+pub mod memory;
+pub mod operation;
+pub mod standard;
+pub mod stream;
+#[cfg(test)]
+mod tests;
+pub mod text;
+pub mod write;
+
+pub use action::{Action, ActionKind, SOURCE_LIMIT, Source};
+pub use fault::ActionFault;
+pub use key::{DocKey, ID_LIMIT, INDEX_LIMIT};
+pub use list::List;
+pub use mail::{Body, Mail};
+pub use memory::MemStream;
+pub use operation::{Op, OpName};
+pub use standard::StdStream;
+pub use stream::{ByteIn, ByteOut, ByteStream, StreamFailed, write_all};
+pub use text::Text;
+pub use write::Write;

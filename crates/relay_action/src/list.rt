@@ -1,0 +1,42 @@
+//! A list that contracts see as the list of its items.
+ghost use Rattle.std.specs.Prelude.{◌≡◌};
+
+use std::marker::Model;
+
+/// An owned list, in the order of its vector.
+#[derive(Debug, Drop)]
+pub struct List<T> {
+    held: Vec<T>,
+}
+
+impl<T> Model for List<T> {
+    ghost use Rattle.std.specs.Prelude.{List as Items};
+
+    ghost Value = { Items T };
+
+    ghost view = { λ l. l.held.items };
+}
+
+impl<T> List<T> {
+    /// The list of a vector's items. It takes no memory.
+    pub fn of(held: Vec<T>) -> List<T>
+        ensures { result ≡ held.items }
+    {
+        List { held }
+    }
+
+    /// The items, lent.
+    pub fn as_slice(&self) -> &[T]
+        ensures { result.now ≡ self.now }
+    {
+        self.held.as_slice()
+    }
+
+    /// The vector with the items. It takes no memory.
+    pub fn into_vec(self) -> Vec<T>
+        ensures { result.items ≡ self }
+    {
+        let List { held } = self;
+        held
+    }
+}

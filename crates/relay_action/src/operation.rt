@@ -1,0 +1,52 @@
+//! Operations: what a producer asks for, under a name.
+ghost use Rattle.std.specs.Prelude.{◌≡◌, IfOk};
+
+use crate::action::Action;
+use crate::key::DocKey;
+use std::alloc::AllocError;
+
+/// The name of an operation: who put it, and as which of its operations, counted from 1 over all lanes.
+#[derive(Clone, Copy, Debug, PartialEq, Eq)]
+pub struct OpName {
+    /// The producer, from 0.
+    pub producer: u32,
+    /// Which of its operations this is, from 1.
+    pub number: u64,
+}
+
+/// An operation of a producer.
+#[derive(Debug, Drop)]
+pub struct Op {
+    /// The producer, from 0.
+    pub producer: u32,
+    /// Which of its operations this is, from 1.
+    pub number: u64,
+    /// The document.
+    pub key: DocKey,
+    /// What is to be done to it.
+    pub action: Action,
+}
+
+impl Op {
+    /// The operation's name.
+    pub fn name(&self) -> OpName
+        ensures { result ≡ record { producer = self.now.producer; number = self.now.number } }
+    {
+        OpName {
+            producer: self.producer,
+            number: self.number,
+        }
+    }
+
+    /// An equal operation. `AllocError`: there was no memory for its texts.
+    pub fn copy(&self) -> Result<Op, AllocError>
+        ensures { IfOk result (λ o. o ≡ self.now) }
+    {
+        Ok(Op {
+            producer: self.producer,
+            number: self.number,
+            key: self.key.copy()?,
+            action: self.action.copy()?,
+        })
+    }
+}

@@ -1,0 +1,67 @@
+//! Streams over the readers and writers of std.
+ghost use Rattle.std.specs.Prelude.{◌≡◌, None};
+ghost use Rattle.relay_action.specs.Streams.{one_more};
+
+use crate::stream::{ByteIn, ByteOut, ByteStream, StreamFailed};
+use std::io;
+use std::marker::Model;
+
+/// A reader or a writer of std as a stream. It shows no bytes, and counts the calls that failed. Each
+/// call makes one call of what it holds, of any error of which it answers [`StreamFailed`].
+#[derive(Drop)]
+pub struct StdStream<T> {
+    inner: T,
+    failed: u64,
+}
+
+impl<T> Model for StdStream<T> {
+    ghost use Rattle.std.specs.Prelude.{ℕ};
+
+    ghost Value = { T × ℕ };
+
+    ghost view = { λ s. (s.inner, s.failed) };
+}
+
+impl<T> StdStream<T> {
+    /// A stream over a reader or a writer.
+    pub fn new(inner: T) -> StdStream<T>
+        ensures { result ≡ (inner, 0) }
+    {
+        StdStream { inner, failed: 0 }
+    }
+
+    // Counts a failed call.
+    fn fail(&mut self) -> StreamFailed
+        ensures { self.new ≡ (self.old.0, one_more self.old.1) }
+    {
+        self.failed = self.failed.saturating_add(1);
+        StreamFailed
+    }
+}
+
+impl<T> ByteStream for StdStream<T> {
+    ghost left = { λ s. None };
+
+    ghost written = { λ s. None };
+
+    ghost failed = { λ s. s.1 };
+}
+
+impl<R: io::Read> ByteIn for StdStream<R> {
+    fn read(&mut self, buffer: &mut [u8]) -> Result<usize, StreamFailed> {
+        match self.inner.read(buffer) {
+            Ok(count) => Ok(count),
+            Err(_) => Err(self.fail()),
+        }
+    }
+}
+
+impl<W: io::Write> ByteOut for StdStream<W> {
+    fn write(&mut self, bytes: &[u8]) -> Result<usize, StreamFailed> {
+        match self.inner.write(bytes) {
+            Ok(0) if !bytes.is_empty() => Err(self.fail()),
+            Ok(count) => Ok(count),
+            Err(_) => Err(self.fail()),
+        }
+    }
+}

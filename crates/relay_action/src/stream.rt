@@ -1,0 +1,76 @@
+//! Streams of bytes that show what went through them, where they can, and count the calls that failed.
+ghost use Rattle.std.specs.Prelude.{◌≡◌, ◌<◌, ◌≤◌, ℕ, List, [], length, take, Option, IfOk, IfErr, OnOk, OnErr, is_ok, if◌then◌else◌};
+ghost use Rattle.std.specs.Io.KnownBytes.{IsAtEnd};
+ghost use Rattle.relay_action.specs.Streams.{followed_by, after_bytes, one_more, takes_some, FailedSince};
+
+use thiserror::Error;
+
+/// A call of a stream failed. It moved no bytes, and is not repeated.
+#[derive(Clone, Copy, Debug, PartialEq, Eq, Error)]
+#[error("stream failed")]
+pub struct StreamFailed;
+
+/// What a stream shows to contracts. A stream that shows no bytes has `None`, of which every clause
+/// below holds.
+pub trait ByteStream {
+    /// The bytes that reads will give from here on.
+    ghost left: { Self → Option (List ℕ) };
+
+    /// The bytes that writes gave it.
+    ghost written: { Self → Option (List ℕ) };
+
+    /// How many of its calls failed. At 2^64 - 1 the count stays.
+    ghost failed: { Self → ℕ };
+}
+
+/// A stream that is read.
+pub trait ByteIn: ByteStream {
+    /// Reads some bytes into the front of the buffer, and answers how many. At most as many come as
+    /// the buffer has room for, and none come only at the end or where it has no room. After
+    /// [`StreamFailed`] nothing was read.
+    fn read(&mut self, buffer: &mut [u8]) -> Result<usize, StreamFailed>
+        ensures bound { IfOk result (λ n. n ≤ length buffer.new) }
+        ensures bytes { IfOk result
+            (λ n. Self.left self.old ≡ after_bytes (take n buffer.new) (Self.left self.new)) }
+        ensures end { IfOk result
+            (λ n. n ≡ 0 → 0 < length buffer.new → IsAtEnd (Self.left self.old)) }
+        ensures err { OnErr result (Self.left self.new ≡ Self.left self.old) }
+        ensures count { Self.failed self.new ≡
+            (if is_ok result then Self.failed self.old else one_more (Self.failed self.old)) }
+        ensures written { Self.written self.new ≡ Self.written self.old };
+}
+
+/// A stream that is written.
+pub trait ByteOut: ByteStream {
+    /// Writes some bytes from the front of a slice, and answers how many. A call that takes none of
+    /// the bytes that it was handed counts as failed. After [`StreamFailed`] nothing was written.
+    fn write(&mut self, bytes: &[u8]) -> Result<usize, StreamFailed>
+        ensures bound { IfOk result (λ n. n ≤ length bytes.now) }
+        ensures bytes { IfOk result
+            (λ n. Self.written self.new ≡ followed_by (Self.written self.old) (take n bytes.now)) }
+        ensures err { OnErr result (Self.written self.new ≡ Self.written self.old) }
+        ensures count { Self.failed self.new ≡
+            (if takes_some result bytes.now then Self.failed self.old else one_more (Self.failed self.old)) }
+        ensures left { Self.left self.new ≡ Self.left self.old };
+}
+
+/// Writes all the bytes. `Err(sent)`: a write failed, and exactly the first `sent` bytes went out, fewer
+/// than all. The write that failed is not repeated.
+#[tactic(auto, using(crate::proofs::Shown::followed_by_piece))]
+pub fn write_all<W: ByteOut>(out: &mut W, bytes: &[u8]) -> Result<(), usize>
+    ensures ok { OnOk result (W.written out.new ≡ followed_by (W.written out.old) bytes.now) }
+    ensures sent { IfErr result (λ sent. (sent < length bytes.now)
+        × (W.written out.new ≡ followed_by (W.written out.old) (take sent bytes.now))) }
+    ensures failed { OnErr result (FailedSince (W.failed out.old) (W.failed out.new)) }
+    ensures succeeded { OnOk result (W.failed out.new ≡ W.failed out.old) }
+    ensures left { W.left out.new ≡ W.left out.old }
+{
+    let mut sent = 0;
+    while sent < bytes.len() {
+        match out.write(&bytes[sent..]) {
+            Ok(count) if count > 0 => sent += count,
+            _ => return Err(sent),
+        }
+    }
+    Ok(())
+}
