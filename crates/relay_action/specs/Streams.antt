@@ -1,14 +1,5 @@
--- What reads and writes do to the bytes that a stream shows, how its failed calls are counted, and
--- what a stream in memory does.
-use Rattle.std.specs.Prelude.{ℕ, ◌+◌, ◌-◌, ◌^◌, ◌≤◌, min, List, ◌++◌, Option, option_map, Result, Ok, Err, Bool, false, ◌||◌, nat_lt, ◌==◌, length, drop, []}
-
--- the bytes that a stream shows, with more at their end
-abbrev pub followed_by : Option (List ℕ) → List ℕ → Option (List ℕ)
-followed_by shown bytes = option_map (λ xs. xs ++ bytes) shown
-
--- the bytes that a stream shows, with others in front
-abbrev pub after_bytes : List ℕ → Option (List ℕ) → Option (List ℕ)
-after_bytes bytes shown = option_map (λ xs. bytes ++ xs) shown
+-- How the failed calls of a stream are counted, and what a stream in memory does.
+use Rattle.std.specs.Prelude.{ℕ, ◌+◌, ◌-◌, ◌^◌, ◌≤◌, min, List, ◌++◌, Result, Ok, Err, Bool, false, ◌||◌, nat_lt, ◌==◌, length, drop, []}
 
 -- the greatest value of a count, at which it stays
 abbrev pub most : ℕ

@@ -9,6 +9,7 @@
 pub mod action;
 pub mod fault;
 pub mod key;
+pub mod lane;
 pub mod list;
 pub mod mail;
 pub mod memory;
@@ -23,6 +24,7 @@ pub mod write;
 pub use action::{Action, ActionKind, SOURCE_LIMIT, Source};
 pub use fault::ActionFault;
 pub use key::{DocKey, ID_LIMIT, INDEX_LIMIT};
+pub use lane::lane_of;
 pub use list::List;
 pub use mail::{Body, Mail};
 pub use memory::MemStream;

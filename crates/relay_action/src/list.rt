@@ -19,10 +19,10 @@ impl<T> Model for List<T> {
 
 impl<T> List<T> {
     /// The list of a vector's items. It takes no memory.
-    pub fn of(held: Vec<T>) -> List<T>
-        ensures { result ≡ held.items }
+    pub fn of(items: Vec<T>) -> List<T>
+        ensures { result ≡ items.items }
     {
-        List { held }
+        List { held: items }
     }
 
     /// The items, lent.

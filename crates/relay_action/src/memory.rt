@@ -1,7 +1,7 @@
 //! A stream in memory, for tests and for streams within one process.
 ghost use Rattle.std.specs.Prelude.{◌≡◌, ◌++◌, ◌-◌, ◌<◌, ◌≤◌, min, [], length, take, drop, not, None, Some, IfOk, OnErr, is_ok, if◌then◌else◌};
-ghost use Rattle.std.specs.Io.KnownBytes.{IsAtEnd};
-ghost use Rattle.relay_action.specs.Streams.{fresh, is_call, is_full, called, refused, given, taken, given_count, taken_count, followed_by, after_bytes, one_more, takes_some};
+ghost use Rattle.std.specs.Io.KnownBytes.{append_known, prepend_known, IsAtEnd};
+ghost use Rattle.relay_action.specs.Streams.{fresh, is_call, is_full, called, refused, given, taken, given_count, taken_count, one_more, takes_some};
 
 use crate::stream::{ByteIn, ByteOut, ByteStream, StreamFailed};
 use std::alloc::{AllocError, Global};
@@ -130,7 +130,7 @@ impl ByteIn for MemStream {
     fn read(&mut self, buffer: &mut [u8]) -> Result<usize, StreamFailed>
         ensures bound { IfOk result (λ n. n ≤ length buffer.new) }
         ensures bytes { IfOk result
-            (λ n. Some self.old.left ≡ after_bytes (take n buffer.new) (Some self.new.left)) }
+            (λ n. Some self.old.left ≡ prepend_known (take n buffer.new) (Some self.new.left)) }
         ensures end { IfOk result
             (λ n. n ≡ 0 → 0 < length buffer.new → IsAtEnd (Some self.old.left)) }
         ensures err { OnErr result (Some self.new.left ≡ Some self.old.left) }
@@ -155,7 +155,7 @@ impl ByteOut for MemStream {
     fn write(&mut self, bytes: &[u8]) -> Result<usize, StreamFailed>
         ensures bound { IfOk result (λ n. n ≤ length bytes.now) }
         ensures bytes { IfOk result
-            (λ n. Some self.new.written ≡ followed_by (Some self.old.written) (take n bytes.now)) }
+            (λ n. Some self.new.written ≡ append_known (Some self.old.written) (take n bytes.now)) }
         ensures err { OnErr result (Some self.new.written ≡ Some self.old.written) }
         ensures count { self.new.failed ≡
             (if takes_some result bytes.now then self.old.failed else one_more self.old.failed) }

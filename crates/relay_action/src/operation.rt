@@ -32,9 +32,14 @@ impl Op {
     pub fn name(&self) -> OpName
         ensures { result ≡ record { producer = self.now.producer; number = self.now.number } }
     {
+        let Op {
+            producer,
+            number,
+            ..
+        } = self;
         OpName {
-            producer: self.producer,
-            number: self.number,
+            producer: *producer,
+            number: *number,
         }
     }
 

@@ -1,7 +1,7 @@
 //! Streams of bytes that show what went through them, where they can, and count the calls that failed.
 ghost use Rattle.std.specs.Prelude.{◌≡◌, ◌<◌, ◌≤◌, ℕ, List, [], length, take, Option, IfOk, IfErr, OnOk, OnErr, is_ok, if◌then◌else◌};
-ghost use Rattle.std.specs.Io.KnownBytes.{IsAtEnd};
-ghost use Rattle.relay_action.specs.Streams.{followed_by, after_bytes, one_more, takes_some, FailedSince};
+ghost use Rattle.std.specs.Io.KnownBytes.{append_known, prepend_known, IsAtEnd};
+ghost use Rattle.relay_action.specs.Streams.{one_more, takes_some, FailedSince};
 
 use thiserror::Error;
 
@@ -31,7 +31,7 @@ pub trait ByteIn: ByteStream {
     fn read(&mut self, buffer: &mut [u8]) -> Result<usize, StreamFailed>
         ensures bound { IfOk result (λ n. n ≤ length buffer.new) }
         ensures bytes { IfOk result
-            (λ n. Self.left self.old ≡ after_bytes (take n buffer.new) (Self.left self.new)) }
+            (λ n. Self.left self.old ≡ prepend_known (take n buffer.new) (Self.left self.new)) }
         ensures end { IfOk result
             (λ n. n ≡ 0 → 0 < length buffer.new → IsAtEnd (Self.left self.old)) }
         ensures err { OnErr result (Self.left self.new ≡ Self.left self.old) }
@@ -47,7 +47,7 @@ pub trait ByteOut: ByteStream {
     fn write(&mut self, bytes: &[u8]) -> Result<usize, StreamFailed>
         ensures bound { IfOk result (λ n. n ≤ length bytes.now) }
         ensures bytes { IfOk result
-            (λ n. Self.written self.new ≡ followed_by (Self.written self.old) (take n bytes.now)) }
+            (λ n. Self.written self.new ≡ append_known (Self.written self.old) (take n bytes.now)) }
         ensures err { OnErr result (Self.written self.new ≡ Self.written self.old) }
         ensures count { Self.failed self.new ≡
             (if takes_some result bytes.now then Self.failed self.old else one_more (Self.failed self.old)) }
@@ -56,11 +56,11 @@ pub trait ByteOut: ByteStream {
 
 /// Writes all the bytes. `Err(sent)`: a write failed, and exactly the first `sent` bytes went out, fewer
 /// than all. The write that failed is not repeated.
-#[tactic(auto, using(crate::proofs::Shown::followed_by_piece))]
+#[tactic(auto, using(crate::proofs::Shown::append_known_piece))]
 pub fn write_all<W: ByteOut>(out: &mut W, bytes: &[u8]) -> Result<(), usize>
-    ensures ok { OnOk result (W.written out.new ≡ followed_by (W.written out.old) bytes.now) }
+    ensures ok { OnOk result (W.written out.new ≡ append_known (W.written out.old) bytes.now) }
     ensures sent { IfErr result (λ sent. (sent < length bytes.now)
-        × (W.written out.new ≡ followed_by (W.written out.old) (take sent bytes.now))) }
+        × (W.written out.new ≡ append_known (W.written out.old) (take sent bytes.now))) }
     ensures failed { OnErr result (FailedSince (W.failed out.old) (W.failed out.new)) }
     ensures succeeded { OnOk result (W.failed out.new ≡ W.failed out.old) }
     ensures left { W.left out.new ≡ W.left out.old }

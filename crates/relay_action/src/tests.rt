@@ -2,6 +2,7 @@
 use crate::action::{Action, ActionKind};
 use crate::fault::ActionFault;
 use crate::key::DocKey;
+use crate::lane::lane_of;
 use crate::list::List;
 use crate::memory::MemStream;
 use crate::operation::{Op, OpName};
@@ -197,5 +198,26 @@ fn streams_of_std(rt: HostRuntime) -> Result<(), Fail> {
     let mut room = [0; 2];
     let mut full = StdStream::new(room.as_mut_slice());
     assert_eq!(rt; write_all(&mut full, b"abc"), Err(2));
+    Ok(())
+}
+
+// The ids 0 to 7 of one index.
+#[test]
+fn lanes_of_documents(rt: HostRuntime) -> Result<(), Fail> {
+    let rows = [
+        ("0", 6u32),
+        ("1", 1),
+        ("2", 0),
+        ("3", 3),
+        ("4", 2),
+        ("5", 5),
+        ("6", 4),
+        ("7", 7),
+    ];
+    for (id, lane) in rows {
+        let key = DocKey::new(rt.alloc(), "books", id)?;
+        assert_eq!(rt; lane_of(&key, 8), lane);
+        assert_eq!(rt; lane_of(&key, 1), 0);
+    }
     Ok(())
 }

@@ -1,0 +1,12 @@
+pub mod Plain
+pub mod Parts
+pub mod ReadsBack
+pub mod OneMember
+pub mod Pieces
+pub mod Asking
+pub mod Deciding
+pub mod Taking
+pub mod Readings
+pub mod Fronts
+pub mod Exclusion
+pub mod Totality

@@ -1,0 +1,9 @@
+use Rattle.std.proofs.Common.{ap, refl}
+use Rattle.relay_ndjson.specs.Reading.{reading}
+use Rattle.relay_ndjson.proofs.Readings.{open_steps}
+use Rattle.relay_ndjson.proofs.parser.Parser.next.Goals as goal
+
+pub returns-in-Err-clause-lines : goal.returns-in-Err-clause-lines
+returns-in-Err-clause-lines g c =
+    let shown = reading (g.R.ByteStream.left c.args.reader.now) (g.R.ByteStream.failed c.args.reader.now) in
+    open_steps _ _ _ _ (ap shown c.self.view_is) c.in-Open.is (record { fault = c.in-Err.ensures.lines; line = refl; phase = refl })

@@ -1,0 +1,49 @@
+-- The grammar and the faults exclude each other, and each is determined.
+use Rattle.std.specs.Prelude.{◌≡◌, ◌↔◌, ◌⊎◌, ◌≤◌, ℕ, List, Option, None, Some}
+use Rattle.relay_action.specs.Faults.{key_fault}
+use Rattle.relay_action.specs.declared.action.ActionKind.{ActionKind}
+use Rattle.relay_action.specs.declared.action.ActionKind.TheVariants as action
+use Rattle.relay_ndjson.specs.declared.kind.LineKind.{LineKind}
+use Rattle.relay_ndjson.specs.Lines.{TakesText, TakesBlank}
+use Rattle.relay_ndjson.specs.Metadata.{Says, line_fault, source_line_fault}
+use Rattle.relay_ndjson.specs.Operations.{Operation, blank_limit, TakesOperation, HoldsNoMore, Breaks}
+
+-- a text has no fault exactly where it asks for an action on a document that may be
+abbrev pub TextDecides : Type 0
+TextDecides = (default : Option (List ℕ)) (text : List ℕ) →
+    (line_fault default text ≡ None) ↔ ((a : ActionKind) × (index : List ℕ) × (id : List ℕ) × Says default text a index id × (key_fault index id ≡ None))
+
+-- no operation begins where a fault is
+abbrev pub NoOperationAtFault : Type 0
+NoOperationAtFault = (default new : Option (List ℕ)) (bytes : List ℕ) (n at : ℕ) (op : Operation) (k : LineKind) →
+    TakesOperation default (Some bytes) new n op → Breaks default (Some bytes) at k → ⊥
+
+abbrev pub NoEndAtFault : Type 0
+NoEndAtFault = (default : Option (List ℕ)) (bytes : List ℕ) (at : ℕ) (k : LineKind) → HoldsNoMore (Some bytes) → Breaks default (Some bytes) at k → ⊥
+
+abbrev pub NoOperationAtEnd : Type 0
+NoOperationAtEnd = (default new : Option (List ℕ)) (bytes : List ℕ) (n : ℕ) (op : Operation) → TakesOperation default (Some bytes) new n op → HoldsNoMore (Some bytes) → ⊥
+
+-- there is one first fault
+abbrev pub OneFault : Type 0
+OneFault = (default : Option (List ℕ)) (bytes : List ℕ) (at place : ℕ) (k l : LineKind) → Breaks default (Some bytes) at k → Breaks default (Some bytes) place l → (at ≡ place) × (k ≡ l)
+
+-- ---- one of them always holds
+
+-- a source line follows where the action wants one
+abbrev pub HasSource : ActionKind → Option (List ℕ) → Type 0
+HasSource action.Index rest = (source : List ℕ) × (new : Option (List ℕ)) × TakesText rest new source × (source_line_fault source ≡ None)
+HasSource action.Delete rest = Unit {0}
+
+-- the lines of an operation stand at the front
+abbrev pub HasLines : Option (List ℕ) → Option (List ℕ) → Type 0
+HasLines default old =
+    (a : ActionKind) × (index : List ℕ) × (id : List ℕ) × (text : List ℕ) × (rest : Option (List ℕ)) × TakesText old rest text
+    × Says default text a index id × (key_fault index id ≡ None) × HasSource a rest
+
+abbrev pub BeginsOperation : Option (List ℕ) → Option (List ℕ) → Type 0
+BeginsOperation default old = (n : ℕ) × (mid : Option (List ℕ)) × (n ≤ blank_limit) × TakesBlank n old mid × HasLines default mid
+
+abbrev pub AlwaysDecided : Type 0
+AlwaysDecided = (default : Option (List ℕ)) (bytes : List ℕ) →
+    BeginsOperation default (Some bytes) ⊎ HoldsNoMore (Some bytes) ⊎ ((at : ℕ) × (k : LineKind) × Breaks default (Some bytes) at k)

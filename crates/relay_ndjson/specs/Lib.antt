@@ -1,0 +1,9 @@
+pub mod Kinds
+pub mod Bulk
+pub mod Sends
+pub mod Escapes
+pub mod Lines
+pub mod Metadata
+pub mod Operations
+pub mod Reading
+pub mod Laws

@@ -1,0 +1,119 @@
+-- What an action line asks for, and the first fault that it has.
+use Rattle.std.specs.Prelude.{◌≡◌, ℕ, Bool, true, not, ◌&&◌, ◌||◌, bytes_eq, List, codes, decimal, if◌then◌else◌, Option, None, Some, is_some, option_map, option_and_then, unwrap_or, IsUtf8}
+use denote.Ref.{Bor}
+use Rattle.std.specs.Str.{is_utf8}
+use Rattle.std.specs.Fmt.{signed_decimal}
+use Rattle.serde_json.specs.Data.{Num, unsigned, negative, float, Data, null, boolean, number, string, array, object, Members, member, no_members}
+use Rattle.serde_json.specs.Find.{get, as_object, as_str}
+use Rattle.serde_json.specs.Read.{read}
+use Rattle.relay_action.specs.Faults.{key_fault, source_fault}
+use Rattle.relay_action.specs.declared.action.ActionKind.{ActionKind}
+use Rattle.relay_action.specs.declared.action.ActionKind.TheVariants as action
+use Rattle.relay_ndjson.specs.declared.kind.LineKind.{LineKind}
+use Rattle.relay_ndjson.specs.declared.kind.LineKind.TheVariants as kind
+
+-- what a text that may be absent shows
+abbrev pub shown : Option (Bor (List ℕ)) → Option (List ℕ)
+shown text = option_map (λ t. t.now) text
+
+-- the members of metadata
+abbrev pub is_document : List ℕ → Bool
+is_document name = bytes_eq name (codes "_id") || bytes_eq name (codes "_index")
+
+abbrev pub is_version : List ℕ → Bool
+is_version name = bytes_eq name (codes "version") || bytes_eq name (codes "version_type")
+
+abbrev pub is_field : List ℕ → Bool
+is_field name = is_document name || is_version name
+
+abbrev pub all_names : (List ℕ → Bool) → Members → Bool
+all_names known no_members = true
+all_names known (member name d ms) = known name && all_names known ms
+
+-- all members have such names
+abbrev pub has_only : (List ℕ → Bool) → Data → Bool
+has_only known d = all_names known (unwrap_or (as_object d) no_members)
+
+-- an id is a text, or an integer, which stands for its decimal text
+abbrev pub number_text : Num → Option (List ℕ)
+number_text (unsigned n) = Some (decimal n)
+number_text (negative z) = Some (signed_decimal z)
+number_text (float x) = None
+
+abbrev pub id_text : Data → Option (List ℕ)
+id_text null = None
+id_text (boolean b) = None
+id_text (number n) = number_text n
+id_text (string s) = Some s
+id_text (array ds) = None
+id_text (object ms) = None
+
+abbrev pub id_of : Data → Option (List ℕ)
+id_of metadata = option_and_then id_text (get (codes "_id") metadata)
+
+-- the default serves where no index is given
+abbrev pub text_or : Option (List ℕ) → Option Data → Option (List ℕ)
+text_or default None = default
+text_or default (Some d) = as_str d
+
+abbrev pub index_of : Option (List ℕ) → Data → Option (List ℕ)
+index_of default metadata = text_or default (get (codes "_index") metadata)
+
+-- ---- the grammar
+
+abbrev pub kind_name : ActionKind → List ℕ
+kind_name action.Index = codes "index"
+kind_name action.Delete = codes "delete"
+
+-- the metadata name a document
+abbrev pub IsDocument : Option (List ℕ) → Data → List ℕ → List ℕ → Type 0
+IsDocument default m index id = (has_only is_document m ≡ true) × (index_of default m ≡ Some index) × (id_of m ≡ Some id)
+
+-- the value asks for an action on a document
+abbrev pub Asks : Option (List ℕ) → Data → ActionKind → List ℕ → List ℕ → Type 0
+Asks default d a index id =
+    (ms : Members) × (d ≡ object (member (kind_name a) (object ms) no_members)) × IsDocument default (object ms) index id
+
+-- the text says so
+abbrev pub Says : Option (List ℕ) → List ℕ → ActionKind → List ℕ → List ℕ → Type 0
+Says default text a index id = IsUtf8 text × (d : Data) × (read text ≡ Some d) × Asks default d a index id
+
+-- ---- the first fault, in the order of the table
+
+-- a fault where there is nothing, else what follows
+abbrev pub fault_or : {A : Type 0} → LineKind → (A → Option LineKind) → Option A → Option LineKind
+fault_or k f None = Some k
+fault_or k f (Some a) = f a
+
+abbrev pub metadata_fault : Option (List ℕ) → Data → Option LineKind
+metadata_fault default m =
+    if not (has_only is_field m) then Some kind.UnsupportedField
+    else if not (has_only is_document m) then Some kind.VersionGiven
+    else fault_or kind.MissingIndex (λ index. fault_or kind.MissingId (λ id. option_map kind.Action (key_fault index id)) (id_of m)) (index_of default m)
+
+-- the one member of an object
+abbrev pub sole : Members → Option (List ℕ × Data)
+sole no_members = None
+sole (member name d no_members) = Some (name, d)
+sole (member name d (member other e ms)) = None
+
+-- the name and the metadata of an action
+abbrev pub action_of : Data → Option (List ℕ × Data)
+action_of d = option_and_then (λ ms. option_and_then (λ a. if is_some (as_object a.1) then Some a else None) (sole ms)) (as_object d)
+
+abbrev pub action_kind : List ℕ → Option ActionKind
+action_kind name =
+    if bytes_eq name (codes "index") then Some action.Index
+    else if bytes_eq name (codes "delete") then Some action.Delete
+    else None
+
+abbrev pub value_fault : Option (List ℕ) → Data → Option LineKind
+value_fault default d =
+    fault_or kind.NotOneAction (λ a. fault_or kind.UnsupportedAction (λ k. metadata_fault default a.1) (action_kind a.0)) (action_of d)
+
+abbrev pub line_fault : Option (List ℕ) → List ℕ → Option LineKind
+line_fault default text = if is_utf8 text then fault_or kind.NotJson (value_fault default) (read text) else Some kind.NotJson
+
+-- the first fault of a source line
+abbrev pub source_line_fault : List ℕ → Option LineKind
+source_line_fault text = if is_utf8 text then option_map kind.Action (source_fault text) else Some kind.NotJson

@@ -1,0 +1,126 @@
+-- The producer grammar over a stream: operations at its front, and what is no operation. An action line is as in the
+-- OpenSearch bulk API: an index action has its source on the line behind it.
+use Rattle.std.specs.Prelude.{◌≡◌, ◌≢◌, ℕ, ◌+◌, ◌≤◌, ◌⊎◌, min, Bool, true, false, List, [], Option, None, Some, Result, Ok, Err, if◌then◌else◌}
+use Rattle.std.specs.Io.KnownBytes.{IsAtEnd}
+use Rattle.relay_action.specs.Streams.{most, one_more}
+use Rattle.relay_action.specs.Actions.{IsIndexOf}
+use Rattle.relay_action.specs.Faults.{key_fault}
+use Rattle.relay_action.specs.declared.key.DocKey.{DocKey}
+use Rattle.relay_action.specs.declared.action.Action.{Action}
+use Rattle.relay_action.specs.declared.action.Action.TheVariants.{Index, Delete}
+use Rattle.relay_ndjson.specs.Lines.{TakesText, IsLong, TakesBlank, is_read}
+use Rattle.relay_action.specs.declared.action.ActionKind.TheVariants as action
+use Rattle.relay_ndjson.specs.declared.kind.LineKind.{LineKind}
+use Rattle.relay_ndjson.specs.declared.kind.LineKind.TheVariants as kind
+use Rattle.relay_ndjson.specs.declared.kind.InputFault.{InputFault}
+use Rattle.relay_ndjson.specs.declared.lines.Found.{Found}
+use Rattle.relay_ndjson.specs.Metadata.{Says, line_fault, source_line_fault}
+
+-- an operation that a producer hands over: a document, and what is done to it
+abbrev pub Operation : Type 0
+Operation = DocKey × Action
+
+-- the most blank lines in succession
+abbrev pub blank_limit : ℕ
+blank_limit = 65536
+
+-- a count of lines stays at its greatest value
+abbrev pub counted : ℕ → ℕ
+counted n = min n most
+
+-- ---- operations
+
+-- an action line, and for an index action its source line
+abbrev pub TakesAction : Option (List ℕ) → Option (List ℕ) → Option (List ℕ) → DocKey → Action → Type 0
+TakesAction default old new key (Index source) =
+    (text : List ℕ) × (rest : Option (List ℕ)) × TakesText old rest text × Says default text action.Index key.index key.id × TakesText rest new source.text
+TakesAction default old new key Delete =
+    (text : List ℕ) × TakesText old new text × Says default text action.Delete key.index key.id
+
+abbrev pub line_count : Action → ℕ
+line_count (Index source) = 2
+line_count Delete = 1
+
+-- n blank lines, and then the lines of an operation
+abbrev pub TakesOperation : Option (List ℕ) → Option (List ℕ) → Option (List ℕ) → ℕ → Operation → Type 0
+TakesOperation default old new n op =
+    (mid : Option (List ℕ)) × (n ≤ blank_limit) × TakesBlank n old mid × TakesAction default mid new op.0 op.1
+
+-- blank lines alone are left
+abbrev pub HoldsNoMore : Option (List ℕ) → Type 0
+HoldsNoMore old = (n : ℕ) × (end : Option (List ℕ)) × (n ≤ blank_limit) × TakesBlank n old end × IsAtEnd end
+
+-- ---- faults
+
+-- the line at the front is neither blank nor an action line
+abbrev pub BreaksAction : Option (List ℕ) → Option (List ℕ) → LineKind → Type 0
+BreaksAction default old k =
+    (IsLong old × (k ≡ kind.LineLong))
+    ⊎ ((text : List ℕ) × (rest : Option (List ℕ)) × TakesText old rest text × (text ≢ []) × (line_fault default text ≡ Some k))
+
+-- the line at the front is no source
+abbrev pub BreaksSource : Option (List ℕ) → LineKind → Type 0
+BreaksSource old k =
+    (IsLong old × (k ≡ kind.LineLong))
+    ⊎ ((text : List ℕ) × (rest : Option (List ℕ)) × TakesText old rest text × (source_line_fault text ≡ Some k))
+
+-- an index action stands at the front, and no source follows it. The fault is in the first line or the second
+abbrev pub LacksSource : Option (List ℕ) → Option (List ℕ) → ℕ → LineKind → Type 0
+LacksSource default old place k =
+    (text : List ℕ) × (rest : Option (List ℕ)) × (index : List ℕ) × (id : List ℕ) × TakesText old rest text
+    × Says default text action.Index index id × (key_fault index id ≡ None)
+    × ((IsAtEnd rest × (k ≡ kind.SourceMissing) × (place ≡ 1)) ⊎ (BreaksSource rest k × (place ≡ 2)))
+
+-- one blank line more than may be
+abbrev pub IsPastBlank : ℕ → Option (List ℕ) → LineKind → Type 0
+IsPastBlank n old k = (n ≡ blank_limit) × (rest : Option (List ℕ)) × TakesText old rest [] × (k ≡ kind.LineLong)
+
+-- what stands behind n blank lines is no operation, since the line at this place has this fault
+abbrev pub BreaksAt : Option (List ℕ) → ℕ → Option (List ℕ) → ℕ → LineKind → Type 0
+BreaksAt default n old place k =
+    (BreaksAction default old k × (place ≡ 1)) ⊎ (IsPastBlank n old k × (place ≡ 1)) ⊎ LacksSource default old place k
+
+-- the line at this place, counted from 1, is the first that breaks the grammar
+abbrev pub Breaks : Option (List ℕ) → Option (List ℕ) → ℕ → LineKind → Type 0
+Breaks default old at k =
+    (n : ℕ) × (mid : Option (List ℕ)) × (place : ℕ) × (n ≤ blank_limit) × TakesBlank n old mid × BreaksAt default n mid place k × (at ≡ n + place)
+
+-- a fault names the first line that breaks the grammar, unless a read failed or memory ran out
+abbrev pub IsFault : Option (List ℕ) → Option (List ℕ) → ℕ → InputFault → Type 0
+IsFault default old count e =
+    (e.kind ≡ kind.Read) ⊎ (e.kind ≡ kind.Memory)
+    ⊎ ((at : ℕ) × Breaks default old at e.kind × (e.line ≡ counted (count + at)))
+
+-- ---- what the steps of the reader answer: whether there is a line, or an action line
+
+abbrev pub TakesNext : Option (List ℕ) → Option (List ℕ) → ℕ → ℕ → List ℕ → Result Bool InputFault → Type 0
+TakesNext old new count after text (Ok true) = TakesText old new text × (after ≡ one_more count)
+TakesNext old new count after text (Ok false) = IsAtEnd old × (new ≡ old) × (after ≡ count)
+TakesNext old new count after text (Err e) =
+    (e.line ≡ one_more count) × ((e.kind ≡ kind.Read) ⊎ (e.kind ≡ kind.Memory) ⊎ ((e.kind ≡ kind.LineLong) × IsLong old))
+
+abbrev pub SkipsBlank : Option (List ℕ) → Option (List ℕ) → ℕ → ℕ → List ℕ → Result Bool InputFault → Type 0
+SkipsBlank old new count after text (Ok true) =
+    (n : ℕ) × (mid : Option (List ℕ)) × (n ≤ blank_limit) × TakesBlank n old mid × TakesText mid new text × (text ≢ []) × (after ≡ counted (count + n + 1))
+SkipsBlank old new count after text (Ok false) = HoldsNoMore old
+SkipsBlank old new count after text (Err e) = (default : Option (List ℕ)) → IsFault default old count e
+
+-- the source line of the action on a line
+abbrev pub TakesSource : Option (List ℕ) → Option (List ℕ) → ℕ → ℕ → ℕ → Result Action InputFault → Type 0
+TakesSource old new line count after (Ok a) =
+    (text : List ℕ) × TakesText old new text × IsIndexOf text a × (after ≡ one_more count)
+TakesSource old new line count after (Err e) =
+    (e.kind ≡ kind.Read) ⊎ (e.kind ≡ kind.Memory)
+    ⊎ (IsAtEnd old × (e.kind ≡ kind.SourceMissing) × (e.line ≡ line))
+    ⊎ (BreaksSource old e.kind × (e.line ≡ one_more count))
+
+abbrev pub Reads : Option (List ℕ) → Option (List ℕ) → Option (List ℕ) → ℕ → ℕ → Result (Option Found) InputFault → Type 0
+Reads default old new count after (Ok (Some f)) =
+    (n : ℕ) × TakesOperation default old new n (f.key, f.action) × (f.line ≡ counted (count + n + 1)) × (after ≡ counted (count + n + line_count f.action))
+Reads default old new count after (Ok None) = HoldsNoMore old
+Reads default old new count after (Err e) = IsFault default old count e
+
+-- how many calls of the stream have failed after an answer
+abbrev pub failed_after : {T : Type 0} → Result T InputFault → ℕ → ℕ
+failed_after (Ok x) n = n
+failed_after (Err e) n = if is_read e.kind then one_more n else n

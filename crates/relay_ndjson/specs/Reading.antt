@@ -1,0 +1,70 @@
+-- What a reader of operations is, and what each call of `next` answers.
+use Rattle.std.specs.Prelude.{◌≡◌, ℕ, ◌+◌, List, [], Option, None, Some, Result, Ok, Err}
+use Rattle.std.specs.Io.KnownBytes.{prepend_known}
+use Rattle.relay_ndjson.specs.declared.kind.LineKind.TheVariants as kind
+use Rattle.relay_ndjson.specs.declared.kind.InputFault.{InputFault}
+use Rattle.relay_ndjson.specs.declared.parser.Phase.{Phase}
+use Rattle.relay_ndjson.specs.declared.parser.Phase.TheVariants as phase
+use Rattle.relay_ndjson.specs.Operations.{Operation, counted, TakesOperation, HoldsNoMore, IsFault, line_count}
+
+-- a parser: what was read and not used yet, how many lines were taken, the line of the last action, and what stands
+-- for an absent index name
+pub record Parsing : Type 0 where
+  pub held : List ℕ
+  pub count : ℕ
+  pub line : ℕ
+  pub phase : Phase
+  pub default : Option (List ℕ)
+
+-- before its first call
+abbrev pub start : Option (List ℕ) → Parsing
+start default = record { held = []; count = 0; line = 0; phase = phase.Open; default = default }
+
+-- a parser and its stream: the bytes that were not used yet, where they are known, and how many calls of the stream failed
+pub record Reading : Type 0 where
+  pub ahead : Option (List ℕ)
+  pub count : ℕ
+  pub line : ℕ
+  pub phase : Phase
+  pub default : Option (List ℕ)
+  pub failed : ℕ
+
+abbrev pub reading : Option (List ℕ) → ℕ → Parsing → Reading
+reading left failed p =
+    record { ahead = prepend_known p.held left; count = p.count; line = p.line; phase = p.phase; default = p.default; failed = failed }
+
+-- before the first call
+abbrev pub fresh : Option (List ℕ) → ℕ → Option (List ℕ) → Reading
+fresh ahead failed default =
+    record { ahead = ahead; count = 0; line = 0; phase = phase.Open; default = default; failed = failed }
+
+-- an operation was taken
+pub record Takes (old new : Reading) (n : ℕ) (op : Operation) : Type 0 where
+  pub lines : TakesOperation old.default old.ahead new.ahead n op
+  pub line : new.line ≡ counted (old.count + n + 1)
+  pub count : new.count ≡ counted (old.count + n + line_count op.1)
+  pub phase : new.phase ≡ phase.Open
+  pub default : new.default ≡ old.default
+
+-- blank lines alone were left
+pub record Ends (old new : Reading) : Type 0 where
+  pub lines : HoldsNoMore old.ahead
+  pub line : new.line ≡ old.line
+  pub phase : new.phase ≡ phase.Ended
+
+-- a fault was answered
+pub record Fails (old new : Reading) (e : InputFault) : Type 0 where
+  pub fault : IsFault old.default old.ahead old.count e
+  pub line : new.line ≡ old.line
+  pub phase : new.phase ≡ phase.Failed e.line
+
+abbrev pub Answers : Reading → Reading → Result (Option Operation) InputFault → Type 0
+Answers old new (Ok (Some op)) = (n : ℕ) × Takes old new n op
+Answers old new (Ok None) = Ends old new
+Answers old new (Err e) = Fails old new e
+
+-- after the end there is none, and after a fault the answer is that it failed, with the line of that fault
+abbrev pub Steps : Phase → Reading → Reading → Result (Option Operation) InputFault → Type 0
+Steps phase.Open old new result = Answers old new result
+Steps phase.Ended old new result = (result ≡ Ok None) × (new ≡ old)
+Steps (phase.Failed line) old new result = (result ≡ Err (record { line = line; kind = kind.Failed })) × (new ≡ old)

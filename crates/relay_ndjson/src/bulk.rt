@@ -1,0 +1,138 @@
+//! Writes as bulk lines.
+ghost use Rattle.std.specs.Prelude.{◌≡◌, ◌++◌, IfOk, OnOk, OnErr, codes, decimal};
+ghost use Rattle.relay_ndjson.specs.Bulk.{source_line, write_text, text_of, opening, Begins};
+ghost use Rattle.relay_ndjson.specs.Escapes.{EscapesByTable};
+ghost use Rattle.relay_ndjson.specs.Sends.{WritesText, FailsOnWrite};
+
+use crate::quoted::{between_quotes, escape_of};
+use itoa::Buffer;
+use relay_action::{Action, ByteOut, Write, write_all};
+use std::alloc::{AllocError, Global};
+use thiserror::Error;
+
+/// Why a text was not written whole.
+#[derive(Clone, Copy, Debug, PartialEq, Eq, Error)]
+pub enum TextFault {
+    /// A write of the stream failed. Exactly the first `sent` bytes of the text went out, fewer than
+    /// all.
+    #[error("write failed")]
+    Write {
+        /// How many bytes went out.
+        sent: u64,
+    },
+    /// There was no memory for the text. None of it went out.
+    #[error("out of memory")]
+    Memory,
+}
+
+// How an action line begins, up to the text of the id.
+fn opening(action: &Action) -> &'static [u8]
+    ensures { result.now ≡ opening action.now }
+{
+    match action {
+        Action::Index(_) => b"{\"index\":{\"_id\":\"",
+        Action::Delete => b"{\"delete\":{\"_id\":\"",
+    }
+}
+
+// Appends what an action line says of the document: its start, the text of the id and that of the index
+// name, both as they stand between quotes.
+fn append_document(
+    text: &mut Vec<u8>,
+    action: &Action,
+    id: &[u8],
+    index: &[u8],
+) -> Result<(), AllocError>
+    ensures ok { OnOk result (text.new.items ≡ text.old.items
+        ++ opening action.now ++ id.now ++ codes "\",\"_index\":\"" ++ index.now) }
+    ensures front { Begins text.old.items text.new.items }
+{
+    text.extend_from_slice(opening(action))?;
+    text.extend_from_slice(id)?;
+    text.extend_from_slice(b"\",\"_index\":\"")?;
+    text.extend_from_slice(index)
+}
+
+// Appends the rest of an action line and its end.
+fn append_version(text: &mut Vec<u8>, version: u64) -> Result<(), AllocError>
+    ensures ok { OnOk result (text.new.items ≡ text.old.items
+        ++ codes "\",\"version\":" ++ decimal version ++ codes ",\"version_type\":\"external\"}}\n") }
+    ensures front { Begins text.old.items text.new.items }
+{
+    let mut digits = Buffer::new();
+    text.extend_from_slice(b"\",\"version\":")?;
+    text.extend_from_slice(digits.format(version).as_bytes())?;
+    text.extend_from_slice(b",\"version_type\":\"external\"}}\n")
+}
+
+// Appends what follows an action line: for an index action its source and a line end.
+fn append_source(text: &mut Vec<u8>, action: &Action) -> Result<(), AllocError>
+    ensures ok { OnOk result (text.new.items ≡ text.old.items ++ source_line action.now) }
+    ensures front { Begins text.old.items text.new.items }
+{
+    if let Action::Index(source) = action {
+        text.extend_from_slice(source.text().as_bytes())?;
+        text.push(b'\n')?;
+    }
+    Ok(())
+}
+
+// Appends the lines of a write. An error leaves some of them.
+#[tactic(auto, using(crate::proofs::Parts::lines_in_parts))]
+fn append_lines(alloc: Global, text: &mut Vec<u8>, write: &Write) -> Result<(), AllocError>
+    ensures ok { OnOk result (text.new.items ≡ text.old.items ++ write_text write.now) }
+    ensures front { Begins text.old.items text.new.items }
+{
+    let id = escape_of(alloc, write.key.id())?;
+    let index = escape_of(alloc, write.key.index())?;
+    append_document(
+        text,
+        &write.action,
+        between_quotes(write.key.id(), &id),
+        between_quotes(write.key.index(), &index),
+    )?;
+    append_version(text, write.version)?;
+    append_source(text, &write.action)
+}
+
+/// Appends the lines of a write to a text: the action line, and for an index action the source.
+/// `AllocError`: there was no memory for them, and the text is as before.
+pub fn append_write(alloc: Global, text: &mut Vec<u8>, write: &Write) -> Result<(), AllocError>
+    ensures ok { OnOk result (text.new.items ≡ text.old.items ++ write_text write.now) }
+    ensures err { OnErr result (text.new.items ≡ text.old.items) }
+{
+    let length = text.len();
+    let done = append_lines(alloc, text, write);
+    if done.is_err() {
+        text.truncate(length);
+    }
+    done
+}
+
+/// The bulk text of writes: their lines, one after another. `AllocError`: there was no memory for it.
+pub fn bulk_text(alloc: Global, writes: &[Write]) -> Result<Vec<u8>, AllocError>
+    ensures { IfOk result (λ text. text.items ≡ text_of writes.now) }
+{
+    let mut text = Vec::new(alloc);
+    for write in writes {
+        append_write(alloc, &mut text, write)?;
+    }
+    Ok(text)
+}
+
+/// Writes the lines of a write to a stream. The faults say what went out.
+pub fn write_write<W: ByteOut>(alloc: Global, out: &mut W, write: &Write) -> Result<(), TextFault>
+    ensures text { WritesText (W.written out.old) (W.written out.new) (write_text write.now) result }
+    ensures failed { FailsOnWrite (W.failed out.old) (W.failed out.new) result }
+    ensures left { W.left out.new ≡ W.left out.old }
+{
+    let mut text = Vec::new(alloc);
+    append_write(alloc, &mut text, write).map_err(|_| TextFault::Memory)?;
+    write_all(out, text.as_slice()).map_err(|sent| TextFault::Write { sent: sent as u64 })
+}
+
+/// A law: a byte of a text stands in a JSON string as the table of escapes says.
+#[tactic(auto, unfolding(json::specs::Print::escape_byte))]
+pub fn escapes_by_table()
+    ensures { EscapesByTable }
+{}

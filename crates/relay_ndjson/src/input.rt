@@ -1,0 +1,56 @@
+//! The operations of a producer with the stream that they are read from.
+ghost use Rattle.std.specs.Prelude.{◌≡◌};
+
+use crate::kind::InputFault;
+use crate::parser::Parser;
+use relay_action::{Action, ByteIn, DocKey};
+use std::alloc::Global;
+use std::marker::Model;
+
+/// A producer's input: a stream of NDJSON, read in pieces of 64 KiB. `new` takes no memory; the first
+/// `next` makes room for a piece, and what is held does not grow with the input.
+#[derive(Drop)]
+pub struct Input<'a, R: ByteIn> {
+    reader: R,
+    parser: Parser<'a>,
+}
+
+impl<'a, R: ByteIn> Model for Input<'a, R> {
+    ghost use Rattle.relay_ndjson.specs.Reading.{Reading, reading};
+
+    ghost Value = { Reading };
+
+    ghost view = { λ i. reading (R.left i.reader) (R.failed i.reader) i.parser };
+}
+
+impl<'a, R: ByteIn> Input<'a, R> {
+    ghost use Rattle.relay_ndjson.specs.Metadata.{shown};
+    ghost use Rattle.relay_ndjson.specs.Operations.{failed_after};
+    ghost use Rattle.relay_ndjson.specs.Reading.{fresh, Steps};
+
+    /// The input of a stream of which nothing was read. An operation that names no index has the default
+    /// index, if one is given; its length is judged with each operation that uses it.
+    pub fn new(alloc: Global, reader: R, default_index: Option<&'a str>) -> Input<'a, R>
+        ensures { result ≡ fresh (R.left reader) (R.failed reader) (shown default_index.entry) }
+    {
+        Input {
+            reader,
+            parser: Parser::new(alloc, default_index),
+        }
+    }
+
+    /// The next operation, or `None` at the end, as [`Parser::next`] says.
+    pub fn next(&mut self) -> Result<Option<(DocKey, Action)>, InputFault>
+        ensures lines { Steps self.old.phase self.old self.new result }
+        ensures failed { self.new.failed ≡ failed_after result self.old.failed }
+    {
+        self.parser.next(&mut self.reader)
+    }
+
+    /// The number of the action line that was given last, 0 before the first. A fault does not change it.
+    pub fn line(&self) -> u64
+        ensures { result ≡ self.now.line }
+    {
+        self.parser.line()
+    }
+}

@@ -1,0 +1,14 @@
+//! What the producer grammar and its faults have to do with one another.
+ghost use Rattle.relay_ndjson.specs.Laws.{TextDecides, NoOperationAtFault, NoEndAtFault, NoOperationAtEnd, OneFault, AlwaysDecided};
+
+/// Laws. A text has no fault exactly where it asks for an action on a document that may be. Over bytes
+/// that are known, an operation, the end and a fault exclude each other, one of them is always there, and
+/// there is one first fault.
+pub fn faults_exclude()
+    ensures text { TextDecides }
+    ensures operation { NoOperationAtFault }
+    ensures end { NoEndAtFault }
+    ensures neither { NoOperationAtEnd }
+    ensures one { OneFault }
+    ensures total { AlwaysDecided }
+{}

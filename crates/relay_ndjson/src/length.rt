@@ -1,0 +1,78 @@
+//! How long bulk lines are, without writing them.
+ghost use Rattle.std.specs.Prelude.{◌≡◌, ◌*◌, ◌^◌, ◌<◌, ◌≤◌, length, decimal};
+ghost use Rattle.json.specs.Print.{escape, escape_byte};
+ghost use Rattle.relay_ndjson.specs.Bulk.{action_text, source_line, write_text, text_of};
+
+use itoa::Buffer;
+use relay_action::{Action, Write};
+
+// How many bytes stand for a byte in a JSON string.
+#[tactic(auto, unfolding(json::specs::Print::escape_byte))]
+fn escape_len(byte: u8) -> u64
+    ensures value { result ≡ length (escape_byte byte) }
+    ensures bound { result ≤ 6 }
+{
+    match byte {
+        b'"' | b'\\' | 8 | 9 | 10 | 12 | 13 => 2,
+        0..=31 => 6,
+        _ => 1,
+    }
+}
+
+// How many bytes stand for a text in a JSON string, without its quotes.
+fn escaped_len(text: &str) -> u64
+    requires { length text.now < 2 ^ 32 }
+    ensures value { result ≡ length (escape text.now) }
+    ensures bound { result ≤ 6 * length text.now }
+{
+    let mut total = 0;
+    for byte in text.as_bytes() {
+        total += escape_len(*byte);
+    }
+    total
+}
+
+// How many digits a number has.
+fn digits(n: u64) -> u64
+    ensures value { result ≡ length (decimal n) }
+    ensures bound { result ≤ 20 }
+{
+    Buffer::new().format(n).len() as u64
+}
+
+// The length of an action line, without its end.
+#[tactic(auto, using(crate::proofs::Parts::length_of_action_text))]
+fn action_len(write: &Write) -> u64
+    ensures value { result ≡ length (action_text write.now) }
+    ensures bound { result < 2 ^ 16 }
+{
+    let name: u64 = match write.action {
+        Action::Index(_) => 5,
+        Action::Delete => 6,
+    };
+    64 + name + escaped_len(write.key.id()) + escaped_len(write.key.index()) + digits(write.version)
+}
+
+/// The length of a write's lines, in bytes: below 2^21. It takes no memory.
+pub fn write_len(write: &Write) -> u64
+    ensures value { result ≡ length (write_text write.now) }
+    ensures bound { result < 2 ^ 21 }
+{
+    let source = match &write.action {
+        Action::Index(source) => source.text().len() as u64 + 1,
+        Action::Delete => 0,
+    };
+    action_len(write) + 1 + source
+}
+
+/// The length of the bulk text of at most 10,000 writes, in bytes. It takes no memory.
+pub fn bulk_len(writes: &[Write]) -> u64
+    requires { length writes.now ≤ 10000 }
+    ensures { result ≡ length (text_of writes.now) }
+{
+    let mut total = 0;
+    for write in writes {
+        total += write_len(write);
+    }
+    total
+}

@@ -1,0 +1,26 @@
+//! Bulk lines: the text of writes for `POST /_bulk`, and the operations that a producer hands over as
+//! NDJSON. It stands on `relay_action` for values and streams, on `serde_json` for JSON, on `itoa` for
+//! numbers and on `memchr` for line ends.
+//!
+//! It carries these promises: what is written is the bulk text of the writes, and what a producer's
+//! lines are read as is what the producer grammar says of them, up to the first line that breaks it,
+//! which is named with its kind.
+#![tactic(auto)]
+
+mod action_line;
+pub mod bulk;
+pub mod input;
+pub mod kind;
+pub mod laws;
+pub mod length;
+mod lines;
+pub mod parser;
+mod piece;
+mod quoted;
+
+pub use bulk::{TextFault, append_write, bulk_text, write_write};
+pub use input::Input;
+pub use kind::{InputFault, LineKind};
+pub use length::{bulk_len, write_len};
+pub use lines::{BLANK_LIMIT, LINE_LIMIT};
+pub use parser::{Parser, Phase};

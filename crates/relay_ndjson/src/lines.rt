@@ -1,0 +1,282 @@
+//! Lines of a producer, and the operations that stand on them.
+ghost use Rattle.std.specs.Prelude.{◌≡◌, ◌≤◌, ◌++◌, [], OnOk, IfErr, length};
+ghost use Rattle.std.specs.Bool.{OnTrue, OnFalse};
+ghost use Rattle.std.specs.Io.KnownBytes.{prepend_known};
+ghost use Rattle.relay_action.specs.Streams.{most};
+ghost use Rattle.relay_ndjson.specs.Lines.{IsStart, IsUnbroken, IsRaw, IsPastLimit, IsAddFault, TakesPart, TakesLine, EndsLine, failed_by, line_limit};
+
+use crate::action_line::{read_action, read_source};
+use crate::kind::{InputFault, LineKind};
+use crate::piece::Piece;
+use memchr::memchr;
+use relay_action::{Action, ActionKind, ByteIn, DocKey};
+use std::alloc::Global;
+
+/// The most bytes of a line, without its end.
+pub const LINE_LIMIT: usize = 1_114_112;
+
+/// The most blank lines in succession.
+pub const BLANK_LIMIT: u64 = 65_536;
+
+/// How a line was found.
+#[derive(Clone, Copy, Debug, PartialEq, Eq)]
+pub enum Line {
+    /// With its end.
+    Ended,
+    /// The last line, without one.
+    Open,
+    /// No bytes were left.
+    Absent,
+}
+
+/// An operation, and the number of its action line.
+#[derive(Drop)]
+pub struct Found {
+    pub line: u64,
+    pub key: DocKey,
+    pub action: Action,
+}
+
+// Whether a line with these bytes added is longer than a line may be, whatever follows them.
+#[tactic(auto, using(crate::proofs::Pieces::last_byte))]
+fn is_past_limit(line: &[u8], bytes: &[u8]) -> bool
+    requires { IsStart line.now }
+    ensures past { OnTrue result (IsPastLimit (line.now ++ bytes.now)) }
+    ensures start { OnFalse result (IsStart (line.now ++ bytes.now)) }
+{
+    if bytes.len() > LINE_LIMIT + 1 {
+        return true;
+    }
+    let length = line.len() + bytes.len();
+    if length != LINE_LIMIT + 1 {
+        return length > LINE_LIMIT;
+    }
+    match bytes.last() {
+        Some(byte) => *byte != b'\r',
+        None => false,
+    }
+}
+
+// Adds bytes to a line, unless that makes it longer than a line may be.
+fn add(line: &mut Vec<u8>, bytes: &[u8]) -> Result<(), LineKind>
+    requires { IsStart line.old.items }
+    ensures ok { OnOk result ((line.new.items ≡ line.old.items ++ bytes.now) × IsStart line.new.items) }
+    ensures err { IfErr result (IsAddFault (line.old.items ++ bytes.now)) }
+{
+    if is_past_limit(line.as_slice(), bytes) {
+        return Err(LineKind::LineLong);
+    }
+    line.extend_from_slice(bytes).map_err(|_| LineKind::Memory)
+}
+
+// Drops the carriage return before a line feed.
+fn drop_return(line: &mut Vec<u8>)
+    requires { IsStart line.old.items }
+    ensures raw { IsRaw line.new.items line.old.items }
+    ensures length { length line.new.items ≤ line_limit }
+{
+    if line.last() == Some(&b'\r') {
+        line.pop();
+    }
+}
+
+// What the bytes of a line are where the input ends behind them.
+fn end_of_line(line: &[u8]) -> Result<Line, LineKind>
+    ensures { EndsLine line.now result }
+{
+    if line.len() > LINE_LIMIT {
+        return Err(LineKind::LineLong);
+    }
+    Ok(if line.is_empty() {
+        Line::Absent
+    } else {
+        Line::Open
+    })
+}
+
+/// The lines of a stream: what was read and not used yet, the line that was taken last, and how many
+/// were taken.
+#[derive(Drop)]
+pub struct Lines {
+    pub piece: Piece,
+    pub text: Vec<u8>,
+    pub count: u64,
+    ghost in_range: { count ≤ most },
+}
+
+impl Lines {
+    ghost use Rattle.relay_ndjson.specs.Metadata.{shown};
+    ghost use Rattle.relay_ndjson.specs.Operations.{TakesNext, SkipsBlank, TakesSource, Reads, failed_after};
+
+    /// Lines of which none was taken.
+    pub fn new(alloc: Global) -> Lines
+        ensures piece { result.piece ≡ [] }
+        ensures count { result.count ≡ 0 }
+    {
+        Lines {
+            piece: Piece::new(alloc),
+            text: Vec::new(alloc),
+            count: 0,
+        }
+    }
+
+    // Adds what the piece holds of the line that has begun, and tells whether that ends it.
+    fn take_part(&mut self) -> Result<bool, LineKind>
+        requires unbroken { IsUnbroken self.old.text.items }
+        requires start { IsStart self.old.text.items }
+        ensures part { TakesPart self.old.text.items self.old.piece self.new.text.items self.new.piece result }
+        ensures count { self.new.count ≡ self.old.count }
+    {
+        match memchr(b'\n', self.piece.held()) {
+            Some(end) => {
+                if let Err(fault) = add(&mut self.text, &self.piece.held()[..end]) {
+                    return Err(fault);
+                }
+                drop_return(&mut self.text);
+                self.piece.skip(end + 1);
+                Ok(true)
+            }
+            None => {
+                if let Err(fault) = add(&mut self.text, self.piece.held()) {
+                    return Err(fault);
+                }
+                let count = self.piece.held().len();
+                self.piece.skip(count);
+                Ok(false)
+            }
+        }
+    }
+
+    // Reads a line into the buffer.
+    fn read_line<R: ByteIn>(&mut self, reader: &mut R) -> Result<Line, LineKind>
+        ensures line { TakesLine (prepend_known self.old.piece (R.left reader.old))
+            (prepend_known self.new.piece (R.left reader.new)) self.new.text.items result }
+        ensures failed { R.failed reader.new ≡ failed_by result (R.failed reader.old) }
+        ensures count { self.new.count ≡ self.old.count }
+    {
+        self.text.clear();
+        'pieces: loop {
+            match self.piece.refill(reader) {
+                Ok(true) => {}
+                Ok(false) => return end_of_line(self.text.as_slice()),
+                Err(fault) => return Err(fault),
+            }
+            match self.take_part() {
+                Ok(true) => return Ok(Line::Ended),
+                Ok(false) => {}
+                Err(fault) => return Err(fault),
+            }
+        }
+    }
+
+    // Takes a line, if there is one.
+    fn take_line<R: ByteIn>(&mut self, reader: &mut R) -> Result<bool, InputFault>
+        ensures line { TakesNext (prepend_known self.old.piece (R.left reader.old))
+            (prepend_known self.new.piece (R.left reader.new)) self.old.count self.new.count self.new.text.items result }
+        ensures failed { R.failed reader.new ≡ failed_after result (R.failed reader.old) }
+    {
+        let number = self.count.saturating_add(1);
+        let line = match self.read_line(reader) {
+            Ok(line) => line,
+            Err(kind) => return Err(InputFault { line: number, kind }),
+        };
+        match line {
+            Line::Absent => Ok(false),
+            Line::Ended | Line::Open => {
+                self.count = number;
+                Ok(true)
+            }
+        }
+    }
+
+    // Takes blank lines and the action line behind them, if there is one.
+    fn skip_blank<R: ByteIn>(&mut self, reader: &mut R) -> Result<bool, InputFault>
+        ensures line { SkipsBlank (prepend_known self.old.piece (R.left reader.old))
+            (prepend_known self.new.piece (R.left reader.new)) self.old.count self.new.count self.new.text.items result }
+        ensures failed { R.failed reader.new ≡ failed_after result (R.failed reader.old) }
+    {
+        for blank in 0..BLANK_LIMIT + 1 {
+            let found = match self.take_line(reader) {
+                Ok(found) => found,
+                Err(fault) => return Err(fault),
+            };
+            if !found {
+                return Ok(false);
+            }
+            if !self.text.is_empty() {
+                return Ok(true);
+            }
+        }
+        Err(InputFault {
+            line: self.count,
+            kind: LineKind::LineLong,
+        })
+    }
+
+    // Takes the source line of the action on a line.
+    fn take_source<R: ByteIn>(
+        &mut self,
+        alloc: Global,
+        reader: &mut R,
+        line: u64,
+    ) -> Result<Action, InputFault>
+        ensures line { TakesSource (prepend_known self.old.piece (R.left reader.old))
+            (prepend_known self.new.piece (R.left reader.new)) line self.old.count self.new.count result }
+        ensures failed { R.failed reader.new ≡ failed_after result (R.failed reader.old) }
+    {
+        let found = match self.take_line(reader) {
+            Ok(found) => found,
+            Err(fault) => return Err(fault),
+        };
+        if !found {
+            return Err(InputFault {
+                line,
+                kind: LineKind::SourceMissing,
+            });
+        }
+        match read_source(alloc, self.text.as_slice()) {
+            Ok(action) => Ok(action),
+            Err(kind) => Err(InputFault {
+                line: self.count,
+                kind,
+            }),
+        }
+    }
+
+    /// Takes blank lines and the lines of the operation behind them, if there is one.
+    pub fn take_operation<R: ByteIn>(
+        &mut self,
+        alloc: Global,
+        reader: &mut R,
+        default_index: Option<&str>,
+    ) -> Result<Option<Found>, InputFault>
+        ensures lines { Reads (shown default_index.entry)
+            (prepend_known self.old.piece (R.left reader.old)) (prepend_known self.new.piece (R.left reader.new))
+            self.old.count self.new.count result }
+        ensures failed { R.failed reader.new ≡ failed_after result (R.failed reader.old) }
+    {
+        let found = match self.skip_blank(reader) {
+            Ok(found) => found,
+            Err(fault) => return Err(fault),
+        };
+        if !found {
+            return Ok(None);
+        }
+        let line = self.count;
+        let (kind, key) = match read_action(alloc, default_index, self.text.as_slice()) {
+            Ok(asked) => asked,
+            Err(kind) => return Err(InputFault { line, kind }),
+        };
+        match kind {
+            ActionKind::Delete => Ok(Some(Found {
+                line,
+                key,
+                action: Action::delete(),
+            })),
+            ActionKind::Index => match self.take_source(alloc, reader, line) {
+                Ok(action) => Ok(Some(Found { line, key, action })),
+                Err(fault) => Err(fault),
+            },
+        }
+    }
+}

@@ -1,0 +1,120 @@
+//! What was read of a stream and not used yet.
+ghost use Rattle.std.specs.Prelude.{◌≡◌, ◌≢◌, ◌<◌, ◌≤◌, ◌↔◌, [], length, drop, vec_len, IsTrue, IfOk, IfErr, OnOk};
+ghost use Rattle.std.specs.Bool.{OnTrue, OnFalse};
+ghost use Rattle.std.specs.Io.KnownBytes.{prepend_known, IsAtEnd};
+ghost use Rattle.relay_ndjson.specs.Lines.{IsFillFault, failed_by};
+
+use crate::kind::LineKind;
+use relay_action::ByteIn;
+use std::alloc::{AllocError, Global};
+use std::marker::Model;
+
+/// How many bytes are asked for at a time.
+const PIECE: usize = 65_536;
+
+/// A piece of a stream, of which contracts see the bytes that were not used yet. It takes no memory
+/// before it is filled.
+#[derive(Drop)]
+pub struct Piece {
+    alloc: Global,
+    bytes: Vec<u8>,
+    from: usize,
+    to: usize,
+}
+
+impl Model for Piece {
+    ghost use Rattle.std.specs.Prelude.{ℕ, List, ◌≤◌, ◌-◌, take, drop, vec_len};
+
+    ghost Value = { List ℕ };
+
+    ghost view = { λ p. take (p.to - p.from) (drop p.from p.bytes.items) };
+
+    ghost invariant = { λ p. (p.from ≤ p.to) × (p.to ≤ vec_len p.bytes) };
+}
+
+// Room for a piece.
+fn make_room(alloc: Global) -> Result<Vec<u8>, AllocError>
+    ensures { IfOk result (λ bytes. 0 < vec_len bytes) }
+{
+    vec![in alloc; 0; PIECE]
+}
+
+impl Piece {
+    /// A piece that holds nothing.
+    pub fn new(alloc: Global) -> Piece
+        ensures { result ≡ [] }
+    {
+        Piece {
+            alloc,
+            bytes: Vec::new(alloc),
+            from: 0,
+            to: 0,
+        }
+    }
+
+    /// The bytes that were not used yet.
+    pub fn held(&self) -> &[u8]
+        ensures { result.now ≡ self.now }
+    {
+        &self.bytes[self.from..self.to]
+    }
+
+    /// Whether all bytes were used.
+    pub fn is_empty(&self) -> bool
+        ensures { IsTrue result ↔ (self.now ≡ []) }
+    {
+        self.from == self.to
+    }
+
+    /// Uses the first bytes.
+    pub fn skip(&mut self, count: usize)
+        requires { count ≤ length self.old }
+        ensures { self.new ≡ drop count self.old }
+    {
+        self.from += count;
+    }
+
+    // Reads a piece where none is left.
+    #[tactic(auto, using(crate::proofs::Pieces::prepend_nothing))]
+    fn fill<R: ByteIn>(&mut self, reader: &mut R) -> Result<(), LineKind>
+        requires { self.old ≡ [] }
+        ensures left { R.left reader.old ≡ prepend_known self.new (R.left reader.new) }
+        ensures end { OnOk result (self.new ≡ [] → IsAtEnd (R.left reader.old)) }
+        ensures err { IfErr result IsFillFault }
+        ensures failed { R.failed reader.new ≡ failed_by result (R.failed reader.old) }
+    {
+        if self.bytes.is_empty() {
+            match make_room(self.alloc) {
+                Ok(bytes) => self.bytes = bytes,
+                Err(_) => return Err(LineKind::Memory),
+            }
+        }
+        self.from = 0;
+        self.to = 0;
+        match reader.read(self.bytes.as_mut_slice()) {
+            Ok(count) => {
+                self.to = count;
+                Ok(())
+            }
+            Err(_) => Err(LineKind::Read),
+        }
+    }
+
+    /// Sees that it holds bytes, by a read where none is left, and tells whether it does. Where it does
+    /// not, the stream has ended.
+    pub fn refill<R: ByteIn>(&mut self, reader: &mut R) -> Result<bool, LineKind>
+        ensures left { prepend_known self.old (R.left reader.old) ≡ prepend_known self.new (R.left reader.new) }
+        ensures found { IfOk result (λ found. OnTrue found (self.new ≢ [])) }
+        ensures end { IfOk result (λ found. OnFalse found (IsAtEnd (prepend_known self.new (R.left reader.new)))) }
+        ensures err { IfErr result IsFillFault }
+        ensures failed { R.failed reader.new ≡ failed_by result (R.failed reader.old) }
+    {
+        if !self.is_empty() {
+            return Ok(true);
+        }
+        if let Err(fault) = self.fill(reader) {
+            return Err(fault);
+        }
+        Ok(!self.is_empty())
+    }
+}

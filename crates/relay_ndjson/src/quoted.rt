@@ -1,0 +1,49 @@
+//! Texts as they stand in JSON strings (RFC 8259, section 7).
+ghost use Rattle.std.specs.Prelude.{◌≡◌, IfOk};
+ghost use Rattle.std.specs.List.{list_all};
+ghost use Rattle.json.specs.Print.{escape};
+ghost use Rattle.relay_ndjson.specs.Escapes.{is_plain_byte, IsEscapeOf};
+
+use serde_json::Value;
+use std::alloc::{AllocError, Global};
+
+// Whether a byte stands for itself in a JSON string.
+fn is_plain_byte(byte: u8) -> bool
+    ensures { result ≡ is_plain_byte byte }
+{
+    byte >= 32 && byte != b'"' && byte != b'\\'
+}
+
+// Whether a text needs no escape.
+fn is_plain(bytes: &[u8]) -> bool
+    ensures { result ≡ list_all is_plain_byte bytes.now }
+{
+    bytes.iter().all(|byte| is_plain_byte(*byte))
+}
+
+/// The JSON string of a text that needs escapes, and nothing for one that stands for itself.
+#[tactic(auto, using(crate::proofs::Plain::escape_plain))]
+pub fn escape_of(alloc: Global, text: &str) -> Result<Option<String>, AllocError>
+    ensures { IfOk result (λ o. IsEscapeOf text.now o) }
+{
+    if is_plain(text.as_bytes()) {
+        return Ok(None);
+    }
+    let string = Value::try_from_str(alloc, text)?.to_string(alloc)?;
+    Ok(Some(string))
+}
+
+/// What stands between the quotes of the JSON string of a text.
+#[tactic(auto, using(crate::proofs::Plain::inside_quotes))]
+pub fn between_quotes<'t>(text: &'t str, string: &'t Option<String>) -> &'t [u8]
+    requires { IsEscapeOf text.now string.now }
+    ensures { result.now ≡ escape text.now }
+{
+    match string {
+        Some(string) => {
+            let bytes = string.as_bytes();
+            &bytes[1..bytes.len() - 1]
+        }
+        None => text.as_bytes(),
+    }
+}
