@@ -10,3 +10,4 @@ pub mod Readings
 pub mod Fronts
 pub mod Exclusion
 pub mod Totality
+pub mod TwoLines

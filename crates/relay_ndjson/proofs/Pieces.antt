@@ -60,11 +60,10 @@ first_feed : (bytes : List ℕ) (end : ℕ) → IsFirstByte (is_byte 10) bytes (
 first_feed bytes end f =
     let high : end < length bytes = f.0.high in
     let n : length (take end bytes) ≡ end = grind (arith, common_steps) in
-    let at : get_or bytes end 0 ≡ 10 = grind (arith, f.1) in
-    (
+    let at : get_or bytes end 0 ≡ 10 = grind (arith, f.1) in (
       nowhere_unbroken (take end bytes) (λ k low below p. f.0.before k low (omega arith) (let same : get_or (take end bytes) k 0 ≡ get_or bytes k 0 = grind (arith, common_steps) in rw same at p)),
       (let d : drop end bytes ≡ get_or bytes end 0 ∷ drop (suc end) bytes = drop-cons bytes end 0 high in
-      sym (take-append-drop end bytes) ∙ ap (λ r. take end bytes ++ r) (d ∙ (ap (λ b. b ∷ drop (suc end) bytes) at ∙ ap (λ k. 10 ∷ drop k bytes) (sym (add-one end))))),
+          sym (take-append-drop end bytes) ∙ ap (λ r. take end bytes ++ r) (d ∙ (ap (λ b. b ∷ drop (suc end) bytes) at ∙ ap (λ k. 10 ∷ drop k bytes) (sym (add-one end))))),
     )
 
 -- ---- what a piece gives of a line
@@ -76,8 +75,7 @@ part_refused begun piece text rest end k u f a =
 
 pub part_ended : (begun piece added text rest : List ℕ) (end : ℕ) → IsUnbroken begun → IsFirstByte (is_byte 10) piece (Some end) → added ≡ begun ++ take end piece → IsRaw text added → length text ≤ line_limit → rest ≡ drop (end + 1) piece → TakesPart begun piece text rest (Ok true)
 part_ended begun piece added text rest end u f e r n d =
-    let s = first_feed piece end f in
-    (
+    let s = first_feed piece end f in (
       added,
       rw e (unbroken_append begun (take end piece) u s.0),
       r,

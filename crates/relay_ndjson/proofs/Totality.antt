@@ -20,7 +20,7 @@ decide_nat zero (suc b) = inr (λ e. omega (arith, e))
 decide_nat (suc a) zero = inr (λ e. omega (arith, e))
 decide_nat (suc a) (suc b) = elim (decide_nat a b) [ inl e ↦ inl (ap suc e) | inr n ↦ inr (λ e. n (omega (arith, e))) ]
 
-decide_le : (a b : ℕ) → (a ≤ b) ⊎ (b < a)
+pub decide_le : (a b : ℕ) → (a ≤ b) ⊎ (b < a)
 decide_le zero b = inl (omega arith)
 decide_le (suc a) zero = inr (omega arith)
 decide_le (suc a) (suc b) = elim (decide_le a b) [ inl e ↦ inl (omega (arith, e)) | inr n ↦ inr (omega (arith, n)) ]

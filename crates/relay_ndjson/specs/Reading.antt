@@ -1,6 +1,7 @@
 -- What a reader of operations is, and what each call of `next` answers.
-use Rattle.std.specs.Prelude.{◌≡◌, ℕ, ◌+◌, List, [], Option, None, Some, Result, Ok, Err}
+use Rattle.std.specs.Prelude.{◌≡◌, ℕ, ◌+◌, ◌<◌, List, [], length, slice_index, false, Option, None, Some, Result, Ok, Err}
 use Rattle.std.specs.Io.KnownBytes.{prepend_known}
+use Rattle.relay_action.specs.Limits.{is_line_end}
 use Rattle.relay_ndjson.specs.declared.kind.LineKind.TheVariants as kind
 use Rattle.relay_ndjson.specs.declared.kind.InputFault.{InputFault}
 use Rattle.relay_ndjson.specs.declared.parser.Phase.{Phase}
@@ -20,9 +21,18 @@ pub record Parsing : Type 0 where
 abbrev pub start : Option (List ℕ) → Parsing
 start default = record { held = []; count = 0; line = 0; phase = phase.Open; default = default }
 
--- a parser and its stream: the bytes that were not used yet, where they are known, and how many calls of the stream failed
+-- a byte that ends no line stands there, and two line feeds behind it: so an operation, or what breaks the grammar,
+-- stands there whole
+abbrev pub HoldsTwoLines : List ℕ → Type 0
+HoldsTwoLines held =
+    (start : ℕ) × (first : ℕ) × (second : ℕ) × (start < first) × (first < second) × (second < length held)
+    × (is_line_end (slice_index held start) ≡ false) × (slice_index held first ≡ 10) × (slice_index held second ≡ 10)
+
+-- a parser and its stream: the bytes that were not used yet, where they are known, those of them that were read, and
+-- how many calls of the stream failed
 pub record Reading : Type 0 where
   pub ahead : Option (List ℕ)
+  pub held : List ℕ
   pub count : ℕ
   pub line : ℕ
   pub phase : Phase
@@ -31,12 +41,12 @@ pub record Reading : Type 0 where
 
 abbrev pub reading : Option (List ℕ) → ℕ → Parsing → Reading
 reading left failed p =
-    record { ahead = prepend_known p.held left; count = p.count; line = p.line; phase = p.phase; default = p.default; failed = failed }
+    record { ahead = prepend_known p.held left; held = p.held; count = p.count; line = p.line; phase = p.phase; default = p.default; failed = failed }
 
 -- before the first call
 abbrev pub fresh : Option (List ℕ) → ℕ → Option (List ℕ) → Reading
 fresh ahead failed default =
-    record { ahead = ahead; count = 0; line = 0; phase = phase.Open; default = default; failed = failed }
+    record { ahead = ahead; held = []; count = 0; line = 0; phase = phase.Open; default = default; failed = failed }
 
 -- an operation was taken
 pub record Takes (old new : Reading) (n : ℕ) (op : Operation) : Type 0 where

@@ -10,6 +10,10 @@ use relay_action::{Action, ByteOut, Write, write_all};
 use std::alloc::{AllocError, Global};
 use thiserror::Error;
 
+/// The last version: OpenSearch takes external versions up to 2^63 - 1, and the relay deals none above
+/// this one.
+pub const LAST_VERSION: u64 = 9_000_000_000_000_000_000;
+
 /// Why a text was not written whole.
 #[derive(Clone, Copy, Debug, PartialEq, Eq, Error)]
 pub enum TextFault {

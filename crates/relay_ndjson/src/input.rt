@@ -1,5 +1,5 @@
 //! The operations of a producer with the stream that they are read from.
-ghost use Rattle.std.specs.Prelude.{◌≡◌};
+ghost use Rattle.std.specs.Prelude.{◌≡◌, ◌↔◌, IsTrue};
 
 use crate::kind::InputFault;
 use crate::parser::Parser;
@@ -26,7 +26,7 @@ impl<'a, R: ByteIn> Model for Input<'a, R> {
 impl<'a, R: ByteIn> Input<'a, R> {
     ghost use Rattle.relay_ndjson.specs.Metadata.{shown};
     ghost use Rattle.relay_ndjson.specs.Operations.{failed_after};
-    ghost use Rattle.relay_ndjson.specs.Reading.{fresh, Steps};
+    ghost use Rattle.relay_ndjson.specs.Reading.{fresh, Steps, HoldsTwoLines};
 
     /// The input of a stream of which nothing was read. An operation that names no index has the default
     /// index, if one is given; its length is judged with each operation that uses it.
@@ -45,6 +45,13 @@ impl<'a, R: ByteIn> Input<'a, R> {
         ensures failed { self.new.failed ≡ failed_after result self.old.failed }
     {
         self.parser.next(&mut self.reader)
+    }
+
+    /// Whether the next answer needs no read, as [`Parser::is_ready`] says.
+    pub fn is_ready(&self) -> bool
+        ensures { IsTrue result ↔ HoldsTwoLines self.now.held }
+    {
+        self.parser.is_ready()
     }
 
     /// The number of the action line that was given last, 0 before the first. A fault does not change it.

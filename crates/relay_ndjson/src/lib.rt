@@ -18,7 +18,7 @@ pub mod parser;
 mod piece;
 mod quoted;
 
-pub use bulk::{TextFault, append_write, bulk_text, write_write};
+pub use bulk::{LAST_VERSION, TextFault, append_write, bulk_text, write_write};
 pub use input::Input;
 pub use kind::{InputFault, LineKind};
 pub use length::{bulk_len, write_len};

@@ -1,9 +1,11 @@
 //! Lines of a producer, and the operations that stand on them.
-ghost use Rattle.std.specs.Prelude.{◌≡◌, ◌≤◌, ◌++◌, [], OnOk, IfErr, length};
+ghost use Rattle.std.specs.Prelude.{◌≡◌, ◌<◌, ◌≤◌, ◌↔◌, ◌++◌, ℕ, [], true, false, OnOk, IfErr, IfSome, IfNone, IsTrue, length, slice_index};
 ghost use Rattle.std.specs.Bool.{OnTrue, OnFalse};
 ghost use Rattle.std.specs.Io.KnownBytes.{prepend_known};
+ghost use Rattle.relay_action.specs.Limits.{is_line_end};
 ghost use Rattle.relay_action.specs.Streams.{most};
 ghost use Rattle.relay_ndjson.specs.Lines.{IsStart, IsUnbroken, IsRaw, IsPastLimit, IsAddFault, TakesPart, TakesLine, EndsLine, failed_by, line_limit};
+ghost use Rattle.relay_ndjson.specs.Reading.{HoldsTwoLines};
 
 use crate::action_line::{read_action, read_source};
 use crate::kind::{InputFault, LineKind};
@@ -92,6 +94,30 @@ fn end_of_line(line: &[u8]) -> Result<Line, LineKind>
     } else {
         Line::Open
     })
+}
+
+// Where the first byte stands that ends no line.
+fn text_start(bytes: &[u8]) -> Option<usize>
+    ensures some { IfSome result (λ start. (start < length bytes.now) × (is_line_end (slice_index bytes.now start) ≡ false)) }
+    ensures first { IfSome result (λ start. (k : ℕ) → k < start → is_line_end (slice_index bytes.now k) ≡ true) }
+    ensures none { IfNone result ((k : ℕ) → k < length bytes.now → is_line_end (slice_index bytes.now k) ≡ true) }
+{
+    bytes
+        .iter()
+        .position(|byte| *byte != b'\n' && *byte != b'\r')
+}
+
+/// Whether a byte that ends no line stands there, and two line feeds behind it.
+pub fn holds_two_lines(bytes: &[u8]) -> bool
+    ensures { IsTrue result ↔ HoldsTwoLines bytes.now }
+{
+    let Some(start) = text_start(bytes) else {
+        return false;
+    };
+    let Some(end) = memchr(b'\n', &bytes[start..]) else {
+        return false;
+    };
+    memchr(b'\n', &bytes[start + end + 1..]).is_some()
 }
 
 /// The lines of a stream: what was read and not used yet, the line that was taken last, and how many

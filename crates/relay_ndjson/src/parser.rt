@@ -1,8 +1,8 @@
 //! The operations of a producer, read one after another from a stream that the caller holds.
-ghost use Rattle.std.specs.Prelude.{◌≡◌};
+ghost use Rattle.std.specs.Prelude.{◌≡◌, ◌↔◌, IsTrue};
 
 use crate::kind::{InputFault, LineKind};
-use crate::lines::{Found, Lines};
+use crate::lines::{Found, Lines, holds_two_lines};
 use relay_action::{Action, ByteIn, DocKey};
 use std::alloc::Global;
 use std::marker::Model;
@@ -48,7 +48,7 @@ impl<'a> Model for Parser<'a> {
 impl<'a> Parser<'a> {
     ghost use Rattle.relay_ndjson.specs.Metadata.{shown};
     ghost use Rattle.relay_ndjson.specs.Operations.{failed_after};
-    ghost use Rattle.relay_ndjson.specs.Reading.{start, reading, Steps};
+    ghost use Rattle.relay_ndjson.specs.Reading.{start, reading, Steps, HoldsTwoLines};
 
     /// A parser of which nothing was read. An operation that names no index has the default index, if
     /// one is given; its length is judged with each operation that uses it.
@@ -102,6 +102,14 @@ impl<'a> Parser<'a> {
                 Err(fault)
             }
         }
+    }
+
+    /// Whether the next answer needs no read: behind blank lines, two whole lines stand in what was read.
+    /// Where it says no, the next call of `next` may wait for the stream.
+    pub fn is_ready(&self) -> bool
+        ensures { IsTrue result ↔ HoldsTwoLines self.now.held }
+    {
+        holds_two_lines(self.lines.piece.held())
     }
 
     /// The number of the action line that was given last, 0 before the first. A fault does not change it.

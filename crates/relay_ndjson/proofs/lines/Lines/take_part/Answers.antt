@@ -24,8 +24,7 @@ returns-in_default-clause-part c =
 pub returns-in_default-add-clause-part : goal.returns-in_default-add-clause-part
 returns-in_default-add-clause-part c =
     let none = rw c.held.ensures at c.in-None.ensures in
-    let added = rw c.held-in-None.ensures at c.in_default-add.ensures.ok.0 in
-    (
+    let added = rw c.held-in-None.ensures at c.in_default-add.ensures.ok.0 in (
       rw added (whole_unbroken c.args.self.now.text.items c.args.self.now.piece c.requires.unbroken none),
       c.in_default-add.ensures.ok.1,
       added,
