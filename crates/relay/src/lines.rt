@@ -1,14 +1,14 @@
 //! A producer's NDJSON as bulk lines with versions: the function behind `relay lines`.
-ghost use Rattle.std.specs.Prelude.{◌≡◌, ◌≤◌, [], IfErr, OnOk, OnErr};
-ghost use Rattle.relay_action.specs.Streams.{FailedSince};
-ghost use Rattle.relay_ndjson.specs.Bulk.{last_version};
+ghost use Rattle.std.specs.Prelude.{◌≡◌, ◌≤◌, ◌++◌, [], IfErr, OnOk, OnErr};
+ghost use Rattle.relay_action.specs.Streams.{most, FailedSince};
+ghost use Rattle.relay_ndjson.specs.Bulk.{write_text, last_version};
 ghost use Rattle.relay_ndjson.specs.Metadata.{shown};
 ghost use Rattle.relay_ndjson.specs.Reading.{fresh};
 ghost use Rattle.relay.specs.Lines.{Streams, Ends, Moves, MovesPart, IsReadFault, IsWriteFault, fault_of};
 
 use relay_action::{ByteIn, ByteOut, Write, write_all};
 use relay_ndjson::{InputFault, LAST_VERSION, LineKind, Parser, append_write};
-use std::alloc::Global;
+use std::alloc::{AllocError, Global};
 use thiserror::Error;
 
 /// From how many bytes on what is to be written is written.
@@ -54,9 +54,19 @@ fn fault_of(fault: InputFault) -> LinesFault
 struct Outgoing {
     text: Vec<u8>,
     sent: u64,
+    ghost in_range: { sent ≤ most },
 }
 
 impl Outgoing {
+    // Adds the lines of a write.
+    fn add(&mut self, alloc: Global, write: &Write) -> Result<(), AllocError>
+        ensures ok { OnOk result (self.new.text.items ≡ self.old.text.items ++ write_text write.now) }
+        ensures err { OnErr result (self.new.text.items ≡ self.old.text.items) }
+        ensures sent { self.new.sent ≡ self.old.sent }
+    {
+        append_write(alloc, &mut self.text, write)
+    }
+
     // Writes the text. `Err(sent)`: a write failed when so many bytes had gone out in all.
     fn flush<W: ByteOut>(&mut self, writer: &mut W) -> Result<(), u64>
         ensures ok { OnOk result (Moves self.old.text.items self.old.sent (W.written writer.old)
@@ -152,7 +162,7 @@ pub fn lines<R: ByteIn, W: ByteOut>(
             version,
             action,
         };
-        if append_write(alloc, &mut outgoing.text, &write).is_err() {
+        if let Err(_) = outgoing.add(alloc, &write) {
             return outgoing.end(writer, Err(LinesFault::Memory));
         }
         version += 1;

@@ -1,5 +1,6 @@
 //! The program.
 #![tactic(auto)]
+
 mod lines;
 
 fn main() {}

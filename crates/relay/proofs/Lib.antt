@@ -1,0 +1,3 @@
+pub mod Taken
+pub mod Written
+pub mod Streaming
