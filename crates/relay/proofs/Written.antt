@@ -69,8 +69,8 @@ wrote_part before now after all text sent count w m =
       less = omega (arith, n, less);
       count_is = omega (arith, a, b);
       written =
-        m.written
-        ∙ (ap (λ s. append_known s (take m.cut text)) w.written
-        ∙ (append_known-append before w.gone (take m.cut text)
-        ∙ (ap (append_known before) (sym (take-append-add w.gone text m.cut)) ∙ ap (λ t. append_known before (take (length w.gone + m.cut) t)) (sym w.whole))));
+          m.written
+          ∙ (ap (λ s. append_known s (take m.cut text)) w.written
+          ∙ (append_known-append before w.gone (take m.cut text)
+          ∙ (ap (append_known before) (sym (take-append-add w.gone text m.cut)) ∙ ap (λ t. append_known before (take (length w.gone + m.cut) t)) (sym w.whole))));
     }

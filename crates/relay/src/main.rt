@@ -1,6 +1,18 @@
-//! The program.
+//! The program `relay`: the command line over the workspace's crates. `relay lines` turns a producer's
+//! NDJSON into bulk lines with versions.
+//!
+//! It carries the promise of `relay lines`: what is written is the bulk text of the operations before the
+//! first fault, on the function that the command calls, over any reader and writer.
 #![tactic(auto)]
 
+mod command;
+mod exit;
 mod lines;
+#[cfg(test)]
+mod tests;
 
-fn main() {}
+use std::process::ExitCode;
+
+fn main(rt: HostRuntime) -> ExitCode {
+    ExitCode::from(command::run(&rt).status())
+}

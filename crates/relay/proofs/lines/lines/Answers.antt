@@ -13,8 +13,7 @@ use Rattle.relay.proofs.lines.lines.Goals as goal
 
 pub operations-init : goal.operations-init
 operations-init g c =
-    let r = g.R.ByteStream in
-    (
+    let r = g.R.ByteStream in (
       [],
       reading-start (r.left c.args.reader.now) (r.failed c.args.reader.now) (shown c.args.default_index) c.new-parser.result c.new-parser.ensures,
       ap (λ p. p.phase) c.new-parser.ensures,
@@ -74,8 +73,7 @@ operations-preserved g c =
     let op = c.in-Ok-Some.operation in
     let wrote = wrote_moved _ _ _ _ _ _ _ _ inv.5 c.in_default.ensures.ok in
     let step = rw c.in-Ok-Some.field-0-is at c.in-Ok-Some.ensures.lines in
-    let taken = answers_of _ _ _ inv.2 step in
-    (
+    let taken = answers_of _ _ _ inv.2 step in (
       inv.0 ++ op ∷ [],
       takes_more _ _ _ inv.0 taken.0 op inv.1 taken.1,
       taken.1.phase,
@@ -92,8 +90,7 @@ operations-preserved-in_default-add g c =
     let op = c.in-Ok-Some.operation in
     let wrote = wrote_moved _ _ _ _ _ _ _ _ inv.5 c.in_default.ensures.ok in
     let step = rw c.in-Ok-Some.field-0-is at c.in-Ok-Some.ensures.lines in
-    let taken = answers_of _ _ _ inv.2 step in
-    (
+    let taken = answers_of _ _ _ inv.2 step in (
       inv.0 ++ op ∷ [],
       takes_more _ _ _ inv.0 taken.0 op inv.1 taken.1,
       taken.1.phase,
