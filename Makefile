@@ -1,0 +1,27 @@
+# What the repository's reader runs. `rt` is the kit's command.
+.PHONY: demo test build bench
+
+# Builds the program, proved.
+build:
+	@echo "proving and building the program; the first time takes some minutes"
+	@cd crates/relay && rt run -- --version
+
+# Shows the program's main job on the examples.
+demo: build
+	@echo "--- examples/books.ndjson"
+	@cat examples/books.ndjson
+	@echo "--- relay lines --first 7 < examples/books.ndjson"
+	@crates/relay/out/relay lines --first 7 < examples/books.ndjson
+	@echo "--- relay lines < examples/broken.ndjson (a fault on line 4: what stands before it goes out)"
+	@crates/relay/out/relay lines < examples/broken.ndjson || echo "status $$?"
+
+# The gate, and then the built program from the outside.
+test:
+	@echo "proving every crate from nothing, with its tests and must-fail edits; this takes a good while"
+	rt ci
+	@$(MAKE) --no-print-directory build
+	python3 tests/run.py crates/relay/out/relay
+
+# Ratios to other programs, measured in one run.
+bench: build
+	python3 bench/run.py
