@@ -17,6 +17,8 @@ mod lines;
 pub mod parser;
 mod piece;
 mod quoted;
+#[cfg(test)]
+mod tests;
 
 pub use bulk::{LAST_VERSION, TextFault, append_write, bulk_text, write_write};
 pub use input::Input;
