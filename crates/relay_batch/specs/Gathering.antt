@@ -1,0 +1,50 @@
+-- A batch that is gathered: which answer an offer gets, and when the batch is ready.
+use Rattle.std.specs.Prelude.{ℕ, ◌+◌, Bool, false, ◌||◌, ◌&&◌, ◌==◌, nat_lt, nat_le, if◌then◌else◌, List, [], ◌∷◌, ◌++◌, length, Result, Ok, Err}
+use Rattle.std.specs.List.{list_any}
+use Rattle.relay_batch.specs.Batches.{bytes_of}
+use Rattle.relay_batch.specs.declared.item.Limits.{Limits}
+use Rattle.relay_batch.specs.declared.item.BatchItem.{BatchItem}
+use Rattle.relay_batch.specs.declared.offer.Offer.{Offer}
+use Rattle.relay_batch.specs.declared.offer.Offer.TheVariants.{Busy, Closed, Added}
+
+-- the limits that a batch is gathered under, and its items so far
+pub record Gathering : Type 0 where
+  pub limits : Limits
+  pub items : List BatchItem
+
+-- an item of this document is among the items
+abbrev pub holds_document : ℕ → List BatchItem → Bool
+holds_document doc items = list_any (λ i. i.doc == doc) items
+
+-- there are as many items as the limit says, or more
+abbrev pub is_count_reached : Gathering → Bool
+is_count_reached g = nat_le g.limits.count (length g.items)
+
+-- something stands in the batch, and this many bytes more would pass the limit
+abbrev pub passes_bytes : Gathering → ℕ → Bool
+passes_bytes g bytes = nat_lt 0 (length g.items) && nat_lt g.limits.bytes (bytes_of g.items + bytes)
+
+-- the answer to an offer: the first that holds
+abbrev pub answer_to : BatchItem → Gathering → Offer
+answer_to item g =
+    if holds_document item.doc g.items then Busy
+    else if is_count_reached g || passes_bytes g item.bytes then Closed
+    else Added
+
+-- what an offer leaves: where the answer is Added the item stands at the end, and nothing else changes it
+abbrev pub after_offer : {E : Type 0} → BatchItem → Gathering → Result Offer E → Gathering
+after_offer item g (Ok Added) = record g { items = g.items ++ item ∷ [] }
+after_offer item g (Ok Busy) = g
+after_offer item g (Ok Closed) = g
+after_offer item g (Err e) = g
+
+-- there is a first item, and this clock is the linger time or more past its taking
+abbrev pub is_lingered : ℕ → ℕ → List BatchItem → Bool
+is_lingered linger now [] = false
+is_lingered linger now (first ∷ rest) = nat_le (first.taken_at + linger) now
+
+-- the batch is not empty, and its count is reached, or its bytes are, or its first item lingered
+abbrev pub is_ready : ℕ → Gathering → Bool
+is_ready now g =
+    nat_lt 0 (length g.items)
+    && (is_count_reached g || nat_le g.limits.bytes (bytes_of g.items) || is_lingered g.limits.linger now g.items)

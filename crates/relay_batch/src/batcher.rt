@@ -1,0 +1,128 @@
+//! The batch that a lane gathers.
+ghost use Rattle.std.specs.Prelude.{◌≡◌, ◌+◌, [], MatchOption, OnErr, IfOk, None, Some, if◌then◌else◌};
+ghost use Rattle.relay_batch.specs.Batches.{IsBatch, bytes_of};
+ghost use Rattle.relay_batch.specs.Gathering.{holds_document, is_count_reached, passes_bytes, answer_to, after_offer, is_ready};
+
+use crate::batch::Batch;
+use crate::item::{BatchItem, Limits};
+use crate::offer::Offer;
+use std::alloc::{AllocError, Global};
+use std::marker::Model;
+
+/// A batch that is gathered under limits. Contracts see it as those limits and its items so far.
+#[derive(Debug, Drop)]
+pub struct Batcher {
+    limits: Limits,
+    held: Vec<BatchItem>,
+    total: u64,
+}
+
+impl Model for Batcher {
+    ghost use Rattle.std.specs.Prelude.{◌≡◌};
+    ghost use Rattle.relay_batch.specs.Batches.{IsBatch, bytes_of};
+    ghost use Rattle.relay_batch.specs.Gathering.{Gathering};
+
+    ghost Value = { Gathering };
+
+    ghost view = { λ b. record { limits = b.limits; items = b.held.items } };
+
+    ghost invariant = { λ b. record {
+      batch : IsBatch b.limits b.held.items;
+      total : b.total ≡ bytes_of b.held.items;
+    } };
+}
+
+// Whether an item of the document stands among the items.
+fn is_held(items: &[BatchItem], doc: u64) -> bool
+    ensures { result ≡ holds_document doc items.now }
+{
+    items.iter().any(|item| item.doc == doc)
+}
+
+impl Batcher {
+    /// A batch with no item yet. It takes no memory, and any limits will do.
+    pub fn new(alloc: Global, limits: Limits) -> Batcher
+        ensures { result ≡ record { limits = limits; items = [] } }
+    {
+        Batcher {
+            limits,
+            held: Vec::new(alloc),
+            total: 0,
+        }
+    }
+
+    // Whether the batch has as many items as its limit says.
+    fn is_full(&self) -> bool
+        ensures { result ≡ is_count_reached self.now }
+    {
+        self.held.len() >= self.limits.count as usize
+    }
+
+    // The bytes of the batch with so many more, unless they pass the limit.
+    fn total_with(&self, bytes: u64) -> Option<u64>
+        ensures { result ≡ (if passes_bytes self.now bytes then None
+            else Some (bytes_of self.now.items + bytes)) }
+    {
+        let limit = self.limits.bytes;
+        if self.held.is_empty() {
+            return Some(bytes);
+        }
+        match self.total.checked_add(bytes) {
+            Some(total) if total <= limit => Some(total),
+            _ => None,
+        }
+    }
+
+    /// Offers an item. The answer is the first of [`Offer`] that holds; only `Added` changes the batch.
+    /// `AllocError`: there was no memory for an item that was to be added, and the batch is as before.
+    pub fn offer(&mut self, item: BatchItem) -> Result<Offer, AllocError>
+        ensures answer { IfOk result (λ o. o ≡ answer_to item self.old) }
+        ensures refused { OnErr result (answer_to item self.old ≡ Offer.Added) }
+        ensures after { self.new ≡ after_offer item self.old result }
+    {
+        if is_held(self.held.as_slice(), item.doc) {
+            return Ok(Offer::Busy);
+        }
+        if self.is_full() {
+            return Ok(Offer::Closed);
+        }
+        let Some(total) = self.total_with(item.bytes) else {
+            return Ok(Offer::Closed);
+        };
+        self.held.push(item)?;
+        self.total = total;
+        Ok(Offer::Added)
+    }
+
+    /// Whether the batch is to be sent when the clock stands at `now`, in ticks: it is not empty, and it
+    /// has as many items as its limit says or as many bytes or more, or its first item's `taken_at` and
+    /// the linger time together are at or below `now`. They are added as numbers without end, so no
+    /// clock is refused, not even one before the item was taken. It takes no memory.
+    pub fn ready(&self, now: u64) -> bool
+        ensures { result ≡ is_ready now self.now }
+    {
+        match self.held.first() {
+            None => false,
+            Some(first) => {
+                self.is_full()
+                    || self.total >= self.limits.bytes
+                    || now
+                        .checked_sub(first.taken_at)
+                        .is_some_and(|age| age >= self.limits.linger as u64)
+            }
+        }
+    }
+
+    /// The batch of the items, which keeps its limits, or `None` where there is no item. It takes no
+    /// memory.
+    pub fn close(self) -> Option<Batch>
+        ensures items { MatchOption result (self.items ≡ []) (λ b. b ≡ self.items) }
+        ensures kept { IsBatch self.limits self.items }
+    {
+        let Batcher { held, .. } = self;
+        if held.is_empty() {
+            return None;
+        }
+        Some(Batch::of(held))
+    }
+}
