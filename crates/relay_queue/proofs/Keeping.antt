@@ -1,0 +1,265 @@
+-- Each kind of step keeps the rule of the queue.
+use Rattle.std.proofs.Common.{◌≡◌, ◌≢◌, ℕ, zero, suc, ◌+◌, ◌<◌, ◌≤◌, Bool, true, false, true≢false, eqb, List, [], ◌∷◌, ◌++◌, length, length-append, set, sym, refl, ap, ◌∙◌, subst, ⊎_elim, append_assoc, append-nil, arith, ◌⊎◌}
+use Rattle.std.proofs.lemmas.Bool.Decides.{eqb_tells}
+use mathlib.Core.Option.{some, none, some-injective, some-ne-none}
+use lib.ListN.{get_elem?}
+use Rattle.crossbeam_channel.specs.Fifo.{Pushes, Pops, Forks, Merges, Learns}
+use Rattle.relay_action.specs.declared.mail.Mail.{Mail}
+use Rattle.relay_queue.specs.declared.rule.SentList.{SentList}
+use Rattle.relay_queue.specs.declared.rule.Knowledge.{Knowledge}
+use Rattle.relay_queue.specs.declared.rule.Knowledge.TheVariants.{Sender, Taker, Spent}
+use Rattle.relay_queue.specs.Sent.{mail_of, HasDone, IsWellSent}
+use Rattle.relay_queue.specs.Rule.{Story, ClosedAs, FitsSender, IsUnmade, WasMet, FitsTaker, Fits, Delivers}
+use Rattle.relay_queue.specs.Steps as step
+use Rattle.relay_queue.specs.Steps.{IsSender, IsTaker, capacity_of, sender_of, sent_of, senders_of, taken_of, with_sender, new_sender, with_met, IsMetIn}
+use Rattle.relay_queue.proofs.Mails.{mail_of-append, mail_of-own, mail_of-other, length-mail_of, has_mail, no_mail, nothing_behind, well_sent-nil, well_sent-push, well_sent-front}
+use Rattle.relay_queue.proofs.Passes.{at_set, AllFit, fit_set, fit_push, pass_at, pass_at-own, pass_at-other, pass_at-none}
+
+-- ---- the beginning
+
+-- before the first step
+abbrev start : Story
+start = record { capacity = 0; taker = 0; pass_of = λ _. none; taken = []; log = [] }
+
+starts : FitsTaker start 0 0 0 [] []
+starts = record {
+  places = refl;
+  own = refl;
+  front = refl;
+  later = λ sender le. record { none_own = refl; nothing = refl };
+  closed = λ i m e. absurd (some-ne-none m (sym e));
+}
+
+pub begins : Delivers [] (Taker 0 0 [] [] ∷ [])
+begins = record {
+  story = start;
+  in_log = refl;
+  well_sent = λ sender. well_sent-nil;
+  within = omega arith;
+  known = fit_push (Fits start) [] (Taker 0 0 [] []) starts (λ pass v e. absurd (some-ne-none v (sym e)));
+}
+
+-- ---- a send
+
+-- the story with one more message in the log
+abbrev sent_more : Story → Mail → Story
+sent_more story x = record story { log = story.log ++ x ∷ [] }
+
+-- what the other passes know stays true
+others_send : (story : Story) (x : Mail) (pass j : ℕ) (u : Knowledge) → story.pass_of x.sender ≡ some pass → j ≢ pass → Fits story j u → Fits (sent_more story x) j u
+others_send story x pass j (Sender capacity sender sent closed) own apart h =
+    let other : x.sender ≢ sender = λ e. apart (sym (some-injective pass j (sym own ∙ ap story.pass_of e ∙ h.own))) in
+    record { places = h.places; own = h.own; all = h.all ∙ sym (mail_of-other sender story.log x other); done = h.done }
+others_send story x pass j (Taker capacity senders taken met) own apart h =
+    let other : (p : ℕ) → story.pass_of p ≡ none → x.sender ≢ p = λ p e i. some-ne-none pass (sym own ∙ ap story.pass_of i ∙ e) in
+    record {
+      places = h.places;
+      own = h.own;
+      front = h.front;
+      later = λ p le. let l = h.later p le in record { none_own = l.none_own; nothing = mail_of-other p story.log x (other p l.none_own) ∙ l.nothing };
+      closed = λ i m e. let k = h.closed i m e in record { made = k.made; none_own = k.none_own; all = k.all ∙ sym (mail_of-other m.sender story.log x (other m.sender k.none_own)); done = k.done };
+    }
+others_send story x pass j Spent own apart h = tt
+
+-- of each sender the log stays well sent
+log_send : (log : List Mail) (x : Mail) → ((p : ℕ) → IsWellSent (mail_of p log)) → ¬ HasDone (mail_of x.sender log) → x.number ≡ length (mail_of x.sender log) + 1 → (p : ℕ) → IsWellSent (mail_of p (log ++ x ∷ []))
+log_send log x well unclosed number p =
+    ⊎_elim (λ (e : (eqb x.sender p ≡ true) × (x.sender ≡ p)).
+    let mine : (p : ℕ) → x.sender ≡ p → IsWellSent (mail_of p log ++ x ∷ []) = λ p e. subst (λ q. IsWellSent (mail_of q log ++ x ∷ [])) e (well_sent-push (mail_of x.sender log) x (well x.sender) unclosed number) in
+    subst IsWellSent (sym (mail_of-own p log x e.1)) (mine p e.1))
+    (λ (e : (eqb x.sender p ≡ false) × (x.sender ≢ p)). subst IsWellSent (sym (mail_of-other p log x e.1)) (well p)) (eqb_tells x.sender p)
+
+pub sends : (state : Bool) (n pass : ℕ) (v : Knowledge) (x : Mail) → IsSender false v → capacity_of v ≡ n → sender_of v ≡ x.sender → x.number ≡ length (sent_of v) + 1
+    → (¬ HasDone (sent_of v) → ClosedAs state (sent_of v ++ x ∷ [])) → Pushes Delivers n pass v x (step.Sends state v x)
+sends state n pass (Sender capacity sender sent closed) x open_one places mine number now queued passes room h at =
+    let story = h.story in
+    let me : FitsSender story pass capacity sender sent closed = h.known pass (Sender capacity sender sent closed) at in
+    let unclosed : ¬ HasDone sent = subst (λ (b : Bool). ClosedAs b sent) open_one me.done in
+    let all : sent ≡ mail_of x.sender story.log = me.all ∙ ap (λ p. mail_of p story.log) mine in
+    let own : story.pass_of x.sender ≡ some pass = ap story.pass_of (sym mine) ∙ me.own in
+    let grown : sent ++ x ∷ [] ≡ mail_of sender (story.log ++ x ∷ []) = ap (λ l. l ++ x ∷ []) me.all ∙ sym (mail_of-own sender story.log x (sym mine)) in
+    let well : (p : ℕ) → IsWellSent (mail_of p (story.log ++ x ∷ [])) = log_send story.log x h.well_sent (subst (λ (l : List Mail). ¬ HasDone l) all unclosed) (number ∙ ap (λ (l : List Mail). length l + 1) all) in
+    let mine_now : FitsSender (sent_more story x) pass capacity sender (sent ++ x ∷ []) state = record { places = me.places; own = me.own; all = grown; done = now unclosed } in (
+      Sender capacity sender (sent ++ x ∷ []) state,
+      record {
+        story = sent_more story x;
+        in_log = ap (λ l. l ++ x ∷ []) h.in_log ∙ append_assoc story.taken queued (x ∷ []);
+        well_sent = well;
+        within = (let cap : capacity ≡ story.capacity = me.places in omega (arith, length-append queued (x ∷ [])));
+        known = fit_set (Fits (sent_more story x)) passes pass (Sender capacity sender (sent ++ x ∷ []) state) mine_now (λ j u apart e. others_send story x pass j u own apart (h.known j u e));
+      },
+      (refl, subst IsWellSent (sym grown) (well sender)),
+    )
+sends state n pass (Taker capacity senders taken met) x open_one places mine number now queued passes room h at = absurd open_one
+sends state n pass Spent x open_one places mine number now queued passes room h at = absurd open_one
+
+-- ---- a take
+
+-- the story with one more message taken
+abbrev took_more : Story → Mail → Story
+took_more story x = record story { taken = story.taken ++ x ∷ [] }
+
+-- what the other passes know stays true, since the taker has but one
+others_take : (story : Story) (x : Mail) (j : ℕ) (u : Knowledge) → j ≢ story.taker → Fits story j u → Fits (took_more story x) j u
+others_take story x j (Sender capacity sender sent closed) apart h = record { places = h.places; own = h.own; all = h.all; done = h.done }
+others_take story x j (Taker capacity senders taken met) apart h = absurd (apart h.own)
+others_take story x j Spent apart h = tt
+
+pub takes : (pass : ℕ) (v : Knowledge) → IsTaker v → Pops Delivers pass v (step.Receives v)
+takes pass (Sender capacity sender sent closed) is_taker x queued passes h at = absurd is_taker
+takes pass Spent is_taker x queued passes h at = absurd is_taker
+takes pass (Taker capacity senders taken met) is_taker x queued passes h at =
+    let story = h.story in
+    let me : FitsTaker story pass capacity senders taken met = h.known pass (Taker capacity senders taken met) at in
+    let log_is : story.log ≡ (story.taken ++ x ∷ []) ++ queued = h.in_log ∙ sym (append_assoc story.taken (x ∷ []) queued) in
+    let late : senders ≤ x.sender → ⊥ = λ le. has_mail x.sender story.taken queued x refl (ap (mail_of x.sender) (sym h.in_log) ∙ (me.later x.sender le).nothing) in
+    let parts : (p : ℕ) → mail_of p story.log ≡ mail_of p (taken ++ x ∷ []) ++ mail_of p queued = λ p.
+    ap (mail_of p) (log_is ∙ ap (λ (l : List Mail). (l ++ x ∷ []) ++ queued) (sym me.front)) ∙ mail_of-append p (taken ++ x ∷ []) queued in
+    let mine_now : FitsTaker (took_more story x) pass capacity senders (taken ++ x ∷ []) met = record {
+      places = me.places;
+      own = me.own;
+      front = ap (λ l. l ++ x ∷ []) me.front;
+      later = λ p le. let l = me.later p le in record { none_own = l.none_own; nothing = l.nothing };
+      closed = λ i m e. let k = me.closed i m e in record { made = k.made; none_own = k.none_own; all = k.all; done = k.done };
+    } in (
+      Taker capacity senders (taken ++ x ∷ []) met,
+      record {
+        story = took_more story x;
+        in_log = log_is;
+        well_sent = h.well_sent;
+        within = (let short = h.within in omega arith);
+        known = fit_set (Fits (took_more story x)) passes pass (Taker capacity senders (taken ++ x ∷ []) met) mine_now (λ j u apart e. others_take story x j u (λ i. apart (i ∙ sym me.own)) (h.known j u e));
+      },
+      (refl, omega arith, λ p. well_sent-front _ _ (subst IsWellSent (parts p) (h.well_sent p))),
+    )
+
+-- ---- a new sender
+
+-- the story with one more sender, which has this pass, and with so many places
+abbrev made_more : Story → ℕ → ℕ → ℕ → Story
+made_more story places sender pass = record story { capacity = places; pass_of = pass_at story.pass_of sender (some pass) }
+
+-- what the other passes know stays true
+others_make : (story : Story) (places sender pass j : ℕ) (u : Knowledge) → story.pass_of sender ≡ none → ((q k : ℕ) → story.pass_of q ≡ some k → story.capacity ≡ places) → j ≢ story.taker → Fits story j u → Fits (made_more story places sender pass) j u
+others_make story places sender pass j (Sender capacity q sent closed) free same apart h =
+    let other : q ≢ sender = λ e. some-ne-none j (sym h.own ∙ ap story.pass_of e ∙ free) in
+    record { places = h.places ∙ same q j h.own; own = pass_at-other story.pass_of sender q (some pass) other ∙ h.own; all = h.all; done = h.done }
+others_make story places sender pass j (Taker capacity senders taken met) free same apart h = absurd (apart h.own)
+others_make story places sender pass j Spent free same apart h = tt
+
+pub splits : (pass : ℕ) (v : Knowledge) (places : ℕ) → IsTaker v → ((senders_of v ≡ 0) ⊎ (capacity_of v ≡ places)) → Forks Delivers pass v (with_sender places v) (new_sender places v)
+splits pass (Sender capacity sender sent closed) places is_taker first queued passes h at = absurd is_taker
+splits pass Spent places is_taker first queued passes h at = absurd is_taker
+splits pass (Taker capacity senders taken met) places is_taker first queued passes h at =
+    let story = h.story in
+    let me : FitsTaker story pass capacity senders taken met = h.known pass (Taker capacity senders taken met) at in
+    let free : IsUnmade story senders = me.later senders (omega arith) in
+    let passes' : List Knowledge = set passes pass (Taker places (senders + 1) taken met) in
+    let new : ℕ = length passes' in
+    let story' : Story = made_more story places senders new in
+    let same : (q k : ℕ) → story.pass_of q ≡ some k → story.capacity ≡ places = λ q k e.
+    ⊎_elim (λ (z : senders ≡ 0). absurd (some-ne-none k (sym e ∙ (me.later q (omega arith)).none_own))) (λ (z : capacity ≡ places). sym me.places ∙ z) first in
+    let short : length queued ≤ places =
+    ⊎_elim (λ (z : senders ≡ 0). let none_queued = no_mail story.taken queued (λ p. ap (mail_of p) (sym h.in_log) ∙ (me.later p (omega arith)).nothing) in omega (arith, ap length none_queued))
+    (λ (z : capacity ≡ places). let c = me.places in let s = h.within in omega arith) first in
+    let mine_now : FitsTaker story' pass places (senders + 1) taken met = record {
+      places = refl;
+      own = me.own;
+      front = me.front;
+      later = λ p le. let l = me.later p (omega arith) in record { none_own = pass_at-other story.pass_of senders p (some new) (omega arith) ∙ l.none_own; nothing = l.nothing };
+      closed = λ i m e. let k = me.closed i m e in let lt = k.made in record { made = omega arith; none_own = pass_at-other story.pass_of senders m.sender (some new) (omega arith) ∙ k.none_own; all = k.all; done = k.done };
+    } in
+    let new_now : FitsSender story' new places senders [] false = record { places = refl; own = pass_at-own story.pass_of senders (some new); all = sym free.nothing; done = λ d. d } in
+    record {
+      story = story';
+      in_log = h.in_log;
+      well_sent = h.well_sent;
+      within = short;
+      known = fit_push (Fits story') passes' (Sender places senders [] false) new_now
+          (fit_set (Fits story') passes pass (Taker places (senders + 1) taken met) mine_now
+          (λ j u apart e. others_make story places senders new j u free.none_own same (λ i. apart (i ∙ sym me.own)) (h.known j u e)));
+    }
+
+-- ---- a meeting
+
+-- the story with a sender that was met
+abbrev met_more : Story → ℕ → Story
+met_more story sender = record story { pass_of = pass_at story.pass_of sender none }
+
+-- what the other passes know stays true
+others_meet : (story : Story) (sender pass j : ℕ) (u : Knowledge) → story.pass_of sender ≡ some pass → j ≢ pass → j ≢ story.taker → Fits story j u → Fits (met_more story sender) j u
+others_meet story sender pass j (Sender capacity q sent closed) own apart alone h =
+    let other : q ≢ sender = λ e. apart (some-injective j pass (sym h.own ∙ ap story.pass_of e ∙ own)) in
+    record { places = h.places; own = pass_at-other story.pass_of sender q none other ∙ h.own; all = h.all; done = h.done }
+others_meet story sender pass j (Taker capacity senders taken met) own apart alone h = absurd (alone h.own)
+others_meet story sender pass j Spent own apart alone h = tt
+
+-- what the taker knows of the senders that it met, with one more
+knows_met : (story : Story) (senders sender : ℕ) (sent : List Mail) (met : List SentList) → WasMet (met_more story sender) senders (record { sender = sender; sent = sent }) → ((i : ℕ) (m : SentList) → get_elem? met i ≡ some m → WasMet story senders m)
+    → (i : ℕ) (m : SentList) → get_elem? (record { sender = sender; sent = sent } ∷ met) i ≡ some m → WasMet (met_more story sender) senders m
+knows_met story senders sender sent met one old zero m e = subst (WasMet (met_more story sender) senders) (some-injective _ m e) one
+knows_met story senders sender sent met one old (suc i) m e = let k = old i m e in record { made = k.made; none_own = pass_at-none story.pass_of sender m.sender k.none_own; all = k.all; done = k.done }
+
+pub meets : (pass : ℕ) (v : Knowledge) (other : ℕ) (w : Knowledge) → IsTaker v → IsSender true w → Merges Delivers pass v other w (with_met v w) Spent
+meets pass (Sender capacity sender sent closed) other w is_taker is_closed queued passes h at two at' = absurd is_taker
+meets pass Spent other w is_taker is_closed queued passes h at two at' = absurd is_taker
+meets pass (Taker capacity senders taken met) other (Taker c n t k) is_taker is_closed queued passes h at two at' = absurd is_closed
+meets pass (Taker capacity senders taken met) other Spent is_taker is_closed queued passes h at two at' = absurd is_closed
+meets pass (Taker capacity senders taken met) other (Sender c sender sent closed) is_taker is_closed queued passes h at two at' =
+    let story = h.story in
+    let story' : Story = met_more story sender in
+    let both : Knowledge = Taker capacity senders taken (record { sender = sender; sent = sent } ∷ met) in
+    let theirs_at : Knowledge = Sender c sender sent closed in
+    let me : FitsTaker story pass capacity senders taken met = h.known pass (Taker capacity senders taken met) at in
+    let was : get_elem? passes other ≡ some theirs_at = ⊎_elim (λ x. absurd (two x.0)) (λ x. x.1) (at_set passes pass other both theirs_at at') in
+    let theirs : FitsSender story other c sender sent closed = h.known other theirs_at was in
+    let late : senders ≤ sender → ⊥ = λ le. some-ne-none other (sym theirs.own ∙ (me.later sender le).none_own) in
+    let lt : sender < senders = omega arith in
+    let one : WasMet story' senders (record { sender = sender; sent = sent }) = record { made = lt; none_own = pass_at-own story.pass_of sender none; all = theirs.all; done = subst (λ (b : Bool). ClosedAs b sent) is_closed theirs.done } in
+    let mine_now : FitsTaker story' pass capacity senders taken (record { sender = sender; sent = sent } ∷ met) = record {
+      places = me.places;
+      own = me.own;
+      front = me.front;
+      later = λ p le. let l = me.later p le in record { none_own = pass_at-none story.pass_of sender p l.none_own; nothing = l.nothing };
+      closed = knows_met story senders sender sent met one me.closed;
+    } in
+    let all_but : AllFit (λ j y. j ≢ other → Fits story' j y) (set passes pass both) =
+    fit_set (λ j y. j ≢ other → Fits story' j y) passes pass both (λ _. mine_now) (λ j y elsewhere e apart. others_meet story sender other j y theirs.own apart (λ i. elsewhere (i ∙ sym me.own)) (h.known j y e)) in
+    record {
+      story = story';
+      in_log = h.in_log;
+      well_sent = h.well_sent;
+      within = h.within;
+      known = fit_set (Fits story') (set passes pass both) other Spent tt (λ j y apart e. all_but j y e apart);
+    }
+
+-- ---- a reading
+
+pub reads : (pass : ℕ) (v : Knowledge) → IsTaker v → Learns Delivers pass v (step.Learns v)
+reads pass (Sender capacity sender sent closed) is_taker queued passes h at = absurd is_taker
+reads pass Spent is_taker queued passes h at = absurd is_taker
+reads pass (Taker capacity senders taken met) is_taker queued passes h at =
+    let story = h.story in
+    let me : FitsTaker story pass capacity senders taken met = h.known pass (Taker capacity senders taken met) at in (
+      (let c = me.places in let s = h.within in omega arith),
+      λ i m e. let k = me.closed i m e in record {
+        made = k.made;
+        all = k.all ∙ ap (mail_of m.sender) (h.in_log ∙ ap (λ (t : List Mail). t ++ queued) (sym me.front));
+        well_sent = subst IsWellSent (sym k.all) (h.well_sent m.sender);
+        done = k.done;
+      },
+    )
+
+-- after a meeting the pass is still the taker's
+pub taker-met : (v w : Knowledge) → IsTaker v → IsTaker (with_met v w)
+taker-met (Sender capacity sender sent closed) w h = h
+taker-met (Taker capacity senders taken met) w h = tt
+taker-met Spent w h = h
+
+-- what a reading tells of the sender that was met last
+pub met_tells : (v u w : Knowledge) (queued : List Mail) → IsTaker v → w ≡ with_met v u → step.Learns w queued → (length queued ≤ capacity_of v) × IsMetIn (senders_of v) (taken_of v ++ queued) (record { sender = sender_of u; sent = sent_of u })
+met_tells (Sender capacity sender sent closed) u w queued is_taker e tells = absurd is_taker
+met_tells Spent u w queued is_taker e tells = absurd is_taker
+met_tells (Taker capacity senders taken met) u w queued is_taker e tells =
+    let told = subst (λ (z : Knowledge). step.Learns z queued) e tells in
+    (told.0, told.1 0 (record { sender = sender_of u; sent = sent_of u }) refl)

@@ -1,0 +1,4 @@
+pub mod Sent
+pub mod Rule
+pub mod Steps
+pub mod Ends
