@@ -1,5 +1,5 @@
 -- Each kind of step keeps the rule of the queue.
-use Rattle.std.proofs.Common.{◌≡◌, ◌≢◌, ℕ, zero, suc, ◌+◌, ◌<◌, ◌≤◌, Bool, true, false, true≢false, eqb, List, [], ◌∷◌, ◌++◌, length, length-append, set, sym, refl, ap, ◌∙◌, subst, ⊎_elim, append_assoc, append-nil, arith, ◌⊎◌}
+use Rattle.std.proofs.Common.{◌≡◌, ◌≢◌, ℕ, zero, suc, ◌+◌, ◌<◌, ◌≤◌, Bool, true, false, eqb, List, [], ◌∷◌, ◌++◌, length, length-append, set, sym, refl, ap, ◌∙◌, subst, ⊎_elim, append_assoc, arith, ◌⊎◌}
 use Rattle.std.proofs.lemmas.Bool.Decides.{eqb_tells}
 use mathlib.Core.Option.{some, none, some-injective, some-ne-none}
 use lib.ListN.{get_elem?}
@@ -12,7 +12,7 @@ use Rattle.relay_queue.specs.Sent.{mail_of, HasDone, IsWellSent}
 use Rattle.relay_queue.specs.Rule.{Story, ClosedAs, FitsSender, IsUnmade, WasMet, FitsTaker, Fits, Delivers}
 use Rattle.relay_queue.specs.Steps as step
 use Rattle.relay_queue.specs.Steps.{IsSender, IsTaker, capacity_of, sender_of, sent_of, senders_of, taken_of, with_sender, new_sender, with_met, IsMetIn}
-use Rattle.relay_queue.proofs.Mails.{mail_of-append, mail_of-own, mail_of-other, length-mail_of, has_mail, no_mail, nothing_behind, well_sent-nil, well_sent-push, well_sent-front}
+use Rattle.relay_queue.proofs.Mails.{mail_of-append, mail_of-own, mail_of-other, has_mail, no_mail, well_sent-nil, well_sent-push, well_sent-front}
 use Rattle.relay_queue.proofs.Passes.{at_set, AllFit, fit_set, fit_push, pass_at, pass_at-own, pass_at-other, pass_at-none}
 
 -- ---- the beginning

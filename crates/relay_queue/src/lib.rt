@@ -17,6 +17,8 @@ pub mod refusal;
 pub mod rule;
 pub mod sender;
 pub mod taker;
+#[cfg(test)]
+mod tests;
 
 pub use queue::lane_queue;
 pub use refusal::{Gone, PutRefusal};

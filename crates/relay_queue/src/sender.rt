@@ -1,5 +1,5 @@
 //! The ends of the senders.
-ghost use Rattle.std.specs.Prelude.{◌≡◌, ◌≢◌, ◌+◌, ◌^◌, ◌↔◌, [], ◌∷◌, ◌++◌, length, IfOk, IfErr, OnOk, IsErrAnd};
+ghost use Rattle.std.specs.Prelude.{◌≡◌, ◌≢◌, ◌+◌, ◌≤◌, ◌^◌, ◌↔◌, [], ◌∷◌, ◌++◌, length, IfOk, IfErr, OnOk, IsErrAnd};
 ghost use Rattle.relay_queue.specs.Sent.{message, IsWellSent, HasDone};
 
 use crate::refusal::{Gone, PutRefusal};
@@ -60,6 +60,7 @@ impl LanePut {
         ensures sent { IfOk result
             (λ n. self.new.sent ≡ self.old.sent ++ message self.old.sender n body ∷ []) }
         ensures in_order { OnOk result (IsWellSent self.new.sent) }
+        ensures limit { OnOk result (length self.new.sent ≤ 2 ^ 40) }
         ensures refused { IfErr result (λ e. (e.1 ≡ body) × (self.new ≡ self.old)) }
         ensures spent { IsErrAnd result (λ e. e.0 ≡ PutRefusal.Spent)
             ↔ (length self.old.sent ≡ 2 ^ 40) }
@@ -108,7 +109,8 @@ impl LanePut {
                 } = self;
                 Ok(ClosedPut { channel, pass })
             }
-            Err(_) => Err((Gone, self)),
+            Err(SendError::Disconnected(_)) => Err((Gone, self)),
+            Err(SendError::OutOfMemory(_)) => unreachable!(),
         }
     }
 }
