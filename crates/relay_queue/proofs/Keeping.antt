@@ -8,8 +8,8 @@ use Rattle.relay_action.specs.declared.mail.Mail.{Mail}
 use Rattle.relay_queue.specs.declared.rule.SentList.{SentList}
 use Rattle.relay_queue.specs.declared.rule.Knowledge.{Knowledge}
 use Rattle.relay_queue.specs.declared.rule.Knowledge.TheVariants.{Sender, Taker, Spent}
-use Rattle.relay_queue.specs.Sent.{mail_of, HasDone, IsWellSent}
-use Rattle.relay_queue.specs.Rule.{Story, ClosedAs, FitsSender, IsUnmade, WasMet, FitsTaker, Fits, Delivers}
+use Rattle.relay_queue.specs.Sent.{mail_of, HasDone, ClosedAs, IsWellSent}
+use Rattle.relay_queue.specs.Rule.{History, FitsSender, IsUnmade, WasMet, FitsTaker, Fits, Delivers}
 use Rattle.relay_queue.specs.Steps as step
 use Rattle.relay_queue.specs.Steps.{IsSender, IsTaker, capacity_of, sender_of, sent_of, senders_of, taken_of, with_sender, new_sender, with_met, IsMetIn}
 use Rattle.relay_queue.proofs.Mails.{mail_of-append, mail_of-own, mail_of-other, has_mail, no_mail, well_sent-nil, well_sent-push, well_sent-front}
@@ -18,7 +18,7 @@ use Rattle.relay_queue.proofs.Passes.{at_set, AllFit, fit_set, fit_push, pass_at
 -- ---- the beginning
 
 -- before the first step
-abbrev start : Story
+abbrev start : History
 start = record { capacity = 0; taker = 0; pass_of = λ _. none; taken = []; log = [] }
 
 starts : FitsTaker start 0 0 0 [] []
@@ -32,7 +32,7 @@ starts = record {
 
 pub begins : Delivers [] (Taker 0 0 [] [] ∷ [])
 begins = record {
-  story = start;
+  history = start;
   in_log = refl;
   well_sent = λ sender. well_sent-nil;
   within = omega arith;
@@ -41,25 +41,25 @@ begins = record {
 
 -- ---- a send
 
--- the story with one more message in the log
-abbrev sent_more : Story → Mail → Story
-sent_more story x = record story { log = story.log ++ x ∷ [] }
+-- the history with one more message in the log
+abbrev sent_more : History → Mail → History
+sent_more history x = record history { log = history.log ++ x ∷ [] }
 
 -- what the other passes know stays true
-others_send : (story : Story) (x : Mail) (pass j : ℕ) (u : Knowledge) → story.pass_of x.sender ≡ some pass → j ≢ pass → Fits story j u → Fits (sent_more story x) j u
-others_send story x pass j (Sender capacity sender sent closed) own apart h =
-    let other : x.sender ≢ sender = λ e. apart (sym (some-injective pass j (sym own ∙ ap story.pass_of e ∙ h.own))) in
-    record { places = h.places; own = h.own; all = h.all ∙ sym (mail_of-other sender story.log x other); done = h.done }
-others_send story x pass j (Taker capacity senders taken met) own apart h =
-    let other : (p : ℕ) → story.pass_of p ≡ none → x.sender ≢ p = λ p e i. some-ne-none pass (sym own ∙ ap story.pass_of i ∙ e) in
+others_send : (history : History) (x : Mail) (pass j : ℕ) (u : Knowledge) → history.pass_of x.sender ≡ some pass → j ≢ pass → Fits history j u → Fits (sent_more history x) j u
+others_send history x pass j (Sender capacity sender sent closed) own apart h =
+    let other : x.sender ≢ sender = λ e. apart (sym (some-injective pass j (sym own ∙ ap history.pass_of e ∙ h.own))) in
+    record { places = h.places; own = h.own; all = h.all ∙ sym (mail_of-other sender history.log x other); done = h.done }
+others_send history x pass j (Taker capacity senders taken met) own apart h =
+    let other : (p : ℕ) → history.pass_of p ≡ none → x.sender ≢ p = λ p e i. some-ne-none pass (sym own ∙ ap history.pass_of i ∙ e) in
     record {
       places = h.places;
       own = h.own;
       front = h.front;
-      later = λ p le. let l = h.later p le in record { none_own = l.none_own; nothing = mail_of-other p story.log x (other p l.none_own) ∙ l.nothing };
-      closed = λ i m e. let k = h.closed i m e in record { made = k.made; none_own = k.none_own; all = k.all ∙ sym (mail_of-other m.sender story.log x (other m.sender k.none_own)); done = k.done };
+      later = λ p le. let l = h.later p le in record { none_own = l.none_own; nothing = mail_of-other p history.log x (other p l.none_own) ∙ l.nothing };
+      closed = λ i m e. let k = h.closed i m e in record { made = k.made; none_own = k.none_own; all = k.all ∙ sym (mail_of-other m.sender history.log x (other m.sender k.none_own)); done = k.done };
     }
-others_send story x pass j Spent own apart h = tt
+others_send history x pass j Spent own apart h = tt
 
 -- of each sender the log stays well sent
 log_send : (log : List Mail) (x : Mail) → ((p : ℕ) → IsWellSent (mail_of p log)) → ¬ HasDone (mail_of x.sender log) → x.number ≡ length (mail_of x.sender log) + 1 → (p : ℕ) → IsWellSent (mail_of p (log ++ x ∷ []))
@@ -72,50 +72,50 @@ log_send log x well unclosed number p =
 pub sends : (state : Bool) (n pass : ℕ) (v : Knowledge) (x : Mail) → IsSender false v → capacity_of v ≡ n → sender_of v ≡ x.sender → x.number ≡ length (sent_of v) + 1
     → (¬ HasDone (sent_of v) → ClosedAs state (sent_of v ++ x ∷ [])) → Pushes Delivers n pass v x (step.Sends state v x)
 sends state n pass (Sender capacity sender sent closed) x open_one places mine number now queued passes room h at =
-    let story = h.story in
-    let me : FitsSender story pass capacity sender sent closed = h.known pass (Sender capacity sender sent closed) at in
+    let history = h.history in
+    let me : FitsSender history pass capacity sender sent closed = h.known pass (Sender capacity sender sent closed) at in
     let unclosed : ¬ HasDone sent = subst (λ (b : Bool). ClosedAs b sent) open_one me.done in
-    let all : sent ≡ mail_of x.sender story.log = me.all ∙ ap (λ p. mail_of p story.log) mine in
-    let own : story.pass_of x.sender ≡ some pass = ap story.pass_of (sym mine) ∙ me.own in
-    let grown : sent ++ x ∷ [] ≡ mail_of sender (story.log ++ x ∷ []) = ap (λ l. l ++ x ∷ []) me.all ∙ sym (mail_of-own sender story.log x (sym mine)) in
-    let well : (p : ℕ) → IsWellSent (mail_of p (story.log ++ x ∷ [])) = log_send story.log x h.well_sent (subst (λ (l : List Mail). ¬ HasDone l) all unclosed) (number ∙ ap (λ (l : List Mail). length l + 1) all) in
-    let mine_now : FitsSender (sent_more story x) pass capacity sender (sent ++ x ∷ []) state = record { places = me.places; own = me.own; all = grown; done = now unclosed } in (
+    let all : sent ≡ mail_of x.sender history.log = me.all ∙ ap (λ p. mail_of p history.log) mine in
+    let own : history.pass_of x.sender ≡ some pass = ap history.pass_of (sym mine) ∙ me.own in
+    let grown : sent ++ x ∷ [] ≡ mail_of sender (history.log ++ x ∷ []) = ap (λ l. l ++ x ∷ []) me.all ∙ sym (mail_of-own sender history.log x (sym mine)) in
+    let well : (p : ℕ) → IsWellSent (mail_of p (history.log ++ x ∷ [])) = log_send history.log x h.well_sent (subst (λ (l : List Mail). ¬ HasDone l) all unclosed) (number ∙ ap (λ (l : List Mail). length l + 1) all) in
+    let mine_now : FitsSender (sent_more history x) pass capacity sender (sent ++ x ∷ []) state = record { places = me.places; own = me.own; all = grown; done = now unclosed } in (
       Sender capacity sender (sent ++ x ∷ []) state,
       record {
-        story = sent_more story x;
-        in_log = ap (λ l. l ++ x ∷ []) h.in_log ∙ append_assoc story.taken queued (x ∷ []);
+        history = sent_more history x;
+        in_log = ap (λ l. l ++ x ∷ []) h.in_log ∙ append_assoc history.taken queued (x ∷ []);
         well_sent = well;
-        within = (let cap : capacity ≡ story.capacity = me.places in omega (arith, length-append queued (x ∷ [])));
-        known = fit_set (Fits (sent_more story x)) passes pass (Sender capacity sender (sent ++ x ∷ []) state) mine_now (λ j u apart e. others_send story x pass j u own apart (h.known j u e));
+        within = (let cap : capacity ≡ history.capacity = me.places in omega (arith, length-append queued (x ∷ [])));
+        known = fit_set (Fits (sent_more history x)) passes pass (Sender capacity sender (sent ++ x ∷ []) state) mine_now (λ j u apart e. others_send history x pass j u own apart (h.known j u e));
       },
-      (refl, subst IsWellSent (sym grown) (well sender)),
+      (refl, subst IsWellSent (sym grown) (well sender), now unclosed),
     )
 sends state n pass (Taker capacity senders taken met) x open_one places mine number now queued passes room h at = absurd open_one
 sends state n pass Spent x open_one places mine number now queued passes room h at = absurd open_one
 
 -- ---- a take
 
--- the story with one more message taken
-abbrev took_more : Story → Mail → Story
-took_more story x = record story { taken = story.taken ++ x ∷ [] }
+-- the history with one more message taken
+abbrev took_more : History → Mail → History
+took_more history x = record history { taken = history.taken ++ x ∷ [] }
 
 -- what the other passes know stays true, since the taker has but one
-others_take : (story : Story) (x : Mail) (j : ℕ) (u : Knowledge) → j ≢ story.taker → Fits story j u → Fits (took_more story x) j u
-others_take story x j (Sender capacity sender sent closed) apart h = record { places = h.places; own = h.own; all = h.all; done = h.done }
-others_take story x j (Taker capacity senders taken met) apart h = absurd (apart h.own)
-others_take story x j Spent apart h = tt
+others_take : (history : History) (x : Mail) (j : ℕ) (u : Knowledge) → j ≢ history.taker → Fits history j u → Fits (took_more history x) j u
+others_take history x j (Sender capacity sender sent closed) apart h = record { places = h.places; own = h.own; all = h.all; done = h.done }
+others_take history x j (Taker capacity senders taken met) apart h = absurd (apart h.own)
+others_take history x j Spent apart h = tt
 
 pub takes : (pass : ℕ) (v : Knowledge) → IsTaker v → Pops Delivers pass v (step.Receives v)
 takes pass (Sender capacity sender sent closed) is_taker x queued passes h at = absurd is_taker
 takes pass Spent is_taker x queued passes h at = absurd is_taker
 takes pass (Taker capacity senders taken met) is_taker x queued passes h at =
-    let story = h.story in
-    let me : FitsTaker story pass capacity senders taken met = h.known pass (Taker capacity senders taken met) at in
-    let log_is : story.log ≡ (story.taken ++ x ∷ []) ++ queued = h.in_log ∙ sym (append_assoc story.taken (x ∷ []) queued) in
-    let late : senders ≤ x.sender → ⊥ = λ le. has_mail x.sender story.taken queued x refl (ap (mail_of x.sender) (sym h.in_log) ∙ (me.later x.sender le).nothing) in
-    let parts : (p : ℕ) → mail_of p story.log ≡ mail_of p (taken ++ x ∷ []) ++ mail_of p queued = λ p.
+    let history = h.history in
+    let me : FitsTaker history pass capacity senders taken met = h.known pass (Taker capacity senders taken met) at in
+    let log_is : history.log ≡ (history.taken ++ x ∷ []) ++ queued = h.in_log ∙ sym (append_assoc history.taken (x ∷ []) queued) in
+    let late : senders ≤ x.sender → ⊥ = λ le. has_mail x.sender history.taken queued x refl (ap (mail_of x.sender) (sym h.in_log) ∙ (me.later x.sender le).nothing) in
+    let parts : (p : ℕ) → mail_of p history.log ≡ mail_of p (taken ++ x ∷ []) ++ mail_of p queued = λ p.
     ap (mail_of p) (log_is ∙ ap (λ (l : List Mail). (l ++ x ∷ []) ++ queued) (sym me.front)) ∙ mail_of-append p (taken ++ x ∷ []) queued in
-    let mine_now : FitsTaker (took_more story x) pass capacity senders (taken ++ x ∷ []) met = record {
+    let mine_now : FitsTaker (took_more history x) pass capacity senders (taken ++ x ∷ []) met = record {
       places = me.places;
       own = me.own;
       front = ap (λ l. l ++ x ∷ []) me.front;
@@ -124,81 +124,81 @@ takes pass (Taker capacity senders taken met) is_taker x queued passes h at =
     } in (
       Taker capacity senders (taken ++ x ∷ []) met,
       record {
-        story = took_more story x;
+        history = took_more history x;
         in_log = log_is;
         well_sent = h.well_sent;
         within = (let short = h.within in omega arith);
-        known = fit_set (Fits (took_more story x)) passes pass (Taker capacity senders (taken ++ x ∷ []) met) mine_now (λ j u apart e. others_take story x j u (λ i. apart (i ∙ sym me.own)) (h.known j u e));
+        known = fit_set (Fits (took_more history x)) passes pass (Taker capacity senders (taken ++ x ∷ []) met) mine_now (λ j u apart e. others_take history x j u (λ i. apart (i ∙ sym me.own)) (h.known j u e));
       },
       (refl, omega arith, λ p. well_sent-front _ _ (subst IsWellSent (parts p) (h.well_sent p))),
     )
 
 -- ---- a new sender
 
--- the story with one more sender, which has this pass, and with so many places
-abbrev made_more : Story → ℕ → ℕ → ℕ → Story
-made_more story places sender pass = record story { capacity = places; pass_of = pass_at story.pass_of sender (some pass) }
+-- the history with one more sender, which has this pass, and with so many places
+abbrev made_more : History → ℕ → ℕ → ℕ → History
+made_more history places sender pass = record history { capacity = places; pass_of = pass_at history.pass_of sender (some pass) }
 
 -- what the other passes know stays true
-others_make : (story : Story) (places sender pass j : ℕ) (u : Knowledge) → story.pass_of sender ≡ none → ((q k : ℕ) → story.pass_of q ≡ some k → story.capacity ≡ places) → j ≢ story.taker → Fits story j u → Fits (made_more story places sender pass) j u
-others_make story places sender pass j (Sender capacity q sent closed) free same apart h =
-    let other : q ≢ sender = λ e. some-ne-none j (sym h.own ∙ ap story.pass_of e ∙ free) in
-    record { places = h.places ∙ same q j h.own; own = pass_at-other story.pass_of sender q (some pass) other ∙ h.own; all = h.all; done = h.done }
-others_make story places sender pass j (Taker capacity senders taken met) free same apart h = absurd (apart h.own)
-others_make story places sender pass j Spent free same apart h = tt
+others_make : (history : History) (places sender pass j : ℕ) (u : Knowledge) → history.pass_of sender ≡ none → ((q k : ℕ) → history.pass_of q ≡ some k → history.capacity ≡ places) → j ≢ history.taker → Fits history j u → Fits (made_more history places sender pass) j u
+others_make history places sender pass j (Sender capacity q sent closed) free same apart h =
+    let other : q ≢ sender = λ e. some-ne-none j (sym h.own ∙ ap history.pass_of e ∙ free) in
+    record { places = h.places ∙ same q j h.own; own = pass_at-other history.pass_of sender q (some pass) other ∙ h.own; all = h.all; done = h.done }
+others_make history places sender pass j (Taker capacity senders taken met) free same apart h = absurd (apart h.own)
+others_make history places sender pass j Spent free same apart h = tt
 
 pub splits : (pass : ℕ) (v : Knowledge) (places : ℕ) → IsTaker v → ((senders_of v ≡ 0) ⊎ (capacity_of v ≡ places)) → Forks Delivers pass v (with_sender places v) (new_sender places v)
 splits pass (Sender capacity sender sent closed) places is_taker first queued passes h at = absurd is_taker
 splits pass Spent places is_taker first queued passes h at = absurd is_taker
 splits pass (Taker capacity senders taken met) places is_taker first queued passes h at =
-    let story = h.story in
-    let me : FitsTaker story pass capacity senders taken met = h.known pass (Taker capacity senders taken met) at in
-    let free : IsUnmade story senders = me.later senders (omega arith) in
+    let history = h.history in
+    let me : FitsTaker history pass capacity senders taken met = h.known pass (Taker capacity senders taken met) at in
+    let free : IsUnmade history senders = me.later senders (omega arith) in
     let passes' : List Knowledge = set passes pass (Taker places (senders + 1) taken met) in
     let new : ℕ = length passes' in
-    let story' : Story = made_more story places senders new in
-    let same : (q k : ℕ) → story.pass_of q ≡ some k → story.capacity ≡ places = λ q k e.
+    let history' : History = made_more history places senders new in
+    let same : (q k : ℕ) → history.pass_of q ≡ some k → history.capacity ≡ places = λ q k e.
     ⊎_elim (λ (z : senders ≡ 0). absurd (some-ne-none k (sym e ∙ (me.later q (omega arith)).none_own))) (λ (z : capacity ≡ places). sym me.places ∙ z) first in
     let short : length queued ≤ places =
-    ⊎_elim (λ (z : senders ≡ 0). let none_queued = no_mail story.taken queued (λ p. ap (mail_of p) (sym h.in_log) ∙ (me.later p (omega arith)).nothing) in omega (arith, ap length none_queued))
+    ⊎_elim (λ (z : senders ≡ 0). let none_queued = no_mail history.taken queued (λ p. ap (mail_of p) (sym h.in_log) ∙ (me.later p (omega arith)).nothing) in omega (arith, ap length none_queued))
     (λ (z : capacity ≡ places). let c = me.places in let s = h.within in omega arith) first in
-    let mine_now : FitsTaker story' pass places (senders + 1) taken met = record {
+    let mine_now : FitsTaker history' pass places (senders + 1) taken met = record {
       places = refl;
       own = me.own;
       front = me.front;
-      later = λ p le. let l = me.later p (omega arith) in record { none_own = pass_at-other story.pass_of senders p (some new) (omega arith) ∙ l.none_own; nothing = l.nothing };
-      closed = λ i m e. let k = me.closed i m e in let lt = k.made in record { made = omega arith; none_own = pass_at-other story.pass_of senders m.sender (some new) (omega arith) ∙ k.none_own; all = k.all; done = k.done };
+      later = λ p le. let l = me.later p (omega arith) in record { none_own = pass_at-other history.pass_of senders p (some new) (omega arith) ∙ l.none_own; nothing = l.nothing };
+      closed = λ i m e. let k = me.closed i m e in let lt = k.made in record { made = omega arith; none_own = pass_at-other history.pass_of senders m.sender (some new) (omega arith) ∙ k.none_own; all = k.all; done = k.done };
     } in
-    let new_now : FitsSender story' new places senders [] false = record { places = refl; own = pass_at-own story.pass_of senders (some new); all = sym free.nothing; done = λ d. d } in
+    let new_now : FitsSender history' new places senders [] false = record { places = refl; own = pass_at-own history.pass_of senders (some new); all = sym free.nothing; done = λ d. d } in
     record {
-      story = story';
+      history = history';
       in_log = h.in_log;
       well_sent = h.well_sent;
       within = short;
-      known = fit_push (Fits story') passes' (Sender places senders [] false) new_now
-          (fit_set (Fits story') passes pass (Taker places (senders + 1) taken met) mine_now
-          (λ j u apart e. others_make story places senders new j u free.none_own same (λ i. apart (i ∙ sym me.own)) (h.known j u e)));
+      known = fit_push (Fits history') passes' (Sender places senders [] false) new_now
+          (fit_set (Fits history') passes pass (Taker places (senders + 1) taken met) mine_now
+          (λ j u apart e. others_make history places senders new j u free.none_own same (λ i. apart (i ∙ sym me.own)) (h.known j u e)));
     }
 
 -- ---- a meeting
 
--- the story with a sender that was met
-abbrev met_more : Story → ℕ → Story
-met_more story sender = record story { pass_of = pass_at story.pass_of sender none }
+-- the history with a sender that was met
+abbrev met_more : History → ℕ → History
+met_more history sender = record history { pass_of = pass_at history.pass_of sender none }
 
 -- what the other passes know stays true
-others_meet : (story : Story) (sender pass j : ℕ) (u : Knowledge) → story.pass_of sender ≡ some pass → j ≢ pass → j ≢ story.taker → Fits story j u → Fits (met_more story sender) j u
-others_meet story sender pass j (Sender capacity q sent closed) own apart alone h =
-    let other : q ≢ sender = λ e. apart (some-injective j pass (sym h.own ∙ ap story.pass_of e ∙ own)) in
-    record { places = h.places; own = pass_at-other story.pass_of sender q none other ∙ h.own; all = h.all; done = h.done }
-others_meet story sender pass j (Taker capacity senders taken met) own apart alone h = absurd (alone h.own)
-others_meet story sender pass j Spent own apart alone h = tt
+others_meet : (history : History) (sender pass j : ℕ) (u : Knowledge) → history.pass_of sender ≡ some pass → j ≢ pass → j ≢ history.taker → Fits history j u → Fits (met_more history sender) j u
+others_meet history sender pass j (Sender capacity q sent closed) own apart alone h =
+    let other : q ≢ sender = λ e. apart (some-injective j pass (sym h.own ∙ ap history.pass_of e ∙ own)) in
+    record { places = h.places; own = pass_at-other history.pass_of sender q none other ∙ h.own; all = h.all; done = h.done }
+others_meet history sender pass j (Taker capacity senders taken met) own apart alone h = absurd (alone h.own)
+others_meet history sender pass j Spent own apart alone h = tt
 
 -- what the taker knows of the senders that it met, with one more
-knows_met : (story : Story) (senders sender : ℕ) (sent : List Mail) (met : List SentList) → WasMet (met_more story sender) senders (record { sender = sender; sent = sent }) → ((i : ℕ) (m : SentList) → get_elem? met i ≡ some m → WasMet story senders m)
-    → (i : ℕ) (m : SentList) → get_elem? (record { sender = sender; sent = sent } ∷ met) i ≡ some m → WasMet (met_more story sender) senders m
-knows_met story senders sender sent met one old zero m e = subst (WasMet (met_more story sender) senders) (some-injective _ m e) one
-knows_met story senders sender sent met one old (suc i) m e = let k = old i m e in record { made = k.made; none_own = pass_at-none story.pass_of sender m.sender k.none_own; all = k.all; done = k.done }
+knows_met : (history : History) (senders sender : ℕ) (sent : List Mail) (met : List SentList) → WasMet (met_more history sender) senders (record { sender = sender; sent = sent }) → ((i : ℕ) (m : SentList) → get_elem? met i ≡ some m → WasMet history senders m)
+    → (i : ℕ) (m : SentList) → get_elem? (record { sender = sender; sent = sent } ∷ met) i ≡ some m → WasMet (met_more history sender) senders m
+knows_met history senders sender sent met one old zero m e = subst (WasMet (met_more history sender) senders) (some-injective _ m e) one
+knows_met history senders sender sent met one old (suc i) m e = let k = old i m e in record { made = k.made; none_own = pass_at-none history.pass_of sender m.sender k.none_own; all = k.all; done = k.done }
 
 pub meets : (pass : ℕ) (v : Knowledge) (other : ℕ) (w : Knowledge) → IsTaker v → IsSender true w → Merges Delivers pass v other w (with_met v w) Spent
 meets pass (Sender capacity sender sent closed) other w is_taker is_closed queued passes h at two at' = absurd is_taker
@@ -206,31 +206,31 @@ meets pass Spent other w is_taker is_closed queued passes h at two at' = absurd 
 meets pass (Taker capacity senders taken met) other (Taker c n t k) is_taker is_closed queued passes h at two at' = absurd is_closed
 meets pass (Taker capacity senders taken met) other Spent is_taker is_closed queued passes h at two at' = absurd is_closed
 meets pass (Taker capacity senders taken met) other (Sender c sender sent closed) is_taker is_closed queued passes h at two at' =
-    let story = h.story in
-    let story' : Story = met_more story sender in
+    let history = h.history in
+    let history' : History = met_more history sender in
     let both : Knowledge = Taker capacity senders taken (record { sender = sender; sent = sent } ∷ met) in
     let theirs_at : Knowledge = Sender c sender sent closed in
-    let me : FitsTaker story pass capacity senders taken met = h.known pass (Taker capacity senders taken met) at in
+    let me : FitsTaker history pass capacity senders taken met = h.known pass (Taker capacity senders taken met) at in
     let was : get_elem? passes other ≡ some theirs_at = ⊎_elim (λ x. absurd (two x.0)) (λ x. x.1) (at_set passes pass other both theirs_at at') in
-    let theirs : FitsSender story other c sender sent closed = h.known other theirs_at was in
+    let theirs : FitsSender history other c sender sent closed = h.known other theirs_at was in
     let late : senders ≤ sender → ⊥ = λ le. some-ne-none other (sym theirs.own ∙ (me.later sender le).none_own) in
     let lt : sender < senders = omega arith in
-    let one : WasMet story' senders (record { sender = sender; sent = sent }) = record { made = lt; none_own = pass_at-own story.pass_of sender none; all = theirs.all; done = subst (λ (b : Bool). ClosedAs b sent) is_closed theirs.done } in
-    let mine_now : FitsTaker story' pass capacity senders taken (record { sender = sender; sent = sent } ∷ met) = record {
+    let one : WasMet history' senders (record { sender = sender; sent = sent }) = record { made = lt; none_own = pass_at-own history.pass_of sender none; all = theirs.all; done = subst (λ (b : Bool). ClosedAs b sent) is_closed theirs.done } in
+    let mine_now : FitsTaker history' pass capacity senders taken (record { sender = sender; sent = sent } ∷ met) = record {
       places = me.places;
       own = me.own;
       front = me.front;
-      later = λ p le. let l = me.later p le in record { none_own = pass_at-none story.pass_of sender p l.none_own; nothing = l.nothing };
-      closed = knows_met story senders sender sent met one me.closed;
+      later = λ p le. let l = me.later p le in record { none_own = pass_at-none history.pass_of sender p l.none_own; nothing = l.nothing };
+      closed = knows_met history senders sender sent met one me.closed;
     } in
-    let all_but : AllFit (λ j y. j ≢ other → Fits story' j y) (set passes pass both) =
-    fit_set (λ j y. j ≢ other → Fits story' j y) passes pass both (λ _. mine_now) (λ j y elsewhere e apart. others_meet story sender other j y theirs.own apart (λ i. elsewhere (i ∙ sym me.own)) (h.known j y e)) in
+    let all_but : AllFit (λ j y. j ≢ other → Fits history' j y) (set passes pass both) =
+    fit_set (λ j y. j ≢ other → Fits history' j y) passes pass both (λ _. mine_now) (λ j y elsewhere e apart. others_meet history sender other j y theirs.own apart (λ i. elsewhere (i ∙ sym me.own)) (h.known j y e)) in
     record {
-      story = story';
+      history = history';
       in_log = h.in_log;
       well_sent = h.well_sent;
       within = h.within;
-      known = fit_set (Fits story') (set passes pass both) other Spent tt (λ j y apart e. all_but j y e apart);
+      known = fit_set (Fits history') (set passes pass both) other Spent tt (λ j y apart e. all_but j y e apart);
     }
 
 -- ---- a reading
@@ -239,8 +239,8 @@ pub reads : (pass : ℕ) (v : Knowledge) → IsTaker v → Learns Delivers pass 
 reads pass (Sender capacity sender sent closed) is_taker queued passes h at = absurd is_taker
 reads pass Spent is_taker queued passes h at = absurd is_taker
 reads pass (Taker capacity senders taken met) is_taker queued passes h at =
-    let story = h.story in
-    let me : FitsTaker story pass capacity senders taken met = h.known pass (Taker capacity senders taken met) at in (
+    let history = h.history in
+    let me : FitsTaker history pass capacity senders taken met = h.known pass (Taker capacity senders taken met) at in (
       (let c = me.places in let s = h.within in omega arith),
       λ i m e. let k = me.closed i m e in record {
         made = k.made;

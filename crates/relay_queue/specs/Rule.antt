@@ -1,63 +1,63 @@
--- The rule of a queue: what holds at every moment of the messages queued and of what the passes know.
-use Rattle.std.specs.Prelude.{◌≡◌, ℕ, ◌<◌, ◌≤◌, Bool, true, false, List, [], ◌++◌, length, ⊤}
+-- The rule of a queue: what holds at every moment of the messages that are queued and of what the
+-- passes know.
+use Rattle.std.specs.Prelude.{◌≡◌, ℕ, ◌<◌, ◌≤◌, Bool, List, [], ◌++◌, length, ⊤}
 use mathlib.Core.Option.{Option, some, none}
 use lib.ListN.{get_elem?}
 use Rattle.relay_action.specs.declared.mail.Mail.{Mail}
 use Rattle.relay_queue.specs.declared.rule.SentList.{SentList}
 use Rattle.relay_queue.specs.declared.rule.Knowledge.{Knowledge}
 use Rattle.relay_queue.specs.declared.rule.Knowledge.TheVariants.{Sender, Taker, Spent}
-use Rattle.relay_queue.specs.Sent.{mail_of, HasDone, IsWellSent}
+use Rattle.relay_queue.specs.Sent.{mail_of, HasDone, ClosedAs, IsWellSent}
 
--- what stands behind the passes: how many places the queue has, which pass is the taker's, which pass each sender has that was not met, the messages taken, and the log
-pub record Story : Type 0 where
+-- what stands behind the passes: how many places the queue has, the number of the taker's pass, that
+-- of the pass of each sender that was not met, the messages taken, and the log
+pub record History : Type 0 where
   pub capacity : ℕ
   pub taker : ℕ
   pub pass_of : ℕ → Option ℕ
   pub taken : List Mail
   pub log : List Mail
 
--- Done was sent where the sender closed, and only there
-abbrev pub ClosedAs : Bool → List Mail → Type 0
-ClosedAs true sent = HasDone sent
-ClosedAs false sent = ¬ HasDone sent
-
--- a sender's pass is the only one of its number, and what it knows to have sent is what the log holds of it
-pub record FitsSender (story : Story) (pass capacity sender : ℕ) (sent : List Mail) (closed : Bool) : Type 0 where
-  pub places : capacity ≡ story.capacity
-  pub own : story.pass_of sender ≡ some pass
-  pub all : sent ≡ mail_of sender story.log
+-- a sender's pass is the only one of that sender; what it knows to be sent is what the log holds of
+-- the sender, and Done is among it where the sender closed, and only there
+pub record FitsSender (history : History) (pass capacity sender : ℕ) (sent : List Mail) (closed : Bool) : Type 0 where
+  pub places : capacity ≡ history.capacity
+  pub own : history.pass_of sender ≡ some pass
+  pub all : sent ≡ mail_of sender history.log
   pub done : ClosedAs closed sent
 
 -- a sender that was not made yet has no pass and sent nothing
-pub record IsUnmade (story : Story) (sender : ℕ) : Type 0 where
-  pub none_own : story.pass_of sender ≡ none
-  pub nothing : mail_of sender story.log ≡ []
+pub record IsUnmade (history : History) (sender : ℕ) : Type 0 where
+  pub none_own : history.pass_of sender ≡ none
+  pub nothing : mail_of sender history.log ≡ []
 
 -- a sender that was met has no pass any more, closed, and sent what the log holds of it
-pub record WasMet (story : Story) (senders : ℕ) (met : SentList) : Type 0 where
+pub record WasMet (history : History) (senders : ℕ) (met : SentList) : Type 0 where
   pub made : met.sender < senders
-  pub none_own : story.pass_of met.sender ≡ none
-  pub all : met.sent ≡ mail_of met.sender story.log
+  pub none_own : history.pass_of met.sender ≡ none
+  pub all : met.sent ≡ mail_of met.sender history.log
   pub done : HasDone met.sent
 
--- the taker's pass is one, and knows what was taken, that later senders are not made, and what the met ones sent
-pub record FitsTaker (story : Story) (pass capacity senders : ℕ) (taken : List Mail) (met : List SentList) : Type 0 where
-  pub places : capacity ≡ story.capacity
-  pub own : pass ≡ story.taker
-  pub front : taken ≡ story.taken
-  pub later : (sender : ℕ) → senders ≤ sender → IsUnmade story sender
-  pub closed : (i : ℕ) (m : SentList) → get_elem? met i ≡ some m → WasMet story senders m
+-- the taker's pass is the only one of its kind; it knows what was taken, that later senders are not
+-- made, and what the senders sent that it met
+pub record FitsTaker (history : History) (pass capacity senders : ℕ) (taken : List Mail) (met : List SentList) : Type 0 where
+  pub places : capacity ≡ history.capacity
+  pub own : pass ≡ history.taker
+  pub front : taken ≡ history.taken
+  pub later : (sender : ℕ) → senders ≤ sender → IsUnmade history sender
+  pub closed : (i : ℕ) (m : SentList) → get_elem? met i ≡ some m → WasMet history senders m
 
 -- what the pass knows is true
-abbrev pub Fits : Story → ℕ → Knowledge → Type 0
-Fits story pass (Sender capacity sender sent closed) = FitsSender story pass capacity sender sent closed
-Fits story pass (Taker capacity senders taken met) = FitsTaker story pass capacity senders taken met
-Fits story pass Spent = ⊤
+abbrev pub Fits : History → ℕ → Knowledge → Type 0
+Fits history pass (Sender capacity sender sent closed) = FitsSender history pass capacity sender sent closed
+Fits history pass (Taker capacity senders taken met) = FitsTaker history pass capacity senders taken met
+Fits history pass Spent = ⊤
 
--- the rule: there is a log, what was taken and then what is queued; of each sender it is well sent; no more is queued than there are places; and each pass knows what is true
+-- the rule: there is a log, what was taken and then what is queued; what it holds of each sender is
+-- well sent; no more is queued than there are places; and what each pass knows is true
 pub record Delivers (queued : List Mail) (passes : List Knowledge) : Type 0 where
-  pub story : Story
-  pub in_log : story.log ≡ story.taken ++ queued
-  pub well_sent : (sender : ℕ) → IsWellSent (mail_of sender story.log)
-  pub within : length queued ≤ story.capacity
-  pub known : (pass : ℕ) (v : Knowledge) → get_elem? passes pass ≡ some v → Fits story pass v
+  pub history : History
+  pub in_log : history.log ≡ history.taken ++ queued
+  pub well_sent : (sender : ℕ) → IsWellSent (mail_of sender history.log)
+  pub within : length queued ≤ history.capacity
+  pub known : (pass : ℕ) (v : Knowledge) → get_elem? passes pass ≡ some v → Fits history pass v

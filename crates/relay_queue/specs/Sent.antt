@@ -1,5 +1,5 @@
 -- What one sender may send, and which messages of a list are one sender's.
-use Rattle.std.specs.Prelude.{◌≡◌, ℕ, ◌+◌, ◌==◌, if◌then◌else◌, List, [], ◌∷◌, ◌⊎◌, ⊤}
+use Rattle.std.specs.Prelude.{◌≡◌, ℕ, ◌+◌, ◌==◌, Bool, true, false, if◌then◌else◌, List, [], ◌∷◌, ◌⊎◌, ⊤}
 use Rattle.relay_action.specs.declared.mail.Mail.{Mail}
 use Rattle.relay_action.specs.declared.mail.Body.{Body}
 use Rattle.relay_action.specs.declared.mail.Body.TheVariants.{Done}
@@ -35,3 +35,8 @@ NothingAfterDone (m ∷ ms) = (IsDone m → ms ≡ []) × NothingAfterDone ms
 -- what one sender may have sent: numbered from 1, and nothing behind a Done
 abbrev pub IsWellSent : List Mail → Type 0
 IsWellSent ms = AreNumberedFrom 1 ms × NothingAfterDone ms
+
+-- Done was sent where the sender closed, and only there
+abbrev pub ClosedAs : Bool → List Mail → Type 0
+ClosedAs true sent = HasDone sent
+ClosedAs false sent = ¬ HasDone sent

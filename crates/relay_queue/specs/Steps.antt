@@ -6,7 +6,7 @@ use Rattle.relay_action.specs.declared.mail.Mail.{Mail}
 use Rattle.relay_queue.specs.declared.rule.SentList.{SentList}
 use Rattle.relay_queue.specs.declared.rule.Knowledge.{Knowledge}
 use Rattle.relay_queue.specs.declared.rule.Knowledge.TheVariants.{Sender, Taker, Spent}
-use Rattle.relay_queue.specs.Sent.{mail_of, HasDone, IsWellSent}
+use Rattle.relay_queue.specs.Sent.{mail_of, HasDone, ClosedAs, IsWellSent}
 
 -- ---- the parts of what a pass knows
 
@@ -89,22 +89,26 @@ with_met Spent w = Spent
 
 -- ---- what the steps tell
 
--- a send: the message joined the sender's list, which is well sent
+-- a send: the message joined the sender's list, which is well sent, with a Done where the sender has
+-- closed and only there
 abbrev pub Sends : Bool → Knowledge → Mail → Knowledge → Type 0
-Sends state v m w = (w ≡ with_sent state v m) × IsWellSent (sent_of w)
+Sends state v m w = (w ≡ with_sent state v m) × IsWellSent (sent_of w) × ClosedAs state (sent_of w)
 
--- a take: the message joined what was taken; its sender is one of those that were made, and what was taken of each sender is well sent
+-- a take: the message joined what was taken; its sender is one of those that were made, and what was
+-- taken of each sender is well sent
 abbrev pub Receives : Knowledge → Mail → Knowledge → Type 0
 Receives v m w = (w ≡ with_taken v m) × (m.sender < senders_of v) × ((sender : ℕ) → IsWellSent (mail_of sender (taken_of w)))
 
--- a sender that was met: it was made, the log holds of it what it sent, and that is well sent, with a Done
+-- a sender that was met: it was made, the log holds of it what it sent, and that is well sent, with
+-- a Done
 pub record IsMetIn (senders : ℕ) (log : List Mail) (met : SentList) : Type 0 where
   pub made : met.sender < senders
   pub all : met.sent ≡ mail_of met.sender log
   pub well_sent : IsWellSent met.sent
   pub done : HasDone met.sent
 
--- a reading: no more is queued than there are places, and each sender that was met sent what the log, what was taken and then what is queued, holds of it
+-- a reading: no more is queued than there are places, and each sender that was met sent what the log,
+-- what was taken and then what is queued, holds of it
 abbrev pub Learns : Knowledge → List Mail → Type 0
 Learns v queued =
     (length queued ≤ capacity_of v)

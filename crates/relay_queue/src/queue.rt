@@ -14,9 +14,9 @@ use relay_action::Mail;
 use std::alloc::{AllocError, Global};
 use std::marker::Brand;
 
-/// A queue of `capacity` places, and its ends: the taker's, and one for each of the senders, numbered
-/// from 0. `AllocError`: there was no memory for the places or the ends. No later call of an end takes
-/// any.
+/// A queue of `capacity` places for messages, from 1 to 65,536, and its ends: the taker's, and one for
+/// each of 1 to 17 senders, which are numbered from 0. `AllocError`: there was no memory for the places
+/// or the ends. No later call of an end takes any.
 pub fn lane_queue(
     alloc: Global,
     capacity: u32,

@@ -9,7 +9,9 @@ use std::marker::{Brand, PhantomData};
 
 /// What a sender had sent when its closed end was met. No value of it is made.
 pub struct SentList {
+    /// The sender's number.
     pub sender: u64,
+    /// Its messages, in their order.
     pub sent: LinkedList<Mail>,
 }
 

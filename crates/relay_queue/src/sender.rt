@@ -60,6 +60,7 @@ impl LanePut {
         ensures sent { IfOk result
             (λ n. self.new.sent ≡ self.old.sent ++ message self.old.sender n body ∷ []) }
         ensures in_order { OnOk result (IsWellSent self.new.sent) }
+        ensures no_done { OnOk result (¬ HasDone self.new.sent) }
         ensures limit { OnOk result (length self.new.sent ≤ 2 ^ 40) }
         ensures refused { IfErr result (λ e. (e.1 ≡ body) × (self.new ≡ self.old)) }
         ensures spent { IsErrAnd result (λ e. e.0 ≡ PutRefusal.Spent)

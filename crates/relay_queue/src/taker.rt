@@ -97,7 +97,8 @@ impl Taken {
         requires { self.queue ≡ closed.queue }
         ensures same { result ≡ self }
         ensures sender { closed.sender < self.senders }
-        ensures in_order { IsWellSent closed.sent × HasDone closed.sent }
+        ensures in_order { IsWellSent closed.sent }
+        ensures done { HasDone closed.sent }
         ensures log { (queued : List Mail) × (length queued ≤ self.queue.capacity)
             × (closed.sent ≡ mail_of closed.sender (self.taken ++ queued)) }
         ensures front { (rest : List Mail) × (length rest ≤ self.queue.capacity)

@@ -25,7 +25,10 @@ pub returns-clause-sender : goal.returns-clause-sender
 returns-clause-sender c = (told c).2.made
 
 pub returns-clause-in_order : goal.returns-clause-in_order
-returns-clause-in_order c = ((told c).2.well_sent, (told c).2.done)
+returns-clause-in_order c = (told c).2.well_sent
+
+pub returns-clause-done : goal.returns-clause-done
+returns-clause-done c = (told c).2.done
 
 pub returns-clause-log : goal.returns-clause-log
 returns-clause-log c = let t = told c in (t.0, t.1, t.2.all)
