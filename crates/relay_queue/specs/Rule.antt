@@ -6,7 +6,7 @@ use lib.ListN.{get_elem?}
 use Rattle.relay_action.specs.declared.mail.Mail.{Mail}
 use Rattle.relay_queue.specs.declared.rule.SentList.{SentList}
 use Rattle.relay_queue.specs.declared.rule.Knowledge.{Knowledge}
-use Rattle.relay_queue.specs.declared.rule.Knowledge.TheVariants.{Sender, Taker, Spent}
+use Rattle.relay_queue.specs.declared.rule.Knowledge.TheVariants.{Sender, Taker, Met}
 use Rattle.relay_queue.specs.Sent.{mail_of, HasDone, ClosedAs, IsWellSent}
 
 -- what stands behind the passes: how many places the queue has, the number of the taker's pass, that
@@ -28,13 +28,13 @@ pub record FitsSender (history : History) (pass capacity sender : ℕ) (sent : L
 
 -- a sender that was not made yet has no pass and sent nothing
 pub record IsUnmade (history : History) (sender : ℕ) : Type 0 where
-  pub none_own : history.pass_of sender ≡ none
+  pub no_pass : history.pass_of sender ≡ none
   pub nothing : mail_of sender history.log ≡ []
 
 -- a sender that was met has no pass any more, closed, and sent what the log holds of it
 pub record WasMet (history : History) (senders : ℕ) (met : SentList) : Type 0 where
   pub made : met.sender < senders
-  pub none_own : history.pass_of met.sender ≡ none
+  pub no_pass : history.pass_of met.sender ≡ none
   pub all : met.sent ≡ mail_of met.sender history.log
   pub done : HasDone met.sent
 
@@ -51,7 +51,7 @@ pub record FitsTaker (history : History) (pass capacity senders : ℕ) (taken : 
 abbrev pub Fits : History → ℕ → Knowledge → Type 0
 Fits history pass (Sender capacity sender sent closed) = FitsSender history pass capacity sender sent closed
 Fits history pass (Taker capacity senders taken met) = FitsTaker history pass capacity senders taken met
-Fits history pass Spent = ⊤
+Fits history pass Met = ⊤
 
 -- the rule: there is a log, what was taken and then what is queued; what it holds of each sender is
 -- well sent; no more is queued than there are places; and what each pass knows is true

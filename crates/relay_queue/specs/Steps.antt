@@ -5,7 +5,7 @@ use lib.ListN.{get_elem?}
 use Rattle.relay_action.specs.declared.mail.Mail.{Mail}
 use Rattle.relay_queue.specs.declared.rule.SentList.{SentList}
 use Rattle.relay_queue.specs.declared.rule.Knowledge.{Knowledge}
-use Rattle.relay_queue.specs.declared.rule.Knowledge.TheVariants.{Sender, Taker, Spent}
+use Rattle.relay_queue.specs.declared.rule.Knowledge.TheVariants.{Sender, Taker, Met}
 use Rattle.relay_queue.specs.Sent.{mail_of, HasDone, ClosedAs, IsWellSent}
 
 -- ---- the parts of what a pass knows
@@ -14,46 +14,46 @@ use Rattle.relay_queue.specs.Sent.{mail_of, HasDone, ClosedAs, IsWellSent}
 abbrev pub IsSender : Bool → Knowledge → Type 0
 IsSender state (Sender capacity sender sent closed) = closed ≡ state
 IsSender state (Taker capacity senders taken met) = ⊥
-IsSender state Spent = ⊥
+IsSender state Met = ⊥
 
 -- the pass is the taker's
 abbrev pub IsTaker : Knowledge → Type 0
 IsTaker (Sender capacity sender sent closed) = ⊥
 IsTaker (Taker capacity senders taken met) = Unit {0}
-IsTaker Spent = ⊥
+IsTaker Met = ⊥
 
 -- how many places the queue has
 abbrev pub capacity_of : Knowledge → ℕ
 capacity_of (Sender capacity sender sent closed) = capacity
 capacity_of (Taker capacity senders taken met) = capacity
-capacity_of Spent = 0
+capacity_of Met = 0
 
 -- a sender's number, and what it sent
 abbrev pub sender_of : Knowledge → ℕ
 sender_of (Sender capacity sender sent closed) = sender
 sender_of (Taker capacity senders taken met) = 0
-sender_of Spent = 0
+sender_of Met = 0
 
 abbrev pub sent_of : Knowledge → List Mail
 sent_of (Sender capacity sender sent closed) = sent
 sent_of (Taker capacity senders taken met) = []
-sent_of Spent = []
+sent_of Met = []
 
 -- how many senders the taker's pass made, what it took, and what the senders sent that it met
 abbrev pub senders_of : Knowledge → ℕ
 senders_of (Sender capacity sender sent closed) = 0
 senders_of (Taker capacity senders taken met) = senders
-senders_of Spent = 0
+senders_of Met = 0
 
 abbrev pub taken_of : Knowledge → List Mail
 taken_of (Sender capacity sender sent closed) = []
 taken_of (Taker capacity senders taken met) = taken
-taken_of Spent = []
+taken_of Met = []
 
 abbrev pub met_of : Knowledge → List SentList
 met_of (Sender capacity sender sent closed) = []
 met_of (Taker capacity senders taken met) = met
-met_of Spent = []
+met_of Met = []
 
 -- ---- the steps
 
@@ -61,31 +61,31 @@ met_of Spent = []
 abbrev pub with_sent : Bool → Knowledge → Mail → Knowledge
 with_sent state (Sender capacity sender sent closed) m = Sender capacity sender (sent ++ m ∷ []) state
 with_sent state (Taker capacity senders taken met) m = Taker capacity senders taken met
-with_sent state Spent m = Spent
+with_sent state Met m = Met
 
 -- one more message was taken
 abbrev pub with_taken : Knowledge → Mail → Knowledge
 with_taken (Sender capacity sender sent closed) m = Sender capacity sender sent closed
 with_taken (Taker capacity senders taken met) m = Taker capacity senders (taken ++ m ∷ []) met
-with_taken Spent m = Spent
+with_taken Met m = Met
 
 -- one more sender was made; the first one tells how many places there are
 abbrev pub with_sender : ℕ → Knowledge → Knowledge
 with_sender places (Sender capacity sender sent closed) = Sender capacity sender sent closed
 with_sender places (Taker capacity senders taken met) = Taker places (senders + 1) taken met
-with_sender places Spent = Spent
+with_sender places Met = Met
 
 -- the sender that was made
 abbrev pub new_sender : ℕ → Knowledge → Knowledge
-new_sender places (Sender capacity sender sent closed) = Spent
+new_sender places (Sender capacity sender sent closed) = Met
 new_sender places (Taker capacity senders taken met) = Sender places senders [] false
-new_sender places Spent = Spent
+new_sender places Met = Met
 
 -- one more sender was met
 abbrev pub with_met : Knowledge → Knowledge → Knowledge
 with_met (Sender capacity sender sent closed) w = Sender capacity sender sent closed
 with_met (Taker capacity senders taken met) w = Taker capacity senders taken (record { sender = sender_of w; sent = sent_of w } ∷ met)
-with_met Spent w = Spent
+with_met Met w = Met
 
 -- ---- what the steps tell
 

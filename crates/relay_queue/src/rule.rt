@@ -1,5 +1,9 @@
 //! The rule of a queue, which its channel keeps at every moment, and the kinds of step that keep it.
-ghost use Rattle.std.specs.Prelude.{ℕ};
+ghost use Rattle.std.specs.Prelude.{ℕ, List};
+ghost use Rattle.relay_action.specs.declared.mail.Mail.{Mail};
+ghost use Rattle.relay_queue.specs.declared.rule.Knowledge.{Knowledge};
+ghost use Rattle.relay_queue.specs.Rule.{Delivers};
+ghost use Rattle.relay_queue.specs.Log.{HasLog};
 
 use crossbeam_channel::protocol::{Join, Lesson, Outcome, Protocol, Split};
 use crossbeam_channel::{Pass, RuledReceiver, RuledSender};
@@ -24,7 +28,7 @@ pub enum Knowledge {
     /// and what the senders sent whose closed ends it met.
     Taker(u64, u64, LinkedList<Mail>, LinkedList<SentList>),
     /// The pass of a closed end that was met knows nothing any more.
-    Spent,
+    Met,
 }
 
 /// A token of no bytes that an end holds for each of its steps.
@@ -47,6 +51,16 @@ impl Protocol<Mail, Knowledge> for Delivery {
     ghost holds = { Delivers };
 
     ghost first = { Taker 0 0 [] [] };
+}
+
+/// The law of the log: at every moment what was taken and then what is queued holds of each sender
+/// exactly the list that it sent, numbered from 1, with Done last and only where it closed, and no more
+/// is queued than the queue has places. It does nothing: its contract reads the rule, which the channel
+/// keeps at every step, for people.
+pub fn law_of_the_log()
+    ensures { (queued : List Mail) (passes : List Knowledge)
+        → Delivers queued passes → HasLog queued passes }
+{
 }
 
 /// How many places a queue has, picked where its senders are made.
@@ -75,12 +89,12 @@ impl<K: Places> Split<Knowledge> for Splits<K> {
 pub struct Meets;
 
 impl Join<Knowledge> for Meets {
-    ghost use Rattle.relay_queue.specs.declared.rule.Knowledge.TheVariants.{Spent};
+    ghost use Rattle.relay_queue.specs.declared.rule.Knowledge.TheVariants.{Met};
     ghost use Rattle.relay_queue.specs.Steps.{with_met};
 
     ghost both = { with_met };
 
-    ghost spent = { Spent };
+    ghost spent = { Met };
 }
 
 /// The step that sends a message other than Done.
