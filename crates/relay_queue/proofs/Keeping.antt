@@ -12,7 +12,7 @@ use Rattle.relay_queue.specs.Sent.{mail_of, HasDone, ClosedAs, IsWellSent}
 use Rattle.relay_queue.specs.Rule.{History, FitsSender, IsUnmade, WasMet, FitsTaker, Fits, Delivers}
 use Rattle.relay_queue.specs.Log.{IsAllOf, HasLog}
 use Rattle.relay_queue.specs.Steps as step
-use Rattle.relay_queue.specs.Steps.{IsSender, IsTaker, capacity_of, sender_of, sent_of, senders_of, taken_of, with_sender, new_sender, with_met, IsMetIn}
+use Rattle.relay_queue.specs.Steps.{IsSender, IsTaker, capacity_of, sender_of, sent_of, senders_of, taken_of, with_sender, new_sender, with_met}
 use Rattle.relay_queue.proofs.Mails.{mail_of-append, mail_of-own, mail_of-other, has_mail, no_mail, well_sent-nil, well_sent-push, well_sent-front}
 use Rattle.relay_queue.proofs.Passes.{at_set, AllFit, fit_set, fit_push, pass_at, pass_at-own, pass_at-other, pass_at-none}
 
@@ -236,6 +236,10 @@ meets pass (Taker capacity senders taken met) other (Sender c sender sent closed
 
 -- ---- a reading
 
+-- what the log holds of a sender, with the log as what was taken and what is queued
+all_of : (log taken queued : List Mail) (sender : ℕ) (sent : List Mail) (closed : Bool) → log ≡ taken ++ queued → ((p : ℕ) → IsWellSent (mail_of p log)) → sent ≡ mail_of sender log → ClosedAs closed sent → IsAllOf (taken ++ queued) sender sent closed
+all_of log taken queued sender sent closed in_log well all done = record { all = all ∙ ap (mail_of sender) in_log; well_sent = subst IsWellSent (sym all) (well sender); done = done }
+
 pub reads : (pass : ℕ) (v : Knowledge) → IsTaker v → Learns Delivers pass v (step.Learns v)
 reads pass (Sender capacity sender sent closed) is_taker queued passes h at = absurd is_taker
 reads pass Met is_taker queued passes h at = absurd is_taker
@@ -243,12 +247,9 @@ reads pass (Taker capacity senders taken met) is_taker queued passes h at =
     let history = h.history in
     let me : FitsTaker history pass capacity senders taken met = h.known pass (Taker capacity senders taken met) at in (
       (let c = me.places in let s = h.within in omega arith),
-      λ i m e. let k = me.closed i m e in record {
-        made = k.made;
-        all = k.all ∙ ap (mail_of m.sender) (h.in_log ∙ ap (λ (t : List Mail). t ++ queued) (sym me.front));
-        well_sent = subst IsWellSent (sym k.all) (h.well_sent m.sender);
-        done = k.done;
-      },
+      λ i m e.
+          let k = me.closed i m e in
+          (k.made, all_of history.log taken queued m.sender m.sent true (h.in_log ∙ ap (λ (t : List Mail). t ++ queued) (sym me.front)) h.well_sent k.all k.done),
     )
 
 -- after a meeting the pass is still the taker's
@@ -258,18 +259,15 @@ taker-met (Taker capacity senders taken met) w h = tt
 taker-met Met w h = h
 
 -- what a reading tells of the sender that was met last
-pub met_tells : (v u w : Knowledge) (queued : List Mail) → IsTaker v → w ≡ with_met v u → step.Learns w queued → (length queued ≤ capacity_of v) × IsMetIn (senders_of v) (taken_of v ++ queued) (record { sender = sender_of u; sent = sent_of u })
+pub met_tells : (v u w : Knowledge) (queued : List Mail) → IsTaker v → w ≡ with_met v u → step.Learns w queued → (length queued ≤ capacity_of v) × (sender_of u < senders_of v) × IsAllOf (taken_of v ++ queued) (sender_of u) (sent_of u) true
 met_tells (Sender capacity sender sent closed) u w queued is_taker e tells = absurd is_taker
 met_tells Met u w queued is_taker e tells = absurd is_taker
 met_tells (Taker capacity senders taken met) u w queued is_taker e tells =
     let told = subst (λ (z : Knowledge). step.Learns z queued) e tells in
-    (told.0, told.1 0 (record { sender = sender_of u; sent = sent_of u }) refl)
+    let last = told.1 0 (record { sender = sender_of u; sent = sent_of u }) refl in
+    (told.0, last.0, last.1)
 
 -- ---- the law of the log
-
--- what the log holds of a sender, with the log as what was taken and what is queued
-all_of : (log taken queued : List Mail) (sender : ℕ) (sent : List Mail) (closed : Bool) → log ≡ taken ++ queued → ((p : ℕ) → IsWellSent (mail_of p log)) → sent ≡ mail_of sender log → ClosedAs closed sent → IsAllOf (taken ++ queued) sender sent closed
-all_of log taken queued sender sent closed in_log well all done = record { all = all ∙ ap (mail_of sender) in_log; well_sent = subst IsWellSent (sym all) (well sender); done = done }
 
 pub has_log : (queued : List Mail) (passes : List Knowledge) → Delivers queued passes → HasLog queued passes
 has_log queued passes h =
@@ -282,8 +280,7 @@ has_log queued passes h =
           let f : FitsSender history pass places sender sent closed = h.known pass (Sender places sender sent closed) at in
           (f.places, all_of history.log history.taken queued sender sent closed h.in_log h.well_sent f.all f.done);
       takers = λ pass places made front met at.
-          let f : FitsTaker history pass places made front met = h.known pass (Taker places made front met) at in
-          (
+          let f : FitsTaker history pass places made front met = h.known pass (Taker places made front met) at in (
             f.places,
             f.front,
             (λ sender le. ap (mail_of sender) (sym h.in_log) ∙ (f.later sender le).nothing),

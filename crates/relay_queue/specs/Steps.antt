@@ -1,12 +1,13 @@
 -- What each kind of step does to what a pass knows, and what it tells.
-use Rattle.std.specs.Prelude.{◌≡◌, ℕ, ◌+◌, ◌<◌, ◌≤◌, Bool, false, List, [], ◌∷◌, ◌++◌, length}
+use Rattle.std.specs.Prelude.{◌≡◌, ℕ, ◌+◌, ◌<◌, ◌≤◌, Bool, true, false, List, [], ◌∷◌, ◌++◌, length}
 use mathlib.Core.Option.{some}
 use lib.ListN.{get_elem?}
 use Rattle.relay_action.specs.declared.mail.Mail.{Mail}
 use Rattle.relay_queue.specs.declared.rule.SentList.{SentList}
 use Rattle.relay_queue.specs.declared.rule.Knowledge.{Knowledge}
 use Rattle.relay_queue.specs.declared.rule.Knowledge.TheVariants.{Sender, Taker, Met}
-use Rattle.relay_queue.specs.Sent.{mail_of, HasDone, ClosedAs, IsWellSent}
+use Rattle.relay_queue.specs.Sent.{mail_of, ClosedAs, IsWellSent}
+use Rattle.relay_queue.specs.Log.{IsAllOf}
 
 -- ---- the parts of what a pass knows
 
@@ -99,17 +100,9 @@ Sends state v m w = (w ≡ with_sent state v m) × IsWellSent (sent_of w) × Clo
 abbrev pub Receives : Knowledge → Mail → Knowledge → Type 0
 Receives v m w = (w ≡ with_taken v m) × (m.sender < senders_of v) × ((sender : ℕ) → IsWellSent (mail_of sender (taken_of w)))
 
--- a sender that was met: it was made, the log holds of it what it sent, and that is well sent, with
--- a Done
-pub record IsMetIn (senders : ℕ) (log : List Mail) (met : SentList) : Type 0 where
-  pub made : met.sender < senders
-  pub all : met.sent ≡ mail_of met.sender log
-  pub well_sent : IsWellSent met.sent
-  pub done : HasDone met.sent
-
--- a reading: no more is queued than there are places, and each sender that was met sent what the log,
--- what was taken and then what is queued, holds of it
+-- a reading: no more is queued than there are places, and what each sender sent that was met is all that
+-- the log, what was taken and then what is queued, holds of it, with a Done
 abbrev pub Learns : Knowledge → List Mail → Type 0
 Learns v queued =
     (length queued ≤ capacity_of v)
-    × ((i : ℕ) (m : SentList) → get_elem? (met_of v) i ≡ some m → IsMetIn (senders_of v) (taken_of v ++ queued) m)
+    × ((i : ℕ) (m : SentList) → get_elem? (met_of v) i ≡ some m → (m.sender < senders_of v) × IsAllOf (taken_of v ++ queued) m.sender m.sent true)

@@ -60,8 +60,7 @@ impl Protocol<Mail, Knowledge> for Delivery {
 pub fn law_of_the_log()
     ensures { (queued : List Mail) (passes : List Knowledge)
         → Delivers queued passes → HasLog queued passes }
-{
-}
+{}
 
 /// How many places a queue has, picked where its senders are made.
 pub trait Places {
