@@ -55,8 +55,8 @@ impl Protocol<Mail, Knowledge> for Delivery {
 
 /// The law of the log: at every moment what was taken and then what is queued holds of each sender
 /// exactly the list that it sent, numbered from 1, with Done last and only where it closed, and no more
-/// is queued than the queue has places. It does nothing: its contract reads the rule, which the channel
-/// keeps at every step, for people.
+/// is queued than the queue has places. The contract reads the rule, which the channel keeps at every
+/// step, in these plain terms; the body does nothing.
 pub fn law_of_the_log()
     ensures { (queued : List Mail) (passes : List Knowledge)
         → Delivers queued passes → HasLog queued passes }
