@@ -129,7 +129,7 @@ fn each_read_fails_in_turn(rt: HostRuntime) -> Result<(), Fail> {
 #[test]
 fn each_write_fails_in_turn(rt: HostRuntime) -> Result<(), Fail> {
     let alloc = rt.alloc();
-    let mut failed = 0;
+    let mut failed = 0u64;
     for fail_at in 1..20u64 {
         let mut reader = MemStream::new(alloc, TWO.to_vec(alloc)?, 0, 1000, 0)?;
         let mut writer = MemStream::new(alloc, Vec::new(alloc), 200, 20, fail_at)?;
@@ -142,7 +142,7 @@ fn each_write_fails_in_turn(rt: HostRuntime) -> Result<(), Fail> {
                 assert_eq!(rt; written.len(), 173);
             }
             Err(fault) => {
-                failed += 1;
+                failed = failed.saturating_add(1);
                 assert_eq!(rt;
                     fault,
                     LinesFault::Write {

