@@ -6,3 +6,7 @@ pub mod Outside
 pub mod Fates
 pub mod Attribution
 pub mod Causes
+pub mod Schedules
+pub mod Laws
+pub mod Replies
+pub mod Parts

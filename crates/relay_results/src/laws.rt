@@ -1,5 +1,43 @@
-//! What the definitions of `specs/` say of schedules: none of them is empty, and none too wide.
-ghost use Rattle.relay_results.specs.Outside.{Continues, IsStep, IsOpening};
-ghost use Rattle.relay_results.specs.Fates.{fate};
-ghost use Rattle.relay_results.specs.Attribution.{IsAttribution, IsInProducerOrder};
-ghost use Rattle.relay_results.specs.Causes.{IsTrueCause, IsAssignment};
+//! What the definitions of `specs/` say of worked schedules: each meets them, and what none may do does
+//! not. These functions do nothing; their contracts are the laws.
+ghost use Rattle.relay_results.specs.Schedules.{LostThenAlready, LateRunChangesNothing, RunTwice, RefusedOrRejected, NoVersionLeft, BusyThenNext, GivenUpAndApplied, ThreeThenOne};
+ghost use Rattle.relay_results.specs.Laws.{NoneTwice, NoneOutOfOrder, NotGivenUpAfterOne, NotGivenUpWhenSettled, NoConflictAfterTwo, NotRefusedWithoutStatus, NotRefusedWithoutError, NotSpentWithinLimit, NotHonestWithoutRun};
+
+/// Worked schedules of one operation meet the definitions: applied and lost, then a conflict with its own
+/// version; run late, after its repeat; run twice; refused, or rejected with its whole request; spent.
+pub fn schedules_of_one()
+    ensures already { LostThenAlready }
+    ensures late { LateRunChangesNothing }
+    ensures twice { RunTwice }
+    ensures refused { RefusedOrRejected }
+    ensures spent { NoVersionLeft }
+{}
+
+/// Worked schedules of several operations meet the definitions: retried before the next of its document
+/// is sent; given up, and applied all the same before the next; three documents in one request.
+pub fn schedules_of_several()
+    ensures busy { BusyThenNext }
+    ensures given_up { GivenUpAndApplied }
+    ensures three { ThreeThenOne }
+{}
+
+/// No attribution has an operation twice, or one producer's operations out of their order.
+pub fn attributions_exclude()
+    ensures twice { NoneTwice }
+    ensures order { NoneOutOfOrder }
+{}
+
+/// No cause is true that the requests, the runs and the answers do not bear out.
+pub fn causes_exclude()
+    ensures one_lost { NotGivenUpAfterOne }
+    ensures settled { NotGivenUpWhenSettled }
+    ensures two_sends { NoConflictAfterTwo }
+    ensures status { NotRefusedWithoutStatus }
+    ensures error { NotRefusedWithoutError }
+    ensures within_limit { NotSpentWithinLimit }
+{}
+
+/// No answer is honest whose matching entries no run gave.
+pub fn answers_exclude()
+    ensures { NotHonestWithoutRun }
+{}

@@ -10,7 +10,9 @@ pub mod decide;
 pub mod laws;
 pub mod outcome;
 pub mod pairing;
+pub mod reading;
 
 pub use pairing::matches;
+pub use reading::{ERROR_LIMIT, ReplyFault, read_reply};
 pub use outcome::Outcome;
 pub use decide::{ItemVerdict, verdict};

@@ -1,0 +1,62 @@
+-- What the definitions rule out.
+use Rattle.std.specs.Prelude.{◌≡◌, ◌≢◌, ℕ, ◌≤◌, List, [], ◌∷◌, Option, Some, None, Bool, true, false, IsTrue}
+use Rattle.relay_action.specs.declared.write.Write.{Write}
+use Rattle.relay_action.specs.declared.operation.Op.{Op}
+use Rattle.relay_results.specs.declared.outcome.Outcome.{Outcome}
+use Rattle.relay_results.specs.Words.{Mem}
+use Rattle.relay_results.specs.Documents.{Document, document_of, write_for, name_of}
+use Rattle.relay_results.specs.Matching.{matches}
+use Rattle.relay_results.specs.Outside.{Answer, Unanswered, Items, Whole, Lost, Request, Ran, Outside, IsHonest}
+use Rattle.relay_results.specs.Fates as of
+use Rattle.relay_results.specs.Attribution.{IsAttribution, IsInProducerOrder}
+use Rattle.relay_results.specs.Causes.{Terms, IsTrueCause}
+use Rattle.relay_results.specs.Schedules.{entry}
+
+-- one operation is attributed to two applied writes
+abbrev pub NoneTwice : Type 0
+NoneTwice = (accepted : ℕ → List Op) (k : Document) (w x : Write) (o : Op) → IsAttribution accepted k (w ∷ x ∷ []) (o ∷ o ∷ []) → ⊥
+
+-- of two operations of one producer, the one put later stands first
+abbrev pub NoneOutOfOrder : Type 0
+NoneOutOfOrder = (accepted : ℕ → List Op) (a b : Op) → a.producer ≡ b.producer → accepted a.producer ≡ a ∷ b ∷ [] → name_of a ≢ name_of b → IsInProducerOrder accepted (b ∷ a ∷ []) → ⊥
+
+-- the requests that were sent, where the outside is of no other matter
+abbrev pub sent : List Request → List Ran → Outside
+sent requests runs = record { requests = requests; runs = runs; stored = λ k. None; before = λ k. []; applied = λ k. [] }
+
+abbrev pub request : List Write → Answer → Request
+request ws answer = record { writes = ws; answer = answer }
+
+-- one reply was lost, and the operation may have three tries
+abbrev pub NotGivenUpAfterOne : Type 0
+NotGivenUpAfterOne = (o : Op) (v deals taken sends : ℕ) (runs : List Ran) →
+    IsTrueCause (record { max = 3; deals = deals; taken = taken }) (sent (request (write_for o v ∷ []) Lost ∷ []) runs) o (Some v) (of.GaveUp sends) → ⊥
+
+-- the last of three answers settled it
+abbrev pub NotGivenUpWhenSettled : Type 0
+NotGivenUpWhenSettled = (o : Op) (v sends : ℕ) (t : Terms) (runs : List Ran) →
+    let ws = write_for o v ∷ [] in
+    IsTrueCause t (sent (request ws Lost ∷ request ws Lost ∷ request ws (Items (entry (write_for o v) 200 ∷ [])) ∷ []) runs) o (Some v) (of.GaveUp sends) → ⊥
+
+-- two requests carried it
+abbrev pub NoConflictAfterTwo : Type 0
+NoConflictAfterTwo = (o : Op) (v : ℕ) (t : Terms) (first second : Answer) (runs : List Ran) →
+    IsTrueCause t (sent (request (write_for o v ∷ []) first ∷ request (write_for o v ∷ []) second ∷ []) runs) o (Some v) of.Conflict → ⊥
+
+-- no run had this status; none had an error of this type
+abbrev pub NotRefusedWithoutStatus : Type 0
+NotRefusedWithoutStatus = (o : Op) (dealt : Option ℕ) (t : Terms) (s : Outside) (status : ℕ) (error : List ℕ) →
+    ((r : Ran) → Mem r s.runs → r.outcome.status ≢ status) → IsTrueCause t s o dealt (of.Refused status error) → ⊥
+
+abbrev pub NotRefusedWithoutError : Type 0
+NotRefusedWithoutError = (o : Op) (dealt : Option ℕ) (t : Terms) (s : Outside) (status : ℕ) (error : List ℕ) → error ≢ [] →
+    ((r : Ran) → Mem r s.runs → r.outcome.error ≢ Some error) → IsTrueCause t s o dealt (of.Refused status error) → ⊥
+
+-- its lane took no more Puts than it deals versions
+abbrev pub NotSpentWithinLimit : Type 0
+NotSpentWithinLimit = (o : Op) (dealt : Option ℕ) (t : Terms) (s : Outside) → t.taken ≤ t.deals → IsTrueCause t s o dealt of.Spent → ⊥
+
+-- a matching entry has a status that no run had
+abbrev pub NotHonestWithoutRun : Type 0
+NotHonestWithoutRun = (runs : List Ran) (request : ℕ) (w : Write) (o : Outcome) → matches (o ∷ []) (w ∷ []) ≡ true →
+    ((r : Ran) → Mem r runs → r.outcome.status ≢ o.status) → IsHonest runs request (w ∷ []) (Items (o ∷ [])) → ⊥
