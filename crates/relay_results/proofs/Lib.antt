@@ -4,3 +4,4 @@ pub mod Played
 pub mod Looked
 pub mod Ahead
 pub mod Excluded
+pub mod ReadsBack

@@ -10,3 +10,4 @@ pub mod Schedules
 pub mod Laws
 pub mod Replies
 pub mod Parts
+pub mod Done

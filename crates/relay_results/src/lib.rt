@@ -7,12 +7,16 @@
 #![tactic(auto)]
 
 pub mod decide;
+pub mod done;
 pub mod laws;
 pub mod outcome;
 pub mod pairing;
 pub mod reading;
+pub mod writing;
 
 pub use pairing::matches;
 pub use reading::{ERROR_LIMIT, ReplyFault, read_reply};
+pub use writing::write_reply;
+pub use done::{DoneResult, ItemDone};
 pub use outcome::Outcome;
 pub use decide::{ItemVerdict, verdict};
