@@ -24,8 +24,8 @@ pub goes_on_behind : (whole : Items) (d : Data) (ds : Items) (found : List Outco
 goes_on_behind whole d ds found o place g e = record {
   entries = λ os h. rw (append_assoc found (o ∷ []) os) (g.entries (o ∷ os) (e, h));
   bad = λ n h.
-    let same : place + suc n ≡ place + 1 + n = omega arith in
-    subst (λ m. IsBadAt whole m) same (g.bad (suc n) ((o, e), h));
+      let same : place + suc n ≡ place + 1 + n = omega arith in
+      subst (λ m. IsBadAt whole m) same (g.bad (suc n) ((o, e), h));
 }
 
 pub all_read : (whole : Items) (found : List Outcome) (place : ℕ) → GoesOn whole no_items found place → AreEntries whole found

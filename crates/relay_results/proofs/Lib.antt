@@ -5,3 +5,4 @@ pub mod Looked
 pub mod Ahead
 pub mod Excluded
 pub mod ReadsBack
+pub mod OneReading

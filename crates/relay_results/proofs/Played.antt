@@ -116,36 +116,64 @@ carries_self w a = rw (same_write-self w) refl
 
 pub already : LostThenAlready
 already key source =
-    let w : Write = write_for (op 1 key (Index source)) 1 in
-    ( record {
-        may = (tt, (record { write = w; sent = refl; outcome = inr (inl (refl, refl)) }
-            , (record { request = one_request w; sent = refl; open_yet = refl; honest = tt }
-            , (tt
-            , (record { write = w; sent = refl; outcome = inr (inr (ap (λ o. is_above o 1) (stored_self (document_of key) 1 None), conflict_of conflict)) }
-            , (record { request = one_request w; sent = refl; open_yet = refl; honest = λ _. (was _ (failed 1 0 409 conflict) _ (inr (inl refl)) refl refl, tt) }
-            , tt))))));
+    let w : Write = write_for (op 1 key (Index source)) 1 in (
+      record {
+        may = (
+          tt,
+          (
+            record { write = w; sent = refl; outcome = inr (inl (refl, refl)) },
+            (
+              record { request = one_request w; sent = refl; open_yet = refl; honest = tt },
+              (
+                tt,
+                (
+                  record { write = w; sent = refl; outcome = inr (inr (ap (λ o. is_above o 1) (stored_self (document_of key) 1 None), conflict_of conflict)) },
+                  (
+                    record { request = one_request w; sent = refl; open_yet = refl; honest = λ _. (was _ (failed 1 0 409 conflict) _ (inr (inl refl)) refl refl, tt) },
+                    tt,
+                  ),
+                ),
+              ),
+            ),
+          ),
+        );
         applied = applied_self (document_of key) w;
         attribution = attribution_one key (Index source) 1 [];
         in_order = λ p. IsSubsequence-refl _;
-      }
-    , refl
-    , rw (bytes_eq-self key.id) refl)
+      },
+      refl,
+      rw (bytes_eq-self key.id) refl,
+    )
 
 pub late : LateRunChangesNothing
 late key source =
-    let w : Write = write_for (op 1 key (Index source)) 1 in
-    ( record {
-        may = (tt, (record { request = one_request w; sent = refl; open_yet = refl; honest = tt }
-            , (tt
-            , (record { write = w; sent = refl; outcome = inr (inl (refl, refl)) }
-            , (record { write = w; sent = refl; outcome = inr (inr (ap (λ o. is_above o 1) (stored_self (document_of key) 1 None), conflict_of conflict)) }
-            , (record { request = one_request w; sent = refl; open_yet = refl; honest = λ _. (was _ (ran 1 0 201) _ (inl refl) refl refl, tt) }
-            , tt))))));
+    let w : Write = write_for (op 1 key (Index source)) 1 in (
+      record {
+        may = (
+          tt,
+          (
+            record { request = one_request w; sent = refl; open_yet = refl; honest = tt },
+            (
+              tt,
+              (
+                record { write = w; sent = refl; outcome = inr (inl (refl, refl)) },
+                (
+                  record { write = w; sent = refl; outcome = inr (inr (ap (λ o. is_above o 1) (stored_self (document_of key) 1 None), conflict_of conflict)) },
+                  (
+                    record { request = one_request w; sent = refl; open_yet = refl; honest = λ _. (was _ (ran 1 0 201) _ (inl refl) refl refl, tt) },
+                    tt,
+                  ),
+                ),
+              ),
+            ),
+          ),
+        );
         applied = applied_self (document_of key) w;
         attribution = attribution_one key (Index source) 1 [];
         in_order = λ p. IsSubsequence-refl _;
-      }
-    , rw (bytes_eq-self key.id) refl)
+      },
+      rw (bytes_eq-self key.id) refl,
+    )
 
 -- a request that was sent once and answered by one entry
 pub answered_once : (w : Write) (runs : List Ran) (o : Outcome) (stored : Document → Option ℕ) (applied : Document → List Write) → is_entry_for o w ≡ true → WasRun runs 0 0 o
@@ -164,33 +192,52 @@ answered_once w runs o stored applied entry ran = record {
 
 pub twice : RunTwice
 twice key =
-    let w : Write = write_for (op 1 key Delete) 1 in
-    ( record {
-        may = (tt, (record { write = w; sent = refl; outcome = inr (inl (refl, refl)) }
-            , (record { write = w; sent = refl; outcome = inr (inr (ap (λ o. is_above o 1) (stored_self (document_of key) 1 None), conflict_of conflict)) }
-            , (record { request = one_request w; sent = refl; open_yet = refl; honest = λ _. (was _ (failed 0 0 409 conflict) _ (inr (inl refl)) refl refl, tt) }
-            , tt))));
+    let w : Write = write_for (op 1 key Delete) 1 in (
+      record {
+        may = (
+          tt,
+          (
+            record { write = w; sent = refl; outcome = inr (inl (refl, refl)) },
+            (
+              record { write = w; sent = refl; outcome = inr (inr (ap (λ o. is_above o 1) (stored_self (document_of key) 1 None), conflict_of conflict)) },
+              (
+                record { request = one_request w; sent = refl; open_yet = refl; honest = λ _. (was _ (failed 0 0 409 conflict) _ (inr (inl refl)) refl refl, tt) },
+                tt,
+              ),
+            ),
+          ),
+        );
         applied = applied_self (document_of key) w;
         attribution = attribution_one key Delete 1 [];
         in_order = λ p. IsSubsequence-refl _;
-      }
-    , rw (bytes_eq-self key.id) refl
-    , record {
+      },
+      rw (bytes_eq-self key.id) refl,
+      record {
         once = ap (λ b. one_if b + 0) (carries_self w (Items (failed_entry w 409 conflict ∷ [])));
         outcome = failed_entry w 409 conflict;
         answered = answered_once w _ (failed_entry w 409 conflict) _ _ (failed_entry-self w 409 conflict) (was _ (failed 0 0 409 conflict) _ (inr (inl refl)) refl refl);
         conflict = refl;
-      }
-    , record {
-        may = (tt, (record { write = w; sent = refl; outcome = inr (inl (refl, refl)) }
-            , (record { write = w; sent = refl; outcome = inr (inr (ap (λ o. is_above o 1) (stored_self (document_of key) 1 None), conflict_of conflict)) }
-            , (record { request = one_request w; sent = refl; open_yet = refl; honest = λ _. (was _ (ran 0 0 404) _ (inl refl) refl refl, tt) }
-            , tt))));
+      },
+      record {
+        may = (
+          tt,
+          (
+            record { write = w; sent = refl; outcome = inr (inl (refl, refl)) },
+            (
+              record { write = w; sent = refl; outcome = inr (inr (ap (λ o. is_above o 1) (stored_self (document_of key) 1 None), conflict_of conflict)) },
+              (
+                record { request = one_request w; sent = refl; open_yet = refl; honest = λ _. (was _ (ran 0 0 404) _ (inl refl) refl refl, tt) },
+                tt,
+              ),
+            ),
+          ),
+        );
         applied = applied_self (document_of key) w;
         attribution = attribution_one key Delete 1 [];
         in_order = λ p. IsSubsequence-refl _;
-      }
-    , rw (bytes_eq-self key.id) refl)
+      },
+      rw (bytes_eq-self key.id) refl,
+    )
 
 -- a request that was answered as a whole
 whole : (key : DocKey) (source : Source) (status : ℕ) → (status ≡ 200 → ⊥) → Plays (op 1 key (Index source) ∷ []) (answered_whole (write_for (op 1 key (Index source)) 1) status) (document_of key) [] []
@@ -203,34 +250,45 @@ whole key source status other = record {
 
 pub rejected : RefusedOrRejected
 rejected key source =
-    let w : Write = write_for (op 1 key (Index source)) 1 in
-    ( record {
-        may = (tt, (record { write = w; sent = refl; outcome = inl (refusal_of 400 refusal (lit≤ tt) (lit≤ tt) (λ e. apart 400 409 e (lit< tt))) }
-            , (record { request = one_request w; sent = refl; open_yet = refl; honest = λ _. (was _ (failed 0 0 400 refusal) _ (inl refl) refl refl, tt) }
-            , tt)));
+    let w : Write = write_for (op 1 key (Index source)) 1 in (
+      record {
+        may = (
+          tt,
+          (
+            record { write = w; sent = refl; outcome = inl (refusal_of 400 refusal (lit≤ tt) (lit≤ tt) (λ e. apart 400 409 e (lit< tt))) },
+            (
+              record { request = one_request w; sent = refl; open_yet = refl; honest = λ _. (was _ (failed 0 0 400 refusal) _ (inl refl) refl refl, tt) },
+              tt,
+            ),
+          ),
+        );
         applied = refl;
         attribution = attribution_none _ _;
         in_order = λ p. tt;
-      }
-    , rw (bytes_eq-self key.id) refl
-    , record {
+      },
+      rw (bytes_eq-self key.id) refl,
+      record {
         outcome = failed_entry w 400 refusal;
         answered = answered_once w _ (failed_entry w 400 refusal) _ _ (failed_entry-self w 400 refusal) (was _ (failed 0 0 400 refusal) _ (inl refl) refl refl);
         refused = λ sends attempts max. refl;
         status_is = refl;
         error_is = refl;
-      }
-    , whole key source 401 (λ e. apart 200 401 (sym e) (lit< tt))
-    , refl
-    , (record {
-        number = 0;
-        place = 0;
-        request = record { writes = w ∷ []; answer = Whole 401 };
-        carried = record { write = w; sent = refl; stands = refl; same = same_write-self w };
-        answer = refl;
-      }, refl)
-    , whole key source 503 (λ e. apart 200 503 (sym e) (lit< tt))
-    , refl)
+      },
+      whole key source 401 (λ e. apart 200 401 (sym e) (lit< tt)),
+      refl,
+      (
+        record {
+          number = 0;
+          place = 0;
+          request = record { writes = w ∷ []; answer = Whole 401 };
+          carried = record { write = w; sent = refl; stands = refl; same = same_write-self w };
+          answer = refl;
+        },
+        refl,
+      ),
+      whole key source 503 (λ e. apart 200 503 (sym e) (lit< tt)),
+      refl,
+    )
 
 -- ---- two operations of one document
 
@@ -240,24 +298,44 @@ applied_two k w x = rw (same_document-self k) refl
 pub busy_next : BusyThenNext
 busy_next key source other =
     let w : Write = write_for (op 1 key (Index source)) 1 in
-    let x : Write = write_for (op 2 key (Index other)) 2 in
-    ( record {
-        may = (tt, (record { write = w; sent = refl; outcome = inl (refusal_of 429 busy (lit≤ tt) (lit≤ tt) (λ e. apart 409 429 (sym e) (lit< tt))) }
-            , (record { request = one_request w; sent = refl; open_yet = refl; honest = λ _. (was _ (failed 0 0 429 busy) _ (inl refl) refl refl, tt) }
-            , (tt
-            , (record { write = w; sent = refl; outcome = inr (inl (refl, refl)) }
-            , (record { request = one_request w; sent = refl; open_yet = refl; honest = λ _. (was _ (ran 1 0 201) _ (inr (inl refl)) refl refl, tt) }
-            , (tt
-            , (record { write = x; sent = refl; outcome = inr (inl (ap (λ o. is_above o 2) (stored_self (document_of key) 1 None), refl)) }
-            , (record { request = one_request x; sent = refl; open_yet = refl; honest = λ _. (was _ (ran 2 0 200) _ (inr (inr (inl refl))) refl refl, tt) }
-            , tt)))))))));
+    let x : Write = write_for (op 2 key (Index other)) 2 in (
+      record {
+        may = (
+          tt,
+          (
+            record { write = w; sent = refl; outcome = inl (refusal_of 429 busy (lit≤ tt) (lit≤ tt) (λ e. apart 409 429 (sym e) (lit< tt))) },
+            (
+              record { request = one_request w; sent = refl; open_yet = refl; honest = λ _. (was _ (failed 0 0 429 busy) _ (inl refl) refl refl, tt) },
+              (
+                tt,
+                (
+                  record { write = w; sent = refl; outcome = inr (inl (refl, refl)) },
+                  (
+                    record { request = one_request w; sent = refl; open_yet = refl; honest = λ _. (was _ (ran 1 0 201) _ (inr (inl refl)) refl refl, tt) },
+                    (
+                      tt,
+                      (
+                        record { write = x; sent = refl; outcome = inr (inl (ap (λ o. is_above o 2) (stored_self (document_of key) 1 None), refl)) },
+                        (
+                          record { request = one_request x; sent = refl; open_yet = refl; honest = λ _. (was _ (ran 2 0 200) _ (inr (inr (inl refl))) refl refl, tt) },
+                          tt,
+                        ),
+                      ),
+                    ),
+                  ),
+                ),
+              ),
+            ),
+          ),
+        );
         applied = applied_two (document_of key) w x;
         attribution = attribution_two key (Index source) (Index other);
         in_order = λ p. IsSubsequence-refl _;
-      }
-    , rw (bytes_eq-self key.id) refl
-    , rw (bytes_eq-self key.id) refl
-    , rw (bytes_eq-self key.id) refl)
+      },
+      rw (bytes_eq-self key.id) refl,
+      rw (bytes_eq-self key.id) refl,
+      rw (bytes_eq-self key.id) refl,
+    )
 
 -- of two lost requests and one for another write, the first two carried it
 lost_each : (w x : Write) (a : Answer) → same_write w x ≡ false → (number place : ℕ) (q : Request)
@@ -274,29 +352,49 @@ lost_each w x a other (suc (suc (suc n))) place q h = let t = h.sent in cc
 pub given_up : GivenUpAndApplied
 given_up key source =
     let w : Write = write_for (op 1 key (Index source)) 1 in
-    let x : Write = write_for (op 2 key Delete) 2 in
-    ( record {
-        may = (tt, (record { request = one_request w; sent = refl; open_yet = refl; honest = tt }
-            , (tt
-            , (record { request = one_request w; sent = refl; open_yet = refl; honest = tt }
-            , (record { write = w; sent = refl; outcome = inr (inl (refl, refl)) }
-            , (tt
-            , (record { write = x; sent = refl; outcome = inr (inl (ap (λ o. is_above o 2) (stored_self (document_of key) 1 None), refl)) }
-            , (record { write = w; sent = refl; outcome = inr (inr (ap (λ o. is_above o 1) (stored_self (document_of key) 2 _), conflict_of conflict)) }
-            , (record { request = one_request x; sent = refl; open_yet = refl; honest = λ _. (was _ (ran 2 0 200) _ (inr (inl refl)) refl refl, tt) }
-            , tt)))))))));
+    let x : Write = write_for (op 2 key Delete) 2 in (
+      record {
+        may = (
+          tt,
+          (
+            record { request = one_request w; sent = refl; open_yet = refl; honest = tt },
+            (
+              tt,
+              (
+                record { request = one_request w; sent = refl; open_yet = refl; honest = tt },
+                (
+                  record { write = w; sent = refl; outcome = inr (inl (refl, refl)) },
+                  (
+                    tt,
+                    (
+                      record { write = x; sent = refl; outcome = inr (inl (ap (λ o. is_above o 2) (stored_self (document_of key) 1 None), refl)) },
+                      (
+                        record { write = w; sent = refl; outcome = inr (inr (ap (λ o. is_above o 1) (stored_self (document_of key) 2 _), conflict_of conflict)) },
+                        (
+                          record { request = one_request x; sent = refl; open_yet = refl; honest = λ _. (was _ (ran 2 0 200) _ (inr (inl refl)) refl refl, tt) },
+                          tt,
+                        ),
+                      ),
+                    ),
+                  ),
+                ),
+              ),
+            ),
+          ),
+        );
         applied = applied_two (document_of key) w x;
         attribution = attribution_two key (Index source) Delete;
         in_order = λ p. IsSubsequence-refl _;
-      }
-    , refl
-    , refl
-    , record {
+      },
+      refl,
+      refl,
+      record {
         exactly = ap (λ b. one_if b + (one_if b + 0)) (carries_self w Lost);
         enough = lit≤ tt;
         each = lost_each w x _ refl;
-      }
-    , rw (bytes_eq-self key.id) refl)
+      },
+      rw (bytes_eq-self key.id) refl,
+    )
 
 -- ---- three documents
 
@@ -324,22 +422,44 @@ pub three : ThreeThenOne
 three k l m source other kl lm km =
     let w : Write = write_for (op 1 k (Index source)) 1 in
     let x : Write = write_for (op 2 l (Index other)) 2 in
-    let y : Write = write_for (op 3 m Delete) 3 in
-    ( record {
-        may = (tt, (record { write = w; sent = refl; outcome = inr (inl (refl, refl)) }
-            , (record { write = x; sent = refl; outcome = inl (refusal_of 429 busy (lit≤ tt) (lit≤ tt) (λ e. apart 409 429 (sym e) (lit< tt))) }
-            , (record { write = y; sent = refl; outcome = inr (inl (above_either (same_document (document_of m) (document_of k)), refl)) }
-            , (record { request = record { writes = w ∷ x ∷ y ∷ []; answer = Unanswered }; sent = refl; open_yet = refl;
-                honest = λ _. (was _ (ran 0 0 201) _ (inl refl) refl refl, (was _ (failed 0 1 429 busy) _ (inr (inl refl)) refl refl, (was _ (ran 0 2 404) _ (inr (inr (inl refl))) refl refl, tt))) }
-            , (tt
-            , (record { write = x; sent = refl; outcome = inr (inl (above_lower (same_document (document_of l) (document_of m)) (same_document (document_of l) (document_of k)) lm, refl)) }
-            , (record { request = one_request x; sent = refl; open_yet = refl; honest = λ _. (was _ (ran 1 0 201) _ (inr (inr (inr (inl refl)))) refl refl, tt) }
-            , tt))))))));
+    let y : Write = write_for (op 3 m Delete) 3 in (
+      record {
+        may = (
+          tt,
+          (
+            record { write = w; sent = refl; outcome = inr (inl (refl, refl)) },
+            (
+              record { write = x; sent = refl; outcome = inl (refusal_of 429 busy (lit≤ tt) (lit≤ tt) (λ e. apart 409 429 (sym e) (lit< tt))) },
+              (
+                record { write = y; sent = refl; outcome = inr (inl (above_either (same_document (document_of m) (document_of k)), refl)) },
+                (
+                  record {
+                    request = record { writes = w ∷ x ∷ y ∷ []; answer = Unanswered };
+                    sent = refl;
+                    open_yet = refl;
+                    honest = λ _. (was _ (ran 0 0 201) _ (inl refl) refl refl, (was _ (failed 0 1 429 busy) _ (inr (inl refl)) refl refl, (was _ (ran 0 2 404) _ (inr (inr (inl refl))) refl refl, tt)));
+                  },
+                  (
+                    tt,
+                    (
+                      record { write = x; sent = refl; outcome = inr (inl (above_lower (same_document (document_of l) (document_of m)) (same_document (document_of l) (document_of k)) lm, refl)) },
+                      (
+                        record { request = one_request x; sent = refl; open_yet = refl; honest = λ _. (was _ (ran 1 0 201) _ (inr (inr (inr (inl refl)))) refl refl, tt) },
+                        tt,
+                      ),
+                    ),
+                  ),
+                ),
+              ),
+            ),
+          ),
+        );
         applied = applied_first w x y (same_document (document_of k) (document_of k)) (same_document (document_of k) (document_of m)) (same_document (document_of k) (document_of l)) (same_document-self (document_of k)) km kl;
         attribution = attribution_one k (Index source) 1 (op 2 l (Index other) ∷ op 3 m Delete ∷ []);
         in_order = λ p. front (is_from p) (op 1 k (Index source)) (op 2 l (Index other) ∷ op 3 m Delete ∷ []);
-      }
-    , rw (bytes_eq-self k.id, bytes_eq-self l.id, bytes_eq-self m.id) refl
-    , rw (bytes_eq-self k.id, bytes_eq-self l.id, bytes_eq-self m.id) refl
-    , rw (bytes_eq-self k.id, bytes_eq-self l.id, bytes_eq-self m.id) refl
-    , rw (bytes_eq-self l.id) refl)
+      },
+      rw (bytes_eq-self k.id, bytes_eq-self l.id, bytes_eq-self m.id) refl,
+      rw (bytes_eq-self k.id, bytes_eq-self l.id, bytes_eq-self m.id) refl,
+      rw (bytes_eq-self k.id, bytes_eq-self l.id, bytes_eq-self m.id) refl,
+      rw (bytes_eq-self l.id) refl,
+    )

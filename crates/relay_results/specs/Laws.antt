@@ -1,15 +1,21 @@
 -- What the definitions rule out.
-use Rattle.std.specs.Prelude.{◌≡◌, ◌≢◌, ℕ, ◌≤◌, List, [], ◌∷◌, Option, Some, None, Bool, true, false, IsTrue}
+use Rattle.std.specs.Prelude.{◌≡◌, ◌≢◌, ℕ, ◌≤◌, List, [], ◌∷◌, Option, Some, None, Bool, true, false, is_some}
 use Rattle.relay_action.specs.declared.write.Write.{Write}
 use Rattle.relay_action.specs.declared.operation.Op.{Op}
 use Rattle.relay_results.specs.declared.outcome.Outcome.{Outcome}
+use Rattle.relay_results.specs.declared.reading.ReplyFault.{ReplyFault}
+use Rattle.relay_results.specs.declared.reading.ReplyFault.TheVariants as fault
+use Rattle.relay_results.specs.declared.decide.ItemVerdict.TheVariants as verdict
+use Rattle.relay_action.specs.Actions.{kind_of}
+use Rattle.relay_results.specs.Verdicts.{verdict_of}
+use Rattle.relay_results.specs.Replies.{IsReply, IsFaultOf}
 use Rattle.relay_results.specs.Words.{Mem}
 use Rattle.relay_results.specs.Documents.{Document, document_of, write_for, name_of}
 use Rattle.relay_results.specs.Matching.{matches}
 use Rattle.relay_results.specs.Outside.{Answer, Unanswered, Items, Whole, Lost, Request, Ran, Outside, IsHonest}
 use Rattle.relay_results.specs.Fates as of
 use Rattle.relay_results.specs.Attribution.{IsAttribution, IsInProducerOrder}
-use Rattle.relay_results.specs.Causes.{Terms, IsTrueCause}
+use Rattle.relay_results.specs.Causes.{Terms, IsTrueCause, IsAssignment, IsRefused}
 use Rattle.relay_results.specs.Schedules.{entry}
 
 -- one operation is attributed to two applied writes
@@ -60,3 +66,29 @@ NotSpentWithinLimit = (o : Op) (dealt : Option ℕ) (t : Terms) (s : Outside) �
 abbrev pub NotHonestWithoutRun : Type 0
 NotHonestWithoutRun = (runs : List Ran) (request : ℕ) (w : Write) (o : Outcome) → matches (o ∷ []) (w ∷ []) ≡ true →
     ((r : Ran) → Mem r runs → r.outcome.status ≢ o.status) → IsHonest runs request (w ∷ []) (Items (o ∷ [])) → ⊥
+
+-- ---- replies
+
+-- a text says one list of outcomes at most
+abbrev pub OneReply : Type 0
+OneReply = (text : List ℕ) (os ps : List Outcome) → IsReply text os → IsReply text ps → os ≡ ps
+
+-- a reply has no fault but want of memory
+abbrev pub NoFaultOfReply : Type 0
+NoFaultOfReply = (text : List ℕ) (os : List Outcome) (e : ReplyFault) → IsReply text os → IsFaultOf text e → e ≡ fault.Memory
+
+-- a text has one fault at most beside want of memory
+abbrev pub OneFault : Type 0
+OneFault = (text : List ℕ) (e f : ReplyFault) → e ≢ fault.Memory → f ≢ fault.Memory → IsFaultOf text e → IsFaultOf text f → e ≡ f
+
+-- ---- the version assignment
+
+-- two operations of one document have one version
+abbrev pub NotAssignedTwice : Type 0
+NotAssignedTwice = (versions : Op → Option ℕ) (a b : Op) (v : ℕ) → document_of a.key ≡ document_of b.key → a.number ≢ b.number →
+    versions a ≡ Some v → versions b ≡ Some v → IsAssignment versions → ⊥
+
+-- the table's word Refused does not depend on what was sent before
+abbrev pub RefusedWhateverSent : Type 0
+RefusedWhateverSent = (w : Write) (o : Outcome) (sends attempts max : ℕ) →
+    verdict_of (kind_of w.action) o.status (is_some o.error) sends attempts max ≡ verdict.Refused → IsRefused w o

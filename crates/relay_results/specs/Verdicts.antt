@@ -46,7 +46,7 @@ when holds says = record { holds = holds; says = says }
 -- may be `max`.
 abbrev pub verdict_of : ActionKind → ℕ → Bool → ℕ → ℕ → ℕ → ItemVerdict
 verdict_of kind status has_error sends attempts max = first_line
-    ( when (not has_error && is_2xx status) verdict.Applied
+    (when (not has_error && is_2xx status) verdict.Applied
     ∷ when (not has_error && is_absent kind status) verdict.Applied
     ∷ when (is_conflict status && nat_le 2 sends) verdict.Already
     ∷ when (is_conflict status) verdict.Conflict

@@ -1,7 +1,7 @@
 //! What the definitions of `specs/` say of worked schedules: each meets them, and what none may do does
 //! not. These functions do nothing; their contracts are the laws.
 ghost use Rattle.relay_results.specs.Schedules.{LostThenAlready, LateRunChangesNothing, RunTwice, RefusedOrRejected, NoVersionLeft, BusyThenNext, GivenUpAndApplied, ThreeThenOne};
-ghost use Rattle.relay_results.specs.Laws.{NoneTwice, NoneOutOfOrder, NotGivenUpAfterOne, NotGivenUpWhenSettled, NoConflictAfterTwo, NotRefusedWithoutStatus, NotRefusedWithoutError, NotSpentWithinLimit, NotHonestWithoutRun};
+ghost use Rattle.relay_results.specs.Laws.{NoneTwice, NoneOutOfOrder, NotGivenUpAfterOne, NotGivenUpWhenSettled, NoConflictAfterTwo, NotRefusedWithoutStatus, NotRefusedWithoutError, NotSpentWithinLimit, NotHonestWithoutRun, OneReply, NoFaultOfReply, OneFault, NotAssignedTwice, RefusedWhateverSent};
 
 /// Worked schedules of one operation meet the definitions: applied and lost, then a conflict with its own
 /// version; run late, after its repeat; run twice; refused, or rejected with its whole request; spent.
@@ -40,4 +40,22 @@ pub fn causes_exclude()
 /// No answer is honest whose matching entries no run gave.
 pub fn answers_exclude()
     ensures { NotHonestWithoutRun }
+{}
+
+/// A text says one list of outcomes or has one fault, and not both: so what [`crate::read_reply`] answers is
+/// settled, but for want of memory.
+pub fn replies_exclude()
+    ensures one { OneReply }
+    ensures no_fault { NoFaultOfReply }
+    ensures one_fault { OneFault }
+{}
+
+/// No version assignment gives one version to two operations of a document.
+pub fn assignments_exclude()
+    ensures { NotAssignedTwice }
+{}
+
+/// The verdict Refused does not depend on what was sent before.
+pub fn refusals_stay()
+    ensures { RefusedWhateverSent }
 {}

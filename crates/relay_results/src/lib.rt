@@ -12,11 +12,13 @@ pub mod laws;
 pub mod outcome;
 pub mod pairing;
 pub mod reading;
+#[cfg(test)]
+mod tests;
 pub mod writing;
 
+pub use decide::{ItemVerdict, verdict};
+pub use done::{DoneResult, ItemDone};
+pub use outcome::Outcome;
 pub use pairing::matches;
 pub use reading::{ERROR_LIMIT, ReplyFault, read_reply};
 pub use writing::write_reply;
-pub use done::{DoneResult, ItemDone};
-pub use outcome::Outcome;
-pub use decide::{ItemVerdict, verdict};

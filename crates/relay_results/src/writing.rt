@@ -32,7 +32,8 @@ fn fields_value(alloc: Global, done: &ItemDone) -> Result<Value, AllocError>
     let index = done.key.index();
     let status = done.status;
     match done.result.failure() {
-        Some(error) => json!(in alloc; {"_id": id, "_index": index, "error": {"type": error}, "status": status}),
+        Some(error) =>
+            json!(in alloc; {"_id": id, "_index": index, "error": {"type": error}, "status": status}),
         None => {
             let seq = done.seq;
             let version = done.version;
