@@ -22,7 +22,7 @@ use Rattle.relay_results.proofs.Same.{bytes_eq-self, same_document-self, same_wr
 pub apart_tests : false ≡ true → ⊥
 apart_tests e = subst (λ b. MatchBool b ⊥ (Unit {0})) e tt
 
-none_some : {A : Type 0} (x : A) → (let none : Option A = None in none ≡ Some x) → ⊥
+pub none_some : {A : Type 0} (x : A) → (let none : Option A = None in none ≡ Some x) → ⊥
 none_some x e = apart_tests (ap is_some e)
 
 -- ---- attributions
@@ -51,7 +51,7 @@ attribution_one key a v rest = record {
   of_document = λ o m. elim m [ inl e ↦ ap (λ (x : Op). document_of x.key) e | inr f ↦ absurd f ];
 }
 
-apart : (m n : ℕ) → m ≡ n → m < n → ⊥
+pub apart : (m n : ℕ) → m ≡ n → m < n → ⊥
 apart m n e h = omega arith
 
 one_two : name_of_number 1 ≡ name_of_number 2 → ⊥
@@ -68,7 +68,7 @@ attribution_two key a b = record {
 
 -- ---- what is stored, applied and answered
 
-some-same : {A : Type 0} {x y : A} → Some x ≡ Some y → x ≡ y
+pub some-same : {A : Type 0} {x y : A} → Some x ≡ Some y → x ≡ y
 some-same e = cc
 
 -- another write does not carry this one

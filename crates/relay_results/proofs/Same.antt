@@ -1,5 +1,5 @@
 -- The tests of documents, actions, writes and operations say when two are equal.
-use Rattle.std.proofs.Common.{◌≡◌, ℕ, List, Option, Some, None, Bool, true, false, refl, ap, arith}
+use Rattle.std.proofs.Common.{◌≡◌, ℕ, List, Option, Some, None, Bool, true, false, refl, ap, sym, ◌∙◌}
 use Rattle.std.specs.Prelude.{◌&&◌, ◌==◌, bytes_eq}
 use Rattle.std.specs.Bool.{Decides}
 use Rattle.std.proofs.lemmas.Bool.{eqb-true}
@@ -91,3 +91,16 @@ pub same_op-self : (a : Op) → same_op a a ≡ true
 same_op-self a =
     and-true _ _ (and-true _ _ ((Decides-eqb a.producer a.producer).1 refl) ((Decides-eqb a.number a.number).1 refl))
     (and-true _ _ (same_document-self (document_of a.key)) (same_source-self (source_of a.action)))
+
+pub same_op-from : (a b : Op) → SameOps a b → same_op a b ≡ true
+same_op-from a b s =
+    and-true _ _ (and-true _ _ ((Decides-eqb a.producer b.producer).1 (ap (λ (n : OpName). n.producer) s.name)) ((Decides-eqb a.number b.number).1 (ap (λ (n : OpName). n.number) s.name)))
+    (and-true _ _ (ap (λ k. same_document (document_of a.key) k) (sym s.document) ∙ same_document-self (document_of a.key))
+    (ap (λ t. same_source (source_of a.action) t) (sym s.source) ∙ same_source-self (source_of a.action)))
+
+-- two operations that are the same as a third are the same
+pub same_op-joined : (a b c : Op) → same_op a c ≡ true → same_op b c ≡ true → same_op a b ≡ true
+same_op-joined a b c h k =
+    let s = same_op-true a c h in
+    let t = same_op-true b c k in
+    same_op-from a b (record { name = s.name ∙ sym t.name; document = s.document ∙ sym t.document; source = s.source ∙ sym t.source })

@@ -1,5 +1,5 @@
 -- What the definitions rule out.
-use Rattle.std.specs.Prelude.{◌≡◌, ◌≢◌, ℕ, ◌≤◌, List, [], ◌∷◌, Option, Some, None, Bool, true, false, is_some}
+use Rattle.std.specs.Prelude.{◌≡◌, ◌≢◌, ℕ, ◌≤◌, List, [], ◌∷◌, Option, Some, None, Bool, true, false, is_some, if◌then◌else◌}
 use Rattle.relay_action.specs.declared.write.Write.{Write}
 use Rattle.relay_action.specs.declared.operation.Op.{Op}
 use Rattle.relay_results.specs.declared.outcome.Outcome.{Outcome}
@@ -10,9 +10,9 @@ use Rattle.relay_action.specs.Actions.{kind_of}
 use Rattle.relay_results.specs.Verdicts.{verdict_of}
 use Rattle.relay_results.specs.Replies.{IsReply, IsFaultOf}
 use Rattle.relay_results.specs.Words.{Mem}
-use Rattle.relay_results.specs.Documents.{Document, document_of, write_for, name_of}
+use Rattle.relay_results.specs.Documents.{Document, document_of, write_for, name_of, same_op}
 use Rattle.relay_results.specs.Matching.{matches}
-use Rattle.relay_results.specs.Outside.{Answer, Unanswered, Items, Whole, Lost, Request, Ran, Outside, IsHonest}
+use Rattle.relay_results.specs.Outside.{Answer, Unanswered, Items, Whole, Lost, Request, Ran, RunOutcome, Outside, IsHonest, write_at, MayRun, IsRefusal, IsOutcomeOf, is_applied}
 use Rattle.relay_results.specs.Fates as of
 use Rattle.relay_results.specs.Attribution.{IsAttribution, IsInProducerOrder}
 use Rattle.relay_results.specs.Causes.{Terms, IsTrueCause, IsAssignment, IsRefused}
@@ -88,7 +88,27 @@ abbrev pub NotAssignedTwice : Type 0
 NotAssignedTwice = (versions : Op → Option ℕ) (a b : Op) (v : ℕ) → document_of a.key ≡ document_of b.key → a.number ≢ b.number →
     versions a ≡ Some v → versions b ≡ Some v → IsAssignment versions → ⊥
 
+-- the first operation is dealt 1, the second 2, and no other any
+abbrev pub first_two : Op → Op → Op → Option ℕ
+first_two a b o = if same_op o a then Some 1 else if same_op o b then Some 2 else None
+
+-- this is an assignment
+abbrev pub AssignsTwo : Type 0
+AssignsTwo = (a b : Op) → same_op b a ≡ false → IsAssignment (first_two a b) × (first_two a b a ≡ Some 1) × (first_two a b b ≡ Some 2)
+
 -- the table's word Refused does not depend on what was sent before
 abbrev pub RefusedWhateverSent : Type 0
 RefusedWhateverSent = (w : Write) (o : Outcome) (sends attempts max : ℕ) →
     verdict_of (kind_of w.action) o.status (is_some o.error) sends attempts max ≡ verdict.Refused → IsRefused w o
+
+-- ---- runs
+
+-- any item of any sent request may be run, at any time, and need not be refused
+abbrev pub MayAlwaysRun : Type 0
+MayAlwaysRun = (s : Outside) (number place : ℕ) (w : Write) → write_at s.requests number place ≡ Some w →
+    (o : RunOutcome) × MayRun s (record { request = number; place = place; outcome = o }) × (IsRefusal o → ⊥)
+
+-- once a write was applied, no later run of it applies it again, whatever else was run in between that did not lower the
+-- stored version
+abbrev pub NotAppliedAgain : Type 0
+NotAppliedAgain = (w : Write) (stored : ℕ) (o : RunOutcome) → w.version ≤ stored → IsOutcomeOf (Some stored) w o → is_applied w o ≡ false

@@ -1,7 +1,7 @@
 //! What the definitions of `specs/` say of worked schedules: each meets them, and what none may do does
 //! not. These functions do nothing; their contracts are the laws.
 ghost use Rattle.relay_results.specs.Schedules.{LostThenAlready, LateRunChangesNothing, RunTwice, RefusedOrRejected, NoVersionLeft, BusyThenNext, GivenUpAndApplied, ThreeThenOne};
-ghost use Rattle.relay_results.specs.Laws.{NoneTwice, NoneOutOfOrder, NotGivenUpAfterOne, NotGivenUpWhenSettled, NoConflictAfterTwo, NotRefusedWithoutStatus, NotRefusedWithoutError, NotSpentWithinLimit, NotHonestWithoutRun, OneReply, NoFaultOfReply, OneFault, NotAssignedTwice, RefusedWhateverSent};
+ghost use Rattle.relay_results.specs.Laws.{NoneTwice, NoneOutOfOrder, NotGivenUpAfterOne, NotGivenUpWhenSettled, NoConflictAfterTwo, NotRefusedWithoutStatus, NotRefusedWithoutError, NotSpentWithinLimit, NotHonestWithoutRun, OneReply, NoFaultOfReply, OneFault, AssignsTwo, NotAssignedTwice, RefusedWhateverSent, MayAlwaysRun, NotAppliedAgain};
 
 /// Worked schedules of one operation meet the definitions: applied and lost, then a conflict with its own
 /// version; run late, after its repeat; run twice; refused, or rejected with its whole request; spent.
@@ -37,6 +37,12 @@ pub fn causes_exclude()
     ensures within_limit { NotSpentWithinLimit }
 {}
 
+/// Any item of any sent request may be run at any time, and a write that was applied is not applied again.
+pub fn runs_apply_once()
+    ensures always { MayAlwaysRun }
+    ensures once { NotAppliedAgain }
+{}
+
 /// No answer is honest whose matching entries no run gave.
 pub fn answers_exclude()
     ensures { NotHonestWithoutRun }
@@ -50,9 +56,10 @@ pub fn replies_exclude()
     ensures one_fault { OneFault }
 {}
 
-/// No version assignment gives one version to two operations of a document.
-pub fn assignments_exclude()
-    ensures { NotAssignedTwice }
+/// A version assignment may deal versions, and gives none to two operations of one document.
+pub fn assignments_differ()
+    ensures deals { AssignsTwo }
+    ensures twice { NotAssignedTwice }
 {}
 
 /// The verdict Refused does not depend on what was sent before.
