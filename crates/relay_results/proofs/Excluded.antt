@@ -1,15 +1,13 @@
 -- What the definitions rule out.
-use Rattle.std.proofs.Common.{◌≡◌, ◌≢◌, ◌∙◌, ℕ, ◌≤◌, arith, inl, inr, lit<, List, [], ◌∷◌, Option, Some, None, Bool, true, false, refl, ap, sym}
-use Rattle.std.specs.Prelude.{unwrap_or, slice_get, bytes_eq, is_some, not, ◌&&◌, nat_le, nat_lt, if◌then◌else◌}
+use Rattle.std.proofs.Common.{◌≡◌, ◌≢◌, ◌∙◌, ℕ, arith, inl, inr, lit<, List, [], ◌∷◌, Option, Some, None, Bool, true, false, refl, ap, sym}
+use Rattle.std.specs.Prelude.{unwrap_or, is_some, not, ◌&&◌, nat_le, nat_lt, if◌then◌else◌}
 use Rattle.relay_action.specs.declared.write.Write.{Write}
-use Rattle.relay_action.specs.declared.operation.Op.{Op}
-use Rattle.relay_results.specs.declared.outcome.Outcome.{Outcome}
 use Rattle.relay_results.specs.Words.{Mem}
-use Rattle.relay_results.specs.Documents.{document_of, write_for, same_write, same_op}
-use Rattle.relay_results.specs.Outside.{Answer, Items, Whole, Lost, Request, Ran, RunOutcome, Outside, MayRun, IsRefusal, IsOutcomeOf, is_above, is_applied}
-use Rattle.relay_results.specs.Causes.{Terms, CarriedAt, IsTrueRefusal, IsTrueDealt, GaveUpAfter}
+use Rattle.relay_results.specs.Documents.{document_of, write_for, same_op}
+use Rattle.relay_results.specs.Outside.{Items, Request, Ran, RunOutcome, Outside, IsRefusal, IsOutcomeOf, is_above, is_applied}
+use Rattle.relay_results.specs.Causes.{IsTrueRefusal}
 use Rattle.relay_results.specs.Schedules.{entry}
-use Rattle.relay_results.specs.Laws.{sent, request, NotGivenUpWhenSettled, NotRefusedWithoutStatus, NotRefusedWithoutError, AssignsTwo, NotAssignedTwice, RefusedWhateverSent, MayAlwaysRun, NotAppliedAgain}
+use Rattle.relay_results.specs.Laws.{request, NotGivenUpWhenSettled, NotRefusedWithoutStatus, NotRefusedWithoutError, AssignsTwo, NotAssignedTwice, RefusedWhateverSent, MayAlwaysRun, NotAppliedAgain}
 use Rattle.relay_results.specs.declared.decide.ItemVerdict.{ItemVerdict}
 use Rattle.relay_results.specs.declared.decide.ItemVerdict.TheVariants as verdict
 use Rattle.relay_action.specs.Actions.{kind_of}
@@ -56,10 +54,11 @@ by_places R v false true false false f g a b = absurd (none_some v b)
 by_places R v false false r s f g a b = absurd (none_some v a)
 
 pub assigns_two : AssignsTwo
-assigns_two a b other =
-    ( λ x y v p q same. by_places (same_op x y ≡ true) v (same_op x a) (same_op x b) (same_op y a) (same_op y b) (same_op-joined x y a) (same_op-joined x y b) p q
-    , (let s = same_op-self a in rw s refl)
-    , (let s = same_op-self b in rw (other, s) refl))
+assigns_two a b other = (
+  λ x y v p q same. by_places (same_op x y ≡ true) v (same_op x a) (same_op x b) (same_op y a) (same_op y b) (same_op-joined x y a) (same_op-joined x y b) p q,
+  (let s = same_op-self a in rw s refl),
+  (let s = same_op-self b in rw (other, s) refl),
+)
 
 -- the table, by its tests
 abbrev by_lines : Bool → Bool → Bool → Bool → Bool → Bool → ItemVerdict
@@ -112,7 +111,9 @@ pub not_applied_again : NotAppliedAgain
 not_applied_again w stored o h run =
     let low : nat_lt stored w.version ≡ false = grind (arith, h) in
     elim run [
-      inl refused ↦ with_error w o refused.has_error
-    | inr rest ↦ elim rest [
-        inl applied ↦ absurd (apart_tests (sym low ∙ applied.0))
-      | inr conflict ↦ with_error w o conflict.1.has_error ] ]
+      | inl refused ↦ with_error w o refused.has_error
+      | inr rest ↦ elim rest [
+        | inl applied ↦ absurd (apart_tests (sym low ∙ applied.0))
+        | inr conflict ↦ with_error w o conflict.1.has_error
+      ]
+    ]

@@ -1,16 +1,14 @@
 -- A text says one thing at most.
-use Rattle.std.proofs.Common.{◌≡◌, ◌≢◌, ◌<◌, ◌≤◌, ◌⊎◌, ℕ, zero, suc, List, [], ◌∷◌, take, Option, Some, None, Bool, true, false, refl, ap, sym, ◌∙◌, subst, arith, inl, inr}
+use Rattle.std.proofs.Common.{◌≡◌, ◌<◌, ◌⊎◌, ℕ, zero, suc, List, [], ◌∷◌, take, Option, Some, None, refl, ap, sym, ◌∙◌, subst, arith, inl, inr}
 use Rattle.std.specs.Prelude.{codes}
-use Rattle.std.specs.Str.{IsCharBoundary}
 use Rattle.serde_json.specs.Data.{Data, string, number, array, object, unsigned, Items, no_items, item, Members, member, no_members}
 use Rattle.serde_json.specs.Find.{get}
 use Rattle.relay_action.specs.declared.action.ActionKind.{ActionKind}
 use Rattle.relay_action.specs.declared.action.ActionKind.TheVariants as kind
 use Rattle.relay_results.specs.declared.outcome.Outcome.{Outcome}
-use Rattle.relay_results.specs.declared.reading.ReplyFault.{ReplyFault}
 use Rattle.relay_results.specs.declared.reading.ReplyFault.TheVariants as fault
 use Rattle.relay_results.specs.Documents.{kind_name}
-use Rattle.relay_results.specs.Replies.{ReadsAs, IsCut, error_limit, error_member, SaysError, IsEntry, AreEntries, HasItems, IsReply, IsBadAt, IsFaultOf}
+use Rattle.relay_results.specs.Replies.{ReadsAs, IsCut, error_limit, error_member, SaysError, IsEntry, AreEntries, HasItems, IsBadAt}
 use Rattle.relay_results.specs.Laws.{OneReply, NoFaultOfReply, OneFault}
 
 -- ---- an entry says one outcome
@@ -27,8 +25,9 @@ three_ways m n = grind arith
 one_count : (limit : ℕ) (text a b : List ℕ) (p : IsCut limit text a) (q : IsCut limit text b) → p.count ≡ q.count
 one_count limit text a b p q =
     elim (three_ways p.count q.count) [
-      inl less ↦ absurd (p.longest q.count less q.within q.ends)
-    | inr rest ↦ elim rest [ inl same ↦ same | inr more ↦ absurd (q.longest p.count more p.within p.ends) ] ]
+      | inl less ↦ absurd (p.longest q.count less q.within q.ends)
+      | inr rest ↦ elim rest [ inl same ↦ same | inr more ↦ absurd (q.longest p.count more p.within p.ends) ]
+    ]
 
 one_cut : (limit : ℕ) (text a b : List ℕ) → IsCut limit text a → IsCut limit text b → a ≡ b
 one_cut limit text a b p q = p.front_is ∙ ap (λ n. take n text) (one_count limit text a b p q) ∙ sym q.front_is

@@ -1,6 +1,6 @@
 -- The worked schedules.
-use Rattle.std.proofs.Common.{◌≡◌, ◌⊎◌, ◌++◌, ◌+◌, ◌<◌, ◌≤◌, ℕ, zero, suc, List, [], ◌∷◌, Option, Some, None, Bool, true, false, refl, ap, sym, ◌∙◌, subst, arith, inl, inr, lit<, lit≤}
-use Rattle.std.specs.Prelude.{filter, map, if◌then◌else◌, bytes_eq, slice_get, is_some}
+use Rattle.std.proofs.Common.{◌≡◌, ◌++◌, ◌+◌, ◌<◌, ◌≤◌, ℕ, zero, suc, List, [], ◌∷◌, Option, Some, None, Bool, true, false, refl, ap, sym, ◌∙◌, subst, arith, inl, inr, lit<, lit≤}
+use Rattle.std.specs.Prelude.{filter, if◌then◌else◌, slice_get, is_some}
 use Rattle.std.specs.Bool.{MatchBool}
 use Rattle.relay_action.specs.declared.key.DocKey.{DocKey}
 use Rattle.relay_action.specs.declared.action.Source.{Source}
@@ -10,10 +10,10 @@ use Rattle.relay_action.specs.declared.write.Write.{Write}
 use Rattle.relay_action.specs.declared.operation.Op.{Op}
 use Rattle.relay_action.specs.declared.operation.OpName.{OpName}
 use Rattle.relay_results.specs.declared.outcome.Outcome.{Outcome}
-use Rattle.relay_results.specs.Words.{Mem, IsSubsequence, AllDistinct, one_if}
-use Rattle.relay_results.specs.Documents.{Document, document_of, same_document, same_write, write_for, name_of}
+use Rattle.relay_results.specs.Words.{Mem, IsSubsequence, one_if}
+use Rattle.relay_results.specs.Documents.{Document, document_of, same_document, same_write, write_for}
 use Rattle.relay_results.specs.Matching.{matches, is_entry_for}
-use Rattle.relay_results.specs.Outside.{is_above, Answer, Unanswered, Items, Whole, Lost, Request, Ran, Outside, IsRefusal, IsConflict, WasRun}
+use Rattle.relay_results.specs.Outside.{is_above, Answer, Unanswered, Items, Whole, Lost, Request, Ran, IsRefusal, IsConflict, WasRun}
 use Rattle.relay_results.specs.Attribution.{IsAttribution, is_from}
 use Rattle.relay_results.specs.Causes.{carries, CarriedAt, IsAnswered, IsRetried}
 use Rattle.relay_results.specs.Schedules.{op, accepted_of, ran, failed, entry, failed_entry, conflict, busy, refusal, Plays, LostThenAlready, LateRunChangesNothing, RunTwice, answered_whole, RefusedOrRejected, BusyThenNext, GivenUpAndApplied, ThreeThenOne}

@@ -1,9 +1,8 @@
 -- A reply that was written reads as what was written.
-use Rattle.std.proofs.Common.{◌≡◌, ◌≤◌, ◌<◌, ℕ, suc, max, List, [], ◌∷◌, take, length, Option, None, Some, Bool, true, false, refl, ap, ◌∙◌, sym, subst, arith, lit≤, String, Global, string_bytes}
+use Rattle.std.proofs.Common.{◌≡◌, ◌≤◌, ℕ, List, [], ◌∷◌, take, length, Option, None, Some, Bool, false, refl, ap, ◌∙◌, sym, subst, arith, lit≤, String, Global, string_bytes}
 use Rattle.std.specs.Prelude.{map, ◌||◌, codes}
 use Rattle.std.proofs.lemmas.Grind.{common_steps}
 use Rattle.std.proofs.lemmas.Str.{IsUtf8-string_bytes}
-use Rattle.std.specs.Str.{IsCharBoundary}
 use Rattle.serde_json.specs.Data.{Data, string, number, unsigned, object, item, depth, items_depth}
 use Rattle.serde_json.specs.Find.{get}
 use Rattle.serde_json.specs.View.{view, items_view, items_of}
@@ -13,7 +12,6 @@ use Rattle.serde_json.specs.declared.value.Value.{Value}
 use Rattle.relay_results.specs.declared.done.ItemDone.{ItemDone}
 use Rattle.relay_results.specs.declared.done.DoneResult.{DoneResult}
 use Rattle.relay_results.specs.declared.done.DoneResult.TheVariants as done
-use Rattle.relay_results.specs.declared.outcome.Outcome.{Outcome}
 use Rattle.relay_results.specs.Done.{failure, fields_by, entry_data, entries_data, reply_data, reply_text, outcome_of, outcomes_of, HaveStatuses}
 use Rattle.relay_results.specs.Replies.{IsCut, error_limit, error_member, SaysError, IsEntry, AreEntries, IsReply}
 

@@ -1,5 +1,5 @@
 -- When the cause of a report is true.
-use Rattle.std.specs.Prelude.{◌≡◌, ℕ, ◌+◌, ◌-◌, ◌^◌, ◌<◌, ◌≤◌, min, List, [], Option, Some, None, is_some, unwrap_or, slice_get, Bool, true, false, IsTrue}
+use Rattle.std.specs.Prelude.{◌≡◌, ℕ, ◌+◌, ◌-◌, ◌^◌, ◌<◌, ◌≤◌, min, List, [], Option, Some, None, is_some, unwrap_or, slice_get, Bool, true, false}
 use Rattle.std.specs.List.{list_any}
 use Rattle.relay_action.specs.Actions.{kind_of}
 use Rattle.relay_action.specs.declared.write.Write.{Write}
@@ -18,7 +18,9 @@ use Rattle.relay_results.specs.Fates as cause
 
 -- Operations are dealt versions, or none, and no two operations of one document the same.
 abbrev pub IsAssignment : (Op → Option ℕ) → Type 0
-IsAssignment versions = (a b : Op) (v : ℕ) → versions a ≡ Some v → versions b ≡ Some v → document_of a.key ≡ document_of b.key → same_op a b ≡ true
+IsAssignment versions =
+    (a b : Op) (v : ℕ) → versions a ≡ Some v → versions b ≡ Some v → document_of a.key ≡ document_of b.key
+    → same_op a b ≡ true
 
 -- the last version, and how many versions a lane deals that begins with this one
 abbrev pub last_version : ℕ
@@ -90,7 +92,9 @@ pub record Terms : Type 0 where
 
 -- the table says Refused, whatever was sent before
 abbrev pub IsRefused : Write → Outcome → Type 0
-IsRefused w o = (sends attempts max : ℕ) → verdict_of (kind_of w.action) o.status (is_some o.error) sends attempts max ≡ verdict.Refused
+IsRefused w o =
+    (sends attempts max : ℕ)
+    → verdict_of (kind_of w.action) o.status (is_some o.error) sends attempts max ≡ verdict.Refused
 
 pub record IsTrueRefusal (s : Outside) (w : Write) (status : ℕ) (error : List ℕ) : Type 0 where
   pub outcome : Outcome

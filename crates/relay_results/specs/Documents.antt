@@ -49,11 +49,15 @@ kind_name kind.Delete = codes "delete"
 
 -- the two writes have one version, one document and one action
 abbrev pub same_write : Write → Write → Bool
-same_write x y = (x.version == y.version) && (same_document (document_of x.key) (document_of y.key) && same_source (source_of x.action) (source_of y.action))
+same_write x y =
+    (x.version == y.version)
+    && (same_document (document_of x.key) (document_of y.key) && same_source (source_of x.action) (source_of y.action))
 
 -- the two operations have one name, one document and one action
 abbrev pub same_op : Op → Op → Bool
-same_op a b = ((a.producer == b.producer) && (a.number == b.number)) && (same_document (document_of a.key) (document_of b.key) && same_source (source_of a.action) (source_of b.action))
+same_op a b =
+    ((a.producer == b.producer) && (a.number == b.number))
+    && (same_document (document_of a.key) (document_of b.key) && same_source (source_of a.action) (source_of b.action))
 
 -- the name of an operation, and the write that it asks for, under a version
 abbrev pub name_of : Op → OpName

@@ -1,8 +1,7 @@
 -- What the answer of a request makes of the operations that it carried.
-use Rattle.std.specs.Prelude.{ℕ, List, [], Option, Some, None, is_some, unwrap_or, slice_get, Bool, if◌then◌else◌, nat_lt}
+use Rattle.std.specs.Prelude.{ℕ, List, [], Option, Some, None, is_some, unwrap_or, slice_get, if◌then◌else◌, nat_lt}
 use Rattle.relay_action.specs.declared.action.ActionKind.{ActionKind}
 use Rattle.relay_action.specs.declared.write.Write.{Write}
-use Rattle.relay_action.specs.Actions.{kind_of}
 use Rattle.relay_results.specs.declared.outcome.Outcome.{Outcome}
 use Rattle.relay_results.specs.declared.decide.ItemVerdict.{ItemVerdict}
 use Rattle.relay_results.specs.declared.decide.ItemVerdict.TheVariants as verdict

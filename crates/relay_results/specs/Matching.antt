@@ -20,5 +20,7 @@ matches (o ∷ os) (w ∷ ws) = is_entry_for o w && matches os ws
 -- same (OpenSearch, bulk API: the items of a reply stand in the order of the request).
 pub record Matches (os : List Outcome) (ws : List Write) : Type 0 where
   pub as_many : length os ≡ length ws
-  pub kinds : (place : ℕ) (o : Outcome) (w : Write) → slice_get os place ≡ Some o → slice_get ws place ≡ Some w → o.kind ≡ kind_of w.action
-  pub ids : (place : ℕ) (o : Outcome) (w : Write) → slice_get os place ≡ Some o → slice_get ws place ≡ Some w → o.id ≡ w.key.id
+  pub kinds : (place : ℕ) (o : Outcome) (w : Write) → slice_get os place ≡ Some o → slice_get ws place ≡ Some w
+      → o.kind ≡ kind_of w.action
+  pub ids : (place : ℕ) (o : Outcome) (w : Write) → slice_get os place ≡ Some o → slice_get ws place ≡ Some w
+      → o.id ≡ w.key.id

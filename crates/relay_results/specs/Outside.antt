@@ -1,6 +1,6 @@
 -- What stands outside a lane: the requests that were sent, what the index did with them and has, and what was
 -- answered.
-use Rattle.std.specs.Prelude.{◌≡◌, ◌≢◌, ◌⊎◌, ℕ, suc, ◌≤◌, List, [], ◌∷◌, ◌++◌, slice_get, Option, Some, None, is_some, option_and_then, IsSome, IsTrue, Bool, true, false, ◌&&◌, nat_lt, if◌then◌else◌}
+use Rattle.std.specs.Prelude.{◌≡◌, ◌≢◌, ◌⊎◌, ℕ, suc, ◌≤◌, List, [], ◌∷◌, ◌++◌, slice_get, Option, Some, None, is_some, option_and_then, IsSome, IsTrue, Bool, true, false, nat_lt, if◌then◌else◌}
 use Rattle.relay_action.specs.Actions.{kind_of}
 use Rattle.relay_action.specs.declared.write.Write.{Write}
 use Rattle.relay_results.specs.declared.outcome.Outcome.{Outcome}
@@ -140,7 +140,9 @@ pub data Event : Type 0 where
 abbrev pub after : Event → Outside → Outside
 after (Sends ws) s = record s { requests = s.requests ++ record { writes = ws; answer = Unanswered } ∷ [] }
 after (Runs r) s = ran_of s r (write_at s.requests r.request r.place)
-after (Answers request a) s = record s { requests = update request (λ q. record { writes = writes_of q; answer = a }) s.requests }
+after (Answers request a) s = record s {
+  requests = update request (λ q. record { writes = writes_of q; answer = a }) s.requests;
+}
 
 -- Any item of any sent request may be run, at any time and any number of times, with an outcome that the stored
 -- version leaves it.

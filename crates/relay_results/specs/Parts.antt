@@ -1,5 +1,5 @@
 -- For private clauses: what is looked up in an entry, and what a loop over entries has found.
-use Rattle.std.specs.Prelude.{◌≡◌, ℕ, Bool, true, false, List, [], ◌∷◌, ◌++◌, codes, bytes_eq, nat_le, ◌&&◌, Option, None, Some, option_and_then, option_map, if◌then◌else◌}
+use Rattle.std.specs.Prelude.{◌≡◌, ℕ, Bool, true, false, List, [], ◌∷◌, ◌++◌, codes, bytes_eq, nat_le, ◌&&◌, Option, None, Some, option_and_then, if◌then◌else◌}
 use Rattle.serde_json.specs.Data.{Data, Items, Members, member, no_members}
 use Rattle.serde_json.specs.Find.{get, as_object, as_str, as_number, as_u64}
 use Rattle.relay_action.specs.declared.action.ActionKind.{ActionKind}

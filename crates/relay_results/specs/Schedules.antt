@@ -1,6 +1,6 @@
 -- Worked schedules, of any document and any source: what is sent, run and answered, what is applied then, and what
 -- becomes of the operations.
-use Rattle.std.specs.Prelude.{◌≡◌, ℕ, List, [], ◌∷◌, Option, Some, None, Bool, false, codes, filter, unwrap_or, slice_get, option_map}
+use Rattle.std.specs.Prelude.{◌≡◌, ℕ, List, [], ◌∷◌, Some, None, false, codes, filter}
 use Rattle.relay_action.specs.Actions.{kind_of}
 use Rattle.relay_action.specs.declared.key.DocKey.{DocKey}
 use Rattle.relay_action.specs.declared.action.Source.{Source}
@@ -10,7 +10,7 @@ use Rattle.relay_action.specs.declared.write.Write.{Write}
 use Rattle.relay_action.specs.declared.operation.Op.{Op}
 use Rattle.relay_results.specs.declared.outcome.Outcome.{Outcome}
 use Rattle.relay_results.specs.Documents.{Document, document_of, same_document, write_for}
-use Rattle.relay_results.specs.Outside.{Answer, Unanswered, Items, Whole, Lost, Ran, RunOutcome, Outside, Event, Sends, Runs, Answers, after_all, AllMayHappen}
+use Rattle.relay_results.specs.Outside.{Answer, Items, Whole, Lost, Ran, Outside, Event, Sends, Runs, Answers, after_all, AllMayHappen}
 use Rattle.relay_results.specs.Fates.{Cause, Fate, Tries, fate}
 use Rattle.relay_results.specs.Fates as of
 use Rattle.relay_results.specs.Attribution.{IsAttribution, IsInProducerOrder, is_from}
@@ -39,7 +39,11 @@ abbrev pub ran : ℕ → ℕ → ℕ → Ran
 ran request place status = record { request = request; place = place; outcome = record { status = status; error = None } }
 
 abbrev pub failed : ℕ → ℕ → ℕ → List ℕ → Ran
-failed request place status error = record { request = request; place = place; outcome = record { status = status; error = Some error } }
+failed request place status error = record {
+  request = request;
+  place = place;
+  outcome = record { status = status; error = Some error };
+}
 
 -- the entry of a reply for a write, without an error and with one
 abbrev pub entry : Write → ℕ → Outcome
@@ -195,7 +199,9 @@ three_then_one w x y =
 
 abbrev pub ThreeThenOne : Type 0
 ThreeThenOne = (k l m : DocKey) (source other : Source) →
-    same_document (document_of k) (document_of l) ≡ false → same_document (document_of l) (document_of m) ≡ false → same_document (document_of k) (document_of m) ≡ false →
+    same_document (document_of k) (document_of l) ≡ false →
+    same_document (document_of l) (document_of m) ≡ false →
+    same_document (document_of k) (document_of m) ≡ false →
     let o = op 1 k (Index source) in let p = op 2 l (Index other) in let q = op 3 m Delete in
     let w = write_for o 1 in let x = write_for p 2 in let y = write_for q 3 in
     let three = Items (entry w 201 ∷ failed_entry x 429 busy ∷ entry y 404 ∷ []) in

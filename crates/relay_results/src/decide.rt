@@ -9,7 +9,8 @@ use relay_action::ActionKind;
 pub enum ItemVerdict {
     /// The index applied the write: the operation is done.
     Applied,
-    /// A repeat met its own version: an earlier request had applied the write, and the operation is done.
+    /// A repeat met its own version: an earlier request had applied the write, and the operation is
+    /// done.
     Already,
     /// The first send met a version that is not below its own: the operation is reported.
     Conflict,
@@ -21,9 +22,9 @@ pub enum ItemVerdict {
     Refused,
 }
 
-/// The verdict on an item with this status, of an action of this kind. `sends` counts the requests that
-/// carried the operation, this one too, and `attempts` those of them that count as tries, of which there
-/// may be `max`. It is decided in this order:
+/// The verdict on an item with this status, of an action of this kind. `sends` counts the requests
+/// that carried the operation, this one too, and `attempts` those of them that count as tries, of
+/// which there may be `max`. It is decided in this order:
 ///
 /// 1. 200 to 299 without an error, or 404 of a delete without an error: `Applied`.
 /// 2. 409: `Already` where `sends` is 2 or more, else `Conflict`.

@@ -35,8 +35,8 @@ pub struct ItemDone {
     pub result: DoneResult,
     /// The version that was stored, or 0 where nothing was done.
     pub version: u64,
-    /// How many writes the index had applied before this one, over all documents, or 0 where nothing was
-    /// done.
+    /// How many writes the index had applied before this one, over all documents, or 0 where
+    /// nothing was done.
     pub seq: u64,
 }
 
@@ -58,8 +58,8 @@ impl DoneResult {
 impl ItemDone {
     ghost use Rattle.relay_results.specs.Done.{outcome_of};
 
-    /// What a reply says of this item: its kind, id and status, and the type of its error where the result
-    /// is `Conflict` or `Refused`. `AllocError`: there was no memory for its texts.
+    /// What a reply says of this item: its kind, id and status, and the type of its error where the
+    /// result is `Conflict` or `Refused`. `AllocError`: there was no memory for its texts.
     pub fn outcome(&self, alloc: Global) -> Result<Outcome, AllocError>
         ensures { IfOk result (λ o. o ≡ outcome_of self.now) }
     {

@@ -1,10 +1,11 @@
-//! What the definitions of `specs/` say of worked schedules: each meets them, and what none may do does
-//! not. These functions do nothing; their contracts are the laws.
+//! What the definitions of `specs/` say of worked schedules: each meets them, and what none may do
+//! does not. These functions do nothing; their contracts are the laws.
 ghost use Rattle.relay_results.specs.Schedules.{LostThenAlready, LateRunChangesNothing, RunTwice, RefusedOrRejected, NoVersionLeft, BusyThenNext, GivenUpAndApplied, ThreeThenOne};
 ghost use Rattle.relay_results.specs.Laws.{NoneTwice, NoneOutOfOrder, NotGivenUpAfterOne, NotGivenUpWhenSettled, NoConflictAfterTwo, NotRefusedWithoutStatus, NotRefusedWithoutError, NotSpentWithinLimit, NotHonestWithoutRun, OneReply, NoFaultOfReply, OneFault, AssignsTwo, NotAssignedTwice, RefusedWhateverSent, MayAlwaysRun, NotAppliedAgain};
 
-/// Worked schedules of one operation meet the definitions: applied and lost, then a conflict with its own
-/// version; run late, after its repeat; run twice; refused, or rejected with its whole request; spent.
+/// Worked schedules of one operation meet the definitions: applied and lost, then a conflict with
+/// its own version; run late, after its repeat; run twice; refused, or rejected with its whole
+/// request; spent.
 pub fn schedules_of_one()
     ensures already { LostThenAlready }
     ensures late { LateRunChangesNothing }
@@ -13,8 +14,9 @@ pub fn schedules_of_one()
     ensures spent { NoVersionLeft }
 {}
 
-/// Worked schedules of several operations meet the definitions: retried before the next of its document
-/// is sent; given up, and applied all the same before the next; three documents in one request.
+/// Worked schedules of several operations meet the definitions: retried before the next of its
+/// document is sent; given up, and applied all the same before the next; three documents in one
+/// request.
 pub fn schedules_of_several()
     ensures busy { BusyThenNext }
     ensures given_up { GivenUpAndApplied }
@@ -37,7 +39,8 @@ pub fn causes_exclude()
     ensures within_limit { NotSpentWithinLimit }
 {}
 
-/// Any item of any sent request may be run at any time, and a write that was applied is not applied again.
+/// Any item of any sent request may be run at any time, and a write that was applied is not applied
+/// again.
 pub fn runs_apply_once()
     ensures always { MayAlwaysRun }
     ensures once { NotAppliedAgain }
@@ -48,8 +51,8 @@ pub fn answers_exclude()
     ensures { NotHonestWithoutRun }
 {}
 
-/// A text says one list of outcomes or has one fault, and not both: so what [`crate::read_reply`] answers is
-/// settled, but for want of memory.
+/// A text says one list of outcomes or has one fault, and not both: so what [`crate::read_reply`]
+/// answers is settled, but for want of memory.
 pub fn replies_exclude()
     ensures one { OneReply }
     ensures no_fault { NoFaultOfReply }

@@ -2,8 +2,8 @@
 //! replies read and written, whether a reply is one to a request, and the verdict on each item. It
 //! stands on `relay_action`.
 //!
-//! Its `specs/` hold what all promises on delivery speak of: the sent requests, what the index does with
-//! them, the answers, and what is true of an operation.
+//! Its `specs/` hold what all promises on delivery speak of: the sent requests, what the index does
+//! with them, the answers, and what is true of an operation.
 #![tactic(auto)]
 
 pub mod decide;

@@ -10,7 +10,7 @@ pub struct Outcome {
     pub id: Text,
     /// The status of the item, which a reply has from 100 to 599.
     pub status: u16,
-    /// The type of the item's error, of at most 64 bytes, where it has an error. An error that tells no
-    /// type has the empty text.
+    /// The type of the item's error, of at most 64 bytes, where it has an error. An error that
+    /// tells no type has the empty text.
     pub error: Option<Text>,
 }

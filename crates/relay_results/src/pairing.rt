@@ -23,8 +23,8 @@ fn are_entries_for(outcomes: &[Outcome], writes: &[Write]) -> bool
         .all(|(outcome, write)| is_entry_for(outcome, write))
 }
 
-/// Whether the entries of a reply are those of the writes of a request: as many, and at each place the
-/// same action kind and the same id. Statuses are not looked at. It takes no memory.
+/// Whether the entries of a reply are those of the writes of a request: as many, and at each place
+/// the same action kind and the same id. Statuses are not looked at. It takes no memory.
 pub fn matches(outcomes: &[Outcome], writes: &[Write]) -> bool
     ensures value { result ≡ matches outcomes.now writes.now }
     ensures places { IsTrue result ↔ Matches outcomes.now writes.now }

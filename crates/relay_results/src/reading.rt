@@ -15,8 +15,8 @@ use thiserror::Error;
 /// The most bytes of an error's type that an outcome keeps.
 pub const ERROR_LIMIT: usize = 64;
 
-/// Why a text is no reply, in the order in which the causes are looked for. The text of a variant is its
-/// name.
+/// Why a text is no reply, in the order in which the causes are looked for. The text of a variant
+/// is its name.
 #[derive(Clone, Copy, Debug, PartialEq, Eq, Error)]
 pub enum ReplyFault {
     /// The bytes are not UTF-8, or not JSON (RFC 8259), or nest more than 127 deep.
@@ -50,7 +50,8 @@ fn value_of(alloc: Global, bytes: &[u8]) -> Result<Value, ReplyFault>
 
 // The one member of an object.
 fn sole_member(map: &Map<String, Value>) -> Option<(&str, &Value)>
-    ensures { option_map (λ r. (r.0.now, view r.1.now)) result ≡ sole (members_view map.now.entries) }
+    ensures { option_map (λ r. (r.0.now, view r.1.now)) result
+        ≡ sole (members_view map.now.entries) }
 {
     if map.len() != 1 {
         return None;
@@ -122,7 +123,8 @@ fn error_in(alloc: Global, fields: &Value) -> Result<Option<Text>, AllocError>
 
 // The outcome that an entry says, if it says one.
 fn read_entry(alloc: Global, value: &Value) -> Result<Option<Outcome>, AllocError>
-    ensures { IfOk result (λ r. MatchOption r (IsNoEntry (view value.now)) (λ o. IsEntry (view value.now) o)) }
+    ensures { IfOk result
+        (λ r. MatchOption r (IsNoEntry (view value.now)) (IsEntry (view value.now))) }
 {
     let Some((name, fields)) = sole_of(value) else {
         return Ok(None);
@@ -149,7 +151,8 @@ fn read_entry(alloc: Global, value: &Value) -> Result<Option<Outcome>, AllocErro
 
 // Adds the outcome that an entry says, if it says one, and tells whether it does.
 fn push_entry(alloc: Global, outcomes: &mut Vec<Outcome>, value: &Value) -> Result<bool, AllocError>
-    ensures { IfOk result (λ said. PushesEntry (view value.now) outcomes.old.items outcomes.new.items said) }
+    ensures { IfOk result
+        (λ said. PushesEntry (view value.now) outcomes.old.items outcomes.new.items said) }
 {
     match read_entry(alloc, value)? {
         Some(outcome) => {
@@ -180,19 +183,20 @@ fn read_entries(alloc: Global, entries: &[Value]) -> Result<Vec<Outcome>, ReplyF
 
 // The entries of a reply.
 fn entries_of(value: &Value) -> Option<&Vec<Value>>
-    ensures { option_map (λ v. items_view v.now.items) result ≡ option_and_then as_array (get (codes "items") (view value.now)) }
+    ensures { option_map (λ v. items_view v.now.items) result
+        ≡ option_and_then as_array (get (codes "items") (view value.now)) }
 {
     value.get("items").and_then(Value::as_array)
 }
 
 /// The outcomes that the body of a reply of status 200 says, one for each entry, in their order.
 ///
-/// A reply is a JSON object with a member `items`, an array (OpenSearch, bulk API). An entry is an object of
-/// one member named `index` or `delete`, whose value is an object with `_id`, a text, and `status`, an integer
-/// from 100 to 599. `error`, where it is there and not null, gives its member `type`, cut to the longest front
-/// of at most 64 bytes that ends at a character; where it tells no text it gives the empty text. All other
-/// members are not looked at. The faults are those of [`ReplyFault`], the first that holds; an error keeps
-/// nothing.
+/// A reply is a JSON object with a member `items`, an array (OpenSearch, bulk API). An entry is an
+/// object of one member named `index` or `delete`, whose value is an object with `_id`, a text, and
+/// `status`, an integer from 100 to 599. `error`, where it is there and not null, gives its member
+/// `type`, cut to the longest front of at most 64 bytes that ends at a character; where it tells no
+/// text it gives the empty text. All other members are not looked at. The faults are those of
+/// [`ReplyFault`], the first that holds; an error keeps nothing.
 pub fn read_reply(alloc: Global, bytes: &[u8]) -> Result<Vec<Outcome>, ReplyFault>
     ensures ok { IfOk result (λ v. IsReply bytes.now v.items) }
     ensures err { IfErr result (λ e. IsFaultOf bytes.now e) }

@@ -5,7 +5,7 @@ use crate::outcome::Outcome;
 use crate::pairing::matches;
 use crate::reading::{ReplyFault, read_reply};
 use crate::writing::write_reply;
-use relay_action::{Action, ActionKind, DocKey, Text, Write};
+use relay_action::{Action, ActionFault, ActionKind, DocKey, Text, Write};
 use std::alloc::{AllocError, Global};
 use std::test::Fail;
 
@@ -25,16 +25,16 @@ fn one_index(alloc: Global) -> Result<Vec<Write>, Fail> {
     Ok(writes)
 }
 
-// The text with `count` arrays, one in the other, as the value of a member `x` beside no items.
-fn nested(alloc: Global, count: usize) -> Result<String, AllocError> {
-    let mut text = String::from_str(alloc, "{\"items\":[],\"x\":")?;
+// So many arrays, one in the other, between a front and a back.
+fn nested(alloc: Global, front: &str, count: usize, back: &str) -> Result<String, AllocError> {
+    let mut text = String::from_str(alloc, front)?;
     for _ in 0..count {
         text.push('[')?;
     }
     for _ in 0..count {
         text.push(']')?;
     }
-    text.push('}')?;
+    text.push_str(back)?;
     Ok(text)
 }
 
@@ -105,16 +105,22 @@ fn faults(rt: HostRuntime) -> Result<(), Fail> {
     Ok(())
 }
 
+// JSON nests at most 127 deep, also in a member that nobody looks at.
 #[test]
 fn depth(rt: HostRuntime) -> Result<(), Fail> {
     let alloc = rt.alloc();
-    let most = nested(alloc, 126)?;
-    assert!(rt; read_reply(alloc, most.as_bytes())?.is_empty());
-    let deep = nested(alloc, 127)?;
-    assert_eq!(rt;
-        read_reply(alloc, deep.as_bytes()).err(),
-        Some(ReplyFault::NotJson)
-    );
+    let rows = [
+        ("{\"items\":[],\"x\":", 126usize, "}", None),
+        ("{\"items\":[],\"x\":", 127, "}", Some(ReplyFault::NotJson)),
+        ("{\"items\":", 126, "}", Some(ReplyFault::BadItem(0))),
+        ("{\"items\":", 127, "}", Some(ReplyFault::NotJson)),
+        ("", 127, "", Some(ReplyFault::NoItems)),
+        ("", 128, "", Some(ReplyFault::NotJson)),
+    ];
+    for (front, count, back, fault) in rows {
+        let text = nested(alloc, front, count, back)?;
+        assert_eq!(rt; read_reply(alloc, text.as_bytes()).err(), fault);
+    }
     Ok(())
 }
 
@@ -351,7 +357,7 @@ fn done_of(
     became: DoneResult,
     version: u64,
     seq: u64,
-) -> Result<ItemDone, Fail> {
+) -> Result<ItemDone, ActionFault> {
     Ok(ItemDone {
         key: DocKey::new(alloc, "b", "2")?,
         kind,
@@ -418,7 +424,13 @@ fn refusals(rt: HostRuntime) -> Result<(), Fail> {
         }
     };
     assert_eq!(rt; outcomes.len(), 1);
-    let item = done_of(alloc, ActionKind::Index, 409, DoneResult::Conflict, 0, 0)?;
+    let item = match done_of(alloc, ActionKind::Index, 409, DoneResult::Conflict, 0, 0) {
+        Ok(item) => item,
+        Err(fault) => {
+            assert_eq!(rt; fault, ActionFault::Memory);
+            done_of(alloc, ActionKind::Index, 409, DoneResult::Conflict, 0, 0)?
+        }
+    };
     let outcome = match item.outcome(alloc) {
         Ok(outcome) => outcome,
         Err(AllocError) => item.outcome(alloc)?,

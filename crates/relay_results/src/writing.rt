@@ -81,12 +81,12 @@ fn reply_value(alloc: Global, took: u64, items: &[ItemDone]) -> Result<Value, Al
     json!(in alloc; {"errors": errors, "items": entries, "took": took})
 }
 
-/// The reply to a request whose items these are, in their order: one line of JSON with no space and its keys
-/// in byte order, `{"errors":B,"items":[..],"took":N}` (OpenSearch, bulk API, response). `took` is a number of
-/// milliseconds, and `errors` is true where an item is `Conflict` or `Refused`. An item that was applied has
-/// `_id`, `_index`, `_seq_no`, `_version`, `result` and `status`, any other `_id`, `_index`, `error` and
-/// `status`. Where each status is from 100 to 599, reading it gives the outcome of each item. `AllocError`:
-/// there was no memory for it.
+/// The reply to a request whose items these are, in their order: one line of JSON with no space and
+/// its keys in byte order, `{"errors":B,"items":[..],"took":N}` (OpenSearch, bulk API, response).
+/// `took` is a number of milliseconds, and `errors` is true where an item is `Conflict` or
+/// `Refused`. An item that was applied has `_id`, `_index`, `_seq_no`, `_version`, `result` and
+/// `status`, any other `_id`, `_index`, `error` and `status`. Where each status is from 100 to 599,
+/// reading it gives the outcome of each item. `AllocError`: there was no memory for it.
 #[tactic(auto, unfolding(crate::specs::Done::reply_text))]
 pub fn write_reply(alloc: Global, took: u64, items: &[ItemDone]) -> Result<String, AllocError>
     ensures text { IfOk result (λ s. string_bytes s ≡ reply_text took items.now) }

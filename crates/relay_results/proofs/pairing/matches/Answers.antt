@@ -1,6 +1,4 @@
 -- The chain is the test, and the test says what holds at each place.
-use Rattle.std.proofs.Common.{◌≡◌, length, arith, sym, ◌∙◌, true, false, Bool}
-use Rattle.relay_results.specs.Matching.{matches, Matches}
 use Rattle.relay_results.proofs.Entries.{matches-same_length, matches-other_length, matches-Matches}
 use Rattle.relay_results.proofs.pairing.matches.Goals as goal
 
