@@ -89,7 +89,7 @@ refused_whatever w o sends attempts max e s a m =
 
 -- ---- runs
 
-with_error : (w : Write) (o : RunOutcome) → is_some o.error ≡ true → is_applied w o ≡ false
+pub with_error : (w : Write) (o : RunOutcome) → is_some o.error ≡ true → is_applied w o ≡ false
 with_error w o e = rw e refl
 
 refusals_differ : (o : RunOutcome) → o.error ≡ None → IsRefusal o → ⊥

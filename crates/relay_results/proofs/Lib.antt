@@ -6,3 +6,4 @@ pub mod Ahead
 pub mod Excluded
 pub mod ReadsBack
 pub mod OneReading
+pub mod Steps

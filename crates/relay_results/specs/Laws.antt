@@ -1,5 +1,5 @@
 -- What the definitions rule out.
-use Rattle.std.specs.Prelude.{◌≡◌, ◌≢◌, ℕ, ◌≤◌, List, [], ◌∷◌, Option, Some, None, true, false, is_some, if◌then◌else◌}
+use Rattle.std.specs.Prelude.{◌⊎◌, ◌^◌, ◌++◌, ◌≡◌, ◌≢◌, ℕ, ◌≤◌, List, [], ◌∷◌, Option, Some, None, true, false, is_some, if◌then◌else◌}
 use Rattle.relay_action.specs.declared.write.Write.{Write}
 use Rattle.relay_action.specs.declared.operation.Op.{Op}
 use Rattle.relay_results.specs.declared.outcome.Outcome.{Outcome}
@@ -12,11 +12,11 @@ use Rattle.relay_results.specs.Replies.{IsReply, IsFaultOf}
 use Rattle.relay_results.specs.Words.{Mem}
 use Rattle.relay_results.specs.Documents.{Document, document_of, write_for, name_of, same_op}
 use Rattle.relay_results.specs.Matching.{matches}
-use Rattle.relay_results.specs.Outside.{Answer, Items, Lost, Request, Ran, RunOutcome, Outside, IsHonest, write_at, MayRun, IsRefusal, IsOutcomeOf, is_applied}
+use Rattle.relay_results.specs.Outside.{Answer, Items, Lost, Request, Ran, RunOutcome, Outside, IsHonest, write_at, MayRun, IsRefusal, IsOutcomeOf, is_applied, is_above, Event, IsStep, Continues, IsOpening}
 use Rattle.relay_results.specs.Fates as of
 use Rattle.relay_results.specs.Attribution.{IsAttribution, IsInProducerOrder}
-use Rattle.relay_results.specs.Causes.{Terms, IsTrueCause, IsAssignment, IsRefused}
-use Rattle.relay_results.specs.Schedules.{entry, terms}
+use Rattle.relay_results.specs.Causes.{Terms, IsTrueCause, IsAssignment, IsRefused, last_version, deals_from}
+use Rattle.relay_results.specs.Schedules.{entry, terms, nothing, end_of, Plays}
 
 -- one operation is attributed to two applied writes
 abbrev pub NoneTwice : Type 0
@@ -136,3 +136,31 @@ abbrev pub NotAppliedAgain : Type 0
 NotAppliedAgain =
     (w : Write) (stored : ℕ) (o : RunOutcome) → w.version ≤ stored → IsOutcomeOf (Some stored) w o →
     is_applied w o ≡ false
+
+-- A step of the outside sends and answers nothing. It leaves a document as it is, or adds one write of the document at the
+-- end of its list, whose version was above the one stored and is stored then.
+pub record GrowsBy (old new : Outside) (k : Document) (w : Write) : Type 0 where
+  pub applied : new.applied k ≡ old.applied k ++ w ∷ []
+  pub of_document : document_of w.key ≡ k
+  pub above : is_above (old.stored k) w.version ≡ true
+  pub stored : new.stored k ≡ Some w.version
+
+pub record StaysAt (old new : Outside) (k : Document) : Type 0 where
+  pub applied : new.applied k ≡ old.applied k
+  pub stored : new.stored k ≡ old.stored k
+
+abbrev pub StepGrows : Type 0
+StepGrows =
+    (old new : Outside) → IsStep old new →
+    (new.requests ≡ old.requests) × (new.before ≡ old.before)
+    × ((k : Document) → StaysAt old new k ⊎ ((w : Write) × GrowsBy old new k w))
+
+-- before a schedule nothing was sent, and what stands at its end continues that
+abbrev pub PlaysFromOpening : Type 0
+PlaysFromOpening =
+    (accepted : List Op) (events : List Event) (k : Document) (ws : List Write) (ops : List Op) →
+    Plays accepted events k ws ops → IsOpening nothing × Continues nothing (end_of events)
+
+-- a lane that begins with version 1 deals 2^56 versions, and one that begins with the last version deals one
+abbrev pub DealsVersions : Type 0
+DealsVersions = (deals_from 1 ≡ 2 ^ 56) × (deals_from last_version ≡ 1)

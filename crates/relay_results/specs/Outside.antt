@@ -33,7 +33,7 @@ write_at requests request place = option_and_then (λ q. slice_get (writes_of q)
 
 -- ---- a versioned run
 
--- the outcome of a run: its status, and the type of its error where it had one, as a reply tells it
+-- the outcome of a run: its status, and the type of its error where it had one, cut as a reader of replies cuts it
 pub record RunOutcome : Type 0 where
   pub status : ℕ
   pub error : Option (List ℕ)

@@ -1,7 +1,7 @@
 //! What the definitions of `specs/` say of worked schedules: each meets them, and what none may do
 //! does not. These functions do nothing; their contracts are the laws.
 ghost use Rattle.relay_results.specs.Schedules.{LostThenAlready, LateRunChangesNothing, RunTwice, RefusedOrRejected, NoVersionLeft, BusyThenNext, GivenUpAndApplied, ThreeThenOne};
-ghost use Rattle.relay_results.specs.Laws.{NoneTwice, NoneOutOfOrder, NotGivenUpAfterOne, NotGivenUpWhenSettled, NoConflictAfterTwo, NotRefusedWithoutStatus, NotRefusedWithoutError, NotSpentWithinLimit, NotHonestWithoutRun, OneReply, NoFaultOfReply, OneFault, AssignsTwo, NotAssignedTwice, RefusedWhateverSent, MayAlwaysRun, NotAppliedAgain};
+ghost use Rattle.relay_results.specs.Laws.{NoneTwice, NoneOutOfOrder, NotGivenUpAfterOne, NotGivenUpWhenSettled, NoConflictAfterTwo, NotRefusedWithoutStatus, NotRefusedWithoutError, NotSpentWithinLimit, NotHonestWithoutRun, OneReply, NoFaultOfReply, OneFault, AssignsTwo, NotAssignedTwice, RefusedWhateverSent, MayAlwaysRun, NotAppliedAgain, StepGrows, PlaysFromOpening, DealsVersions};
 
 /// Worked schedules of one operation meet the definitions: applied and lost, then a conflict with
 /// its own version; run late, after its repeat; run twice; refused, or rejected with its whole
@@ -39,11 +39,19 @@ pub fn causes_exclude()
     ensures within_limit { NotSpentWithinLimit }
 {}
 
-/// Any item of any sent request may be run at any time, and a write that was applied is not applied
-/// again.
+/// Any item of any sent request may be run at any time, a write that was applied is not applied again,
+/// and a step adds at most one write to the list of one document.
 pub fn runs_apply_once()
     ensures always { MayAlwaysRun }
     ensures once { NotAppliedAgain }
+    ensures grows { StepGrows }
+{}
+
+/// A schedule begins where nothing was sent, and a lane deals the versions from its first to the last,
+/// at most 2^56.
+pub fn schedules_begin()
+    ensures opening { PlaysFromOpening }
+    ensures deals { DealsVersions }
 {}
 
 /// No answer is honest whose matching entries no run gave.
