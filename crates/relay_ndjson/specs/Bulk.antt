@@ -1,8 +1,9 @@
 -- The bulk text of writes: the lines of a request `POST /_bulk` in the OpenSearch bulk API, with the keys of an
 -- action line in byte order and no space.
-use Rattle.std.specs.Prelude.{◌≡◌, ℕ, length, take, List, [], ◌∷◌, ◌++◌, codes}
+use Rattle.std.specs.Prelude.{◌≡◌, ◌<◌, ◌^◌, ℕ, Some, length, take, List, [], ◌∷◌, ◌++◌, codes}
 use Rattle.std.specs.List.{flat_map}
 use Rattle.serde_json.specs.Data.{Data, string, number, unsigned, object, member, no_members}
+use Rattle.serde_json.specs.Read.{read}
 use Rattle.serde_json.specs.Written.{compact_text}
 use Rattle.relay_action.specs.declared.action.Action.{Action}
 use Rattle.relay_action.specs.declared.action.Action.TheVariants.{Index, Delete}
@@ -32,6 +33,10 @@ line_end = 10 ∷ []
 -- the action line of a write, without its end
 unfoldable pub action_text : Write → List ℕ
 action_text w = compact_text (action_data w)
+
+-- an action line reads as what it says
+abbrev pub ActionLinesReadBack : Type 0
+ActionLinesReadBack = (w : Write) → w.version < 2 ^ 64 → read (action_text w) ≡ Some (action_data w)
 
 -- an index action has its source on a line of its own
 abbrev pub source_line : Action → List ℕ

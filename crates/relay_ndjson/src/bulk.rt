@@ -1,6 +1,6 @@
 //! Writes as bulk lines.
 ghost use Rattle.std.specs.Prelude.{◌≡◌, ◌++◌, IfOk, OnOk, OnErr, codes, decimal};
-ghost use Rattle.relay_ndjson.specs.Bulk.{source_line, write_text, text_of, opening, Begins};
+ghost use Rattle.relay_ndjson.specs.Bulk.{source_line, write_text, text_of, opening, Begins, ActionLinesReadBack};
 ghost use Rattle.relay_ndjson.specs.Escapes.{EscapesByTable};
 ghost use Rattle.relay_ndjson.specs.Sends.{WritesText, FailsOnWrite};
 
@@ -139,4 +139,9 @@ pub fn write_write<W: ByteOut>(alloc: Global, out: &mut W, write: &Write) -> Res
 #[tactic(auto, unfolding(json::specs::Print::escape_byte))]
 pub fn escapes_by_table()
     ensures { EscapesByTable }
+{}
+
+/// A law: an action line reads, as the JSON value that `serde_json` reads, as what it says.
+pub fn action_lines_read_back()
+    ensures { ActionLinesReadBack }
 {}
