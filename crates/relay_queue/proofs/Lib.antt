@@ -1,0 +1,4 @@
+pub mod Mails
+pub mod Passes
+pub mod Keeping
+pub mod Fresh

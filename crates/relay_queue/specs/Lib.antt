@@ -1,0 +1,5 @@
+pub mod Sent
+pub mod Rule
+pub mod Log
+pub mod Steps
+pub mod Ends

@@ -1,0 +1,63 @@
+-- The rule of a queue: what holds at every moment of the messages that are queued and of what the
+-- passes know.
+use Rattle.std.specs.Prelude.{◌≡◌, ℕ, ◌<◌, ◌≤◌, Bool, List, [], ◌++◌, length, ⊤}
+use mathlib.Core.Option.{Option, some, none}
+use lib.ListN.{get_elem?}
+use Rattle.relay_action.specs.declared.mail.Mail.{Mail}
+use Rattle.relay_queue.specs.declared.rule.SentList.{SentList}
+use Rattle.relay_queue.specs.declared.rule.Knowledge.{Knowledge}
+use Rattle.relay_queue.specs.declared.rule.Knowledge.TheVariants.{Sender, Taker, Met}
+use Rattle.relay_queue.specs.Sent.{mail_of, HasDone, ClosedAs, IsWellSent}
+
+-- what stands behind the passes: how many places the queue has, the number of the taker's pass, that
+-- of the pass of each sender that was not met, the messages taken, and the log
+pub record History : Type 0 where
+  pub capacity : ℕ
+  pub taker : ℕ
+  pub pass_of : ℕ → Option ℕ
+  pub taken : List Mail
+  pub log : List Mail
+
+-- a sender's pass is the only one of that sender; what it knows to be sent is what the log holds of
+-- the sender, and Done is among it where the sender closed, and only there
+pub record FitsSender (history : History) (pass capacity sender : ℕ) (sent : List Mail) (closed : Bool) : Type 0 where
+  pub places : capacity ≡ history.capacity
+  pub own : history.pass_of sender ≡ some pass
+  pub all : sent ≡ mail_of sender history.log
+  pub done : ClosedAs closed sent
+
+-- a sender that was not made yet has no pass and sent nothing
+pub record IsUnmade (history : History) (sender : ℕ) : Type 0 where
+  pub no_pass : history.pass_of sender ≡ none
+  pub nothing : mail_of sender history.log ≡ []
+
+-- a sender that was met has no pass any more, closed, and sent what the log holds of it
+pub record WasMet (history : History) (senders : ℕ) (met : SentList) : Type 0 where
+  pub made : met.sender < senders
+  pub no_pass : history.pass_of met.sender ≡ none
+  pub all : met.sent ≡ mail_of met.sender history.log
+  pub done : HasDone met.sent
+
+-- the taker's pass is the only one of its kind; it knows what was taken, that later senders are not
+-- made, and what the senders sent that it met
+pub record FitsTaker (history : History) (pass capacity senders : ℕ) (taken : List Mail) (met : List SentList) : Type 0 where
+  pub places : capacity ≡ history.capacity
+  pub own : pass ≡ history.taker
+  pub front : taken ≡ history.taken
+  pub later : (sender : ℕ) → senders ≤ sender → IsUnmade history sender
+  pub closed : (i : ℕ) (m : SentList) → get_elem? met i ≡ some m → WasMet history senders m
+
+-- what the pass knows is true
+abbrev pub Fits : History → ℕ → Knowledge → Type 0
+Fits history pass (Sender capacity sender sent closed) = FitsSender history pass capacity sender sent closed
+Fits history pass (Taker capacity senders taken met) = FitsTaker history pass capacity senders taken met
+Fits history pass Met = ⊤
+
+-- the rule: there is a log, what was taken and then what is queued; what it holds of each sender is
+-- well sent; no more is queued than there are places; and what each pass knows is true
+pub record Delivers (queued : List Mail) (passes : List Knowledge) : Type 0 where
+  pub history : History
+  pub in_log : history.log ≡ history.taken ++ queued
+  pub well_sent : (sender : ℕ) → IsWellSent (mail_of sender history.log)
+  pub within : length queued ≤ history.capacity
+  pub known : (pass : ℕ) (v : Knowledge) → get_elem? passes pass ≡ some v → Fits history pass v

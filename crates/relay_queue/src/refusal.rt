@@ -1,0 +1,18 @@
+//! Why a message is not handed over.
+use thiserror::Error;
+
+/// The other end of the queue is dropped. When this comes is not promised.
+#[derive(Clone, Copy, Debug, PartialEq, Eq, Error)]
+#[error("Gone")]
+pub struct Gone;
+
+/// Why a put sent nothing.
+#[derive(Clone, Copy, Debug, PartialEq, Eq, Error)]
+pub enum PutRefusal {
+    /// The taker is dropped. When this comes is not promised.
+    #[error("Gone")]
+    Gone,
+    /// This sender has put 2^40 messages, the most that one sender puts.
+    #[error("Spent")]
+    Spent,
+}

@@ -1,0 +1,153 @@
+//! The rule of a queue, which its channel keeps at every moment, and the kinds of step that keep it.
+ghost use Rattle.std.specs.Prelude.{ℕ, List};
+ghost use Rattle.relay_action.specs.declared.mail.Mail.{Mail};
+ghost use Rattle.relay_queue.specs.declared.rule.Knowledge.{Knowledge};
+ghost use Rattle.relay_queue.specs.Rule.{Delivers};
+ghost use Rattle.relay_queue.specs.Log.{HasLog};
+
+use crossbeam_channel::protocol::{Join, Lesson, Outcome, Protocol, Split};
+use crossbeam_channel::{Pass, RuledReceiver, RuledSender};
+use relay_action::Mail;
+use std::collections::LinkedList;
+use std::marker::{Brand, PhantomData};
+
+/// What a sender had sent when its closed end was met. No value of it is made.
+pub struct SentList {
+    /// The sender's number.
+    pub sender: u64,
+    /// Its messages, in their order.
+    pub sent: LinkedList<Mail>,
+}
+
+/// What the pass of an end knows. No value of it is made: it stands in proofs alone.
+pub enum Knowledge {
+    /// A sender's end knows how many places the queue has, its number, what it sent, and whether it
+    /// closed.
+    Sender(u64, u64, LinkedList<Mail>, bool),
+    /// The taker's end knows how many places the queue has, how many senders were made, what it took,
+    /// and what the senders sent whose closed ends it met.
+    Taker(u64, u64, LinkedList<Mail>, LinkedList<SentList>),
+    /// The pass of a closed end that was met knows nothing any more.
+    Met,
+}
+
+/// A token of no bytes that an end holds for each of its steps.
+pub type MailPass = Pass<Mail, Knowledge>;
+
+/// The channel's end for sending.
+pub type MailSender = RuledSender<Mail, Knowledge, Delivery>;
+
+/// The channel's end for taking.
+pub type MailReceiver = RuledReceiver<Mail, Knowledge, Delivery>;
+
+/// The rule.
+pub struct Delivery;
+
+impl Protocol<Mail, Knowledge> for Delivery {
+    ghost use Rattle.std.specs.Prelude.{[]};
+    ghost use Rattle.relay_queue.specs.declared.rule.Knowledge.TheVariants.{Taker};
+    ghost use Rattle.relay_queue.specs.Rule.{Delivers};
+
+    ghost holds = { Delivers };
+
+    ghost first = { Taker 0 0 [] [] };
+}
+
+/// The law of the log: at every moment what was taken and then what is queued holds of each sender
+/// exactly the list that it sent, numbered from 1, with Done last and only where it closed, and no more
+/// is queued than the queue has places. It does nothing: its contract reads the rule, which the channel
+/// keeps at every step, for people.
+pub fn law_of_the_log()
+    ensures { (queued : List Mail) (passes : List Knowledge)
+        → Delivers queued passes → HasLog queued passes }
+{}
+
+/// How many places a queue has, picked where its senders are made.
+pub trait Places {
+    ghost places: { ℕ };
+}
+
+impl Places for Brand {
+    ghost places = { 0 };
+}
+
+/// The step that splits a new sender's pass off the taker's.
+pub struct Splits<K> {
+    places: PhantomData<K>,
+}
+
+impl<K: Places> Split<Knowledge> for Splits<K> {
+    ghost use Rattle.relay_queue.specs.Steps.{with_sender, new_sender};
+
+    ghost left = { with_sender K.places };
+
+    ghost right = { new_sender K.places };
+}
+
+/// The step that joins the pass of a closed end into the taker's.
+pub struct Meets;
+
+impl Join<Knowledge> for Meets {
+    ghost use Rattle.relay_queue.specs.declared.rule.Knowledge.TheVariants.{Met};
+    ghost use Rattle.relay_queue.specs.Steps.{with_met};
+
+    ghost both = { with_met };
+
+    ghost spent = { Met };
+}
+
+/// The step that sends a message other than Done.
+pub struct Puts;
+
+impl Outcome<Mail, Knowledge> for Puts {
+    ghost use Rattle.std.specs.Prelude.{false};
+    ghost use Rattle.relay_queue.specs.Steps.{Sends};
+
+    ghost then = { Sends false };
+}
+
+impl Lesson<Mail, Knowledge> for Puts {
+    ghost use Rattle.std.specs.Prelude.{⊤};
+
+    ghost fact = { λ v queued. ⊤ };
+}
+
+/// The step that sends Done.
+pub struct Closes;
+
+impl Outcome<Mail, Knowledge> for Closes {
+    ghost use Rattle.std.specs.Prelude.{true};
+    ghost use Rattle.relay_queue.specs.Steps.{Sends};
+
+    ghost then = { Sends true };
+}
+
+impl Lesson<Mail, Knowledge> for Closes {
+    ghost use Rattle.std.specs.Prelude.{⊤};
+
+    ghost fact = { λ v queued. ⊤ };
+}
+
+/// The step that takes the message at the front.
+pub struct Takes;
+
+impl Outcome<Mail, Knowledge> for Takes {
+    ghost use Rattle.relay_queue.specs.Steps.{Receives};
+
+    ghost then = { Receives };
+}
+
+impl Lesson<Mail, Knowledge> for Takes {
+    ghost use Rattle.std.specs.Prelude.{⊤};
+
+    ghost fact = { λ v queued. ⊤ };
+}
+
+/// What the taker's pass reads of the queue.
+pub struct Reads;
+
+impl Lesson<Mail, Knowledge> for Reads {
+    ghost use Rattle.relay_queue.specs.Steps.{Learns};
+
+    ghost fact = { Learns };
+}

@@ -1,0 +1,147 @@
+//! The ends of the senders.
+ghost use Rattle.std.specs.Prelude.{◌≡◌, ◌≢◌, ◌+◌, ◌≤◌, ◌^◌, ◌↔◌, [], ◌∷◌, ◌++◌, length, IfOk, IfErr, OnOk, IsErrAnd};
+ghost use Rattle.relay_queue.specs.Sent.{message, IsWellSent, HasDone};
+
+use crate::refusal::{Gone, PutRefusal};
+use crate::rule::{Closes, MailPass, MailSender, Puts};
+use crossbeam_channel::SendError;
+use relay_action::{Body, Mail};
+use std::marker::Model;
+use std::sync::Wait;
+
+/// The most messages that one sender puts: 2^40, its Done not counted.
+pub const PUT_LIMIT: u64 = 1 << 40;
+
+/// A sender's end of a queue. Contracts see its queue, its number and the list of what it sent.
+///
+/// While one is not dropped, the taker learns of no disconnect.
+#[derive(Drop)]
+pub struct LanePut {
+    pub(crate) channel: MailSender,
+    pub(crate) pass: MailPass,
+    pub(crate) sender: u32,
+    pub(crate) count: u64,
+}
+
+impl Model for LanePut {
+    ghost use Rattle.std.specs.Prelude.{◌≡◌, ◌≤◌, ◌^◌, length, false};
+    ghost use Rattle.crossbeam_channel.specs.Claims.{view as known_by, IsSeatAt};
+    ghost use Rattle.crossbeam_channel.specs.Ends.{sends_on, ruled_capacity};
+    ghost use Rattle.relay_queue.specs.Ends.{SenderEnd, queue_of};
+    ghost use Rattle.relay_queue.specs.Steps.{IsSender, capacity_of, sender_of, sent_of};
+
+    ghost Value = { SenderEnd };
+
+    ghost view = { λ a. record {
+      queue = queue_of a.pass;
+      sender = a.sender;
+      sent = sent_of (known_by a.pass);
+    } };
+
+    ghost invariant = { λ a. IsSeatAt (sends_on a.channel) a.pass
+        × IsSender false (known_by a.pass)
+        × (capacity_of (known_by a.pass) ≡ ruled_capacity (sends_on a.channel))
+        × (sender_of (known_by a.pass) ≡ a.sender)
+        × (length (sent_of (known_by a.pass)) ≡ a.count)
+        × (a.count ≤ 2 ^ 40) };
+}
+
+impl LanePut {
+    /// Sends a message other than Done, and answers its number: this sender's messages are numbered
+    /// from 1. It waits while the queue is full, and takes no memory.
+    ///
+    /// Both refusals send nothing and hand the body back. `Spent` comes exactly where this sender has
+    /// put 2^40 messages, before anything is sent. `Gone` says that the taker is dropped; when it comes
+    /// is not promised.
+    pub fn put<R: Wait>(&mut self, rt: &R, body: Body) -> Result<u64, (PutRefusal, Body)>
+        requires { body ≢ Body.Done }
+        ensures same { (self.new.queue ≡ self.old.queue) × (self.new.sender ≡ self.old.sender) }
+        ensures number { IfOk result (λ n. n ≡ length self.old.sent + 1) }
+        ensures sent { IfOk result
+            (λ n. self.new.sent ≡ self.old.sent ++ message self.old.sender n body ∷ []) }
+        ensures in_order { OnOk result (IsWellSent self.new.sent) }
+        ensures no_done { OnOk result (¬ HasDone self.new.sent) }
+        ensures limit { OnOk result (length self.new.sent ≤ 2 ^ 40) }
+        ensures refused { IfErr result (λ e. (e.1 ≡ body) × (self.new ≡ self.old)) }
+        ensures spent { IsErrAnd result (λ e. e.0 ≡ PutRefusal.Spent)
+            ↔ (length self.old.sent ≡ 2 ^ 40) }
+    {
+        if self.count >= PUT_LIMIT {
+            return Err((PutRefusal::Spent, body));
+        }
+        let number = self.count + 1;
+        let mail = Mail {
+            sender: self.sender,
+            number,
+            body,
+        };
+        match self.channel.send_as::<Puts, R>(rt, &mut self.pass, mail) {
+            Ok(()) => {
+                self.count = number;
+                Ok(number)
+            }
+            Err(SendError::Disconnected(mail)) => Err((PutRefusal::Gone, mail.body)),
+            Err(SendError::OutOfMemory(_)) => unreachable!(),
+        }
+    }
+
+    /// Sends Done, the sender's last message, also where a put would be `Spent`. It waits while the
+    /// queue is full, and takes no memory. `Gone` says that the taker is dropped: nothing was sent, and
+    /// the end comes back; when it comes is not promised.
+    pub fn close<R: Wait>(mut self, rt: &R) -> Result<ClosedPut, (Gone, LanePut)>
+        ensures closed { IfOk result (λ p. p ≡ record self {
+          sent = self.sent ++ message self.sender (length self.sent + 1) Body.Done ∷ [];
+        }) }
+        ensures in_order { IfOk result (λ p. IsWellSent p.sent) }
+        ensures gone { IfErr result (λ e. e.1 ≡ self) }
+    {
+        let mail = Mail {
+            sender: self.sender,
+            number: self.count + 1,
+            body: Body::Done,
+        };
+        match self.channel.send_as::<Closes, R>(rt, &mut self.pass, mail) {
+            Ok(()) => {
+                let LanePut {
+                    channel,
+                    pass,
+                    sender: _,
+                    count: _,
+                } = self;
+                Ok(ClosedPut { channel, pass })
+            }
+            Err(SendError::Disconnected(_)) => Err((Gone, self)),
+            Err(SendError::OutOfMemory(_)) => unreachable!(),
+        }
+    }
+}
+
+/// The end of a sender that has closed, which is met by what the taker took. Contracts see it as they
+/// see a [`LanePut`].
+///
+/// It keeps its end of the channel, by which it is met: while one is not dropped, the taker learns of
+/// no disconnect.
+#[derive(Drop)]
+pub struct ClosedPut {
+    pub(crate) channel: MailSender,
+    pub(crate) pass: MailPass,
+}
+
+impl Model for ClosedPut {
+    ghost use Rattle.std.specs.Prelude.{true};
+    ghost use Rattle.crossbeam_channel.specs.Claims.{view as known_by, IsSeatAt};
+    ghost use Rattle.crossbeam_channel.specs.Ends.{sends_on};
+    ghost use Rattle.relay_queue.specs.Ends.{SenderEnd, queue_of};
+    ghost use Rattle.relay_queue.specs.Steps.{IsSender, sender_of, sent_of};
+
+    ghost Value = { SenderEnd };
+
+    ghost view = { λ a. record {
+      queue = queue_of a.pass;
+      sender = sender_of (known_by a.pass);
+      sent = sent_of (known_by a.pass);
+    } };
+
+    ghost invariant = { λ a. IsSeatAt (sends_on a.channel) a.pass
+        × IsSender true (known_by a.pass) };
+}

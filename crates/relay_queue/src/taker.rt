@@ -1,0 +1,114 @@
+//! The end of the taker.
+ghost use Rattle.std.specs.Prelude.{◌≡◌, ◌<◌, ◌≤◌, ℕ, List, [], ◌∷◌, ◌++◌, length, IfOk, IfErr};
+ghost use Rattle.relay_action.specs.declared.mail.Mail.{Mail};
+ghost use Rattle.relay_queue.specs.Sent.{mail_of, HasDone, IsWellSent};
+
+use crate::refusal::Gone;
+use crate::rule::{MailPass, MailReceiver, Meets, Reads, Takes};
+use crate::sender::ClosedPut;
+use relay_action::Mail;
+use std::marker::Model;
+use std::sync::Wait;
+
+/// The taker's end of a queue. Contracts see its queue, how many senders that has, and the list of
+/// what was taken.
+#[derive(Drop)]
+pub struct LaneTake {
+    pub(crate) channel: MailReceiver,
+    pub(crate) pass: MailPass,
+}
+
+impl Model for LaneTake {
+    ghost use Rattle.crossbeam_channel.specs.Claims.{view as known_by, IsSeatAt};
+    ghost use Rattle.crossbeam_channel.specs.Ends.{receives_on};
+    ghost use Rattle.relay_queue.specs.Ends.{TakerEnd, queue_of};
+    ghost use Rattle.relay_queue.specs.Steps.{IsTaker, senders_of, taken_of};
+
+    ghost Value = { TakerEnd };
+
+    ghost view = { λ a. record {
+      queue = queue_of a.pass;
+      senders = senders_of (known_by a.pass);
+      taken = taken_of (known_by a.pass);
+    } };
+
+    ghost invariant = { λ a. IsSeatAt (receives_on a.channel) a.pass × IsTaker (known_by a.pass) };
+}
+
+impl LaneTake {
+    /// Takes the message at the front. It waits while nothing is queued, and takes no memory. What was
+    /// taken of each sender is in that sender's order, numbered from 1, and nothing comes after its
+    /// Done; between senders no order is promised.
+    ///
+    /// `Gone` says that all ends of senders are dropped, the closed ones too, and nothing is queued; it
+    /// takes nothing, and when it comes is not promised.
+    pub fn take<R: Wait>(&mut self, rt: &R) -> Result<Mail, Gone>
+        ensures same { (self.new.queue ≡ self.old.queue) × (self.new.senders ≡ self.old.senders) }
+        ensures taken { IfOk result (λ m. self.new.taken ≡ self.old.taken ++ m ∷ []) }
+        ensures sender { IfOk result (λ m. m.sender < self.old.senders) }
+        ensures in_order { IfOk result
+            (λ _. (sender : ℕ) → IsWellSent (mail_of sender self.new.taken)) }
+        ensures gone { IfErr result (λ _. self.new ≡ self.old) }
+    {
+        match self.channel.recv_as::<Takes, R>(rt, &mut self.pass) {
+            Ok(mail) => Ok(mail),
+            Err(_) => Err(Gone),
+        }
+    }
+
+    /// Takes no more. What is queued is dropped with the last end of the queue.
+    pub fn end(self) -> Taken
+        ensures { result ≡ self }
+    {
+        let LaneTake { channel, pass } = self;
+        drop(channel);
+        Taken { pass }
+    }
+}
+
+/// What a taker took that has ended. Contracts see it as they see a [`LaneTake`].
+#[derive(Drop)]
+pub struct Taken {
+    pass: MailPass,
+}
+
+impl Model for Taken {
+    ghost use Rattle.std.specs.Prelude.{◌≡◌, []};
+    ghost use Rattle.crossbeam_channel.specs.Claims.{view as known_by};
+    ghost use Rattle.relay_queue.specs.Ends.{TakerEnd, queue_of};
+    ghost use Rattle.relay_queue.specs.Steps.{IsTaker, senders_of, taken_of};
+
+    ghost Value = { TakerEnd };
+
+    ghost view = { λ a. record {
+      queue = queue_of a.pass;
+      senders = senders_of (known_by a.pass);
+      taken = taken_of (known_by a.pass);
+    } };
+
+    ghost invariant = { λ a. (a.pass.me.1 ≡ []) × IsTaker (known_by a.pass) };
+}
+
+impl Taken {
+    /// Compares what was taken with what a closed sender of the same queue sent. This tells, for
+    /// proofs alone, that the taker took a front of what that sender sent, that the rest is no longer
+    /// than the queue has places, and that there is none where Done was taken. It takes no memory.
+    pub fn meet(mut self, closed: ClosedPut) -> Taken
+        requires { self.queue ≡ closed.queue }
+        ensures same { result ≡ self }
+        ensures sender { closed.sender < self.senders }
+        ensures in_order { IsWellSent closed.sent }
+        ensures done { HasDone closed.sent }
+        ensures log { (queued : List Mail) × (length queued ≤ self.queue.capacity)
+            × (closed.sent ≡ mail_of closed.sender (self.taken ++ queued)) }
+        ensures front { (rest : List Mail) × (length rest ≤ self.queue.capacity)
+            × (closed.sent ≡ mail_of closed.sender self.taken ++ rest) }
+        ensures whole { HasDone (mail_of closed.sender self.taken)
+            → mail_of closed.sender self.taken ≡ closed.sent }
+    {
+        let ClosedPut { channel, pass } = closed;
+        channel.absorb::<Meets>(&mut self.pass, pass);
+        channel.learn_as::<Reads>(&mut self.pass);
+        self
+    }
+}
