@@ -1,0 +1,8 @@
+use Rattle.relay_results.proofs.Excluded.{may_always_run, not_applied_again}
+use Rattle.relay_results.proofs.laws.runs_apply_once.Goals as goal
+
+pub returns-clause-always : goal.returns-clause-always
+returns-clause-always c = may_always_run
+
+pub returns-clause-once : goal.returns-clause-once
+returns-clause-once c = not_applied_again

@@ -1,0 +1,63 @@
+-- Documents, actions, writes and operations as plain data, and when two of them are the same.
+use Rattle.std.specs.Prelude.{ℕ, List, Option, Some, None, Bool, true, false, ◌==◌, ◌&&◌, bytes_eq, codes}
+use Rattle.relay_action.specs.declared.key.DocKey.{DocKey}
+use Rattle.relay_action.specs.declared.action.Action.{Action}
+use Rattle.relay_action.specs.declared.action.Action.TheVariants.{Index, Delete}
+use Rattle.relay_action.specs.declared.action.ActionKind.{ActionKind}
+use Rattle.relay_action.specs.declared.action.ActionKind.TheVariants as kind
+use Rattle.relay_action.specs.declared.write.Write.{Write}
+use Rattle.relay_action.specs.declared.operation.Op.{Op}
+use Rattle.relay_action.specs.declared.operation.OpName.{OpName}
+
+-- a document: the name of its index, and its id
+pub record Document : Type 0 where
+  pub index : List ℕ
+  pub id : List ℕ
+
+abbrev pub document_of : DocKey → Document
+document_of key = record { index = key.index; id = key.id }
+
+-- the two documents are one
+abbrev pub same_document : Document → Document → Bool
+same_document a b = bytes_eq a.index b.index && bytes_eq a.id b.id
+
+-- what an action stores: the text of its source, or nothing where it deletes
+abbrev pub source_of : Action → Option (List ℕ)
+source_of (Index source) = Some source.text
+source_of Delete = None
+
+abbrev pub same_source : Option (List ℕ) → Option (List ℕ) → Bool
+same_source None None = true
+same_source None (Some t) = false
+same_source (Some s) None = false
+same_source (Some s) (Some t) = bytes_eq s t
+
+-- a kind of action, and the name that the bulk API has for it
+abbrev pub is_delete : ActionKind → Bool
+is_delete kind.Index = false
+is_delete kind.Delete = true
+
+abbrev pub same_kind : ActionKind → ActionKind → Bool
+same_kind kind.Index kind.Index = true
+same_kind kind.Index kind.Delete = false
+same_kind kind.Delete kind.Index = false
+same_kind kind.Delete kind.Delete = true
+
+abbrev pub kind_name : ActionKind → List ℕ
+kind_name kind.Index = codes "index"
+kind_name kind.Delete = codes "delete"
+
+-- the two writes have one version, one document and one action
+abbrev pub same_write : Write → Write → Bool
+same_write x y = (x.version == y.version) && (same_document (document_of x.key) (document_of y.key) && same_source (source_of x.action) (source_of y.action))
+
+-- the two operations have one name, one document and one action
+abbrev pub same_op : Op → Op → Bool
+same_op a b = ((a.producer == b.producer) && (a.number == b.number)) && (same_document (document_of a.key) (document_of b.key) && same_source (source_of a.action) (source_of b.action))
+
+-- the name of an operation, and the write that it asks for, under a version
+abbrev pub name_of : Op → OpName
+name_of o = record { producer = o.producer; number = o.number }
+
+abbrev pub write_for : Op → ℕ → Write
+write_for o version = record { key = o.key; version = version; action = o.action }

@@ -1,0 +1,85 @@
+-- What the index did with an item, and the text of a reply.
+use Rattle.std.specs.Prelude.{ℕ, ◌≤◌, List, [], ◌∷◌, codes, map, Option, None, Some, is_some, Bool}
+use Rattle.std.specs.List.{list_any}
+use Rattle.serde_json.specs.Data.{Data, boolean, number, string, array, object, unsigned, Items, no_items, item, Members, member, no_members}
+use Rattle.serde_json.specs.Written.{compact_text}
+use Rattle.relay_results.specs.declared.outcome.Outcome.{Outcome}
+use Rattle.relay_results.specs.declared.done.DoneResult.{DoneResult}
+use Rattle.relay_results.specs.declared.done.DoneResult.TheVariants as done
+use Rattle.relay_results.specs.declared.done.ItemDone.{ItemDone}
+use Rattle.relay_results.specs.Documents.{kind_name}
+
+-- the type of the error of a result, where nothing was done
+abbrev pub failure : DoneResult → Option (List ℕ)
+failure done.Created = None
+failure done.Updated = None
+failure done.Deleted = None
+failure done.NotFound = None
+failure done.Conflict = Some (codes "version_conflict_engine_exception")
+failure done.Refused = Some (codes "scripted_refusal")
+
+-- the name of a result where the write was applied (OpenSearch, bulk API, response)
+abbrev pub result_name : DoneResult → List ℕ
+result_name done.Created = codes "created"
+result_name done.Updated = codes "updated"
+result_name done.Deleted = codes "deleted"
+result_name done.NotFound = codes "not_found"
+result_name done.Conflict = []
+result_name done.Refused = []
+
+-- what a reply says of an item
+abbrev pub outcome_of : ItemDone → Outcome
+outcome_of d = record { kind = d.kind; id = d.key.id; status = d.status; error = failure d.result }
+
+abbrev pub outcomes_of : List ItemDone → List Outcome
+outcomes_of [] = []
+outcomes_of (d ∷ ds) = outcome_of d ∷ outcomes_of ds
+
+-- ---- the text of a reply, with its keys in byte order
+
+-- what stands in an entry: of an item that was applied, and of one that was not
+abbrev pub applied_fields : ItemDone → Members
+applied_fields d =
+    member (codes "_id") (string d.key.id)
+    (member (codes "_index") (string d.key.index)
+    (member (codes "_seq_no") (number (unsigned d.seq))
+    (member (codes "_version") (number (unsigned d.version))
+    (member (codes "result") (string (result_name d.result))
+    (member (codes "status") (number (unsigned d.status)) no_members)))))
+
+abbrev pub failed_fields : ItemDone → List ℕ → Members
+failed_fields d error =
+    member (codes "_id") (string d.key.id)
+    (member (codes "_index") (string d.key.index)
+    (member (codes "error") (object (member (codes "type") (string error) no_members))
+    (member (codes "status") (number (unsigned d.status)) no_members)))
+
+abbrev pub fields_by : ItemDone → Option (List ℕ) → Members
+fields_by d None = applied_fields d
+fields_by d (Some error) = failed_fields d error
+
+-- the entry of an item: one member, named by its action
+abbrev pub entry_data : ItemDone → Data
+entry_data d = object (member (kind_name d.kind) (object (fields_by d (failure d.result))) no_members)
+
+abbrev pub entries_data : List ItemDone → Items
+entries_data [] = no_items
+entries_data (d ∷ ds) = item (entry_data d) (entries_data ds)
+
+-- nothing was done for the item
+abbrev pub is_failure : ItemDone → Bool
+is_failure d = is_some (failure d.result)
+
+abbrev pub reply_data : ℕ → List ItemDone → Data
+reply_data took ds =
+    object (member (codes "errors") (boolean (list_any is_failure ds))
+    (member (codes "items") (array (entries_data ds))
+    (member (codes "took") (number (unsigned took)) no_members)))
+
+unfoldable pub reply_text : ℕ → List ItemDone → List ℕ
+reply_text took ds = compact_text (reply_data took ds)
+
+-- each status is one that an entry may have
+abbrev pub HaveStatuses : List ItemDone → Type 0
+HaveStatuses [] = Unit {0}
+HaveStatuses (d ∷ ds) = (100 ≤ d.status) × (d.status ≤ 599) × HaveStatuses ds

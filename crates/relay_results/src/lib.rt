@@ -1,0 +1,24 @@
+//! What comes back for a bulk request, and what it says of the operations that the request carried:
+//! replies read and written, whether a reply is one to a request, and the verdict on each item. It
+//! stands on `relay_action`.
+//!
+//! Its `specs/` hold what all promises on delivery speak of: the sent requests, what the index does with
+//! them, the answers, and what is true of an operation.
+#![tactic(auto)]
+
+pub mod decide;
+pub mod done;
+pub mod laws;
+pub mod outcome;
+pub mod pairing;
+pub mod reading;
+#[cfg(test)]
+mod tests;
+pub mod writing;
+
+pub use decide::{ItemVerdict, verdict};
+pub use done::{DoneResult, ItemDone};
+pub use outcome::Outcome;
+pub use pairing::matches;
+pub use reading::{ERROR_LIMIT, ReplyFault, read_reply};
+pub use writing::write_reply;

@@ -1,0 +1,99 @@
+//! Replies written.
+ghost use Rattle.std.specs.Prelude.{◌≡◌, IfOk, string_bytes};
+ghost use Rattle.serde_json.specs.Data.{object, array};
+ghost use Rattle.serde_json.specs.View.{view, items_view};
+ghost use Rattle.std.specs.List.{list_any};
+ghost use Rattle.relay_results.specs.Done.{failure, result_name, fields_by, entry_data, entries_data, is_failure, reply_data, reply_text, outcomes_of, HaveStatuses};
+ghost use Rattle.relay_results.specs.Replies.{IsReply};
+
+use crate::done::{DoneResult, ItemDone};
+use relay_action::ActionKind;
+use serde_json::{Value, json};
+use std::alloc::{AllocError, Global};
+
+// The name of a result where the write was applied.
+fn result_name(result_of: DoneResult) -> &'static str
+    ensures { result.now ≡ result_name result_of }
+{
+    match result_of {
+        DoneResult::Created => "created",
+        DoneResult::Updated => "updated",
+        DoneResult::Deleted => "deleted",
+        DoneResult::NotFound => "not_found",
+        DoneResult::Conflict | DoneResult::Refused => "",
+    }
+}
+
+// What stands in the entry of an item.
+fn fields_value(alloc: Global, done: &ItemDone) -> Result<Value, AllocError>
+    ensures { IfOk result (λ v. view v ≡ object (fields_by done.now (failure done.now.result))) }
+{
+    let id = done.key.id();
+    let index = done.key.index();
+    let status = done.status;
+    match done.result.failure() {
+        Some(error) =>
+            json!(in alloc; {"_id": id, "_index": index, "error": {"type": error}, "status": status}),
+        None => {
+            let seq = done.seq;
+            let version = done.version;
+            let name = result_name(done.result);
+            json!(in alloc; {"_id": id, "_index": index, "_seq_no": seq, "_version": version, "result": name, "status": status})
+        }
+    }
+}
+
+// The entry of an item.
+fn entry_value(alloc: Global, done: &ItemDone) -> Result<Value, AllocError>
+    ensures { IfOk result (λ v. view v ≡ entry_data done.now) }
+{
+    let fields = fields_value(alloc, done)?;
+    match done.kind {
+        ActionKind::Index => json!(in alloc; {"index": fields}),
+        ActionKind::Delete => json!(in alloc; {"delete": fields}),
+    }
+}
+
+// The entries of items.
+fn entries_value(alloc: Global, items: &[ItemDone]) -> Result<Value, AllocError>
+    ensures { IfOk result (λ v. view v ≡ array (entries_data items.now)) }
+{
+    let mut entries = Vec::with_capacity(alloc, items.len())?;
+    for done in items {
+        entries.push(entry_value(alloc, done)?)?;
+    }
+    Ok(Value::Array(entries))
+}
+
+// Whether nothing was done for one of the items.
+fn has_failure(items: &[ItemDone]) -> bool
+    ensures { result ≡ list_any is_failure items.now }
+{
+    items.iter().any(|done| done.result.failure().is_some())
+}
+
+// What a reply says.
+fn reply_value(alloc: Global, took: u64, items: &[ItemDone]) -> Result<Value, AllocError>
+    ensures { IfOk result (λ v. view v ≡ reply_data took items.now) }
+{
+    let errors = has_failure(items);
+    let entries = entries_value(alloc, items)?;
+    json!(in alloc; {"errors": errors, "items": entries, "took": took})
+}
+
+/// The reply to a request whose items these are, in their order: one line of JSON with no space and its keys
+/// in byte order, `{"errors":B,"items":[..],"took":N}` (OpenSearch, bulk API, response). `took` is a number of
+/// milliseconds, and `errors` is true where an item is `Conflict` or `Refused`. An item that was applied has
+/// `_id`, `_index`, `_seq_no`, `_version`, `result` and `status`, any other `_id`, `_index`, `error` and
+/// `status`. Where each status is from 100 to 599, reading it gives the outcome of each item. `AllocError`:
+/// there was no memory for it.
+#[tactic(auto, unfolding(crate::specs::Done::reply_text))]
+pub fn write_reply(alloc: Global, took: u64, items: &[ItemDone]) -> Result<String, AllocError>
+    ensures text { IfOk result (λ s. string_bytes s ≡ reply_text took items.now) }
+    ensures reads_back { IfOk result (λ s. HaveStatuses items.now
+        → IsReply (string_bytes s) (outcomes_of items.now)) }
+{
+    let value = reply_value(alloc, took, items)?;
+    let text = value.to_string(alloc)?;
+    Ok(text)
+}
