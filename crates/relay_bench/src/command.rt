@@ -15,7 +15,7 @@ const MOST: u64 = 1_000_000_000;
 
 // A run of the queue that the program measures.
 #[derive(Clone, Copy)]
-struct QueueTask {
+pub(crate) struct QueueTask {
     senders: u32,
     capacity: u32,
     count: u64,
@@ -26,7 +26,7 @@ struct QueueTask {
 
 // What a command line asks for.
 #[derive(Clone, Copy)]
-enum Task {
+pub(crate) enum Task {
     Nothing,
     Queue(QueueTask),
     Replies(u64),
@@ -55,7 +55,7 @@ fn queue_task(senders: &str, capacity: &str, count: &str) -> Option<Task> {
 }
 
 // What the words of a command line ask for, the program's name among them.
-fn task_of(words: &[String]) -> Option<Task> {
+pub(crate) fn task_of(words: &[String]) -> Option<Task> {
     match words {
         [] | [_] => Some(Task::Nothing),
         [_, name, turns] if name.as_str() == "replies" => {

@@ -10,6 +10,8 @@ mod fault;
 mod queue;
 mod rate;
 mod replies;
+#[cfg(test)]
+mod tests;
 
 use std::process::ExitCode;
 
