@@ -1,111 +1,39 @@
-"""Measures `relay lines` beside other programs on the same input, all in one run. Only the ratios count."""
+"""Measures the project's programs beside others, all in one run. Only the ratios count.
+
+`python3 bench/run.py` measures all parts; words behind it name those to be measured: lines, queue, replies.
+"""
 import os
-import shutil
-import subprocess
 import sys
 import tempfile
-import time
+
+import lines_bench
+import queue_bench
+import replies_bench
 
 TOP = os.path.dirname(os.path.dirname(os.path.abspath(__file__)))
 RELAY = os.path.join(TOP, "crates/relay/out/relay")
-TURNS = 5
+RELAY_BENCH = os.path.join(TOP, "crates/relay_bench/out/relay_bench")
 
-JQ = (
-    "foreach inputs as $line ({version: 0, source: false}; "
-    "if .source then {version, source: false, out: $line} "
-    'elif ($line | has("index")) then {version: (.version + 1), source: true, '
-    'out: {index: ($line.index + {version: (.version + 1), version_type: "external"})}} '
-    'else {version: (.version + 1), source: false, '
-    'out: {delete: ($line.delete + {version: (.version + 1), version_type: "external"})}} end; .out)'
-)
-
-
-def build_rust(folder):
-    """The plain Rust program with Debian's serde_json, or None where that is not installed."""
-    registry = "/usr/share/cargo/registry"
-    names = os.listdir(registry) if os.path.isdir(registry) else []
-    if not any(name.startswith("serde_json-") for name in names) or not shutil.which("cargo"):
-        return None
-    package = os.path.join(folder, "plain")
-    os.makedirs(os.path.join(package, "src"))
-    os.makedirs(os.path.join(package, ".cargo"))
-    shutil.copy(os.path.join(TOP, "bench/lines.rs"), os.path.join(package, "src/main.rs"))
-    with open(os.path.join(package, "Cargo.toml"), "w") as file:
-        file.write('[package]\nname = "plain"\nversion = "0.1.0"\nedition = "2021"\n\n[dependencies]\nserde_json = "1"\n')
-    with open(os.path.join(package, ".cargo/config.toml"), "w") as file:
-        file.write('[source.crates-io]\nreplace-with = "debian"\n\n[source.debian]\ndirectory = "%s"\n' % registry)
-    done = subprocess.run(["cargo", "build", "--release", "--offline", "--quiet"], cwd=package)
-    return os.path.join(package, "target/release/plain") if done.returncode == 0 else None
-
-
-def peak_of(pid):
-    """The most memory that a process has held so far, in KiB, or 0 where it has ended."""
-    try:
-        with open("/proc/%d/status" % pid) as file:
-            return next((int(line.split()[1]) for line in file if line.startswith("VmHWM")), 0)
-    except OSError:
-        return 0
-
-
-def once(command, source, out):
-    """Wall seconds and peak memory in KiB of one run. The peak is sampled while the process runs."""
-    with open(source, "rb") as stdin, open(out, "wb") as stdout:
-        start = time.monotonic()
-        process = subprocess.Popen(command, stdin=stdin, stdout=stdout)
-        most = 0
-        while process.poll() is None:
-            most = max(most, peak_of(process.pid))
-            time.sleep(0.002)
-        wall = time.monotonic() - start
-    if process.returncode != 0:
-        sys.exit("%s ended with status %d" % (command[0], process.returncode))
-    return wall, most
-
-
-def same(left, right):
-    return subprocess.run(["cmp", "-s", left, right]).returncode == 0
-
-
-def measure(folder, plain, count, size):
-    source = os.path.join(folder, "input")
-    with open(source, "wb") as file:
-        subprocess.run([sys.executable, os.path.join(TOP, "bench/make_input.py"), str(count), str(size)], stdout=file, check=True)
-    volume = os.path.getsize(source) / 1e6
-    programs = [("relay lines", [RELAY, "lines"]), ("cat", ["cat"]), ("python3", [sys.executable, os.path.join(TOP, "bench/lines.py")])]
-    if plain:
-        programs.insert(1, ("plain Rust", [plain]))
-    if shutil.which("jq"):
-        programs.append(("jq -c", ["jq", "-nc", JQ]))
-    results = {}
-    for turn in range(TURNS):
-        for name, command in programs:
-            if turn > 0 and name in ("python3", "jq -c"):
-                continue
-            out = os.path.join(folder, name.replace(" ", "_"))
-            wall, memory = once(command, source, out)
-            best, most = results.get(name, (wall, memory))
-            results[name] = (min(best, wall), max(most, memory))
-    reference = os.path.join(folder, "relay_lines")
-    if plain and not same(reference, os.path.join(folder, "plain_Rust")):
-        sys.exit("the plain Rust program wrote other bytes than relay lines")
-    print("%d operations, sources of %d bytes, %.1f MB" % (count, size, volume))
-    own = results["relay lines"][0]
-    for name, _ in programs:
-        wall, memory = results[name]
-        print("  %-12s %8.3f s %9.1f MB/s %10.0f operations/s  peak %6d KiB  relay/it %.2f" % (name, wall, volume / wall, count / wall, memory, own / wall))
-    if plain:
-        print("  relay lines takes %.2f of the plain Rust program's time" % (own / results["plain Rust"][0]))
-    else:
-        print("  the plain Rust program was not measured: librust-serde-json-dev is not installed")
+# Each part: its name, the program that it runs and how that is built, and its measurement.
+PARTS = [
+    ("lines", RELAY, "`make build`", lines_bench.measure),
+    ("queue", RELAY_BENCH, "`rt run` in crates/relay_bench", queue_bench.measure),
+    ("replies", RELAY_BENCH, "`rt run` in crates/relay_bench", replies_bench.measure),
+]
 
 
 def main():
-    if not os.path.exists(RELAY):
-        sys.exit("no program: run `make build` first")
-    with tempfile.TemporaryDirectory() as folder:
-        plain = build_rust(folder)
-        measure(folder, plain, 400000, 100)
-        measure(folder, plain, 100000, 1000)
+    wanted = sys.argv[1:] or [name for name, _, _, _ in PARTS]
+    unknown = [word for word in wanted if word not in [name for name, _, _, _ in PARTS]]
+    if unknown:
+        sys.exit("no part %s" % " ".join(unknown))
+    for name, program, command, measure in PARTS:
+        if name not in wanted:
+            continue
+        if not os.path.exists(program):
+            sys.exit("no program for %s: run %s first" % (name, command))
+        with tempfile.TemporaryDirectory() as folder:
+            measure(folder, program)
 
 
 main()

@@ -1,0 +1,47 @@
+"""Builds the plain Rust programs that the benchmark compares with, over Debian's packages of the crates."""
+import os
+import shutil
+import subprocess
+
+BENCH = os.path.dirname(os.path.abspath(__file__))
+REGISTRY = "/usr/share/cargo/registry"
+
+
+def is_installed(crate):
+    """Whether Debian's package of a crate is there, and cargo."""
+    names = os.listdir(REGISTRY) if os.path.isdir(REGISTRY) else []
+    return shutil.which("cargo") is not None and any(name.startswith(crate + "-") for name in names)
+
+
+def build(folder, name, crate):
+    """The program of bench/NAME.rs over one crate, or None where that cannot be built."""
+    if not is_installed(crate):
+        return None
+    package = os.path.join(folder, name)
+    os.makedirs(os.path.join(package, "src"))
+    os.makedirs(os.path.join(package, ".cargo"))
+    shutil.copy(os.path.join(BENCH, name + ".rs"), os.path.join(package, "src/main.rs"))
+    with open(os.path.join(package, "Cargo.toml"), "w") as file:
+        file.write('[package]\nname = "plain"\nversion = "0.1.0"\nedition = "2021"\n\n[dependencies]\n%s = "*"\n' % crate)
+    with open(os.path.join(package, ".cargo/config.toml"), "w") as file:
+        file.write('[source.crates-io]\nreplace-with = "debian"\n\n[source.debian]\ndirectory = "%s"\n' % REGISTRY)
+    done = subprocess.run(["cargo", "build", "--release", "--offline", "--quiet"], cwd=package)
+    return os.path.join(package, "target/release/plain") if done.returncode == 0 else None
+
+
+def best_of(turns, programs):
+    """The best time for each thing of each program, which take turns, and what they tell beside it.
+
+    `programs` has for each name its command and its standard input, or None. A program prints one line: what
+    it did, and behind the last comma the time for each thing. What they did has to be the same.
+    """
+    told, best = {}, {}
+    for _ in range(turns):
+        for name, (command, source) in programs.items():
+            with open(source or os.devnull, "rb") as stdin:
+                line = subprocess.run(command, stdin=stdin, stdout=subprocess.PIPE, check=True, text=True).stdout
+            told[name], _, time = line.strip().rpartition(", ")
+            best[name] = min(best.get(name, float("inf")), float(time.split()[0]))
+    if len(set(told.values())) != 1:
+        raise SystemExit("the programs did different things: %s" % told)
+    return told[name], best

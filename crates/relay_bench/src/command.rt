@@ -1,0 +1,127 @@
+//! The command line.
+ghost use Rattle.std.specs.Prelude.{◌<◌, ◌≤◌, IfSome};
+
+use crate::fault::BenchFault;
+use crate::rate::tenths_each;
+use crate::{queue, replies};
+use std::rt::Env;
+use std::sync::Wait;
+use std::thread::Threads;
+use std::time::Clock;
+use std::{env, io};
+
+// The most messages that a sender puts, and the most readings of a reply.
+const MOST: u64 = 1_000_000_000;
+
+// A run of the queue that the program measures.
+#[derive(Clone, Copy)]
+pub(crate) struct QueueTask {
+    senders: u32,
+    capacity: u32,
+    count: u64,
+    ghost senders_in_range: { (0 < senders) × (senders ≤ 16) },
+    ghost capacity_in_range: { (0 < capacity) × (capacity ≤ 65536) },
+    ghost count_in_range: { (0 < count) × (count ≤ 1000000000) },
+}
+
+// What a command line asks for.
+#[derive(Clone, Copy)]
+pub(crate) enum Task {
+    Nothing,
+    Queue(QueueTask),
+    Replies(u64),
+}
+
+// The number of a word, where it is one from 1 to `most`.
+fn number_of(word: &str, most: u64) -> Option<u64>
+    ensures { IfSome result (λ n. (0 < n) × (n ≤ most)) }
+{
+    match word.parse::<u64>() {
+        Ok(number) if 0 < number && number <= most => Some(number),
+        _ => None,
+    }
+}
+
+// The run that three words name.
+fn queue_task(senders: &str, capacity: &str, count: &str) -> Option<Task> {
+    let senders = number_of(senders, 16)? as u32;
+    let capacity = number_of(capacity, 65_536)? as u32;
+    let count = number_of(count, MOST)?;
+    Some(Task::Queue(QueueTask {
+        senders,
+        capacity,
+        count,
+    }))
+}
+
+// What the words of a command line ask for, the program's name among them.
+pub(crate) fn task_of(words: &[String]) -> Option<Task> {
+    match words {
+        [] | [_] => Some(Task::Nothing),
+        [_, name, turns] if name.as_str() == "replies" => {
+            Some(Task::Replies(number_of(turns.as_str(), MOST)?))
+        }
+        [_, name, senders, capacity, count] if name.as_str() == "queue" => {
+            queue_task(senders.as_str(), capacity.as_str(), count.as_str())
+        }
+        _ => None,
+    }
+}
+
+// Measures the queue, and prints how long each message took.
+fn run_queue<R: Threads + Wait + Clock + Print + AllocGlobal + Copy + Send + 'static>(
+    rt: R,
+    task: QueueTask,
+) -> Result<(), BenchFault> {
+    let QueueTask {
+        senders,
+        capacity,
+        count,
+    } = task;
+    let nanoseconds = queue::measure(rt, rt.alloc(), senders, capacity, count)?;
+    let messages = senders as u64 * (count + 1);
+    let tenths = tenths_each(nanoseconds, messages);
+    println!(rt;
+        "{messages} messages in order, {}.{} ns a message",
+        tenths / 10,
+        tenths % 10
+    )?;
+    Ok(())
+}
+
+// Measures the readings of the reply on standard input, and prints how long each item took.
+fn run_replies<R: Clock + Input + Print + AllocGlobal>(
+    rt: &R,
+    turns: u64,
+) -> Result<(), BenchFault> {
+    let body = io::read_to_string(rt.alloc(), rt.reader())?;
+    let readings = replies::measure(rt, rt.alloc(), body.as_bytes(), turns)?;
+    let items = readings.items.saturating_mul(turns);
+    if items == 0 {
+        return Err(BenchFault::NoItems);
+    }
+    let tenths = tenths_each(readings.nanoseconds, items);
+    println!(rt;
+        "{} items, {} errors, statuses {}, {}.{} ns an item",
+        readings.items,
+        readings.errors,
+        readings.statuses,
+        tenths / 10,
+        tenths % 10
+    )?;
+    Ok(())
+}
+
+/// Does what the process's command line says.
+pub fn run<R>(rt: R) -> Result<(), BenchFault>
+where
+    R: Threads + Wait + Clock + Input + Print + Env + AllocGlobal + Copy + Send + 'static,
+{
+    let words: Vec<String> = env::args(&rt)?.collect(rt.alloc())?;
+    match task_of(words.as_slice()) {
+        Some(Task::Nothing) => Ok(()),
+        Some(Task::Queue(task)) => run_queue(rt, task),
+        Some(Task::Replies(turns)) => run_replies(&rt, turns),
+        None => Err(BenchFault::Usage),
+    }
+}

@@ -1,0 +1,40 @@
+//! Why nothing was measured.
+use relay_results::ReplyFault;
+use std::alloc::AllocError;
+use std::io;
+use thiserror::Error;
+
+/// Why nothing was measured. The text of a variant is what the program prints.
+#[derive(Clone, Copy, Debug, PartialEq, Eq, Error)]
+pub enum BenchFault {
+    /// The command line is not one of the program's.
+    #[error("usage: relay_bench queue SENDERS CAPACITY COUNT | relay_bench replies TURNS < BODY")]
+    Usage,
+    /// A message came out of its sender's order, or not all came.
+    #[error("not all messages came in order")]
+    Disorder,
+    /// The input is no reply.
+    #[error("the input is no reply: {0}")]
+    Reply(ReplyFault),
+    /// The input is a reply without items, of which no time for each can be told.
+    #[error("the reply has no items")]
+    NoItems,
+    /// There was no memory, or no thread could be started.
+    #[error("out of memory")]
+    Memory,
+    /// The arguments, the input, the output or the clock failed.
+    #[error("a call of the system failed")]
+    System,
+}
+
+impl From<AllocError> for BenchFault {
+    fn from(_: AllocError) -> BenchFault {
+        BenchFault::Memory
+    }
+}
+
+impl From<io::Error> for BenchFault {
+    fn from(_: io::Error) -> BenchFault {
+        BenchFault::System
+    }
+}

@@ -1,0 +1,58 @@
+//! The measurements at small sizes, the command line and the quotient.
+use crate::command::{Task, task_of};
+use crate::fault::BenchFault;
+use crate::rate::tenths_each;
+use crate::{queue, replies};
+use relay_results::ReplyFault;
+use std::test::Fail;
+
+#[test]
+fn quotients(rt: HostRuntime) {
+    assert_eq!(rt; tenths_each(1999, 10), 1999);
+    assert_eq!(rt; tenths_each(1999, 1000), 19);
+    assert_eq!(rt; tenths_each(0, 7), 0);
+}
+
+#[test]
+fn words(rt: HostRuntime) -> Result<(), Fail> {
+    let alone = vec![in rt.alloc(); String::from_str(rt.alloc(), "relay_bench")?]?;
+    assert!(rt; matches!(task_of(alone.as_slice()), Some(Task::Nothing)));
+    for (turns, is_task) in [
+        ("1", true),
+        ("0", false),
+        ("-1", false),
+        ("1000000001", false),
+    ] {
+        let words = vec![in rt.alloc();
+            String::from_str(rt.alloc(), "relay_bench")?,
+            String::from_str(rt.alloc(), "replies")?,
+            String::from_str(rt.alloc(), turns)?,
+        ]?;
+        let task = task_of(words.as_slice());
+        assert_eq!(rt; matches!(task, Some(Task::Replies(1))), is_task);
+        assert_eq!(rt; task.is_none(), !is_task);
+    }
+    Ok(())
+}
+
+#[test]
+fn queues(rt: HostRuntime) {
+    assert!(rt; queue::measure(rt, rt.alloc(), 1, 1, 20).is_ok());
+    assert!(rt; queue::measure(rt, rt.alloc(), 3, 4, 50).is_ok());
+}
+
+const REPLY: &str = "{\"took\":1,\"errors\":true,\"items\":[\
+    {\"index\":{\"_id\":\"1\",\"status\":201}},\
+    {\"delete\":{\"_id\":\"2\",\"status\":409,\"error\":{\"type\":\"version_conflict_engine_exception\"}}}]}";
+
+#[test]
+fn readings(rt: HostRuntime) {
+    let Ok(readings) = replies::measure(&rt, rt.alloc(), REPLY.as_bytes(), 2) else {
+        panic!(rt; "no readings");
+    };
+    assert_eq!(rt; readings.items, 2);
+    assert_eq!(rt; readings.errors, 1);
+    assert_eq!(rt; readings.statuses, 610);
+    let refused = replies::measure(&rt, rt.alloc(), b"[]", 1);
+    assert_eq!(rt; refused, Err(BenchFault::Reply(ReplyFault::NoItems)));
+}
