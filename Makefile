@@ -24,4 +24,5 @@ test:
 
 # Ratios to other programs, measured in one run.
 bench: build
+	@cd crates/relay_bench && rt run
 	python3 bench/run.py

@@ -1,16 +1,33 @@
 //! The ends of the senders.
-ghost use Rattle.std.specs.Prelude.{◌≡◌, ◌≢◌, ◌+◌, ◌≤◌, ◌^◌, ◌↔◌, [], ◌∷◌, ◌++◌, length, IfOk, IfErr, OnOk, IsErrAnd};
+ghost use Rattle.std.specs.Prelude.{◌≡◌, ◌≢◌, ◌+◌, ◌<◌, ◌≤◌, ◌^◌, ◌↔◌, [], ◌∷◌, ◌++◌, length, IfOk, IfErr, OnOk, IsErrAnd};
 ghost use Rattle.relay_queue.specs.Sent.{message, IsWellSent, HasDone};
 
 use crate::refusal::{Gone, PutRefusal};
 use crate::rule::{Closes, MailPass, MailSender, Puts};
-use crossbeam_channel::SendError;
+use crossbeam_channel::{SendError, TrySendError};
 use relay_action::{Body, Mail};
 use std::marker::Model;
 use std::sync::Wait;
+use std::{hint, thread};
 
 /// The most messages that one sender puts: 2^40, its Done not counted.
 pub const PUT_LIMIT: u64 = 1 << 40;
+
+/// How often an end looks before it sleeps in the channel. A sleeper costs the other side a system call
+/// to wake it, so a busy queue is quicker where its ends wait a little.
+pub(crate) const TRIES: u32 = 100;
+
+/// Gives the other side time: for the first turns in place, longer each turn, and then by leaving the
+/// processor.
+pub(crate) fn pause(turn: u32) {
+    if turn > 4 {
+        thread::yield_now();
+        return;
+    }
+    for _ in 0..1u32 << turn {
+        hint::spin_loop();
+    }
+}
 
 /// A sender's end of a queue. Contracts see its queue, its number and the list of what it sent.
 ///
@@ -69,6 +86,65 @@ impl LanePut {
         if self.count >= PUT_LIMIT {
             return Err((PutRefusal::Spent, body));
         }
+        let mut body = body;
+        for turn in 0..TRIES {
+            match self.try_put(rt, body) {
+                Ok(number) => return Ok(number),
+                Err((true, back)) => body = back,
+                Err((false, back)) => return Err((PutRefusal::Gone, back)),
+            }
+            pause(turn);
+        }
+        self.put_waiting(rt, body)
+    }
+
+    // Sends a message where there is room at once. An error hands the body back, and tells whether it was
+    // for want of room.
+    fn try_put<R: Wait>(&mut self, rt: &R, body: Body) -> Result<u64, (bool, Body)>
+        requires body { body ≢ Body.Done }
+        requires limit { length self.old.sent < 2 ^ 40 }
+        ensures same { (self.new.queue ≡ self.old.queue) × (self.new.sender ≡ self.old.sender) }
+        ensures number { IfOk result (λ n. n ≡ length self.old.sent + 1) }
+        ensures sent { IfOk result
+            (λ n. self.new.sent ≡ self.old.sent ++ message self.old.sender n body ∷ []) }
+        ensures in_order { OnOk result (IsWellSent self.new.sent) }
+        ensures no_done { OnOk result (¬ HasDone self.new.sent) }
+        ensures limit { OnOk result (length self.new.sent ≤ 2 ^ 40) }
+        ensures refused { IfErr result (λ e. (e.1 ≡ body) × (self.new ≡ self.old)) }
+    {
+        let number = self.count + 1;
+        let mail = Mail {
+            sender: self.sender,
+            number,
+            body,
+        };
+        match self
+            .channel
+            .try_send_as::<Puts, R>(rt, &mut self.pass, mail)
+        {
+            Ok(()) => {
+                self.count = number;
+                Ok(number)
+            }
+            Err(TrySendError::Full(mail)) => Err((true, mail.body)),
+            Err(TrySendError::Disconnected(mail)) => Err((false, mail.body)),
+            Err(TrySendError::OutOfMemory(_)) => unreachable!(),
+        }
+    }
+
+    // Sends a message, and sleeps while the queue is full.
+    fn put_waiting<R: Wait>(&mut self, rt: &R, body: Body) -> Result<u64, (PutRefusal, Body)>
+        requires body { body ≢ Body.Done }
+        requires limit { length self.old.sent < 2 ^ 40 }
+        ensures same { (self.new.queue ≡ self.old.queue) × (self.new.sender ≡ self.old.sender) }
+        ensures number { IfOk result (λ n. n ≡ length self.old.sent + 1) }
+        ensures sent { IfOk result
+            (λ n. self.new.sent ≡ self.old.sent ++ message self.old.sender n body ∷ []) }
+        ensures in_order { OnOk result (IsWellSent self.new.sent) }
+        ensures no_done { OnOk result (¬ HasDone self.new.sent) }
+        ensures limit { OnOk result (length self.new.sent ≤ 2 ^ 40) }
+        ensures refused { IfErr result (λ e. (e.1 ≡ body) × (e.0 ≡ PutRefusal.Gone) × (self.new ≡ self.old)) }
+    {
         let number = self.count + 1;
         let mail = Mail {
             sender: self.sender,

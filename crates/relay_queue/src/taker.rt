@@ -5,7 +5,8 @@ ghost use Rattle.relay_queue.specs.Sent.{mail_of, HasDone, IsWellSent};
 
 use crate::refusal::Gone;
 use crate::rule::{MailPass, MailReceiver, Meets, Reads, Takes};
-use crate::sender::ClosedPut;
+use crate::sender::{ClosedPut, TRIES, pause};
+use crossbeam_channel::TryRecvError;
 use relay_action::Mail;
 use std::marker::Model;
 use std::sync::Wait;
@@ -43,6 +44,40 @@ impl LaneTake {
     /// `Gone` says that all ends of senders are dropped, the closed ones too, and nothing is queued; it
     /// takes nothing, and when it comes is not promised.
     pub fn take<R: Wait>(&mut self, rt: &R) -> Result<Mail, Gone>
+        ensures same { (self.new.queue ≡ self.old.queue) × (self.new.senders ≡ self.old.senders) }
+        ensures taken { IfOk result (λ m. self.new.taken ≡ self.old.taken ++ m ∷ []) }
+        ensures sender { IfOk result (λ m. m.sender < self.old.senders) }
+        ensures in_order { IfOk result
+            (λ _. (sender : ℕ) → IsWellSent (mail_of sender self.new.taken)) }
+        ensures gone { IfErr result (λ _. self.new ≡ self.old) }
+    {
+        for turn in 0..TRIES {
+            match self.try_take(rt) {
+                Ok(mail) => return Ok(mail),
+                Err(true) => pause(turn),
+                Err(false) => return Err(Gone),
+            }
+        }
+        self.take_waiting(rt)
+    }
+
+    // Takes the message at the front where there is one at once. An error tells whether a sender is left.
+    fn try_take<R: Wait>(&mut self, rt: &R) -> Result<Mail, bool>
+        ensures same { (self.new.queue ≡ self.old.queue) × (self.new.senders ≡ self.old.senders) }
+        ensures taken { IfOk result (λ m. self.new.taken ≡ self.old.taken ++ m ∷ []) }
+        ensures sender { IfOk result (λ m. m.sender < self.old.senders) }
+        ensures in_order { IfOk result
+            (λ _. (sender : ℕ) → IsWellSent (mail_of sender self.new.taken)) }
+        ensures gone { IfErr result (λ _. self.new ≡ self.old) }
+    {
+        match self.channel.try_recv_as::<Takes, R>(rt, &mut self.pass) {
+            Ok(mail) => Ok(mail),
+            Err(e) => Err(matches!(e, TryRecvError::Empty)),
+        }
+    }
+
+    // Takes the message at the front, and sleeps while nothing is queued.
+    fn take_waiting<R: Wait>(&mut self, rt: &R) -> Result<Mail, Gone>
         ensures same { (self.new.queue ≡ self.old.queue) × (self.new.senders ≡ self.old.senders) }
         ensures taken { IfOk result (λ m. self.new.taken ≡ self.old.taken ++ m ∷ []) }
         ensures sender { IfOk result (λ m. m.sender < self.old.senders) }
