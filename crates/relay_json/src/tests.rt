@@ -1,0 +1,1 @@
+//! Texts read and looked into.
