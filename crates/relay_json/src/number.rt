@@ -2,7 +2,7 @@
 ghost use Rattle.std.specs.Prelude.{◌≡◌, ◌<◌, ◌==◌, ℕ, true, false, IsTrue, length, slice_index, Some, None, is_some, option_and_then, option_map};
 ghost use Rattle.fast_float.specs.Text.{Parts};
 ghost use Rattle.serde_json.specs.Data.{Num};
-ghost use Rattle.serde_json.specs.Find.{as_u64};
+ghost use Rattle.serde_json.specs.Find.{as_i64, as_u64};
 ghost use Rattle.serde_json.specs.Read.{number_of, number_from, float_of};
 
 use fast_float::Numeral;
@@ -74,5 +74,43 @@ pub(crate) fn to_u64(text: &str) -> Option<u64>
         None
     } else {
         unsigned_of(&Numeral::scan(bytes))
+    }
+}
+
+// The integer of a numeral without a sign, where it is one of 64 bits with a sign.
+fn positive_of(numeral: &Numeral<'_>) -> Option<i64>
+    ensures { result ≡ option_and_then as_i64 (number_from false numeral.now) }
+{
+    match numeral.to_u64() {
+        Some(n) => if n <= i64::MAX as u64 {
+            Some(n as i64)
+        } else {
+            None
+        },
+        None => None,
+    }
+}
+
+// The integer of a numeral behind a minus, where it is one of 64 bits and not 0.
+fn negative_of(numeral: &Numeral<'_>) -> Option<i64>
+    ensures { result ≡ option_and_then as_i64 (number_from true numeral.now) }
+{
+    if let Some(n) = numeral.to_i64(true) {
+        if n < 0 {
+            return Some(n);
+        }
+    }
+    None
+}
+
+// The integer of a number's text, where it is one of 64 bits with a sign, and not `-0`.
+pub(crate) fn to_i64(text: &str) -> Option<i64>
+    ensures { result ≡ option_and_then as_i64 (number_of text.now) }
+{
+    let bytes = text.as_bytes();
+    if has_minus(bytes) {
+        negative_of(&Numeral::scan(&bytes[1..]))
+    } else {
+        positive_of(&Numeral::scan(bytes))
     }
 }

@@ -2,13 +2,13 @@
 ghost use Rattle.std.specs.Prelude.{◌≡◌, ⊤, Some, None, IsTrue, ◌↔◌, is_some, option_map, option_and_then};
 ghost use Rattle.json.specs.Value.{value_view};
 ghost use Rattle.serde_json.specs.Data.{null};
-ghost use Rattle.serde_json.specs.Find.{as_null, as_number, as_object, as_str, as_array, as_u64, get};
+ghost use Rattle.serde_json.specs.Find.{as_null, as_bool, as_number, as_object, as_str, as_array, as_i64, as_u64, get};
 ghost use Rattle.relay_json.specs.Reads.{HasData};
 ghost use Rattle.relay_json.specs.Sole.{sole_member};
 
 use crate::items::Items;
 use crate::members::{are_all_named, to_object};
-use crate::number::to_u64;
+use crate::number::{to_i64, to_u64};
 
 /// A value in a tree. It borrows from the tree, and its texts from the text that the tree was read
 /// from.
@@ -46,6 +46,14 @@ impl<'v, 't> Value<'v, 't> {
         matches!(self.node, json::Value::Object(_))
     }
 
+    /// The truth value, where it is one.
+    #[inline(always)]
+    pub fn as_bool(self) -> Option<bool>
+        ensures { result ≡ as_bool (data_of self.entry) }
+    {
+        self.node.as_bool()
+    }
+
     /// The text, where it is one, its escapes replaced.
     #[inline(always)]
     pub fn as_str(self) -> Option<&'t str>
@@ -59,6 +67,14 @@ impl<'v, 't> Value<'v, 't> {
         ensures { result ≡ option_and_then as_u64 (as_number (data_of self.entry)) }
     {
         to_u64(self.node.as_number()?)
+    }
+
+    /// The integer, where it is one from -2^63 to 2^63 - 1, written without a point or an exponent.
+    /// `-0` is none.
+    pub fn as_i64(self) -> Option<i64>
+        ensures { result ≡ option_and_then as_i64 (as_number (data_of self.entry)) }
+    {
+        to_i64(self.node.as_number()?)
     }
 
     /// The items, where it is an array.
