@@ -4,3 +4,4 @@ pub mod Alone
 pub mod Nodes
 pub mod Soles
 pub mod Numbers
+pub mod Digits

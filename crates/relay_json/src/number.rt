@@ -1,5 +1,6 @@
 //! The number of a text.
 ghost use Rattle.std.specs.Prelude.{◌≡◌, ◌<◌, ◌==◌, ℕ, true, false, IsTrue, length, slice_index, Some, None, is_some, option_and_then, option_map};
+ghost use Rattle.std.specs.Str.Parse.{AllDigits};
 ghost use Rattle.fast_float.specs.Text.{Parts};
 ghost use Rattle.serde_json.specs.Data.{Num};
 ghost use Rattle.serde_json.specs.Find.{as_i64, as_u64};
@@ -45,17 +46,50 @@ fn fits_negative(numeral: &Numeral<'_>) -> bool
     is_float(true, numeral)
 }
 
+// Whether all bytes are digits.
+#[inline(always)]
+fn are_digits(bytes: &[u8]) -> bool
+    ensures { IsTrue result → AllDigits 10 bytes.now }
+{
+    for byte in bytes {
+        if *byte < b'0' || b'9' < *byte {
+            return false;
+        }
+    }
+    true
+}
+
+// Whether a number's text is so short an integer that it fits 64 bits.
+#[inline(always)]
+fn is_short_integer(bytes: &[u8]) -> bool
+    ensures { IsTrue result → is_some (number_of bytes.now) ≡ true }
+{
+    let len = bytes.len();
+    if len == 0 || 19 < len {
+        return false;
+    }
+    are_digits(bytes)
+}
+
+// Whether a number's text is in range.
+#[inline(never)]
+fn fits(bytes: &[u8]) -> bool
+    ensures { result ≡ is_some (number_of bytes.now) }
+{
+    if has_minus(bytes) {
+        fits_negative(&Numeral::scan(&bytes[1..]))
+    } else {
+        fits_unsigned(&Numeral::scan(bytes))
+    }
+}
+
 // Whether a number's text is in range: an integer of 64 bits, or one whose nearest float is finite.
 #[inline(always)]
 pub(crate) fn is_in_range(text: &str) -> bool
     ensures { result ≡ is_some (number_of text.now) }
 {
     let bytes = text.as_bytes();
-    if has_minus(bytes) {
-        fits_negative(&Numeral::scan(&bytes[1..]))
-    } else {
-        fits_unsigned(&Numeral::scan(bytes))
-    }
+    is_short_integer(bytes) || fits(bytes)
 }
 
 // The integer of a numeral, where it is one of 64 bits.
