@@ -127,7 +127,9 @@ fn members(rt: HostRuntime) -> Result<(), Fail> {
     ];
     let mut scratch = Scratch::new(alloc);
     for (text, name, found) in rows {
-        let tree = Tree::read(alloc, text.as_bytes(), &mut scratch).ok().ok_or("a value")?;
+        let tree = Tree::read(alloc, text.as_bytes(), &mut scratch)
+            .ok()
+            .ok_or("a value")?;
         let member = tree.root().get(name);
         assert_eq!(rt; member.and_then(|value| value.as_str()), found);
     }
@@ -150,7 +152,9 @@ fn sole_members(rt: HostRuntime) -> Result<(), Fail> {
     ];
     for (text, sole) in rows {
         let mut scratch = Scratch::new(alloc);
-        let tree = Tree::read(alloc, text.as_bytes(), &mut scratch).ok().ok_or("a value")?;
+        let tree = Tree::read(alloc, text.as_bytes(), &mut scratch)
+            .ok()
+            .ok_or("a value")?;
         let found = match tree.root().sole_member() {
             Some((name, value)) => Some((name, value.as_u64().unwrap_or(0))),
             None => None,
@@ -179,7 +183,9 @@ fn integers(rt: HostRuntime) -> Result<(), Fail> {
     ];
     for (text, unsigned, signed) in rows {
         let mut scratch = Scratch::new(alloc);
-        let tree = Tree::read(alloc, text.as_bytes(), &mut scratch).ok().ok_or("a value")?;
+        let tree = Tree::read(alloc, text.as_bytes(), &mut scratch)
+            .ok()
+            .ok_or("a value")?;
         assert_eq!(rt; tree.root().as_u64(), unsigned);
         assert_eq!(rt; tree.root().as_i64(), signed);
     }
@@ -201,13 +207,18 @@ fn kinds(rt: HostRuntime) -> Result<(), Fail> {
     ];
     for (text, is_null, truth, is_object, len) in rows {
         let mut scratch = Scratch::new(alloc);
-        let tree = Tree::read(alloc, text.as_bytes(), &mut scratch).ok().ok_or("a value")?;
+        let tree = Tree::read(alloc, text.as_bytes(), &mut scratch)
+            .ok()
+            .ok_or("a value")?;
         let root = tree.root();
         assert_eq!(rt; root.is_null(), is_null);
         assert_eq!(rt; root.as_bool(), truth);
         assert_eq!(rt; root.is_object(), is_object);
         assert_eq!(rt; root.items().map(|items| items.len()), len);
-        assert_eq!(rt; root.items().map(|items| items.is_empty()), len.map(|len| len == 0));
+        assert_eq!(rt;
+            root.items().map(|items| items.is_empty()),
+            len.map(|len| len == 0)
+        );
     }
     Ok(())
 }
@@ -217,7 +228,9 @@ fn kinds(rt: HostRuntime) -> Result<(), Fail> {
 fn items_in_order(rt: HostRuntime) -> Result<(), Fail> {
     let alloc = rt.alloc();
     let mut scratch = Scratch::new(alloc);
-    let tree = Tree::read(alloc, b"[3,1,2]", &mut scratch).ok().ok_or("a value")?;
+    let tree = Tree::read(alloc, b"[3,1,2]", &mut scratch)
+        .ok()
+        .ok_or("a value")?;
     let mut left = tree.root().items().ok_or("an array")?;
     for number in [3u64, 1, 2] {
         let (item, rest) = left.split_first().ok_or("an item")?;

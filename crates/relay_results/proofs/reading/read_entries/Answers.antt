@@ -1,4 +1,4 @@
-use Rattle.std.proofs.Common.{◌≡◌, ◌+◌, ◌-◌, ap, subst, sym, arith}
+use Rattle.std.proofs.Common.{◌≡◌, ◌+◌, ◌-◌, ap, subst, arith}
 use Rattle.serde_json.specs.Data.{item, no_items}
 use Rattle.serde_json.specs.Events.{items_len}
 use Rattle.relay_json.specs.Values.{data_of, items_of}
@@ -28,7 +28,7 @@ entries-preserved c =
       place + 1,
       omega (arith, ap items_len here, c.entries.invariant.1),
       step_read whole d rest place c.entries.outcomes.items c.push_entry.new.outcomes.items (subst (λ ds. GoesOn whole ds c.entries.outcomes.items place) here c.entries.invariant.2)
-      (rw c.in-Ok-true.field-0-test at c.in-Ok-true.ensures),
+          (rw c.in-Ok-true.field-0-test at c.in-Ok-true.ensures),
     )
 
 pub returns-clause-ok : goal.returns-clause-ok
