@@ -1,10 +1,11 @@
 //! A text read.
-ghost use Rattle.std.specs.Prelude.{◌≡◌, ◌<◌, None, Some, Err, IfOk, length, IsUtf8};
+ghost use Rattle.std.specs.Prelude.{◌≡◌, ◌<◌, ◌⊎◌, None, Some, Err, IfOk, IsTrue, length, option_and_then, IsUtf8};
 ghost use Rattle.json.specs.Json.{if_last, value};
 ghost use Rattle.json.specs.Lex.{tokens};
+ghost use Rattle.json.specs.Reads.{opens};
+ghost use Rattle.json.specs.Scratch.{room};
 ghost use Rattle.json.specs.Value.{value_view};
 ghost use Rattle.serde_json.specs.Read.{read, max_depth};
-ghost use Rattle.std.specs.Prelude.{option_and_then};
 ghost use Rattle.relay_json.specs.Reads.{HasData};
 
 use crate::range::has_data;
@@ -23,7 +24,8 @@ pub enum ReadFault {
     /// that is too large for a float.
     #[error("NotJson")]
     NotJson,
-    /// There was no memory for the value or in the scratch. Nothing is said of the text.
+    /// There was no memory for an array or an object, or none to make the scratch as long as the
+    /// text. Nothing is said of the text.
     #[error("Memory")]
     Memory,
 }
@@ -39,7 +41,8 @@ fn read_tree<'t>(
         ≡ Some (value_view v)) }
     ensures not_json { result ≡ Err ReadFault.NotJson →
         option_and_then (λ p. if_last p.0 p.1) (value max_depth (tokens text.now)) ≡ None }
-    ensures memory { result ≡ Err ReadFault.Memory → 0 < length text.now }
+    ensures memory { result ≡ Err ReadFault.Memory
+        → IsTrue (opens (tokens text.now)) ⊎ (room scratch.old < length text.now) }
 {
     let Ok(mut reader) = Reader::new(text, scratch) else {
         return Err(ReadFault::Memory);
@@ -78,7 +81,8 @@ impl<'t> Tree<'t> {
     ) -> Result<Tree<'t>, ReadFault>
         ensures ok { IfOk result (λ t. IsUtf8 text.now × (read text.now ≡ Some (root_of t))) }
         ensures not_json { result ≡ Err ReadFault.NotJson → IsUtf8 text.now → read text.now ≡ None }
-        ensures memory { result ≡ Err ReadFault.Memory → 0 < length text.now }
+        ensures memory { result ≡ Err ReadFault.Memory
+            → IsTrue (opens (tokens text.now)) ⊎ (room scratch.old < length text.now) }
     {
         let Ok(text) = simdutf8::compat::from_utf8(text) else {
             return Err(ReadFault::NotJson);
