@@ -1,7 +1,6 @@
 pub mod Entries
 pub mod Same
 pub mod Played
-pub mod Looked
 pub mod Ahead
 pub mod Excluded
 pub mod ReadsBack

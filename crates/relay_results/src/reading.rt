@@ -1,14 +1,15 @@
 //! Replies read.
 ghost use Rattle.std.specs.Prelude.{◌≡◌, ℕ, List, [], Bool, true, Option, Some, None, IfOk, IfErr, MatchOption, codes, option_map, option_and_then, is_some, unwrap_or, IsUtf8};
 ghost use Rattle.serde_json.specs.Data.{Data};
-ghost use Rattle.serde_json.specs.Find.{as_object, as_array, as_str, get};
-ghost use Rattle.serde_json.specs.View.{view, items_view, members_view};
+ghost use Rattle.serde_json.specs.Find.{as_array, as_str, get};
+ghost use Rattle.relay_json.specs.Sole.{sole_member};
+ghost use Rattle.relay_json.specs.Values.{data_of, items_of, root_of};
 ghost use Rattle.relay_results.specs.Replies.{ReadsAs, IsCut, error_limit, error_member, error_type, SaysError, IsEntry, IsNoEntry, AreEntries, IsReply, IsFaultOf};
-ghost use Rattle.relay_results.specs.Parts.{sole, sole_of, kind_of_name, id_in, status_in, PushesEntry, IsFaultOfEntries};
+ghost use Rattle.relay_results.specs.Parts.{kind_of_name, id_in, status_in, PushesEntry, IsFaultOfEntries};
 
 use crate::outcome::Outcome;
 use relay_action::{ActionKind, Text};
-use serde_json::{Map, Value};
+use relay_json::{Items, ReadFault, Scratch, Tree, Value};
 use std::alloc::{AllocError, Global};
 use thiserror::Error;
 
@@ -34,37 +35,19 @@ pub enum ReplyFault {
 }
 
 // The value of a text.
-fn value_of(alloc: Global, bytes: &[u8]) -> Result<Value, ReplyFault>
-    ensures ok { IfOk result (λ v. ReadsAs bytes.now (view v)) }
+fn value_of<'t>(
+    alloc: Global,
+    bytes: &'t [u8],
+    scratch: &'t mut Scratch,
+) -> Result<Tree<'t>, ReplyFault>
+    ensures ok { IfOk result (λ t. ReadsAs bytes.now (root_of t)) }
     ensures err { IfErr result (λ e. IsFaultOf bytes.now e) }
 {
-    match Value::from_slice(alloc, bytes) {
-        Ok(value) => Ok(value),
-        Err(fault) => if fault.is_memory() {
-            Err(ReplyFault::Memory)
-        } else {
-            Err(ReplyFault::NotJson)
-        },
+    match Tree::read(alloc, bytes, scratch) {
+        Ok(tree) => Ok(tree),
+        Err(ReadFault::NotJson) => Err(ReplyFault::NotJson),
+        Err(ReadFault::Memory) => Err(ReplyFault::Memory),
     }
-}
-
-// The one member of an object.
-fn sole_member(map: &Map<String, Value>) -> Option<(&str, &Value)>
-    ensures { option_map (λ r. (r.0.now, view r.1.now)) result
-        ≡ sole (members_view map.now.entries) }
-{
-    if map.len() != 1 {
-        return None;
-    }
-    let (name, value) = map.first_key_value()?;
-    Some((name.as_str(), value))
-}
-
-// The one member of a value.
-fn sole_of(value: &Value) -> Option<(&str, &Value)>
-    ensures { option_map (λ r. (r.0.now, view r.1.now)) result ≡ sole_of (view value.now) }
-{
-    sole_member(value.as_object()?)
 }
 
 // The kind of action of a name.
@@ -79,15 +62,15 @@ fn kind_of_name(name: &str) -> Option<ActionKind>
 }
 
 // The id of an entry.
-fn id_in(fields: &Value) -> Option<&str>
-    ensures { option_map (λ t. t.now) result ≡ id_in (view fields.now) }
+fn id_in<'t>(fields: Value<'_, 't>) -> Option<&'t str>
+    ensures { option_map (λ t. t.now) result ≡ id_in (data_of fields.entry) }
 {
     fields.get("_id").and_then(Value::as_str)
 }
 
 // The status of an entry, where it is one.
-fn status_in(fields: &Value) -> Option<u16>
-    ensures { result ≡ status_in (view fields.now) }
+fn status_in(fields: Value<'_, '_>) -> Option<u16>
+    ensures { result ≡ status_in (data_of fields.entry) }
 {
     let status = fields.get("status").and_then(Value::as_u64)?;
     if 100 <= status && status <= 599 {
@@ -105,15 +88,15 @@ fn cut(text: &str) -> &str
 }
 
 // The type that an error tells.
-fn error_type(error: &Value) -> &str
-    ensures { result.now ≡ error_type (view error.now) }
+fn error_type<'t>(error: Value<'_, 't>) -> &'t str
+    ensures { result.now ≡ error_type (data_of error.entry) }
 {
     error.get("type").and_then(Value::as_str).unwrap_or("")
 }
 
 // What an entry says of an error.
-fn error_in(alloc: Global, fields: &Value) -> Result<Option<Text>, AllocError>
-    ensures { IfOk result (λ e. SaysError (error_member (view fields.now)) e) }
+fn error_in(alloc: Global, fields: Value<'_, '_>) -> Result<Option<Text>, AllocError>
+    ensures { IfOk result (λ e. SaysError (error_member (data_of fields.entry)) e) }
 {
     match fields.get("error") {
         Some(error) if !error.is_null() => Ok(Some(Text::new(alloc, cut(error_type(error)))?)),
@@ -122,11 +105,11 @@ fn error_in(alloc: Global, fields: &Value) -> Result<Option<Text>, AllocError>
 }
 
 // The outcome that an entry says, if it says one.
-fn read_entry(alloc: Global, value: &Value) -> Result<Option<Outcome>, AllocError>
+fn read_entry(alloc: Global, value: Value<'_, '_>) -> Result<Option<Outcome>, AllocError>
     ensures { IfOk result
-        (λ r. MatchOption r (IsNoEntry (view value.now)) (IsEntry (view value.now))) }
+        (λ r. MatchOption r (IsNoEntry (data_of value.entry)) (IsEntry (data_of value.entry))) }
 {
-    let Some((name, fields)) = sole_of(value) else {
+    let Some((name, fields)) = value.sole_member() else {
         return Ok(None);
     };
     if !fields.is_object() {
@@ -150,9 +133,13 @@ fn read_entry(alloc: Global, value: &Value) -> Result<Option<Outcome>, AllocErro
 }
 
 // Adds the outcome that an entry says, if it says one, and tells whether it does.
-fn push_entry(alloc: Global, outcomes: &mut Vec<Outcome>, value: &Value) -> Result<bool, AllocError>
+fn push_entry(
+    alloc: Global,
+    outcomes: &mut Vec<Outcome>,
+    value: Value<'_, '_>,
+) -> Result<bool, AllocError>
     ensures { IfOk result
-        (λ said. PushesEntry (view value.now) outcomes.old.items outcomes.new.items said) }
+        (λ said. PushesEntry (data_of value.entry) outcomes.old.items outcomes.new.items said) }
 {
     match read_entry(alloc, value)? {
         Some(outcome) => {
@@ -164,29 +151,32 @@ fn push_entry(alloc: Global, outcomes: &mut Vec<Outcome>, value: &Value) -> Resu
 }
 
 // The outcomes that entries say.
-fn read_entries(alloc: Global, entries: &[Value]) -> Result<Vec<Outcome>, ReplyFault>
-    ensures ok { IfOk result (λ v. AreEntries (items_view entries.now) v.items) }
-    ensures err { IfErr result (λ e. IsFaultOfEntries (items_view entries.now) e) }
+fn read_entries(alloc: Global, entries: Items<'_, '_>) -> Result<Vec<Outcome>, ReplyFault>
+    ensures ok { IfOk result (λ v. AreEntries (items_of entries.entry) v.items) }
+    ensures err { IfErr result (λ e. IsFaultOfEntries (items_of entries.entry) e) }
 {
-    let Ok(mut outcomes) = Vec::with_capacity(alloc, entries.len()) else {
+    let count = entries.len();
+    let Ok(mut outcomes) = Vec::with_capacity(alloc, count) else {
         return Err(ReplyFault::Memory);
     };
-    'entries: for (place, value) in entries.iter().enumerate() {
+    let mut left = entries;
+    'entries: while let Some((value, rest)) = left.split_first() {
         match push_entry(alloc, &mut outcomes, value) {
             Ok(true) => {}
-            Ok(false) => return Err(ReplyFault::BadItem(place as u64)),
+            Ok(false) => return Err(ReplyFault::BadItem((count - left.len()) as u64)),
             Err(AllocError) => return Err(ReplyFault::Memory),
         }
+        left = rest;
     }
     Ok(outcomes)
 }
 
 // The entries of a reply.
-fn entries_of(value: &Value) -> Option<&Vec<Value>>
-    ensures { option_map (λ v. items_view v.now.items) result
-        ≡ option_and_then as_array (get (codes "items") (view value.now)) }
+fn entries_of<'v, 't>(value: Value<'v, 't>) -> Option<Items<'v, 't>>
+    ensures { option_map items_of result
+        ≡ option_and_then as_array (get (codes "items") (data_of value.entry)) }
 {
-    value.get("items").and_then(Value::as_array)
+    value.get("items").and_then(Value::items)
 }
 
 /// The outcomes that the body of a reply of status 200 says, one for each entry, in their order.
@@ -201,11 +191,12 @@ pub fn read_reply(alloc: Global, bytes: &[u8]) -> Result<Vec<Outcome>, ReplyFaul
     ensures ok { IfOk result (λ v. IsReply bytes.now v.items) }
     ensures err { IfErr result (λ e. IsFaultOf bytes.now e) }
 {
-    let value = match value_of(alloc, bytes) {
-        Ok(value) => value,
+    let mut scratch = Scratch::new(alloc);
+    let tree = match value_of(alloc, bytes, &mut scratch) {
+        Ok(tree) => tree,
         Err(fault) => return Err(fault),
     };
-    let Some(entries) = entries_of(&value) else {
+    let Some(entries) = entries_of(tree.root()) else {
         return Err(ReplyFault::NoItems);
     };
     read_entries(alloc, entries)

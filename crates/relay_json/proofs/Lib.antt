@@ -1,0 +1,7 @@
+pub mod Found
+pub mod Ranges
+pub mod Alone
+pub mod Nodes
+pub mod Soles
+pub mod Numbers
+pub mod Digits

@@ -1,0 +1,48 @@
+//! Whether each number of a tree is in range.
+ghost use Rattle.std.specs.Prelude.{◌≡◌, is_some};
+ghost use Rattle.json.specs.Value.{value_view, items_view, members_view};
+ghost use Rattle.serde_json.specs.Data.{no_members};
+ghost use Rattle.serde_json.specs.Read.{of_json, of_items, of_members};
+
+use crate::number::is_in_range;
+use json::Value;
+
+// Whether a tree is a value of `serde_json`: each of its numbers is in range.
+#[cycle(range)]
+#[inline(always)]
+pub(crate) fn has_data(value: &Value<'_>) -> bool
+    ensures { result ≡ is_some (of_json (value_view value.now)) }
+{
+    match value {
+        Value::Number(text) => is_in_range(text),
+        Value::Array(items) => items_have_data(items),
+        Value::Object(members) => members_have_data(members),
+        _ => true,
+    }
+}
+
+#[cycle(range)]
+#[inline(never)]
+fn items_have_data(items: &Vec<Value<'_>>) -> bool
+    ensures { result ≡ is_some (of_items (items_view items.now.items)) }
+{
+    for item in items {
+        if !has_data(item) {
+            return false;
+        }
+    }
+    true
+}
+
+#[cycle(range)]
+#[inline(never)]
+fn members_have_data(members: &Vec<(&str, Value<'_>)>) -> bool
+    ensures { result ≡ is_some (of_members (members_view members.now.items) no_members) }
+{
+    for member in members {
+        if !has_data(&member.1) {
+            return false;
+        }
+    }
+    true
+}
