@@ -1,3 +1,4 @@
 pub mod States
 pub mod Choices
 pub mod Runs
+pub mod Lists

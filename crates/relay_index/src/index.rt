@@ -1,8 +1,13 @@
 //! The index.
-ghost use Rattle.std.specs.Prelude.{◌≡◌, option_map, IfOk, OnOk, OnErr};
+ghost use Rattle.std.specs.Prelude.{◌≡◌, ◌∷◌, [], Some, IsTrue, option_map, unwrap_or, max, IfOk, OnOk, OnErr};
 ghost use Rattle.relay_results.specs.Documents.{document_of};
-ghost use Rattle.relay_index.specs.States.{fresh, applied, stored, live, IsHighest, IsIndex};
+ghost use Rattle.relay_results.specs.Outside.{Outside, Ran, IsOutcomeOf, ran_of};
+ghost use Rattle.relay_index.specs.States.{fresh, applied, stored, live, is_live, IsHighest, IsIndex};
+ghost use Rattle.relay_index.specs.Choices.{MayChoose};
+ghost use Rattle.relay_index.specs.Lists.{with_write, appended, after_run};
+ghost use Rattle.relay_index.specs.Runs.{is_newer, is_run, status_by, result_of, applied_result, status_of, done_of, outcome_of_run, Effect, Shows};
 
+use crate::choice::Choice;
 use crate::history::History;
 use indexmap::IndexMap;
 use relay_action::{Action, ActionKind, DocKey, Write};
@@ -30,6 +35,35 @@ impl Model for Index {
       index : IsIndex (record { documents = i.documents.entries; count = i.count });
       highest : IsHighest (record { documents = i.documents.entries; count = i.count }) i.highest;
     } };
+}
+
+// Puts a copy of a write behind its document's list. `AllocError`: there was no memory for it, and the
+// lists are as before.
+fn append(documents: &mut IndexMap<DocKey, History>, write: &Write) -> Result<(), AllocError>
+    ensures ok { OnOk result (documents.new.entries ≡ with_write documents.old.entries write.now) }
+    ensures err { OnErr result (documents.new.entries ≡ documents.old.entries) }
+{
+    let copy = write.copy()?;
+    if let Some(history) = documents.get_mut(&write.key) {
+        history.push(copy)?;
+        return Ok(());
+    }
+    let mut history = History::new(*documents.allocator());
+    history.push(copy)?;
+    documents.insert(write.key.copy()?, history)?;
+    Ok(())
+}
+
+// What an applied write did, and its status.
+fn applied_answer(kind: ActionKind, live: bool) -> (u16, DoneResult)
+    ensures { result ≡ (status_of (applied_result kind live), applied_result kind live) }
+{
+    match (kind, live) {
+        (ActionKind::Index, false) => (201, DoneResult::Created),
+        (ActionKind::Index, true) => (200, DoneResult::Updated),
+        (ActionKind::Delete, true) => (200, DoneResult::Deleted),
+        (ActionKind::Delete, false) => (404, DoneResult::NotFound),
+    }
 }
 
 impl Index {
@@ -71,5 +105,76 @@ impl Index {
             Some(history) => history.as_slice(),
             None => &[],
         }
+    }
+
+    // Whether no version of the write's document is stored, or one below the write's.
+    fn is_newer(&self, write: &Write) -> bool
+        ensures { result ≡ is_newer self.now write.now }
+    {
+        self.version(&write.key).is_none_or(|stored| stored < write.version)
+    }
+
+    // The status and the result of a write.
+    fn answer(&self, write: &Write, choice: Choice) -> (u16, DoneResult)
+        ensures { result ≡ (status_by self.now write.now choice, result_of self.now write.now choice) }
+    {
+        match choice {
+            Choice::Refuse(status) => (status, DoneResult::Refused),
+            Choice::Run if self.is_newer(write) => {
+                applied_answer(write.action.kind(), self.source(&write.key).is_some())
+            }
+            Choice::Run => (409, DoneResult::Conflict),
+        }
+    }
+
+    // Applies a write whose version is new. `AllocError`: there was no memory for its copy, and the
+    // index is as before.
+    fn apply(&mut self, write: &Write) -> Result<(), AllocError>
+        requires { IsTrue (is_newer self.old write.now) }
+        ensures ok { OnOk result (self.new ≡ appended self.old write.now) }
+        ensures err { OnErr result (self.new ≡ self.old) }
+    {
+        append(&mut self.documents, write)?;
+        self.count = self.count.saturating_add(1);
+        self.highest = Some(self.highest.unwrap_or(0).max(write.version));
+        Ok(())
+    }
+
+    // Runs a write, or refuses it, as `run` does.
+    fn carry_out(&mut self, write: &Write, choice: Choice) -> Result<ItemDone, AllocError>
+        ensures item { IfOk result (λ done. done ≡ done_of self.old write.now choice) }
+        ensures after { OnOk result (self.new ≡ after_run self.old write.now choice) }
+        ensures err { OnErr result (self.new ≡ self.old) }
+    {
+        let (status, outcome) = self.answer(write, choice);
+        let mut done = ItemDone {
+            key: write.key.copy()?,
+            kind: write.action.kind(),
+            status,
+            result: outcome,
+            version: 0,
+            seq: 0,
+        };
+        if choice == Choice::Run && self.is_newer(write) {
+            done.version = write.version;
+            done.seq = self.count;
+            self.apply(write)?;
+        }
+        Ok(done)
+    }
+
+    /// Runs a write, or refuses it.
+    pub fn run(&mut self, write: &Write, choice: Choice) -> Result<ItemDone, AllocError>
+        requires { MayChoose choice }
+        ensures item { IfOk result (λ done. done ≡ done_of self.old write.now choice) }
+        ensures effect { OnOk result (Effect self.old write.now choice self.new) }
+        ensures err { OnErr result (self.new ≡ self.old) }
+        ensures versioned { IfOk result (λ done.
+            IsOutcomeOf (stored self.old (document_of write.now.key)) write.now (outcome_of_run done)) }
+        ensures outside { IfOk result (λ done. (o : Outside) (r : Ran) → Shows o self.old
+            → r.outcome ≡ outcome_of_run done → Shows (ran_of o r (Some write.now)) self.new) }
+    {
+        let done = self.carry_out(write, choice)?;
+        Ok(done)
     }
 }
