@@ -1,5 +1,5 @@
 -- What an index has after one more write.
-use Rattle.std.proofs.Common.{◌≡◌, ◌∙◌, ℕ, suc, ◌+◌, ◌-◌, ◌<◌, ◌≤◌, List, [], ◌∷◌, ◌++◌, length, slice_get, Option, Some, None, unwrap_or, option_map, Bool, true, false, refl, ap, sym, subst, max, arith, append-nil, length-append, if◌then◌else◌, ltb}
+use Rattle.std.proofs.Common.{◌≡◌, ◌≢◌, ◌∙◌, ℕ, suc, ◌+◌, ◌-◌, ◌<◌, ◌≤◌, List, [], ◌∷◌, ◌++◌, length, slice_get, Option, Some, None, unwrap_or, option_map, Bool, true, false, refl, ap, sym, subst, max, arith, append-nil, length-append, if◌then◌else◌, ltb}
 use Rattle.std.proofs.Math.Seq.{get_or-append_seam}
 use Rattle.std.proofs.lemmas.Option.{slice_get_read}
 use borrow.Author.Tests.{ltb-true, ltb-false}
@@ -9,7 +9,7 @@ use Rattle.relay_action.specs.declared.write.Write.{Write}
 use Rattle.relay_results.specs.Documents.{Document, document_of, same_document}
 use Rattle.relay_results.specs.Outside.{is_above}
 use Rattle.relay_results.proofs.Same.{same_document-true, same_document-self}
-use Rattle.relay_index.specs.States.{State, applied, applied_among, last_of, stored, AreOf, RiseFrom, IsIndex, IsHighest}
+use Rattle.relay_index.specs.States.{State, applied, applied_among, last_of, stored, NoneEmpty, AreOf, RiseFrom, IsIndex, IsHighest}
 use Rattle.relay_index.specs.Lists.{with_write, appended}
 use Rattle.relay_index.specs.Runs.{is_newer}
 
@@ -62,7 +62,7 @@ last_of-push ws w =
     let at : length (ws ++ w ∷ []) - 1 ≡ length ws = omega (arith, length-append ws (w ∷ [])) in
     rw at (slice_get_read (ws ++ w ∷ []) (length (ws ++ w ∷ [])) (length ws) w refl (omega (arith, length-append ws (w ∷ []))) (sym (get_or-append_seam ws w [] w)))
 
-last_of-step : (v w : Write) (ws : List Write) → last_of (v ∷ w ∷ ws) ≡ last_of (w ∷ ws)
+pub last_of-step : (v w : Write) (ws : List Write) → last_of (v ∷ w ∷ ws) ≡ last_of (w ∷ ws)
 last_of-step v w ws =
     let at : length (v ∷ w ∷ ws) - 1 ≡ suc (length (w ∷ ws) - 1) = omega arith in
     rw at refl
@@ -92,8 +92,21 @@ RiseFrom-push (Some low) [] w h e = (ltb-true low w.version e, tt)
 RiseFrom-push None (x ∷ xs) w h e = RiseFrom-push (Some x.version) xs w h e
 RiseFrom-push (Some low) (x ∷ xs) w h e = (h.0, RiseFrom-push (Some x.version) xs w h.1 e)
 
+push_nonempty : (ws : List Write) (w : Write) → ws ++ w ∷ [] ≢ []
+push_nonempty [] w e = cc
+push_nonempty (x ∷ xs) w e = cc
+
+pub NoneEmpty-with_write : (es : List (DocKey × List Write)) (w : Write) → NoneEmpty es → NoneEmpty (with_write es w)
+NoneEmpty-with_write [] w h = (push_nonempty [] w, tt)
+NoneEmpty-with_write (e ∷ es) w h = by (same_document (document_of w.key) (document_of e.0)) refl (NoneEmpty-with_write es w h.1)
+  where
+    by : (b : Bool) → same_document (document_of w.key) (document_of e.0) ≡ b → NoneEmpty (with_write es w) → NoneEmpty (with_write (e ∷ es) w)
+    by true f rest = rw f (push_nonempty e.1 w, h.1)
+    by false f rest = rw f (h.0, rest)
+
 pub IsIndex-appended : (s : State) (w : Write) → IsIndex s → is_newer s w ≡ true → IsIndex (appended s w)
 IsIndex-appended s w h newer = record {
+  begun = NoneEmpty-with_write s.documents w h.begun;
   of_document = λ k. subst (AreOf k) (sym (applied-with_write s.documents w k)) (of_at k (same_document k (document_of w.key)) refl);
   rising = λ k. subst (RiseFrom None) (sym (applied-with_write s.documents w k)) (rise_at k (same_document k (document_of w.key)) refl);
 }

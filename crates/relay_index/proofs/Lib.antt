@@ -1,3 +1,4 @@
 pub mod Appended
 pub mod Written
 pub mod Ran
+pub mod Listed

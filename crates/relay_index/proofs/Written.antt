@@ -5,12 +5,8 @@ use Rattle.std.specs.Map.{lookup, set_value}
 use Rattle.indexmap.specs.IndexMap.{insert_entry}
 use Rattle.relay_action.specs.declared.key.DocKey.{DocKey}
 use Rattle.relay_action.specs.declared.write.Write.{Write}
-use Rattle.relay_results.specs.Documents.{document_of, same_document}
+use Rattle.relay_index.specs.Keys.{same_key}
 use Rattle.relay_index.specs.Lists.{with_write}
-
--- two keys are one document
-abbrev pub same_key : DocKey → DocKey → Bool
-same_key a b = same_document (document_of a) (document_of b)
 
 some_none : (ws : List Write) → Some ws ≡ None → ⊥
 some_none ws e = cc

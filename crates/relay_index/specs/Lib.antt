@@ -2,3 +2,5 @@ pub mod States
 pub mod Choices
 pub mod Runs
 pub mod Lists
+pub mod Keys
+pub mod Plans

@@ -1,5 +1,5 @@
 -- What an index has: of each document the writes that it applied, and how many it applied in all.
-use Rattle.std.specs.Prelude.{◌≡◌, ℕ, ◌-◌, ◌<◌, ◌≤◌, List, [], ◌∷◌, length, slice_get, Option, None, Some, is_some, option_map, option_and_then, unwrap_or, Bool}
+use Rattle.std.specs.Prelude.{◌≡◌, ◌≢◌, ℕ, ◌-◌, ◌<◌, ◌≤◌, List, [], ◌∷◌, length, slice_get, Option, None, Some, is_some, option_map, option_and_then, unwrap_or, Bool}
 use Rattle.std.specs.Map.{lookup}
 use Rattle.relay_action.specs.declared.key.DocKey.{DocKey}
 use Rattle.relay_action.specs.declared.write.Write.{Write}
@@ -52,8 +52,14 @@ RiseFrom low [] = Unit {0}
 RiseFrom None (w ∷ ws) = RiseFrom (Some w.version) ws
 RiseFrom (Some low) (w ∷ ws) = (low < w.version) × RiseFrom (Some w.version) ws
 
--- a document's list has writes of that document alone, and their versions rise strictly
+-- no list is empty
+abbrev pub NoneEmpty : List (DocKey × List Write) → Type 0
+NoneEmpty [] = Unit {0}
+NoneEmpty (e ∷ es) = (e.1 ≢ []) × NoneEmpty es
+
+-- a document's list has writes of that document alone, at least one, and their versions rise strictly
 pub record IsIndex (s : State) : Type 0 where
+  pub begun : NoneEmpty s.documents
   pub of_document : (k : Document) → AreOf k (applied s k)
   pub rising : (k : Document) → RiseFrom None (applied s k)
 

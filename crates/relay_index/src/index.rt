@@ -1,9 +1,12 @@
 //! The index.
 ghost use Rattle.std.specs.Prelude.{◌≡◌, ◌∷◌, [], Some, IsTrue, option_map, unwrap_or, max, IfOk, OnOk, OnErr};
+ghost use Rattle.std.specs.List.{IsDistinct};
 ghost use Rattle.relay_results.specs.Documents.{document_of};
 ghost use Rattle.relay_results.specs.Outside.{Outside, Ran, IsOutcomeOf, ran_of};
 ghost use Rattle.relay_index.specs.States.{fresh, applied, stored, live, is_live, IsHighest, IsIndex};
 ghost use Rattle.relay_index.specs.Choices.{MayChoose};
+ghost use Rattle.relay_index.specs.Keys.{document_order, same_key, AreKeys};
+ghost use Rattle.indexmap.specs.IndexMap.{keys as keys_of};
 ghost use Rattle.relay_index.specs.Lists.{with_write, appended, after_run};
 ghost use Rattle.relay_index.specs.Runs.{is_newer, is_run, status_by, result_of, applied_result, status_of, done_of, outcome_of_run, Effect, Shows};
 
@@ -13,6 +16,7 @@ use indexmap::IndexMap;
 use relay_action::{Action, ActionKind, DocKey, Write};
 use relay_results::{DoneResult, ItemDone};
 use std::alloc::{AllocError, Global};
+use std::cmp::Ordering;
 use std::marker::Model;
 
 /// An index in memory. Contracts see it as the writes that it applied to each document, in their
@@ -66,6 +70,28 @@ fn applied_answer(kind: ActionKind, live: bool) -> (u16, DoneResult)
     }
 }
 
+// Copies of the keys of the map, in its order. `AllocError`: there was no memory for them.
+fn copied_keys(alloc: Global, documents: &IndexMap<DocKey, History>) -> Result<Vec<DocKey>, AllocError>
+    ensures copied { IfOk result (λ keys. keys.items ≡ keys_of documents.now) }
+    ensures distinct { IsDistinct same_key (keys_of documents.now) }
+{
+    let mut keys = Vec::new(alloc);
+    for place in 0..documents.len() {
+        let (key, _) = documents.get_index(place).unwrap();
+        keys.push(key.copy()?)?;
+    }
+    Ok(keys)
+}
+
+// How two documents stand in their order.
+fn compare(a: &DocKey, b: &DocKey) -> Ordering
+    ensures { result ≡ document_order (document_of a.now) (document_of b.now) }
+{
+    a.index()
+        .cmp(&b.index())
+        .then_with(|| a.id().cmp(&b.id()))
+}
+
 impl Index {
     /// An index that has applied nothing. It takes no memory.
     pub fn new(alloc: Global) -> Index
@@ -105,6 +131,23 @@ impl Index {
             Some(history) => history.as_slice(),
             None => &[],
         }
+    }
+
+    /// The greatest version that is stored, or `None` where nothing was applied.
+    pub fn highest(&self) -> Option<u64>
+        ensures { IsHighest self.now result }
+    {
+        self.highest
+    }
+
+    /// The documents that a write was applied to, deleted ones too, in byte order of their index names
+    /// and then of their ids. `AllocError`: there was no memory for them.
+    pub fn keys(&self, alloc: Global) -> Result<Vec<DocKey>, AllocError>
+        ensures { IfOk result (λ keys. AreKeys self.now keys.items) }
+    {
+        let mut keys = copied_keys(alloc, &self.documents)?;
+        keys.sort_by(compare)?;
+        Ok(keys)
     }
 
     // Whether no version of the write's document is stored, or one below the write's.

@@ -9,6 +9,9 @@
 pub mod choice;
 mod history;
 pub mod index;
+mod refusal;
+pub mod script;
 
 pub use choice::Choice;
 pub use index::Index;
+pub use script::Script;
