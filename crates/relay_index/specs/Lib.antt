@@ -4,3 +4,5 @@ pub mod Runs
 pub mod Lists
 pub mod Keys
 pub mod Plans
+pub mod Serving
+pub mod Laws

@@ -206,7 +206,17 @@ impl Index {
         Ok(done)
     }
 
-    /// Runs a write, or refuses it.
+    /// What becomes of a write.
+    ///
+    /// `Refuse` gives its status and changes nothing; the status has to be from 400 to 599, and neither
+    /// 404 nor 409. `Run` gives 409 and `Conflict` where the version is not above the one stored of the
+    /// document, and changes nothing. Else it applies the write, whose version is stored then
+    /// (OpenSearch, index document API, `version_type` `external`): an index action gives 201 and
+    /// `Created` where there was no such document, else 200 and `Updated`; a delete gives 200 and
+    /// `Deleted` where there was one, else 404 and `NotFound`. The sequence number of an applied write is
+    /// the number of writes that were applied before it, over all documents; at 2^64 - 1 it stays.
+    ///
+    /// `AllocError`: there was no memory for copies of the write, and the index is as before.
     pub fn run(&mut self, write: &Write, choice: Choice) -> Result<ItemDone, AllocError>
         requires { MayChoose choice }
         ensures item { IfOk result (λ done. done ≡ done_of self.old write.now choice) }

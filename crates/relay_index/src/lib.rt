@@ -9,9 +9,12 @@
 pub mod choice;
 mod history;
 pub mod index;
+pub mod laws;
 mod refusal;
 pub mod script;
+pub mod serving;
 
 pub use choice::Choice;
 pub use index::Index;
 pub use script::Script;
+pub use serving::ServeFault;
