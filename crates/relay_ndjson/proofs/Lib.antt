@@ -11,3 +11,6 @@ pub mod Fronts
 pub mod Exclusion
 pub mod Totality
 pub mod TwoLines
+pub mod Versioning
+pub mod Bodies
+pub mod SameWrites

@@ -29,11 +29,10 @@ fn front_line(bytes: &[u8]) -> Result<(&[u8], &[u8]), LineKind>
     ensures err { IfErr result (LacksLine bytes.now) }
 {
     let Some(end) = memchr(b'\n', bytes) else {
-        return Err(if bytes.len() > LINE_LIMIT {
-            LineKind::LineLong
-        } else {
-            LineKind::NoFinalNewline
-        });
+        if bytes.len() > LINE_LIMIT {
+            return Err(LineKind::LineLong);
+        }
+        return Err(LineKind::NoFinalNewline);
     };
     let text = without_return(&bytes[..end]);
     if text.len() > LINE_LIMIT {
@@ -125,7 +124,7 @@ pub fn read_bulk(alloc: Global, body: &[u8]) -> Result<Vec<Write>, BulkFault>
     let mut writes = Vec::new(alloc);
     let mut rest = body;
     let mut lines = 0;
-    while !rest.is_empty() {
+    'writes: while !rest.is_empty() {
         let (write, behind) = match take_write(alloc, rest) {
             Ok(taken) => taken,
             Err(fault) => {
@@ -136,11 +135,14 @@ pub fn read_bulk(alloc: Global, body: &[u8]) -> Result<Vec<Write>, BulkFault>
             }
         };
         let count = line_count(&write.action);
-        if writes.push(write).is_err() {
-            return Err(BulkFault {
-                line: lines + 1,
-                kind: LineKind::Memory,
-            });
+        match writes.push(write) {
+            Ok(()) => {}
+            Err(_) => {
+                return Err(BulkFault {
+                    line: lines + 1,
+                    kind: LineKind::Memory,
+                });
+            }
         }
         lines += count;
         rest = behind;
