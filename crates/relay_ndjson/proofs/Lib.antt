@@ -14,3 +14,5 @@ pub mod TwoLines
 pub mod Versioning
 pub mod Bodies
 pub mod SameWrites
+pub mod OneBody
+pub mod Written

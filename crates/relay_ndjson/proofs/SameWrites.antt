@@ -4,6 +4,7 @@ use Rattle.std.proofs.Props.{props}
 use Rattle.relay_action.specs.Limits.{HasLength, IsOneLine, index_limit, id_limit, source_limit}
 use Rattle.relay_action.specs.declared.key.DocKey.{DocKey}
 use Rattle.relay_action.specs.declared.action.Source.{Source}
+use Rattle.relay_action.specs.declared.write.Write.{Write}
 
 length_one : (limit : ℕ) (text : List ℕ) → IsProp (HasLength limit text)
 length_one limit text = hlevel props
@@ -51,3 +52,8 @@ source_one text a c b d u x =
 -- sources of one text
 pub same_source : (s t : Source) → s.text ≡ t.text → s ≡ t
 same_source s t e = subst (λ (o : List ℕ). SourcesAt s.text o) e (source_one s.text) s.length_ok t.length_ok s.line_ok t.line_ok s.utf8 t.utf8
+
+-- writes of one document, one version and one action
+pub same_write : (w v : Write) → w.key ≡ v.key → w.version ≡ v.version → w.action ≡ v.action → w ≡ v
+same_write w v e f g =
+    ap (λ k. record w { key = k }) e ∙ (ap (λ n. record v { version = n; action = w.action }) f ∙ ap (λ a. record v { action = a }) g)

@@ -125,6 +125,7 @@ pub fn read_bulk(alloc: Global, body: &[u8]) -> Result<Vec<Write>, BulkFault>
     let mut rest = body;
     let mut lines = 0;
     'writes: while !rest.is_empty() {
+        prove!(lines < body.len() as u64);
         let (write, behind) = match take_write(alloc, rest) {
             Ok(taken) => taken,
             Err(fault) => {
