@@ -114,6 +114,7 @@ IsIndex-appended s w h newer = record {
     of_at : (k : Document) (b : Bool) → same_document k (document_of w.key) ≡ b → AreOf k (more_if b (applied s k) w)
     of_at k true e = AreOf-push k (applied s k) w (h.of_document k) (sym (same_document-true k (document_of w.key) e))
     of_at k false e = subst (AreOf k) (sym (more_none _ w)) (h.of_document k)
+
     rise_at : (k : Document) (b : Bool) → same_document k (document_of w.key) ≡ b → RiseFrom None (more_if b (applied s k) w)
     rise_at k true e =
         let place : document_of w.key ≡ k = sym (same_document-true k (document_of w.key) e) in

@@ -64,6 +64,7 @@ above_from a b not_below apart = by (key_order b a) refl
       where
         apart_tests : true ≡ false → ⊥
         apart_tests h = cc
+
     by : (o : Ordering) → key_order b a ≡ o → key_order a b ≡ Less
     by Less e = let l : true ≡ false = rw e at not_below in cc
     by Equal e = absurd (untied (key_total.antisymm a b ∙ ap ordering_reverse e))

@@ -53,6 +53,7 @@ Shows-after_run s w choice o r shows is = by (is_run s w choice) refl
   where
     same : is_applied w r.outcome ≡ is_run s w choice
     same = ap (is_applied w) is ∙ is_applied-done_of s w choice
+
     by : (b : Bool) → is_run s w choice ≡ b → Shows (ran_of o r (Some w)) (after_run s w choice)
     by true e = rw (same, e) (record {
       versions = λ k. sym (stored-appended s w k ∙ ap (λ v. if same_document k (document_of w.key) then Some w.version else v) (sym (shows.versions k)));

@@ -71,7 +71,10 @@ fn applied_answer(kind: ActionKind, live: bool) -> (u16, DoneResult)
 }
 
 // Copies of the keys of the map, in its order. `AllocError`: there was no memory for them.
-fn copied_keys(alloc: Global, documents: &IndexMap<DocKey, History>) -> Result<Vec<DocKey>, AllocError>
+fn copied_keys(
+    alloc: Global,
+    documents: &IndexMap<DocKey, History>,
+) -> Result<Vec<DocKey>, AllocError>
     ensures copied { IfOk result (λ keys. keys.items ≡ keys_of documents.now) }
     ensures distinct { IsDistinct same_key (keys_of documents.now) }
 {
@@ -87,9 +90,7 @@ fn copied_keys(alloc: Global, documents: &IndexMap<DocKey, History>) -> Result<V
 fn compare(a: &DocKey, b: &DocKey) -> Ordering
     ensures { result ≡ document_order (document_of a.now) (document_of b.now) }
 {
-    a.index()
-        .cmp(&b.index())
-        .then_with(|| a.id().cmp(&b.id()))
+    a.index().cmp(&b.index()).then_with(|| a.id().cmp(&b.id()))
 }
 
 impl Index {
@@ -154,7 +155,8 @@ impl Index {
     fn is_newer(&self, write: &Write) -> bool
         ensures { result ≡ is_newer self.now write.now }
     {
-        self.version(&write.key).is_none_or(|stored| stored < write.version)
+        self.version(&write.key)
+            .is_none_or(|stored| stored < write.version)
     }
 
     // The status and the result of a write.

@@ -13,6 +13,8 @@ pub mod laws;
 mod refusal;
 pub mod script;
 pub mod serving;
+#[cfg(test)]
+mod tests;
 
 pub use choice::Choice;
 pub use index::Index;

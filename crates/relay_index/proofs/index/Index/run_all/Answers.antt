@@ -11,7 +11,7 @@ writes-preserved c =
     let ws = c.args.writes.now in
     let more = take_more ws c.writes.write-index write (omega arith) ∙ ap (λ w. take c.writes.write-index ws ++ w ∷ []) (sym c.write-item.is) in
     let run : RunsOne c.writes.self write (choice_at c.writes.script) c.in-Ok-run.done c.run.new.self =
-        record { item_of = rw c.choice-choice.ensures.choice at c.in-Ok-run.ensures.item; effect = rw c.choice-choice.ensures.choice at c.in-Ok-run.ensures.effect } in
+    record { item_of = rw c.choice-choice.ensures.choice at c.in-Ok-run.ensures.item; effect = rw c.choice-choice.ensures.choice at c.in-Ok-run.ensures.effect } in
     record {
       runs = rw (more, c.push_reserved.ensures.items, c.step.ensures)
           (RunsAll-push c.args.self.now c.args.script.now (take c.writes.write-index ws) c.writes.items.items c.writes.self c.writes.script write c.in-Ok-run.done c.run.new.self c.writes.invariant.runs run);
