@@ -1,9 +1,9 @@
 -- The keys of the documents, sorted.
-use Rattle.std.proofs.Common.{◌≡◌, ◌≢◌, ◌∙◌, ℕ, zero, suc, ◌+◌, ◌<◌, List, [], ◌∷◌, ◌++◌, length, slice_get, take, get_or, Option, Some, None, is_some, unwrap_or, option_map, Bool, true, false, refl, ap, sym, subst, arith}
+use Rattle.std.proofs.Common.{◌≡◌, ◌≢◌, ◌∙◌, ℕ, zero, suc, ◌+◌, List, [], ◌∷◌, ◌++◌, slice_get, take, get_or, Some, None, is_some, option_map, Bool, true, false, refl, ap, sym, arith}
 use Rattle.std.specs.Map.{lookup, keys_of}
 use Rattle.std.specs.Cmp.{IsTotalOrder, IsStrictWeakOrder}
 use Rattle.std.specs.Fn.{Called, ComparesAs}
-use Rattle.std.specs.List.{IsDistinct, list_any}
+use Rattle.std.specs.List.{IsDistinct}
 use Rattle.std.specs.List.Sorted.{IsPermutation, IsSortedBy, IsStrictlySortedBy}
 use Rattle.std.specs.Ordering.{nat_cmp, is_lt, ordering_then, ordering_reverse}
 use Rattle.std.specs.Cmp.Lexicographic.{slice_cmp}
@@ -20,8 +20,8 @@ use Rattle.relay_action.specs.declared.key.DocKey.{DocKey}
 use Rattle.relay_action.specs.declared.write.Write.{Write}
 use Rattle.relay_results.specs.Documents.{Document, document_of, same_document}
 use Rattle.relay_results.proofs.Same.{same_document-self}
-use Rattle.relay_index.specs.States.{State, applied_among, last_of, stored, NoneEmpty}
-use Rattle.relay_index.specs.Keys.{document_order, key_order, same_key, is_among, AreKeys}
+use Rattle.relay_index.specs.States.{State, applied_among, last_of, NoneEmpty}
+use Rattle.relay_index.specs.Keys.{document_order, key_order, same_key, AreKeys}
 use Rattle.relay_index.proofs.Appended.{same_document-sym, last_of-step}
 
 -- ---- the order

@@ -1,21 +1,19 @@
 -- What a run of a write leaves, and that it is a run of the outside.
-use Rattle.std.proofs.Common.{◌≡◌, ◌≢◌, ◌∙◌, ◌⊎◌, inl, inr, ℕ, List, [], ◌∷◌, ◌++◌, Option, Some, None, Bool, true, false, refl, ap, sym, subst, append-nil, append_assoc, if◌then◌else◌}
-use Rattle.std.specs.Prelude.{is_some, ◌&&◌}
+use Rattle.std.proofs.Common.{◌≡◌, ◌∙◌, [], ◌∷◌, ◌++◌, Some, Bool, true, false, refl, ap, sym, append-nil, append_assoc, if◌then◌else◌}
+use Rattle.std.specs.Prelude.{is_some}
 use Rattle.relay_action.specs.Actions.{kind_of}
 use Rattle.relay_action.specs.declared.action.ActionKind.{ActionKind}
 use Rattle.relay_action.specs.declared.action.ActionKind.TheVariants as kind
 use Rattle.relay_action.specs.declared.write.Write.{Write}
-use Rattle.relay_results.specs.declared.done.DoneResult.TheVariants as done
-use Rattle.relay_results.specs.Documents.{Document, document_of, same_document}
+use Rattle.relay_results.specs.Documents.{document_of, same_document}
 use Rattle.relay_results.specs.Done.{failure}
 use Rattle.relay_results.specs.Verdicts.{is_success}
-use Rattle.relay_results.specs.Outside.{RunOutcome, Outside, Ran, IsOutcomeOf, is_applied, list_of, ran_of}
+use Rattle.relay_results.specs.Outside.{Outside, Ran, is_applied, ran_of}
 use Rattle.relay_index.specs.declared.choice.Choice.{Choice}
 use Rattle.relay_index.specs.declared.choice.Choice.TheVariants.{Run, Refuse}
-use Rattle.relay_index.specs.States.{State, applied, stored, is_live}
-use Rattle.relay_index.specs.Choices.{MayChoose}
-use Rattle.relay_index.specs.Runs.{is_newer, is_run, applied_result, status_of, result_of, done_of, outcome_of_run, Effect, Shows}
-use Rattle.relay_index.specs.Lists.{appended, after_run}
+use Rattle.relay_index.specs.States.{State, is_live}
+use Rattle.relay_index.specs.Runs.{is_newer, is_run, applied_result, status_of, done_of, outcome_of_run, Effect, Shows}
+use Rattle.relay_index.specs.Lists.{after_run}
 use Rattle.relay_index.proofs.Appended.{applied-with_write, stored-appended}
 
 -- ---- the effect

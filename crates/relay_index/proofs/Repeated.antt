@@ -1,23 +1,21 @@
 -- The laws of runs.
-use Rattle.std.proofs.Common.{◌≡◌, ◌∙◌, ℕ, ◌<◌, List, [], ◌∷◌, ◌++◌, Option, Some, None, Bool, true, false, refl, ap, sym, subst, option_map, arith, append-nil, ltb, cond}
-use Rattle.std.specs.Prelude.{option_and_then, if◌then◌else◌, ◌&&◌, ◌==◌, IsTrue}
+use Rattle.std.proofs.Common.{◌≡◌, ◌∙◌, ℕ, Option, Some, None, true, false, refl, ap, option_map, arith, append-nil, ltb}
+use Rattle.std.specs.Prelude.{option_and_then, ◌==◌}
 use Rattle.std.specs.Map.{lookup}
-use Rattle.relay_action.specs.declared.action.Action.TheVariants.{Delete}
 use Rattle.relay_action.specs.declared.write.Write.{Write}
-use Rattle.relay_results.specs.declared.done.DoneResult.TheVariants as done
 use Rattle.relay_results.specs.declared.done.ItemDone.{ItemDone}
-use Rattle.relay_results.specs.Documents.{Document, document_of, same_document, source_of}
+use Rattle.relay_results.specs.Documents.{document_of, source_of}
 use Rattle.relay_results.specs.Outside.{is_above}
 use Rattle.relay_results.proofs.Same.{same_document-self}
 use Rattle.relay_index.specs.declared.choice.Choice.{Choice}
-use Rattle.relay_index.specs.declared.choice.Choice.TheVariants.{Run, Refuse}
+use Rattle.relay_index.specs.declared.choice.Choice.TheVariants.{Run}
 use Rattle.relay_index.specs.declared.refusal.Refusal.{Refusal}
 use Rattle.relay_index.specs.Choices.{MayChoose}
 use Rattle.relay_action.specs.Streams.{one_more}
-use Rattle.relay_index.specs.States.{State, applied, last_of, stored, live}
-use Rattle.relay_index.specs.Runs.{is_newer, is_run, result_of, status_by, done_of, RunsOne}
-use Rattle.relay_index.specs.Plans.{Plan, choice_by, choice_at}
-use Rattle.relay_index.specs.Laws.{AppliedIsStored, DeletedKeepsVersion, IsConflictOf, RepeatIsConflict, ScriptsMay}
+use Rattle.relay_index.specs.States.{State, applied, last_of, stored}
+use Rattle.relay_index.specs.Runs.{is_newer, is_run, result_of, status_by, RunsOne}
+use Rattle.relay_index.specs.Plans.{choice_by}
+use Rattle.relay_index.specs.Laws.{AppliedIsStored, DeletedKeepsVersion, RepeatIsConflict, ScriptsMay}
 use Rattle.relay_index.proofs.Appended.{last_of-push}
 
 -- the last write of its document is the one that was applied

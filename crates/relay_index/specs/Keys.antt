@@ -1,5 +1,5 @@
 -- The documents of an index, listed.
-use Rattle.std.specs.Prelude.{◌≡◌, ℕ, List, is_some, Bool}
+use Rattle.std.specs.Prelude.{◌≡◌, List, is_some, Bool}
 use Rattle.std.specs.declared.cmp.Ordering.{Ordering}
 use Rattle.std.specs.Ordering.{nat_cmp, ordering_then}
 use Rattle.std.specs.Cmp.Lexicographic.{slice_cmp}

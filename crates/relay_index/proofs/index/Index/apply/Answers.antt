@@ -1,4 +1,4 @@
-use Rattle.std.proofs.Common.{◌≡◌, ◌∙◌, ap, max, unwrap_or}
+use Rattle.std.proofs.Common.{◌∙◌, ap, max}
 use Rattle.relay_index.specs.States.{State}
 use Rattle.relay_index.proofs.Appended.{IsIndex-appended, IsHighest-appended}
 use Rattle.relay_index.proofs.index.Index.apply.Goals as goal

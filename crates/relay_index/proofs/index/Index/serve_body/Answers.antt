@@ -1,10 +1,10 @@
-use Rattle.std.proofs.Common.{◌≡◌, ◌⊎◌, inl, inr, ℕ, List, refl, string_bytes}
+use Rattle.std.proofs.Common.{inl, inr, ℕ, List, refl, string_bytes}
 use Rattle.std.proofs.lemmas.Result.{IfOk-weaker}
 use Rattle.relay_ndjson.specs.declared.kind.BulkFault.{BulkFault}
-use Rattle.relay_ndjson.specs.Bodies.{IsBulkFault, BreaksBulk}
+use Rattle.relay_ndjson.specs.Bodies.{IsBulkFault}
 use Rattle.relay_index.specs.States.{State}
 use Rattle.relay_index.specs.Plans.{Plan}
-use Rattle.relay_index.specs.Serving.{IsRejection, Answers, Rejects}
+use Rattle.relay_index.specs.Serving.{IsRejection, Answers}
 use Rattle.relay_index.proofs.index.Index.serve_body.Goals as goal
 
 -- a fault that is not want of memory breaks the body, and its answer is that of the body

@@ -1,6 +1,3 @@
-use Rattle.relay_results.specs.Done.{reply_text, outcomes_of, HaveStatuses}
-use Rattle.relay_results.specs.Replies.{IsReply}
-use Rattle.std.proofs.Common.{string_bytes, ◌≡◌, sym, subst}
 use Rattle.relay_index.proofs.Served.{HaveStatuses-RunsAll}
 use Rattle.relay_index.proofs.index.Index.serve_writes.Goals as goal
 

@@ -1,6 +1,5 @@
-use Rattle.std.proofs.Common.{◌≡◌, ◌∙◌, ◌==◌, ℕ, Some, Option, option_map, Bool, true, false, refl, ap, cond}
+use Rattle.std.proofs.Common.{◌≡◌, ◌∙◌, ◌==◌, Some, Option, option_map, Bool, true, false, refl, ap, cond}
 use Rattle.std.specs.Prelude.{if◌then◌else◌}
-use Rattle.relay_index.specs.Plans.{refusal_at}
 use Rattle.relay_index.specs.declared.refusal.Refusal.{Refusal}
 use Rattle.relay_index.proofs.script.Script.refuse.Goals as goal
 
