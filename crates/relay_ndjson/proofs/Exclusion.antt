@@ -61,7 +61,7 @@ stopped n m mid end h k p q (inr (inr s)) = let e = q s.1 s.2 in absurd (omega (
 
 -- ---- what stops
 
-source_none : (s : Source) → source_line_fault s.text ≡ None
+pub source_none : (s : Source) → source_line_fault s.text ≡ None
 source_none s =
     let a = s.length_ok in let b = s.line_ok in
     let f : source_fault s.text ≡ None = grind (arith, a.0, a.1, b) in
@@ -155,7 +155,7 @@ no_operation_at_end default new bytes n op t b =
 
 -- ---- one fault
 
-some_kind : (k l : LineKind) → Some k ≡ Some l → k ≡ l
+pub some_kind : (k l : LineKind) → Some k ≡ Some l → k ≡ l
 some_kind k l e = cc
 
 one_action_fault : (default mid : Option (List ℕ)) (k l : LineKind) → Shows mid → BreaksAction default mid k → BreaksAction default mid l → k ≡ l

@@ -21,7 +21,7 @@ same_split (x ∷ xs) (y ∷ ys) r s h k e =
     let rec = same_split xs ys r s (unbroken_tail x xs h) (unbroken_tail y ys k) t in
     let g = rec.0 in (cc, rec.1)
 
-not_unbroken : (xs r : List ℕ) → IsUnbroken (xs ++ 10 ∷ r) → ⊥
+pub not_unbroken : (xs r : List ℕ) → IsUnbroken (xs ++ 10 ∷ r) → ⊥
 not_unbroken [] r h = unbroken_head 10 r h refl
 not_unbroken (x ∷ xs) r h = not_unbroken xs r (unbroken_tail x (xs ++ 10 ∷ r) h)
 
@@ -35,7 +35,7 @@ prefix (x ∷ xs) (y ∷ raw) r t h e =
     let rec = prefix xs raw r t (unbroken_tail y raw h) g in
     let k = rec.1 in (rec.0, cc)
 
-last_of : (xs : List ℕ) (b : ℕ) → get_or (xs ++ b ∷ []) (length xs) 0 ≡ b
+pub last_of : (xs : List ℕ) (b : ℕ) → get_or (xs ++ b ∷ []) (length xs) 0 ≡ b
 last_of [] b = refl
 last_of (x ∷ xs) b = last_of xs b
 
@@ -62,7 +62,7 @@ same_text text other raw (inr a) (inl b) = absurd (a.1 (ends_in_13 other raw b))
 same_text text other raw (inr a) (inr b) = sym a.0 ∙ b.0
 
 -- the bytes of a line with its end, and what follows
-rejoined : (raw bytes rest all : List ℕ) → bytes ≡ raw ++ 10 ∷ [] → all ≡ bytes ++ rest → all ≡ raw ++ 10 ∷ rest
+pub rejoined : (raw bytes rest all : List ℕ) → bytes ≡ raw ++ 10 ∷ [] → all ≡ bytes ++ rest → all ≡ raw ++ 10 ∷ rest
 rejoined raw bytes rest all e f = f ∙ ap (λ b. b ++ rest) e ∙ append_assoc raw (10 ∷ []) rest
 
 -- over bytes that are known
@@ -83,7 +83,7 @@ same_front all r s text other b c (inr l) e (inr m) f =
 
 -- ---- long lines
 
-nil_of : (xs : List ℕ) → length xs ≡ 0 → xs ≡ []
+pub nil_of : (xs : List ℕ) → length xs ≡ 0 → xs ≡ []
 nil_of [] e = refl
 nil_of (x ∷ xs) e = absurd (omega arith)
 
@@ -143,7 +143,7 @@ shown_rest old (Some rest) b s e = (b ++ rest, rest, e, refl, refl)
 pub shows_on : (old new : Option (List ℕ)) (text : List ℕ) → Shows old → TakesText old new text → Shows new
 shows_on old new text s t = let r = shown_rest old new t.bytes s t.taken in (r.1, r.3)
 
-some_same : (xs ys : List ℕ) → Some xs ≡ Some ys → xs ≡ ys
+pub some_same : (xs ys : List ℕ) → Some xs ≡ Some ys → xs ≡ ys
 some_same xs ys e = cc
 
 before_at : (old new rest : Option (List ℕ)) (text b : List ℕ) → new ≡ rest → IsLineBefore new text b → IsLineBefore rest text b

@@ -11,3 +11,8 @@ pub mod Fronts
 pub mod Exclusion
 pub mod Totality
 pub mod TwoLines
+pub mod Versioning
+pub mod Bodies
+pub mod SameWrites
+pub mod OneBody
+pub mod Written

@@ -34,5 +34,3 @@ length-action_text w =
 
 -- the same, for the tactics
 pub ruleset length_of_action_text = (length-action_text)
-
-pub ruleset parts_of_action_text = (action_text-parts)

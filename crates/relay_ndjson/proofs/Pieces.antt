@@ -49,14 +49,14 @@ unbroken_append : (xs ys : List ℕ) → IsUnbroken xs → IsUnbroken ys → IsU
 unbroken_append xs ys h k = grind (arith, common_steps)
 
 -- where no byte is a line feed
-nowhere_unbroken : (bytes : List ℕ) → Nowhere (Passes (is_byte 10) bytes) 0 (length bytes) → IsUnbroken bytes
+pub nowhere_unbroken : (bytes : List ℕ) → Nowhere (Passes (is_byte 10) bytes) 0 (length bytes) → IsUnbroken bytes
 nowhere_unbroken [] h = refl
 nowhere_unbroken (x ∷ xs) h =
     unbroken_cons x xs (λ e. h 0 (omega arith) (omega arith) (grind (arith, e)))
     (nowhere_unbroken xs (λ k low high p. h (suc k) (omega arith) (omega arith) p))
 
 -- the first line feed
-first_feed : (bytes : List ℕ) (end : ℕ) → IsFirstByte (is_byte 10) bytes (Some end) → IsUnbroken (take end bytes) × (bytes ≡ take end bytes ++ 10 ∷ drop (end + 1) bytes)
+pub first_feed : (bytes : List ℕ) (end : ℕ) → IsFirstByte (is_byte 10) bytes (Some end) → IsUnbroken (take end bytes) × (bytes ≡ take end bytes ++ 10 ∷ drop (end + 1) bytes)
 first_feed bytes end f =
     let high : end < length bytes = f.0.high in
     let n : length (take end bytes) ≡ end = grind (arith, common_steps) in
@@ -111,20 +111,9 @@ line_goes_on begun piece text rest old left e p =
     let f : begun ++ piece ≡ text ++ rest = sym p.2 ∙ (sym (append-nil text) ∙ ap (λ x. text ++ x) (sym p.3)) in
     rejoined begun piece text rest old left e f
 
-pub line_grows : (begun piece text rest : List ℕ) → piece ≢ [] → TakesPart begun piece text rest (Ok false) → length begun < length text
-line_grows begun [] text rest h p = absurd (h refl)
-line_grows begun (x ∷ xs) text rest h p = let n : length text ≡ length begun + length (x ∷ xs) = ap length p.2 ∙ length-append begun (x ∷ xs) in omega (arith, n)
-
 pub line_at_end : (text : List ℕ) (old new : Option (List ℕ)) (r : Result Line LineKind) → old ≡ prepend_known text new → IsUnbroken text → IsAtEnd new → EndsLine text r → TakesLine old new text r
 line_at_end text old new (Ok line.Ended) e u h s = absurd s
 line_at_end text old new (Ok line.Open) e u h s = (u, s.0, s.1, e, h)
 line_at_end text old new (Ok line.Absent) e u h s =
     let same : old ≡ new = e ∙ (ap (λ t. prepend_known t new) s ∙ prepend_nothing new) in (subst IsAtEnd (sym same) h, sym same)
 line_at_end text old new (Err k) e u h s = inr (inr (s.0, record { raw = text; rest = new; unbroken = u; taken = e; past = inr (s.1, h) }))
-
--- the bytes of a stream behind a piece that held none
-pub filled : (old new : Option (List ℕ)) (piece held : List ℕ) → piece ≡ [] → old ≡ prepend_known held new → prepend_known piece old ≡ prepend_known held new
-filled old new piece held e f = ap (λ p. prepend_known p old) e ∙ (prepend_nothing old ∙ f)
-
-pub filled_at_end : (old new : Option (List ℕ)) (held : List ℕ) → old ≡ prepend_known held new → IsAtEnd old → IsAtEnd (prepend_known held new)
-filled_at_end old new held e h = subst IsAtEnd e h

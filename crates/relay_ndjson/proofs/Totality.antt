@@ -1,6 +1,5 @@
 -- Over known bytes there is always an operation, the end or a fault.
 use Rattle.std.proofs.Common.{◌≡◌, ◌≢◌, ◌⊎◌, ℕ, zero, suc, ◌+◌, ◌-◌, ◌<◌, ◌≤◌, List, [], ◌∷◌, ◌++◌, length, get_or, Option, None, Some, refl, ap, sym, ◌∙◌, arith, inl, inr, append-nil, append_assoc, length-append}
-use Rattle.std.proofs.lemmas.Grind.{common_steps}
 use Rattle.std.specs.Io.KnownBytes.{IsAtEnd}
 use Rattle.relay_ndjson.specs.Lines.{IsUnbroken, IsRaw, IsPastLimit, line_limit, TakesText, IsLong, TakesBlank}
 use Rattle.relay_action.specs.declared.action.ActionKind.{ActionKind}
@@ -12,6 +11,7 @@ use Rattle.relay_ndjson.specs.Metadata.{Says, line_fault, source_line_fault}
 use Rattle.relay_ndjson.specs.Operations.{blank_limit, HoldsNoMore, BreaksAt, Breaks}
 use Rattle.relay_ndjson.specs.Laws.{AlwaysDecided, BeginsOperation, HasLines}
 use Rattle.relay_ndjson.proofs.Deciding.{none_says}
+use Rattle.relay_ndjson.proofs.Pieces.{unbroken_cons}
 use Rattle.relay_ndjson.proofs.Taking.{blank_more}
 
 decide_nat : (a b : ℕ) → (a ≡ b) ⊎ (a ≢ b)
@@ -24,9 +24,6 @@ pub decide_le : (a b : ℕ) → (a ≤ b) ⊎ (b < a)
 decide_le zero b = inl (omega arith)
 decide_le (suc a) zero = inr (omega arith)
 decide_le (suc a) (suc b) = elim (decide_le a b) [ inl e ↦ inl (omega (arith, e)) | inr n ↦ inr (omega (arith, n)) ]
-
-unbroken_cons : (x : ℕ) (xs : List ℕ) → x ≢ 10 → IsUnbroken xs → IsUnbroken (x ∷ xs)
-unbroken_cons x xs h k = grind (arith, common_steps)
 
 abbrev Split : List ℕ → Type 0
 Split bytes = IsUnbroken bytes ⊎ ((raw : List ℕ) × (rest : List ℕ) × IsUnbroken raw × (bytes ≡ raw ++ 10 ∷ rest))
@@ -56,7 +53,7 @@ trim [] = ([], inr (refl, λ e. omega (arith, e)))
 trim (x ∷ []) = elim (decide_nat x 13) [ inl e ↦ ([], inl (ap (λ y. y ∷ []) e)) | inr n ↦ (x ∷ [], inr (refl, n)) ]
 trim (x ∷ y ∷ ys) = trim_more x y ys (trim (y ∷ ys))
 
-past_limit : (text raw : List ℕ) → IsRaw text raw → line_limit < length text → IsPastLimit raw
+pub past_limit : (text raw : List ℕ) → IsRaw text raw → line_limit < length text → IsPastLimit raw
 past_limit text raw (inl e) h =
     let n : length raw ≡ length text + 1 = ap length e ∙ length-append text (13 ∷ []) in
     (omega (arith, n, h), λ m. absurd (omega (arith, n, h, m)))

@@ -1,12 +1,15 @@
--- The grammar and the faults exclude each other, and each is determined.
+-- The grammars and the faults exclude each other, and each is determined.
 use Rattle.std.specs.Prelude.{◌≡◌, ◌↔◌, ◌⊎◌, ◌≤◌, ℕ, List, Option, None, Some}
 use Rattle.relay_action.specs.Faults.{key_fault}
 use Rattle.relay_action.specs.declared.action.ActionKind.{ActionKind}
 use Rattle.relay_action.specs.declared.action.ActionKind.TheVariants as action
+use Rattle.relay_action.specs.declared.write.Write.{Write}
 use Rattle.relay_ndjson.specs.declared.kind.LineKind.{LineKind}
 use Rattle.relay_ndjson.specs.Lines.{TakesText, TakesBlank}
 use Rattle.relay_ndjson.specs.Metadata.{Says, line_fault, source_line_fault}
 use Rattle.relay_ndjson.specs.Operations.{Operation, blank_limit, TakesOperation, HoldsNoMore, Breaks}
+use Rattle.relay_ndjson.specs.Bulk.{text_of}
+use Rattle.relay_ndjson.specs.Bodies.{AreDealt, IsBulk, BreaksBulk}
 
 -- a text has no fault exactly where it asks for an action on a document that may be
 abbrev pub TextDecides : Type 0
@@ -47,3 +50,21 @@ BeginsOperation default old = (n : ℕ) × (mid : Option (List ℕ)) × (n ≤ b
 abbrev pub AlwaysDecided : Type 0
 AlwaysDecided = (default : Option (List ℕ)) (bytes : List ℕ) →
     BeginsOperation default (Some bytes) ⊎ HoldsNoMore (Some bytes) ⊎ ((at : ℕ) × (k : LineKind) × Breaks default (Some bytes) at k)
+
+-- ---- bodies of the index side
+
+-- the bulk text of writes is a body of just these
+abbrev pub BulkTextIsBulk : Type 0
+BulkTextIsBulk = (ws : List Write) → AreDealt ws → IsBulk (text_of ws) ws
+
+-- a body has one list of writes
+abbrev pub OneBulk : Type 0
+OneBulk = (bytes : List ℕ) (ws vs : List Write) → IsBulk bytes ws → IsBulk bytes vs → ws ≡ vs
+
+-- and no fault
+abbrev pub NoFaultInBulk : Type 0
+NoFaultInBulk = (bytes : List ℕ) (ws : List Write) (at : ℕ) (k : LineKind) → IsBulk bytes ws → BreaksBulk bytes at k → ⊥
+
+-- there is one first fault
+abbrev pub OneBulkFault : Type 0
+OneBulkFault = (bytes : List ℕ) (at place : ℕ) (k l : LineKind) → BreaksBulk bytes at k → BreaksBulk bytes place l → (at ≡ place) × (k ≡ l)

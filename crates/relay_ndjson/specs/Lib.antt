@@ -7,3 +7,5 @@ pub mod Metadata
 pub mod Operations
 pub mod Reading
 pub mod Laws
+pub mod Versioned
+pub mod Bodies

@@ -85,11 +85,16 @@ abbrev pub fault_or : {A : Type 0} → LineKind → (A → Option LineKind) → 
 fault_or k f None = Some k
 fault_or k f (Some a) = f a
 
+-- of metadata whose members may be
+abbrev pub document_fault : Option (List ℕ) → Data → Option LineKind
+document_fault default m =
+    fault_or kind.MissingIndex (λ index. fault_or kind.MissingId (λ id. option_map kind.Action (key_fault index id)) (id_of m)) (index_of default m)
+
 abbrev pub metadata_fault : Option (List ℕ) → Data → Option LineKind
 metadata_fault default m =
     if not (has_only is_field m) then Some kind.UnsupportedField
     else if not (has_only is_document m) then Some kind.VersionGiven
-    else fault_or kind.MissingIndex (λ index. fault_or kind.MissingId (λ id. option_map kind.Action (key_fault index id)) (id_of m)) (index_of default m)
+    else document_fault default m
 
 -- the one member of an object
 abbrev pub sole : Members → Option (List ℕ × Data)

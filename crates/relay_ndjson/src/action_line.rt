@@ -3,7 +3,7 @@ ghost use Rattle.std.specs.Prelude.{◌≡◌, ◌⊎◌, ℕ, List, Bool, true,
 ghost use Rattle.serde_json.specs.Data.{Data};
 ghost use Rattle.serde_json.specs.Find.{as_object, get};
 ghost use Rattle.serde_json.specs.View.{view, members_view};
-ghost use Rattle.relay_ndjson.specs.Metadata.{shown, sole, action_of, action_kind, all_names, has_only, is_document, is_field, is_version, id_of, id_text, index_of, metadata_fault, value_fault, line_fault, Asks, Says, IsDocument, source_line_fault};
+ghost use Rattle.relay_ndjson.specs.Metadata.{shown, sole, action_of, action_kind, all_names, has_only, is_document, is_field, is_version, id_of, id_text, index_of, document_fault, metadata_fault, value_fault, line_fault, Asks, Says, IsDocument, source_line_fault};
 ghost use Rattle.serde_json.specs.Read.{read};
 ghost use Rattle.relay_action.specs.Actions.{IsIndexOf};
 
@@ -24,8 +24,8 @@ fn sole_member(map: &Map<String, Value>) -> Option<(&str, &Value)>
     Some((name.as_str(), value))
 }
 
-// The name and the metadata of an action.
-fn action_of(value: &Value) -> Option<(&str, &Value)>
+/// The name and the metadata of an action.
+pub fn action_of(value: &Value) -> Option<(&str, &Value)>
     ensures { option_map (λ r. (r.0.now, view r.1.now)) result ≡ action_of (view value.now) }
 {
     let (name, metadata) = sole_member(value.as_object()?)?;
@@ -36,8 +36,8 @@ fn action_of(value: &Value) -> Option<(&str, &Value)>
     }
 }
 
-// The action of a name.
-fn action_kind(name: &str) -> Option<ActionKind>
+/// The action of a name.
+pub fn action_kind(name: &str) -> Option<ActionKind>
     ensures { result ≡ action_kind name.now }
 {
     match name {
@@ -92,7 +92,8 @@ fn has_only_document(metadata: &Value) -> bool
     }
 }
 
-fn has_only_fields(metadata: &Value) -> bool
+/// Whether all members of the metadata are known.
+pub fn has_only_fields(metadata: &Value) -> bool
     ensures { result ≡ has_only is_field (view metadata.now) }
 {
     match metadata.as_object() {
@@ -124,18 +125,17 @@ fn id_text<'v>(value: &'v Value, buffer: &'v mut Buffer) -> Option<&'v str>
     value.as_str()
 }
 
-// The document of metadata.
-fn key_of(alloc: Global, default_index: Option<&str>, metadata: &Value) -> Result<DocKey, LineKind>
-    ensures ok { IfOk result (λ k. IsDocument (shown default_index.entry) (view metadata.now) k.index k.id) }
+/// The document of metadata whose members may be.
+pub fn document_of(
+    alloc: Global,
+    default_index: Option<&str>,
+    metadata: &Value,
+) -> Result<DocKey, LineKind>
+    ensures index { IfOk result (λ k. index_of (shown default_index.entry) (view metadata.now) ≡ Some k.index) }
+    ensures id { IfOk result (λ k. id_of (view metadata.now) ≡ Some k.id) }
     ensures err { IfErr result (λ e. (e ≡ LineKind.Memory)
-        ⊎ (metadata_fault (shown default_index.entry) (view metadata.now) ≡ Some e)) }
+        ⊎ (document_fault (shown default_index.entry) (view metadata.now) ≡ Some e)) }
 {
-    if !has_only_fields(metadata) {
-        return Err(LineKind::UnsupportedField);
-    }
-    if !has_only_document(metadata) {
-        return Err(LineKind::VersionGiven);
-    }
     let Some(index) = index_of(default_index, metadata) else {
         return Err(LineKind::MissingIndex);
     };
@@ -147,6 +147,21 @@ fn key_of(alloc: Global, default_index: Option<&str>, metadata: &Value) -> Resul
         return Err(LineKind::MissingId);
     };
     DocKey::new(alloc, index, id).map_err(|fault| kind_of(fault))
+}
+
+// The document of a producer's metadata.
+fn key_of(alloc: Global, default_index: Option<&str>, metadata: &Value) -> Result<DocKey, LineKind>
+    ensures ok { IfOk result (λ k. IsDocument (shown default_index.entry) (view metadata.now) k.index k.id) }
+    ensures err { IfErr result (λ e. (e ≡ LineKind.Memory)
+        ⊎ (metadata_fault (shown default_index.entry) (view metadata.now) ≡ Some e)) }
+{
+    if !has_only_fields(metadata) {
+        return Err(LineKind::UnsupportedField);
+    }
+    if !has_only_document(metadata) {
+        return Err(LineKind::VersionGiven);
+    }
+    document_of(alloc, default_index, metadata)
 }
 
 // What a value asks for.
@@ -171,8 +186,8 @@ fn asked(
     }
 }
 
-// The value of a line.
-fn value_of(alloc: Global, line: &[u8]) -> Result<Value, LineKind>
+/// The value of a line.
+pub fn value_of(alloc: Global, line: &[u8]) -> Result<Value, LineKind>
     ensures ok { IfOk result (λ v. IsUtf8 line.now × (read line.now ≡ Some (view v))) }
     ensures err { IfErr result (λ e. (e ≡ LineKind.Memory)
         ⊎ ((e ≡ LineKind.NotJson) × (IsUtf8 line.now → read line.now ≡ None))) }

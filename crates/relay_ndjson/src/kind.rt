@@ -1,6 +1,6 @@
 //! What is wrong with a line.
 ghost use Rattle.std.specs.Prelude.{◌≡◌};
-ghost use Rattle.relay_ndjson.specs.Kinds.{kind_of};
+ghost use Rattle.relay_ndjson.specs.Kinds.{kind_of, fault_name, name_of};
 
 use relay_action::ActionFault;
 use thiserror::Error;
@@ -56,13 +56,64 @@ pub enum LineKind {
     Failed,
 }
 
-/// Which line is at fault, and why.
+// The name of a fault of a document or a source.
+fn fault_name(fault: ActionFault) -> &'static str
+    ensures { result.now ≡ fault_name fault }
+{
+    match fault {
+        ActionFault::IndexEmpty => "IndexEmpty",
+        ActionFault::IndexLong => "IndexLong",
+        ActionFault::IdEmpty => "IdEmpty",
+        ActionFault::IdLong => "IdLong",
+        ActionFault::SourceEmpty => "SourceEmpty",
+        ActionFault::SourceLong => "SourceLong",
+        ActionFault::SourceNewline => "SourceNewline",
+        ActionFault::Memory => "Memory",
+    }
+}
+
+impl LineKind {
+    /// Its name, as it is printed: that of the variant, and of `Action` that of the fault inside.
+    pub fn name(self) -> &'static str
+        ensures { result.now ≡ name_of self }
+    {
+        match self {
+            LineKind::NotJson => "NotJson",
+            LineKind::NotOneAction => "NotOneAction",
+            LineKind::UnsupportedAction => "UnsupportedAction",
+            LineKind::UnsupportedField => "UnsupportedField",
+            LineKind::MissingIndex => "MissingIndex",
+            LineKind::MissingId => "MissingId",
+            LineKind::VersionGiven => "VersionGiven",
+            LineKind::VersionMissing => "VersionMissing",
+            LineKind::SourceMissing => "SourceMissing",
+            LineKind::Action(fault) => fault_name(fault),
+            LineKind::NoFinalNewline => "NoFinalNewline",
+            LineKind::LineLong => "LineLong",
+            LineKind::Read => "Read",
+            LineKind::Memory => "Memory",
+            LineKind::Failed => "Failed",
+        }
+    }
+}
+
+/// Which line of an input is at fault, and why.
 #[derive(Clone, Copy, Debug, PartialEq, Eq, Error)]
 #[error("line {line}: {kind}")]
 pub struct InputFault {
     /// The line, counted from 1, blank lines included. At 2^64 - 1 the count stays.
     pub line: u64,
     /// What is wrong with it.
+    pub kind: LineKind,
+}
+
+/// Which line of a body is at fault, and why.
+#[derive(Clone, Copy, Debug, PartialEq, Eq, Error)]
+#[error("line {line}: {kind}")]
+pub struct BulkFault {
+    /// The line, counted from 1.
+    pub line: u64,
+    /// What is wrong with it. `Read` and `Failed` are none of a body, nor is `VersionGiven`.
     pub kind: LineKind,
 }
 

@@ -8,6 +8,7 @@
 #![tactic(auto)]
 
 mod action_line;
+pub mod body;
 pub mod bulk;
 pub mod input;
 pub mod kind;
@@ -19,10 +20,12 @@ mod piece;
 mod quoted;
 #[cfg(test)]
 mod tests;
+mod versioned_line;
 
+pub use body::read_bulk;
 pub use bulk::{LAST_VERSION, TextFault, append_write, bulk_text, write_write};
 pub use input::Input;
-pub use kind::{InputFault, LineKind};
+pub use kind::{BulkFault, InputFault, LineKind};
 pub use length::{bulk_len, write_len};
 pub use lines::{BLANK_LIMIT, LINE_LIMIT};
 pub use parser::{Parser, Phase};

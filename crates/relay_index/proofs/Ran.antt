@@ -1,0 +1,60 @@
+-- What a run of a write leaves, and that it is a run of the outside.
+use Rattle.std.proofs.Common.{◌≡◌, ◌∙◌, [], ◌∷◌, ◌++◌, Some, Bool, true, false, refl, ap, sym, append-nil, append_assoc, if◌then◌else◌}
+use Rattle.std.specs.Prelude.{is_some}
+use Rattle.relay_action.specs.Actions.{kind_of}
+use Rattle.relay_action.specs.declared.action.ActionKind.{ActionKind}
+use Rattle.relay_action.specs.declared.action.ActionKind.TheVariants as kind
+use Rattle.relay_action.specs.declared.write.Write.{Write}
+use Rattle.relay_results.specs.Documents.{document_of, same_document}
+use Rattle.relay_results.specs.Done.{failure}
+use Rattle.relay_results.specs.Verdicts.{is_success}
+use Rattle.relay_results.specs.Outside.{Outside, Ran, is_applied, ran_of}
+use Rattle.relay_index.specs.declared.choice.Choice.{Choice}
+use Rattle.relay_index.specs.declared.choice.Choice.TheVariants.{Run, Refuse}
+use Rattle.relay_index.specs.States.{State, is_live}
+use Rattle.relay_index.specs.Runs.{is_newer, is_run, applied_result, status_of, done_of, outcome_of_run, Effect, Shows}
+use Rattle.relay_index.specs.Lists.{after_run}
+use Rattle.relay_index.proofs.Appended.{applied-with_write, stored-appended}
+
+-- ---- the effect
+
+pub Effect-after_run : (s : State) (w : Write) (choice : Choice) → Effect s w choice (after_run s w choice)
+Effect-after_run s w choice = by (is_run s w choice) refl
+  where
+    by : (b : Bool) → is_run s w choice ≡ b → Effect s w choice (after_run s w choice)
+    by true e = record { lists = λ k. rw e (applied-with_write s.documents w k); count = rw e refl }
+    by false e = record { lists = λ k. rw e (sym (append-nil _)); count = rw e refl }
+
+-- ---- the outcome
+
+-- a run that did something says so
+success_of : (k : ActionKind) (live : Bool) → is_success k (status_of (applied_result k live)) (is_some (failure (applied_result k live))) ≡ true
+success_of kind.Index true = refl
+success_of kind.Index false = refl
+success_of kind.Delete true = refl
+success_of kind.Delete false = refl
+
+-- the outcome says that the write was applied exactly where it was
+pub is_applied-done_of : (s : State) (w : Write) (choice : Choice) → is_applied w (outcome_of_run (done_of s w choice)) ≡ is_run s w choice
+is_applied-done_of s w (Refuse status) = refl
+is_applied-done_of s w Run = by (is_newer s w) refl
+  where
+    by : (b : Bool) → is_newer s w ≡ b → is_applied w (outcome_of_run (done_of s w Run)) ≡ is_newer s w
+    by true e = rw e (success_of (kind_of w.action) (is_live s (document_of w.key)))
+    by false e = rw e refl
+
+-- ---- as the outside
+
+pub Shows-after_run : (s : State) (w : Write) (choice : Choice) (o : Outside) (r : Ran) → Shows o s → r.outcome ≡ outcome_of_run (done_of s w choice)
+    → Shows (ran_of o r (Some w)) (after_run s w choice)
+Shows-after_run s w choice o r shows is = by (is_run s w choice) refl
+  where
+    same : is_applied w r.outcome ≡ is_run s w choice
+    same = ap (is_applied w) is ∙ is_applied-done_of s w choice
+
+    by : (b : Bool) → is_run s w choice ≡ b → Shows (ran_of o r (Some w)) (after_run s w choice)
+    by true e = rw (same, e) (record {
+      versions = λ k. sym (stored-appended s w k ∙ ap (λ v. if same_document k (document_of w.key) then Some w.version else v) (sym (shows.versions k)));
+      lists = λ k. sym (append_assoc (o.before k) (o.applied k) _) ∙ ap (λ l. l ++ (if same_document k (document_of w.key) then w ∷ [] else [])) (shows.lists k) ∙ sym (applied-with_write s.documents w k);
+    })
+    by false e = rw (same, e) (record { versions = shows.versions; lists = shows.lists })

@@ -1,0 +1,41 @@
+-- What runs of writes come to.
+use Rattle.std.specs.Prelude.{◌≡◌, Some, None, IsTrue}
+use Rattle.relay_action.specs.declared.action.Action.TheVariants.{Delete}
+use Rattle.relay_action.specs.declared.write.Write.{Write}
+use Rattle.relay_results.specs.declared.done.DoneResult.TheVariants as done
+use Rattle.relay_results.specs.declared.done.ItemDone.{ItemDone}
+use Rattle.relay_results.specs.Documents.{Document, document_of, source_of}
+use Rattle.relay_index.specs.declared.choice.Choice.{Choice}
+use Rattle.relay_index.specs.declared.choice.Choice.TheVariants.{Run}
+use Rattle.relay_index.specs.States.{State, applied, stored, live}
+use Rattle.relay_index.specs.Runs.{is_run, RunsOne}
+use Rattle.relay_index.specs.Plans.{Plan, choice_at}
+use Rattle.relay_index.specs.Choices.{MayChoose}
+
+-- an applied write is what its document has
+abbrev pub AppliedIsStored : Type 0
+AppliedIsStored = (old new : State) (w : Write) (choice : Choice) (item : ItemDone)
+    → RunsOne old w choice item new → IsTrue (is_run old w choice)
+    → (stored new (document_of w.key) ≡ Some w.version) × (live new (document_of w.key) ≡ source_of w.action)
+
+-- a deleted document is no more, and keeps its version
+abbrev pub DeletedKeepsVersion : Type 0
+DeletedKeepsVersion = (old new : State) (w : Write) (choice : Choice) (item : ItemDone)
+    → RunsOne old w choice item new → IsTrue (is_run old w choice) → w.action ≡ Delete
+    → (stored new (document_of w.key) ≡ Some w.version) × (live new (document_of w.key) ≡ None)
+
+-- an applied write that is run again is a conflict, and changes nothing
+pub record IsConflictOf (w : Write) (item : ItemDone) (old new : State) : Type 0 where
+  pub status : item.status ≡ 409
+  pub result : item.result ≡ done.Conflict
+  pub lists : (k : Document) → applied new k ≡ applied old k
+  pub count : new.count ≡ old.count
+
+abbrev pub RepeatIsConflict : Type 0
+RepeatIsConflict = (old mid new : State) (w : Write) (choice : Choice) (item again : ItemDone)
+    → RunsOne old w choice item mid → IsTrue (is_run old w choice) → RunsOne mid w Run again new
+    → IsConflictOf w again mid new
+
+-- a script chooses only what an index may
+abbrev pub ScriptsMay : Type 0
+ScriptsMay = (plan : Plan) → MayChoose (choice_at plan)

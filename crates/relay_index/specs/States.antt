@@ -1,0 +1,70 @@
+-- What an index has: of each document the writes that it applied, and how many it applied in all.
+use Rattle.std.specs.Prelude.{◌≡◌, ◌≢◌, ℕ, ◌-◌, ◌<◌, ◌≤◌, List, [], ◌∷◌, length, slice_get, Option, None, Some, is_some, option_map, option_and_then, unwrap_or, Bool}
+use Rattle.std.specs.Map.{lookup}
+use Rattle.relay_action.specs.declared.key.DocKey.{DocKey}
+use Rattle.relay_action.specs.declared.write.Write.{Write}
+use Rattle.relay_results.specs.Documents.{Document, document_of, same_document, source_of}
+
+-- Each document that a write was applied to, beside its list: those writes, in their order. And the count of the writes
+-- that were applied, over all documents; at 2^64 - 1 it stays.
+pub record State : Type 0 where
+  pub documents : List (DocKey × List Write)
+  pub count : ℕ
+
+-- nothing was applied
+abbrev pub fresh : State
+fresh = record { documents = []; count = 0 }
+
+-- the list of a document: the writes that were applied to it, in their order
+abbrev pub applied_among : List (DocKey × List Write) → Document → List Write
+applied_among documents k = unwrap_or (lookup (λ key. same_document k (document_of key)) documents) []
+
+abbrev pub applied : State → Document → List Write
+applied s k = applied_among s.documents k
+
+-- the last write of a list
+abbrev pub last_of : List Write → Option Write
+last_of ws = slice_get ws (length ws - 1)
+
+-- the version that is stored of a document: that of the last write applied to it. A deleted document keeps its version
+-- for good.
+abbrev pub stored : State → Document → Option ℕ
+stored s k = option_map (λ (w : Write). w.version) (last_of (applied s k))
+
+-- the source of a document: what the last write applied to it stored; none where that was a delete, or nothing was
+-- applied
+abbrev pub live : State → Document → Option (List ℕ)
+live s k = option_and_then (λ (w : Write). source_of w.action) (last_of (applied s k))
+
+abbrev pub is_live : State → Document → Bool
+is_live s k = is_some (live s k)
+
+-- ---- what every index keeps
+
+-- each of the writes is of this document
+abbrev pub AreOf : Document → List Write → Type 0
+AreOf k [] = Unit {0}
+AreOf k (w ∷ ws) = (document_of w.key ≡ k) × AreOf k ws
+
+-- the versions of the writes rise strictly, each above this one, if one is given
+abbrev pub RiseFrom : Option ℕ → List Write → Type 0
+RiseFrom low [] = Unit {0}
+RiseFrom None (w ∷ ws) = RiseFrom (Some w.version) ws
+RiseFrom (Some low) (w ∷ ws) = (low < w.version) × RiseFrom (Some w.version) ws
+
+-- no list is empty
+abbrev pub NoneEmpty : List (DocKey × List Write) → Type 0
+NoneEmpty [] = Unit {0}
+NoneEmpty (e ∷ es) = (e.1 ≢ []) × NoneEmpty es
+
+-- a document's list has writes of that document alone, at least one, and their versions rise strictly
+pub record IsIndex (s : State) : Type 0 where
+  pub begun : NoneEmpty s.documents
+  pub of_document : (k : Document) → AreOf k (applied s k)
+  pub rising : (k : Document) → RiseFrom None (applied s k)
+
+-- the greatest version that is stored: some document has it and none has a greater one; none where no version is stored
+abbrev pub IsHighest : State → Option ℕ → Type 0
+IsHighest s None = (k : Document) → stored s k ≡ None
+IsHighest s (Some version) =
+    ((k : Document) × (stored s k ≡ Some version)) × ((k : Document) (v : ℕ) → stored s k ≡ Some v → v ≤ version)

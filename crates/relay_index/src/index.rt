@@ -1,0 +1,235 @@
+//! The index.
+ghost use Rattle.std.specs.Prelude.{◌≡◌, ◌∷◌, [], Some, IsTrue, option_map, unwrap_or, max, IfOk, OnOk, OnErr};
+ghost use Rattle.std.specs.List.{IsDistinct};
+ghost use Rattle.relay_results.specs.Documents.{document_of};
+ghost use Rattle.relay_results.specs.Outside.{Outside, Ran, IsOutcomeOf, ran_of};
+ghost use Rattle.relay_index.specs.States.{fresh, applied, stored, live, is_live, IsHighest, IsIndex};
+ghost use Rattle.relay_index.specs.Choices.{MayChoose};
+ghost use Rattle.relay_index.specs.Keys.{document_order, same_key, AreKeys};
+ghost use Rattle.indexmap.specs.IndexMap.{keys as keys_of};
+ghost use Rattle.relay_index.specs.Lists.{with_write, appended, after_run};
+ghost use Rattle.relay_index.specs.Runs.{is_newer, is_run, status_by, result_of, applied_result, status_of, done_of, outcome_of_run, Effect, Shows};
+
+use crate::choice::Choice;
+use crate::history::History;
+use indexmap::IndexMap;
+use relay_action::{Action, ActionKind, DocKey, Write};
+use relay_results::{DoneResult, ItemDone};
+use std::alloc::{AllocError, Global};
+use std::cmp::Ordering;
+use std::marker::Model;
+
+/// An index in memory. Contracts see it as the writes that it applied to each document, in their
+/// order, and their count.
+#[derive(Drop)]
+pub struct Index {
+    documents: IndexMap<DocKey, History>,
+    count: u64,
+    highest: Option<u64>,
+}
+
+impl Model for Index {
+    ghost use Rattle.relay_index.specs.States.{State, IsIndex, IsHighest};
+
+    ghost Value = { State };
+
+    ghost view = { λ i. record { documents = i.documents.entries; count = i.count } };
+
+    ghost invariant = { λ i. record {
+      index : IsIndex (record { documents = i.documents.entries; count = i.count });
+      highest : IsHighest (record { documents = i.documents.entries; count = i.count }) i.highest;
+    } };
+}
+
+// Puts a copy of a write behind its document's list. `AllocError`: there was no memory for it, and the
+// lists are as before.
+fn append(documents: &mut IndexMap<DocKey, History>, write: &Write) -> Result<(), AllocError>
+    ensures ok { OnOk result (documents.new.entries ≡ with_write documents.old.entries write.now) }
+    ensures err { OnErr result (documents.new.entries ≡ documents.old.entries) }
+{
+    let copy = write.copy()?;
+    if let Some(history) = documents.get_mut(&write.key) {
+        history.push(copy)?;
+        return Ok(());
+    }
+    let mut history = History::new(*documents.allocator());
+    history.push(copy)?;
+    documents.insert(write.key.copy()?, history)?;
+    Ok(())
+}
+
+// What an applied write did, and its status.
+fn applied_answer(kind: ActionKind, live: bool) -> (u16, DoneResult)
+    ensures { result ≡ (status_of (applied_result kind live), applied_result kind live) }
+{
+    match (kind, live) {
+        (ActionKind::Index, false) => (201, DoneResult::Created),
+        (ActionKind::Index, true) => (200, DoneResult::Updated),
+        (ActionKind::Delete, true) => (200, DoneResult::Deleted),
+        (ActionKind::Delete, false) => (404, DoneResult::NotFound),
+    }
+}
+
+// Copies of the keys of the map, in its order. `AllocError`: there was no memory for them.
+fn copied_keys(
+    alloc: Global,
+    documents: &IndexMap<DocKey, History>,
+) -> Result<Vec<DocKey>, AllocError>
+    ensures copied { IfOk result (λ keys. keys.items ≡ keys_of documents.now) }
+    ensures distinct { IsDistinct same_key (keys_of documents.now) }
+{
+    let mut keys = Vec::new(alloc);
+    for place in 0..documents.len() {
+        let (key, _) = documents.get_index(place).unwrap();
+        keys.push(key.copy()?)?;
+    }
+    Ok(keys)
+}
+
+// How two documents stand in their order.
+fn compare(a: &DocKey, b: &DocKey) -> Ordering
+    ensures { result ≡ document_order (document_of a.now) (document_of b.now) }
+{
+    a.index().cmp(&b.index()).then_with(|| a.id().cmp(&b.id()))
+}
+
+impl Index {
+    /// An index that has applied nothing. It takes no memory.
+    pub fn new(alloc: Global) -> Index
+        ensures { result ≡ fresh }
+    {
+        Index {
+            documents: IndexMap::new(alloc),
+            count: 0,
+            highest: None,
+        }
+    }
+
+    /// The version that is stored of a document, also of one that was deleted, or `None` where nothing
+    /// was applied to it.
+    pub fn version(&self, key: &DocKey) -> Option<u64>
+        ensures { result ≡ stored self.now (document_of key.now) }
+    {
+        Some(self.applied(key).last()?.version)
+    }
+
+    /// The source of a document, or `None` where there is no such document: it was deleted, or nothing
+    /// was applied to it.
+    pub fn source(&self, key: &DocKey) -> Option<&str>
+        ensures { option_map (λ t. t.now) result ≡ live self.now (document_of key.now) }
+    {
+        match &self.applied(key).last()?.action {
+            Action::Index(source) => Some(source.text()),
+            Action::Delete => None,
+        }
+    }
+
+    /// The writes that were applied to a document, in their order.
+    pub fn applied(&self, key: &DocKey) -> &[Write]
+        ensures { result.now ≡ applied self.now (document_of key.now) }
+    {
+        match self.documents.get(key) {
+            Some(history) => history.as_slice(),
+            None => &[],
+        }
+    }
+
+    /// The greatest version that is stored, or `None` where nothing was applied.
+    pub fn highest(&self) -> Option<u64>
+        ensures { IsHighest self.now result }
+    {
+        self.highest
+    }
+
+    /// The documents that a write was applied to, deleted ones too, in byte order of their index names
+    /// and then of their ids. `AllocError`: there was no memory for them.
+    pub fn keys(&self, alloc: Global) -> Result<Vec<DocKey>, AllocError>
+        ensures { IfOk result (λ keys. AreKeys self.now keys.items) }
+    {
+        let mut keys = copied_keys(alloc, &self.documents)?;
+        keys.sort_by(compare)?;
+        Ok(keys)
+    }
+
+    // Whether no version of the write's document is stored, or one below the write's.
+    fn is_newer(&self, write: &Write) -> bool
+        ensures { result ≡ is_newer self.now write.now }
+    {
+        self.version(&write.key)
+            .is_none_or(|stored| stored < write.version)
+    }
+
+    // The status and the result of a write.
+    fn answer(&self, write: &Write, choice: Choice) -> (u16, DoneResult)
+        ensures { result ≡ (status_by self.now write.now choice, result_of self.now write.now choice) }
+    {
+        match choice {
+            Choice::Refuse(status) => (status, DoneResult::Refused),
+            Choice::Run if self.is_newer(write) => {
+                applied_answer(write.action.kind(), self.source(&write.key).is_some())
+            }
+            Choice::Run => (409, DoneResult::Conflict),
+        }
+    }
+
+    // Applies a write whose version is new. `AllocError`: there was no memory for its copy, and the
+    // index is as before.
+    fn apply(&mut self, write: &Write) -> Result<(), AllocError>
+        requires { IsTrue (is_newer self.old write.now) }
+        ensures ok { OnOk result (self.new ≡ appended self.old write.now) }
+        ensures err { OnErr result (self.new ≡ self.old) }
+    {
+        append(&mut self.documents, write)?;
+        self.count = self.count.saturating_add(1);
+        self.highest = Some(self.highest.unwrap_or(0).max(write.version));
+        Ok(())
+    }
+
+    // Runs a write, or refuses it, as `run` does.
+    fn carry_out(&mut self, write: &Write, choice: Choice) -> Result<ItemDone, AllocError>
+        ensures item { IfOk result (λ done. done ≡ done_of self.old write.now choice) }
+        ensures after { OnOk result (self.new ≡ after_run self.old write.now choice) }
+        ensures err { OnErr result (self.new ≡ self.old) }
+    {
+        let (status, outcome) = self.answer(write, choice);
+        let mut done = ItemDone {
+            key: write.key.copy()?,
+            kind: write.action.kind(),
+            status,
+            result: outcome,
+            version: 0,
+            seq: 0,
+        };
+        if choice == Choice::Run && self.is_newer(write) {
+            done.version = write.version;
+            done.seq = self.count;
+            self.apply(write)?;
+        }
+        Ok(done)
+    }
+
+    /// What becomes of a write.
+    ///
+    /// `Refuse` gives its status and changes nothing; the status has to be from 400 to 599, and neither
+    /// 404 nor 409. `Run` gives 409 and `Conflict` where the version is not above the one stored of the
+    /// document, and changes nothing. Else it applies the write, whose version is stored then
+    /// (OpenSearch, index document API, `version_type` `external`): an index action gives 201 and
+    /// `Created` where there was no such document, else 200 and `Updated`; a delete gives 200 and
+    /// `Deleted` where there was one, else 404 and `NotFound`. The sequence number of an applied write is
+    /// the number of writes that were applied before it, over all documents; at 2^64 - 1 it stays.
+    ///
+    /// `AllocError`: there was no memory for copies of the write, and the index is as before.
+    pub fn run(&mut self, write: &Write, choice: Choice) -> Result<ItemDone, AllocError>
+        requires { MayChoose choice }
+        ensures item { IfOk result (λ done. done ≡ done_of self.old write.now choice) }
+        ensures effect { OnOk result (Effect self.old write.now choice self.new) }
+        ensures err { OnErr result (self.new ≡ self.old) }
+        ensures versioned { IfOk result (λ done.
+            IsOutcomeOf (stored self.old (document_of write.now.key)) write.now (outcome_of_run done)) }
+        ensures outside { IfOk result (λ done. (o : Outside) (r : Ran) → Shows o self.old
+            → r.outcome ≡ outcome_of_run done → Shows (ran_of o r (Some write.now)) self.new) }
+    {
+        let done = self.carry_out(write, choice)?;
+        Ok(done)
+    }
+}

@@ -1,0 +1,71 @@
+//! Scripts of refusals.
+ghost use Rattle.std.specs.Prelude.{◌≡◌, ◌==◌, ℕ, Some, OnOk, OnErr, if◌then◌else◌};
+ghost use Rattle.relay_index.specs.Choices.{MayRefuse, MayChoose};
+ghost use Rattle.relay_index.specs.Plans.{unscripted, refusal_at, choice_at, stepped};
+
+use crate::choice::Choice;
+use crate::refusal::Refusal;
+use indexmap::IndexMap;
+use std::alloc::{AllocError, Global};
+use std::marker::Model;
+
+/// Which items an index refuses, by their places among all items that are run under the script. It
+/// counts those items. Contracts see it as the refusals and that count.
+#[derive(Drop)]
+pub struct Script {
+    refusals: IndexMap<u64, Refusal>,
+    ran: u64,
+}
+
+impl Model for Script {
+    ghost use Rattle.relay_index.specs.Plans.{Plan};
+
+    ghost Value = { Plan };
+
+    ghost view = { λ s. record { refusals = s.refusals.entries; ran = s.ran } };
+}
+
+impl Script {
+    /// A script that refuses nothing, under which nothing was run. It takes no memory.
+    pub fn new(alloc: Global) -> Script
+        ensures { result ≡ unscripted }
+    {
+        Script {
+            refusals: IndexMap::new(alloc),
+            ran: 0,
+        }
+    }
+
+    /// The item at this place, counted from 1 over all items that are run under the script, is refused
+    /// with this status. A second refusal of a place replaces the first; one of a place that has been
+    /// passed, or of place 0, changes nothing more. The status has to be from 400 to 599, and neither
+    /// 404 nor 409. `AllocError`: there was no memory for it, and the script is as before.
+    pub fn refuse(&mut self, place: u64, status: u16) -> Result<(), AllocError>
+        requires { MayRefuse status }
+        ensures refused { OnOk result ((p : ℕ) →
+            refusal_at self.new p ≡ (if place == p then Some status else refusal_at self.old p)) }
+        ensures ran { self.new.ran ≡ self.old.ran }
+        ensures err { OnErr result (self.new ≡ self.old) }
+    {
+        self.refusals.insert(place, Refusal { status })?;
+        Ok(())
+    }
+
+    // What becomes of the item that is run next.
+    pub(crate) fn choice(&self) -> Choice
+        ensures choice { result ≡ choice_at self.now }
+        ensures may { MayChoose result }
+    {
+        match self.refusals.get(&self.ran.saturating_add(1)) {
+            Some(refusal) => Choice::Refuse(refusal.status),
+            None => Choice::Run,
+        }
+    }
+
+    // Counts an item that was run.
+    pub(crate) fn step(&mut self)
+        ensures { self.new ≡ stepped self.old }
+    {
+        self.ran = self.ran.saturating_add(1);
+    }
+}

@@ -1,0 +1,144 @@
+//! Bulk requests served.
+ghost use Rattle.std.specs.Prelude.{◌≡◌, IfOk, IfErr, string_bytes};
+ghost use Rattle.serde_json.specs.View.{view};
+ghost use Rattle.relay_index.specs.Serving.{RunsAll, RunsFirst, Replies, fault_data, fault_text, IsRejection, Answers, StopsAfter};
+
+use crate::index::Index;
+use crate::script::Script;
+use relay_action::Write;
+use relay_ndjson::{BulkFault, LineKind, read_bulk};
+use relay_results::{ItemDone, write_reply};
+use serde_json::{Value, json};
+use std::alloc::{AllocError, Global};
+use thiserror::Error;
+
+/// There was no memory to serve a request to its end.
+#[derive(Clone, Copy, Debug, PartialEq, Eq, Error)]
+#[error("no memory after {ran} items")]
+pub struct ServeFault {
+    /// How many items of the request were run: exactly the first so many.
+    pub ran: u64,
+}
+
+// What says that a line of a body is at fault.
+fn fault_value(alloc: Global, line: u64, kind: &str) -> Result<Value, AllocError>
+    ensures { IfOk result (λ v. view v ≡ fault_data line kind.now) }
+{
+    let status = 400u64;
+    json!(in alloc; {"error": {"line": line, "type": kind}, "status": status})
+}
+
+// Its text.
+#[tactic(auto, unfolding(crate::specs::Serving::fault_text))]
+fn write_fault(alloc: Global, line: u64, kind: &str) -> Result<String, AllocError>
+    ensures { IfOk result (λ s. string_bytes s ≡ fault_text line kind.now) }
+{
+    let value = fault_value(alloc, line, kind)?;
+    let text = value.to_string(alloc)?;
+    Ok(text)
+}
+
+// The answer to a body with a fault: 400 and the text that names it, unless the fault is want of memory.
+fn reject(alloc: Global, fault: BulkFault) -> Result<(u16, String), ServeFault>
+    ensures ok { IfOk result (λ answer. IsRejection fault answer.0 (string_bytes answer.1)) }
+    ensures err { IfErr result (λ e. e.ran ≡ 0) }
+{
+    if fault.kind == LineKind::Memory {
+        return Err(ServeFault { ran: 0 });
+    }
+    match write_fault(alloc, fault.line, fault.kind.name()) {
+        Ok(text) => Ok((400, text)),
+        Err(_) => Err(ServeFault { ran: 0 }),
+    }
+}
+
+impl Index {
+    // Runs the writes in their order under the script. The fault is want of memory, and then the first
+    // `ran` writes were run.
+    fn run_all(
+        &mut self,
+        alloc: Global,
+        writes: &[Write],
+        script: &mut Script,
+    ) -> Result<Vec<ItemDone>, ServeFault>
+        ensures ok { IfOk result (λ items.
+            RunsAll self.old script.old writes.now items.items self.new script.new) }
+        ensures err { IfErr result (λ e.
+            RunsFirst e.ran self.old script.old writes.now self.new script.new) }
+    {
+        let mut items = match Vec::with_capacity(alloc, writes.len()) {
+            Ok(items) => items,
+            Err(_) => return Err(ServeFault { ran: 0 }),
+        };
+        'writes: for write in writes {
+            let choice = script.choice();
+            let done = match self.run(write, choice) {
+                Ok(done) => done,
+                Err(_) => {
+                    return Err(ServeFault {
+                        ran: items.len() as u64,
+                    });
+                }
+            };
+            script.step();
+            items.push_reserved(done);
+        }
+        Ok(items)
+    }
+
+    // Runs the writes in their order under the script, and answers with the reply. The fault is want of
+    // memory, and then the first `ran` writes were run.
+    fn serve_writes(
+        &mut self,
+        alloc: Global,
+        writes: &[Write],
+        script: &mut Script,
+    ) -> Result<String, ServeFault>
+        ensures ok { IfOk result (λ text.
+            Replies self.old script.old writes.now (string_bytes text) self.new script.new) }
+        ensures err { IfErr result (λ e.
+            RunsFirst e.ran self.old script.old writes.now self.new script.new) }
+    {
+        let items = match self.run_all(alloc, writes, script) {
+            Ok(items) => items,
+            Err(fault) => return Err(fault),
+        };
+        match write_reply(alloc, 0, items.as_slice()) {
+            Ok(text) => Ok(text),
+            Err(_) => Err(ServeFault {
+                ran: writes.len() as u64,
+            }),
+        }
+    }
+
+    /// Serves the body of a bulk request: runs its writes once each, in their order, each with what the
+    /// script has for its place, and gives the status of the answer and its text.
+    ///
+    /// The answer is 200 and the reply, with `took` 0. To a body that is no bulk request it is 400 and
+    /// `{"error":{"line":N,"type":"KIND"},"status":400}`, with the first line that is at fault and the
+    /// name of its kind; then nothing is run, and index and script are as before.
+    ///
+    /// `ServeFault`: there was no memory, after exactly the first `ran` items were run. That is 0 where
+    /// the body could not be read or the text of its fault not be made, and the number of all items
+    /// where only the reply could not be made.
+    pub fn serve_body(
+        &mut self,
+        alloc: Global,
+        body: &[u8],
+        script: &mut Script,
+    ) -> Result<(u16, String), ServeFault>
+        ensures answered { IfOk result (λ answer. Answers body.now self.old script.old
+            answer.0 (string_bytes answer.1) self.new script.new) }
+        ensures stopped { IfErr result (λ e.
+            StopsAfter e.ran body.now self.old script.old self.new script.new) }
+    {
+        let writes = match read_bulk(alloc, body) {
+            Ok(writes) => writes,
+            Err(fault) => return reject(alloc, fault),
+        };
+        match self.serve_writes(alloc, writes.as_slice(), script) {
+            Ok(text) => Ok((200, text)),
+            Err(fault) => Err(fault),
+        }
+    }
+}

@@ -1,0 +1,70 @@
+-- What an action line of the index side asks for.
+use Rattle.std.proofs.Common.{◌≡◌, ◌⊎◌, ℕ, List, Option, None, Some, refl, ap, sym, ◌∙◌, subst, inl, inr, true, false, is_some, not, ◌&&◌, IsUtf8, codes}
+use Rattle.std.specs.Str.{is_utf8}
+use Rattle.std.proofs.lemmas.Str.{is_utf8-from_IsUtf8, IsUtf8-from_is_utf8}
+use Rattle.serde_json.specs.Data.{Data, object, Members, member, no_members}
+use Rattle.serde_json.specs.Read.{read}
+use Rattle.relay_action.specs.Faults.{key_fault}
+use Rattle.relay_action.specs.declared.action.ActionKind.{ActionKind}
+use Rattle.relay_action.specs.declared.action.ActionKind.TheVariants as action
+use Rattle.relay_ndjson.specs.declared.kind.LineKind.{LineKind}
+use Rattle.relay_ndjson.specs.declared.kind.LineKind.TheVariants as kind
+use Rattle.relay_ndjson.specs.Metadata.{has_only, is_field, index_of, id_of, kind_name}
+use Rattle.relay_ndjson.specs.Versioned.{version_of, is_external, IsVersioned, AsksVersioned, SaysVersioned, versioned_fault, write_fault, write_line_fault}
+use Rattle.relay_ndjson.proofs.Asking.{decide}
+
+pub write_line_fault-value : (text : List ℕ) (d : Data) → IsUtf8 text → read text ≡ Some d → write_line_fault text ≡ write_fault d
+write_line_fault-value text d u r = let e = is_utf8-from_IsUtf8 text u in rw (e, r) refl
+
+pub write_line_fault-json : (text : List ℕ) → (IsUtf8 text → read text ≡ None) → write_line_fault text ≡ Some kind.NotJson
+write_line_fault-json text h =
+    elim (decide (is_utf8 text)) [ inl e ↦ (let r = h (IsUtf8-from_is_utf8 text e) in rw (e, r) refl) | inr e ↦ rw e refl ]
+
+pub write_value_kind : (text : List ℕ) (d : Data) (k : LineKind) → IsUtf8 text → read text ≡ Some d → (k ≡ kind.Memory) ⊎ (write_fault d ≡ Some k) → (k ≡ kind.Memory) ⊎ (write_line_fault text ≡ Some k)
+write_value_kind text d k u r h = rw (write_line_fault-value text d u r) h
+
+-- ---- a line that says what it has to has no fault
+
+versioned_none : (ms : Members) (index id : List ℕ) (version : ℕ) → IsVersioned (object ms) index id version → key_fault index id ≡ None → versioned_fault (object ms) ≡ None
+versioned_none ms index id version v k =
+    let a = v.0 in let b = v.1 in let c = v.2 in let d = v.3 in let e = v.4 in rw (a, b, c, d, e, k) refl
+
+asks_none : (d : Data) (a : ActionKind) (index id : List ℕ) (version : ℕ) → AsksVersioned d a index id version → key_fault index id ≡ None → write_fault d ≡ None
+asks_none d action.Index index id version s k = let e = s.1 in rw e (versioned_none s.0 index id version s.2 k)
+asks_none d action.Delete index id version s k = let e = s.1 in rw e (versioned_none s.0 index id version s.2 k)
+
+pub says_none : (text : List ℕ) (a : ActionKind) (index id : List ℕ) (version : ℕ) → SaysVersioned text a index id version → key_fault index id ≡ None → write_line_fault text ≡ None
+says_none text a index id version s k = write_line_fault-value text s.1 s.0 s.2 ∙ asks_none s.1 a index id version s.3 k
+
+-- ---- a text asks for one thing
+
+some_same : {A : Type 0} (x y : A) → Some x ≡ Some y → x ≡ y
+some_same x y e = cc
+
+same_object : (name other : List ℕ) (ms ns : Members) → object (member name (object ms) no_members) ≡ object (member other (object ns) no_members) → (name ≡ other) × (ms ≡ ns)
+same_object name other ms ns e = (cc, cc)
+
+kind_same : (a b : ActionKind) → kind_name a ≡ kind_name b → a ≡ b
+kind_same action.Index action.Index e = refl
+kind_same action.Index action.Delete e = cc
+kind_same action.Delete action.Index e = cc
+kind_same action.Delete action.Delete e = refl
+
+-- what two texts that are one ask for
+pub record AsksOne (a b : ActionKind) (index id other name : List ℕ) (version later : ℕ) : Type 0 where
+  pub same_kind : a ≡ b
+  pub same_index : index ≡ other
+  pub same_id : id ≡ name
+  pub same_version : version ≡ later
+
+pub asks_one : (text : List ℕ) (a b : ActionKind) (index id other name : List ℕ) (version later : ℕ) → SaysVersioned text a index id version → SaysVersioned text b other name later → AsksOne a b index id other name version later
+asks_one text a b index id other name version later s t =
+    let d : s.1 ≡ t.1 = some_same s.1 t.1 (sym s.2 ∙ t.2) in
+    let o = same_object (kind_name a) (kind_name b) s.3.0 t.3.0 (sym s.3.1 ∙ (d ∙ t.3.1)) in
+    let v = subst (λ (ms : Members). IsVersioned (object ms) index id version) o.1 s.3.2 in
+    let w = t.3.2 in record {
+      same_kind = kind_same a b o.0;
+      same_index = some_same index other (sym v.3 ∙ w.3);
+      same_id = some_same id name (sym v.4 ∙ w.4);
+      same_version = some_same version later (sym v.1 ∙ w.1);
+    }

@@ -1,0 +1,110 @@
+-- The body of a bulk request as the index reads it: each line has its end, and no line is blank.
+use Rattle.std.specs.Prelude.{◌≡◌, ◌≢◌, ℕ, ◌+◌, ◌≤◌, ◌⊎◌, List, [], ◌∷◌, ◌++◌, length, All, Option, None, Some, Result, Ok, Err}
+use Rattle.std.specs.declared.vec.Vec.{Vec}
+use Rattle.std.specs.declared.alloc.Global.{Global}
+use Rattle.relay_action.specs.Actions.{IsIndexOf}
+use Rattle.relay_action.specs.Faults.{key_fault}
+use Rattle.relay_action.specs.declared.action.Action.{Action}
+use Rattle.relay_action.specs.declared.action.Action.TheVariants.{Index, Delete}
+use Rattle.relay_action.specs.declared.action.ActionKind.TheVariants as action
+use Rattle.relay_action.specs.declared.write.Write.{Write}
+use Rattle.relay_ndjson.specs.declared.kind.LineKind.{LineKind}
+use Rattle.relay_ndjson.specs.declared.kind.LineKind.TheVariants as kind
+use Rattle.relay_ndjson.specs.declared.kind.BulkFault.{BulkFault}
+use Rattle.relay_ndjson.specs.Bulk.{text_of, last_version}
+use Rattle.relay_ndjson.specs.Lines.{IsUnbroken, IsLine, IsLong, line_limit}
+use Rattle.relay_ndjson.specs.Metadata.{source_line_fault}
+use Rattle.relay_ndjson.specs.Operations.{line_count}
+use Rattle.relay_ndjson.specs.Versioned.{SaysVersioned, SaysWrite, write_line_fault}
+
+-- ---- bodies
+
+-- the bytes are what follows the action line: for an index action the line of its source
+abbrev pub IsSourceOf : Action → List ℕ → Type 0
+IsSourceOf (Index source) bytes = IsLine source.text bytes
+IsSourceOf Delete bytes = bytes ≡ []
+
+-- the bytes are the lines of this write: its action line, and for an index action its source line
+abbrev pub IsLinesOf : List ℕ → Write → Type 0
+IsLinesOf bytes w =
+    (text : List ℕ) × (front : List ℕ) × (rest : List ℕ) × IsLine text front × SaysWrite text w × IsSourceOf w.action rest × (bytes ≡ front ++ rest)
+
+-- the bytes are the lines of these writes, one after another
+abbrev pub IsBulk : List ℕ → List Write → Type 0
+IsBulk bytes [] = bytes ≡ []
+IsBulk bytes (w ∷ ws) = (front : List ℕ) × (rest : List ℕ) × IsLinesOf front w × IsBulk rest ws × (bytes ≡ front ++ rest)
+
+-- how many lines writes have
+abbrev pub lines_of : List Write → ℕ
+lines_of [] = 0
+lines_of (w ∷ ws) = line_count w.action + lines_of ws
+
+-- ---- faults
+
+-- a line with this text stands at the front of the bytes
+abbrev pub BeginsWithLine : List ℕ → List ℕ → List ℕ → Type 0
+BeginsWithLine bytes rest text = (line : List ℕ) × IsLine text line × (bytes ≡ line ++ rest)
+
+-- the bytes are a last line without its end, no longer than a line may be
+abbrev pub IsOpen : List ℕ → Type 0
+IsOpen bytes = IsUnbroken bytes × (bytes ≢ []) × (length bytes ≤ line_limit)
+
+-- no line that may be stands at the front: it is too long, or its end is missing
+abbrev pub LacksLine : List ℕ → LineKind → Type 0
+LacksLine bytes k = (IsLong (Some bytes) × (k ≡ kind.LineLong)) ⊎ (IsOpen bytes × (k ≡ kind.NoFinalNewline))
+
+-- the line at the front breaks the grammar, where the table of faults is this
+abbrev pub BreaksLine : (List ℕ → Option LineKind) → List ℕ → LineKind → Type 0
+BreaksLine fault_of bytes k =
+    LacksLine bytes k ⊎ ((text : List ℕ) × (rest : List ℕ) × BeginsWithLine bytes rest text × (fault_of text ≡ Some k))
+
+-- behind an index action there is no source: the body has ended, which is a fault of the action's line, or the next line
+-- breaks the grammar
+abbrev pub LacksSource : List ℕ → ℕ → LineKind → Type 0
+LacksSource bytes place k =
+    ((bytes ≡ []) × (k ≡ kind.SourceMissing) × (place ≡ 1)) ⊎ (BreaksLine source_line_fault bytes k × (place ≡ 2))
+
+-- the bytes begin with an index action on a document that may be, and its source does not follow
+abbrev pub LeavesSource : List ℕ → ℕ → LineKind → Type 0
+LeavesSource bytes place k =
+    (text : List ℕ) × (rest : List ℕ) × (index : List ℕ) × (id : List ℕ) × (version : ℕ) × BeginsWithLine bytes rest text
+    × SaysVersioned text action.Index index id version × (key_fault index id ≡ None) × LacksSource rest place k
+
+-- no write stands at the front, since the line at this place, the first or the second, has this fault
+abbrev pub BreaksWriteAt : List ℕ → ℕ → LineKind → Type 0
+BreaksWriteAt bytes place k = (BreaksLine write_line_fault bytes k × (place ≡ 1)) ⊎ LeavesSource bytes place k
+
+-- the line at this place, counted from 1, is the first that breaks the grammar: writes stand before it
+abbrev pub BreaksBulk : List ℕ → ℕ → LineKind → Type 0
+BreaksBulk bytes at k =
+    (ws : List Write) × (front : List ℕ) × (rest : List ℕ) × (place : ℕ) × IsBulk front ws × (bytes ≡ front ++ rest)
+    × BreaksWriteAt rest place k × (at ≡ lines_of ws + place)
+
+-- a fault names the first line that breaks the grammar, unless memory ran out
+abbrev pub IsBulkFault : List ℕ → BulkFault → Type 0
+IsBulkFault bytes e = (e.kind ≡ kind.Memory) ⊎ BreaksBulk bytes e.line e.kind
+
+-- ---- what was written reads back
+
+-- each version is one that the relay deals
+abbrev pub AreDealt : List Write → Type 0
+AreDealt ws = All (λ w. w.version ≤ last_version) ws
+
+-- these writes were read, unless memory ran out
+abbrev pub GivesBack : List Write → Result (Vec Write Global) BulkFault → Type 0
+GivesBack ws (Ok v) = v.items ≡ ws
+GivesBack ws (Err e) = e.kind ≡ kind.Memory
+
+-- the bulk text of writes reads as just these
+abbrev pub ReadsBack : List ℕ → Result (Vec Write Global) BulkFault → Type 0
+ReadsBack bytes result = (ws : List Write) → AreDealt ws → bytes ≡ text_of ws → GivesBack ws result
+
+-- ---- for the reader, which takes a body line by line
+
+-- the lines of a write stand at the front
+abbrev pub BeginsWithWrite : List ℕ → List ℕ → Write → Type 0
+BeginsWithWrite bytes rest w = (lines : List ℕ) × IsLinesOf lines w × (bytes ≡ lines ++ rest)
+
+-- a source line stands at the front, and the action stores what is on it
+abbrev pub BeginsWithSource : List ℕ → List ℕ → Action → Type 0
+BeginsWithSource bytes rest a = (text : List ℕ) × BeginsWithLine bytes rest text × IsIndexOf text a

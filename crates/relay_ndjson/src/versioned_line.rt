@@ -1,0 +1,89 @@
+//! What an action line of the index side asks for.
+ghost use Rattle.std.specs.Prelude.{◌≡◌, ◌⊎◌, Some, None, IfOk, IfErr};
+ghost use Rattle.serde_json.specs.View.{view};
+ghost use Rattle.relay_ndjson.specs.Versioned.{version_of, is_external, IsVersioned, AsksVersioned, SaysVersioned, versioned_fault, write_fault, write_line_fault};
+
+use crate::action_line::{action_kind, action_of, document_of, has_only_fields, value_of};
+use crate::bulk::LAST_VERSION;
+use crate::kind::LineKind;
+use relay_action::{ActionKind, DocKey};
+use serde_json::Value;
+use std::alloc::Global;
+
+/// What an action line asks for: an action on a document, at a version.
+#[derive(Drop)]
+pub struct ActionLine {
+    pub kind: ActionKind,
+    pub key: DocKey,
+    pub version: u64,
+}
+
+// The version of metadata, where it is one that the index takes.
+fn version_of(metadata: &Value) -> Option<u64>
+    ensures { result ≡ version_of (view metadata.now) }
+{
+    let version = metadata.get("version")?.as_u64()?;
+    if version <= LAST_VERSION {
+        Some(version)
+    } else {
+        None
+    }
+}
+
+// Whether the versions are dealt outside of the index.
+fn is_external(metadata: &Value) -> bool
+    ensures { result ≡ is_external (view metadata.now) }
+{
+    match metadata.get("version_type") {
+        Some(value) => value.as_str() == Some("external"),
+        None => false,
+    }
+}
+
+// The document of metadata, and its version.
+fn versioned(alloc: Global, metadata: &Value) -> Result<(DocKey, u64), LineKind>
+    ensures ok { IfOk result (λ v. IsVersioned (view metadata.now) v.0.index v.0.id v.1) }
+    ensures err { IfErr result (λ e. (e ≡ LineKind.Memory) ⊎ (versioned_fault (view metadata.now) ≡ Some e)) }
+{
+    if !has_only_fields(metadata) {
+        return Err(LineKind::UnsupportedField);
+    }
+    let Some(version) = version_of(metadata) else {
+        return Err(LineKind::VersionMissing);
+    };
+    if !is_external(metadata) {
+        return Err(LineKind::VersionMissing);
+    }
+    match document_of(alloc, None, metadata) {
+        Ok(key) => Ok((key, version)),
+        Err(fault) => Err(fault),
+    }
+}
+
+// What a value asks for.
+fn asked(alloc: Global, value: &Value) -> Result<ActionLine, LineKind>
+    ensures ok { IfOk result (λ a. AsksVersioned (view value.now) a.kind a.key.index a.key.id a.version) }
+    ensures err { IfErr result (λ e. (e ≡ LineKind.Memory) ⊎ (write_fault (view value.now) ≡ Some e)) }
+{
+    let Some((name, metadata)) = action_of(value) else {
+        return Err(LineKind::NotOneAction);
+    };
+    let Some(kind) = action_kind(name) else {
+        return Err(LineKind::UnsupportedAction);
+    };
+    match versioned(alloc, metadata) {
+        Ok((key, version)) => Ok(ActionLine { kind, key, version }),
+        Err(fault) => Err(fault),
+    }
+}
+
+/// What an action line asks for.
+pub fn read_versioned(alloc: Global, line: &[u8]) -> Result<ActionLine, LineKind>
+    ensures ok { IfOk result (λ a. SaysVersioned line.now a.kind a.key.index a.key.id a.version) }
+    ensures err { IfErr result (λ e. (e ≡ LineKind.Memory) ⊎ (write_line_fault line.now ≡ Some e)) }
+{
+    match value_of(alloc, line) {
+        Ok(value) => asked(alloc, &value),
+        Err(fault) => Err(fault),
+    }
+}
