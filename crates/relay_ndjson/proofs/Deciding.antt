@@ -56,7 +56,7 @@ one_name default text index id other name s t =
 eq-from : (xs ys : List ℕ) → bytes_eq xs ys ≡ true → xs ≡ ys
 eq-from xs ys e = grind (arith, common_steps, bytes_eq-Decides xs ys)
 
-kind_of_name : (name : List ℕ) (a : ActionKind) → action_kind name ≡ Some a → name ≡ kind_name a
+pub kind_of_name : (name : List ℕ) (a : ActionKind) → action_kind name ≡ Some a → name ≡ kind_name a
 kind_of_name name action.Index e =
     elim (decide (bytes_eq name (codes "index"))) [
       | inl t ↦ eq-from name (codes "index") t
@@ -73,11 +73,11 @@ kind_of_name name action.Delete e =
 abbrev Asked : Option (List ℕ) → Data → Type 0
 Asked default d = (a : ActionKind) × (index : List ℕ) × (id : List ℕ) × Asks default d a index id × (key_fault index id ≡ None)
 
-no_fault : {A : Type 0} (k : LineKind) (f : A → Option LineKind) (o : Option A) → fault_or k f o ≡ None → (x : A) × (o ≡ Some x) × (f x ≡ None)
+pub no_fault : {A : Type 0} (k : LineKind) (f : A → Option LineKind) (o : Option A) → fault_or k f o ≡ None → (x : A) × (o ≡ Some x) × (f x ≡ None)
 no_fault k f None e = cc
 no_fault k f (Some x) e = (x, refl, e)
 
-no_kind : (o : Option ActionFault) → option_map kind.Action o ≡ None → o ≡ None
+pub no_kind : (o : Option ActionFault) → option_map kind.Action o ≡ None → o ≡ None
 no_kind None e = refl
 no_kind (Some x) e = cc
 
@@ -98,7 +98,7 @@ none_metadata default m e =
     ]
 
 -- the form of an action
-action_form : (d : Data) (name : List ℕ) (m : Data) → action_of d ≡ Some (name, m) → (ms : Members) × (d ≡ object (member name (object ms) no_members)) × (m ≡ object ms)
+pub action_form : (d : Data) (name : List ℕ) (m : Data) → action_of d ≡ Some (name, m) → (ms : Members) × (d ≡ object (member name (object ms) no_members)) × (m ≡ object ms)
 action_form null name m e = cc
 action_form (boolean b) name m e = cc
 action_form (number n) name m e = cc

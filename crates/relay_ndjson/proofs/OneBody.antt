@@ -1,5 +1,5 @@
 -- A body has one list of writes, or one first fault.
-use Rattle.std.proofs.Common.{◌≡◌, ◌≢◌, ◌⊎◌, ℕ, ◌+◌, ◌<◌, ◌≤◌, List, [], ◌∷◌, ◌++◌, length, Option, None, Some, refl, ap, sym, ◌∙◌, subst, arith, inl, inr, append_assoc, append-nil}
+use Rattle.std.proofs.Common.{◌≡◌, ℕ, ◌+◌, List, [], ◌∷◌, ◌++◌, Option, None, Some, refl, ap, sym, ◌∙◌, subst, arith, inl, inr, append_assoc, append-nil}
 use Rattle.relay_action.specs.Actions.{kind_of}
 use Rattle.relay_action.specs.declared.action.Action.{Action}
 use Rattle.relay_action.specs.declared.action.Action.TheVariants.{Index, Delete}
@@ -10,7 +10,7 @@ use Rattle.relay_ndjson.specs.Lines.{IsUnbroken, TakesText, IsLong}
 use Rattle.relay_ndjson.specs.Metadata.{source_line_fault}
 use Rattle.relay_ndjson.specs.Operations.{line_count}
 use Rattle.relay_ndjson.specs.Versioned.{SaysWrite, write_line_fault}
-use Rattle.relay_ndjson.specs.Bodies.{IsSourceOf, IsBulk, lines_of, BeginsWithLine, IsOpen, LacksLine, BreaksLine, LacksSource, BreaksWriteAt, BreaksBulk, BeginsWithWrite}
+use Rattle.relay_ndjson.specs.Bodies.{IsSourceOf, IsBulk, lines_of, BeginsWithLine, IsOpen, LacksLine, BreaksLine, LacksSource, BreaksWriteAt, BeginsWithWrite}
 use Rattle.relay_ndjson.specs.Laws.{OneBulk, NoFaultInBulk, OneBulkFault}
 use Rattle.relay_ndjson.proofs.Deciding.{key_none}
 use Rattle.relay_ndjson.proofs.Fronts.{not_unbroken, rejoined, some_same, one_text, no_text_at_end, no_text_at_long, no_long_at_end}

@@ -1,15 +1,14 @@
 -- Lines that are found piece by piece.
-use Rattle.std.proofs.Common.{◌≡◌, ◌≢◌, ◌⊎◌, ℕ, zero, suc, ◌+◌, ◌-◌, ◌<◌, ◌≤◌, List, [], ◌∷◌, ◌++◌, length, take, drop, get_or, Option, None, Some, Result, Ok, Err, true, false, subst, refl, ap, sym, ◌∙◌, arith, inl, inr, append_assoc, append-nil, length-append, add-one}
+use Rattle.std.proofs.Common.{◌≡◌, ◌≢◌, ℕ, zero, suc, ◌+◌, ◌-◌, ◌<◌, ◌≤◌, List, [], ◌∷◌, ◌++◌, length, take, drop, get_or, Option, None, Some, Result, Ok, Err, true, false, subst, refl, ap, sym, ◌∙◌, arith, inl, inr, append_assoc, append-nil, add-one}
 use Rattle.std.proofs.lemmas.Grind.{common_steps}
 use Rattle.std.proofs.Math.Seq.{drop-cons}
 use Rattle.std.proofs.lemmas.List.{take-append-drop}
 use Rattle.memchr.specs.Find.{Nowhere, Passes, IsFirstByte, is_byte}
 use Rattle.std.specs.Io.KnownBytes.{prepend_known, IsAtEnd}
-use Rattle.relay_ndjson.specs.Lines.{IsUnbroken, IsRaw, IsStart, IsAddFault, IsLong, TakesPart, TakesLine, EndsLine, line_limit}
+use Rattle.relay_ndjson.specs.Lines.{IsUnbroken, IsRaw, IsAddFault, TakesPart, TakesLine, EndsLine, line_limit}
 use Rattle.relay_ndjson.specs.declared.lines.Line.{Line}
 use Rattle.relay_ndjson.specs.declared.lines.Line.TheVariants as line
 use Rattle.relay_ndjson.specs.declared.kind.LineKind.{LineKind}
-use Rattle.relay_ndjson.specs.declared.kind.LineKind.TheVariants as kind
 
 pub prepend_nothing : (shown : Option (List ℕ)) → prepend_known [] shown ≡ shown
 prepend_nothing None = refl

@@ -1,5 +1,5 @@
 -- Writes whose parts are equal.
-use Rattle.std.proofs.Common.{◌≡◌, ℕ, List, refl, ap, ◌∙◌, subst, IsUtf8}
+use Rattle.std.proofs.Common.{◌≡◌, ℕ, List, ap, ◌∙◌, subst, IsUtf8}
 use Rattle.std.proofs.Props.{props}
 use Rattle.relay_action.specs.Limits.{HasLength, IsOneLine, index_limit, id_limit, source_limit}
 use Rattle.relay_action.specs.declared.key.DocKey.{DocKey}

@@ -1,5 +1,5 @@
 -- What is written for a write is its lines.
-use Rattle.std.proofs.Common.{◌≡◌, ◌≢◌, ℕ, zero, suc, ◌+◌, ◌-◌, ◌*◌, ◌/◌, ◌%◌, ◌^◌, ◌<◌, ◌≤◌, List, [], ◌∷◌, ◌++◌, length, get_or, codes, decimal, refl, ap, sym, ◌∙◌, subst, arith, inl, inr, append_assoc, append-nil, length-append, nat_le, Some, None, if◌then◌else◌, All, IsUtf8}
+use Rattle.std.proofs.Common.{◌≡◌, ◌≢◌, ℕ, zero, suc, ◌+◌, ◌-◌, ◌*◌, ◌%◌, ◌^◌, ◌<◌, ◌≤◌, List, [], ◌∷◌, ◌++◌, length, get_or, codes, decimal, refl, ap, sym, subst, arith, inr, append_assoc, length-append, Some, IsUtf8}
 use Rattle.std.proofs.lemmas.Grind.{common_steps}
 use Rattle.std.proofs.lemmas.Str.{IsUtf8-append, IsUtf8-had}
 use Rattle.std.proofs.lemmas.Fmt.{decimal_by_steps, length-decimal-le}
@@ -8,15 +8,15 @@ use Rattle.json.proofs.Printed.Utf8.{IsUtf8-are_ascii, IsUtf8-quoted}
 use Rattle.serde_json.specs.Data.{string, number, unsigned, object, member, no_members}
 use Rattle.serde_json.proofs.OnLiterals.{serde_json_on_literals}
 use Rattle.relay_action.specs.Actions.{kind_of}
-use Rattle.relay_action.specs.Limits.{IsOneLine, HasLength, id_limit, index_limit, source_limit}
+use Rattle.relay_action.specs.Limits.{IsOneLine}
 use Rattle.relay_action.specs.declared.action.Action.{Action}
 use Rattle.relay_action.specs.declared.action.Action.TheVariants.{Index, Delete}
 use Rattle.relay_action.specs.declared.write.Write.{Write}
 use Rattle.relay_ndjson.specs.Bulk.{action_text, action_data, source_line, line_end, write_text, text_of, last_version, action_name, metadata}
 use Rattle.relay_ndjson.specs.Metadata.{kind_name}
-use Rattle.relay_ndjson.specs.Lines.{IsUnbroken, IsRaw, IsLine, line_limit}
+use Rattle.relay_ndjson.specs.Lines.{IsUnbroken, IsLine, line_limit}
 use Rattle.relay_ndjson.specs.Versioned.{AsksVersioned, SaysWrite, within_last}
-use Rattle.relay_ndjson.specs.Bodies.{IsSourceOf, IsLinesOf, IsBulk, AreDealt}
+use Rattle.relay_ndjson.specs.Bodies.{IsSourceOf, IsLinesOf, AreDealt}
 use Rattle.relay_ndjson.specs.Laws.{BulkTextIsBulk}
 use Rattle.relay_ndjson.proofs.Parts.{length-action_text}
 use Rattle.relay_ndjson.proofs.ReadsBack.{read-action_text}

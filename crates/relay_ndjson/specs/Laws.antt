@@ -9,6 +9,7 @@ use Rattle.relay_ndjson.specs.Lines.{TakesText, TakesBlank}
 use Rattle.relay_ndjson.specs.Metadata.{Says, line_fault, source_line_fault}
 use Rattle.relay_ndjson.specs.Operations.{Operation, blank_limit, TakesOperation, HoldsNoMore, Breaks}
 use Rattle.relay_ndjson.specs.Bulk.{text_of}
+use Rattle.relay_ndjson.specs.Versioned.{SaysVersioned, write_line_fault}
 use Rattle.relay_ndjson.specs.Bodies.{AreDealt, IsBulk, BreaksBulk}
 
 -- a text has no fault exactly where it asks for an action on a document that may be
@@ -52,6 +53,11 @@ AlwaysDecided = (default : Option (List ℕ)) (bytes : List ℕ) →
     BeginsOperation default (Some bytes) ⊎ HoldsNoMore (Some bytes) ⊎ ((at : ℕ) × (k : LineKind) × Breaks default (Some bytes) at k)
 
 -- ---- bodies of the index side
+
+-- a text has no fault exactly where it asks for an action on a document that may be, at a version
+abbrev pub VersionedTextDecides : Type 0
+VersionedTextDecides = (text : List ℕ) →
+    (write_line_fault text ≡ None) ↔ ((a : ActionKind) × (index : List ℕ) × (id : List ℕ) × (version : ℕ) × SaysVersioned text a index id version × (key_fault index id ≡ None))
 
 -- the bulk text of writes is a body of just these
 abbrev pub BulkTextIsBulk : Type 0

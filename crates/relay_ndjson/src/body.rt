@@ -4,6 +4,9 @@ ghost use Rattle.relay_ndjson.specs.Lines.{IsRaw};
 ghost use Rattle.relay_ndjson.specs.Operations.{line_count};
 ghost use Rattle.relay_ndjson.specs.Bodies.{BeginsWithLine, BeginsWithSource, BeginsWithWrite, LacksLine, LacksSource, BreaksWriteAt, IsBulk, IsBulkFault, ReadsBack};
 
+#[cfg(test)]
+mod tests;
+
 use crate::action_line::read_source;
 use crate::kind::{BulkFault, LineKind};
 use crate::lines::LINE_LIMIT;

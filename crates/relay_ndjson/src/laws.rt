@@ -1,5 +1,5 @@
 //! What the grammars and their faults have to do with one another.
-ghost use Rattle.relay_ndjson.specs.Laws.{TextDecides, NoOperationAtFault, NoEndAtFault, NoOperationAtEnd, OneFault, AlwaysDecided, BulkTextIsBulk, OneBulk, NoFaultInBulk, OneBulkFault};
+ghost use Rattle.relay_ndjson.specs.Laws.{TextDecides, NoOperationAtFault, NoEndAtFault, NoOperationAtEnd, OneFault, AlwaysDecided, VersionedTextDecides, BulkTextIsBulk, OneBulk, NoFaultInBulk, OneBulkFault};
 
 /// Laws. A text has no fault exactly where it asks for an action on a document that may be. Over bytes
 /// that are known, an operation, the end and a fault exclude each other, one of them is always there, and
@@ -13,9 +13,11 @@ pub fn faults_exclude()
     ensures total { AlwaysDecided }
 {}
 
-/// Laws of bodies. What is written for writes is a body of just these. A body has one list of writes, and
-/// then no fault; and there is one first fault.
+/// Laws of bodies. A text has no fault exactly where it asks for an action on a document that may be, at a
+/// version. What is written for writes is a body of just these. A body has one list of writes, and then
+/// no fault; and there is one first fault.
 pub fn bodies_are_one()
+    ensures text { VersionedTextDecides }
     ensures written { BulkTextIsBulk }
     ensures one { OneBulk }
     ensures fault { NoFaultInBulk }

@@ -1,10 +1,11 @@
-//! Bulk lines: the text of writes for `POST /_bulk`, and the operations that a producer hands over as
-//! NDJSON. It stands on `relay_action` for values and streams, on `serde_json` for JSON, on `itoa` for
-//! numbers and on `memchr` for line ends.
+//! Bulk lines: the text of writes for `POST /_bulk`, there and back, and the operations that a producer
+//! hands over as NDJSON. It stands on `relay_action` for values and streams, on `serde_json` for JSON, on
+//! `itoa` for numbers and on `memchr` for line ends.
 //!
-//! It carries these promises: what is written is the bulk text of the writes, and what a producer's
-//! lines are read as is what the producer grammar says of them, up to the first line that breaks it,
-//! which is named with its kind.
+//! It carries these promises: what is written is the bulk text of the writes; a body is read as the
+//! writes whose lines it is, so what was written reads back; and what a producer's lines are read as is
+//! what the producer grammar says of them. A fault names the first line that breaks the grammar, with
+//! its kind.
 #![tactic(auto)]
 
 mod action_line;

@@ -110,95 +110,132 @@ fn fault_of(
 }
 
 #[test]
-fn faults(rt: HostRuntime) -> Result<(), Fail> {
-    let rows: [(&[u8], Option<InputFault>); 27] = [
-        (b"", None),
-        (b"\n\r\n", None),
+fn inputs_without_a_fault(rt: HostRuntime) -> Result<(), Fail> {
+    let rows: [&[u8]; 3] = [
+        b"",
+        b"\n\r\n",
+        b"{\"delete\":{\"_id\":\"1\",\"_id\":\"2\",\"_index\":\"b\"}}\r\n",
+    ];
+    for text in rows {
+        assert_eq!(rt; fault_of(rt.alloc(), text, None)?, None);
+    }
+    Ok(())
+}
+
+#[test]
+fn lines_that_are_no_action(rt: HostRuntime) -> Result<(), Fail> {
+    let rows: [(&[u8], LineKind); 8] = [
+        (b"{\n", LineKind::NotJson),
+        (b"\xff\n", LineKind::NotJson),
+        (b"\r", LineKind::NotJson),
+        (
+            b"{\"delete\":{\"_id\":\"1\",\"_index\":\"b\",\"x\":1e999}}\n",
+            LineKind::NotJson,
+        ),
+        (b"[1]\n", LineKind::NotOneAction),
+        (b"{\"create\":1}\n", LineKind::NotOneAction),
+        (b"{\"index\":{},\"delete\":{}}\n", LineKind::NotOneAction),
         (
             b"{\"create\":{\"_index\":\"b\",\"_id\":\"1\"}}\n",
-            at(1, LineKind::UnsupportedAction),
+            LineKind::UnsupportedAction,
         ),
+    ];
+    for (text, kind) in rows {
+        assert_eq!(rt; fault_of(rt.alloc(), text, None)?, at(1, kind));
+    }
+    assert_eq!(rt;
+        fault_of(rt.alloc(), b"\n\n[1]\n", None)?,
+        at(3, LineKind::NotOneAction)
+    );
+    Ok(())
+}
+
+#[test]
+fn faults_of_metadata(rt: HostRuntime) -> Result<(), Fail> {
+    let rows: [(&[u8], LineKind); 5] = [
         (
-            b"{\"index\":{\"_index\":\"b\"}}\n",
-            at(1, LineKind::MissingId),
+            b"{\"index\":{\"_index\":\"b\",\"_id\":\"1\",\"routing\":\"x\",\"version\":3}}\n",
+            LineKind::UnsupportedField,
         ),
         (
             b"{\"index\":{\"_index\":\"b\",\"_id\":\"1\",\"version\":3}}\n",
-            at(1, LineKind::VersionGiven),
+            LineKind::VersionGiven,
         ),
-        (
-            b"{\"index\":{\"_index\":\"b\",\"_id\":\"1\",\"routing\":\"x\",\"version\":3}}\n",
-            at(1, LineKind::UnsupportedField),
-        ),
-        (
-            b"{\"index\":{\"_index\":\"b\",\"_id\":\"1\"}}\n",
-            at(1, LineKind::SourceMissing),
-        ),
-        (
-            b"{\"index\":{\"_index\":\"b\",\"_id\":\"1\"}}",
-            at(1, LineKind::SourceMissing),
-        ),
-        (
-            b"{\"delete\":{\"_id\":\"1\"}}\n",
-            at(1, LineKind::MissingIndex),
-        ),
+        (b"{\"delete\":{\"_id\":\"1\"}}\n", LineKind::MissingIndex),
         (
             b"{\"delete\":{\"_id\":\"1\",\"_index\":3}}\n",
-            at(1, LineKind::MissingIndex),
+            LineKind::MissingIndex,
         ),
-        (b"[1]\n", at(1, LineKind::NotOneAction)),
-        (b"{\"create\":1}\n", at(1, LineKind::NotOneAction)),
-        (
-            b"{\"index\":{},\"delete\":{}}\n",
-            at(1, LineKind::NotOneAction),
-        ),
-        (b"{\n", at(1, LineKind::NotJson)),
-        (b"\n\n[1]\n", at(3, LineKind::NotOneAction)),
-        (b"\xff\n", at(1, LineKind::NotJson)),
-        (
-            b"{\"delete\":{\"_id\":\"1\",\"_index\":\"\"}}\n",
-            at(1, LineKind::Action(ActionFault::IndexEmpty)),
-        ),
-        (
-            b"{\"delete\":{\"_id\":\"\",\"_index\":\"b\"}}\n",
-            at(1, LineKind::Action(ActionFault::IdEmpty)),
-        ),
+        (b"{\"index\":{\"_index\":\"b\"}}\n", LineKind::MissingId),
+    ];
+    for (text, kind) in rows {
+        assert_eq!(rt; fault_of(rt.alloc(), text, None)?, at(1, kind));
+    }
+    Ok(())
+}
+
+#[test]
+fn faults_of_documents(rt: HostRuntime) -> Result<(), Fail> {
+    let rows: [(&[u8], LineKind); 4] = [
         (
             b"{\"delete\":{\"_id\":-0,\"_index\":\"b\"}}\n",
-            at(1, LineKind::MissingId),
+            LineKind::MissingId,
         ),
         (
             b"{\"delete\":{\"_id\":1.0,\"_index\":\"b\"}}\n",
-            at(1, LineKind::MissingId),
+            LineKind::MissingId,
         ),
         (
-            b"{\"delete\":{\"_id\":\"1\",\"_index\":\"b\",\"x\":1e999}}\n",
-            at(1, LineKind::NotJson),
+            b"{\"delete\":{\"_id\":\"1\",\"_index\":\"\"}}\n",
+            LineKind::Action(ActionFault::IndexEmpty),
+        ),
+        (
+            b"{\"delete\":{\"_id\":\"\",\"_index\":\"b\"}}\n",
+            LineKind::Action(ActionFault::IdEmpty),
+        ),
+    ];
+    for (text, kind) in rows {
+        assert_eq!(rt; fault_of(rt.alloc(), text, None)?, at(1, kind));
+    }
+    Ok(())
+}
+
+#[test]
+fn faults_of_sources(rt: HostRuntime) -> Result<(), Fail> {
+    let rows: [(&[u8], u64, LineKind); 6] = [
+        (
+            b"{\"index\":{\"_index\":\"b\",\"_id\":\"1\"}}\n",
+            1,
+            LineKind::SourceMissing,
+        ),
+        (
+            b"{\"index\":{\"_index\":\"b\",\"_id\":\"1\"}}",
+            1,
+            LineKind::SourceMissing,
         ),
         (
             b"\n{\"delete\":{\"_id\":-7,\"_index\":\"b\"}}\n\n{\"index\":{\"_id\":1,\"_index\":\"b\"}}\n\n",
-            at(5, LineKind::Action(ActionFault::SourceEmpty)),
+            5,
+            LineKind::Action(ActionFault::SourceEmpty),
         ),
         (
             b"{\"index\":{\"_id\":1,\"_index\":\"b\"}}\na\rb",
-            at(2, LineKind::Action(ActionFault::SourceNewline)),
+            2,
+            LineKind::Action(ActionFault::SourceNewline),
         ),
         (
             b"{\"index\":{\"_id\":1,\"_index\":\"b\"}}\na\r",
-            at(2, LineKind::Action(ActionFault::SourceNewline)),
+            2,
+            LineKind::Action(ActionFault::SourceNewline),
         ),
         (
             b"{\"index\":{\"_id\":1,\"_index\":\"b\"}}\n\xff",
-            at(2, LineKind::NotJson),
-        ),
-        (b"\r", at(1, LineKind::NotJson)),
-        (
-            b"{\"delete\":{\"_id\":\"1\",\"_id\":\"2\",\"_index\":\"b\"}}\r\n",
-            None,
+            2,
+            LineKind::NotJson,
         ),
     ];
-    for (text, wanted) in rows {
-        assert_eq!(rt; fault_of(rt.alloc(), text, None)?, wanted);
+    for (text, line, kind) in rows {
+        assert_eq!(rt; fault_of(rt.alloc(), text, None)?, at(line, kind));
     }
     Ok(())
 }

@@ -20,15 +20,15 @@ writes-preserved c =
 pub returns-in-Err-clause-round_trip : goal.returns-in-Err-clause-round_trip
 returns-in-Err-clause-round_trip c =
     λ ws dealt same.
-        elim c.in-Err.ensures.err [
-          | inl memory ↦ memory
-          | inr breaks ↦
-              absurd (no_fault_in_bulk c.args.body.now ws _ c.in-Err.fault.kind (subst (λ (bytes : List ℕ). IsBulk bytes ws) (sym same) (bulk_text_is_bulk ws dealt)) (read_broken c.args.body.now c.writes.rest.now c.writes.writes.items c.writes.lines c.in-Err.fault.line c.in-Err.fault.kind c.writes.invariant breaks))
-        ]
+    elim c.in-Err.ensures.err [
+      | inl memory ↦ memory
+      | inr breaks ↦
+          absurd (no_fault_in_bulk c.args.body.now ws _ c.in-Err.fault.kind (subst (λ (bytes : List ℕ). IsBulk bytes ws) (sym same) (bulk_text_is_bulk ws dealt)) (read_broken c.args.body.now c.writes.rest.now c.writes.writes.items c.writes.lines c.in-Err.fault.line c.in-Err.fault.kind c.writes.invariant breaks))
+    ]
 
 pub returns-clause-round_trip : goal.returns-clause-round_trip
 returns-clause-round_trip c =
     let none : length c.writes.rest.now ≡ 0 = grind (arith, common_steps, c.writes-test.false, c.is_empty.ensures) in
     let all = all_read c.args.body.now c.writes.rest.now c.writes.writes.items c.writes.lines c.writes.invariant (nil_of c.writes.rest.now none) in
     λ ws dealt same.
-        one_bulk c.args.body.now c.writes.writes.items ws all (subst (λ (bytes : List ℕ). IsBulk bytes ws) (sym same) (bulk_text_is_bulk ws dealt))
+    one_bulk c.args.body.now c.writes.writes.items ws all (subst (λ (bytes : List ℕ). IsBulk bytes ws) (sym same) (bulk_text_is_bulk ws dealt))

@@ -1,6 +1,10 @@
 use Rattle.relay_ndjson.proofs.OneBody.{one_bulk, no_fault_in_bulk, one_bulk_fault}
+use Rattle.relay_ndjson.proofs.Versioning.{versioned_text_decides}
 use Rattle.relay_ndjson.proofs.Written.{bulk_text_is_bulk}
 use Rattle.relay_ndjson.proofs.laws.bodies_are_one.Goals as goal
+
+pub returns-clause-text : goal.returns-clause-text
+returns-clause-text c = versioned_text_decides
 
 pub returns-clause-written : goal.returns-clause-written
 returns-clause-written c = bulk_text_is_bulk

@@ -1,4 +1,4 @@
-use Rattle.std.proofs.Common.{◌∙◌, ap, sym, length, drop, []}
+use Rattle.std.proofs.Common.{◌∙◌, ap, length, drop, []}
 use Rattle.std.proofs.Math.Seq.{drop-length}
 use Rattle.relay_ndjson.proofs.Pieces.{part_refused, part_ended, whole_unbroken, whole_refused}
 use Rattle.relay_ndjson.proofs.lines.Lines.take_part.Goals as goal
