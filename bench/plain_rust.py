@@ -29,19 +29,29 @@ def build(folder, name, crate):
     return os.path.join(package, "target/release/plain") if done.returncode == 0 else None
 
 
-def best_of(turns, programs):
-    """The best time for each thing of each program, which take turns, and what they tell beside it.
+def times_of(turns, programs):
+    """What the programs tell, and of each its times for each thing, where they take turns.
 
     `programs` has for each name its command and its standard input, or None. A program prints one line: what
     it did, and behind the last comma the time for each thing. What they did has to be the same.
     """
-    told, best = {}, {}
+    told, times = {}, {name: [] for name in programs}
     for _ in range(turns):
         for name, (command, source) in programs.items():
             with open(source or os.devnull, "rb") as stdin:
                 line = subprocess.run(command, stdin=stdin, stdout=subprocess.PIPE, check=True, text=True).stdout
             told[name], _, time = line.strip().rpartition(", ")
-            best[name] = min(best.get(name, float("inf")), float(time.split()[0]))
+            times[name].append(float(time.split()[0]))
     if len(set(told.values())) != 1:
         raise SystemExit("the programs did different things: %s" % told)
-    return told[name], best
+    return told[name], times
+
+
+def best_of(turns, programs):
+    """What the programs tell, and of each its best time for each thing, as `times_of` measures them."""
+    told, times = times_of(turns, programs)
+    return told, {name: min(of) for name, of in times.items()}
+
+
+def median(numbers):
+    return sorted(numbers)[len(numbers) // 2]

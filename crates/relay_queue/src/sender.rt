@@ -18,13 +18,14 @@ pub const PUT_LIMIT: u64 = 1 << 40;
 pub(crate) const TRIES: u32 = 100;
 
 /// Gives the other side time: for the first turns in place, longer each turn, and then by leaving the
-/// processor.
+/// processor. The first turn is long enough for the other side to move on by several messages, so that
+/// the two do not take turns at the same cache lines, and short beside a hand-over at one place.
 pub(crate) fn pause(turn: u32) {
-    if turn > 4 {
+    if turn > 2 {
         thread::yield_now();
         return;
     }
-    for _ in 0..1u32 << turn {
+    for _ in 0..32u32 << turn {
         hint::spin_loop();
     }
 }
