@@ -1,8 +1,13 @@
 -- What an index does with the writes of a request, under a script.
-use Rattle.std.specs.Prelude.{◌≡◌, ℕ, ◌≤◌, List, [], ◌∷◌, take, length, codes}
+use Rattle.std.specs.Prelude.{◌≡◌, ◌≢◌, ◌⊎◌, ℕ, ◌≤◌, List, [], ◌∷◌, take, length, codes}
 use Rattle.serde_json.specs.Data.{Data, number, string, object, unsigned, member, no_members}
 use Rattle.serde_json.specs.Written.{compact_text}
 use Rattle.relay_action.specs.declared.write.Write.{Write}
+use Rattle.relay_ndjson.specs.declared.kind.BulkFault.{BulkFault}
+use Rattle.relay_ndjson.specs.declared.kind.LineKind.{LineKind}
+use Rattle.relay_ndjson.specs.declared.kind.LineKind.TheVariants as kind
+use Rattle.relay_ndjson.specs.Kinds.{name_of}
+use Rattle.relay_ndjson.specs.Bodies.{IsBulk, BreaksBulk}
 use Rattle.relay_results.specs.declared.done.ItemDone.{ItemDone}
 use Rattle.relay_results.specs.Done.{outcomes_of, reply_text}
 use Rattle.relay_results.specs.Replies.{IsReply}
@@ -42,3 +47,46 @@ fault_data line kind =
 
 unfoldable pub fault_text : ℕ → List ℕ → List ℕ
 fault_text line kind = compact_text (fault_data line kind)
+
+-- the answer to a fault, which is none to want of memory
+pub record IsRejection (fault : BulkFault) (status : ℕ) (text : List ℕ) : Type 0 where
+  pub cause : fault.kind ≢ kind.Memory
+  pub failure : status ≡ 400
+  pub text_of : text ≡ fault_text fault.line (name_of fault.kind)
+
+-- ---- the body of a request
+
+-- the body is a bulk request: 200, and the reply once all its writes were run
+pub record Serves (body : List ℕ) (old : State) (plan : Plan) (status : ℕ) (text : List ℕ) (new : State) (end : Plan) : Type 0 where
+  pub writes : List Write
+  pub reads : IsBulk body writes
+  pub success : status ≡ 200
+  pub replies : Replies old plan writes text new end
+
+-- the body is none: 400, and the text that names the first line that is at fault; nothing is run
+pub record Rejects (body : List ℕ) (old : State) (plan : Plan) (status : ℕ) (text : List ℕ) (new : State) (end : Plan) : Type 0 where
+  pub line : ℕ
+  pub kind : LineKind
+  pub breaks : BreaksBulk body line kind
+  pub failure : status ≡ 400
+  pub text_of : text ≡ fault_text line (name_of kind)
+  pub index_stays : new ≡ old
+  pub script_stays : end ≡ plan
+
+abbrev pub Answers : List ℕ → State → Plan → ℕ → List ℕ → State → Plan → Type 0
+Answers body old plan status text new end = Serves body old plan status text new end ⊎ Rejects body old plan status text new end
+
+-- memory was refused while the body was read or its fault was written: nothing is run
+pub record RunsNone (ran : ℕ) (old : State) (plan : Plan) (new : State) (end : Plan) : Type 0 where
+  pub none : ran ≡ 0
+  pub index_stays : new ≡ old
+  pub script_stays : end ≡ plan
+
+-- memory was refused later: the first writes, as many as this, were run, and no more
+pub record RunsSome (ran : ℕ) (body : List ℕ) (old : State) (plan : Plan) (new : State) (end : Plan) : Type 0 where
+  pub writes : List Write
+  pub reads : IsBulk body writes
+  pub first : RunsFirst ran old plan writes new end
+
+abbrev pub StopsAfter : ℕ → List ℕ → State → Plan → State → Plan → Type 0
+StopsAfter ran body old plan new end = RunsNone ran old plan new end ⊎ RunsSome ran body old plan new end

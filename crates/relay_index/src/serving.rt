@@ -1,11 +1,12 @@
 //! Bulk requests served.
 ghost use Rattle.std.specs.Prelude.{◌≡◌, IfOk, IfErr, string_bytes};
 ghost use Rattle.serde_json.specs.View.{view};
-ghost use Rattle.relay_index.specs.Serving.{RunsAll, RunsFirst, Replies, fault_data, fault_text};
+ghost use Rattle.relay_index.specs.Serving.{RunsAll, RunsFirst, Replies, fault_data, fault_text, IsRejection, Answers, StopsAfter};
 
 use crate::index::Index;
 use crate::script::Script;
 use relay_action::Write;
+use relay_ndjson::{BulkFault, LineKind, read_bulk};
 use relay_results::{ItemDone, write_reply};
 use serde_json::{Value, json};
 use std::alloc::{AllocError, Global};
@@ -35,6 +36,20 @@ fn write_fault(alloc: Global, line: u64, kind: &str) -> Result<String, AllocErro
     let value = fault_value(alloc, line, kind)?;
     let text = value.to_string(alloc)?;
     Ok(text)
+}
+
+// The answer to a body with a fault: 400 and the text that names it, unless the fault is want of memory.
+fn reject(alloc: Global, fault: BulkFault) -> Result<(u16, String), ServeFault>
+    ensures ok { IfOk result (λ answer. IsRejection fault answer.0 (string_bytes answer.1)) }
+    ensures err { IfErr result (λ e. e.ran ≡ 0) }
+{
+    if fault.kind == LineKind::Memory {
+        return Err(ServeFault { ran: 0 });
+    }
+    match write_fault(alloc, fault.line, fault.kind.name()) {
+        Ok(text) => Ok((400, text)),
+        Err(_) => Err(ServeFault { ran: 0 }),
+    }
 }
 
 impl Index {
@@ -93,6 +108,37 @@ impl Index {
             Err(_) => Err(ServeFault {
                 ran: writes.len() as u64,
             }),
+        }
+    }
+
+    /// Serves the body of a bulk request: runs its writes once each, in their order, each with what the
+    /// script has for its place, and gives the status of the answer and its text.
+    ///
+    /// The answer is 200 and the reply, with `took` 0. To a body that is no bulk request it is 400 and
+    /// `{"error":{"line":N,"type":"KIND"},"status":400}`, with the first line that is at fault and the
+    /// name of its kind; then nothing is run, and index and script are as before.
+    ///
+    /// `ServeFault`: there was no memory, after exactly the first `ran` items were run. That is 0 where
+    /// the body could not be read or the text of its fault not be made, and the number of all items
+    /// where only the reply could not be made.
+    pub fn serve_body(
+        &mut self,
+        alloc: Global,
+        body: &[u8],
+        script: &mut Script,
+    ) -> Result<(u16, String), ServeFault>
+        ensures answered { IfOk result (λ answer. Answers body.now self.old script.old
+            answer.0 (string_bytes answer.1) self.new script.new) }
+        ensures stopped { IfErr result (λ e.
+            StopsAfter e.ran body.now self.old script.old self.new script.new) }
+    {
+        let writes = match read_bulk(alloc, body) {
+            Ok(writes) => writes,
+            Err(fault) => return reject(alloc, fault),
+        };
+        match self.serve_writes(alloc, writes.as_slice(), script) {
+            Ok(text) => Ok((200, text)),
+            Err(fault) => Err(fault),
         }
     }
 }
