@@ -1,3 +1,4 @@
 pub mod Taken
 pub mod Written
 pub mod Streaming
+mod Bodies

@@ -5,6 +5,7 @@
 //! first fault, on the function that the command calls, over any reader and writer.
 #![tactic(auto)]
 
+mod apply;
 mod command;
 mod exit;
 mod lines;
