@@ -2,3 +2,4 @@ pub mod Taken
 pub mod Written
 pub mod Streaming
 mod Bodies
+mod Parted

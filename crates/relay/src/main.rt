@@ -9,6 +9,7 @@ mod apply;
 mod command;
 mod exit;
 mod lines;
+mod refuse_list;
 #[cfg(test)]
 mod tests;
 
