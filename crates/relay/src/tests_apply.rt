@@ -14,6 +14,9 @@ const TWO: &[u8] =
 const TWO_ANSWER: &[u8] =
     b"200\n{\"errors\":false,\"items\":[{\"delete\":{\"_id\":\"1\",\"_index\":\"b\",\"_seq_no\":0,\"_version\":1,\"result\":\"not_found\",\"status\":404}},{\"delete\":{\"_id\":\"2\",\"_index\":\"b\",\"_seq_no\":1,\"_version\":2,\"result\":\"not_found\",\"status\":404}}],\"took\":0}\n";
 
+const NO_LAST_LINE_END: &[u8] =
+    b"400\n{\"error\":{\"line\":2,\"type\":\"NoFinalNewline\"},\"status\":400}\n";
+
 const SECOND_REFUSED: &[u8] =
     b"200\n{\"errors\":true,\"items\":[{\"delete\":{\"_id\":\"1\",\"_index\":\"b\",\"_seq_no\":0,\"_version\":1,\"result\":\"not_found\",\"status\":404}},{\"delete\":{\"_id\":\"2\",\"_index\":\"b\",\"error\":{\"type\":\"scripted_refusal\"},\"status\":429}}],\"took\":0}\n";
 
@@ -46,9 +49,7 @@ fn a_request_of_two(rt: HostRuntime) -> Result<(), Fail> {
 #[test]
 fn a_scripted_refusal(rt: HostRuntime) -> Result<(), Fail> {
     let alloc = rt.alloc();
-    let Ok(script) = refuse_list(alloc, "2:429") else {
-        return Err(Fail);
-    };
+    let script = refuse_list(alloc, "2:429")?;
     let (answer, written) = run(alloc, TWO.to_vec(alloc)?, script, 100, (0, 0))?;
     assert_eq!(rt; answer, Ok(()));
     assert_eq!(rt; written.as_slice(), SECOND_REFUSED);
@@ -58,9 +59,10 @@ fn a_scripted_refusal(rt: HostRuntime) -> Result<(), Fail> {
 #[test]
 fn no_bulk_request(rt: HostRuntime) -> Result<(), Fail> {
     let alloc = rt.alloc();
-    let (answer, written) = run(alloc, TWO[..TWO.len() - 1].to_vec(alloc)?, Script::new(alloc), 100, (0, 0))?;
+    let body = TWO[..TWO.len() - 1].to_vec(alloc)?;
+    let (answer, written) = run(alloc, body, Script::new(alloc), 100, (0, 0))?;
     assert_eq!(rt; answer, Ok(()));
-    assert_eq!(rt; written.as_slice(), b"400\n{\"error\":{\"line\":2,\"type\":\"NoFinalNewline\"},\"status\":400}\n");
+    assert_eq!(rt; written.as_slice(), NO_LAST_LINE_END);
     Ok(())
 }
 
@@ -86,7 +88,13 @@ fn each_read_fails_in_turn(rt: HostRuntime) -> Result<(), Fail> {
     let alloc = rt.alloc();
     let calls = TWO.len() as u64 / 10 + 2;
     for fail_at in 1..calls + 1 {
-        let (answer, written) = run(alloc, TWO.to_vec(alloc)?, Script::new(alloc), 10, (fail_at, 0))?;
+        let (answer, written) = run(
+            alloc,
+            TWO.to_vec(alloc)?,
+            Script::new(alloc),
+            10,
+            (fail_at, 0),
+        )?;
         assert_eq!(rt; answer, Err(ApplyFault::Read));
         assert!(rt; written.is_empty());
     }
@@ -97,7 +105,13 @@ fn each_read_fails_in_turn(rt: HostRuntime) -> Result<(), Fail> {
 fn each_write_fails_in_turn(rt: HostRuntime) -> Result<(), Fail> {
     let alloc = rt.alloc();
     for fail_at in 1..TWO_ANSWER.len() as u64 + 1 {
-        let (answer, written) = run(alloc, TWO.to_vec(alloc)?, Script::new(alloc), 1, (0, fail_at))?;
+        let (answer, written) = run(
+            alloc,
+            TWO.to_vec(alloc)?,
+            Script::new(alloc),
+            1,
+            (0, fail_at),
+        )?;
         assert_eq!(rt; answer, Err(ApplyFault::Write { sent: fail_at - 1 }));
         assert_eq!(rt; written.as_slice(), &TWO_ANSWER[..fail_at as usize - 1]);
     }
@@ -120,8 +134,24 @@ fn statuses_of_apply(rt: HostRuntime) -> Result<(), Fail> {
 #[test]
 fn lists_that_are_none(rt: HostRuntime) -> Result<(), Fail> {
     for list in [
-        "", ",", "1", "1:", ":429", "1:429,", ",1:429", "1:429,,2:429", "0:429", "1:399", "1:404",
-        "1:409", "1:600", "+1:429", "1:+429", " 1:429", "1:429 ", "18446744073709551616:429",
+        "",
+        ",",
+        "1",
+        "1:",
+        ":429",
+        "1:429,",
+        ",1:429",
+        "1:429,,2:429",
+        "0:429",
+        "1:399",
+        "1:404",
+        "1:409",
+        "1:600",
+        "+1:429",
+        "1:+429",
+        " 1:429",
+        "1:429 ",
+        "18446744073709551616:429",
     ] {
         let refused = matches!(refuse_list(rt.alloc(), list), Err(ListFault::BadList));
         assert!(rt; refused, "{list}");
@@ -132,19 +162,18 @@ fn lists_that_are_none(rt: HostRuntime) -> Result<(), Fail> {
 #[test]
 fn lists_of_refusals(rt: HostRuntime) -> Result<(), Fail> {
     let alloc = rt.alloc();
-    for list in ["2:429", "0002:0429", "2:400,2:429", "3:503,2:429,18446744073709551615:599"] {
-        let Ok(mut script) = refuse_list(alloc, list) else {
-            return Err(Fail);
-        };
+    for list in [
+        "2:429",
+        "0002:0429",
+        "2:400,2:429",
+        "3:503,2:429,18446744073709551615:599",
+    ] {
+        let mut script = refuse_list(alloc, list)?;
         let mut index = Index::new(alloc);
         let served = index.serve_body(alloc, TWO, &mut script).is_ok();
         assert!(rt; served);
-        let Ok(first) = DocKey::new(alloc, "b", "1") else {
-            return Err(Fail);
-        };
-        let Ok(second) = DocKey::new(alloc, "b", "2") else {
-            return Err(Fail);
-        };
+        let first = DocKey::new(alloc, "b", "1")?;
+        let second = DocKey::new(alloc, "b", "2")?;
         assert_eq!(rt; index.version(&first), Some(1));
         assert_eq!(rt; index.version(&second), None);
     }

@@ -19,8 +19,8 @@ returns-then-place-eq0-clause-none c = λ place status h.
     let same_place = one_number _ _ _ c.in-Some-number_of.ensures.some (place_of _ _ _ c.in-Some.ensures place status h) in
     let same_status = one_number _ _ _ c.in-Some-number_of-2.ensures.some (status_of _ _ _ c.in-Some.ensures place status h) in
     elim c.then-place-eq0.branch [
-      then-place-eq0-via-then-place-eq0 w ↦ absurd (omega (arith, w.if-place-eq0.true, same_place, h.from_one))
-    | then-place-eq0-via-else-place-eq0+then-not-may_refuse w ↦ let e = w.if-not-may_refuse.ensures.1 (may_of _ _ same_status h.may) in cc
+      | then-place-eq0-via-then-place-eq0 w ↦ absurd (omega (arith, w.if-place-eq0.true, same_place, h.from_one))
+      | then-place-eq0-via-else-place-eq0+then-not-may_refuse w ↦ let e = w.if-not-may_refuse.ensures.1 (may_of _ _ same_status h.may) in cc
     ]
 
 pub returns-clause-some : goal.returns-clause-some

@@ -11,7 +11,7 @@ returns-in-Err-clause-err c = part_fault _ _ _ _ _ c.in-Err.fault c.parts.invari
 pub parts-preserved : goal.parts-preserved
 parts-preserved c = (
   let a = c.in_default-add.ensures.ok in
-  part_more _ _ _ _ _ _ c.parts.invariant.0 c.in-Some.ensures a.0 a.1 a.2 a.3,
+      part_more _ _ _ _ _ _ c.parts.invariant.0 c.in-Some.ensures a.0 a.1 a.2 a.3,
   search rules,
 )
 
