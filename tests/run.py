@@ -1,207 +1,19 @@
-"""End-to-end tests of the built program: both output streams and the exit status, byte for byte.
+"""End-to-end tests of the built program: `python3 tests/run.py PROGRAM`.
 
 Each case is the program's arguments, its standard input and what it has to do. The expected values are
 worked out by hand from the formats, never taken from the program's own output.
 """
-import os
-import subprocess
 import sys
-import time
 
-RELAY = os.path.abspath(sys.argv[1])
-RESULTS = {"passed": 0, "failed": 0}
-
-INDEX = b'{"index":{"_index":"b","_id":"1"}}\n'
-DELETE = b'{"delete":{"_index":"b","_id":"1"}}\n'
-
-
-def check(name, right, found=""):
-    RESULTS["passed" if right else "failed"] += 1
-    if not right:
-        print("FAILED: %s %s" % (name, found))
-
-
-def run(args, stdin=b"", **more):
-    return subprocess.run([RELAY] + args, input=stdin, capture_output=True, timeout=60, **more)
-
-
-def case(name, args, stdin, stdout, stderr, status):
-    done = run(args, stdin)
-    found = (done.stdout, done.stderr, done.returncode)
-    check(name, found == (stdout, stderr, status), found if len(str(found)) < 600 else "")
-
-
-def deleted(index, identity, version):
-    return b'{"delete":{"_id":%s,"_index":%s,"version":%d,"version_type":"external"}}\n' % (identity, index, version)
-
-
-def indexed(index, identity, version, source):
-    return b'{"index":{"_id":%s,"_index":%s,"version":%d,"version_type":"external"}}\n%s\n' % (identity, index, version, source)
-
-
-def fault(name, stdin, text, stdout=b"", args=()):
-    case(name, ["lines", *args], stdin, stdout, text + b"\n", 2)
-
-
-def rows():
-    case(
-        "two operations",
-        ["lines"],
-        b'{"index":{"_index":"books","_id":"1"}}\n{"title": "Emma"}\n{"delete":{"_id":"2","_index":"books"}}\n',
-        b'{"index":{"_id":"1","_index":"books","version":1,"version_type":"external"}}\n{"title": "Emma"}\n'
-        b'{"delete":{"_id":"2","_index":"books","version":2,"version_type":"external"}}\n',
-        b"",
-        0,
-    )
-    case("empty input", ["lines"], b"", b"", b"", 0)
-    case("no last line end", ["lines"], INDEX + b'{"a":1}', indexed(b'"b"', b'"1"', 1, b'{"a":1}'), b"", 0)
-    case("blank lines alone", ["lines"], b"\n\r\n\n", b"", b"", 0)
-    case(
-        "integer id and escapes",
-        ["lines", "--index", "b"],
-        b'{"delete":{"_id":7}}\n{"delete":{"_id":"a\\"\\u0001\\n"}}\n',
-        deleted(b'"b"', b'"7"', 1) + deleted(b'"b"', b'"a\\"\\u0001\\n"', 2),
-        b"",
-        0,
-    )
-    case("a negative id", ["lines"], b'{"delete":{"_id":-9,"_index":"b"}}\n', deleted(b'"b"', b'"-9"', 1), b"", 0)
-    case("a first version", ["lines", "--first", "41"], DELETE, deleted(b'"b"', b'"1"', 41), b"", 0)
-    case(
-        "versions end",
-        ["lines", "--first", "9000000000000000000"],
-        DELETE + DELETE,
-        deleted(b'"b"', b'"1"', 9000000000000000000),
-        b"line 2: VersionsSpent\n",
-        2,
-    )
-    case("all escapes", ["lines"], b'{"delete":{"_index":"b","_id":"\\b\\t\\n\\f\\r\\"\\\\\\/\\u001f\\u007f\\u00e9"}}\n', deleted(b'"b"', b'"\\b\\t\\n\\f\\r\\"\\\\/\\u001f\x7f\xc3\xa9"', 1), b"", 0)
-    case("a member given twice counts as its last", ["lines"], b'{"delete":{"_id":"1","_index":"a","_id":"2","_index":"b"}}\n', deleted(b'"b"', b'"2"', 1), b"", 0)
-
-
-def faults():
-    for text, kind in [
-        (b'{"create":{"_index":"b","_id":"1"}}\n', b"UnsupportedAction"),
-        (b'{"create":1}\n', b"NotOneAction"),
-        (b'{"index":{"_index":"b"}}\n', b"MissingId"),
-        (b'{"index":{"_index":"b","_id":"1","version":3}}\n', b"VersionGiven"),
-        (b'{"index":{"_index":"b","_id":"1","version_type":"external"}}\n', b"VersionGiven"),
-        (b'{"index":{"_index":"b","_id":"1","routing":"x"}}\n', b"UnsupportedField"),
-        (INDEX, b"SourceMissing"),
-        (INDEX[:-1], b"SourceMissing"),
-        (b'{"delete":{"_id":"1"}}\n', b"MissingIndex"),
-        (b'{"delete":{"_id":"1","_index":5}}\n', b"MissingIndex"),
-        (b"[1]\n", b"NotOneAction"),
-        (b"{}\n", b"NotOneAction"),
-        (b'{"index":{},"delete":{}}\n', b"NotOneAction"),
-        (b"{\n", b"NotJson"),
-        (b"\xff\n", b"NotJson"),
-        (b"\r", b"NotJson"),
-        (b'{"delete":{"_index":"b","_id":"1","x":1e999}}\n', b"NotJson"),
-        (b'{"delete":{"_index":"b","_id":1.0}}\n', b"MissingId"),
-        (b'{"delete":{"_index":"b","_id":-0}}\n', b"MissingId"),
-        (b'{"delete":{"_index":"b","_id":18446744073709551616}}\n', b"MissingId"),
-        (b'{"delete":{"_index":"","_id":"1"}}\n', b"IndexEmpty"),
-        (b'{"delete":{"_index":"b","_id":""}}\n', b"IdEmpty"),
-    ]:
-        fault("fault %r" % text, text, b"line 1: " + kind)
-    fault("third line", b"\n\n[1]\n", b"line 3: NotOneAction")
-    fault("an empty source", INDEX + b"\n", b"line 2: SourceEmpty")
-    fault("a source with a carriage return", INDEX + b"a\rb\n", b"line 2: SourceNewline")
-    fault("a last carriage return", INDEX + b"a\r", b"line 2: SourceNewline")
-    fault("a source that is not UTF-8", INDEX + b"\xff\n", b"line 2: NotJson")
-    fault("what stands before is written", DELETE + b"{\n" + DELETE, b"line 2: NotJson", deleted(b'"b"', b'"1"', 1))
-    fault("an empty default index", b'{"delete":{"_id":"1"}}\n', b"line 1: IndexEmpty", args=["--index", ""])
-    fault("a long default index", b'{"delete":{"_id":"1"}}\n', b"line 1: IndexLong", args=["--index", "x" * 256])
-
-
-def cuts():
-    """An action line cut anywhere is not JSON; cut of its line end alone, it is whole."""
-    for end in range(1, len(DELETE) - 1):
-        fault("cut at %d" % end, DELETE[:end], b"line 1: NotJson")
-
-
-def limits():
-    line = 1114112
-    key = b'{"delete":{"_index":"b","_id":"1"}}'
-    padded = key[:-1] + b" " * (line - len(key)) + b"}"
-    written = deleted(b'"b"', b'"1"', 1)
-    for end in (b"\n", b"\r\n", b""):
-        case("a line at the limit, %r" % end, ["lines"], padded + end, written, b"", 0)
-        fault("a line past it, %r" % end, b" " + padded + end, b"line 1: LineLong")
-    fault("a lone carriage return past the limit", padded + b"\r", b"line 1: LineLong")
-    fault("a carriage return and more past the limit", padded + b"\rx\n", b"line 1: LineLong")
-    source = b"x" * 1048576
-    case("a source at the limit", ["lines"], INDEX + source + b"\n", indexed(b'"b"', b'"1"', 1, source), b"", 0)
-    fault("a source past it", INDEX + source + b"x\n", b"line 2: SourceLong")
-    for size, kind in ((512, None), (513, b"IdLong")):
-        text = b'{"delete":{"_index":"b","_id":"%s"}}\n' % (b"i" * size)
-        if kind is None:
-            case("an id of %d" % size, ["lines"], text, deleted(b'"b"', b'"%s"' % (b"i" * size), 1), b"", 0)
-        else:
-            fault("an id of %d" % size, text, b"line 1: " + kind)
-    fault("an index name of 256", b'{"delete":{"_index":"%s","_id":"1"}}\n' % (b"i" * 256), b"line 1: IndexLong")
-    case("blank lines at the limit", ["lines"], b"\n" * 65536 + DELETE, written, b"", 0)
-    case("blank lines at the limit at the end", ["lines"], b"\n" * 65536, b"", b"", 0)
-    fault("blank lines past it", b"\n" * 65537, b"line 65537: LineLong")
-    for depth, good in ((125, True), (126, False)):
-        nested = b'{"delete":{"_index":"b","_id":"1","x":%s%s}}\n' % (b"[" * depth, b"]" * depth)
-        fault("a member that nobody looks at, %d deep in all" % (depth + 2), nested, b"line 1: UnsupportedField" if good else b"line 1: NotJson")
-
-
-def endless():
-    """A reader that never ends is stopped by the limits."""
-    for command, text in (("yes x | tr -d '\\n'", b"line 1: LineLong\n"), ("yes ''", b"line 65537: LineLong\n")):
-        producer = subprocess.Popen(["sh", "-c", command], stdout=subprocess.PIPE, stderr=subprocess.DEVNULL)
-        done = subprocess.run([RELAY, "lines"], stdin=producer.stdout, capture_output=True, timeout=60)
-        producer.stdout.close()
-        producer.wait()
-        check("an endless input of %s" % command, (done.stdout, done.stderr, done.returncode) == (b"", text, 2), done)
-
-
-def devices():
-    folder = os.open("/", os.O_RDONLY)
-    try:
-        done = subprocess.run([RELAY, "lines"], stdin=folder, capture_output=True, timeout=60)
-    finally:
-        os.close(folder)
-    check("a directory as input", (done.stdout, done.stderr, done.returncode) == (b"", b"read failed\n", 3), done)
-    with open("/dev/full", "wb") as full:
-        done = subprocess.run([RELAY, "lines"], input=DELETE, stdout=full, stderr=subprocess.PIPE, timeout=60)
-        check("a full device", (done.stderr, done.returncode) == (b"write failed\n", 3), done)
-        done = subprocess.run([RELAY, "--version"], stdout=full, stderr=subprocess.PIPE, timeout=60)
-        check("the version to a full device", (done.stderr, done.returncode) == (b"write failed\n", 3), done)
-        done = subprocess.run([RELAY, "lines"], input=b"{\n", stdout=subprocess.PIPE, stderr=full, timeout=60)
-        check("a fault that cannot be printed", (done.stdout, done.returncode) == (b"", 2), done)
-    read, write = os.pipe()
-    process = subprocess.Popen([RELAY, "lines"], stdin=subprocess.PIPE, stdout=write, stderr=subprocess.PIPE)
-    os.close(write)
-    os.close(read)
-    _, stderr = process.communicate(DELETE * 40000, timeout=60)
-    check("a closed pipe", (stderr, process.returncode) == (b"write failed\n", 3), (stderr, process.returncode))
-
-
-def prompt():
-    """A line comes out before the next goes in."""
-    process = subprocess.Popen([RELAY, "lines"], stdin=subprocess.PIPE, stdout=subprocess.PIPE)
-    started = time.monotonic()
-    for version in range(1, 4):
-        process.stdin.write(DELETE)
-        process.stdin.flush()
-        line = process.stdout.readline()
-        check("line %d comes at once" % version, line == deleted(b'"b"', b'"1"', version), line)
-    process.stdin.write(INDEX)
-    process.stdin.write(b"{}\n\n")
-    process.stdin.flush()
-    lines = process.stdout.readline() + process.stdout.readline()
-    check("and an operation of two lines", lines == indexed(b'"b"', b'"1"', 4, b"{}"), lines)
-    process.stdin.close()
-    check("and it ends", process.wait(timeout=60) == 0 and time.monotonic() - started < 30)
+import apply_cases
+import lines_cases
+from program import RESULTS, check, run
 
 
 def command_line():
     version = run(["--version"])
     check("the version", (version.stdout, version.stderr, version.returncode) == (b"relay 0.1.0\n", b"", 0), version)
-    for args in (["--help"], ["help"], ["lines", "--help"], ["help", "lines"]):
+    for args in (["--help"], ["help"], ["lines", "--help"], ["help", "lines"], ["apply", "--help"], ["help", "apply"]):
         done = run(args)
         check("help: %s" % args, done.returncode == 0 and b"Usage: relay" in done.stdout and done.stderr == b"", done)
     for args, said in (
@@ -209,6 +21,11 @@ def command_line():
         (["bogus"], b"bogus"),
         (["lines", "--bogus"], b"--bogus"),
         (["lines", "x"], b"'x'"),
+        (["apply", "--bogus"], b"--bogus"),
+        (["apply", "x"], b"'x'"),
+        (["apply", "--refuse"], b"--refuse"),
+        (["apply", "--refuse", "1:429", "--refuse", "2:429"], b"--refuse"),
+        (["apply", "--index", "b"], b"--index"),
         (["lines", "--first"], b"--first"),
         (["lines", "--first", "0"], b"'0'"),
         (["lines", "--first", "9000000000000000001"], b"9000000000000000001"),
@@ -217,12 +34,12 @@ def command_line():
         (["lines", "--first", "1", "--first", "2"], b"--first"),
         ([b"lines", b"\xff"], b"not all text"),
     ):
-        done = run(args, DELETE)
+        done = run(args, b'{"delete":{"_index":"b","_id":"1"}}\n')
         check("usage: %s" % args, done.returncode == 1 and said in done.stderr and done.stdout == b"", done)
 
 
 def main():
-    for group in (rows, faults, cuts, limits, endless, devices, prompt, command_line):
+    for group in (*lines_cases.GROUPS, *apply_cases.GROUPS, command_line):
         group()
     print("%d passed, %d failed" % (RESULTS["passed"], RESULTS["failed"]))
     sys.exit(RESULTS["failed"] != 0)

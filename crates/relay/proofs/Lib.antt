@@ -1,3 +1,5 @@
 pub mod Taken
 pub mod Written
 pub mod Streaming
+mod Bodies
+mod Parted

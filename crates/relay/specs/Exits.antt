@@ -4,6 +4,8 @@ use Rattle.relay_ndjson.specs.declared.kind.LineKind.{LineKind}
 use Rattle.relay_ndjson.specs.declared.kind.LineKind.TheVariants as kind
 use Rattle.relay.specs.declared.lines.LinesFault.{LinesFault}
 use Rattle.relay.specs.declared.lines.LinesFault.TheVariants as fault
+use Rattle.relay.specs.declared.apply.ApplyFault.{ApplyFault}
+use Rattle.relay.specs.declared.apply.ApplyFault.TheVariants as apply
 use Rattle.relay.specs.declared.exit.Exit.{Exit}
 use Rattle.relay.specs.declared.exit.Exit.TheVariants as exit
 
@@ -26,3 +28,9 @@ exit_of (fault.Input e) = exit_of_kind e.kind
 exit_of (fault.VersionsSpent line) = exit.Input
 exit_of (fault.Write sent) = exit.Device
 exit_of fault.Memory = exit.Memory
+
+abbrev pub exit_of_apply : ApplyFault → Exit
+exit_of_apply apply.BodyLong = exit.Input
+exit_of_apply apply.Read = exit.Device
+exit_of_apply (apply.Write sent) = exit.Device
+exit_of_apply apply.Memory = exit.Memory

@@ -1,2 +1,4 @@
 pub mod Lines
 pub mod Exits
+pub mod Applies
+pub mod Refusals

@@ -1,10 +1,13 @@
 //! The command line.
-use crate::exit::{Exit, exit_of};
+use crate::apply::apply;
+use crate::exit::{Exit, exit_of, exit_of_apply};
 use crate::lines::{LinesFault, lines};
+use crate::refuse_list::{ListFault, refuse_list};
 use clap::builder::ValueParser;
 use clap::error::ErrorKind;
 use clap::{Arg, ArgAction, ArgMatches, Command, Error};
 use relay_action::StdStream;
+use relay_index::Script;
 use relay_ndjson::{LAST_VERSION, LineKind};
 use std::alloc::{AllocError, Global};
 use std::rt::Env;
@@ -32,6 +35,25 @@ const INDEX_HELP: &str =
 
 const FIRST_HELP: &str = "The version of the first operation, from 1 to 9000000000000000000";
 
+const APPLY_ABOUT: &str = "Serves one bulk request with a fresh stand-in index";
+
+const APPLY_LONG_ABOUT: &str = "Serves one bulk request with a fresh stand-in index
+
+Standard input has the body of a request POST /_bulk, as `relay lines` writes it: action lines with
+_index, _id, version and version_type external, and behind each index action the document on a line
+of its own. It has at most 16777216 bytes. Standard output gets the HTTP status of the answer and its
+text, each on a line: 200 and the reply, or 400 and the first line that is at fault.
+
+The index applies a write where its version is above the one stored of the document, and keeps the
+version of a deleted document. Nothing is written before the whole request was served. A body that
+is too long ends with status 2, a read or write that fails with 3, want of memory with 4.";
+
+const REFUSE_HELP: &str =
+    "Items that the index refuses, as 2:429,5:400: the place of an item from 1, and a status from 400 to 599 other than 404 and 409 [default: none]";
+
+const REFUSE_FAULT: &str =
+    "error: the value of '--refuse' is no list as 2:429,5:400, of places from 1 and statuses from 400 to 599 other than 404 and 409";
+
 // `relay lines`.
 fn lines_command<'a>(alloc: Global) -> Result<Command<'a>, AllocError> {
     let index = Arg::new(alloc, "index")
@@ -53,13 +75,27 @@ fn lines_command<'a>(alloc: Global) -> Result<Command<'a>, AllocError> {
         .arg(first)
 }
 
+// `relay apply`.
+fn apply_command<'a>(alloc: Global) -> Result<Command<'a>, AllocError> {
+    let refuse = Arg::new(alloc, "refuse")
+        .long("refuse")
+        .value_name("LIST")
+        .action(ArgAction::Set)
+        .help(REFUSE_HELP);
+    Command::new(alloc, "apply")
+        .about(APPLY_ABOUT)
+        .long_about(APPLY_LONG_ABOUT)
+        .arg(refuse)
+}
+
 // The whole command line.
 fn relay_command<'a>(alloc: Global) -> Result<Command<'a>, AllocError> {
     Command::new(alloc, "relay")
         .version("0.1.0")
         .about(ABOUT)
         .subcommand_required(true)
-        .subcommand(lines_command(alloc)?)
+        .subcommand(lines_command(alloc)?)?
+        .subcommand(apply_command(alloc)?)
 }
 
 // Says what is wrong with the command line, or prints what it asks for.
@@ -106,6 +142,38 @@ fn run_lines<R: Input + Print + Eprint + AllocGlobal>(rt: &R, matches: &ArgMatch
     }
 }
 
+// The script that the command line asks for.
+fn script_of(alloc: Global, matches: &ArgMatches<'_>) -> Result<Script, ListFault> {
+    match matches.get_str("refuse") {
+        Some(list) => refuse_list(alloc, list),
+        None => Ok(Script::new(alloc)),
+    }
+}
+
+// `relay apply` over standard input and output.
+fn run_apply<R: Input + Print + Eprint + AllocGlobal>(rt: &R, matches: &ArgMatches<'_>) -> Exit {
+    let script = match script_of(rt.alloc(), matches) {
+        Ok(script) => script,
+        Err(ListFault::BadList) => {
+            let _ = rt.eprintln(REFUSE_FAULT);
+            return Exit::Usage;
+        }
+        Err(ListFault::Memory) => {
+            let _ = rt.eprintln("out of memory");
+            return Exit::Memory;
+        }
+    };
+    let mut reader = StdStream::new(rt.reader());
+    let mut writer = StdStream::new(io::writer(rt));
+    match apply(rt.alloc(), &mut reader, &mut writer, script) {
+        Ok(()) => Exit::Done,
+        Err(fault) => {
+            let _ = rt.eprintln(fault);
+            exit_of_apply(fault)
+        }
+    }
+}
+
 // The words of the command line, with the program's name in front.
 fn words<R: Env + AllocGlobal>(rt: &R) -> Result<Vec<String>, io::Error> {
     let words = env::args(rt)?.collect(rt.alloc())?;
@@ -123,6 +191,7 @@ fn run_words<R: Input + Print + Eprint + AllocGlobal>(rt: &R, words: &[String]) 
         Err(error) => return explain(rt, &error),
     };
     match matches.subcommand() {
+        Some(("apply", matches)) => run_apply(rt, matches),
         Some((_, matches)) => run_lines(rt, matches),
         None => Exit::Usage,
     }

@@ -1,7 +1,8 @@
 //! How the program ends.
 ghost use Rattle.std.specs.Prelude.{◌≡◌};
-ghost use Rattle.relay.specs.Exits.{exit_of, status_of};
+ghost use Rattle.relay.specs.Exits.{exit_of, exit_of_apply, status_of};
 
+use crate::apply::ApplyFault;
 use crate::lines::LinesFault;
 use relay_ndjson::LineKind;
 
@@ -48,5 +49,16 @@ pub fn exit_of(fault: LinesFault) -> Exit
         LinesFault::VersionsSpent { .. } => Exit::Input,
         LinesFault::Write { .. } => Exit::Device,
         LinesFault::Memory => Exit::Memory,
+    }
+}
+
+/// How `relay apply` ends after a fault.
+pub fn exit_of_apply(fault: ApplyFault) -> Exit
+    ensures { result ≡ exit_of_apply fault }
+{
+    match fault {
+        ApplyFault::BodyLong => Exit::Input,
+        ApplyFault::Read | ApplyFault::Write { .. } => Exit::Device,
+        ApplyFault::Memory => Exit::Memory,
     }
 }

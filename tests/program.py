@@ -1,0 +1,31 @@
+"""Runs the built program: both output streams and the exit status, byte for byte."""
+import os
+import subprocess
+import sys
+
+RELAY = os.path.abspath(sys.argv[1])
+RESULTS = {"passed": 0, "failed": 0}
+
+
+def check(name, right, found=""):
+    RESULTS["passed" if right else "failed"] += 1
+    if not right:
+        print("FAILED: %s %s" % (name, found))
+
+
+def run(args, stdin=b"", **more):
+    return subprocess.run([RELAY] + args, input=stdin, capture_output=True, timeout=60, **more)
+
+
+def case(name, args, stdin, stdout, stderr, status):
+    done = run(args, stdin)
+    found = (done.stdout, done.stderr, done.returncode)
+    check(name, found == (stdout, stderr, status), found if len(str(found)) < 600 else "")
+
+
+def deleted(index, identity, version):
+    return b'{"delete":{"_id":%s,"_index":%s,"version":%d,"version_type":"external"}}\n' % (identity, index, version)
+
+
+def indexed(index, identity, version, source):
+    return b'{"index":{"_id":%s,"_index":%s,"version":%d,"version_type":"external"}}\n%s\n' % (identity, index, version, source)
