@@ -14,6 +14,8 @@ demo: build
 	@crates/relay/out/relay lines --first 7 < examples/books.ndjson
 	@echo "--- relay lines < examples/broken.ndjson (a fault on line 4: what stands before it goes out)"
 	@crates/relay/out/relay lines < examples/broken.ndjson || echo "status $$?"
+	@echo "--- relay lines < examples/books.ndjson | relay apply --refuse 2:429"
+	@crates/relay/out/relay lines < examples/books.ndjson | crates/relay/out/relay apply --refuse 2:429
 
 # The gate, and then the built program from the outside.
 test:

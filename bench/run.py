@@ -1,11 +1,12 @@
 """Measures the project's programs beside others, all in one run. Only the ratios count.
 
-`python3 bench/run.py` measures all parts; words behind it name those to be measured: lines, queue, replies.
+`python3 bench/run.py` measures all parts; words behind it name those to be measured: lines, apply, queue, replies.
 """
 import os
 import sys
 import tempfile
 
+import apply_bench
 import lines_bench
 import queue_bench
 import replies_bench
@@ -17,6 +18,7 @@ RELAY_BENCH = os.path.join(TOP, "crates/relay_bench/out/relay_bench")
 # Each part: its name, the program that it runs and how that is built, and its measurement.
 PARTS = [
     ("lines", RELAY, "`make build`", lines_bench.measure),
+    ("apply", RELAY, "`make build`", apply_bench.measure),
     ("queue", RELAY_BENCH, "`rt run` in crates/relay_bench", queue_bench.measure),
     ("replies", RELAY_BENCH, "`rt run` in crates/relay_bench", replies_bench.measure),
 ]
