@@ -126,7 +126,8 @@ impl Index {
 
     /// The writes that were applied to a document, in their order.
     pub fn applied(&self, key: &DocKey) -> &[Write]
-        ensures { result.now ≡ applied self.now (document_of key.now) }
+        ensures applied { result.now ≡ applied self.now (document_of key.now) }
+        ensures kept { IsIndex self.now }
     {
         match self.documents.get(key) {
             Some(history) => history.as_slice(),
@@ -228,8 +229,10 @@ impl Index {
             IsOutcomeOf (stored self.old (document_of write.now.key)) write.now (outcome_of_run done)) }
         ensures outside { IfOk result (λ done. (o : Outside) (r : Ran) → Shows o self.old
             → r.outcome ≡ outcome_of_run done → Shows (ran_of o r (Some write.now)) self.new) }
+        ensures kept { OnOk result (IsIndex self.new) }
     {
         let done = self.carry_out(write, choice)?;
+        let _ = &self.documents;
         Ok(done)
     }
 }

@@ -1,10 +1,12 @@
 //! Runs of writes, look-ups, and bodies of bulk requests.
+ghost use Rattle.relay_index.specs.Choices.{MayChoose};
+
 use crate::choice::Choice;
 use crate::index::Index;
 use crate::script::Script;
 use relay_action::{Action, DocKey, Write};
 use relay_results::{DoneResult, read_reply, write_reply};
-use std::alloc::Global;
+use std::alloc::{AllocError, Global};
 use std::process::Abort;
 use std::test::Fail;
 
@@ -21,130 +23,138 @@ fn write_of(alloc: Global, id: &str, version: u64, source: Option<&str>) -> Resu
     })
 }
 
-// An index that ran these writes, each of an id, a version and a source.
-fn index_of(alloc: Global, writes: &[(&str, u64, Option<&str>)]) -> Result<Index, Fail> {
-    let mut index = Index::new(alloc);
-    for (id, version, source) in writes {
-        let _ = index.run(&write_of(alloc, id, *version, *source)?, Choice::Run)?;
-    }
-    Ok(index)
-}
-
-// Serves a body in which each `;` stands for a line end, and compares status and text.
-fn serves(
+// Runs a write, and compares its status, result, stored version and sequence number.
+fn runs(
     rt: &impl Abort,
     alloc: Global,
     index: &mut Index,
-    script: &mut Script,
-    body: &str,
-    status: u16,
-    text: &str,
-) -> Result<(), Fail> {
-    let mut bytes = Vec::new(alloc);
-    for byte in body.as_bytes() {
-        bytes.push(if *byte == b';' { b'\n' } else { *byte })?;
-    }
-    let answer = index.serve_body(alloc, bytes.as_slice(), script)?;
-    assert_eq!(rt; answer.0, status);
-    assert_eq!(rt; answer.1.as_str(), text);
+    write: (&str, u64, Option<&str>),
+    choice: Choice,
+    wanted: (u16, DoneResult, u64, u64),
+) -> Result<(), Fail>
+    requires { MayChoose choice }
+{
+    let (id, version, source) = write;
+    let done = index.run(&write_of(alloc, id, version, source)?, choice)?;
+    assert_eq!(rt; done.key.id(), id);
+    assert_eq!(rt; (done.status, done.result, done.version, done.seq), wanted);
     Ok(())
 }
 
-// The table of what becomes of a write, one line after another: id, version and source, whether the
-// write is refused with 429, and then status, result, stored version and sequence number.
+// The table of what becomes of a write, one line after another.
 #[test]
-fn runs(rt: HostRuntime) -> Result<(), Fail> {
-    let alloc = rt.alloc();
-    let mut index = Index::new(alloc);
+fn writes_that_run(rt: HostRuntime) -> Result<(), Fail> {
+    let mut index = Index::new(rt.alloc());
     let rows = [
         (
-            "2",
-            5u64,
-            None,
-            false,
-            404u16,
-            DoneResult::NotFound,
-            5u64,
-            0u64,
+            ("2", 5u64, None),
+            (404u16, DoneResult::NotFound, 5u64, 0u64),
         ),
-        ("2", 4, Some("{}"), false, 409, DoneResult::Conflict, 0, 0),
-        ("2", 5, None, false, 409, DoneResult::Conflict, 0, 0),
-        ("2", 6, Some("{}"), false, 201, DoneResult::Created, 6, 1),
-        ("2", 7, Some("[]"), true, 429, DoneResult::Refused, 0, 0),
-        ("2", 7, Some("[]"), false, 200, DoneResult::Updated, 7, 2),
-        ("1", 0, Some("{}"), false, 201, DoneResult::Created, 0, 3),
-        ("2", 9, None, false, 200, DoneResult::Deleted, 9, 4),
-        ("2", 8, Some("{}"), false, 409, DoneResult::Conflict, 0, 0),
-        ("2", 10, None, false, 404, DoneResult::NotFound, 10, 5),
+        (("2", 4, Some("{}")), (409, DoneResult::Conflict, 0, 0)),
+        (("2", 5, None), (409, DoneResult::Conflict, 0, 0)),
+        (("2", 6, Some("{}")), (201, DoneResult::Created, 6, 1)),
+        (("2", 7, Some("[]")), (200, DoneResult::Updated, 7, 2)),
+        (("1", 0, Some("{}")), (201, DoneResult::Created, 0, 3)),
+        (("2", 9, None), (200, DoneResult::Deleted, 9, 4)),
+        (("2", 8, Some("{}")), (409, DoneResult::Conflict, 0, 0)),
+        (("2", 10, None), (404, DoneResult::NotFound, 10, 5)),
     ];
-    for (id, version, source, refused, status, outcome, stored, seq) in rows {
-        let write = write_of(alloc, id, version, source)?;
-        let choice = if refused {
-            Choice::Refuse(429)
-        } else {
-            Choice::Run
-        };
-        let done = index.run(&write, choice)?;
-        assert_eq!(rt; (done.status, done.result), (status, outcome));
-        assert_eq!(rt; (done.version, done.seq), (stored, seq));
-        assert_eq!(rt; done.key.id(), id);
+    for (write, wanted) in rows {
+        runs(&rt, rt.alloc(), &mut index, write, Choice::Run, wanted)?;
     }
     Ok(())
 }
 
-// Of each document its version, its source and how many writes it applied.
+// A refused write changes nothing: its version runs afterwards.
+#[test]
+fn writes_that_are_refused(rt: HostRuntime) -> Result<(), Fail> {
+    let mut index = Index::new(rt.alloc());
+    let write = ("2", 7u64, Some("{}"));
+    let refused = (429u16, DoneResult::Refused, 0u64, 0u64);
+    let created = (201, DoneResult::Created, 7, 0);
+    runs(
+        &rt,
+        rt.alloc(),
+        &mut index,
+        write,
+        Choice::Refuse(429),
+        refused,
+    )?;
+    runs(&rt, rt.alloc(), &mut index, write, Choice::Run, created)
+}
+
+// Compares the version and the source of a document, and how many writes it applied.
+fn looks_up(
+    rt: &impl Abort,
+    alloc: Global,
+    index: &Index,
+    id: &str,
+    wanted: (Option<u64>, Option<&str>, usize),
+) -> Result<(), Fail> {
+    let key = DocKey::new(alloc, "b", id)?;
+    let (version, source, count) = wanted;
+    assert_eq!(rt; index.version(&key), version);
+    assert_eq!(rt; index.source(&key), source);
+    assert_eq!(rt; index.applied(&key).len(), count);
+    Ok(())
+}
+
+// A document that is live, one that was deleted, one that was replaced, and one that never was.
 #[test]
 fn look_ups(rt: HostRuntime) -> Result<(), Fail> {
     let alloc = rt.alloc();
-    let index = index_of(
-        alloc,
-        &[
-            ("1", 3, Some("{}")),
-            ("1", 2, None),
-            ("2", 4, Some("{}")),
-            ("2", 5, None),
-            ("3", 6, Some("[1]")),
-            ("3", 7, Some("[2]")),
-        ],
-    )?;
-    let rows = [
-        ("1", Some(3u64), Some("{}"), 1usize),
-        ("2", Some(5), None, 2),
-        ("3", Some(7), Some("[2]"), 2),
-        ("4", None, None, 0),
+    let mut index = Index::new(alloc);
+    assert_eq!(rt; index.highest(), None);
+    let writes = [
+        ("1", 3u64, Some("{}")),
+        ("3", 9, Some("[1]")),
+        ("2", 4, Some("{}")),
+        ("2", 5, None),
+        ("1", 2, None),
     ];
-    for (id, version, source, count) in rows {
-        let key = DocKey::new(alloc, "b", id)?;
-        assert_eq!(rt; index.version(&key), version);
-        assert_eq!(rt; index.source(&key), source);
-        assert_eq!(rt; index.applied(&key).len(), count);
+    for (id, version, source) in writes {
+        let _ = index.run(&write_of(alloc, id, version, source)?, Choice::Run)?;
     }
-    assert_eq!(rt; index.highest(), Some(7));
-    assert_eq!(rt; Index::new(alloc).highest(), None);
+    assert_eq!(rt; index.highest(), Some(9));
+    let rows = [
+        ("1", (Some(3u64), Some("{}"), 1usize)),
+        ("2", (Some(5), None, 2)),
+        ("3", (Some(9), Some("[1]"), 1)),
+        ("4", (None, None, 0)),
+    ];
+    for (id, wanted) in rows {
+        looks_up(&rt, alloc, &index, id, wanted)?;
+    }
     Ok(())
 }
 
-// Documents stand in byte order, a name before those that it begins, and a deleted one among them.
+// Deletes a document twice with one version.
+fn deletes_twice(alloc: Global, index: &mut Index, name: &str, id: &str) -> Result<(), Fail> {
+    let write = Write {
+        key: DocKey::new(alloc, name, id)?,
+        version: 1,
+        action: Action::delete(),
+    };
+    let _ = index.run(&write, Choice::Run)?;
+    let _ = index.run(&write, Choice::Run)?;
+    Ok(())
+}
+
+// Documents stand in byte order, a name before those that it begins, and each once.
 #[test]
 fn documents_in_order(rt: HostRuntime) -> Result<(), Fail> {
     let alloc = rt.alloc();
     let mut index = Index::new(alloc);
-    let rows = [
+    assert!(rt; index.keys(alloc)?.is_empty());
+    for (name, id) in [
         ("ba", "1"),
         ("b", "z"),
         ("b", "10"),
         ("\u{e9}", "1"),
         ("b", "9"),
         ("B", "1"),
-    ];
-    for (name, id) in rows {
-        let write = Write {
-            key: DocKey::new(alloc, name, id)?,
-            version: 1,
-            action: Action::delete(),
-        };
-        let _ = index.run(&write, Choice::Run)?;
-        let _ = index.run(&write, Choice::Run)?;
+    ] {
+        deletes_twice(alloc, &mut index, name, id)?;
     }
     let keys = index.keys(alloc)?;
     let wanted = [
@@ -156,50 +166,10 @@ fn documents_in_order(rt: HostRuntime) -> Result<(), Fail> {
         ("\u{e9}", "1"),
     ];
     assert_eq!(rt; keys.len(), wanted.len());
-    for (key, (name, id)) in keys.iter().zip(wanted) {
-        assert_eq!(rt; key.index(), name);
-        assert_eq!(rt; key.id(), id);
+    for (key, pair) in keys.iter().zip(wanted) {
+        assert_eq!(rt; (key.index(), key.id()), pair);
     }
-    assert!(rt; Index::new(alloc).keys(alloc)?.is_empty());
     Ok(())
-}
-
-// One delete; and behind it index actions of the same document with a lower and a higher version.
-#[test]
-fn bodies(rt: HostRuntime) -> Result<(), Fail> {
-    let alloc = rt.alloc();
-    serves(
-        &rt,
-        alloc,
-        &mut Index::new(alloc),
-        &mut Script::new(alloc),
-        "{\"delete\":{\"_id\":\"2\",\"_index\":\"b\",\"version\":5,\"version_type\":\"external\"}};",
-        200,
-        "{\"errors\":false,\"items\":[{\"delete\":{\"_id\":\"2\",\"_index\":\"b\",\"_seq_no\":0,\"_version\":5,\"result\":\"not_found\",\"status\":404}}],\"took\":0}",
-    )?;
-    serves(
-        &rt,
-        alloc,
-        &mut Index::new(alloc),
-        &mut Script::new(alloc),
-        "{\"delete\":{\"_id\":\"2\",\"_index\":\"b\",\"version\":5,\"version_type\":\"external\"}};\
-        {\"index\":{\"_id\":\"2\",\"_index\":\"b\",\"version\":4,\"version_type\":\"external\"}};{\"a\":1};\
-        {\"index\":{\"_id\":\"2\",\"_index\":\"b\",\"version\":6,\"version_type\":\"external\"}};{\"a\":2};",
-        200,
-        "{\"errors\":true,\"items\":[\
-        {\"delete\":{\"_id\":\"2\",\"_index\":\"b\",\"_seq_no\":0,\"_version\":5,\"result\":\"not_found\",\"status\":404}},\
-        {\"index\":{\"_id\":\"2\",\"_index\":\"b\",\"error\":{\"type\":\"version_conflict_engine_exception\"},\"status\":409}},\
-        {\"index\":{\"_id\":\"2\",\"_index\":\"b\",\"_seq_no\":1,\"_version\":6,\"result\":\"created\",\"status\":201}}],\"took\":0}",
-    )?;
-    serves(
-        &rt,
-        alloc,
-        &mut Index::new(alloc),
-        &mut Script::new(alloc),
-        "",
-        200,
-        "{\"errors\":false,\"items\":[],\"took\":0}",
-    )
 }
 
 // What is read from the reply to items is the outcome of each.
@@ -208,7 +178,7 @@ fn outcomes(rt: HostRuntime) -> Result<(), Fail> {
     let alloc = rt.alloc();
     let mut index = Index::new(alloc);
     let mut items = Vec::new(alloc);
-    for (version, source) in [(5u64, Some("{}")), (5, None), (6, None), (7, None)] {
+    for (version, source) in [(5u64, Some("{}")), (5, None), (6, None)] {
         items.push(index.run(&write_of(alloc, "2", version, source)?, Choice::Run)?)?;
     }
     let text = write_reply(alloc, 0, items.as_slice())?;
@@ -223,6 +193,64 @@ fn outcomes(rt: HostRuntime) -> Result<(), Fail> {
     Ok(())
 }
 
+// A text in which each `;` stands for a line end.
+fn lines_of(alloc: Global, text: &str) -> Result<Vec<u8>, AllocError> {
+    let mut bytes = Vec::new(alloc);
+    for byte in text.as_bytes() {
+        bytes.push(if *byte == b';' { b'\n' } else { *byte })?;
+    }
+    Ok(bytes)
+}
+
+// Serves a body in which each `;` stands for a line end, and compares status and text.
+fn serves(
+    rt: &impl Abort,
+    alloc: Global,
+    index: &mut Index,
+    script: &mut Script,
+    body: &str,
+    wanted: (u16, &str),
+) -> Result<(), Fail> {
+    let bytes = lines_of(alloc, body)?;
+    let (status, text) = index.serve_body(alloc, bytes.as_slice(), script)?;
+    assert_eq!(rt; status, wanted.0);
+    assert_eq!(rt; text.as_str(), wanted.1);
+    Ok(())
+}
+
+// Serves it to an index that has applied nothing, under a script that refuses nothing.
+fn serves_first(rt: &impl Abort, alloc: Global, body: &str, text: &str) -> Result<(), Fail> {
+    let mut index = Index::new(alloc);
+    let mut script = Script::new(alloc);
+    serves(rt, alloc, &mut index, &mut script, body, (200, text))
+}
+
+// No bytes; one delete; and behind it index actions of the same document with a lower and a higher
+// version.
+#[test]
+fn bodies(rt: HostRuntime) -> Result<(), Fail> {
+    let rows = [
+        ("", "{\"errors\":false,\"items\":[],\"took\":0}"),
+        (
+            "{\"delete\":{\"_id\":\"2\",\"_index\":\"b\",\"version\":5,\"version_type\":\"external\"}};",
+            "{\"errors\":false,\"items\":[{\"delete\":{\"_id\":\"2\",\"_index\":\"b\",\"_seq_no\":0,\"_version\":5,\"result\":\"not_found\",\"status\":404}}],\"took\":0}",
+        ),
+        (
+            "{\"delete\":{\"_id\":\"2\",\"_index\":\"b\",\"version\":5,\"version_type\":\"external\"}};\
+            {\"index\":{\"_id\":\"2\",\"_index\":\"b\",\"version\":4,\"version_type\":\"external\"}};{\"a\":1};\
+            {\"index\":{\"_id\":\"2\",\"_index\":\"b\",\"version\":6,\"version_type\":\"external\"}};{\"a\":2};",
+            "{\"errors\":true,\"items\":[\
+            {\"delete\":{\"_id\":\"2\",\"_index\":\"b\",\"_seq_no\":0,\"_version\":5,\"result\":\"not_found\",\"status\":404}},\
+            {\"index\":{\"_id\":\"2\",\"_index\":\"b\",\"error\":{\"type\":\"version_conflict_engine_exception\"},\"status\":409}},\
+            {\"index\":{\"_id\":\"2\",\"_index\":\"b\",\"_seq_no\":1,\"_version\":6,\"result\":\"created\",\"status\":201}}],\"took\":0}",
+        ),
+    ];
+    for (body, text) in rows {
+        serves_first(&rt, rt.alloc(), body, text)?;
+    }
+    Ok(())
+}
+
 // A script counts its places over all bodies, and the last status of a place holds.
 #[test]
 fn scripted(rt: HostRuntime) -> Result<(), Fail> {
@@ -231,39 +259,24 @@ fn scripted(rt: HostRuntime) -> Result<(), Fail> {
     let mut script = Script::new(alloc);
     script.refuse(2, 503)?;
     script.refuse(2, 429)?;
-    script.refuse(3, 400)?;
-    serves(
-        &rt,
-        alloc,
-        &mut index,
-        &mut script,
-        "{\"delete\":{\"_id\":\"1\",\"_index\":\"b\",\"version\":1,\"version_type\":\"external\"}};\
-        {\"delete\":{\"_id\":\"2\",\"_index\":\"b\",\"version\":2,\"version_type\":\"external\"}};",
-        200,
-        "{\"errors\":true,\"items\":[\
-        {\"delete\":{\"_id\":\"1\",\"_index\":\"b\",\"_seq_no\":0,\"_version\":1,\"result\":\"not_found\",\"status\":404}},\
-        {\"delete\":{\"_id\":\"2\",\"_index\":\"b\",\"error\":{\"type\":\"scripted_refusal\"},\"status\":429}}],\"took\":0}",
-    )?;
-    let again =
-        "{\"delete\":{\"_id\":\"2\",\"_index\":\"b\",\"version\":2,\"version_type\":\"external\"}};";
-    serves(
-        &rt,
-        alloc,
-        &mut index,
-        &mut script,
-        again,
-        200,
-        "{\"errors\":true,\"items\":[{\"delete\":{\"_id\":\"2\",\"_index\":\"b\",\"error\":{\"type\":\"scripted_refusal\"},\"status\":400}}],\"took\":0}",
-    )?;
-    serves(
-        &rt,
-        alloc,
-        &mut index,
-        &mut script,
-        again,
-        200,
-        "{\"errors\":false,\"items\":[{\"delete\":{\"_id\":\"2\",\"_index\":\"b\",\"_seq_no\":1,\"_version\":2,\"result\":\"not_found\",\"status\":404}}],\"took\":0}",
-    )
+
+    let rows = [
+        (
+            "{\"delete\":{\"_id\":\"1\",\"_index\":\"b\",\"version\":1,\"version_type\":\"external\"}};\
+            {\"delete\":{\"_id\":\"2\",\"_index\":\"b\",\"version\":2,\"version_type\":\"external\"}};",
+            "{\"errors\":true,\"items\":[\
+            {\"delete\":{\"_id\":\"1\",\"_index\":\"b\",\"_seq_no\":0,\"_version\":1,\"result\":\"not_found\",\"status\":404}},\
+            {\"delete\":{\"_id\":\"2\",\"_index\":\"b\",\"error\":{\"type\":\"scripted_refusal\"},\"status\":429}}],\"took\":0}",
+        ),
+        (
+            "{\"delete\":{\"_id\":\"2\",\"_index\":\"b\",\"version\":2,\"version_type\":\"external\"}};",
+            "{\"errors\":false,\"items\":[{\"delete\":{\"_id\":\"2\",\"_index\":\"b\",\"_seq_no\":1,\"_version\":2,\"result\":\"not_found\",\"status\":404}}],\"took\":0}",
+        ),
+    ];
+    for (body, text) in rows {
+        serves(&rt, alloc, &mut index, &mut script, body, (200, text))?;
+    }
+    Ok(())
 }
 
 // A body with a fault runs nothing, not even the writes before the fault, and counts no place.
@@ -277,28 +290,29 @@ fn rejected_bodies(rt: HostRuntime) -> Result<(), Fail> {
         (
             "{\"delete\":{\"_id\":\"1\",\"_index\":\"b\",\"version\":1,\"version_type\":\"external\"}};\
             {\"index\":{\"_id\":\"2\",\"_index\":\"b\",\"version\":2,\"version_type\":\"external\"}};{\"a\":1}",
-            "{\"error\":{\"line\":3,\"type\":\"NoFinalNewline\"},\"status\":400}",
+            (
+                400u16,
+                "{\"error\":{\"line\":3,\"type\":\"NoFinalNewline\"},\"status\":400}",
+            ),
         ),
         (
             "{\"delete\":{\"_id\":\"\",\"_index\":\"b\",\"version\":1,\"version_type\":\"external\"}};",
-            "{\"error\":{\"line\":1,\"type\":\"IdEmpty\"},\"status\":400}",
+            (
+                400,
+                "{\"error\":{\"line\":1,\"type\":\"IdEmpty\"},\"status\":400}",
+            ),
         ),
         (
-            ";",
-            "{\"error\":{\"line\":1,\"type\":\"NotJson\"},\"status\":400}",
+            "{\"delete\":{\"_id\":\"1\",\"_index\":\"b\",\"version\":1,\"version_type\":\"external\"}};",
+            (
+                200,
+                "{\"errors\":true,\"items\":[{\"delete\":{\"_id\":\"1\",\"_index\":\"b\",\"error\":{\"type\":\"scripted_refusal\"},\"status\":503}}],\"took\":0}",
+            ),
         ),
     ];
-    for (body, text) in rows {
-        serves(&rt, alloc, &mut index, &mut script, body, 400, text)?;
+    for (body, wanted) in rows {
+        serves(&rt, alloc, &mut index, &mut script, body, wanted)?;
     }
     assert_eq!(rt; index.highest(), None);
-    serves(
-        &rt,
-        alloc,
-        &mut index,
-        &mut script,
-        "{\"delete\":{\"_id\":\"1\",\"_index\":\"b\",\"version\":1,\"version_type\":\"external\"}};",
-        200,
-        "{\"errors\":true,\"items\":[{\"delete\":{\"_id\":\"1\",\"_index\":\"b\",\"error\":{\"type\":\"scripted_refusal\"},\"status\":503}}],\"took\":0}",
-    )
+    Ok(())
 }
