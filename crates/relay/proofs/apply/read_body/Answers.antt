@@ -1,4 +1,4 @@
-use Rattle.std.proofs.Common.{◌≡◌, ◌<◌, ◌≤◌, length, vec_len, refl, sym, ◌∙◌, arith}
+use Rattle.std.proofs.Common.{refl, ◌∙◌, arith}
 use Rattle.relay.proofs.Bodies.{prepend_nothing, piece_more, passes_limit, fault_of_piece}
 use Rattle.relay.proofs.apply.read_body.Goals as goal
 

@@ -1,6 +1,4 @@
-use Rattle.std.proofs.Common.{◌≡◌, ℕ, ◌<◌, ◌≤◌, refl, sym, subst, ◌∙◌, arith}
-use Rattle.relay_index.specs.Choices.{MayRefuse}
-use Rattle.relay.specs.Refusals.{IsNumber, IsRefusal}
+use Rattle.std.proofs.Common.{refl, arith}
 use Rattle.relay.proofs.Parted.{uncut_is_none, whole_of, place_of, status_of, one_number, may_of}
 use Rattle.relay.proofs.refuse_list.refusal_of.Goals.{then-place-eq0-via-then-place-eq0, then-place-eq0-via-else-place-eq0+then-not-may_refuse}
 use Rattle.relay.proofs.refuse_list.refusal_of.Goals as goal

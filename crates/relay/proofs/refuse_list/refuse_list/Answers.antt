@@ -1,4 +1,4 @@
-use Rattle.std.proofs.Common.{rules, ◌≡◌, ℕ, List, refl, sym, subst, ◌∙◌}
+use Rattle.std.proofs.Common.{rules}
 use Rattle.relay.proofs.Parted.{parted_at_start, part_more, part_last, part_fault, last_fault, refuses_none}
 use Rattle.relay.proofs.refuse_list.refuse_list.Goals as goal
 

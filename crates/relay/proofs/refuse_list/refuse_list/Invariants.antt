@@ -1,4 +1,4 @@
-use Rattle.std.proofs.Common.{ℕ, length, IsUtf8}
+use Rattle.std.proofs.Common.{length, IsUtf8}
 use Rattle.relay.proofs.Parted.{Parted}
 use Rattle.relay.proofs.refuse_list.refuse_list.Given as goal
 
