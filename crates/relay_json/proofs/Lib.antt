@@ -5,3 +5,4 @@ pub mod Nodes
 pub mod Soles
 pub mod Numbers
 pub mod Digits
+pub mod Known

@@ -1,3 +1,4 @@
 pub mod Reads
 pub mod Sole
 pub mod Values
+pub mod Names

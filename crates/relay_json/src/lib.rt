@@ -8,6 +8,7 @@
 
 mod items;
 mod members;
+mod names;
 mod number;
 mod range;
 mod reading;
@@ -17,5 +18,6 @@ mod value;
 
 pub use items::Items;
 pub use json::Scratch;
+pub use names::Names;
 pub use reading::{ReadFault, Tree};
 pub use value::Value;

@@ -2,8 +2,10 @@
 ghost use Rattle.std.specs.Prelude.{◌≡◌, option_map};
 ghost use Rattle.json.specs.Find.{as_object};
 ghost use Rattle.json.specs.Value.{value_view, members_view};
+ghost use Rattle.relay_json.specs.Names.{all_known};
 ghost use Rattle.relay_json.specs.Sole.{all_named};
 
+use crate::names::Names;
 use json::Value;
 
 // The members of a node, where it is an object.
@@ -23,6 +25,18 @@ pub(crate) fn are_all_named(members: &[(&str, Value<'_>)], name: &str) -> bool
 {
     for member in members {
         if member.0 != name {
+            return false;
+        }
+    }
+    true
+}
+
+// Whether each member has one of the names.
+pub(crate) fn are_all_known<N: Names>(members: &[(&str, Value<'_>)]) -> bool
+    ensures { result ≡ all_known N.known (members_view members.now) }
+{
+    for member in members {
+        if !N::is_known(member.0) {
             return false;
         }
     }

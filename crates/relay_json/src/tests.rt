@@ -1,5 +1,7 @@
 //! Texts read, and looked into.
-use crate::{ReadFault, Scratch, Tree};
+ghost use Rattle.std.specs.Prelude.{◌||◌, bytes_eq, codes};
+
+use crate::{Names, ReadFault, Scratch, Tree};
 use std::alloc::{AllocError, Global};
 use std::test::Fail;
 
@@ -160,6 +162,39 @@ fn sole_members(rt: HostRuntime) -> Result<(), Fail> {
             None => None,
         };
         assert_eq!(rt; found, sole);
+    }
+    Ok(())
+}
+
+// Two names.
+struct FirstLetters;
+
+impl Names for FirstLetters {
+    ghost known = { λ name. bytes_eq name (codes "a") || bytes_eq name (codes "b") };
+
+    fn is_known(name: &str) -> bool {
+        name == "a" || name == "b"
+    }
+}
+
+#[test]
+fn names_of_members(rt: HostRuntime) -> Result<(), Fail> {
+    let alloc = rt.alloc();
+    let rows: [(&str, bool); 7] = [
+        ("{\"a\":1,\"b\":2}", true),
+        ("{}", true),
+        ("[\"c\"]", true),
+        ("{\"a\":1,\"c\":2}", false),
+        ("{\"c\":1,\"a\":2}", false),
+        ("{\"a\":1,\"\\u0061\":2}", true),
+        ("{\"\\u0063\":1}", false),
+    ];
+    for (text, known) in rows {
+        let mut scratch = Scratch::new(alloc);
+        let tree = Tree::read(alloc, text.as_bytes(), &mut scratch)
+            .ok()
+            .ok_or("a value")?;
+        assert_eq!(rt; tree.root().has_only::<FirstLetters>(), known);
     }
     Ok(())
 }

@@ -4,10 +4,12 @@ ghost use Rattle.json.specs.Value.{value_view};
 ghost use Rattle.serde_json.specs.Data.{null};
 ghost use Rattle.serde_json.specs.Find.{as_null, as_bool, as_number, as_object, as_str, as_array, as_i64, as_u64, get};
 ghost use Rattle.relay_json.specs.Reads.{HasData};
+ghost use Rattle.relay_json.specs.Names.{has_only};
 ghost use Rattle.relay_json.specs.Sole.{sole_member};
 
 use crate::items::Items;
-use crate::members::{are_all_named, to_object};
+use crate::members::{are_all_known, are_all_named, to_object};
+use crate::names::Names;
 use crate::number::{to_i64, to_u64};
 
 /// A value in a tree. It borrows from the tree, and its texts from the text that the tree was read
@@ -107,5 +109,15 @@ impl<'v, 't> Value<'v, 't> {
             return None;
         }
         Some((name, self.get(name)?))
+    }
+
+    /// Whether each member has one of the names; so it is where it is no object.
+    pub fn has_only<N: Names>(self) -> bool
+        ensures { result ≡ has_only N.known (data_of self.entry) }
+    {
+        match to_object(self.node) {
+            Some(members) => are_all_known::<N>(members),
+            None => true,
+        }
     }
 }

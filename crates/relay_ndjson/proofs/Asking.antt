@@ -1,28 +1,16 @@
 -- What an action line asks for.
-use Rattle.std.proofs.Common.{◌≡◌, ◌≢◌, ◌⊎◌, ℕ, List, [], ◌∷◌, length, Option, Some, None, String, Global, string_bytes, refl, ap, arith, unwrap_or, option_map, inl, inr, Bool, true, false, IsUtf8}
+use Rattle.std.proofs.Common.{◌≡◌, ◌⊎◌, ℕ, List, Option, Some, None, refl, arith, unwrap_or, option_map, inl, inr, Bool, true, false, IsUtf8}
 use Rattle.std.specs.Str.{is_utf8}
 use Rattle.std.proofs.lemmas.Str.{IsUtf8-from_is_utf8, is_utf8-from_IsUtf8}
 use Rattle.serde_json.specs.Read.{read}
-use Rattle.std.specs.List.{slice_get}
 use Rattle.serde_json.specs.Data.{Data}
-use Rattle.serde_json.specs.View.{view, members_view}
-use Rattle.serde_json.specs.declared.value.Value.{Value}
-use Rattle.relay_ndjson.proofs.OneMember.{one_member}
 use Rattle.relay_action.specs.Faults.{source_fault}
 use Rattle.relay_action.specs.declared.fault.ActionFault.{ActionFault}
 use Rattle.relay_action.specs.declared.fault.ActionFault.TheVariants as fault
 use Rattle.relay_ndjson.specs.declared.kind.LineKind.{LineKind}
 use Rattle.relay_ndjson.specs.declared.kind.LineKind.TheVariants as kind
 use Rattle.relay_ndjson.specs.Kinds.{kind_of}
-use Rattle.relay_ndjson.specs.Metadata.{sole, line_fault, value_fault, source_line_fault}
-
-pub sole-one : (es : List (String Global × Value)) (k : String Global) (v : Value) → length es ≡ 1 → slice_get es 0 ≡ Some (k, v) → sole (members_view es) ≡ Some (string_bytes k, view v)
-sole-one es k v n e = ap sole (one_member es k v n e)
-
-pub sole-none : (es : List (String Global × Value)) → length es ≢ 1 → sole (members_view es) ≡ None
-sole-none [] h = refl
-sole-none (f ∷ []) h = absurd (h refl)
-sole-none (f ∷ g ∷ es) h = refl
+use Rattle.relay_ndjson.specs.Metadata.{line_fault, value_fault, source_line_fault}
 
 -- ---- UTF-8
 

@@ -1,7 +1,6 @@
 pub mod Plain
 pub mod Parts
 pub mod ReadsBack
-pub mod OneMember
 pub mod Pieces
 pub mod Asking
 pub mod Deciding

@@ -9,7 +9,8 @@ use Rattle.relay_action.specs.declared.action.ActionKind.{ActionKind}
 use Rattle.relay_action.specs.declared.action.ActionKind.TheVariants as action
 use Rattle.relay_ndjson.specs.declared.kind.LineKind.{LineKind}
 use Rattle.relay_ndjson.specs.declared.kind.LineKind.TheVariants as kind
-use Rattle.relay_ndjson.specs.Metadata.{has_only, is_field, index_of, id_of, kind_name, fault_or, document_fault, action_of, action_kind}
+use Rattle.relay_json.specs.Names.{has_only}
+use Rattle.relay_ndjson.specs.Metadata.{is_field, index_of, id_of, kind_name, fault_or, document_fault, action_of, action_kind}
 use Rattle.relay_ndjson.specs.Versioned.{version_of, is_external, IsVersioned, AsksVersioned, SaysVersioned, versioned_fault, write_fault, write_line_fault}
 use Rattle.relay_ndjson.specs.Laws.{VersionedTextDecides}
 use Rattle.relay_ndjson.proofs.Asking.{decide}

@@ -1,11 +1,13 @@
 -- What an action line asks for, and the first fault that it has.
-use Rattle.std.specs.Prelude.{◌≡◌, ℕ, Bool, true, not, ◌&&◌, ◌||◌, bytes_eq, List, codes, decimal, if◌then◌else◌, Option, None, Some, is_some, option_map, option_and_then, unwrap_or, IsUtf8}
+use Rattle.std.specs.Prelude.{◌≡◌, ℕ, Bool, true, not, ◌||◌, bytes_eq, List, codes, decimal, if◌then◌else◌, Option, None, Some, is_some, option_map, option_and_then, IsUtf8}
 use denote.Ref.{Bor}
 use Rattle.std.specs.Str.{is_utf8}
 use Rattle.std.specs.Fmt.{signed_decimal}
 use Rattle.serde_json.specs.Data.{Num, unsigned, negative, float, Data, null, boolean, number, string, array, object, Members, member, no_members}
 use Rattle.serde_json.specs.Find.{get, as_object, as_str}
 use Rattle.serde_json.specs.Read.{read}
+use Rattle.relay_json.specs.Names.{has_only}
+use Rattle.relay_json.specs.Sole.{sole}
 use Rattle.relay_action.specs.Faults.{key_fault, source_fault}
 use Rattle.relay_action.specs.declared.action.ActionKind.{ActionKind}
 use Rattle.relay_action.specs.declared.action.ActionKind.TheVariants as action
@@ -25,14 +27,6 @@ is_version name = bytes_eq name (codes "version") || bytes_eq name (codes "versi
 
 abbrev pub is_field : List ℕ → Bool
 is_field name = is_document name || is_version name
-
-abbrev pub all_names : (List ℕ → Bool) → Members → Bool
-all_names known no_members = true
-all_names known (member name d ms) = known name && all_names known ms
-
--- all members have such names
-abbrev pub has_only : (List ℕ → Bool) → Data → Bool
-has_only known d = all_names known (unwrap_or (as_object d) no_members)
 
 -- an id is a text, or an integer, which stands for its decimal text
 abbrev pub number_text : Num → Option (List ℕ)
@@ -85,22 +79,19 @@ abbrev pub fault_or : {A : Type 0} → LineKind → (A → Option LineKind) → 
 fault_or k f None = Some k
 fault_or k f (Some a) = f a
 
+-- of an id, where it is one
+abbrev pub id_fault : List ℕ → Option (List ℕ) → Option LineKind
+id_fault index = fault_or kind.MissingId (λ id. option_map kind.Action (key_fault index id))
+
 -- of metadata whose members may be
 abbrev pub document_fault : Option (List ℕ) → Data → Option LineKind
-document_fault default m =
-    fault_or kind.MissingIndex (λ index. fault_or kind.MissingId (λ id. option_map kind.Action (key_fault index id)) (id_of m)) (index_of default m)
+document_fault default m = fault_or kind.MissingIndex (λ index. id_fault index (id_of m)) (index_of default m)
 
 abbrev pub metadata_fault : Option (List ℕ) → Data → Option LineKind
 metadata_fault default m =
     if not (has_only is_field m) then Some kind.UnsupportedField
     else if not (has_only is_document m) then Some kind.VersionGiven
     else document_fault default m
-
--- the one member of an object
-abbrev pub sole : Members → Option (List ℕ × Data)
-sole no_members = None
-sole (member name d no_members) = Some (name, d)
-sole (member name d (member other e ms)) = None
 
 -- the name and the metadata of an action
 abbrev pub action_of : Data → Option (List ℕ × Data)

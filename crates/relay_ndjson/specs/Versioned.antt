@@ -11,7 +11,8 @@ use Rattle.relay_action.specs.declared.write.Write.{Write}
 use Rattle.relay_ndjson.specs.declared.kind.LineKind.{LineKind}
 use Rattle.relay_ndjson.specs.declared.kind.LineKind.TheVariants as kind
 use Rattle.relay_ndjson.specs.Bulk.{last_version}
-use Rattle.relay_ndjson.specs.Metadata.{kind_name, has_only, is_field, index_of, id_of, fault_or, document_fault, action_of, action_kind}
+use Rattle.relay_json.specs.Names.{has_only}
+use Rattle.relay_ndjson.specs.Metadata.{kind_name, is_field, index_of, id_of, fault_or, document_fault, action_of, action_kind}
 
 -- a version as the index takes it
 abbrev pub within_last : ℕ → Option ℕ

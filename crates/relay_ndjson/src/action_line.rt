@@ -1,34 +1,24 @@
 //! What an action line asks for, and what a source line holds.
 ghost use Rattle.std.specs.Prelude.{◌≡◌, ◌⊎◌, ℕ, List, Bool, true, Option, Some, None, IsTrue, IfOk, IfErr, codes, option_map, option_and_then, is_some, bytes_eq, IsUtf8};
 ghost use Rattle.serde_json.specs.Data.{Data};
-ghost use Rattle.serde_json.specs.Find.{as_object, get};
-ghost use Rattle.serde_json.specs.View.{view, members_view};
-ghost use Rattle.relay_ndjson.specs.Metadata.{shown, sole, action_of, action_kind, all_names, has_only, is_document, is_field, is_version, id_of, id_text, index_of, document_fault, metadata_fault, value_fault, line_fault, Asks, Says, IsDocument, source_line_fault};
+ghost use Rattle.serde_json.specs.Find.{as_number, get};
+ghost use Rattle.relay_json.specs.Values.{data_of, root_of};
+ghost use Rattle.relay_json.specs.Names.{has_only};
+ghost use Rattle.relay_ndjson.specs.Metadata.{shown, action_of, action_kind, is_document, is_field, id_of, id_text, id_fault, number_text, index_of, document_fault, metadata_fault, value_fault, line_fault, Asks, Says, IsDocument, source_line_fault};
 ghost use Rattle.serde_json.specs.Read.{read};
 ghost use Rattle.relay_action.specs.Actions.{IsIndexOf};
 
 use crate::kind::{LineKind, kind_of};
 use itoa::Buffer;
 use relay_action::{Action, ActionKind, DocKey};
-use serde_json::{Map, Value};
+use relay_json::{Names, ReadFault, Scratch, Tree, Value};
 use std::alloc::Global;
 
-// The one member of an object.
-fn sole_member(map: &Map<String, Value>) -> Option<(&str, &Value)>
-    ensures { option_map (λ r. (r.0.now, view r.1.now)) result ≡ sole (members_view map.now.entries) }
-{
-    if map.len() != 1 {
-        return None;
-    }
-    let (name, value) = map.first_key_value()?;
-    Some((name.as_str(), value))
-}
-
 /// The name and the metadata of an action.
-pub fn action_of(value: &Value) -> Option<(&str, &Value)>
-    ensures { option_map (λ r. (r.0.now, view r.1.now)) result ≡ action_of (view value.now) }
+pub fn action_of<'v, 't>(value: Value<'v, 't>) -> Option<(&'t str, Value<'v, 't>)>
+    ensures { option_map (λ r. (r.0.now, data_of r.1)) result ≡ action_of (data_of value.entry) }
 {
-    let (name, metadata) = sole_member(value.as_object()?)?;
+    let (name, metadata) = value.sole_member()?;
     if metadata.is_object() {
         Some((name, metadata))
     } else {
@@ -47,64 +37,49 @@ pub fn action_kind(name: &str) -> Option<ActionKind>
     }
 }
 
-fn is_document_name(name: &str) -> bool
-    ensures { result ≡ is_document name.now }
-{
-    name == "_id" || name == "_index"
-}
+// The members that name a document.
+struct DocumentNames;
 
-fn is_field_name(name: &str) -> bool
-    ensures { result ≡ is_field name.now }
-{
-    is_document_name(name) || name == "version" || name == "version_type"
-}
+impl Names for DocumentNames {
+    ghost use Rattle.relay_ndjson.specs.Metadata.{is_document};
 
-// Whether all members are those of a document.
-fn all_document(map: &Map<String, Value>) -> bool
-    ensures { result ≡ all_names is_document (members_view map.now.entries) }
-{
-    for (name, _) in map {
-        if !is_document_name(name.as_str()) {
-            return false;
-        }
+    ghost known = { is_document };
+
+    fn is_known(name: &str) -> bool {
+        name == "_id" || name == "_index"
     }
-    true
 }
 
-// Whether all members are known.
-fn all_fields(map: &Map<String, Value>) -> bool
-    ensures { result ≡ all_names is_field (members_view map.now.entries) }
-{
-    for (name, _) in map {
-        if !is_field_name(name.as_str()) {
-            return false;
-        }
+// The members that metadata may have.
+struct FieldNames;
+
+impl Names for FieldNames {
+    ghost use Rattle.relay_ndjson.specs.Metadata.{is_field};
+
+    ghost known = { is_field };
+
+    fn is_known(name: &str) -> bool {
+        DocumentNames::is_known(name) || name == "version" || name == "version_type"
     }
-    true
 }
 
-fn has_only_document(metadata: &Value) -> bool
-    ensures { result ≡ has_only is_document (view metadata.now) }
+// Whether all members of the metadata name a document.
+fn has_only_document(metadata: Value<'_, '_>) -> bool
+    ensures { result ≡ has_only is_document (data_of metadata.entry) }
 {
-    match metadata.as_object() {
-        Some(map) => all_document(map),
-        None => true,
-    }
+    metadata.has_only::<DocumentNames>()
 }
 
 /// Whether all members of the metadata are known.
-pub fn has_only_fields(metadata: &Value) -> bool
-    ensures { result ≡ has_only is_field (view metadata.now) }
+pub fn has_only_fields(metadata: Value<'_, '_>) -> bool
+    ensures { result ≡ has_only is_field (data_of metadata.entry) }
 {
-    match metadata.as_object() {
-        Some(map) => all_fields(map),
-        None => true,
-    }
+    metadata.has_only::<FieldNames>()
 }
 
 // The index, where one is given or the default serves.
-fn index_of<'v>(default_index: Option<&'v str>, metadata: &'v Value) -> Option<&'v str>
-    ensures { option_map (λ t. t.now) result ≡ index_of (shown default_index.entry) (view metadata.now) }
+fn index_of<'t>(default_index: Option<&'t str>, metadata: Value<'_, 't>) -> Option<&'t str>
+    ensures { option_map (λ t. t.now) result ≡ index_of (shown default_index.entry) (data_of metadata.entry) }
 {
     match metadata.get("_index") {
         Some(value) => value.as_str(),
@@ -112,9 +87,9 @@ fn index_of<'v>(default_index: Option<&'v str>, metadata: &'v Value) -> Option<&
     }
 }
 
-// The text of an id.
-fn id_text<'v>(value: &'v Value, buffer: &'v mut Buffer) -> Option<&'v str>
-    ensures { option_map (λ t. t.now) result ≡ id_text (view value.now) }
+// The decimal text of an integer of 64 bits.
+fn integer_text<'b>(value: Value<'_, '_>, buffer: &'b mut Buffer) -> Option<&'b str>
+    ensures { option_map (λ t. t.now) result ≡ option_and_then number_text (as_number (data_of value.entry)) }
 {
     if let Some(n) = value.as_u64() {
         return Some(buffer.format(n));
@@ -122,19 +97,34 @@ fn id_text<'v>(value: &'v Value, buffer: &'v mut Buffer) -> Option<&'v str>
     if let Some(n) = value.as_i64() {
         return Some(buffer.format(n));
     }
-    value.as_str()
+    None
+}
+
+// The document of an index name and an id.
+fn key_at(alloc: Global, index: &str, id: Value<'_, '_>) -> Result<DocKey, LineKind>
+    ensures ok { IfOk result (λ k. (k.index ≡ index.now) × (id_text (data_of id.entry) ≡ Some k.id)) }
+    ensures err { IfErr result (λ e. (e ≡ LineKind.Memory) ⊎ (id_fault index.now (id_text (data_of id.entry)) ≡ Some e)) }
+{
+    let mut buffer = Buffer::new();
+    if let Some(text) = integer_text(id, &mut buffer) {
+        return DocKey::new(alloc, index, text).map_err(|fault| kind_of(fault));
+    }
+    match id.as_str() {
+        Some(text) => DocKey::new(alloc, index, text).map_err(|fault| kind_of(fault)),
+        None => Err(LineKind::MissingId),
+    }
 }
 
 /// The document of metadata whose members may be.
-pub fn document_of(
+pub fn document_of<'t>(
     alloc: Global,
-    default_index: Option<&str>,
-    metadata: &Value,
+    default_index: Option<&'t str>,
+    metadata: Value<'_, 't>,
 ) -> Result<DocKey, LineKind>
-    ensures index { IfOk result (λ k. index_of (shown default_index.entry) (view metadata.now) ≡ Some k.index) }
-    ensures id { IfOk result (λ k. id_of (view metadata.now) ≡ Some k.id) }
+    ensures index { IfOk result (λ k. index_of (shown default_index.entry) (data_of metadata.entry) ≡ Some k.index) }
+    ensures id { IfOk result (λ k. id_of (data_of metadata.entry) ≡ Some k.id) }
     ensures err { IfErr result (λ e. (e ≡ LineKind.Memory)
-        ⊎ (document_fault (shown default_index.entry) (view metadata.now) ≡ Some e)) }
+        ⊎ (document_fault (shown default_index.entry) (data_of metadata.entry) ≡ Some e)) }
 {
     let Some(index) = index_of(default_index, metadata) else {
         return Err(LineKind::MissingIndex);
@@ -142,18 +132,18 @@ pub fn document_of(
     let Some(id) = metadata.get("_id") else {
         return Err(LineKind::MissingId);
     };
-    let mut buffer = Buffer::new();
-    let Some(id) = id_text(id, &mut buffer) else {
-        return Err(LineKind::MissingId);
-    };
-    DocKey::new(alloc, index, id).map_err(|fault| kind_of(fault))
+    key_at(alloc, index, id)
 }
 
 // The document of a producer's metadata.
-fn key_of(alloc: Global, default_index: Option<&str>, metadata: &Value) -> Result<DocKey, LineKind>
-    ensures ok { IfOk result (λ k. IsDocument (shown default_index.entry) (view metadata.now) k.index k.id) }
+fn key_of<'t>(
+    alloc: Global,
+    default_index: Option<&'t str>,
+    metadata: Value<'_, 't>,
+) -> Result<DocKey, LineKind>
+    ensures ok { IfOk result (λ k. IsDocument (shown default_index.entry) (data_of metadata.entry) k.index k.id) }
     ensures err { IfErr result (λ e. (e ≡ LineKind.Memory)
-        ⊎ (metadata_fault (shown default_index.entry) (view metadata.now) ≡ Some e)) }
+        ⊎ (metadata_fault (shown default_index.entry) (data_of metadata.entry) ≡ Some e)) }
 {
     if !has_only_fields(metadata) {
         return Err(LineKind::UnsupportedField);
@@ -165,14 +155,14 @@ fn key_of(alloc: Global, default_index: Option<&str>, metadata: &Value) -> Resul
 }
 
 // What a value asks for.
-fn asked(
+fn asked<'t>(
     alloc: Global,
-    default_index: Option<&str>,
-    value: &Value,
+    default_index: Option<&'t str>,
+    value: Value<'_, 't>,
 ) -> Result<(ActionKind, DocKey), LineKind>
-    ensures ok { IfOk result (λ a. Asks (shown default_index.entry) (view value.now) a.0 a.1.index a.1.id) }
+    ensures ok { IfOk result (λ a. Asks (shown default_index.entry) (data_of value.entry) a.0 a.1.index a.1.id) }
     ensures err { IfErr result (λ e. (e ≡ LineKind.Memory)
-        ⊎ (value_fault (shown default_index.entry) (view value.now) ≡ Some e)) }
+        ⊎ (value_fault (shown default_index.entry) (data_of value.entry) ≡ Some e)) }
 {
     let Some((name, metadata)) = action_of(value) else {
         return Err(LineKind::NotOneAction);
@@ -186,22 +176,20 @@ fn asked(
     }
 }
 
-/// The value of a line.
-pub fn value_of(alloc: Global, line: &[u8]) -> Result<Value, LineKind>
-    ensures ok { IfOk result (λ v. IsUtf8 line.now × (read line.now ≡ Some (view v))) }
+/// The value of a line. The scratch serves one line after another.
+pub fn value_of<'t>(
+    alloc: Global,
+    line: &'t [u8],
+    scratch: &'t mut Scratch,
+) -> Result<Tree<'t>, LineKind>
+    ensures ok { IfOk result (λ t. IsUtf8 line.now × (read line.now ≡ Some (root_of t))) }
     ensures err { IfErr result (λ e. (e ≡ LineKind.Memory)
         ⊎ ((e ≡ LineKind.NotJson) × (IsUtf8 line.now → read line.now ≡ None))) }
 {
-    let Ok(text) = str::from_utf8(line) else {
-        return Err(LineKind::NotJson);
-    };
-    match Value::from_str(alloc, text) {
-        Ok(value) => Ok(value),
-        Err(fault) => if fault.is_memory() {
-            Err(LineKind::Memory)
-        } else {
-            Err(LineKind::NotJson)
-        },
+    match Tree::read(alloc, line, scratch) {
+        Ok(tree) => Ok(tree),
+        Err(ReadFault::NotJson) => Err(LineKind::NotJson),
+        Err(ReadFault::Memory) => Err(LineKind::Memory),
     }
 }
 
@@ -210,12 +198,13 @@ pub fn read_action(
     alloc: Global,
     default_index: Option<&str>,
     line: &[u8],
+    scratch: &mut Scratch,
 ) -> Result<(ActionKind, DocKey), LineKind>
     ensures ok { IfOk result (λ a. Says (shown default_index.entry) line.now a.0 a.1.index a.1.id) }
     ensures err { IfErr result (λ e. (e ≡ LineKind.Memory) ⊎ (line_fault (shown default_index.entry) line.now ≡ Some e)) }
 {
-    match value_of(alloc, line) {
-        Ok(value) => asked(alloc, default_index, &value),
+    match value_of(alloc, line, scratch) {
+        Ok(tree) => asked(alloc, default_index, tree.root()),
         Err(fault) => Err(fault),
     }
 }

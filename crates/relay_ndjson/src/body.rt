@@ -13,6 +13,7 @@ use crate::lines::LINE_LIMIT;
 use crate::versioned_line::{ActionLine, read_versioned};
 use memchr::memchr;
 use relay_action::{Action, ActionKind, Write};
+use relay_json::Scratch;
 use std::alloc::Global;
 
 // What stands before a line feed, without the one carriage return that may end it.
@@ -68,7 +69,11 @@ fn take_source(alloc: Global, bytes: &[u8]) -> Result<(Action, &[u8]), BulkFault
 }
 
 // The write at the front, and the bytes behind its lines. The fault's line is counted from the first.
-fn take_write(alloc: Global, bytes: &[u8]) -> Result<(Write, &[u8]), BulkFault>
+fn take_write<'b>(
+    alloc: Global,
+    bytes: &'b [u8],
+    scratch: &mut Scratch,
+) -> Result<(Write, &'b [u8]), BulkFault>
     requires { bytes.now ≢ [] }
     ensures ok { IfOk result (λ t. BeginsWithWrite bytes.now t.1.now t.0) }
     ensures err { IfErr result (λ e. (e.kind ≡ LineKind.Memory) ⊎ BreaksWriteAt bytes.now e.line e.kind) }
@@ -78,7 +83,7 @@ fn take_write(alloc: Global, bytes: &[u8]) -> Result<(Write, &[u8]), BulkFault>
         Ok(front) => front,
         Err(kind) => return Err(BulkFault { line: 1, kind }),
     };
-    let ActionLine { kind, key, version } = match read_versioned(alloc, text) {
+    let ActionLine { kind, key, version } = match read_versioned(alloc, text, scratch) {
         Ok(asked) => asked,
         Err(kind) => return Err(BulkFault { line: 1, kind }),
     };
@@ -124,12 +129,13 @@ pub fn read_bulk(alloc: Global, body: &[u8]) -> Result<Vec<Write>, BulkFault>
     ensures err { IfErr result (IsBulkFault body.now) }
     ensures round_trip { ReadsBack body.now result }
 {
+    let mut scratch = Scratch::new(alloc);
     let mut writes = Vec::new(alloc);
     let mut rest = body;
     let mut lines = 0;
     'writes: while !rest.is_empty() {
         prove!(lines < body.len() as u64);
-        let (write, behind) = match take_write(alloc, rest) {
+        let (write, behind) = match take_write(alloc, rest, &mut scratch) {
             Ok(taken) => taken,
             Err(fault) => {
                 return Err(BulkFault {

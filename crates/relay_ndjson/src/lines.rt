@@ -12,6 +12,7 @@ use crate::kind::{InputFault, LineKind};
 use crate::piece::Piece;
 use memchr::memchr;
 use relay_action::{Action, ActionKind, ByteIn, DocKey};
+use relay_json::Scratch;
 use std::alloc::Global;
 
 /// The most bytes of a line, without its end.
@@ -120,13 +121,14 @@ pub fn holds_two_lines(bytes: &[u8]) -> bool
     memchr(b'\n', &bytes[start + end + 1..]).is_some()
 }
 
-/// The lines of a stream: what was read and not used yet, the line that was taken last, and how many
-/// were taken.
+/// The lines of a stream: what was read and not used yet, the line that was taken last, how many were
+/// taken, and room that serves the reading of one action line after another.
 #[derive(Drop)]
 pub struct Lines {
     pub piece: Piece,
     pub text: Vec<u8>,
     pub count: u64,
+    pub scratch: Scratch,
     ghost in_range: { count ≤ most },
 }
 
@@ -143,6 +145,7 @@ impl Lines {
             piece: Piece::new(alloc),
             text: Vec::new(alloc),
             count: 0,
+            scratch: Scratch::new(alloc),
         }
     }
 
@@ -289,7 +292,8 @@ impl Lines {
             return Ok(None);
         }
         let line = self.count;
-        let (kind, key) = match read_action(alloc, default_index, self.text.as_slice()) {
+        let text = self.text.as_slice();
+        let (kind, key) = match read_action(alloc, default_index, text, &mut self.scratch) {
             Ok(asked) => asked,
             Err(kind) => return Err(InputFault { line, kind }),
         };

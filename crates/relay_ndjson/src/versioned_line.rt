@@ -1,13 +1,13 @@
 //! What an action line of the index side asks for.
 ghost use Rattle.std.specs.Prelude.{◌≡◌, ◌⊎◌, Some, None, IfOk, IfErr};
-ghost use Rattle.serde_json.specs.View.{view};
+ghost use Rattle.relay_json.specs.Values.{data_of};
 ghost use Rattle.relay_ndjson.specs.Versioned.{version_of, is_external, IsVersioned, AsksVersioned, SaysVersioned, versioned_fault, write_fault, write_line_fault};
 
 use crate::action_line::{action_kind, action_of, document_of, has_only_fields, value_of};
 use crate::bulk::LAST_VERSION;
 use crate::kind::LineKind;
 use relay_action::{ActionKind, DocKey};
-use serde_json::Value;
+use relay_json::{Scratch, Value};
 use std::alloc::Global;
 
 /// What an action line asks for: an action on a document, at a version.
@@ -19,8 +19,8 @@ pub struct ActionLine {
 }
 
 // The version of metadata, where it is one that the index takes.
-fn version_of(metadata: &Value) -> Option<u64>
-    ensures { result ≡ version_of (view metadata.now) }
+fn version_of(metadata: Value<'_, '_>) -> Option<u64>
+    ensures { result ≡ version_of (data_of metadata.entry) }
 {
     let version = metadata.get("version")?.as_u64()?;
     if version <= LAST_VERSION {
@@ -31,8 +31,8 @@ fn version_of(metadata: &Value) -> Option<u64>
 }
 
 // Whether the versions are dealt outside of the index.
-fn is_external(metadata: &Value) -> bool
-    ensures { result ≡ is_external (view metadata.now) }
+fn is_external(metadata: Value<'_, '_>) -> bool
+    ensures { result ≡ is_external (data_of metadata.entry) }
 {
     match metadata.get("version_type") {
         Some(value) => value.as_str() == Some("external"),
@@ -41,9 +41,9 @@ fn is_external(metadata: &Value) -> bool
 }
 
 // The document of metadata, and its version.
-fn versioned(alloc: Global, metadata: &Value) -> Result<(DocKey, u64), LineKind>
-    ensures ok { IfOk result (λ v. IsVersioned (view metadata.now) v.0.index v.0.id v.1) }
-    ensures err { IfErr result (λ e. (e ≡ LineKind.Memory) ⊎ (versioned_fault (view metadata.now) ≡ Some e)) }
+fn versioned(alloc: Global, metadata: Value<'_, '_>) -> Result<(DocKey, u64), LineKind>
+    ensures ok { IfOk result (λ v. IsVersioned (data_of metadata.entry) v.0.index v.0.id v.1) }
+    ensures err { IfErr result (λ e. (e ≡ LineKind.Memory) ⊎ (versioned_fault (data_of metadata.entry) ≡ Some e)) }
 {
     if !has_only_fields(metadata) {
         return Err(LineKind::UnsupportedField);
@@ -61,9 +61,9 @@ fn versioned(alloc: Global, metadata: &Value) -> Result<(DocKey, u64), LineKind>
 }
 
 // What a value asks for.
-fn asked(alloc: Global, value: &Value) -> Result<ActionLine, LineKind>
-    ensures ok { IfOk result (λ a. AsksVersioned (view value.now) a.kind a.key.index a.key.id a.version) }
-    ensures err { IfErr result (λ e. (e ≡ LineKind.Memory) ⊎ (write_fault (view value.now) ≡ Some e)) }
+fn asked(alloc: Global, value: Value<'_, '_>) -> Result<ActionLine, LineKind>
+    ensures ok { IfOk result (λ a. AsksVersioned (data_of value.entry) a.kind a.key.index a.key.id a.version) }
+    ensures err { IfErr result (λ e. (e ≡ LineKind.Memory) ⊎ (write_fault (data_of value.entry) ≡ Some e)) }
 {
     let Some((name, metadata)) = action_of(value) else {
         return Err(LineKind::NotOneAction);
@@ -78,12 +78,16 @@ fn asked(alloc: Global, value: &Value) -> Result<ActionLine, LineKind>
 }
 
 /// What an action line asks for.
-pub fn read_versioned(alloc: Global, line: &[u8]) -> Result<ActionLine, LineKind>
+pub fn read_versioned(
+    alloc: Global,
+    line: &[u8],
+    scratch: &mut Scratch,
+) -> Result<ActionLine, LineKind>
     ensures ok { IfOk result (λ a. SaysVersioned line.now a.kind a.key.index a.key.id a.version) }
     ensures err { IfErr result (λ e. (e ≡ LineKind.Memory) ⊎ (write_line_fault line.now ≡ Some e)) }
 {
-    match value_of(alloc, line) {
-        Ok(value) => asked(alloc, &value),
+    match value_of(alloc, line, scratch) {
+        Ok(tree) => asked(alloc, tree.root()),
         Err(fault) => Err(fault),
     }
 }
