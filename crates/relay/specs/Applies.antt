@@ -19,7 +19,7 @@ pub record GivesBody (old new : Option (List ℕ)) (body : List ℕ) : Type 0 wh
   pub taken : old ≡ prepend_known body new
   pub ended : IsAtEnd new
 
--- the reader gave one byte more than a body may have, and was asked for no more
+-- one byte more than a body may have was taken from the reader, and no more
 pub record PassesLimit (old new : Option (List ℕ)) : Type 0 where
   pub bytes : List ℕ
   pub past : length bytes ≡ body_limit + 1

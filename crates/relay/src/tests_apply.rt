@@ -20,7 +20,7 @@ const NO_LAST_LINE_END: &[u8] =
 const SECOND_REFUSED: &[u8] =
     b"200\n{\"errors\":true,\"items\":[{\"delete\":{\"_id\":\"1\",\"_index\":\"b\",\"_seq_no\":0,\"_version\":1,\"result\":\"not_found\",\"status\":404}},{\"delete\":{\"_id\":\"2\",\"_index\":\"b\",\"error\":{\"type\":\"scripted_refusal\"},\"status\":429}}],\"took\":0}\n";
 
-// What `apply` answers for a body, what it wrote, and how many bytes of the body are left.
+// What `apply` answers for a body, and what it wrote.
 fn run(
     alloc: Global,
     body: Vec<u8>,

@@ -232,6 +232,7 @@ impl Index {
         ensures kept { OnOk result (IsIndex self.new) }
     {
         let done = self.carry_out(write, choice)?;
+        // A field is read, so that the index's invariant is at hand for the contract.
         let _ = &self.documents;
         Ok(done)
     }
