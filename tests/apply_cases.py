@@ -1,8 +1,7 @@
 """What `relay apply` does."""
-import os
 import subprocess
 
-from program import RELAY, case, check, deleted, indexed, run
+from program import RELAY, case, check, deleted, directory, endless, indexed, run
 
 LIMIT = 16777216
 
@@ -132,20 +131,11 @@ def limits():
     answered("a body at the limit", body, items)
     answered("a body below it", body.replace(b" }", b"}", 1), items)
     case("a body past it", ["apply"], body.replace(b"}", b" }", 1), b"", b"body too long\n", 2)
-    producer = subprocess.Popen(["yes", "x"], stdout=subprocess.PIPE)
-    done = subprocess.run([RELAY, "apply"], stdin=producer.stdout, capture_output=True, timeout=60)
-    producer.stdout.close()
-    producer.wait()
-    check("an endless body", (done.stdout, done.stderr, done.returncode) == (b"", b"body too long\n", 2), done)
+    endless("apply", "yes x", b"body too long\n")
 
 
 def devices():
-    folder = os.open("/", os.O_RDONLY)
-    try:
-        done = subprocess.run([RELAY, "apply"], stdin=folder, capture_output=True, timeout=60)
-    finally:
-        os.close(folder)
-    check("a directory as body", (done.stdout, done.stderr, done.returncode) == (b"", b"read failed\n", 3), done)
+    directory("apply")
     with open("/dev/full", "wb") as full:
         done = subprocess.run([RELAY, "apply"], input=delete(b"1", 1), stdout=full, stderr=subprocess.PIPE, timeout=60)
         check("an answer to a full device", (done.stderr, done.returncode) == (b"write failed\n", 3), done)

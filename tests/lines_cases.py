@@ -3,7 +3,7 @@ import os
 import subprocess
 import time
 
-from program import RELAY, case, check, deleted, indexed
+from program import RELAY, case, check, deleted, directory, endless, indexed
 
 INDEX = b'{"index":{"_index":"b","_id":"1"}}\n'
 DELETE = b'{"delete":{"_index":"b","_id":"1"}}\n'
@@ -116,28 +116,15 @@ def limits():
     case("blank lines at the limit", ["lines"], b"\n" * 65536 + DELETE, written, b"", 0)
     case("blank lines at the limit at the end", ["lines"], b"\n" * 65536, b"", b"", 0)
     fault("blank lines past it", b"\n" * 65537, b"line 65537: LineLong")
+    endless("lines", "yes x | tr -d '\\n'", b"line 1: LineLong\n")
+    endless("lines", "yes ''", b"line 65537: LineLong\n")
     for depth, good in ((125, True), (126, False)):
         nested = b'{"delete":{"_index":"b","_id":"1","x":%s%s}}\n' % (b"[" * depth, b"]" * depth)
         fault("a member that nobody looks at, %d deep in all" % (depth + 2), nested, b"line 1: UnsupportedField" if good else b"line 1: NotJson")
 
 
-def endless():
-    """A reader that never ends is stopped by the limits."""
-    for command, text in (("yes x | tr -d '\\n'", b"line 1: LineLong\n"), ("yes ''", b"line 65537: LineLong\n")):
-        producer = subprocess.Popen(["sh", "-c", command], stdout=subprocess.PIPE, stderr=subprocess.DEVNULL)
-        done = subprocess.run([RELAY, "lines"], stdin=producer.stdout, capture_output=True, timeout=60)
-        producer.stdout.close()
-        producer.wait()
-        check("an endless input of %s" % command, (done.stdout, done.stderr, done.returncode) == (b"", text, 2), done)
-
-
 def devices():
-    folder = os.open("/", os.O_RDONLY)
-    try:
-        done = subprocess.run([RELAY, "lines"], stdin=folder, capture_output=True, timeout=60)
-    finally:
-        os.close(folder)
-    check("a directory as input", (done.stdout, done.stderr, done.returncode) == (b"", b"read failed\n", 3), done)
+    directory("lines")
     with open("/dev/full", "wb") as full:
         done = subprocess.run([RELAY, "lines"], input=DELETE, stdout=full, stderr=subprocess.PIPE, timeout=60)
         check("a full device", (done.stderr, done.returncode) == (b"write failed\n", 3), done)
@@ -171,4 +158,4 @@ def prompt():
     check("and it ends", process.wait(timeout=60) == 0 and time.monotonic() - started < 30)
 
 
-GROUPS = (rows, faults, cuts, limits, endless, devices, prompt)
+GROUPS = (rows, faults, cuts, limits, devices, prompt)

@@ -23,6 +23,27 @@ def case(name, args, stdin, stdout, stderr, status):
     check(name, found == (stdout, stderr, status), found if len(str(found)) < 600 else "")
 
 
+def directory(command):
+    """A directory as the input of a command."""
+    folder = os.open("/", os.O_RDONLY)
+    try:
+        done = subprocess.run([RELAY, command], stdin=folder, capture_output=True, timeout=60)
+    finally:
+        os.close(folder)
+    found = (done.stdout, done.stderr, done.returncode)
+    check("a directory as the input of %s" % command, found == (b"", b"read failed\n", 3), found)
+
+
+def endless(command, producer, text):
+    """A command ends on a shell's producer that never ends, with this text and status 2."""
+    source = subprocess.Popen(["sh", "-c", producer], stdout=subprocess.PIPE, stderr=subprocess.DEVNULL)
+    done = subprocess.run([RELAY, command], stdin=source.stdout, capture_output=True, timeout=60)
+    source.stdout.close()
+    source.wait()
+    found = (done.stdout, done.stderr, done.returncode)
+    check("%s behind %s" % (command, producer), found == (b"", text, 2), found)
+
+
 def deleted(index, identity, version):
     return b'{"delete":{"_id":%s,"_index":%s,"version":%d,"version_type":"external"}}\n' % (identity, index, version)
 
