@@ -8,7 +8,6 @@ use Rattle.std.proofs.lemmas.Slice.Eq.{bytes_eq-Decides}
 use Rattle.json.specs.Json as json
 use Rattle.json.specs.Find as json_find
 use Rattle.serde_json.specs.Data.{Data, Members, member, no_members, put}
-use Rattle.serde_json.specs.Find.{as_object}
 use Rattle.serde_json.specs.Read.{of_json, of_members}
 use Rattle.relay_json.specs.Reads.{HasData}
 use Rattle.relay_json.specs.Names.{all_names, has_only, all_known}
