@@ -1,5 +1,5 @@
 -- What an action is.
-use Rattle.std.specs.Prelude.{◌≡◌, ℕ, List}
+use Rattle.std.specs.Prelude.{◌≡◌, ℕ, bytes_eq, List, codes, Option, None, Some, if◌then◌else◌}
 use Rattle.relay_action.specs.declared.action.Action.{Action}
 use Rattle.relay_action.specs.declared.action.Action.TheVariants.{Index, Delete}
 use Rattle.relay_action.specs.declared.action.ActionKind.{ActionKind}
@@ -14,3 +14,15 @@ IsIndexOf source Delete = ⊥
 abbrev pub kind_of : Action → ActionKind
 kind_of (Index s) = kind.Index
 kind_of Delete = kind.Delete
+
+-- the name that the bulk API has for a kind
+abbrev pub kind_name : ActionKind → List ℕ
+kind_name kind.Index = codes "index"
+kind_name kind.Delete = codes "delete"
+
+-- the kind of a name
+abbrev pub kind_named : List ℕ → Option ActionKind
+kind_named name =
+    if bytes_eq name (codes "index") then Some kind.Index
+    else if bytes_eq name (codes "delete") then Some kind.Delete
+    else None

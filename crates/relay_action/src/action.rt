@@ -54,6 +54,21 @@ pub enum ActionKind {
     Delete,
 }
 
+impl ActionKind {
+    ghost use Rattle.relay_action.specs.Actions.{kind_named};
+
+    /// The kind of a name of the bulk API. `None`: no kind of action has this name.
+    pub fn named(name: &str) -> Option<ActionKind>
+        ensures { result ≡ kind_named name.now }
+    {
+        match name {
+            "index" => Some(ActionKind::Index),
+            "delete" => Some(ActionKind::Delete),
+            _ => None,
+        }
+    }
+}
+
 /// What is done to a document.
 #[derive(Debug, Drop)]
 pub enum Action {

@@ -92,6 +92,24 @@ fn sources_at_their_limits(rt: HostRuntime) -> Result<(), Fail> {
     Ok(())
 }
 
+// OpenSearch has four names; the relay takes two of them, as they are spelled.
+#[test]
+fn kinds_of_names(rt: HostRuntime) -> Result<(), Fail> {
+    let rows = [
+        ("index", Some(ActionKind::Index)),
+        ("delete", Some(ActionKind::Delete)),
+        ("create", None),
+        ("update", None),
+        ("Index", None),
+        ("indexes", None),
+        ("", None),
+    ];
+    for (name, kind) in rows {
+        assert_eq!(rt; ActionKind::named(name), kind);
+    }
+    Ok(())
+}
+
 #[test]
 fn copies_equal_their_originals(rt: HostRuntime) -> Result<(), Fail> {
     let alloc = rt.alloc();

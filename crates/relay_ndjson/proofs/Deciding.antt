@@ -8,6 +8,7 @@ use Rattle.std.specs.Str.{is_utf8}
 use Rattle.serde_json.specs.Data.{Data, null, boolean, number, string, array, object, Members, member, no_members}
 use Rattle.serde_json.specs.Read.{read}
 use Rattle.serde_json.proofs.OnLiterals.{serde_json_on_literals}
+use Rattle.relay_action.specs.Actions.{kind_name, kind_named}
 use Rattle.relay_action.specs.Faults.{key_fault}
 use Rattle.relay_action.specs.Limits.{HasLength, index_limit, id_limit}
 use Rattle.relay_action.specs.declared.action.ActionKind.{ActionKind}
@@ -15,7 +16,7 @@ use Rattle.relay_action.specs.declared.action.ActionKind.TheVariants as action
 use Rattle.relay_ndjson.specs.declared.kind.LineKind.{LineKind}
 use Rattle.relay_ndjson.specs.declared.kind.LineKind.TheVariants as kind
 use Rattle.relay_json.specs.Names.{has_only, all_names}
-use Rattle.relay_ndjson.specs.Metadata.{is_document, is_field, index_of, id_of, Asks, Says, action_kind, kind_name, metadata_fault, value_fault, line_fault, IsDocument, fault_or, action_of}
+use Rattle.relay_ndjson.specs.Metadata.{is_document, is_field, index_of, id_of, Asks, Says, metadata_fault, value_fault, line_fault, IsDocument, fault_or, action_of}
 use Rattle.relay_ndjson.specs.Laws.{TextDecides}
 use Rattle.relay_ndjson.proofs.Asking.{decide, line_fault-value}
 
@@ -57,18 +58,18 @@ one_name default text index id other name s t =
 eq-from : (xs ys : List ℕ) → bytes_eq xs ys ≡ true → xs ≡ ys
 eq-from xs ys e = grind (arith, common_steps, bytes_eq-Decides xs ys)
 
-pub kind_of_name : (name : List ℕ) (a : ActionKind) → action_kind name ≡ Some a → name ≡ kind_name a
+pub kind_of_name : (name : List ℕ) (a : ActionKind) → kind_named name ≡ Some a → name ≡ kind_name a
 kind_of_name name action.Index e =
     elim (decide (bytes_eq name (codes "index"))) [
       | inl t ↦ eq-from name (codes "index") t
-      | inr f ↦ (let g : action_kind name ≡ (if bytes_eq name (codes "delete") then Some action.Delete else None) = rw f refl in
-          elim (decide (bytes_eq name (codes "delete"))) [ inl t ↦ (let h : action_kind name ≡ Some action.Delete = rw (f, t) refl in cc) | inr u ↦ (let h : action_kind name ≡ None = rw (f, u) refl in cc) ])
+      | inr f ↦ (let g : kind_named name ≡ (if bytes_eq name (codes "delete") then Some action.Delete else None) = rw f refl in
+          elim (decide (bytes_eq name (codes "delete"))) [ inl t ↦ (let h : kind_named name ≡ Some action.Delete = rw (f, t) refl in cc) | inr u ↦ (let h : kind_named name ≡ None = rw (f, u) refl in cc) ])
     ]
 kind_of_name name action.Delete e =
     elim (decide (bytes_eq name (codes "index"))) [
-      | inl t ↦ (let h : action_kind name ≡ Some action.Index = rw t refl in cc)
+      | inl t ↦ (let h : kind_named name ≡ Some action.Index = rw t refl in cc)
       | inr f ↦
-          elim (decide (bytes_eq name (codes "delete"))) [ inl t ↦ eq-from name (codes "delete") t | inr u ↦ (let h : action_kind name ≡ None = rw (f, u) refl in cc) ]
+          elim (decide (bytes_eq name (codes "delete"))) [ inl t ↦ eq-from name (codes "delete") t | inr u ↦ (let h : kind_named name ≡ None = rw (f, u) refl in cc) ]
     ]
 
 abbrev Asked : Option (List ℕ) → Data → Type 0
@@ -119,7 +120,7 @@ action_form (object (member x d (member y f ms))) name m e = cc
 none_asks : (default : Option (List ℕ)) (d : Data) → value_fault default d ≡ None → Asked default d
 none_asks default d e =
     let a = no_fault kind.NotOneAction _ (action_of d) e in
-    let k = no_fault kind.UnsupportedAction _ (action_kind a.0.0) a.2 in
+    let k = no_fault kind.UnsupportedAction _ (kind_named a.0.0) a.2 in
     let form = action_form d a.0.0 a.0.1 a.1 in
     let m = none_metadata default a.0.1 k.2 in
     let name = kind_of_name a.0.0 k.0 k.1 in

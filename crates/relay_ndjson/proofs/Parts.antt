@@ -3,10 +3,11 @@ use Rattle.std.proofs.Common.{◌≡◌, ℕ, ◌+◌, List, ◌++◌, length, c
 use Rattle.std.proofs.lemmas.Grind.{common_steps}
 use Rattle.json.specs.Print.{quoted, escape}
 use Rattle.serde_json.proofs.OnLiterals.{serde_json_on_literals}
+use Rattle.relay_action.specs.Actions.{kind_of, kind_name}
 use Rattle.relay_action.specs.declared.action.Action.{Action}
 use Rattle.relay_action.specs.declared.action.Action.TheVariants.{Index, Delete}
 use Rattle.relay_action.specs.declared.write.Write.{Write}
-use Rattle.relay_ndjson.specs.Bulk.{action_text, action_name, opening, source_line, write_text}
+use Rattle.relay_ndjson.specs.Bulk.{action_text, opening, source_line, write_text}
 
 -- an action line, byte for byte
 pub action_text-parts : (w : Write) → action_text w ≡ opening w.action ++ (escape w.key.id ++ (codes "\",\"_index\":\"" ++ (escape w.key.index ++ (codes "\",\"version\":" ++ (decimal w.version ++ codes ",\"version_type\":\"external\"}}")))))
@@ -21,15 +22,15 @@ lines_in_parts before w =
 pub length-quoted : (text : List ℕ) → length (quoted text) ≡ length (escape text) + 2
 length-quoted text = grind (arith, common_steps)
 
-pub length-opening : (a : Action) → length (opening a) ≡ length (action_name a) + 12
+pub length-opening : (a : Action) → length (opening a) ≡ length (kind_name (kind_of a)) + 12
 length-opening (Index s) = refl
 length-opening Delete = refl
 
 -- its length: 64 bytes beside the name, the texts and the number
-pub length-action_text : (w : Write) → length (action_text w) ≡ length (action_name w.action) + length (escape w.key.id) + length (escape w.key.index) + length (decimal w.version) + 64
+pub length-action_text : (w : Write) → length (action_text w) ≡ length (kind_name (kind_of w.action)) + length (escape w.key.id) + length (escape w.key.index) + length (decimal w.version) + 64
 length-action_text w =
     let last : length (codes ",\"version_type\":\"external\"}}") ≡ 28 = refl in
-    let start : length (opening w.action) ≡ length (action_name w.action) + 12 = length-opening w.action in
+    let start : length (opening w.action) ≡ length (kind_name (kind_of w.action)) + 12 = length-opening w.action in
     rw (action_text-parts w) (simp length-append (omega arith))
 
 -- the same, for the tactics

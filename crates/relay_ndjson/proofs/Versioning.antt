@@ -4,15 +4,17 @@ use Rattle.std.specs.Str.{is_utf8}
 use Rattle.std.proofs.lemmas.Str.{is_utf8-from_IsUtf8, IsUtf8-from_is_utf8}
 use Rattle.serde_json.specs.Data.{Data, object, Members, member, no_members}
 use Rattle.serde_json.specs.Read.{read}
+use Rattle.relay_action.specs.Actions.{kind_name, kind_named}
 use Rattle.relay_action.specs.Faults.{key_fault}
 use Rattle.relay_action.specs.declared.action.ActionKind.{ActionKind}
 use Rattle.relay_action.specs.declared.action.ActionKind.TheVariants as action
 use Rattle.relay_ndjson.specs.declared.kind.LineKind.{LineKind}
 use Rattle.relay_ndjson.specs.declared.kind.LineKind.TheVariants as kind
 use Rattle.relay_json.specs.Names.{has_only}
-use Rattle.relay_ndjson.specs.Metadata.{is_field, index_of, id_of, kind_name, fault_or, document_fault, action_of, action_kind}
+use Rattle.relay_ndjson.specs.Metadata.{is_field, index_of, id_of, fault_or, document_fault, action_of}
 use Rattle.relay_ndjson.specs.Versioned.{version_of, is_external, IsVersioned, AsksVersioned, SaysVersioned, versioned_fault, write_fault, write_line_fault}
 use Rattle.relay_ndjson.specs.Laws.{VersionedTextDecides}
+use Rattle.relay_action.proofs.Actions.{one_kind}
 use Rattle.relay_ndjson.proofs.Asking.{decide}
 use Rattle.relay_ndjson.proofs.Deciding.{kind_of_name, no_fault, no_kind, action_form}
 
@@ -47,12 +49,6 @@ some_same x y e = cc
 same_object : (name other : List ℕ) (ms ns : Members) → object (member name (object ms) no_members) ≡ object (member other (object ns) no_members) → (name ≡ other) × (ms ≡ ns)
 same_object name other ms ns e = (cc, cc)
 
-kind_same : (a b : ActionKind) → kind_name a ≡ kind_name b → a ≡ b
-kind_same action.Index action.Index e = refl
-kind_same action.Index action.Delete e = cc
-kind_same action.Delete action.Index e = cc
-kind_same action.Delete action.Delete e = refl
-
 -- what two texts that are one ask for
 pub record AsksOne (a b : ActionKind) (index id other name : List ℕ) (version later : ℕ) : Type 0 where
   pub same_kind : a ≡ b
@@ -66,7 +62,7 @@ asks_one text a b index id other name version later s t =
     let o = same_object (kind_name a) (kind_name b) s.3.0 t.3.0 (sym s.3.1 ∙ (d ∙ t.3.1)) in
     let v = subst (λ (ms : Members). IsVersioned (object ms) index id version) o.1 s.3.2 in
     let w = t.3.2 in record {
-      same_kind = kind_same a b o.0;
+      same_kind = one_kind a b o.0;
       same_index = some_same index other (sym v.3 ∙ w.3);
       same_id = some_same id name (sym v.4 ∙ w.4);
       same_version = some_same version later (sym v.1 ∙ w.1);
@@ -105,7 +101,7 @@ AskedFor d = (a : ActionKind) × (index : List ℕ) × (id : List ℕ) × (versi
 none_asks : (d : Data) → write_fault d ≡ None → AskedFor d
 none_asks d e =
     let a = no_fault kind.NotOneAction _ (action_of d) e in
-    let k = no_fault kind.UnsupportedAction _ (action_kind a.0.0) a.2 in
+    let k = no_fault kind.UnsupportedAction _ (kind_named a.0.0) a.2 in
     let form = action_form d a.0.0 a.0.1 a.1 in
     let m = none_versioned a.0.1 k.2 in
     let name = kind_of_name a.0.0 k.0 k.1 in

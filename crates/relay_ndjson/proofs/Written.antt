@@ -1,19 +1,18 @@
 -- What is written for a write is its lines.
-use Rattle.std.proofs.Common.{◌≡◌, ◌≢◌, ℕ, zero, suc, ◌+◌, ◌-◌, ◌*◌, ◌%◌, ◌^◌, ◌<◌, ◌≤◌, List, [], ◌∷◌, ◌++◌, length, get_or, codes, decimal, refl, ap, sym, subst, arith, inr, append_assoc, length-append, Some, IsUtf8}
+use Rattle.std.proofs.Common.{◌≡◌, ◌≢◌, ℕ, zero, suc, ◌+◌, ◌-◌, ◌*◌, ◌%◌, ◌^◌, ◌<◌, ◌≤◌, List, [], ◌∷◌, ◌++◌, length, get_or, codes, decimal, refl, sym, subst, arith, inr, append_assoc, length-append, Some, IsUtf8}
 use Rattle.std.proofs.lemmas.Grind.{common_steps}
 use Rattle.std.proofs.lemmas.Str.{IsUtf8-append, IsUtf8-had}
 use Rattle.std.proofs.lemmas.Fmt.{decimal_by_steps, length-decimal-le}
 use Rattle.json.specs.Print.{quoted, escape, escape_byte}
 use Rattle.json.proofs.Printed.Utf8.{IsUtf8-are_ascii, IsUtf8-quoted}
-use Rattle.serde_json.specs.Data.{string, number, unsigned, object, member, no_members}
+use Rattle.serde_json.specs.Data.{string, number, unsigned, member, no_members}
 use Rattle.serde_json.proofs.OnLiterals.{serde_json_on_literals}
-use Rattle.relay_action.specs.Actions.{kind_of}
+use Rattle.relay_action.specs.Actions.{kind_of, kind_name}
 use Rattle.relay_action.specs.Limits.{IsOneLine}
 use Rattle.relay_action.specs.declared.action.Action.{Action}
 use Rattle.relay_action.specs.declared.action.Action.TheVariants.{Index, Delete}
 use Rattle.relay_action.specs.declared.write.Write.{Write}
-use Rattle.relay_ndjson.specs.Bulk.{action_text, action_data, source_line, line_end, write_text, text_of, last_version, action_name, metadata}
-use Rattle.relay_ndjson.specs.Metadata.{kind_name}
+use Rattle.relay_ndjson.specs.Bulk.{action_text, action_data, source_line, line_end, write_text, text_of, last_version}
 use Rattle.relay_ndjson.specs.Lines.{IsUnbroken, IsLine, line_limit}
 use Rattle.relay_ndjson.specs.Versioned.{AsksVersioned, SaysWrite, within_last}
 use Rattle.relay_ndjson.specs.Bodies.{IsSourceOf, IsLinesOf, AreDealt}
@@ -143,7 +142,7 @@ utf8_parts : (a : Action) (id index : List ℕ) (version : ℕ) → version < 2 
 utf8_parts a id index version h u v =
     IsUtf8-append (start a) (quoted id ++ index_part index version) (utf8_start a) (IsUtf8-append (quoted id) (index_part index version) (IsUtf8-quoted id u) (utf8_index index version h v))
 
-short_name : (a : Action) → length (action_name a) ≤ 6
+short_name : (a : Action) → length (kind_name (kind_of a)) ≤ 6
 short_name (Index source) = omega arith
 short_name Delete = omega arith
 
@@ -165,14 +164,10 @@ action_line w h =
 within : (n : ℕ) → n ≤ last_version → within_last n ≡ Some n
 within n h = grind (arith, h)
 
-kind_of_name : (a : Action) → action_name a ≡ kind_name (kind_of a)
-kind_of_name (Index source) = refl
-kind_of_name Delete = refl
-
 asks_written : (w : Write) → w.version ≤ last_version → AsksVersioned (action_data w) (kind_of w.action) w.key.index w.key.id w.version
 asks_written w h = (
   member (codes "_id") (string w.key.id) (member (codes "_index") (string w.key.index) (member (codes "version") (number (unsigned w.version)) (member (codes "version_type") (string (codes "external")) no_members))),
-  ap (λ name. object (member name (metadata w) no_members)) (kind_of_name w.action),
+  refl,
   (refl, within w.version h, refl, refl, refl),
 )
 

@@ -5,14 +5,10 @@ use Rattle.std.specs.List.{flat_map}
 use Rattle.serde_json.specs.Data.{Data, string, number, unsigned, object, member, no_members}
 use Rattle.serde_json.specs.Read.{read}
 use Rattle.serde_json.specs.Written.{compact_text}
+use Rattle.relay_action.specs.Actions.{kind_of, kind_name}
 use Rattle.relay_action.specs.declared.action.Action.{Action}
 use Rattle.relay_action.specs.declared.action.Action.TheVariants.{Index, Delete}
 use Rattle.relay_action.specs.declared.write.Write.{Write}
-
--- the name of an action
-abbrev pub action_name : Action → List ℕ
-action_name (Index source) = codes "index"
-action_name Delete = codes "delete"
 
 -- the metadata of a write, with its keys in byte order
 abbrev pub metadata : Write → Data
@@ -24,7 +20,7 @@ metadata w =
 
 -- what the action line of a write says
 abbrev pub action_data : Write → Data
-action_data w = object (member (action_name w.action) (metadata w) no_members)
+action_data w = object (member (kind_name (kind_of w.action)) (metadata w) no_members)
 
 -- the end of a line
 abbrev pub line_end : List ℕ

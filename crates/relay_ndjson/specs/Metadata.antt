@@ -8,9 +8,9 @@ use Rattle.serde_json.specs.Find.{get, as_object, as_str}
 use Rattle.serde_json.specs.Read.{read}
 use Rattle.relay_json.specs.Names.{has_only}
 use Rattle.relay_json.specs.Sole.{sole}
+use Rattle.relay_action.specs.Actions.{kind_name, kind_named}
 use Rattle.relay_action.specs.Faults.{key_fault, source_fault}
 use Rattle.relay_action.specs.declared.action.ActionKind.{ActionKind}
-use Rattle.relay_action.specs.declared.action.ActionKind.TheVariants as action
 use Rattle.relay_ndjson.specs.declared.kind.LineKind.{LineKind}
 use Rattle.relay_ndjson.specs.declared.kind.LineKind.TheVariants as kind
 
@@ -55,10 +55,6 @@ index_of default metadata = text_or default (get (codes "_index") metadata)
 
 -- ---- the grammar
 
-abbrev pub kind_name : ActionKind → List ℕ
-kind_name action.Index = codes "index"
-kind_name action.Delete = codes "delete"
-
 -- the metadata name a document
 abbrev pub IsDocument : Option (List ℕ) → Data → List ℕ → List ℕ → Type 0
 IsDocument default m index id = (has_only is_document m ≡ true) × (index_of default m ≡ Some index) × (id_of m ≡ Some id)
@@ -97,15 +93,9 @@ metadata_fault default m =
 abbrev pub action_of : Data → Option (List ℕ × Data)
 action_of d = option_and_then (λ ms. option_and_then (λ a. if is_some (as_object a.1) then Some a else None) (sole ms)) (as_object d)
 
-abbrev pub action_kind : List ℕ → Option ActionKind
-action_kind name =
-    if bytes_eq name (codes "index") then Some action.Index
-    else if bytes_eq name (codes "delete") then Some action.Delete
-    else None
-
 abbrev pub value_fault : Option (List ℕ) → Data → Option LineKind
 value_fault default d =
-    fault_or kind.NotOneAction (λ a. fault_or kind.UnsupportedAction (λ k. metadata_fault default a.1) (action_kind a.0)) (action_of d)
+    fault_or kind.NotOneAction (λ a. fault_or kind.UnsupportedAction (λ k. metadata_fault default a.1) (kind_named a.0)) (action_of d)
 
 abbrev pub line_fault : Option (List ℕ) → List ℕ → Option LineKind
 line_fault default text = if is_utf8 text then fault_or kind.NotJson (value_fault default) (read text) else Some kind.NotJson

@@ -5,14 +5,14 @@ use Rattle.std.specs.Str.{is_utf8}
 use Rattle.serde_json.specs.Data.{Data, object, Members, member, no_members}
 use Rattle.serde_json.specs.Find.{get, as_str, as_number, as_u64}
 use Rattle.serde_json.specs.Read.{read}
-use Rattle.relay_action.specs.Actions.{kind_of}
+use Rattle.relay_action.specs.Actions.{kind_of, kind_name, kind_named}
 use Rattle.relay_action.specs.declared.action.ActionKind.{ActionKind}
 use Rattle.relay_action.specs.declared.write.Write.{Write}
 use Rattle.relay_ndjson.specs.declared.kind.LineKind.{LineKind}
 use Rattle.relay_ndjson.specs.declared.kind.LineKind.TheVariants as kind
 use Rattle.relay_ndjson.specs.Bulk.{last_version}
 use Rattle.relay_json.specs.Names.{has_only}
-use Rattle.relay_ndjson.specs.Metadata.{kind_name, is_field, index_of, id_of, fault_or, document_fault, action_of, action_kind}
+use Rattle.relay_ndjson.specs.Metadata.{is_field, index_of, id_of, fault_or, document_fault, action_of}
 
 -- a version as the index takes it
 abbrev pub within_last : ℕ → Option ℕ
@@ -56,7 +56,7 @@ versioned_fault m =
 
 abbrev pub write_fault : Data → Option LineKind
 write_fault d =
-    fault_or kind.NotOneAction (λ a. fault_or kind.UnsupportedAction (λ k. versioned_fault a.1) (action_kind a.0)) (action_of d)
+    fault_or kind.NotOneAction (λ a. fault_or kind.UnsupportedAction (λ k. versioned_fault a.1) (kind_named a.0)) (action_of d)
 
 -- the first fault of an action line
 abbrev pub write_line_fault : List ℕ → Option LineKind

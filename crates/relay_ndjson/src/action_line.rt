@@ -4,7 +4,7 @@ ghost use Rattle.serde_json.specs.Data.{Data};
 ghost use Rattle.serde_json.specs.Find.{as_number, get};
 ghost use Rattle.relay_json.specs.Values.{data_of, root_of};
 ghost use Rattle.relay_json.specs.Names.{has_only};
-ghost use Rattle.relay_ndjson.specs.Metadata.{shown, action_of, action_kind, is_document, is_field, id_of, id_text, id_fault, number_text, index_of, document_fault, metadata_fault, value_fault, line_fault, Asks, Says, IsDocument, source_line_fault};
+ghost use Rattle.relay_ndjson.specs.Metadata.{shown, action_of, is_document, is_field, id_of, id_text, id_fault, number_text, index_of, document_fault, metadata_fault, value_fault, line_fault, Asks, Says, IsDocument, source_line_fault};
 ghost use Rattle.serde_json.specs.Read.{read};
 ghost use Rattle.relay_action.specs.Actions.{IsIndexOf};
 
@@ -23,17 +23,6 @@ pub fn action_of<'v, 't>(value: Value<'v, 't>) -> Option<(&'t str, Value<'v, 't>
         Some((name, metadata))
     } else {
         None
-    }
-}
-
-/// The action of a name.
-pub fn action_kind(name: &str) -> Option<ActionKind>
-    ensures { result ≡ action_kind name.now }
-{
-    match name {
-        "index" => Some(ActionKind::Index),
-        "delete" => Some(ActionKind::Delete),
-        _ => None,
     }
 }
 
@@ -167,7 +156,7 @@ fn asked<'t>(
     let Some((name, metadata)) = action_of(value) else {
         return Err(LineKind::NotOneAction);
     };
-    let Some(kind) = action_kind(name) else {
+    let Some(kind) = ActionKind::named(name) else {
         return Err(LineKind::UnsupportedAction);
     };
     match key_of(alloc, default_index, metadata) {

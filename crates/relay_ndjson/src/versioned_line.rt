@@ -3,7 +3,7 @@ ghost use Rattle.std.specs.Prelude.{◌≡◌, ◌⊎◌, Some, None, IfOk, IfEr
 ghost use Rattle.relay_json.specs.Values.{data_of};
 ghost use Rattle.relay_ndjson.specs.Versioned.{version_of, is_external, IsVersioned, AsksVersioned, SaysVersioned, versioned_fault, write_fault, write_line_fault};
 
-use crate::action_line::{action_kind, action_of, document_of, has_only_fields, value_of};
+use crate::action_line::{action_of, document_of, has_only_fields, value_of};
 use crate::bulk::LAST_VERSION;
 use crate::kind::LineKind;
 use relay_action::{ActionKind, DocKey};
@@ -68,7 +68,7 @@ fn asked(alloc: Global, value: Value<'_, '_>) -> Result<ActionLine, LineKind>
     let Some((name, metadata)) = action_of(value) else {
         return Err(LineKind::NotOneAction);
     };
-    let Some(kind) = action_kind(name) else {
+    let Some(kind) = ActionKind::named(name) else {
         return Err(LineKind::UnsupportedAction);
     };
     match versioned(alloc, metadata) {

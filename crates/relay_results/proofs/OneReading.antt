@@ -3,21 +3,14 @@ use Rattle.std.proofs.Common.{◌≡◌, ◌<◌, ◌⊎◌, ℕ, zero, suc, Lis
 use Rattle.std.specs.Prelude.{codes}
 use Rattle.serde_json.specs.Data.{Data, string, number, array, object, unsigned, Items, no_items, item, Members, member, no_members}
 use Rattle.serde_json.specs.Find.{get}
-use Rattle.relay_action.specs.declared.action.ActionKind.{ActionKind}
-use Rattle.relay_action.specs.declared.action.ActionKind.TheVariants as kind
+use Rattle.relay_action.specs.Actions.{kind_name}
+use Rattle.relay_action.proofs.Actions.{one_kind}
 use Rattle.relay_results.specs.declared.outcome.Outcome.{Outcome}
 use Rattle.relay_results.specs.declared.reading.ReplyFault.TheVariants as fault
-use Rattle.relay_results.specs.Documents.{kind_name}
 use Rattle.relay_results.specs.Replies.{ReadsAs, IsCut, error_limit, error_member, SaysError, IsEntry, AreEntries, HasItems, IsBadAt}
 use Rattle.relay_results.specs.Laws.{OneReply, NoFaultOfReply, OneFault}
 
 -- ---- an entry says one outcome
-
-one_kind : (a b : ActionKind) → kind_name a ≡ kind_name b → a ≡ b
-one_kind kind.Index kind.Index e = refl
-one_kind kind.Index kind.Delete e = cc
-one_kind kind.Delete kind.Index e = cc
-one_kind kind.Delete kind.Delete e = refl
 
 three_ways : (m n : ℕ) → (m < n) ⊎ ((m ≡ n) ⊎ (n < m))
 three_ways m n = grind arith

@@ -1,5 +1,5 @@
 -- Documents, actions, writes and operations as plain data, and when two of them are the same.
-use Rattle.std.specs.Prelude.{ℕ, List, Option, Some, None, Bool, true, false, ◌==◌, ◌&&◌, bytes_eq, codes}
+use Rattle.std.specs.Prelude.{ℕ, List, Option, Some, None, Bool, true, false, ◌==◌, ◌&&◌, bytes_eq}
 use Rattle.relay_action.specs.declared.key.DocKey.{DocKey}
 use Rattle.relay_action.specs.declared.action.Action.{Action}
 use Rattle.relay_action.specs.declared.action.Action.TheVariants.{Index, Delete}
@@ -32,20 +32,17 @@ same_source None (Some t) = false
 same_source (Some s) None = false
 same_source (Some s) (Some t) = bytes_eq s t
 
--- a kind of action, and the name that the bulk API has for it
+-- an action of this kind deletes
 abbrev pub is_delete : ActionKind → Bool
 is_delete kind.Index = false
 is_delete kind.Delete = true
 
+-- the two kinds are one
 abbrev pub same_kind : ActionKind → ActionKind → Bool
 same_kind kind.Index kind.Index = true
 same_kind kind.Index kind.Delete = false
 same_kind kind.Delete kind.Index = false
 same_kind kind.Delete kind.Delete = true
-
-abbrev pub kind_name : ActionKind → List ℕ
-kind_name kind.Index = codes "index"
-kind_name kind.Delete = codes "delete"
 
 -- the two writes have one version, one document and one action
 abbrev pub same_write : Write → Write → Bool

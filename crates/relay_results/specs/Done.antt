@@ -3,11 +3,11 @@ use Rattle.std.specs.Prelude.{ℕ, ◌≤◌, List, [], ◌∷◌, codes, Option
 use Rattle.std.specs.List.{list_any}
 use Rattle.serde_json.specs.Data.{Data, boolean, number, string, array, object, unsigned, Items, no_items, item, Members, member, no_members}
 use Rattle.serde_json.specs.Written.{compact_text}
+use Rattle.relay_action.specs.Actions.{kind_name}
 use Rattle.relay_results.specs.declared.outcome.Outcome.{Outcome}
 use Rattle.relay_results.specs.declared.done.DoneResult.{DoneResult}
 use Rattle.relay_results.specs.declared.done.DoneResult.TheVariants as done
 use Rattle.relay_results.specs.declared.done.ItemDone.{ItemDone}
-use Rattle.relay_results.specs.Documents.{kind_name}
 
 -- the type of the error of a result, where nothing was done
 abbrev pub failure : DoneResult → Option (List ℕ)

@@ -1,20 +1,11 @@
 -- For private clauses: what is looked up in an entry, and what a loop over entries has found.
-use Rattle.std.specs.Prelude.{◌≡◌, ℕ, Bool, true, false, List, [], ◌∷◌, ◌++◌, codes, bytes_eq, nat_le, ◌&&◌, Option, None, Some, option_and_then, if◌then◌else◌}
+use Rattle.std.specs.Prelude.{◌≡◌, ℕ, Bool, true, false, List, [], ◌∷◌, ◌++◌, codes, nat_le, ◌&&◌, Option, None, Some, option_and_then, if◌then◌else◌}
 use Rattle.serde_json.specs.Data.{Data, Items}
 use Rattle.serde_json.specs.Find.{get, as_str, as_number, as_u64}
-use Rattle.relay_action.specs.declared.action.ActionKind.{ActionKind}
-use Rattle.relay_action.specs.declared.action.ActionKind.TheVariants as kind
 use Rattle.relay_results.specs.declared.outcome.Outcome.{Outcome}
 use Rattle.relay_results.specs.declared.reading.ReplyFault.{ReplyFault}
 use Rattle.relay_results.specs.declared.reading.ReplyFault.TheVariants as fault
 use Rattle.relay_results.specs.Replies.{IsEntry, IsNoEntry, IsBadAt}
-
--- the kind of action of a name
-abbrev pub kind_of_name : List ℕ → Option ActionKind
-kind_of_name name =
-    if bytes_eq name (codes "index") then Some kind.Index
-    else if bytes_eq name (codes "delete") then Some kind.Delete
-    else None
 
 abbrev pub id_in : Data → Option (List ℕ)
 id_in fields = option_and_then as_str (get (codes "_id") fields)

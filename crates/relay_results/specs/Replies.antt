@@ -4,10 +4,10 @@ use Rattle.std.specs.Str.{IsCharBoundary}
 use Rattle.serde_json.specs.Data.{Data, number, string, array, object, unsigned, Items, no_items, item, Members, member, no_members}
 use Rattle.serde_json.specs.Find.{get, as_str, as_null}
 use Rattle.serde_json.specs.Read.{read}
+use Rattle.relay_action.specs.Actions.{kind_name}
 use Rattle.relay_results.specs.declared.outcome.Outcome.{Outcome}
 use Rattle.relay_results.specs.declared.reading.ReplyFault.{ReplyFault}
 use Rattle.relay_results.specs.declared.reading.ReplyFault.TheVariants as fault
-use Rattle.relay_results.specs.Documents.{kind_name}
 
 -- the bytes are UTF-8, and JSON for this value (RFC 8259, as `serde_json` reads it: nested at most 127 deep, and of
 -- members of one name the last)

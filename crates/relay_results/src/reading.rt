@@ -5,7 +5,7 @@ ghost use Rattle.serde_json.specs.Find.{as_array, as_str, get};
 ghost use Rattle.relay_json.specs.Sole.{sole_member};
 ghost use Rattle.relay_json.specs.Values.{data_of, items_of, root_of};
 ghost use Rattle.relay_results.specs.Replies.{ReadsAs, IsCut, error_limit, error_member, error_type, SaysError, IsEntry, IsNoEntry, AreEntries, IsReply, IsFaultOf};
-ghost use Rattle.relay_results.specs.Parts.{kind_of_name, id_in, status_in, PushesEntry, IsFaultOfEntries};
+ghost use Rattle.relay_results.specs.Parts.{id_in, status_in, PushesEntry, IsFaultOfEntries};
 
 use crate::outcome::Outcome;
 use relay_action::{ActionKind, Text};
@@ -47,17 +47,6 @@ fn value_of<'t>(
         Ok(tree) => Ok(tree),
         Err(ReadFault::NotJson) => Err(ReplyFault::NotJson),
         Err(ReadFault::Memory) => Err(ReplyFault::Memory),
-    }
-}
-
-// The kind of action of a name.
-fn kind_of_name(name: &str) -> Option<ActionKind>
-    ensures { result ≡ kind_of_name name.now }
-{
-    match name {
-        "index" => Some(ActionKind::Index),
-        "delete" => Some(ActionKind::Delete),
-        _ => None,
     }
 }
 
@@ -115,7 +104,7 @@ fn read_entry(alloc: Global, value: Value<'_, '_>) -> Result<Option<Outcome>, Al
     if !fields.is_object() {
         return Ok(None);
     }
-    let Some(kind) = kind_of_name(name) else {
+    let Some(kind) = ActionKind::named(name) else {
         return Ok(None);
     };
     let Some(id) = id_in(fields) else {
