@@ -8,6 +8,9 @@ import time
 import plain_rust
 
 TURNS = 5
+# Of each input: how many operations, the bytes of a source, and the most that `relay lines` may take of the plain
+# Rust program's time.
+INPUTS = [(400000, 100, 0.6), (100000, 1000, 0.9)]
 
 JQ = (
     "foreach inputs as $line ({version: 0, source: false}; "
@@ -47,7 +50,7 @@ def same(left, right):
     return subprocess.run(["cmp", "-s", left, right]).returncode == 0
 
 
-def measure_input(folder, program, plain, count, size):
+def measure_input(folder, program, plain, count, size, target):
     source = os.path.join(folder, "input")
     with open(source, "wb") as file:
         subprocess.run([sys.executable, os.path.join(plain_rust.BENCH, "make_input.py"), str(count), str(size)], stdout=file, check=True)
@@ -75,12 +78,14 @@ def measure_input(folder, program, plain, count, size):
         wall, memory = results[name]
         print("  %-12s %8.3f s %9.1f MB/s %10.0f operations/s  peak %6d KiB  relay/it %.2f" % (name, wall, volume / wall, count / wall, memory, own / wall))
     if plain:
-        print("  relay lines takes %.2f of the plain Rust program's time" % (own / results["plain Rust"][0]))
+        ratio = own / results["plain Rust"][0]
+        verdict = "met" if ratio <= target else "MISSED"
+        print("  relay lines takes %.2f of the plain Rust program's time (target %.1f: %s)" % (ratio, target, verdict))
     else:
-        print("  the plain Rust program was not measured: librust-serde-json-dev is not installed")
+        print("  the target was not measured: librust-serde-json-dev is not installed")
 
 
 def measure(folder, program):
     plain = plain_rust.build(folder, "lines", "serde_json")
-    measure_input(folder, program, plain, 400000, 100)
-    measure_input(folder, program, plain, 100000, 1000)
+    for count, size, target in INPUTS:
+        measure_input(folder, program, plain, count, size, target)
