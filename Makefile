@@ -3,7 +3,7 @@
 
 # Builds the program, proved.
 build:
-	@echo "proving and building the program; the first time takes some minutes"
+	@echo "proving and building the program and the libraries that it stands on, one after another; the first time takes some minutes"
 	@cd crates/relay && rt run -- --version
 
 # Shows the program's main job on the examples.
@@ -17,11 +17,14 @@ demo: build
 	@echo "--- relay lines < examples/books.ndjson | relay apply --refuse 2:429"
 	@crates/relay/out/relay lines < examples/books.ndjson | crates/relay/out/relay apply --refuse 2:429
 
-# The gate, and then the built program from the outside.
+# The gate, with the processor minutes of each crate, and then the built program from the outside.
 test:
-	@echo "proving every crate from nothing, with its tests and must-fail edits; this takes a good while"
-	rt ci
+	@echo "following the pointers of the tables of rules"
+	python3 tests/pointers.py
+	@echo "the gate; this takes a good while, and a line a minute says what it is at"
+	python3 tests/gate.py
 	@$(MAKE) --no-print-directory build
+	@echo "running the built program from the outside"
 	python3 tests/run.py crates/relay/out/relay
 
 # Ratios to other programs, measured in one run.

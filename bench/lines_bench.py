@@ -7,10 +7,13 @@ import time
 
 import plain_rust
 
-TURNS = 5
-# Of each input: how many operations, the bytes of a source, and the most that `relay lines` may take of the plain
-# Rust program's time.
-INPUTS = [(400000, 100, 0.6), (100000, 1000, 0.9)]
+# How often all take turns; those that take long run once.
+TURNS = 9
+# Of each input: how many operations, the bytes of a source, and the most that `relay lines` may take of the time of
+# the straightforward plain Rust program.
+INPUTS = [(400000, 100, 0.35), (100000, 1000, 0.5)]
+# The most that it is to take of the time of the fast one: the project's goal.
+GOAL = 1.3
 
 JQ = (
     "foreach inputs as $line ({version: 0, source: false}; "
@@ -50,42 +53,70 @@ def same(left, right):
     return subprocess.run(["cmp", "-s", left, right]).returncode == 0
 
 
-def measure_input(folder, program, plain, count, size, target):
+def programs_of(program, plain, fast):
+    """The commands that are measured, by name."""
+    programs = {"relay lines": [program, "lines"]}
+    if plain:
+        programs["plain Rust"] = [plain]
+    if fast:
+        programs["fast Rust"] = [fast]
+    programs["cat"] = ["cat"]
+    programs["python3"] = [sys.executable, os.path.join(plain_rust.BENCH, "lines.py")]
+    if shutil.which("jq"):
+        programs["jq -c"] = ["jq", "-nc", JQ]
+    return programs
+
+
+def take_turns(folder, source, programs):
+    """Of each program the seconds of its runs, and the most memory of one."""
+    times, most = {name: [] for name in programs}, dict.fromkeys(programs, 0)
+    for turn in range(TURNS):
+        for name, command in programs.items():
+            if turn > 0 and name in ("python3", "jq -c"):
+                continue
+            wall, memory = once(command, source, os.path.join(folder, name.replace(" ", "_")))
+            times[name].append(wall)
+            most[name] = max(most[name], memory)
+    return times, most
+
+
+def ratio_to(times, other):
+    """The median of `relay lines`' time over the other's in the same turn."""
+    return plain_rust.median([own / its for own, its in zip(times["relay lines"], times[other])])
+
+
+def verdict(ratio, limit):
+    return "met" if ratio <= limit else "MISSED"
+
+
+def measure_input(folder, program, plain, fast, count, size, target):
     source = os.path.join(folder, "input")
     with open(source, "wb") as file:
         subprocess.run([sys.executable, os.path.join(plain_rust.BENCH, "make_input.py"), str(count), str(size)], stdout=file, check=True)
     volume = os.path.getsize(source) / 1e6
-    programs = [("relay lines", [program, "lines"]), ("cat", ["cat"]), ("python3", [sys.executable, os.path.join(plain_rust.BENCH, "lines.py")])]
+    programs = programs_of(program, plain, fast)
+    times, most = take_turns(folder, source, programs)
+    for name in ("plain Rust", "fast Rust"):
+        if name in programs and not same(os.path.join(folder, "relay_lines"), os.path.join(folder, name.replace(" ", "_"))):
+            sys.exit("the %s program wrote other bytes than relay lines" % name)
+    print("%d operations, sources of %d bytes, %.1f MB; medians of %d runs, ratios by turns" % (count, size, volume, TURNS))
+    for name in programs:
+        wall = plain_rust.median(times[name])
+        print("  %-12s %8.3f s %9.1f MB/s %10.0f operations/s  peak %6d KiB  relay/it %.2f" % (name, wall, volume / wall, count / wall, most[name], ratio_to(times, name)))
     if plain:
-        programs.insert(1, ("plain Rust", [plain]))
-    if shutil.which("jq"):
-        programs.append(("jq -c", ["jq", "-nc", JQ]))
-    results = {}
-    for turn in range(TURNS):
-        for name, command in programs:
-            if turn > 0 and name in ("python3", "jq -c"):
-                continue
-            out = os.path.join(folder, name.replace(" ", "_"))
-            wall, memory = once(command, source, out)
-            best, most = results.get(name, (wall, memory))
-            results[name] = (min(best, wall), max(most, memory))
-    reference = os.path.join(folder, "relay_lines")
-    if plain and not same(reference, os.path.join(folder, "plain_Rust")):
-        sys.exit("the plain Rust program wrote other bytes than relay lines")
-    print("%d operations, sources of %d bytes, %.1f MB" % (count, size, volume))
-    own = results["relay lines"][0]
-    for name, _ in programs:
-        wall, memory = results[name]
-        print("  %-12s %8.3f s %9.1f MB/s %10.0f operations/s  peak %6d KiB  relay/it %.2f" % (name, wall, volume / wall, count / wall, memory, own / wall))
-    if plain:
-        ratio = own / results["plain Rust"][0]
-        verdict = "met" if ratio <= target else "MISSED"
-        print("  relay lines takes %.2f of the plain Rust program's time (target %.1f: %s)" % (ratio, target, verdict))
+        ratio = ratio_to(times, "plain Rust")
+        print("  relay lines takes %.2f of the plain Rust program's time (target %.2f: %s)" % (ratio, target, verdict(ratio, target)))
     else:
         print("  the target was not measured: librust-serde-json-dev is not installed")
+    if fast:
+        ratio = ratio_to(times, "fast Rust")
+        print("  relay lines takes %.2f of the fast Rust program's time (goal %.1f: %s)" % (ratio, GOAL, verdict(ratio, GOAL)))
+    else:
+        print("  the goal was not measured: librust-serde-json-dev, librust-serde-dev, librust-memchr-dev or librust-itoa-dev is not installed")
 
 
 def measure(folder, program):
     plain = plain_rust.build(folder, "lines", "serde_json")
+    fast = plain_rust.build(folder, "lines_fast", "serde_json", "serde/derive", "memchr", "itoa")
     for count, size, target in INPUTS:
-        measure_input(folder, program, plain, count, size, target)
+        measure_input(folder, program, plain, fast, count, size, target)

@@ -1,12 +1,14 @@
 """Measures the project's programs beside others, all in one run. Only the ratios count.
 
-`python3 bench/run.py` measures all parts; words behind it name those to be measured: lines, apply, queue, replies.
+`python3 bench/run.py` measures all parts; words after it name those to be measured: lines, apply, queue,
+replies, lane.
 """
 import os
 import sys
 import tempfile
 
 import apply_bench
+import lane_bench
 import lines_bench
 import queue_bench
 import replies_bench
@@ -21,6 +23,7 @@ PARTS = [
     ("apply", RELAY, "`make build`", apply_bench.measure),
     ("queue", RELAY_BENCH, "`rt run` in crates/relay_bench", queue_bench.measure),
     ("replies", RELAY_BENCH, "`rt run` in crates/relay_bench", replies_bench.measure),
+    ("lane", RELAY_BENCH, "`rt run` in crates/relay_bench", lane_bench.measure),
 ]
 
 

@@ -75,13 +75,16 @@ def refusals():
         b"true",
         ["--refuse", "1:503"],
     )
-    answered("a refusal behind the last item", body, [first, applied(b"delete", b"2", 1, 2, b"not_found", 404)], args=["--refuse", "3:429"])
+    answered("a refusal after the last item", body, [first, applied(b"delete", b"2", 1, 2, b"not_found", 404)], args=["--refuse", "3:429"])
     for text in (
         "", ",", "1", "1:", ":429", "1:429,", ",1:429", "1:429,,2:429", "1:429:1", "1:429;2:429", "0:429", "18446744073709551616:429",
         "1:399", "1:404", "1:409", "1:600", "1:200", "1:65965", "+1:429", "-1:429", "1:+429", "1:-429", " 1:429", "1 :429", "1: 429", "1:429 ", "x:429", "1:x", "1:4\u0662\u0669",
     ):
         done = run(["apply", "--refuse=" + text], body)
         check("no list: %r" % text, done.returncode == 1 and b"--refuse" in done.stderr and done.stdout == b"", done)
+    for text, pair in (("x", 1), ("1:429,", 2), ("1:429,2:503,3:404,x", 3)):
+        done = run(["apply", "--refuse=" + text], body)
+        check("which pair is none: %r" % text, done.returncode == 1 and b"pair %d " % pair in done.stderr, done)
 
 
 def faults():
@@ -114,7 +117,7 @@ def faults():
     ]:
         name = text if len(text) < 200 else b"%d bytes" % len(text)
         rejected("fault %r" % name, text, 1, kind)
-        rejected("fault %r behind a write" % name, whole + text, 2, kind)
+        rejected("fault %r after a write" % name, whole + text, 2, kind)
         if kind not in (b"SourceMissing", b"LineLong"):
             rejected("fault %r before a fault" % name, text + b"{\n", 1, kind)
     rejected("an empty source", index(b"1", 1, b""), 2, b"SourceEmpty")

@@ -74,7 +74,7 @@ def faults():
         (b'{"delete":{"_index":"b","_id":""}}\n', b"IdEmpty"),
     ]:
         fault("fault %r" % text, text, b"line 1: " + kind)
-        fault("fault %r behind an operation" % text, DELETE + text, b"line 2: " + kind, deleted(b'"b"', b'"1"', 1))
+        fault("fault %r after an operation" % text, DELETE + text, b"line 2: " + kind, deleted(b'"b"', b'"1"', 1))
         if kind != b"SourceMissing":
             fault("fault %r before a fault" % text, text + b"{\n", b"line 1: " + kind)
     fault("third line", b"\n\n[1]\n", b"line 3: NotOneAction")

@@ -41,7 +41,7 @@ def endless(command, producer, text):
     source.stdout.close()
     source.wait()
     found = (done.stdout, done.stderr, done.returncode)
-    check("%s behind %s" % (command, producer), found == (b"", text, 2), found)
+    check("%s after %s" % (command, producer), found == (b"", text, 2), found)
 
 
 def deleted(index, identity, version):

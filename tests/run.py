@@ -16,6 +16,9 @@ def command_line():
     for args in (["--help"], ["help"], ["lines", "--help"], ["help", "lines"], ["apply", "--help"], ["help", "apply"]):
         done = run(args)
         check("help: %s" % args, done.returncode == 0 and b"Usage: relay" in done.stdout and done.stderr == b"", done)
+    kinds = run(["help", "lines"]).stdout
+    for kind in (b"LineLong", b"NotJson", b"UnsupportedField", b"SourceNewline", b"VersionsSpent", b"relay lines --index"):
+        check("help lines names %s" % kind, kind in kinds)
     for args, said in (
         ([], b"subcommand"),
         (["bogus"], b"bogus"),

@@ -1,22 +1,16 @@
-//! The program `relay`: the command line over the workspace's crates. `relay lines` turns a producer's
-//! NDJSON into bulk lines with versions, and `relay apply` serves one bulk request with a fresh stand-in
-//! index.
+//! The program `relay`: a command line over `relay_commands`. `relay lines` turns a producer's NDJSON into
+//! bulk lines with versions, and `relay apply` serves one bulk request with a fresh stand-in index.
 //!
-//! It carries their promises on the functions that the commands call, over any reader and writer: `lines`
-//! writes the bulk text of the operations before the first fault, and `apply` the answer of a fresh index
-//! to the body that it read.
+//! It reads the words of the command line, puts standard input and output behind the streams of
+//! `relay_action`, and prints what stopped a command. The promises are those of the functions that the
+//! commands call, over any reader and writer.
 #![tactic(auto)]
 
-mod apply;
 mod command;
-mod exit;
-mod lines;
-mod refuse_list;
-#[cfg(test)]
-mod tests;
-#[cfg(test)]
-mod tests_apply;
+mod report;
+mod subcommand;
 
+pub use relay_commands as commands;
 use std::process::ExitCode;
 
 fn main(rt: HostRuntime) -> ExitCode {

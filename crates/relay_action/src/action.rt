@@ -5,6 +5,7 @@ ghost use Rattle.relay_action.specs.Limits.{HasLength, IsOneLine, is_line_end, s
 
 use crate::fault::ActionFault;
 use crate::text::Text;
+use memchr::memchr2;
 use std::alloc::{AllocError, Global};
 
 /// The most bytes of a source.
@@ -39,10 +40,11 @@ impl Source {
 }
 
 // Whether a byte that ends a line, or may, stands among the bytes.
+#[tactic(auto, using(crate::proofs::LineEnds::found_line_end))]
 fn holds_line_end(bytes: &[u8]) -> bool
     ensures { result ≡ list_any is_line_end bytes.now }
 {
-    bytes.iter().any(|b| *b == b'\n' || *b == b'\r')
+    memchr2(b'\n', b'\r', bytes).is_some()
 }
 
 /// The kind of an action: the name that the bulk API has for it.

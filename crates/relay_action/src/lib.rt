@@ -32,4 +32,4 @@ pub use operation::{Op, OpName};
 pub use standard::StdStream;
 pub use stream::{ByteIn, ByteOut, ByteStream, StreamFailed, write_all};
 pub use text::Text;
-pub use write::Write;
+pub use write::{LAST_VERSION, Write};

@@ -1,13 +1,16 @@
 //! Streams over the readers and writers of std.
-ghost use Rattle.std.specs.Prelude.{◌≡◌, None};
-ghost use Rattle.relay_action.specs.Streams.{one_more};
+ghost use Rattle.std.specs.Prelude.{◌≡◌, ◌≤◌, length, None, IfOk, is_ok, if◌then◌else◌};
+ghost use Rattle.std.specs.Io.KnownBytes.{ReadConsumes, WriteAppends};
+ghost use Rattle.relay_action.specs.Streams.{one_more, takes_some};
 
 use crate::stream::{ByteIn, ByteOut, ByteStream, StreamFailed};
 use std::io;
 use std::marker::Model;
 
-/// A reader or a writer of std as a stream. It shows no bytes, and counts the calls that failed. Each
-/// call makes one call of what it holds, of any error of which it answers [`StreamFailed`].
+/// A reader or a writer of std as a stream. As a stream it shows no bytes, since one that stands for a
+/// device has none to show, and it counts the calls that failed. Each call makes one call of what it
+/// holds, of any error of which it answers [`StreamFailed`]. Where the reader or the writer that it holds
+/// knows its bytes, exactly those move that a call answers.
 #[derive(Drop)]
 pub struct StdStream<T> {
     inner: T,
@@ -48,7 +51,11 @@ impl<T> ByteStream for StdStream<T> {
 }
 
 impl<R: io::Read> ByteIn for StdStream<R> {
-    fn read(&mut self, buffer: &mut [u8]) -> Result<usize, StreamFailed> {
+    fn read(&mut self, buffer: &mut [u8]) -> Result<usize, StreamFailed>
+        ensures bound { IfOk result (λ n. n ≤ length buffer.new) }
+        ensures count { self.new.1 ≡ (if is_ok result then self.old.1 else one_more self.old.1) }
+        ensures reader { ReadConsumes (R.remaining self.old.0) (R.remaining self.new.0) result buffer.new }
+    {
         match self.inner.read(buffer) {
             Ok(count) => Ok(count),
             Err(_) => Err(self.fail()),
@@ -57,7 +64,12 @@ impl<R: io::Read> ByteIn for StdStream<R> {
 }
 
 impl<W: io::Write> ByteOut for StdStream<W> {
-    fn write(&mut self, bytes: &[u8]) -> Result<usize, StreamFailed> {
+    fn write(&mut self, bytes: &[u8]) -> Result<usize, StreamFailed>
+        ensures bound { IfOk result (λ n. n ≤ length bytes.now) }
+        ensures count { self.new.1 ≡
+            (if takes_some result bytes.now then self.old.1 else one_more self.old.1) }
+        ensures writer { WriteAppends (W.contents self.old.0) (W.contents self.new.0) result bytes.now }
+    {
         match self.inner.write(bytes) {
             Ok(0) if !bytes.is_empty() => Err(self.fail()),
             Ok(count) => Ok(count),

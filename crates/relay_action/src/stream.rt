@@ -62,6 +62,7 @@ pub fn write_all<W: ByteOut>(out: &mut W, bytes: &[u8]) -> Result<(), usize>
     ensures sent { IfErr result (λ sent. (sent < length bytes.now)
         × (W.written out.new ≡ append_known (W.written out.old) (take sent bytes.now))) }
     ensures failed { OnErr result (FailedSince (W.failed out.old) (W.failed out.new)) }
+    ensures once { OnErr result (W.failed out.new ≡ one_more (W.failed out.old)) }
     ensures succeeded { OnOk result (W.failed out.new ≡ W.failed out.old) }
     ensures left { W.left out.new ≡ W.left out.old }
 {

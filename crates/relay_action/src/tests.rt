@@ -141,7 +141,7 @@ fn copies_equal_their_originals(rt: HostRuntime) -> Result<(), Fail> {
     Ok(())
 }
 
-// Each refused allocation is answered as want of memory, and nothing else changes.
+// Each refused allocation is answered as out of memory, and nothing else changes.
 #[test]
 fn refusals(rt: HostRuntime) -> Result<(), Fail> {
     let alloc = rt.alloc();

@@ -1,5 +1,5 @@
 //! A text that contracts see as the list of its bytes.
-ghost use Rattle.std.specs.Prelude.{◌≡◌, IfOk, bytes_eq};
+ghost use Rattle.std.specs.Prelude.{◌≡◌, [], IfOk, bytes_eq};
 ghost use Rattle.std.specs.Cmp.Rules.{comparing, hashing};
 ghost use Rattle.std.specs.Hash as fed;
 ghost use Rattle.std.proofs.Common.{rules};
@@ -30,6 +30,15 @@ impl Text {
         Ok(Text {
             held: String::from_str(alloc, text)?,
         })
+    }
+
+    /// The text of no bytes. It takes no memory.
+    pub fn empty(alloc: Global) -> Text
+        ensures { result ≡ [] }
+    {
+        Text {
+            held: String::new(alloc),
+        }
     }
 
     /// The text, lent.

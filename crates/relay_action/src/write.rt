@@ -5,6 +5,10 @@ use crate::action::Action;
 use crate::key::DocKey;
 use std::alloc::AllocError;
 
+/// The last version: OpenSearch takes external versions up to 2^63 - 1, and the relay deals none above
+/// this one.
+pub const LAST_VERSION: u64 = 9_000_000_000_000_000_000;
+
 /// A write: a document, the external version that it is given, and what is done.
 #[derive(Debug, Drop)]
 pub struct Write {

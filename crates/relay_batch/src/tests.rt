@@ -210,7 +210,7 @@ fn ten_thousand_items(rt: HostRuntime) -> Result<(), Fail> {
     Ok(())
 }
 
-// A refused allocation is answered as want of memory, and the batch is as before.
+// A refused allocation is answered as out of memory, and the batch is as before.
 #[test]
 fn refusals(rt: HostRuntime) -> Result<(), Fail> {
     let mut batcher = Batcher::new(rt.alloc(), LIMITS);

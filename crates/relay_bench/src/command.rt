@@ -3,7 +3,7 @@ ghost use Rattle.std.specs.Prelude.{◌<◌, ◌≤◌, IfSome};
 
 use crate::fault::BenchFault;
 use crate::rate::tenths_each;
-use crate::{queue, replies};
+use crate::{lane, queue, replies};
 use std::rt::Env;
 use std::sync::Wait;
 use std::thread::Threads;
@@ -30,6 +30,14 @@ pub(crate) enum Task {
     Nothing,
     Queue(QueueTask),
     Replies(u64),
+    Lane(HeldTask),
+}
+
+// How many operations the lane that is measured holds.
+#[derive(Clone, Copy)]
+pub(crate) struct HeldTask {
+    held: u32,
+    ghost held_in_range: { (0 < held) × (held ≤ 65536) },
 }
 
 // The number of a word, where it is one from 1 to `most`.
@@ -61,6 +69,9 @@ pub(crate) fn task_of(words: &[String]) -> Option<Task> {
         [_, name, turns] if name.as_str() == "replies" => {
             Some(Task::Replies(number_of(turns.as_str(), MOST)?))
         }
+        [_, name, held] if name.as_str() == "lane" => Some(Task::Lane(HeldTask {
+            held: number_of(held.as_str(), 65_536)? as u32,
+        })),
         [_, name, senders, capacity, count] if name.as_str() == "queue" => {
             queue_task(senders.as_str(), capacity.as_str(), count.as_str())
         }
@@ -112,6 +123,29 @@ fn run_replies<R: Clock + Input + Print + AllocGlobal>(
     Ok(())
 }
 
+// Measures a lane, and prints how long an operation took at its take, in a request and in its reply.
+fn run_lane<R: Clock + Print + AllocGlobal>(rt: &R, task: HeldTask) -> Result<(), BenchFault> {
+    let HeldTask { held } = task;
+    let times = lane::measure(rt, rt.alloc(), held)?;
+    if times.sent == 0 {
+        return Err(BenchFault::Lane);
+    }
+    let take = tenths_each(times.take, held as u64);
+    let request = tenths_each(times.request, times.sent as u64);
+    let reply = tenths_each(times.reply, times.sent as u64);
+    println!(rt;
+        "{held} held, {} sent, take {}.{}, request {}.{}, reply {}.{} ns an operation",
+        times.sent,
+        take / 10,
+        take % 10,
+        request / 10,
+        request % 10,
+        reply / 10,
+        reply % 10
+    )?;
+    Ok(())
+}
+
 /// Does what the process's command line says.
 pub fn run<R>(rt: R) -> Result<(), BenchFault>
 where
@@ -122,6 +156,7 @@ where
         Some(Task::Nothing) => Ok(()),
         Some(Task::Queue(task)) => run_queue(rt, task),
         Some(Task::Replies(turns)) => run_replies(&rt, turns),
+        Some(Task::Lane(task)) => run_lane(&rt, task),
         None => Err(BenchFault::Usage),
     }
 }

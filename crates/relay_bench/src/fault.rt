@@ -8,7 +8,7 @@ use thiserror::Error;
 #[derive(Clone, Copy, Debug, PartialEq, Eq, Error)]
 pub enum BenchFault {
     /// The command line is not one of the program's.
-    #[error("usage: relay_bench queue SENDERS CAPACITY COUNT | relay_bench replies TURNS < BODY")]
+    #[error("usage: relay_bench queue SENDERS CAPACITY COUNT | relay_bench replies TURNS < BODY | relay_bench lane HELD")]
     Usage,
     /// A message came out of its sender's order, or not all came.
     #[error("not all messages came in order")]
@@ -19,6 +19,9 @@ pub enum BenchFault {
     /// The input is a reply without items, of which no time for each can be told.
     #[error("the reply has no items")]
     NoItems,
+    /// A lane did not take, send or apply what it was given.
+    #[error("the lane did not do what it was given")]
+    Lane,
     /// There was no memory, or no thread could be started.
     #[error("out of memory")]
     Memory,

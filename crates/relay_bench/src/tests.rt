@@ -2,7 +2,7 @@
 use crate::command::{Task, task_of};
 use crate::fault::BenchFault;
 use crate::rate::tenths_each;
-use crate::{queue, replies};
+use crate::{lane, queue, replies};
 use relay_results::ReplyFault;
 use std::test::Fail;
 
@@ -39,6 +39,22 @@ fn words(rt: HostRuntime) -> Result<(), Fail> {
 fn queues(rt: HostRuntime) {
     assert!(rt; queue::measure(rt, rt.alloc(), 1, 1, 20).is_ok());
     assert!(rt; queue::measure(rt, rt.alloc(), 3, 4, 50).is_ok());
+}
+
+// Fewer than a request carries, and more.
+#[test]
+fn lanes(rt: HostRuntime) {
+    for (held, sent) in [
+        (3u32, Some(3u32)),
+        (501, Some(500)),
+        (0, None),
+        (65_537, None),
+    ] {
+        let told = lane::measure(&rt, rt.alloc(), held)
+            .ok()
+            .map(|times| times.sent);
+        assert!(rt; told == sent);
+    }
 }
 
 const REPLY: &str = "{\"took\":1,\"errors\":true,\"items\":[\

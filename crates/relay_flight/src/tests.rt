@@ -127,7 +127,7 @@ fn numbers_are_not_used_again(rt: HostRuntime) -> Result<(), Fail> {
     Ok(())
 }
 
-// A refused allocation is answered as want of memory; once the table is made it takes none.
+// A refused allocation is answered as out of memory; once the table is made it takes none.
 #[test]
 fn refusals(rt: HostRuntime) -> Result<(), Fail> {
     let mut flight = match Flight::new(rt.alloc(), 2) {

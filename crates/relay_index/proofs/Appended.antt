@@ -1,5 +1,5 @@
 -- What an index has after one more write.
-use Rattle.std.proofs.Common.{◌≡◌, ◌≢◌, ◌∙◌, ℕ, suc, ◌-◌, ◌<◌, ◌≤◌, List, [], ◌∷◌, ◌++◌, length, Option, Some, None, unwrap_or, option_map, Bool, true, false, refl, ap, sym, subst, max, arith, append-nil, length-append, if◌then◌else◌, ltb}
+use Rattle.std.proofs.Common.{◌+◌, ◌≡◌, ◌≢◌, ◌∙◌, ℕ, suc, ◌-◌, ◌<◌, ◌≤◌, List, [], ◌∷◌, ◌++◌, length, Option, Some, None, unwrap_or, option_map, Bool, true, false, refl, ap, sym, subst, max, arith, append-nil, length-append, if◌then◌else◌, ltb}
 use Rattle.std.proofs.Math.Seq.{get_or-append_seam}
 use Rattle.std.proofs.lemmas.Option.{slice_get_read}
 use borrow.Author.Tests.{ltb-true, ltb-false}
@@ -8,7 +8,7 @@ use Rattle.relay_action.specs.declared.write.Write.{Write}
 use Rattle.relay_results.specs.Documents.{Document, document_of, same_document}
 use Rattle.relay_results.specs.Outside.{is_above}
 use Rattle.relay_results.proofs.Same.{same_document-true, same_document-self}
-use Rattle.relay_index.specs.States.{State, applied, applied_among, last_of, stored, NoneEmpty, AreOf, RiseFrom, IsIndex, IsHighest}
+use Rattle.relay_index.specs.States.{State, applied, applied_among, last_of, stored, total, NoneEmpty, AreOf, RiseFrom, IsIndex, IsHighest}
 use Rattle.relay_index.specs.Lists.{with_write, appended}
 use Rattle.relay_index.specs.Runs.{is_newer}
 
@@ -103,11 +103,21 @@ NoneEmpty-with_write (e ∷ es) w h = by (same_document (document_of w.key) (doc
     by true f rest = rw f (push_nonempty e.1 w, h.1)
     by false f rest = rw f (h.0, rest)
 
+-- one write more is in the lists
+total-with_write : (es : List (DocKey × List Write)) (w : Write) → total (with_write es w) ≡ total es + 1
+total-with_write [] w = refl
+total-with_write (e ∷ es) w = by (same_document (document_of w.key) (document_of e.0)) refl (total-with_write es w)
+  where
+    by : (b : Bool) → same_document (document_of w.key) (document_of e.0) ≡ b → total (with_write es w) ≡ total es + 1 → total (with_write (e ∷ es) w) ≡ total (e ∷ es) + 1
+    by true f rest = rw f (omega (arith, length-append e.1 (w ∷ [])))
+    by false f rest = rw f (omega (arith, rest))
+
 pub IsIndex-appended : (s : State) (w : Write) → IsIndex s → is_newer s w ≡ true → IsIndex (appended s w)
 IsIndex-appended s w h newer = record {
   begun = NoneEmpty-with_write s.documents w h.begun;
   of_document = λ k. subst (AreOf k) (sym (applied-with_write s.documents w k)) (of_at k (same_document k (document_of w.key)) refl);
   rising = λ k. subst (RiseFrom None) (sym (applied-with_write s.documents w k)) (rise_at k (same_document k (document_of w.key)) refl);
+  counted = rw (total-with_write s.documents w) (omega (arith, h.counted));
 }
   where
     of_at : (k : Document) (b : Bool) → same_document k (document_of w.key) ≡ b → AreOf k (more_if b (applied s k) w)

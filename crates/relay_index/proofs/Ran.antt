@@ -1,18 +1,20 @@
 -- What a run of a write leaves, and that it is a run of the outside.
-use Rattle.std.proofs.Common.{◌≡◌, ◌∙◌, [], ◌∷◌, ◌++◌, Some, Bool, true, false, refl, ap, sym, append-nil, append_assoc, if◌then◌else◌}
+use Rattle.std.proofs.Common.{option_map, inl, inr, ◌≡◌, ◌∙◌, [], ◌∷◌, ◌++◌, Some, Bool, true, false, refl, ap, sym, append-nil, append_assoc, if◌then◌else◌}
 use Rattle.std.specs.Prelude.{is_some}
 use Rattle.relay_action.specs.Actions.{kind_of}
 use Rattle.relay_action.specs.declared.action.ActionKind.{ActionKind}
 use Rattle.relay_action.specs.declared.action.ActionKind.TheVariants as kind
 use Rattle.relay_action.specs.declared.write.Write.{Write}
-use Rattle.relay_results.specs.Documents.{document_of, same_document}
+use Rattle.relay_results.specs.Documents.{Document, document_of, same_document}
 use Rattle.relay_results.specs.Done.{failure}
 use Rattle.relay_results.specs.Verdicts.{is_success}
-use Rattle.relay_results.specs.Outside.{Outside, Ran, is_applied, ran_of}
+use Rattle.relay_results.specs.Outside.{Outside, Ran, IsOutcomeOf, is_applied, ran_of}
 use Rattle.relay_index.specs.declared.choice.Choice.{Choice}
 use Rattle.relay_index.specs.declared.choice.Choice.TheVariants.{Run, Refuse}
-use Rattle.relay_index.specs.States.{State, is_live}
+use Rattle.relay_index.specs.States.{State, applied, stored, last_of, is_live}
 use Rattle.relay_index.specs.Runs.{is_newer, is_run, applied_result, status_of, done_of, outcome_of_run, Effect, Shows}
+use Rattle.relay_index.specs.Choices.{MayChoose}
+use Rattle.relay_index.specs.Laws.{RunIsOfOutside}
 use Rattle.relay_index.specs.Lists.{after_run}
 use Rattle.relay_index.proofs.Appended.{applied-with_write, stored-appended}
 
@@ -58,3 +60,30 @@ Shows-after_run s w choice o r shows is = by (is_run s w choice) refl
       lists = λ k. sym (append_assoc (o.before k) (o.applied k) _) ∙ ap (λ l. l ++ (if same_document k (document_of w.key) then w ∷ [] else [])) (shows.lists k) ∙ sym (applied-with_write s.documents w k);
     })
     by false e = rw (same, e) (record { versions = shows.versions; lists = shows.lists })
+
+-- ---- as a run of the outside
+
+-- the outcome is one that the stored version leaves the write
+pub IsOutcomeOf-done_of : (s : State) (w : Write) (choice : Choice) → MayChoose choice → IsOutcomeOf (stored s (document_of w.key)) w (outcome_of_run (done_of s w choice))
+IsOutcomeOf-done_of s w (Refuse status) may = inl (record { least = may.least; most = may.most; no_conflict = may.no_conflict; has_error = refl })
+IsOutcomeOf-done_of s w Run may = by (is_newer s w) refl
+  where
+    by : (b : Bool) → is_newer s w ≡ b → IsOutcomeOf (stored s (document_of w.key)) w (outcome_of_run (done_of s w Run))
+    by true e = inr (inl (e, is_applied-done_of s w Run ∙ e))
+    by false e = inr (inr (e, record { status = rw e refl; has_error = rw e refl }))
+
+-- an outside shows each of two indexes with the same lists
+Shows-alike : (o : Outside) (s t : State) → ((k : Document) → applied t k ≡ applied s k) → Shows o s → Shows o t
+Shows-alike o s t same shows = record {
+  versions = λ k. shows.versions k ∙ ap (λ ws. option_map (λ (v : Write). v.version) (last_of ws)) (sym (same k));
+  lists = λ k. shows.lists k ∙ sym (same k);
+}
+
+pub run_is_of_outside : RunIsOfOutside
+run_is_of_outside old new w choice item may run = record {
+  outcome = rw run.item_of (IsOutcomeOf-done_of old w choice may);
+  shows = λ o r shows is.
+      Shows-alike (ran_of o r (Some w)) (after_run old w choice) new
+      (λ k. run.effect.lists k ∙ sym ((Effect-after_run old w choice).lists k))
+      (Shows-after_run old w choice o r shows (is ∙ ap outcome_of_run run.item_of));
+}

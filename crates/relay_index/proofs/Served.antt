@@ -12,19 +12,19 @@ use Rattle.relay_index.specs.declared.choice.Choice.TheVariants.{Run, Refuse}
 use Rattle.relay_index.specs.Choices.{MayChoose}
 use Rattle.relay_index.specs.States.{State, is_live}
 use Rattle.relay_index.specs.Runs.{is_newer, applied_result, status_of, status_by, RunsOne}
-use Rattle.relay_index.specs.Plans.{Plan, choice_at, stepped}
-use Rattle.relay_index.specs.Serving.{RunsAll}
+use Rattle.relay_index.specs.Plans.{choice_at, stepped}
+use Rattle.relay_index.specs.Serving.{Server, under, RunsAll}
 use Rattle.relay_index.proofs.Repeated.{scripts_may}
 
 -- ---- one more write
 
-pub RunsAll-push : (old : State) (plan : Plan) (ws : List Write) (items : List ItemDone) (mid : State) (then : Plan) (w : Write) (item : ItemDone) (new : State)
-    → RunsAll old plan ws items mid then → RunsOne mid w (choice_at then) item new
-    → RunsAll old plan (ws ++ w ∷ []) (items ++ item ∷ []) new (stepped then)
-RunsAll-push old plan [] items mid then w item new h run =
-    (item, [], new, subst (λ s. RunsOne s w (choice_at plan) item new) h.1 (subst (λ p. RunsOne mid w (choice_at p) item new) h.2 run), (refl, refl, ap stepped h.2), ap (λ l. l ++ item ∷ []) h.0)
-RunsAll-push old plan (x ∷ xs) items mid then w item new h run =
-    (h.0, h.1 ++ item ∷ [], h.2, h.3, RunsAll-push h.2 (stepped plan) xs h.1 mid then w item new h.4 run, ap (λ l. l ++ item ∷ []) h.5)
+pub RunsAll-push : (old : Server) (ws : List Write) (items : List ItemDone) (mid : Server) (w : Write) (item : ItemDone) (new : State)
+    → RunsAll old ws items mid → RunsOne mid.index w (choice_at mid.script) item new
+    → RunsAll old (ws ++ w ∷ []) (items ++ item ∷ []) (under new (stepped mid.script))
+RunsAll-push old [] items mid w item new h run =
+    (item, [], new, subst (λ (s : Server). RunsOne s.index w (choice_at s.script) item new) h.1 run, (refl, ap (λ (s : Server). under new (stepped s.script)) h.1), ap (λ l. l ++ item ∷ []) h.0)
+RunsAll-push old (x ∷ xs) items mid w item new h run =
+    (h.0, h.1 ++ item ∷ [], h.2, h.3, RunsAll-push (under h.2 (stepped old.script)) xs h.1 mid w item new h.4 run, ap (λ l. l ++ item ∷ []) h.5)
 
 -- ---- the statuses
 
@@ -46,10 +46,10 @@ run_status s w Run may = by (is_newer s w) refl
     by true e = rw e (applied_status (kind_of w.action) (is_live s (document_of w.key)))
     by false e = rw e (omega arith, omega arith)
 
-pub HaveStatuses-RunsAll : (old : State) (plan : Plan) (ws : List Write) (items : List ItemDone) (new : State) (end : Plan)
-    → RunsAll old plan ws items new end → HaveStatuses items
-HaveStatuses-RunsAll old plan [] items new end h = rw h.0 tt
-HaveStatuses-RunsAll old plan (w ∷ ws) items new end h =
-    let status = run_status old w (choice_at plan) (scripts_may plan) in
-    let is : h.0.status ≡ status_by old w (choice_at plan) = ap (λ (d : ItemDone). d.status) h.3.item_of in
-    rw h.5 (rw is status.0, rw is status.1, HaveStatuses-RunsAll h.2 (stepped plan) ws h.1 new end h.4)
+pub HaveStatuses-RunsAll : (old : Server) (ws : List Write) (items : List ItemDone) (new : Server)
+    → RunsAll old ws items new → HaveStatuses items
+HaveStatuses-RunsAll old [] items new h = rw h.0 tt
+HaveStatuses-RunsAll old (w ∷ ws) items new h =
+    let status = run_status old.index w (choice_at old.script) (scripts_may old.script) in
+    let is : h.0.status ≡ status_by old.index w (choice_at old.script) = ap (λ (d : ItemDone). d.status) h.3.item_of in
+    rw h.5 (rw is status.0, rw is status.1, HaveStatuses-RunsAll (under h.2 (stepped old.script)) ws h.1 new h.4)

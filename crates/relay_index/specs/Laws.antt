@@ -8,9 +8,21 @@ use Rattle.relay_results.specs.Documents.{Document, document_of, source_of}
 use Rattle.relay_index.specs.declared.choice.Choice.{Choice}
 use Rattle.relay_index.specs.declared.choice.Choice.TheVariants.{Run}
 use Rattle.relay_index.specs.States.{State, applied, stored, live}
-use Rattle.relay_index.specs.Runs.{is_run, RunsOne}
+use Rattle.relay_results.specs.Outside.{Outside, Ran, IsOutcomeOf, ran_of}
+use Rattle.relay_index.specs.Runs.{is_run, RunsOne, Shows, outcome_of_run}
 use Rattle.relay_index.specs.Plans.{Plan, choice_at}
 use Rattle.relay_index.specs.Choices.{MayChoose}
+
+-- A run of a write is a run of the outside: its outcome is one that the stored version leaves it, and an outside that
+-- shows the index before shows it afterwards, once the run is noted.
+pub record IsRunOfOutside (old : State) (w : Write) (item : ItemDone) (new : State) : Type 0 where
+  pub outcome : IsOutcomeOf (stored old (document_of w.key)) w (outcome_of_run item)
+  pub shows : (o : Outside) (r : Ran) → Shows o old → r.outcome ≡ outcome_of_run item → Shows (ran_of o r (Some w)) new
+
+-- so it is of each write of a request that is served
+abbrev pub RunIsOfOutside : Type 0
+RunIsOfOutside = (old new : State) (w : Write) (choice : Choice) (item : ItemDone)
+    → MayChoose choice → RunsOne old w choice item new → IsRunOfOutside old w item new
 
 -- an applied write is what its document has
 abbrev pub AppliedIsStored : Type 0

@@ -62,7 +62,7 @@ done_of s w choice = record {
   seq = if is_run s w choice then s.count else 0;
 }
 
--- What an index has after a write: every document has its list, and the write's document has the write behind it where
+-- What an index has after a write: every document has its list, and the write's document has the write after it where
 -- the write was applied, which is counted. Nothing else changes.
 pub record Effect (old : State) (w : Write) (choice : Choice) (new : State) : Type 0 where
   pub lists : (k : Document) → applied new k

@@ -15,24 +15,40 @@ use Rattle.relay_index.specs.States.{State}
 use Rattle.relay_index.specs.Runs.{RunsOne}
 use Rattle.relay_index.specs.Plans.{Plan, choice_at, stepped}
 
+-- An index beside the script that it runs items under.
+pub record Server : Type 0 where
+  pub index : State
+  pub script : Plan
+
+abbrev pub under : State → Plan → Server
+under index script = record { index = index; script = script }
+
+-- what a request is answered: a status and a text
+pub record Answer : Type 0 where
+  pub status : ℕ
+  pub text : List ℕ
+
+abbrev pub answer_of : ℕ → List ℕ → Answer
+answer_of status text = record { status = status; text = text }
+
 -- The writes are run once each, in their order, each with what the script has for its place: this is answered to each,
--- and the index and the script end so.
-abbrev pub RunsAll : State → Plan → List Write → List ItemDone → State → Plan → Type 0
-RunsAll old plan [] items new end = (items ≡ []) × (new ≡ old) × (end ≡ plan)
-RunsAll old plan (w ∷ ws) items new end =
-    (item : ItemDone) × (rest : List ItemDone) × (next : State) × RunsOne old w (choice_at plan) item next
-    × RunsAll next (stepped plan) ws rest new end × (items ≡ item ∷ rest)
+-- and the server ends so.
+abbrev pub RunsAll : Server → List Write → List ItemDone → Server → Type 0
+RunsAll old [] items new = (items ≡ []) × (new ≡ old)
+RunsAll old (w ∷ ws) items new =
+    (item : ItemDone) × (rest : List ItemDone) × (next : State) × RunsOne old.index w (choice_at old.script) item next
+    × RunsAll (under next (stepped old.script)) ws rest new × (items ≡ item ∷ rest)
 
 -- the first writes, as many as this, were run, and no more
-pub record RunsFirst (ran : ℕ) (old : State) (plan : Plan) (ws : List Write) (new : State) (end : Plan) : Type 0 where
+pub record RunsFirst (ran : ℕ) (old : Server) (ws : List Write) (new : Server) : Type 0 where
   pub within : ran ≤ length ws
   pub items : List ItemDone
-  pub runs : RunsAll old plan (take ran ws) items new end
+  pub runs : RunsAll old (take ran ws) items new
 
 -- All writes were run, and this is the text of the reply, which reads as what was answered to each.
-pub record Replies (old : State) (plan : Plan) (ws : List Write) (text : List ℕ) (new : State) (end : Plan) : Type 0 where
+pub record Replies (old : Server) (ws : List Write) (text : List ℕ) (new : Server) : Type 0 where
   pub items : List ItemDone
-  pub runs : RunsAll old plan ws items new end
+  pub runs : RunsAll old ws items new
   pub text_of : text ≡ reply_text 0 items
   pub reads_back : IsReply text (outcomes_of items)
 
@@ -48,45 +64,43 @@ fault_data line kind =
 unfoldable pub fault_text : ℕ → List ℕ → List ℕ
 fault_text line kind = compact_text (fault_data line kind)
 
--- the answer to a fault, which is none to want of memory
-pub record IsRejection (fault : BulkFault) (status : ℕ) (text : List ℕ) : Type 0 where
+-- the answer to a fault other than that memory ran out
+pub record IsRejection (fault : BulkFault) (answer : Answer) : Type 0 where
   pub cause : fault.kind ≢ kind.Memory
-  pub failure : status ≡ 400
-  pub text_of : text ≡ fault_text fault.line (name_of fault.kind)
+  pub failure : answer.status ≡ 400
+  pub text_of : answer.text ≡ fault_text fault.line (name_of fault.kind)
 
 -- ---- the body of a request
 
 -- the body is a bulk request: 200, and the reply once all its writes were run
-pub record Serves (body : List ℕ) (old : State) (plan : Plan) (status : ℕ) (text : List ℕ) (new : State) (end : Plan) : Type 0 where
+pub record Serves (body : List ℕ) (old : Server) (answer : Answer) (new : Server) : Type 0 where
   pub writes : List Write
   pub reads : IsBulk body writes
-  pub success : status ≡ 200
-  pub replies : Replies old plan writes text new end
+  pub success : answer.status ≡ 200
+  pub replies : Replies old writes answer.text new
 
 -- the body is none: 400, and the text that names the first line that is at fault; nothing is run
-pub record Rejects (body : List ℕ) (old : State) (plan : Plan) (status : ℕ) (text : List ℕ) (new : State) (end : Plan) : Type 0 where
+pub record Rejects (body : List ℕ) (old : Server) (answer : Answer) (new : Server) : Type 0 where
   pub line : ℕ
   pub kind : LineKind
   pub breaks : BreaksBulk body line kind
-  pub failure : status ≡ 400
-  pub text_of : text ≡ fault_text line (name_of kind)
-  pub index_stays : new ≡ old
-  pub script_stays : end ≡ plan
+  pub failure : answer.status ≡ 400
+  pub text_of : answer.text ≡ fault_text line (name_of kind)
+  pub stays : new ≡ old
 
-abbrev pub Answers : List ℕ → State → Plan → ℕ → List ℕ → State → Plan → Type 0
-Answers body old plan status text new end = Serves body old plan status text new end ⊎ Rejects body old plan status text new end
+abbrev pub Answers : List ℕ → Server → Answer → Server → Type 0
+Answers body old answer new = Serves body old answer new ⊎ Rejects body old answer new
 
--- memory was refused while the body was read or its fault was written: nothing is run
-pub record RunsNone (ran : ℕ) (old : State) (plan : Plan) (new : State) (end : Plan) : Type 0 where
+-- memory ran out while the body was read or its fault was written: nothing is run
+pub record RunsNone (ran : ℕ) (old new : Server) : Type 0 where
   pub none : ran ≡ 0
-  pub index_stays : new ≡ old
-  pub script_stays : end ≡ plan
+  pub stays : new ≡ old
 
--- memory was refused later: the first writes, as many as this, were run, and no more
-pub record RunsSome (ran : ℕ) (body : List ℕ) (old : State) (plan : Plan) (new : State) (end : Plan) : Type 0 where
+-- memory ran out later: the first writes, as many as this, were run, and no more
+pub record RunsSome (ran : ℕ) (body : List ℕ) (old new : Server) : Type 0 where
   pub writes : List Write
   pub reads : IsBulk body writes
-  pub first : RunsFirst ran old plan writes new end
+  pub first : RunsFirst ran old writes new
 
-abbrev pub StopsAfter : ℕ → List ℕ → State → Plan → State → Plan → Type 0
-StopsAfter ran body old plan new end = RunsNone ran old plan new end ⊎ RunsSome ran body old plan new end
+abbrev pub StopsAfter : ℕ → List ℕ → Server → Server → Type 0
+StopsAfter ran body old new = RunsNone ran old new ⊎ RunsSome ran body old new

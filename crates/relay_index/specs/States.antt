@@ -1,6 +1,7 @@
 -- What an index has: of each document the writes that it applied, and how many it applied in all.
-use Rattle.std.specs.Prelude.{◌≡◌, ◌≢◌, ℕ, ◌-◌, ◌<◌, ◌≤◌, List, [], ◌∷◌, length, slice_get, Option, None, Some, is_some, option_map, option_and_then, unwrap_or, Bool}
+use Rattle.std.specs.Prelude.{◌≡◌, ◌≢◌, ℕ, ◌+◌, ◌-◌, min, ◌<◌, ◌≤◌, List, [], ◌∷◌, length, slice_get, Option, None, Some, is_some, option_map, option_and_then, unwrap_or, Bool}
 use Rattle.std.specs.Map.{lookup}
+use Rattle.relay_action.specs.Streams.{most}
 use Rattle.relay_action.specs.declared.key.DocKey.{DocKey}
 use Rattle.relay_action.specs.declared.write.Write.{Write}
 use Rattle.relay_results.specs.Documents.{Document, document_of, same_document, source_of}
@@ -57,11 +58,18 @@ abbrev pub NoneEmpty : List (DocKey × List Write) → Type 0
 NoneEmpty [] = Unit {0}
 NoneEmpty (e ∷ es) = (e.1 ≢ []) × NoneEmpty es
 
--- a document's list has writes of that document alone, at least one, and their versions rise strictly
+-- how many writes the lists have, over all documents
+abbrev pub total : List (DocKey × List Write) → ℕ
+total [] = 0
+total (e ∷ es) = length e.1 + total es
+
+-- a document's list has writes of that document alone, at least one, and their versions rise strictly; the count is
+-- that of the writes in all lists, and stays at 2^64 - 1
 pub record IsIndex (s : State) : Type 0 where
   pub begun : NoneEmpty s.documents
   pub of_document : (k : Document) → AreOf k (applied s k)
   pub rising : (k : Document) → RiseFrom None (applied s k)
+  pub counted : s.count ≡ min (total s.documents) most
 
 -- the greatest version that is stored: some document has it and none has a greater one; none where no version is stored
 abbrev pub IsHighest : State → Option ℕ → Type 0

@@ -41,7 +41,7 @@ impl Model for Index {
     } };
 }
 
-// Puts a copy of a write behind its document's list. `AllocError`: there was no memory for it, and the
+// Puts a copy of a write at the end of its document's list. `AllocError`: there was no memory for it, and the
 // lists are as before.
 fn append(documents: &mut IndexMap<DocKey, History>, write: &Write) -> Result<(), AllocError>
     ensures ok { OnOk result (documents.new.entries ≡ with_write documents.old.entries write.now) }
@@ -211,13 +211,15 @@ impl Index {
 
     /// What becomes of a write.
     ///
-    /// `Refuse` gives its status and changes nothing; the status has to be from 400 to 599, and neither
-    /// 404 nor 409. `Run` gives 409 and `Conflict` where the version is not above the one stored of the
-    /// document, and changes nothing. Else it applies the write, whose version is stored then
-    /// (OpenSearch, index document API, `version_type` `external`): an index action gives 201 and
-    /// `Created` where there was no such document, else 200 and `Updated`; a delete gives 200 and
-    /// `Deleted` where there was one, else 404 and `NotFound`. The sequence number of an applied write is
-    /// the number of writes that were applied before it, over all documents; at 2^64 - 1 it stays.
+    /// `Refuse` gives its status and changes nothing; the status has to be one that [`may_refuse`] takes.
+    /// `Run` gives 409 and `Conflict` where the version is not above the one stored of the document, and
+    /// changes nothing. Else it applies the write, whose version is stored then (OpenSearch, index
+    /// document API, `version_type` `external`): an index action gives 201 and `Created` where there was
+    /// no such document, else 200 and `Updated`; a delete gives 200 and `Deleted` where there was one,
+    /// else 404 and `NotFound`. The sequence number of an applied write is the number of writes that were
+    /// applied before it, over all documents; at 2^64 - 1 it stays.
+    ///
+    /// [`may_refuse`]: crate::may_refuse
     ///
     /// `AllocError`: there was no memory for copies of the write, and the index is as before.
     pub fn run(&mut self, write: &Write, choice: Choice) -> Result<ItemDone, AllocError>

@@ -1,6 +1,12 @@
 //! What the definitions of `specs/` say of runs. These functions do nothing; their contracts are the
 //! laws.
-ghost use Rattle.relay_index.specs.Laws.{AppliedIsStored, DeletedKeepsVersion, RepeatIsConflict, ScriptsMay};
+ghost use Rattle.relay_index.specs.Laws.{RunIsOfOutside, AppliedIsStored, DeletedKeepsVersion, RepeatIsConflict, ScriptsMay};
+
+/// What a run of a write answers, also of one of a request that is served, is an outcome that a versioned
+/// run may have, and an outside that shows the index before shows it afterwards, once the run is noted.
+pub fn runs_are_of_the_outside()
+    ensures { RunIsOfOutside }
+{}
 
 /// A write that was applied is what its document has: its version is stored, also where it deleted the
 /// document, and its source is live.

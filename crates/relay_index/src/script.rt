@@ -38,8 +38,10 @@ impl Script {
 
     /// The item at this place, counted from 1 over all items that are run under the script, is refused
     /// with this status. A second refusal of a place replaces the first; one of a place that has been
-    /// passed, or of place 0, changes nothing more. The status has to be from 400 to 599, and neither
-    /// 404 nor 409. `AllocError`: there was no memory for it, and the script is as before.
+    /// passed, or of place 0, changes nothing more. The status has to be one that [`may_refuse`] takes.
+    /// `AllocError`: there was no memory for it, and the script is as before.
+    ///
+    /// [`may_refuse`]: crate::may_refuse
     pub fn refuse(&mut self, place: u64, status: u16) -> Result<(), AllocError>
         requires { MayRefuse status }
         ensures refused { OnOk result ((p : ℕ) →

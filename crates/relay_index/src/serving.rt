@@ -1,7 +1,7 @@
 //! Bulk requests served.
 ghost use Rattle.std.specs.Prelude.{◌≡◌, IfOk, IfErr, string_bytes};
 ghost use Rattle.serde_json.specs.View.{view};
-ghost use Rattle.relay_index.specs.Serving.{RunsAll, RunsFirst, Replies, fault_data, fault_text, IsRejection, Answers, StopsAfter};
+ghost use Rattle.relay_index.specs.Serving.{under, answer_of, RunsAll, RunsFirst, Replies, fault_data, fault_text, IsRejection, Answers, StopsAfter};
 
 use crate::index::Index;
 use crate::script::Script;
@@ -38,9 +38,9 @@ fn write_fault(alloc: Global, line: u64, kind: &str) -> Result<String, AllocErro
     Ok(text)
 }
 
-// The answer to a body with a fault: 400 and the text that names it, unless the fault is want of memory.
+// The answer to a body with a fault: 400 and the text that names it, unless memory ran out.
 fn reject(alloc: Global, fault: BulkFault) -> Result<(u16, String), ServeFault>
-    ensures ok { IfOk result (λ answer. IsRejection fault answer.0 (string_bytes answer.1)) }
+    ensures ok { IfOk result (λ answer. IsRejection fault (answer_of answer.0 (string_bytes answer.1))) }
     ensures err { IfErr result (λ e. e.ran ≡ 0) }
 {
     if fault.kind == LineKind::Memory {
@@ -53,8 +53,8 @@ fn reject(alloc: Global, fault: BulkFault) -> Result<(u16, String), ServeFault>
 }
 
 impl Index {
-    // Runs the writes in their order under the script. The fault is want of memory, and then the first
-    // `ran` writes were run.
+    // Runs the writes in their order under the script. The fault says that memory ran out, after exactly
+    // the first `ran` writes.
     fn run_all(
         &mut self,
         alloc: Global,
@@ -62,9 +62,9 @@ impl Index {
         script: &mut Script,
     ) -> Result<Vec<ItemDone>, ServeFault>
         ensures ok { IfOk result (λ items.
-            RunsAll self.old script.old writes.now items.items self.new script.new) }
+            RunsAll (under self.old script.old) writes.now items.items (under self.new script.new)) }
         ensures err { IfErr result (λ e.
-            RunsFirst e.ran self.old script.old writes.now self.new script.new) }
+            RunsFirst e.ran (under self.old script.old) writes.now (under self.new script.new)) }
     {
         let mut items = match Vec::with_capacity(alloc, writes.len()) {
             Ok(items) => items,
@@ -86,8 +86,8 @@ impl Index {
         Ok(items)
     }
 
-    // Runs the writes in their order under the script, and answers with the reply. The fault is want of
-    // memory, and then the first `ran` writes were run.
+    // Runs the writes in their order under the script, and answers with the reply. The fault says that
+    // memory ran out, after exactly the first `ran` writes.
     fn serve_writes(
         &mut self,
         alloc: Global,
@@ -95,14 +95,11 @@ impl Index {
         script: &mut Script,
     ) -> Result<String, ServeFault>
         ensures ok { IfOk result (λ text.
-            Replies self.old script.old writes.now (string_bytes text) self.new script.new) }
+            Replies (under self.old script.old) writes.now (string_bytes text) (under self.new script.new)) }
         ensures err { IfErr result (λ e.
-            RunsFirst e.ran self.old script.old writes.now self.new script.new) }
+            RunsFirst e.ran (under self.old script.old) writes.now (under self.new script.new)) }
     {
-        let items = match self.run_all(alloc, writes, script) {
-            Ok(items) => items,
-            Err(fault) => return Err(fault),
-        };
+        let items = self.run_all(alloc, writes, script)?;
         match write_reply(alloc, 0, items.as_slice()) {
             Ok(text) => Ok(text),
             Err(_) => Err(ServeFault {
@@ -127,18 +124,16 @@ impl Index {
         body: &[u8],
         script: &mut Script,
     ) -> Result<(u16, String), ServeFault>
-        ensures answered { IfOk result (λ answer. Answers body.now self.old script.old
-            answer.0 (string_bytes answer.1) self.new script.new) }
+        ensures answered { IfOk result (λ answer. Answers body.now (under self.old script.old)
+            (answer_of answer.0 (string_bytes answer.1)) (under self.new script.new)) }
         ensures stopped { IfErr result (λ e.
-            StopsAfter e.ran body.now self.old script.old self.new script.new) }
+            StopsAfter e.ran body.now (under self.old script.old) (under self.new script.new)) }
     {
         let writes = match read_bulk(alloc, body) {
             Ok(writes) => writes,
             Err(fault) => return reject(alloc, fault),
         };
-        match self.serve_writes(alloc, writes.as_slice(), script) {
-            Ok(text) => Ok((200, text)),
-            Err(fault) => Err(fault),
-        }
+        let text = self.serve_writes(alloc, writes.as_slice(), script)?;
+        Ok((200, text))
     }
 }

@@ -39,7 +39,7 @@ impl<'v, 't> Items<'v, 't> {
         self.len() == 0
     }
 
-    /// The first item, and those behind it; `None` where none is left.
+    /// The first item, and those after it; `None` where none is left.
     #[inline(always)]
     pub fn split_first(self) -> Option<(Value<'v, 't>, Items<'v, 't>)>
         ensures { MatchOption result (items_of self.entry ≡ no_items)

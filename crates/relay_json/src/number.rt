@@ -33,7 +33,7 @@ fn fits_unsigned(numeral: &Numeral<'_>) -> bool
     numeral.to_u64().is_some() || is_float(false, numeral)
 }
 
-// The same behind a minus.
+// The same after a minus.
 #[inline(never)]
 fn fits_negative(numeral: &Numeral<'_>) -> bool
     ensures { result ≡ is_some (number_from true numeral.now) }
@@ -125,7 +125,7 @@ fn positive_of(numeral: &Numeral<'_>) -> Option<i64>
     }
 }
 
-// The integer of a numeral behind a minus, where it is one of 64 bits and not 0.
+// The integer of a numeral after a minus, where it is one of 64 bits and not 0.
 fn negative_of(numeral: &Numeral<'_>) -> Option<i64>
     ensures { result ≡ option_and_then as_i64 (number_from true numeral.now) }
 {

@@ -10,24 +10,24 @@ use json::Value;
 // Whether a tree is a value of `serde_json`: each of its numbers is in range.
 #[cycle(range)]
 #[inline(always)]
-pub(crate) fn has_data(value: &Value<'_>) -> bool
+pub(crate) fn numbers_in_range(value: &Value<'_>) -> bool
     ensures { result ≡ is_some (of_json (value_view value.now)) }
 {
     match value {
         Value::Number(text) => is_in_range(text),
-        Value::Array(items) => items_have_data(items),
-        Value::Object(members) => members_have_data(members),
+        Value::Array(items) => items_in_range(items),
+        Value::Object(members) => members_in_range(members),
         _ => true,
     }
 }
 
 #[cycle(range)]
 #[inline(never)]
-fn items_have_data(items: &Vec<Value<'_>>) -> bool
+fn items_in_range(items: &Vec<Value<'_>>) -> bool
     ensures { result ≡ is_some (of_items (items_view items.now.items)) }
 {
     for item in items {
-        if !has_data(item) {
+        if !numbers_in_range(item) {
             return false;
         }
     }
@@ -36,11 +36,11 @@ fn items_have_data(items: &Vec<Value<'_>>) -> bool
 
 #[cycle(range)]
 #[inline(never)]
-fn members_have_data(members: &Vec<(&str, Value<'_>)>) -> bool
+fn members_in_range(members: &Vec<(&str, Value<'_>)>) -> bool
     ensures { result ≡ is_some (of_members (members_view members.now.items) no_members) }
 {
     for member in members {
-        if !has_data(&member.1) {
+        if !numbers_in_range(&member.1) {
             return false;
         }
     }

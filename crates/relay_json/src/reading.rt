@@ -8,7 +8,7 @@ ghost use Rattle.json.specs.Value.{value_view};
 ghost use Rattle.serde_json.specs.Read.{read, max_depth};
 ghost use Rattle.relay_json.specs.Reads.{HasData};
 
-use crate::range::has_data;
+use crate::range::numbers_in_range;
 use crate::value::Value;
 use json::{Reader, Scratch};
 use std::alloc::Global;
@@ -87,11 +87,8 @@ impl<'t> Tree<'t> {
         let Ok(text) = simdutf8::compat::from_utf8(text) else {
             return Err(ReadFault::NotJson);
         };
-        let value = match read_tree(alloc, text, scratch) {
-            Ok(value) => value,
-            Err(fault) => return Err(fault),
-        };
-        if !has_data(&value) {
+        let value = read_tree(alloc, text, scratch)?;
+        if !numbers_in_range(&value) {
             return Err(ReadFault::NotJson);
         }
         Ok(Tree { value })

@@ -12,7 +12,8 @@ use Rattle.relay_ndjson.specs.declared.kind.LineKind.TheVariants as kind
 use Rattle.relay_ndjson.specs.Lines.{IsRaw, IsLine, line_limit}
 use Rattle.relay_ndjson.specs.Operations.{line_count}
 use Rattle.relay_ndjson.specs.Versioned.{SaysVersioned}
-use Rattle.relay_ndjson.specs.Bodies.{IsLinesOf, IsBulk, lines_of, BeginsWithLine, LacksLine, LacksSource, BreaksWriteAt, BreaksBulk, BeginsWithWrite, BeginsWithSource}
+use Rattle.relay_ndjson.specs.Bodies.{IsLinesOf, IsBulk, lines_of, BeginsWithLine, LacksLine, IsNoSource, BreaksWriteAt, BreaksBulk}
+use Rattle.relay_ndjson.specs.Steps.{BeginsWithWrite, BeginsWithSource}
 use Rattle.relay_ndjson.proofs.Deciding.{key_none}
 use Rattle.relay_ndjson.proofs.Pieces.{first_feed, nowhere_unbroken}
 use Rattle.relay_ndjson.proofs.Totality.{past_limit}
@@ -54,7 +55,7 @@ index_taken bytes mid rest text key version (Index source) b s t =
       b.2 ∙ (ap (λ x. b.0 ++ x) line.2 ∙ sym (append_assoc b.0 line.0 rest)),
     )
 
-pub source_lost : (bytes mid text : List ℕ) (key : DocKey) (version place : ℕ) (k : LineKind) → BeginsWithLine bytes mid text → SaysVersioned text action.Index key.index key.id version → (k ≡ kind.Memory) ⊎ LacksSource mid place k → (k ≡ kind.Memory) ⊎ BreaksWriteAt bytes place k
+pub source_lost : (bytes mid text : List ℕ) (key : DocKey) (version place : ℕ) (k : LineKind) → BeginsWithLine bytes mid text → SaysVersioned text action.Index key.index key.id version → (k ≡ kind.Memory) ⊎ IsNoSource mid place k → (k ≡ kind.Memory) ⊎ BreaksWriteAt bytes place k
 source_lost bytes mid text key version place k b s (inl m) = inl m
 source_lost bytes mid text key version place k b s (inr l) =
     inr (inr (text, mid, key.index, key.id, version, b, s, key_none key.index key.id key.index_ok key.id_ok, l))

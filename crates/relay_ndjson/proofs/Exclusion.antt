@@ -19,16 +19,16 @@ use Rattle.relay_ndjson.proofs.Asking.{source_line_fault-text}
 use Rattle.relay_ndjson.proofs.Deciding.{says_none, key_none, not_empty, one_name}
 use Rattle.relay_ndjson.proofs.Fronts.{Shows, shows_on, one_text, no_text_at_end, no_text_at_long, no_long_at_end}
 
--- ---- behind as many blank lines as may be
+-- ---- after as many blank lines as may be
 
 -- a blank line follows only where no more may be
-abbrev Stops : ℕ → Option (List ℕ) → Type 0
+abbrev pub Stops : ℕ → Option (List ℕ) → Type 0
 Stops n mid = (new : Option (List ℕ)) → TakesText mid new [] → n ≡ blank_limit
 
 shows_at : (old mid : Option (List ℕ)) → Shows old → mid ≡ old → Shows mid
 shows_at old mid s e = (s.0, e ∙ s.1)
 
-shows_behind : (n : ℕ) (old mid : Option (List ℕ)) → Shows old → TakesBlank n old mid → Shows mid
+pub shows_behind : (n : ℕ) (old mid : Option (List ℕ)) → Shows old → TakesBlank n old mid → Shows mid
 shows_behind zero old mid s t = shows_at old mid s t
 shows_behind (suc n) old mid s t = shows_behind n t.0 mid (shows_on old t.0 [] s t.1) t.2
 
@@ -38,7 +38,7 @@ text_at old mid new text e t = subst (λ (o : Option (List ℕ)). TakesText o ne
 blank_at : (n : ℕ) (old mid new : Option (List ℕ)) → old ≡ mid → TakesBlank n old new → TakesBlank n mid new
 blank_at n old mid new e t = subst (λ (o : Option (List ℕ)). TakesBlank n o new) e t
 
-abbrev Compared : ℕ → ℕ → Option (List ℕ) → Option (List ℕ) → Type 0
+abbrev pub Compared : ℕ → ℕ → Option (List ℕ) → Option (List ℕ) → Type 0
 Compared n m mid end = ((n ≡ m) × (mid ≡ end)) ⊎ ((n < m) × (new : Option (List ℕ)) × TakesText mid new []) ⊎ ((m < n) × (new : Option (List ℕ)) × TakesText end new [])
 
 compared_more : (n m : ℕ) (mid end : Option (List ℕ)) → Compared n m mid end → Compared (suc n) (suc m) mid end
@@ -46,7 +46,7 @@ compared_more n m mid end (inl s) = inl (ap suc s.0, s.1)
 compared_more n m mid end (inr (inl s)) = inr (inl (omega (arith, s.0), s.1, s.2))
 compared_more n m mid end (inr (inr s)) = inr (inr (omega (arith, s.0), s.1, s.2))
 
-compare_blank : (n m : ℕ) (old mid end : Option (List ℕ)) → Shows old → TakesBlank n old mid → TakesBlank m old end → Compared n m mid end
+pub compare_blank : (n m : ℕ) (old mid end : Option (List ℕ)) → Shows old → TakesBlank n old mid → TakesBlank m old end → Compared n m mid end
 compare_blank zero zero old mid end s t u = inl (refl, t ∙ sym u)
 compare_blank zero (suc m) old mid end s t u = inr (inl (omega arith, u.0, text_at old mid u.0 [] t u.1))
 compare_blank (suc n) zero old mid end s t u = inr (inr (omega arith, t.0, text_at old end t.0 [] u t.1))
@@ -54,7 +54,7 @@ compare_blank (suc n) (suc m) old mid end s t u =
     let k = one_text old t.0 u.0 [] [] s t.1 u.1 in
     compared_more n m mid end (compare_blank n m u.0 mid end (shows_on old u.0 [] s u.1) (blank_at n t.0 u.0 mid k.0 t.2) u.2)
 
-stopped : (n m : ℕ) (mid end : Option (List ℕ)) → n ≤ blank_limit → m ≤ blank_limit → Stops n mid → Stops m end → Compared n m mid end → (n ≡ m) × (mid ≡ end)
+pub stopped : (n m : ℕ) (mid end : Option (List ℕ)) → n ≤ blank_limit → m ≤ blank_limit → Stops n mid → Stops m end → Compared n m mid end → (n ≡ m) × (mid ≡ end)
 stopped n m mid end h k p q (inl s) = s
 stopped n m mid end h k p q (inr (inl s)) = let e = p s.1 s.2 in absurd (omega (arith, e, s.0, k))
 stopped n m mid end h k p q (inr (inr s)) = let e = q s.1 s.2 in absurd (omega (arith, e, s.0, h))
@@ -71,14 +71,14 @@ not_blank : (default : Option (List ℕ)) (text : List ℕ) (a : ActionKind) (in
 not_blank default text a index id s e = not_empty default a index id (subst (λ (t : List ℕ). Says default t a index id) e s)
 
 -- the action line of an operation
-abbrev FrontSays : Option (List ℕ) → Option (List ℕ) → Type 0
+abbrev pub FrontSays : Option (List ℕ) → Option (List ℕ) → Type 0
 FrontSays default mid = (a : ActionKind) × (text : List ℕ) × (rest : Option (List ℕ)) × (index : List ℕ) × (id : List ℕ) × TakesText mid rest text × Says default text a index id × (key_fault index id ≡ None)
 
-front_of : (default mid new : Option (List ℕ)) (key : DocKey) (a : Action) → TakesAction default mid new key a → FrontSays default mid
+pub front_of : (default mid new : Option (List ℕ)) (key : DocKey) (a : Action) → TakesAction default mid new key a → FrontSays default mid
 front_of default mid new key (Index s) t = (action.Index, t.0, t.1, key.index, key.id, t.2, t.3, key_none key.index key.id key.index_ok key.id_ok)
 front_of default mid new key Delete t = (action.Delete, t.0, new, key.index, key.id, t.1, t.2, key_none key.index key.id key.index_ok key.id_ok)
 
-says_stops : (default mid : Option (List ℕ)) (n : ℕ) → Shows mid → FrontSays default mid → Stops n mid
+pub says_stops : (default mid : Option (List ℕ)) (n : ℕ) → Shows mid → FrontSays default mid → Stops n mid
 says_stops default mid n s f = λ new b. let k = one_text mid f.2 new f.1 [] s f.5 b in absurd (not_blank default f.1 f.0 f.3 f.4 f.6 k.1)
 
 end_stops : (mid : Option (List ℕ)) (n : ℕ) → Shows mid → IsAtEnd mid → Stops n mid

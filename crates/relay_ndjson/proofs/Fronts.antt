@@ -26,7 +26,7 @@ not_unbroken [] r h = unbroken_head 10 r h refl
 not_unbroken (x ∷ xs) r h = not_unbroken xs r (unbroken_tail x (xs ++ 10 ∷ r) h)
 
 -- unbroken bytes at the front stand before the first line end
-prefix : (xs raw r t : List ℕ) → IsUnbroken raw → xs ++ 10 ∷ r ≡ raw ++ t → (u : List ℕ) × (xs ≡ raw ++ u)
+pub prefix : (xs raw r t : List ℕ) → IsUnbroken raw → xs ++ 10 ∷ r ≡ raw ++ t → (u : List ℕ) × (xs ≡ raw ++ u)
 prefix xs [] r t h e = (xs, refl)
 prefix [] (y ∷ raw) r t h e = let f : y ≡ 10 = cc in absurd (unbroken_head y raw h f)
 prefix (x ∷ xs) (y ∷ raw) r t h e =
@@ -136,7 +136,7 @@ line_not_empty all r text b (inr l) e z =
 abbrev pub Shows : Option (List ℕ) → Type 0
 Shows old = (bytes : List ℕ) × (old ≡ Some bytes)
 
-shown_rest : (old new : Option (List ℕ)) (b : List ℕ) → Shows old → old ≡ prepend_known b new → (all : List ℕ) × (rest : List ℕ) × (old ≡ Some all) × (new ≡ Some rest) × (all ≡ b ++ rest)
+pub shown_rest : (old new : Option (List ℕ)) (b : List ℕ) → Shows old → old ≡ prepend_known b new → (all : List ℕ) × (rest : List ℕ) × (old ≡ Some all) × (new ≡ Some rest) × (all ≡ b ++ rest)
 shown_rest old None b s e = let n : Some s.0 ≡ None = sym s.1 ∙ e in cc
 shown_rest old (Some rest) b s e = (b ++ rest, rest, e, refl, refl)
 
@@ -158,7 +158,7 @@ one_text old new mid text other s t u =
     let k = same_front r.0 r.1 q.1 text other t.bytes u.bytes (before_at old new (Some r.1) text t.bytes r.3 t.line) r.4 (before_at old mid (Some q.1) other u.bytes q.3 u.line) (same ∙ q.4) in
     (r.3 ∙ (ap Some k.0 ∙ sym q.3), k.1)
 
-at_end : (old : Option (List ℕ)) (bytes : List ℕ) → old ≡ Some bytes → IsAtEnd old → bytes ≡ []
+pub at_end : (old : Option (List ℕ)) (bytes : List ℕ) → old ≡ Some bytes → IsAtEnd old → bytes ≡ []
 at_end old bytes e h = subst IsAtEnd e h
 
 -- where there is a line, the stream has not ended

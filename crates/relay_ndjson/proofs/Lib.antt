@@ -5,6 +5,7 @@ pub mod Pieces
 pub mod Asking
 pub mod Deciding
 pub mod Taking
+pub mod Stopping
 pub mod Readings
 pub mod Fronts
 pub mod Exclusion
@@ -14,4 +15,5 @@ pub mod Versioning
 pub mod Bodies
 pub mod SameWrites
 pub mod OneBody
+pub mod OneOperation
 pub mod Written

@@ -10,7 +10,8 @@ use Rattle.relay_ndjson.specs.Lines.{IsUnbroken, TakesText, IsLong}
 use Rattle.relay_ndjson.specs.Metadata.{source_line_fault}
 use Rattle.relay_ndjson.specs.Operations.{line_count}
 use Rattle.relay_ndjson.specs.Versioned.{SaysWrite, write_line_fault}
-use Rattle.relay_ndjson.specs.Bodies.{IsSourceOf, IsBulk, lines_of, BeginsWithLine, IsOpen, LacksLine, BreaksLine, LacksSource, BreaksWriteAt, BeginsWithWrite}
+use Rattle.relay_ndjson.specs.Bodies.{IsSourceOf, IsBulk, lines_of, BeginsWithLine, IsOpen, LacksLine, BreaksLine, IsNoSource, BreaksWriteAt}
+use Rattle.relay_ndjson.specs.Steps.{BeginsWithWrite}
 use Rattle.relay_ndjson.specs.Laws.{OneBulk, NoFaultInBulk, OneBulkFault}
 use Rattle.relay_ndjson.proofs.Deciding.{key_none}
 use Rattle.relay_ndjson.proofs.Fronts.{not_unbroken, rejoined, some_same, one_text, no_text_at_end, no_text_at_long, no_long_at_end}
@@ -118,7 +119,7 @@ one_write bytes rest later w v b c =
 
 -- ---- writes against faults
 
-source_there : (a : Action) (mid rest source : List ℕ) (place : ℕ) (k : LineKind) → kind_of a ≡ action.Index → IsSourceOf a source → mid ≡ source ++ rest → LacksSource mid place k → ⊥
+source_there : (a : Action) (mid rest source : List ℕ) (place : ℕ) (k : LineKind) → kind_of a ≡ action.Index → IsSourceOf a source → mid ≡ source ++ rest → IsNoSource mid place k → ⊥
 source_there Delete mid rest source place k i l e m = cc
 source_there (Index s) mid rest source place k i l e (inl m) = line_not_empty rest s.text (subst (λ (b : List ℕ). BeginsWithLine b rest s.text) m.0 (source, l, e))
 source_there (Index s) mid rest source place k i l e (inr m) = line_not_breaking source_line_fault mid rest s.text k (source, l, e) (source_none s) m.0
@@ -138,7 +139,7 @@ end_not_breaking : (bytes : List ℕ) (place : ℕ) (k : LineKind) → bytes ≡
 end_not_breaking bytes place k e (inl f) = no_line_breaking write_line_fault bytes k e f.0
 end_not_breaking bytes place k e (inr l) = line_not_empty l.1 l.0 (subst (λ (b : List ℕ). BeginsWithLine b l.1 l.0) e l.5)
 
-one_lost : (bytes : List ℕ) (p q : ℕ) (k l : LineKind) → LacksSource bytes p k → LacksSource bytes q l → (p ≡ q) × (k ≡ l)
+one_lost : (bytes : List ℕ) (p q : ℕ) (k l : LineKind) → IsNoSource bytes p k → IsNoSource bytes q l → (p ≡ q) × (k ≡ l)
 one_lost bytes p q k l (inl a) (inl b) = (a.2 ∙ sym b.2, a.1 ∙ sym b.1)
 one_lost bytes p q k l (inl a) (inr b) = absurd (no_line_breaking source_line_fault bytes l a.0 b.0)
 one_lost bytes p q k l (inr a) (inl b) = absurd (no_line_breaking source_line_fault bytes k b.0 a.0)
@@ -150,7 +151,7 @@ one_break bytes p q k l (inl a) (inr b) = absurd (line_not_breaking write_line_f
 one_break bytes p q k l (inr a) (inl b) = absurd (line_not_breaking write_line_fault bytes a.1 a.0 l a.5 (says_none a.0 action.Index a.2 a.3 a.4 a.6 a.7) b.0)
 one_break bytes p q k l (inr a) (inr b) =
     let one = one_line bytes a.1 b.1 a.0 b.0 a.5 b.5 in
-    one_lost b.1 p q k l (subst (λ (m : List ℕ). LacksSource m p k) one.0 a.8) b.8
+    one_lost b.1 p q k l (subst (λ (m : List ℕ). IsNoSource m p k) one.0 a.8) b.8
 
 -- ---- bodies
 

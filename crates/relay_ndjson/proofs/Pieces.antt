@@ -5,7 +5,8 @@ use Rattle.std.proofs.Math.Seq.{drop-cons}
 use Rattle.std.proofs.lemmas.List.{take-append-drop}
 use Rattle.memchr.specs.Find.{Nowhere, Passes, IsFirstByte, is_byte}
 use Rattle.std.specs.Io.KnownBytes.{prepend_known, IsAtEnd}
-use Rattle.relay_ndjson.specs.Lines.{IsUnbroken, IsRaw, IsAddFault, TakesPart, TakesLine, EndsLine, line_limit}
+use Rattle.relay_ndjson.specs.Lines.{IsUnbroken, IsRaw, line_limit}
+use Rattle.relay_ndjson.specs.Steps.{IsAddFault, TakesPart, TakesLine, EndsLine}
 use Rattle.relay_ndjson.specs.declared.lines.Line.{Line}
 use Rattle.relay_ndjson.specs.declared.lines.Line.TheVariants as line
 use Rattle.relay_ndjson.specs.declared.kind.LineKind.{LineKind}

@@ -11,7 +11,8 @@ use Rattle.relay_ndjson.specs.declared.kind.InputFault.{InputFault}
 use Rattle.relay_ndjson.specs.Metadata.{Says, line_fault}
 use Rattle.relay_ndjson.specs.Lines.{TakesText, IsLong, TakesBlank}
 use Rattle.relay_ndjson.proofs.Deciding.{key_none}
-use Rattle.relay_ndjson.specs.Operations.{blank_limit, counted, TakesOperation, BreaksAt, IsFault, TakesNext, SkipsBlank, TakesSource, line_count}
+use Rattle.relay_ndjson.specs.Operations.{blank_limit, counted, TakesOperation, BreaksAt, IsFault, line_count}
+use Rattle.relay_ndjson.specs.Steps.{TakesNext, SkipsBlank, TakesSource}
 
 pub blank_more : (n : ℕ) (old mid new : Option (List ℕ)) → TakesBlank n old mid → TakesText mid new [] → TakesBlank (suc n) old new
 blank_more zero old mid new t s = (new, subst (λ (o : Option (List ℕ)). TakesText o new []) t s, refl)
@@ -24,7 +25,7 @@ blank_last (suc n) old new t = let r = blank_last n t.0 new t.2 in (r.0, (t.0, t
 pub fault_at : (default old mid : Option (List ℕ)) (n place count : ℕ) (e : InputFault) → n ≤ blank_limit → TakesBlank n old mid → BreaksAt default n mid place e.kind → e.line ≡ counted (count + (n + place)) → IsFault default old count e
 fault_at default old mid n place count e h t b l = inr (inr (n + place, (n, mid, place, h, t, b, refl), l))
 
--- no line was read behind blank lines
+-- no line was read after blank lines
 pub skip_fault : (default old mid : Option (List ℕ)) (n count here : ℕ) (e : InputFault) → n ≤ blank_limit → TakesBlank n old mid → here ≡ counted (count + n) → (e.line ≡ one_more here) × ((e.kind ≡ kind.Read) ⊎ (e.kind ≡ kind.Memory) ⊎ ((e.kind ≡ kind.LineLong) × IsLong mid)) → IsFault default old count e
 skip_fault default old mid n count here e h t c s =
     let l : e.line ≡ counted (count + (n + 1)) = omega (arith, c, s.0) in

@@ -88,7 +88,7 @@ option_cases : (o : Option LineKind) → (o ≡ None) ⊎ ((k : LineKind) × (o 
 option_cases None = inl refl
 option_cases (Some k) = inr (k, refl)
 
--- it is settled what stands behind n blank lines
+-- it is settled what stands after n blank lines
 abbrev Settled : Option (List ℕ) → ℕ → Option (List ℕ) → Type 0
 Settled default n mid = HasLines default mid ⊎ IsAtEnd mid ⊎ ((place : ℕ) × (k : LineKind) × BreaksAt default n mid place k)
 

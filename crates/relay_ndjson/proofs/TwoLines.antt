@@ -1,4 +1,4 @@
--- Two line feeds behind a byte that ends no line.
+-- Two line feeds after a byte that ends no line.
 use Rattle.std.proofs.Common.{◌≡◌, ◌↔◌, ℕ, ◌+◌, ◌-◌, ◌<◌, ◌≤◌, List, length, take, drop, get_or, Option, None, Some, is_some, IsTrue, true, false, ◌==◌, refl, ap, sym, ◌∙◌, arith, inl, inr}
 use Rattle.std.proofs.lemmas.Grind.{common_steps}
 use Rattle.std.proofs.lemmas.List.{take_rest}

@@ -43,10 +43,10 @@ says_none text a index id version s k = write_line_fault-value text s.1 s.0 s.2 
 
 -- ---- a text asks for one thing
 
-some_same : {A : Type 0} (x y : A) → Some x ≡ Some y → x ≡ y
+pub some_same : {A : Type 0} (x y : A) → Some x ≡ Some y → x ≡ y
 some_same x y e = cc
 
-same_object : (name other : List ℕ) (ms ns : Members) → object (member name (object ms) no_members) ≡ object (member other (object ns) no_members) → (name ≡ other) × (ms ≡ ns)
+pub same_object : (name other : List ℕ) (ms ns : Members) → object (member name (object ms) no_members) ≡ object (member other (object ns) no_members) → (name ≡ other) × (ms ≡ ns)
 same_object name other ms ns e = (cc, cc)
 
 -- what two texts that are one ask for

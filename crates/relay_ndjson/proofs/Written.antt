@@ -12,7 +12,8 @@ use Rattle.relay_action.specs.Limits.{IsOneLine}
 use Rattle.relay_action.specs.declared.action.Action.{Action}
 use Rattle.relay_action.specs.declared.action.Action.TheVariants.{Index, Delete}
 use Rattle.relay_action.specs.declared.write.Write.{Write}
-use Rattle.relay_ndjson.specs.Bulk.{action_text, action_data, source_line, line_end, write_text, text_of, last_version}
+use Rattle.relay_action.specs.Limits.{last_version}
+use Rattle.relay_ndjson.specs.Bulk.{action_text, action_data, source_line, line_end, write_text, text_of}
 use Rattle.relay_ndjson.specs.Lines.{IsUnbroken, IsLine, line_limit}
 use Rattle.relay_ndjson.specs.Versioned.{AsksVersioned, SaysWrite, within_last}
 use Rattle.relay_ndjson.specs.Bodies.{IsSourceOf, IsLinesOf, AreDealt}
@@ -20,7 +21,7 @@ use Rattle.relay_ndjson.specs.Laws.{BulkTextIsBulk}
 use Rattle.relay_ndjson.proofs.Parts.{length-action_text}
 use Rattle.relay_ndjson.proofs.ReadsBack.{read-action_text}
 
--- ---- a text of one line, with a line end behind it
+-- ---- a text of one line, with a line end after it
 
 one_line_head : (x : ℕ) (xs : List ℕ) → IsOneLine (x ∷ xs) → (x ≢ 10) × (x ≢ 13)
 one_line_head x xs h = (λ e. grind (arith, common_steps), λ e. grind (arith, common_steps))

@@ -2,7 +2,6 @@
 use Rattle.std.specs.Prelude.{◌≡◌, ◌≢◌, ℕ, ◌+◌, ◌≤◌, ◌⊎◌, List, [], ◌∷◌, ◌++◌, length, All, Option, None, Some, Result, Ok, Err}
 use Rattle.std.specs.declared.vec.Vec.{Vec}
 use Rattle.std.specs.declared.alloc.Global.{Global}
-use Rattle.relay_action.specs.Actions.{IsIndexOf}
 use Rattle.relay_action.specs.Faults.{key_fault}
 use Rattle.relay_action.specs.declared.action.Action.{Action}
 use Rattle.relay_action.specs.declared.action.Action.TheVariants.{Index, Delete}
@@ -11,7 +10,8 @@ use Rattle.relay_action.specs.declared.write.Write.{Write}
 use Rattle.relay_ndjson.specs.declared.kind.LineKind.{LineKind}
 use Rattle.relay_ndjson.specs.declared.kind.LineKind.TheVariants as kind
 use Rattle.relay_ndjson.specs.declared.kind.BulkFault.{BulkFault}
-use Rattle.relay_ndjson.specs.Bulk.{text_of, last_version}
+use Rattle.relay_action.specs.Limits.{last_version}
+use Rattle.relay_ndjson.specs.Bulk.{text_of}
 use Rattle.relay_ndjson.specs.Lines.{IsUnbroken, IsLine, IsLong, line_limit}
 use Rattle.relay_ndjson.specs.Metadata.{source_line_fault}
 use Rattle.relay_ndjson.specs.Operations.{line_count}
@@ -58,17 +58,17 @@ abbrev pub BreaksLine : (List ℕ → Option LineKind) → List ℕ → LineKind
 BreaksLine fault_of bytes k =
     LacksLine bytes k ⊎ ((text : List ℕ) × (rest : List ℕ) × BeginsWithLine bytes rest text × (fault_of text ≡ Some k))
 
--- behind an index action there is no source: the body has ended, which is a fault of the action's line, or the next line
+-- after an index action there is no source: the body has ended, which is a fault of the action's line, or the next line
 -- breaks the grammar
-abbrev pub LacksSource : List ℕ → ℕ → LineKind → Type 0
-LacksSource bytes place k =
+abbrev pub IsNoSource : List ℕ → ℕ → LineKind → Type 0
+IsNoSource bytes place k =
     ((bytes ≡ []) × (k ≡ kind.SourceMissing) × (place ≡ 1)) ⊎ (BreaksLine source_line_fault bytes k × (place ≡ 2))
 
 -- the bytes begin with an index action on a document that may be, and its source does not follow
 abbrev pub LeavesSource : List ℕ → ℕ → LineKind → Type 0
 LeavesSource bytes place k =
     (text : List ℕ) × (rest : List ℕ) × (index : List ℕ) × (id : List ℕ) × (version : ℕ) × BeginsWithLine bytes rest text
-    × SaysVersioned text action.Index index id version × (key_fault index id ≡ None) × LacksSource rest place k
+    × SaysVersioned text action.Index index id version × (key_fault index id ≡ None) × IsNoSource rest place k
 
 -- no write stands at the front, since the line at this place, the first or the second, has this fault
 abbrev pub BreaksWriteAt : List ℕ → ℕ → LineKind → Type 0
@@ -98,13 +98,3 @@ GivesBack ws (Err e) = e.kind ≡ kind.Memory
 -- the bulk text of writes reads as just these
 abbrev pub ReadsBack : List ℕ → Result (Vec Write Global) BulkFault → Type 0
 ReadsBack bytes result = (ws : List Write) → AreDealt ws → bytes ≡ text_of ws → GivesBack ws result
-
--- ---- for the reader, which takes a body line by line
-
--- the lines of a write stand at the front
-abbrev pub BeginsWithWrite : List ℕ → List ℕ → Write → Type 0
-BeginsWithWrite bytes rest w = (lines : List ℕ) × IsLinesOf lines w × (bytes ≡ lines ++ rest)
-
--- a source line stands at the front, and the action stores what is on it
-abbrev pub BeginsWithSource : List ℕ → List ℕ → Action → Type 0
-BeginsWithSource bytes rest a = (text : List ℕ) × BeginsWithLine bytes rest text × IsIndexOf text a

@@ -55,7 +55,3 @@ opening Delete = codes "{\"delete\":{\"_id\":\""
 -- a text begins with another
 abbrev pub Begins : List ℕ → List ℕ → Type 0
 Begins front text = take (length front) text ≡ front
-
--- the last version
-abbrev pub last_version : ℕ
-last_version = 9000000000000000000

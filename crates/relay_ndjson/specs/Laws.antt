@@ -1,13 +1,15 @@
 -- The grammars and the faults exclude each other, and each is determined.
-use Rattle.std.specs.Prelude.{◌≡◌, ◌↔◌, ◌⊎◌, ◌≤◌, ℕ, List, Option, None, Some}
+use Rattle.std.specs.Prelude.{◌≡◌, ◌↔◌, ◌⊎◌, ◌≤◌, ℕ, List, ◌++◌, Option, None, Some}
 use Rattle.relay_action.specs.Faults.{key_fault}
 use Rattle.relay_action.specs.declared.action.ActionKind.{ActionKind}
 use Rattle.relay_action.specs.declared.action.ActionKind.TheVariants as action
 use Rattle.relay_action.specs.declared.write.Write.{Write}
+use Rattle.relay_ndjson.specs.declared.kind.InputFault.{InputFault}
 use Rattle.relay_ndjson.specs.declared.kind.LineKind.{LineKind}
+use Rattle.relay_ndjson.specs.declared.kind.LineKind.TheVariants as kind
 use Rattle.relay_ndjson.specs.Lines.{TakesText, TakesBlank}
 use Rattle.relay_ndjson.specs.Metadata.{Says, line_fault, source_line_fault}
-use Rattle.relay_ndjson.specs.Operations.{Operation, blank_limit, TakesOperation, HoldsNoMore, Breaks}
+use Rattle.relay_ndjson.specs.Operations.{Operation, blank_limit, TakesOperation, HoldsNoMore, Breaks, Stops}
 use Rattle.relay_ndjson.specs.Bulk.{text_of}
 use Rattle.relay_ndjson.specs.Versioned.{SaysVersioned, write_line_fault}
 use Rattle.relay_ndjson.specs.Bodies.{AreDealt, IsBulk, BreaksBulk}
@@ -31,6 +33,21 @@ NoOperationAtEnd = (default new : Option (List ℕ)) (bytes : List ℕ) (n : ℕ
 -- there is one first fault
 abbrev pub OneFault : Type 0
 OneFault = (default : Option (List ℕ)) (bytes : List ℕ) (at place : ℕ) (k l : LineKind) → Breaks default (Some bytes) at k → Breaks default (Some bytes) place l → (at ≡ place) × (k ≡ l)
+
+-- a stream's front has one operation
+abbrev pub OneOperation : Type 0
+OneOperation = (default new other : Option (List ℕ)) (bytes : List ℕ) (n m : ℕ) (op next : Operation) →
+    TakesOperation default (Some bytes) new n op → TakesOperation default (Some bytes) other m next → (new ≡ other) × (n ≡ m) × (op ≡ next)
+
+-- an operation stands whole at the front of these bytes, whatever follows them
+abbrev pub HoldsOperation : Option (List ℕ) → List ℕ → Type 0
+HoldsOperation default bytes =
+    (n : ℕ) × (op : Operation) × (rest : List ℕ) × ((more : List ℕ) → TakesOperation default (Some (bytes ++ more)) (Some (rest ++ more)) n op)
+
+-- where a read failed, no operation stands whole in the bytes that had been read
+abbrev pub NoOperationAtRead : Type 0
+NoOperationAtRead = (default : Option (List ℕ)) (bytes later held : List ℕ) (count : ℕ) (e : InputFault) →
+    Stops default (Some (bytes ++ later)) (Some later) held count e → e.kind ≡ kind.Read → HoldsOperation default bytes → ⊥
 
 -- ---- one of them always holds
 

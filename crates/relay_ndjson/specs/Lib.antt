@@ -9,3 +9,4 @@ pub mod Reading
 pub mod Laws
 pub mod Versioned
 pub mod Bodies
+pub mod Steps

@@ -1,19 +1,17 @@
 -- The producer grammar over a stream: operations at its front, and what is no operation. An action line is as in the
--- OpenSearch bulk API: an index action has its source on the line behind it.
-use Rattle.std.specs.Prelude.{◌≡◌, ◌≢◌, ℕ, ◌+◌, ◌≤◌, ◌⊎◌, min, Bool, true, false, List, [], Option, None, Some, Result, Ok, Err, if◌then◌else◌}
+-- OpenSearch bulk API: an index action has its source on the line after it.
+use Rattle.std.specs.Prelude.{◌≡◌, ◌≢◌, ℕ, ◌+◌, ◌≤◌, ◌⊎◌, min, List, [], Option, None, Some, Result, Ok, Err, if◌then◌else◌}
 use Rattle.std.specs.Io.KnownBytes.{IsAtEnd}
 use Rattle.relay_action.specs.Streams.{most, one_more}
-use Rattle.relay_action.specs.Actions.{IsIndexOf}
 use Rattle.relay_action.specs.Faults.{key_fault}
 use Rattle.relay_action.specs.declared.key.DocKey.{DocKey}
 use Rattle.relay_action.specs.declared.action.Action.{Action}
 use Rattle.relay_action.specs.declared.action.Action.TheVariants.{Index, Delete}
-use Rattle.relay_ndjson.specs.Lines.{TakesText, IsLong, TakesBlank, is_read}
+use Rattle.relay_ndjson.specs.Lines.{TakesText, IsLong, TakesBlank, StopsInLine, is_read}
 use Rattle.relay_action.specs.declared.action.ActionKind.TheVariants as action
 use Rattle.relay_ndjson.specs.declared.kind.LineKind.{LineKind}
 use Rattle.relay_ndjson.specs.declared.kind.LineKind.TheVariants as kind
 use Rattle.relay_ndjson.specs.declared.kind.InputFault.{InputFault}
-use Rattle.relay_ndjson.specs.declared.lines.Found.{Found}
 use Rattle.relay_ndjson.specs.Metadata.{Says, line_fault, source_line_fault}
 
 -- an operation that a producer hands over: a document, and what is done to it
@@ -75,7 +73,7 @@ LacksSource default old place k =
 abbrev pub IsPastBlank : ℕ → Option (List ℕ) → LineKind → Type 0
 IsPastBlank n old k = (n ≡ blank_limit) × (rest : Option (List ℕ)) × TakesText old rest [] × (k ≡ kind.LineLong)
 
--- what stands behind n blank lines is no operation, since the line at this place has this fault
+-- what stands after n blank lines is no operation, since the line at this place has this fault
 abbrev pub BreaksAt : Option (List ℕ) → ℕ → Option (List ℕ) → ℕ → LineKind → Type 0
 BreaksAt default n old place k =
     (BreaksAction default old k × (place ≡ 1)) ⊎ (IsPastBlank n old k × (place ≡ 1)) ⊎ LacksSource default old place k
@@ -91,34 +89,24 @@ IsFault default old count e =
     (e.kind ≡ kind.Read) ⊎ (e.kind ≡ kind.Memory)
     ⊎ ((at : ℕ) × Breaks default old at e.kind × (e.line ≡ counted (count + at)))
 
--- ---- what the steps of the reader answer: whether there is a line, or an action line
+-- ---- where the reader stops
 
-abbrev pub TakesNext : Option (List ℕ) → Option (List ℕ) → ℕ → ℕ → List ℕ → Result Bool InputFault → Type 0
-TakesNext old new count after text (Ok true) = TakesText old new text × (after ≡ one_more count)
-TakesNext old new count after text (Ok false) = IsAtEnd old × (new ≡ old) × (after ≡ count)
-TakesNext old new count after text (Err e) =
-    (e.line ≡ one_more count) × ((e.kind ≡ kind.Read) ⊎ (e.kind ≡ kind.Memory) ⊎ ((e.kind ≡ kind.LineLong) × IsLong old))
+-- so many lines were taken that begin an operation and are not all of it: blank lines, or these and the line of an index
+-- action
+abbrev pub TakesBeginning : Option (List ℕ) → Option (List ℕ) → Option (List ℕ) → ℕ → Type 0
+TakesBeginning default old new count =
+    ((count ≤ blank_limit) × TakesBlank count old new)
+    ⊎ ((n : ℕ) × (mid : Option (List ℕ)) × (text : List ℕ) × (index : List ℕ) × (id : List ℕ) × (n ≤ blank_limit) × TakesBlank n old mid
+    × TakesText mid new text × Says default text action.Index index id × (key_fault index id ≡ None) × (count ≡ n + 1))
 
-abbrev pub SkipsBlank : Option (List ℕ) → Option (List ℕ) → ℕ → ℕ → List ℕ → Result Bool InputFault → Type 0
-SkipsBlank old new count after text (Ok true) =
-    (n : ℕ) × (mid : Option (List ℕ)) × (n ≤ blank_limit) × TakesBlank n old mid × TakesText mid new text × (text ≢ []) × (after ≡ counted (count + n + 1))
-SkipsBlank old new count after text (Ok false) = HoldsNoMore old
-SkipsBlank old new count after text (Err e) = (default : Option (List ℕ)) → IsFault default old count e
-
--- the source line of the action on a line
-abbrev pub TakesSource : Option (List ℕ) → Option (List ℕ) → ℕ → ℕ → ℕ → Result Action InputFault → Type 0
-TakesSource old new line count after (Ok a) =
-    (text : List ℕ) × TakesText old new text × IsIndexOf text a × (after ≡ one_more count)
-TakesSource old new line count after (Err e) =
-    (e.kind ≡ kind.Read) ⊎ (e.kind ≡ kind.Memory)
-    ⊎ (IsAtEnd old × (e.kind ≡ kind.SourceMissing) × (e.line ≡ line))
-    ⊎ (BreaksSource old e.kind × (e.line ≡ one_more count))
-
-abbrev pub Reads : Option (List ℕ) → Option (List ℕ) → Option (List ℕ) → ℕ → ℕ → Result (Option Found) InputFault → Type 0
-Reads default old new count after (Ok (Some f)) =
-    (n : ℕ) × TakesOperation default old new n (f.key, f.action) × (f.line ≡ counted (count + n + 1)) × (after ≡ counted (count + n + line_count f.action))
-Reads default old new count after (Ok None) = HoldsNoMore old
-Reads default old new count after (Err e) = IsFault default old count e
+-- a fault names the line in which the reader stopped: before it stand the lines that begin an operation, and of what
+-- follows no more was used than of this line
+pub record Stops (default old new : Option (List ℕ)) (held : List ℕ) (count : ℕ) (e : InputFault) : Type 0 where
+  pub taken : ℕ
+  pub front : Option (List ℕ)
+  pub begins : TakesBeginning default old front taken
+  pub line : e.line ≡ counted (count + taken + 1)
+  pub stop : StopsInLine front new held e.kind
 
 -- how many calls of the stream have failed after an answer
 abbrev pub failed_after : {T : Type 0} → Result T InputFault → ℕ → ℕ

@@ -6,7 +6,7 @@ use Rattle.relay_ndjson.specs.declared.kind.LineKind.TheVariants as kind
 use Rattle.relay_ndjson.specs.declared.kind.InputFault.{InputFault}
 use Rattle.relay_ndjson.specs.declared.parser.Phase.{Phase}
 use Rattle.relay_ndjson.specs.declared.parser.Phase.TheVariants as phase
-use Rattle.relay_ndjson.specs.Operations.{Operation, counted, TakesOperation, HoldsNoMore, IsFault, line_count}
+use Rattle.relay_ndjson.specs.Operations.{Operation, counted, TakesOperation, HoldsNoMore, IsFault, Stops, line_count}
 
 -- a parser: what was read and not used yet, how many lines were taken, the line of the last action, and what stands
 -- for an absent index name
@@ -21,7 +21,7 @@ pub record Parsing : Type 0 where
 abbrev pub start : Option (List ℕ) → Parsing
 start default = record { held = []; count = 0; line = 0; phase = phase.Open; default = default }
 
--- a byte that ends no line stands there, and two line feeds behind it: so an operation, or what breaks the grammar,
+-- a byte that ends no line stands there, and two line feeds after it: so an operation, or what breaks the grammar,
 -- stands there whole
 abbrev pub HoldsTwoLines : List ℕ → Type 0
 HoldsTwoLines held =
@@ -62,9 +62,10 @@ pub record Ends (old new : Reading) : Type 0 where
   pub line : new.line ≡ old.line
   pub phase : new.phase ≡ phase.Ended
 
--- a fault was answered
+-- a fault was answered, of the line in which the reader stopped
 pub record Fails (old new : Reading) (e : InputFault) : Type 0 where
   pub fault : IsFault old.default old.ahead old.count e
+  pub stops : Stops old.default old.ahead new.ahead new.held old.count e
   pub line : new.line ≡ old.line
   pub phase : new.phase ≡ phase.Failed e.line
 

@@ -26,82 +26,11 @@ pub fn action_of<'v, 't>(value: Value<'v, 't>) -> Option<(&'t str, Value<'v, 't>
     }
 }
 
-// The members that name a document.
-struct DocumentNames;
-
-impl Names for DocumentNames {
-    ghost use Rattle.relay_ndjson.specs.Metadata.{is_document};
-
-    ghost known = { is_document };
-
-    fn is_known(name: &str) -> bool {
-        name == "_id" || name == "_index"
-    }
-}
-
-// The members that metadata may have.
-struct FieldNames;
-
-impl Names for FieldNames {
-    ghost use Rattle.relay_ndjson.specs.Metadata.{is_field};
-
-    ghost known = { is_field };
-
-    fn is_known(name: &str) -> bool {
-        DocumentNames::is_known(name) || name == "version" || name == "version_type"
-    }
-}
-
-// Whether all members of the metadata name a document.
-fn has_only_document(metadata: Value<'_, '_>) -> bool
-    ensures { result ≡ has_only is_document (data_of metadata.entry) }
-{
-    metadata.has_only::<DocumentNames>()
-}
-
 /// Whether all members of the metadata are known.
 pub fn has_only_fields(metadata: Value<'_, '_>) -> bool
     ensures { result ≡ has_only is_field (data_of metadata.entry) }
 {
     metadata.has_only::<FieldNames>()
-}
-
-// The index, where one is given or the default serves.
-fn index_of<'t>(default_index: Option<&'t str>, metadata: Value<'_, 't>) -> Option<&'t str>
-    ensures { option_map (λ t. t.now) result ≡ index_of (shown default_index.entry) (data_of metadata.entry) }
-{
-    match metadata.get("_index") {
-        Some(value) => value.as_str(),
-        None => default_index,
-    }
-}
-
-// The decimal text of an integer of 64 bits.
-fn integer_text<'b>(value: Value<'_, '_>, buffer: &'b mut Buffer) -> Option<&'b str>
-    ensures { option_map (λ t. t.now) result ≡ option_and_then number_text (as_number (data_of value.entry)) }
-{
-    if let Some(n) = value.as_u64() {
-        return Some(buffer.format(n));
-    }
-    if let Some(n) = value.as_i64() {
-        return Some(buffer.format(n));
-    }
-    None
-}
-
-// The document of an index name and an id.
-fn key_at(alloc: Global, index: &str, id: Value<'_, '_>) -> Result<DocKey, LineKind>
-    ensures ok { IfOk result (λ k. (k.index ≡ index.now) × (id_text (data_of id.entry) ≡ Some k.id)) }
-    ensures err { IfErr result (λ e. (e ≡ LineKind.Memory) ⊎ (id_fault index.now (id_text (data_of id.entry)) ≡ Some e)) }
-{
-    let mut buffer = Buffer::new();
-    if let Some(text) = integer_text(id, &mut buffer) {
-        return DocKey::new(alloc, index, text).map_err(|fault| kind_of(fault));
-    }
-    match id.as_str() {
-        Some(text) => DocKey::new(alloc, index, text).map_err(|fault| kind_of(fault)),
-        None => Err(LineKind::MissingId),
-    }
 }
 
 /// The document of metadata whose members may be.
@@ -122,47 +51,6 @@ pub fn document_of<'t>(
         return Err(LineKind::MissingId);
     };
     key_at(alloc, index, id)
-}
-
-// The document of a producer's metadata.
-fn key_of<'t>(
-    alloc: Global,
-    default_index: Option<&'t str>,
-    metadata: Value<'_, 't>,
-) -> Result<DocKey, LineKind>
-    ensures ok { IfOk result (λ k. IsDocument (shown default_index.entry) (data_of metadata.entry) k.index k.id) }
-    ensures err { IfErr result (λ e. (e ≡ LineKind.Memory)
-        ⊎ (metadata_fault (shown default_index.entry) (data_of metadata.entry) ≡ Some e)) }
-{
-    if !has_only_fields(metadata) {
-        return Err(LineKind::UnsupportedField);
-    }
-    if !has_only_document(metadata) {
-        return Err(LineKind::VersionGiven);
-    }
-    document_of(alloc, default_index, metadata)
-}
-
-// What a value asks for.
-fn asked<'t>(
-    alloc: Global,
-    default_index: Option<&'t str>,
-    value: Value<'_, 't>,
-) -> Result<(ActionKind, DocKey), LineKind>
-    ensures ok { IfOk result (λ a. Asks (shown default_index.entry) (data_of value.entry) a.0 a.1.index a.1.id) }
-    ensures err { IfErr result (λ e. (e ≡ LineKind.Memory)
-        ⊎ (value_fault (shown default_index.entry) (data_of value.entry) ≡ Some e)) }
-{
-    let Some((name, metadata)) = action_of(value) else {
-        return Err(LineKind::NotOneAction);
-    };
-    let Some(kind) = ActionKind::named(name) else {
-        return Err(LineKind::UnsupportedAction);
-    };
-    match key_of(alloc, default_index, metadata) {
-        Ok(key) => Ok((kind, key)),
-        Err(fault) => Err(fault),
-    }
 }
 
 /// The value of a line. The scratch serves one line after another.
@@ -210,4 +98,114 @@ pub fn read_source(alloc: Global, line: &[u8]) -> Result<Action, LineKind>
         Ok(action) => Ok(action),
         Err(fault) => Err(kind_of(fault)),
     }
+}
+
+// The members that name a document.
+struct DocumentNames;
+
+impl Names for DocumentNames {
+    ghost use Rattle.relay_ndjson.specs.Metadata.{is_document};
+
+    ghost known = { is_document };
+
+    fn is_known(name: &str) -> bool {
+        name == "_id" || name == "_index"
+    }
+}
+
+// The members that metadata may have.
+struct FieldNames;
+
+impl Names for FieldNames {
+    ghost use Rattle.relay_ndjson.specs.Metadata.{is_field};
+
+    ghost known = { is_field };
+
+    fn is_known(name: &str) -> bool {
+        DocumentNames::is_known(name) || name == "version" || name == "version_type"
+    }
+}
+
+// Whether all members of the metadata name a document.
+fn has_only_document(metadata: Value<'_, '_>) -> bool
+    ensures { result ≡ has_only is_document (data_of metadata.entry) }
+{
+    metadata.has_only::<DocumentNames>()
+}
+
+// The index, where one is given or the default serves.
+fn index_of<'t>(default_index: Option<&'t str>, metadata: Value<'_, 't>) -> Option<&'t str>
+    ensures { option_map (λ t. t.now) result ≡ index_of (shown default_index.entry) (data_of metadata.entry) }
+{
+    match metadata.get("_index") {
+        Some(value) => value.as_str(),
+        None => default_index,
+    }
+}
+
+// The decimal text of an integer of 64 bits.
+fn integer_text<'b>(value: Value<'_, '_>, buffer: &'b mut Buffer) -> Option<&'b str>
+    ensures { option_map (λ t. t.now) result ≡ option_and_then number_text (as_number (data_of value.entry)) }
+{
+    if let Some(n) = value.as_u64() {
+        return Some(buffer.format(n));
+    }
+    if let Some(n) = value.as_i64() {
+        return Some(buffer.format(n));
+    }
+    None
+}
+
+// The document of an index name and an id.
+fn key_at(alloc: Global, index: &str, id: Value<'_, '_>) -> Result<DocKey, LineKind>
+    ensures ok { IfOk result (λ k. (k.index ≡ index.now) × (id_text (data_of id.entry) ≡ Some k.id)) }
+    ensures err { IfErr result (λ e. (e ≡ LineKind.Memory) ⊎ (id_fault index.now (id_text (data_of id.entry)) ≡ Some e)) }
+{
+    let mut buffer = Buffer::new();
+    if let Some(text) = integer_text(id, &mut buffer) {
+        return DocKey::new(alloc, index, text).map_err(|fault| kind_of(fault));
+    }
+    match id.as_str() {
+        Some(text) => DocKey::new(alloc, index, text).map_err(|fault| kind_of(fault)),
+        None => Err(LineKind::MissingId),
+    }
+}
+
+// The document of a producer's metadata.
+fn key_of<'t>(
+    alloc: Global,
+    default_index: Option<&'t str>,
+    metadata: Value<'_, 't>,
+) -> Result<DocKey, LineKind>
+    ensures ok { IfOk result (λ k. IsDocument (shown default_index.entry) (data_of metadata.entry) k.index k.id) }
+    ensures err { IfErr result (λ e. (e ≡ LineKind.Memory)
+        ⊎ (metadata_fault (shown default_index.entry) (data_of metadata.entry) ≡ Some e)) }
+{
+    if !has_only_fields(metadata) {
+        return Err(LineKind::UnsupportedField);
+    }
+    if !has_only_document(metadata) {
+        return Err(LineKind::VersionGiven);
+    }
+    document_of(alloc, default_index, metadata)
+}
+
+// What a value asks for.
+fn asked<'t>(
+    alloc: Global,
+    default_index: Option<&'t str>,
+    value: Value<'_, 't>,
+) -> Result<(ActionKind, DocKey), LineKind>
+    ensures ok { IfOk result (λ a. Asks (shown default_index.entry) (data_of value.entry) a.0 a.1.index a.1.id) }
+    ensures err { IfErr result (λ e. (e ≡ LineKind.Memory)
+        ⊎ (value_fault (shown default_index.entry) (data_of value.entry) ≡ Some e)) }
+{
+    let Some((name, metadata)) = action_of(value) else {
+        return Err(LineKind::NotOneAction);
+    };
+    let Some(kind) = ActionKind::named(name) else {
+        return Err(LineKind::UnsupportedAction);
+    };
+    let key = key_of(alloc, default_index, metadata)?;
+    Ok((kind, key))
 }

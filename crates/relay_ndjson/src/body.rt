@@ -2,10 +2,8 @@
 ghost use Rattle.std.specs.Prelude.{◌≡◌, ◌≢◌, ◌⊎◌, ◌≤◌, ℕ, List, [], IfOk, IfErr};
 ghost use Rattle.relay_ndjson.specs.Lines.{IsRaw};
 ghost use Rattle.relay_ndjson.specs.Operations.{line_count};
-ghost use Rattle.relay_ndjson.specs.Bodies.{BeginsWithLine, BeginsWithSource, BeginsWithWrite, LacksLine, LacksSource, BreaksWriteAt, IsBulk, IsBulkFault, ReadsBack};
-
-#[cfg(test)]
-mod tests;
+ghost use Rattle.relay_ndjson.specs.Bodies.{BeginsWithLine, LacksLine, IsNoSource, BreaksWriteAt, IsBulk, IsBulkFault, ReadsBack};
+ghost use Rattle.relay_ndjson.specs.Steps.{BeginsWithSource, BeginsWithWrite};
 
 use crate::action_line::read_source;
 use crate::kind::{BulkFault, LineKind};
@@ -15,6 +13,46 @@ use memchr::memchr;
 use relay_action::{Action, ActionKind, Write};
 use relay_json::Scratch;
 use std::alloc::Global;
+
+/// The writes of a body. Each line ends with a line feed, one carriage return before it is dropped, and
+/// no line is blank; an action line has the members `_index`, `_id`, `version` and `version_type`, and
+/// an index action is followed by its source. No bytes are no writes. The fault is the first line that
+/// is none of this, in the order of lines, and then there are no writes; or out of memory.
+pub fn read_bulk(alloc: Global, body: &[u8]) -> Result<Vec<Write>, BulkFault>
+    ensures ok { IfOk result (λ ws. IsBulk body.now ws.items) }
+    ensures err { IfErr result (IsBulkFault body.now) }
+    ensures round_trip { ReadsBack body.now result }
+{
+    let mut scratch = Scratch::new(alloc);
+    let mut writes = Vec::new(alloc);
+    let mut rest = body;
+    let mut lines = 0;
+    'writes: while !rest.is_empty() {
+        prove!(lines < body.len() as u64);
+        let (write, later) = match take_write(alloc, rest, &mut scratch) {
+            Ok(taken) => taken,
+            Err(fault) => {
+                return Err(BulkFault {
+                    line: lines + fault.line,
+                    kind: fault.kind,
+                });
+            }
+        };
+        let count = line_count(&write.action);
+        match writes.push(write) {
+            Ok(()) => {}
+            Err(_) => {
+                return Err(BulkFault {
+                    line: lines + 1,
+                    kind: LineKind::Memory,
+                });
+            }
+        }
+        lines += count;
+        rest = later;
+    }
+    Ok(writes)
+}
 
 // What stands before a line feed, without the one carriage return that may end it.
 fn without_return(raw: &[u8]) -> &[u8]
@@ -26,7 +64,7 @@ fn without_return(raw: &[u8]) -> &[u8]
     }
 }
 
-// The text of the line at the front, and the bytes behind it.
+// The text of the line at the front, and the bytes after it.
 fn front_line(bytes: &[u8]) -> Result<(&[u8], &[u8]), LineKind>
     requires { bytes.now ≢ [] }
     ensures ok { IfOk result (λ l. BeginsWithLine bytes.now l.1.now l.0.now) }
@@ -45,11 +83,11 @@ fn front_line(bytes: &[u8]) -> Result<(&[u8], &[u8]), LineKind>
     Ok((text, &bytes[end + 1..]))
 }
 
-// The source behind an index action, and the bytes behind its line. The fault's line is counted from
+// The source after an index action, and the bytes after its line. The fault's line is counted from
 // that of the action.
 fn take_source(alloc: Global, bytes: &[u8]) -> Result<(Action, &[u8]), BulkFault>
     ensures ok { IfOk result (λ t. BeginsWithSource bytes.now t.1.now t.0) }
-    ensures err { IfErr result (λ e. (e.kind ≡ LineKind.Memory) ⊎ LacksSource bytes.now e.line e.kind) }
+    ensures err { IfErr result (λ e. (e.kind ≡ LineKind.Memory) ⊎ IsNoSource bytes.now e.line e.kind) }
     ensures place { IfErr result (λ e. e.line ≤ 2) }
 {
     if bytes.is_empty() {
@@ -68,7 +106,7 @@ fn take_source(alloc: Global, bytes: &[u8]) -> Result<(Action, &[u8]), BulkFault
     }
 }
 
-// The write at the front, and the bytes behind its lines. The fault's line is counted from the first.
+// The write at the front, and the bytes after its lines. The fault's line is counted from the first.
 fn take_write<'b>(
     alloc: Global,
     bytes: &'b [u8],
@@ -118,44 +156,4 @@ fn line_count(action: &Action) -> u64
         Action::Index(_) => 2,
         Action::Delete => 1,
     }
-}
-
-/// The writes of a body. Each line ends with a line feed, one carriage return before it is dropped, and
-/// no line is blank; an action line has the members `_index`, `_id`, `version` and `version_type`, and
-/// an index action is followed by its source. No bytes are no writes. The fault is the first line that
-/// is none of this, in the order of lines, and then there are no writes; or want of memory.
-pub fn read_bulk(alloc: Global, body: &[u8]) -> Result<Vec<Write>, BulkFault>
-    ensures ok { IfOk result (λ ws. IsBulk body.now ws.items) }
-    ensures err { IfErr result (IsBulkFault body.now) }
-    ensures round_trip { ReadsBack body.now result }
-{
-    let mut scratch = Scratch::new(alloc);
-    let mut writes = Vec::new(alloc);
-    let mut rest = body;
-    let mut lines = 0;
-    'writes: while !rest.is_empty() {
-        prove!(lines < body.len() as u64);
-        let (write, behind) = match take_write(alloc, rest, &mut scratch) {
-            Ok(taken) => taken,
-            Err(fault) => {
-                return Err(BulkFault {
-                    line: lines + fault.line,
-                    kind: fault.kind,
-                });
-            }
-        };
-        let count = line_count(&write.action);
-        match writes.push(write) {
-            Ok(()) => {}
-            Err(_) => {
-                return Err(BulkFault {
-                    line: lines + 1,
-                    kind: LineKind::Memory,
-                });
-            }
-        }
-        lines += count;
-        rest = behind;
-    }
-    Ok(writes)
 }

@@ -10,10 +10,6 @@ use relay_action::{Action, ByteOut, Write, write_all};
 use std::alloc::{AllocError, Global};
 use thiserror::Error;
 
-/// The last version: OpenSearch takes external versions up to 2^63 - 1, and the relay deals none above
-/// this one.
-pub const LAST_VERSION: u64 = 9_000_000_000_000_000_000;
-
 /// Why a text was not written whole.
 #[derive(Clone, Copy, Debug, PartialEq, Eq, Error)]
 pub enum TextFault {
@@ -28,6 +24,53 @@ pub enum TextFault {
     #[error("out of memory")]
     Memory,
 }
+
+/// Appends the lines of a write to a text: the action line, and for an index action the source.
+/// `AllocError`: there was no memory for them, and the text is as before.
+pub fn append_write(alloc: Global, text: &mut Vec<u8>, write: &Write) -> Result<(), AllocError>
+    ensures ok { OnOk result (text.new.items ≡ text.old.items ++ write_text write.now) }
+    ensures err { OnErr result (text.new.items ≡ text.old.items) }
+{
+    let length = text.len();
+    let done = append_lines(alloc, text, write);
+    if done.is_err() {
+        text.truncate(length);
+    }
+    done
+}
+
+/// The bulk text of writes: their lines, one after another. `AllocError`: there was no memory for it.
+pub fn bulk_text(alloc: Global, writes: &[Write]) -> Result<Vec<u8>, AllocError>
+    ensures { IfOk result (λ text. text.items ≡ text_of writes.now) }
+{
+    let mut text = Vec::new(alloc);
+    for write in writes {
+        append_write(alloc, &mut text, write)?;
+    }
+    Ok(text)
+}
+
+/// Writes the lines of a write to a stream. The faults say what went out.
+pub fn write_write<W: ByteOut>(alloc: Global, out: &mut W, write: &Write) -> Result<(), TextFault>
+    ensures text { WritesText (W.written out.old) (W.written out.new) (write_text write.now) result }
+    ensures failed { FailsOnWrite (W.failed out.old) (W.failed out.new) result }
+    ensures left { W.left out.new ≡ W.left out.old }
+{
+    let mut text = Vec::new(alloc);
+    append_write(alloc, &mut text, write).map_err(|_| TextFault::Memory)?;
+    write_all(out, text.as_slice()).map_err(|sent| TextFault::Write { sent: sent as u64 })
+}
+
+/// A law: a byte of a text stands in a JSON string as the table of escapes says.
+#[tactic(auto, unfolding(json::specs::Print::escape_byte))]
+pub fn escapes_by_table()
+    ensures { EscapesByTable }
+{}
+
+/// A law: an action line reads, as the JSON value that `serde_json` reads, as what it says.
+pub fn action_lines_read_back()
+    ensures { ActionLinesReadBack }
+{}
 
 // How an action line begins, up to the text of the id.
 fn opening(action: &Action) -> &'static [u8]
@@ -98,50 +141,3 @@ fn append_lines(alloc: Global, text: &mut Vec<u8>, write: &Write) -> Result<(), 
     append_version(text, write.version)?;
     append_source(text, &write.action)
 }
-
-/// Appends the lines of a write to a text: the action line, and for an index action the source.
-/// `AllocError`: there was no memory for them, and the text is as before.
-pub fn append_write(alloc: Global, text: &mut Vec<u8>, write: &Write) -> Result<(), AllocError>
-    ensures ok { OnOk result (text.new.items ≡ text.old.items ++ write_text write.now) }
-    ensures err { OnErr result (text.new.items ≡ text.old.items) }
-{
-    let length = text.len();
-    let done = append_lines(alloc, text, write);
-    if done.is_err() {
-        text.truncate(length);
-    }
-    done
-}
-
-/// The bulk text of writes: their lines, one after another. `AllocError`: there was no memory for it.
-pub fn bulk_text(alloc: Global, writes: &[Write]) -> Result<Vec<u8>, AllocError>
-    ensures { IfOk result (λ text. text.items ≡ text_of writes.now) }
-{
-    let mut text = Vec::new(alloc);
-    for write in writes {
-        append_write(alloc, &mut text, write)?;
-    }
-    Ok(text)
-}
-
-/// Writes the lines of a write to a stream. The faults say what went out.
-pub fn write_write<W: ByteOut>(alloc: Global, out: &mut W, write: &Write) -> Result<(), TextFault>
-    ensures text { WritesText (W.written out.old) (W.written out.new) (write_text write.now) result }
-    ensures failed { FailsOnWrite (W.failed out.old) (W.failed out.new) result }
-    ensures left { W.left out.new ≡ W.left out.old }
-{
-    let mut text = Vec::new(alloc);
-    append_write(alloc, &mut text, write).map_err(|_| TextFault::Memory)?;
-    write_all(out, text.as_slice()).map_err(|sent| TextFault::Write { sent: sent as u64 })
-}
-
-/// A law: a byte of a text stands in a JSON string as the table of escapes says.
-#[tactic(auto, unfolding(json::specs::Print::escape_byte))]
-pub fn escapes_by_table()
-    ensures { EscapesByTable }
-{}
-
-/// A law: an action line reads, as the JSON value that `serde_json` reads, as what it says.
-pub fn action_lines_read_back()
-    ensures { ActionLinesReadBack }
-{}

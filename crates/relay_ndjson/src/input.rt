@@ -1,5 +1,5 @@
 //! The operations of a producer with the stream that they are read from.
-ghost use Rattle.std.specs.Prelude.{◌≡◌, ◌↔◌, IsTrue};
+ghost use Rattle.std.specs.Prelude.{◌≡◌, ◌≤◌, ◌↔◌, length, IsTrue};
 
 use crate::kind::InputFault;
 use crate::parser::Parser;
@@ -25,6 +25,7 @@ impl<'a, R: ByteIn> Model for Input<'a, R> {
 
 impl<'a, R: ByteIn> Input<'a, R> {
     ghost use Rattle.relay_ndjson.specs.Metadata.{shown};
+    ghost use Rattle.relay_ndjson.specs.Lines.{piece_limit};
     ghost use Rattle.relay_ndjson.specs.Operations.{failed_after};
     ghost use Rattle.relay_ndjson.specs.Reading.{fresh, Steps, HoldsTwoLines};
 
@@ -43,6 +44,7 @@ impl<'a, R: ByteIn> Input<'a, R> {
     pub fn next(&mut self) -> Result<Option<(DocKey, Action)>, InputFault>
         ensures lines { Steps self.old.phase self.old self.new result }
         ensures failed { self.new.failed ≡ failed_after result self.old.failed }
+        ensures held { length self.new.held ≤ piece_limit }
     {
         self.parser.next(&mut self.reader)
     }

@@ -3,73 +3,43 @@ ghost use Rattle.std.specs.Prelude.{◌≡◌};
 ghost use Rattle.relay_ndjson.specs.Kinds.{kind_of, fault_name, name_of};
 
 use relay_action::ActionFault;
+use std::fmt;
 use thiserror::Error;
 
-/// What is wrong with a line. The text of a variant is its name, as the programs print it.
-#[derive(Clone, Copy, Debug, PartialEq, Eq, Error)]
+/// What is wrong with a line. Its text is its name, as the programs print it.
+#[derive(Clone, Copy, Debug, PartialEq, Eq)]
 pub enum LineKind {
     /// The line is not UTF-8, or an action line is not JSON, or nests more than 127 deep.
-    #[error("NotJson")]
     NotJson,
     /// The action line is not an object of one member whose value is an object.
-    #[error("NotOneAction")]
     NotOneAction,
     /// The member is named neither `index` nor `delete`.
-    #[error("UnsupportedAction")]
     UnsupportedAction,
     /// The metadata have a member that is none of `_index`, `_id`, `version` and `version_type`.
-    #[error("UnsupportedField")]
     UnsupportedField,
     /// `_index` is absent and there is no default, or it is not a text.
-    #[error("MissingIndex")]
     MissingIndex,
     /// `_id` is absent, or is neither a text nor an integer of 64 bits.
-    #[error("MissingId")]
     MissingId,
     /// A producer's line has `version` or `version_type`, which the relay gives.
-    #[error("VersionGiven")]
     VersionGiven,
     /// On the index side, `version` or `version_type` is absent or not as it has to be.
-    #[error("VersionMissing")]
     VersionMissing,
-    /// The input ended behind an index action, whose source was to follow.
-    #[error("SourceMissing")]
+    /// The input ended after an index action, whose source was to follow.
     SourceMissing,
     /// The document or the source is refused.
-    #[error("{0}")]
     Action(ActionFault),
     /// On the index side, the last line has no line end.
-    #[error("NoFinalNewline")]
     NoFinalNewline,
     /// The line has more than 1,114,112 bytes without its end, or it is the blank line after 65,536
     /// blank lines in succession.
-    #[error("LineLong")]
     LineLong,
     /// A read failed. It is not repeated.
-    #[error("Read")]
     Read,
     /// There was no memory for the line or for what stands on it.
-    #[error("Memory")]
     Memory,
     /// There was a fault before, on the line that is named.
-    #[error("Failed")]
     Failed,
-}
-
-// The name of a fault of a document or a source.
-fn fault_name(fault: ActionFault) -> &'static str
-    ensures { result.now ≡ fault_name fault }
-{
-    match fault {
-        ActionFault::IndexEmpty => "IndexEmpty",
-        ActionFault::IndexLong => "IndexLong",
-        ActionFault::IdEmpty => "IdEmpty",
-        ActionFault::IdLong => "IdLong",
-        ActionFault::SourceEmpty => "SourceEmpty",
-        ActionFault::SourceLong => "SourceLong",
-        ActionFault::SourceNewline => "SourceNewline",
-        ActionFault::Memory => "Memory",
-    }
 }
 
 impl LineKind {
@@ -97,6 +67,14 @@ impl LineKind {
     }
 }
 
+impl fmt::Display for LineKind {
+    fn fmt<W: fmt::Write>(&self, f: &mut fmt::Formatter<W>) -> fmt::Result {
+        f.write_str(self.name())
+    }
+}
+
+impl std::error::Error for LineKind {}
+
 /// Which line of an input is at fault, and why.
 #[derive(Clone, Copy, Debug, PartialEq, Eq, Error)]
 #[error("line {line}: {kind}")]
@@ -117,12 +95,28 @@ pub struct BulkFault {
     pub kind: LineKind,
 }
 
-/// The kind of a fault of a document or a source. Want of memory has a kind of its own.
+/// The kind of a fault of a document or a source. Out of memory has a kind of its own.
 pub fn kind_of(fault: ActionFault) -> LineKind
     ensures { result ≡ kind_of fault }
 {
     match fault {
         ActionFault::Memory => LineKind::Memory,
         fault => LineKind::Action(fault),
+    }
+}
+
+// The name of a fault of a document or a source.
+fn fault_name(fault: ActionFault) -> &'static str
+    ensures { result.now ≡ fault_name fault }
+{
+    match fault {
+        ActionFault::IndexEmpty => "IndexEmpty",
+        ActionFault::IndexLong => "IndexLong",
+        ActionFault::IdEmpty => "IdEmpty",
+        ActionFault::IdLong => "IdLong",
+        ActionFault::SourceEmpty => "SourceEmpty",
+        ActionFault::SourceLong => "SourceLong",
+        ActionFault::SourceNewline => "SourceNewline",
+        ActionFault::Memory => "Memory",
     }
 }

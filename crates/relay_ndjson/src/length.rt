@@ -6,6 +6,30 @@ ghost use Rattle.relay_ndjson.specs.Bulk.{action_text, source_line, write_text, 
 use itoa::Buffer;
 use relay_action::{Action, Write};
 
+/// The length of a write's lines, in bytes: below 2^21. It takes no memory.
+pub fn write_len(write: &Write) -> u64
+    ensures value { result ≡ length (write_text write.now) }
+    ensures bound { result < 2 ^ 21 }
+{
+    let source = match &write.action {
+        Action::Index(source) => source.text().len() as u64 + 1,
+        Action::Delete => 0,
+    };
+    action_len(write) + 1 + source
+}
+
+/// The length of the bulk text of at most 10,000 writes, in bytes. It takes no memory.
+pub fn bulk_len(writes: &[Write]) -> u64
+    requires { length writes.now ≤ 10000 }
+    ensures { result ≡ length (text_of writes.now) }
+{
+    let mut total = 0;
+    for write in writes {
+        total += write_len(write);
+    }
+    total
+}
+
 // How many bytes stand for a byte in a JSON string.
 #[tactic(auto, unfolding(json::specs::Print::escape_byte))]
 fn escape_len(byte: u8) -> u64
@@ -51,28 +75,4 @@ fn action_len(write: &Write) -> u64
         Action::Delete => 6,
     };
     64 + name + escaped_len(write.key.id()) + escaped_len(write.key.index()) + digits(write.version)
-}
-
-/// The length of a write's lines, in bytes: below 2^21. It takes no memory.
-pub fn write_len(write: &Write) -> u64
-    ensures value { result ≡ length (write_text write.now) }
-    ensures bound { result < 2 ^ 21 }
-{
-    let source = match &write.action {
-        Action::Index(source) => source.text().len() as u64 + 1,
-        Action::Delete => 0,
-    };
-    action_len(write) + 1 + source
-}
-
-/// The length of the bulk text of at most 10,000 writes, in bytes. It takes no memory.
-pub fn bulk_len(writes: &[Write]) -> u64
-    requires { length writes.now ≤ 10000 }
-    ensures { result ≡ length (text_of writes.now) }
-{
-    let mut total = 0;
-    for write in writes {
-        total += write_len(write);
-    }
-    total
 }

@@ -19,14 +19,13 @@ mod lines;
 pub mod parser;
 mod piece;
 mod quoted;
-#[cfg(test)]
-mod tests;
 mod versioned_line;
 
 pub use body::read_bulk;
-pub use bulk::{LAST_VERSION, TextFault, append_write, bulk_text, write_write};
+pub use bulk::{TextFault, append_write, bulk_text, write_write};
 pub use input::Input;
 pub use kind::{BulkFault, InputFault, LineKind};
 pub use length::{bulk_len, write_len};
 pub use lines::{BLANK_LIMIT, LINE_LIMIT};
 pub use parser::{Parser, Phase};
+pub use relay_action::LAST_VERSION;

@@ -1,10 +1,11 @@
 //! Lines of a producer, and the operations that stand on them.
-ghost use Rattle.std.specs.Prelude.{◌≡◌, ◌<◌, ◌≤◌, ◌↔◌, ◌++◌, ℕ, [], true, false, OnOk, IfErr, IfSome, IfNone, IsTrue, length, slice_index};
+ghost use Rattle.std.specs.Prelude.{◌≡◌, ◌<◌, ◌≤◌, ◌↔◌, ◌++◌, ℕ, List, Option, [], true, false, OnOk, OnErr, IfErr, IfSome, IfNone, IsTrue, length, slice_index};
 ghost use Rattle.std.specs.Bool.{OnTrue, OnFalse};
 ghost use Rattle.std.specs.Io.KnownBytes.{prepend_known};
 ghost use Rattle.relay_action.specs.Limits.{is_line_end};
 ghost use Rattle.relay_action.specs.Streams.{most};
-ghost use Rattle.relay_ndjson.specs.Lines.{IsStart, IsUnbroken, IsRaw, IsPastLimit, IsAddFault, TakesPart, TakesLine, EndsLine, failed_by, line_limit};
+ghost use Rattle.relay_ndjson.specs.Lines.{IsUnbroken, IsRaw, IsPastLimit, StopsInLine, line_limit, piece_limit};
+ghost use Rattle.relay_ndjson.specs.Steps.{IsStart, IsAddFault, TakesPart, TakesLine, EndsLine, failed_by};
 ghost use Rattle.relay_ndjson.specs.Reading.{HoldsTwoLines};
 
 use crate::action_line::{read_action, read_source};
@@ -34,10 +35,223 @@ pub enum Line {
 
 /// An operation, and the number of its action line.
 #[derive(Drop)]
-pub struct Found {
+pub struct NumberedOperation {
     pub line: u64,
     pub key: DocKey,
     pub action: Action,
+}
+
+/// The lines of a stream: what was read and not used yet, the line that was taken last, how many were
+/// taken, and room that serves the reading of one action line after another.
+#[derive(Drop)]
+pub struct Lines {
+    pub piece: Piece,
+    pub text: Vec<u8>,
+    pub count: u64,
+    pub scratch: Scratch,
+    ghost in_range: { count ≤ most },
+    ghost one_piece: { length piece ≤ piece_limit },
+}
+
+impl Lines {
+    ghost use Rattle.relay_ndjson.specs.Metadata.{shown};
+    ghost use Rattle.relay_ndjson.specs.Operations.{Stops, failed_after};
+    ghost use Rattle.relay_ndjson.specs.Steps.{TakesNext, SkipsBlank, TakesSource, Reads, StopsInSource};
+
+    /// Lines of which none was taken.
+    pub fn new(alloc: Global) -> Lines
+        ensures piece { result.piece ≡ [] }
+        ensures count { result.count ≡ 0 }
+    {
+        Lines {
+            piece: Piece::new(alloc),
+            text: Vec::new(alloc),
+            count: 0,
+            scratch: Scratch::new(alloc),
+        }
+    }
+
+    // Adds what the piece holds of the line that has begun, and tells whether that ends it.
+    fn take_part(&mut self) -> Result<bool, LineKind>
+        requires unbroken { IsUnbroken self.old.text.items }
+        requires start { IsStart self.old.text.items }
+        ensures part { TakesPart self.old.text.items self.old.piece self.new.text.items self.new.piece result }
+        ensures kept { OnErr result (self.new.piece ≡ self.old.piece) }
+        ensures count { self.new.count ≡ self.old.count }
+    {
+        match memchr(b'\n', self.piece.held()) {
+            Some(end) => {
+                if let Err(fault) = add(&mut self.text, &self.piece.held()[..end]) {
+                    return Err(fault);
+                }
+                drop_return(&mut self.text);
+                self.piece.skip(end + 1);
+                Ok(true)
+            }
+            None => {
+                if let Err(fault) = add(&mut self.text, self.piece.held()) {
+                    return Err(fault);
+                }
+                let count = self.piece.held().len();
+                self.piece.skip(count);
+                Ok(false)
+            }
+        }
+    }
+
+    // Reads a line into the buffer.
+    fn read_line<R: ByteIn>(&mut self, reader: &mut R) -> Result<Line, LineKind>
+        ensures line { TakesLine (prepend_known self.old.piece (R.left reader.old))
+            (prepend_known self.new.piece (R.left reader.new)) self.new.text.items result }
+        ensures stop { IfErr result (StopsInLine (prepend_known self.old.piece (R.left reader.old))
+            (prepend_known self.new.piece (R.left reader.new)) self.new.piece) }
+        ensures failed { R.failed reader.new ≡ failed_by result (R.failed reader.old) }
+        ensures count { self.new.count ≡ self.old.count }
+    {
+        self.text.clear();
+        'pieces: loop {
+            match self.piece.refill(reader) {
+                Ok(true) => {}
+                Ok(false) => return end_of_line(self.text.as_slice()),
+                Err(fault) => return Err(fault),
+            }
+            match self.take_part() {
+                Ok(true) => return Ok(Line::Ended),
+                Ok(false) => {}
+                Err(fault) => return Err(fault),
+            }
+        }
+    }
+
+    // Takes a line, if there is one.
+    fn take_line<R: ByteIn>(&mut self, reader: &mut R) -> Result<bool, InputFault>
+        ensures line { TakesNext (prepend_known self.old.piece (R.left reader.old))
+            (prepend_known self.new.piece (R.left reader.new)) self.old.count self.new.count self.new.text.items result }
+        ensures stop { IfErr result (λ e. StopsInLine (prepend_known self.old.piece (R.left reader.old))
+            (prepend_known self.new.piece (R.left reader.new)) self.new.piece e.kind) }
+        ensures failed { R.failed reader.new ≡ failed_after result (R.failed reader.old) }
+    {
+        let number = self.count.saturating_add(1);
+        let line = match self.read_line(reader) {
+            Ok(line) => line,
+            Err(kind) => return Err(InputFault { line: number, kind }),
+        };
+        match line {
+            Line::Absent => Ok(false),
+            Line::Ended | Line::Open => {
+                self.count = number;
+                Ok(true)
+            }
+        }
+    }
+
+    // Takes blank lines and the action line after them, if there is one.
+    fn skip_blank<R: ByteIn>(&mut self, reader: &mut R) -> Result<bool, InputFault>
+        ensures line { SkipsBlank (prepend_known self.old.piece (R.left reader.old))
+            (prepend_known self.new.piece (R.left reader.new)) self.old.count self.new.count self.new.text.items result }
+        ensures stop { IfErr result (λ e. (default : Option (List ℕ)) → Stops default (prepend_known self.old.piece (R.left reader.old))
+            (prepend_known self.new.piece (R.left reader.new)) self.new.piece self.old.count e) }
+        ensures failed { R.failed reader.new ≡ failed_after result (R.failed reader.old) }
+    {
+        for blank in 0..BLANK_LIMIT + 1 {
+            let found = match self.take_line(reader) {
+                Ok(found) => found,
+                Err(fault) => return Err(fault),
+            };
+            if !found {
+                return Ok(false);
+            }
+            if !self.text.is_empty() {
+                return Ok(true);
+            }
+        }
+        Err(InputFault {
+            line: self.count,
+            kind: LineKind::LineLong,
+        })
+    }
+
+    // Takes the source line of the action on a line.
+    fn take_source<R: ByteIn>(
+        &mut self,
+        alloc: Global,
+        reader: &mut R,
+        line: u64,
+    ) -> Result<Action, InputFault>
+        ensures line { TakesSource (prepend_known self.old.piece (R.left reader.old))
+            (prepend_known self.new.piece (R.left reader.new)) line self.old.count self.new.count result }
+        ensures stop { IfErr result (StopsInSource (prepend_known self.old.piece (R.left reader.old))
+            (prepend_known self.new.piece (R.left reader.new)) self.new.piece line self.old.count) }
+        ensures failed { R.failed reader.new ≡ failed_after result (R.failed reader.old) }
+    {
+        let found = self.take_line(reader)?;
+        if !found {
+            return Err(InputFault {
+                line,
+                kind: LineKind::SourceMissing,
+            });
+        }
+        match read_source(alloc, self.text.as_slice()) {
+            Ok(action) => Ok(action),
+            Err(kind) => Err(InputFault {
+                line: self.count,
+                kind,
+            }),
+        }
+    }
+
+    /// Takes blank lines and the lines of the operation after them, if there is one.
+    pub fn take_operation<R: ByteIn>(
+        &mut self,
+        alloc: Global,
+        reader: &mut R,
+        default_index: Option<&str>,
+    ) -> Result<Option<NumberedOperation>, InputFault>
+        ensures lines { Reads (shown default_index.entry)
+            (prepend_known self.old.piece (R.left reader.old)) (prepend_known self.new.piece (R.left reader.new))
+            self.old.count self.new.count result }
+        ensures stop { IfErr result (Stops (shown default_index.entry) (prepend_known self.old.piece (R.left reader.old))
+            (prepend_known self.new.piece (R.left reader.new)) self.new.piece self.old.count) }
+        ensures failed { R.failed reader.new ≡ failed_after result (R.failed reader.old) }
+    {
+        let found = match self.skip_blank(reader) {
+            Ok(found) => found,
+            Err(fault) => return Err(fault),
+        };
+        if !found {
+            return Ok(None);
+        }
+        let line = self.count;
+        let text = self.text.as_slice();
+        let (kind, key) = match read_action(alloc, default_index, text, &mut self.scratch) {
+            Ok(asked) => asked,
+            Err(kind) => return Err(InputFault { line, kind }),
+        };
+        match kind {
+            ActionKind::Delete => Ok(Some(NumberedOperation {
+                line,
+                key,
+                action: Action::delete(),
+            })),
+            ActionKind::Index => match self.take_source(alloc, reader, line) {
+                Ok(action) => Ok(Some(NumberedOperation { line, key, action })),
+                Err(fault) => Err(fault),
+            },
+        }
+    }
+}
+
+/// Whether a byte that ends no line stands there, and two line feeds after it.
+pub fn holds_two_lines(bytes: &[u8]) -> bool
+    ensures { IsTrue result ↔ HoldsTwoLines bytes.now }
+{
+    let Some(start) = text_start(bytes) else {
+        return false;
+    };
+    let Some(end) = memchr(b'\n', &bytes[start..]) else {
+        return false;
+    };
+    memchr(b'\n', &bytes[start + end + 1..]).is_some()
 }
 
 // Whether a line with these bytes added is longer than a line may be, whatever follows them.
@@ -83,7 +297,7 @@ fn drop_return(line: &mut Vec<u8>)
     }
 }
 
-// What the bytes of a line are where the input ends behind them.
+// What the bytes of a line are where the input ends after them.
 fn end_of_line(line: &[u8]) -> Result<Line, LineKind>
     ensures { EndsLine line.now result }
 {
@@ -106,207 +320,4 @@ fn text_start(bytes: &[u8]) -> Option<usize>
     bytes
         .iter()
         .position(|byte| *byte != b'\n' && *byte != b'\r')
-}
-
-/// Whether a byte that ends no line stands there, and two line feeds behind it.
-pub fn holds_two_lines(bytes: &[u8]) -> bool
-    ensures { IsTrue result ↔ HoldsTwoLines bytes.now }
-{
-    let Some(start) = text_start(bytes) else {
-        return false;
-    };
-    let Some(end) = memchr(b'\n', &bytes[start..]) else {
-        return false;
-    };
-    memchr(b'\n', &bytes[start + end + 1..]).is_some()
-}
-
-/// The lines of a stream: what was read and not used yet, the line that was taken last, how many were
-/// taken, and room that serves the reading of one action line after another.
-#[derive(Drop)]
-pub struct Lines {
-    pub piece: Piece,
-    pub text: Vec<u8>,
-    pub count: u64,
-    pub scratch: Scratch,
-    ghost in_range: { count ≤ most },
-}
-
-impl Lines {
-    ghost use Rattle.relay_ndjson.specs.Metadata.{shown};
-    ghost use Rattle.relay_ndjson.specs.Operations.{TakesNext, SkipsBlank, TakesSource, Reads, failed_after};
-
-    /// Lines of which none was taken.
-    pub fn new(alloc: Global) -> Lines
-        ensures piece { result.piece ≡ [] }
-        ensures count { result.count ≡ 0 }
-    {
-        Lines {
-            piece: Piece::new(alloc),
-            text: Vec::new(alloc),
-            count: 0,
-            scratch: Scratch::new(alloc),
-        }
-    }
-
-    // Adds what the piece holds of the line that has begun, and tells whether that ends it.
-    fn take_part(&mut self) -> Result<bool, LineKind>
-        requires unbroken { IsUnbroken self.old.text.items }
-        requires start { IsStart self.old.text.items }
-        ensures part { TakesPart self.old.text.items self.old.piece self.new.text.items self.new.piece result }
-        ensures count { self.new.count ≡ self.old.count }
-    {
-        match memchr(b'\n', self.piece.held()) {
-            Some(end) => {
-                if let Err(fault) = add(&mut self.text, &self.piece.held()[..end]) {
-                    return Err(fault);
-                }
-                drop_return(&mut self.text);
-                self.piece.skip(end + 1);
-                Ok(true)
-            }
-            None => {
-                if let Err(fault) = add(&mut self.text, self.piece.held()) {
-                    return Err(fault);
-                }
-                let count = self.piece.held().len();
-                self.piece.skip(count);
-                Ok(false)
-            }
-        }
-    }
-
-    // Reads a line into the buffer.
-    fn read_line<R: ByteIn>(&mut self, reader: &mut R) -> Result<Line, LineKind>
-        ensures line { TakesLine (prepend_known self.old.piece (R.left reader.old))
-            (prepend_known self.new.piece (R.left reader.new)) self.new.text.items result }
-        ensures failed { R.failed reader.new ≡ failed_by result (R.failed reader.old) }
-        ensures count { self.new.count ≡ self.old.count }
-    {
-        self.text.clear();
-        'pieces: loop {
-            match self.piece.refill(reader) {
-                Ok(true) => {}
-                Ok(false) => return end_of_line(self.text.as_slice()),
-                Err(fault) => return Err(fault),
-            }
-            match self.take_part() {
-                Ok(true) => return Ok(Line::Ended),
-                Ok(false) => {}
-                Err(fault) => return Err(fault),
-            }
-        }
-    }
-
-    // Takes a line, if there is one.
-    fn take_line<R: ByteIn>(&mut self, reader: &mut R) -> Result<bool, InputFault>
-        ensures line { TakesNext (prepend_known self.old.piece (R.left reader.old))
-            (prepend_known self.new.piece (R.left reader.new)) self.old.count self.new.count self.new.text.items result }
-        ensures failed { R.failed reader.new ≡ failed_after result (R.failed reader.old) }
-    {
-        let number = self.count.saturating_add(1);
-        let line = match self.read_line(reader) {
-            Ok(line) => line,
-            Err(kind) => return Err(InputFault { line: number, kind }),
-        };
-        match line {
-            Line::Absent => Ok(false),
-            Line::Ended | Line::Open => {
-                self.count = number;
-                Ok(true)
-            }
-        }
-    }
-
-    // Takes blank lines and the action line behind them, if there is one.
-    fn skip_blank<R: ByteIn>(&mut self, reader: &mut R) -> Result<bool, InputFault>
-        ensures line { SkipsBlank (prepend_known self.old.piece (R.left reader.old))
-            (prepend_known self.new.piece (R.left reader.new)) self.old.count self.new.count self.new.text.items result }
-        ensures failed { R.failed reader.new ≡ failed_after result (R.failed reader.old) }
-    {
-        for blank in 0..BLANK_LIMIT + 1 {
-            let found = match self.take_line(reader) {
-                Ok(found) => found,
-                Err(fault) => return Err(fault),
-            };
-            if !found {
-                return Ok(false);
-            }
-            if !self.text.is_empty() {
-                return Ok(true);
-            }
-        }
-        Err(InputFault {
-            line: self.count,
-            kind: LineKind::LineLong,
-        })
-    }
-
-    // Takes the source line of the action on a line.
-    fn take_source<R: ByteIn>(
-        &mut self,
-        alloc: Global,
-        reader: &mut R,
-        line: u64,
-    ) -> Result<Action, InputFault>
-        ensures line { TakesSource (prepend_known self.old.piece (R.left reader.old))
-            (prepend_known self.new.piece (R.left reader.new)) line self.old.count self.new.count result }
-        ensures failed { R.failed reader.new ≡ failed_after result (R.failed reader.old) }
-    {
-        let found = match self.take_line(reader) {
-            Ok(found) => found,
-            Err(fault) => return Err(fault),
-        };
-        if !found {
-            return Err(InputFault {
-                line,
-                kind: LineKind::SourceMissing,
-            });
-        }
-        match read_source(alloc, self.text.as_slice()) {
-            Ok(action) => Ok(action),
-            Err(kind) => Err(InputFault {
-                line: self.count,
-                kind,
-            }),
-        }
-    }
-
-    /// Takes blank lines and the lines of the operation behind them, if there is one.
-    pub fn take_operation<R: ByteIn>(
-        &mut self,
-        alloc: Global,
-        reader: &mut R,
-        default_index: Option<&str>,
-    ) -> Result<Option<Found>, InputFault>
-        ensures lines { Reads (shown default_index.entry)
-            (prepend_known self.old.piece (R.left reader.old)) (prepend_known self.new.piece (R.left reader.new))
-            self.old.count self.new.count result }
-        ensures failed { R.failed reader.new ≡ failed_after result (R.failed reader.old) }
-    {
-        let found = match self.skip_blank(reader) {
-            Ok(found) => found,
-            Err(fault) => return Err(fault),
-        };
-        if !found {
-            return Ok(None);
-        }
-        let line = self.count;
-        let text = self.text.as_slice();
-        let (kind, key) = match read_action(alloc, default_index, text, &mut self.scratch) {
-            Ok(asked) => asked,
-            Err(kind) => return Err(InputFault { line, kind }),
-        };
-        match kind {
-            ActionKind::Delete => Ok(Some(Found {
-                line,
-                key,
-                action: Action::delete(),
-            })),
-            ActionKind::Index => match self.take_source(alloc, reader, line) {
-                Ok(action) => Ok(Some(Found { line, key, action })),
-                Err(fault) => Err(fault),
-            },
-        }
-    }
 }

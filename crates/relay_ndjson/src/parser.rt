@@ -1,8 +1,8 @@
 //! The operations of a producer, read one after another from a stream that the caller holds.
-ghost use Rattle.std.specs.Prelude.{◌≡◌, ◌↔◌, IsTrue};
+ghost use Rattle.std.specs.Prelude.{◌≡◌, ◌≤◌, ◌↔◌, length, IsTrue};
 
 use crate::kind::{InputFault, LineKind};
-use crate::lines::{Found, Lines, holds_two_lines};
+use crate::lines::{Lines, NumberedOperation, holds_two_lines};
 use relay_action::{Action, ByteIn, DocKey};
 use std::alloc::Global;
 use std::marker::Model;
@@ -47,6 +47,7 @@ impl<'a> Model for Parser<'a> {
 
 impl<'a> Parser<'a> {
     ghost use Rattle.relay_ndjson.specs.Metadata.{shown};
+    ghost use Rattle.relay_ndjson.specs.Lines.{piece_limit};
     ghost use Rattle.relay_ndjson.specs.Operations.{failed_after};
     ghost use Rattle.relay_ndjson.specs.Reading.{start, reading, Steps, HoldsTwoLines};
 
@@ -65,8 +66,10 @@ impl<'a> Parser<'a> {
     }
 
     /// The next operation, or `None` at the end. The fault is the first line that breaks the producer
-    /// grammar, a failed read, or want of memory, with the line that was being read. After `None` it
-    /// answers `None`, and after a fault `Failed` with the line of that fault; neither reads.
+    /// grammar, a failed read, or out of memory, with the line that was being read. No more of the stream
+    /// is read than the line at fault and a piece of 64 KiB, and a failed read is not repeated: before it
+    /// no whole operation was left. After `None` it answers `None`, and after a fault `Failed` with the
+    /// line of that fault; neither reads.
     pub fn next<R: ByteIn>(
         &mut self,
         reader: &mut R,
@@ -74,6 +77,7 @@ impl<'a> Parser<'a> {
         ensures lines { Steps self.old.phase (reading (R.left reader.old) (R.failed reader.old) self.old)
             (reading (R.left reader.new) (R.failed reader.new) self.new) result }
         ensures failed { R.failed reader.new ≡ failed_after result (R.failed reader.old) }
+        ensures held { length self.new.held ≤ piece_limit }
     {
         match self.phase {
             Phase::Ended => return Ok(None),
@@ -89,7 +93,7 @@ impl<'a> Parser<'a> {
             .lines
             .take_operation(self.alloc, reader, self.default_index)
         {
-            Ok(Some(Found { line, key, action })) => {
+            Ok(Some(NumberedOperation { line, key, action })) => {
                 self.line = line;
                 Ok(Some((key, action)))
             }
@@ -104,7 +108,7 @@ impl<'a> Parser<'a> {
         }
     }
 
-    /// Whether the next answer needs no read: behind blank lines, two whole lines stand in what was read.
+    /// Whether the next answer needs no read: after blank lines, two whole lines stand in what was read.
     /// Where it says no, the next call of `next` may wait for the stream.
     pub fn is_ready(&self) -> bool
         ensures { IsTrue result ↔ HoldsTwoLines self.now.held }

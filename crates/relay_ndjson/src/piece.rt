@@ -1,8 +1,9 @@
 //! What was read of a stream and not used yet.
-ghost use Rattle.std.specs.Prelude.{◌≡◌, ◌≢◌, ◌<◌, ◌≤◌, ◌↔◌, [], length, drop, vec_len, IsTrue, IfOk, IfErr, OnOk};
+ghost use Rattle.std.specs.Prelude.{◌≡◌, ◌≢◌, ◌<◌, ◌≤◌, ◌↔◌, [], length, drop, vec_len, IsTrue, IfOk, IfErr, OnOk, OnErr};
 ghost use Rattle.std.specs.Bool.{OnTrue, OnFalse};
 ghost use Rattle.std.specs.Io.KnownBytes.{prepend_known, IsAtEnd};
-ghost use Rattle.relay_ndjson.specs.Lines.{IsFillFault, failed_by};
+ghost use Rattle.relay_ndjson.specs.Lines.{piece_limit};
+ghost use Rattle.relay_ndjson.specs.Steps.{IsFillFault, failed_by};
 
 use crate::kind::LineKind;
 use relay_action::ByteIn;
@@ -29,12 +30,14 @@ impl Model for Piece {
 
     ghost view = { λ p. take (p.to - p.from) (drop p.from p.bytes.items) };
 
-    ghost invariant = { λ p. (p.from ≤ p.to) × (p.to ≤ vec_len p.bytes) };
+    ghost use Rattle.relay_ndjson.specs.Lines.{piece_limit};
+
+    ghost invariant = { λ p. (p.from ≤ p.to) × (p.to ≤ vec_len p.bytes) × (vec_len p.bytes ≤ piece_limit) };
 }
 
 // Room for a piece.
 fn make_room(alloc: Global) -> Result<Vec<u8>, AllocError>
-    ensures { IfOk result (λ bytes. 0 < vec_len bytes) }
+    ensures { IfOk result (λ bytes. vec_len bytes ≡ piece_limit) }
 {
     vec![in alloc; 0; PIECE]
 }
@@ -81,6 +84,8 @@ impl Piece {
         ensures left { R.left reader.old ≡ prepend_known self.new (R.left reader.new) }
         ensures end { OnOk result (self.new ≡ [] → IsAtEnd (R.left reader.old)) }
         ensures err { IfErr result IsFillFault }
+        ensures none { OnErr result (self.new ≡ []) }
+        ensures within { length self.new ≤ piece_limit }
         ensures failed { R.failed reader.new ≡ failed_by result (R.failed reader.old) }
     {
         if self.bytes.is_empty() {
@@ -103,18 +108,19 @@ impl Piece {
     /// Sees that it holds bytes, by a read where none is left, and tells whether it does. Where it does
     /// not, the stream has ended.
     pub fn refill<R: ByteIn>(&mut self, reader: &mut R) -> Result<bool, LineKind>
+        requires { length self.old ≤ piece_limit }
         ensures left { prepend_known self.old (R.left reader.old) ≡ prepend_known self.new (R.left reader.new) }
         ensures found { IfOk result (λ found. OnTrue found (self.new ≢ [])) }
         ensures end { IfOk result (λ found. OnFalse found (IsAtEnd (prepend_known self.new (R.left reader.new)))) }
         ensures err { IfErr result IsFillFault }
+        ensures none { OnErr result (self.new ≡ []) }
+        ensures within { length self.new ≤ piece_limit }
         ensures failed { R.failed reader.new ≡ failed_by result (R.failed reader.old) }
     {
         if !self.is_empty() {
             return Ok(true);
         }
-        if let Err(fault) = self.fill(reader) {
-            return Err(fault);
-        }
+        self.fill(reader)?;
         Ok(!self.is_empty())
     }
 }

@@ -7,20 +7,6 @@ ghost use Rattle.relay_ndjson.specs.Escapes.{is_plain_byte, IsEscapeOf};
 use serde_json::Value;
 use std::alloc::{AllocError, Global};
 
-// Whether a byte stands for itself in a JSON string.
-fn is_plain_byte(byte: u8) -> bool
-    ensures { result ≡ is_plain_byte byte }
-{
-    byte >= 32 && byte != b'"' && byte != b'\\'
-}
-
-// Whether a text needs no escape.
-fn is_plain(bytes: &[u8]) -> bool
-    ensures { result ≡ list_all is_plain_byte bytes.now }
-{
-    bytes.iter().all(|byte| is_plain_byte(*byte))
-}
-
 /// The JSON string of a text that needs escapes, and nothing for one that stands for itself.
 #[tactic(auto, using(crate::proofs::Plain::escape_plain))]
 pub fn escape_of(alloc: Global, text: &str) -> Result<Option<String>, AllocError>
@@ -46,4 +32,18 @@ pub fn between_quotes<'t>(text: &'t str, string: &'t Option<String>) -> &'t [u8]
         }
         None => text.as_bytes(),
     }
+}
+
+// Whether a byte stands for itself in a JSON string.
+fn is_plain_byte(byte: u8) -> bool
+    ensures { result ≡ is_plain_byte byte }
+{
+    byte >= 32 && byte != b'"' && byte != b'\\'
+}
+
+// Whether a text needs no escape.
+fn is_plain(bytes: &[u8]) -> bool
+    ensures { result ≡ list_all is_plain_byte bytes.now }
+{
+    bytes.iter().all(|byte| is_plain_byte(*byte))
 }

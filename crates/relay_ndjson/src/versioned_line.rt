@@ -4,9 +4,8 @@ ghost use Rattle.relay_json.specs.Values.{data_of};
 ghost use Rattle.relay_ndjson.specs.Versioned.{version_of, is_external, IsVersioned, AsksVersioned, SaysVersioned, versioned_fault, write_fault, write_line_fault};
 
 use crate::action_line::{action_of, document_of, has_only_fields, value_of};
-use crate::bulk::LAST_VERSION;
 use crate::kind::LineKind;
-use relay_action::{ActionKind, DocKey};
+use relay_action::{ActionKind, DocKey, LAST_VERSION};
 use relay_json::{Scratch, Value};
 use std::alloc::Global;
 
@@ -16,6 +15,21 @@ pub struct ActionLine {
     pub kind: ActionKind,
     pub key: DocKey,
     pub version: u64,
+}
+
+/// What an action line asks for.
+pub fn read_versioned(
+    alloc: Global,
+    line: &[u8],
+    scratch: &mut Scratch,
+) -> Result<ActionLine, LineKind>
+    ensures ok { IfOk result (λ a. SaysVersioned line.now a.kind a.key.index a.key.id a.version) }
+    ensures err { IfErr result (λ e. (e ≡ LineKind.Memory) ⊎ (write_line_fault line.now ≡ Some e)) }
+{
+    match value_of(alloc, line, scratch) {
+        Ok(tree) => asked(alloc, tree.root()),
+        Err(fault) => Err(fault),
+    }
 }
 
 // The version of metadata, where it is one that the index takes.
@@ -54,10 +68,8 @@ fn versioned(alloc: Global, metadata: Value<'_, '_>) -> Result<(DocKey, u64), Li
     if !is_external(metadata) {
         return Err(LineKind::VersionMissing);
     }
-    match document_of(alloc, None, metadata) {
-        Ok(key) => Ok((key, version)),
-        Err(fault) => Err(fault),
-    }
+    let key = document_of(alloc, None, metadata)?;
+    Ok((key, version))
 }
 
 // What a value asks for.
@@ -71,23 +83,6 @@ fn asked(alloc: Global, value: Value<'_, '_>) -> Result<ActionLine, LineKind>
     let Some(kind) = ActionKind::named(name) else {
         return Err(LineKind::UnsupportedAction);
     };
-    match versioned(alloc, metadata) {
-        Ok((key, version)) => Ok(ActionLine { kind, key, version }),
-        Err(fault) => Err(fault),
-    }
-}
-
-/// What an action line asks for.
-pub fn read_versioned(
-    alloc: Global,
-    line: &[u8],
-    scratch: &mut Scratch,
-) -> Result<ActionLine, LineKind>
-    ensures ok { IfOk result (λ a. SaysVersioned line.now a.kind a.key.index a.key.id a.version) }
-    ensures err { IfErr result (λ e. (e ≡ LineKind.Memory) ⊎ (write_line_fault line.now ≡ Some e)) }
-{
-    match value_of(alloc, line, scratch) {
-        Ok(tree) => asked(alloc, tree.root()),
-        Err(fault) => Err(fault),
-    }
+    let (key, version) = versioned(alloc, metadata)?;
+    Ok(ActionLine { kind, key, version })
 }

@@ -1,5 +1,5 @@
 -- Each kind of step keeps the rule of the queue.
-use Rattle.std.proofs.Common.{◌≡◌, ◌≢◌, ℕ, zero, suc, ◌+◌, ◌<◌, ◌≤◌, Bool, true, false, eqb, List, [], ◌∷◌, ◌++◌, length, length-append, set, sym, refl, ap, ◌∙◌, subst, ⊎_elim, append_assoc, arith, ◌⊎◌}
+use Rattle.std.proofs.Common.{MatchResult, Result, Ok, Err, ◌≡◌, ◌≢◌, ℕ, zero, suc, ◌+◌, ◌<◌, ◌≤◌, Bool, true, false, eqb, List, [], ◌∷◌, ◌++◌, length, length-append, set, sym, refl, ap, ◌∙◌, subst, ⊎_elim, append_assoc, arith, ◌⊎◌}
 use Rattle.std.proofs.lemmas.Bool.Decides.{eqb_tells}
 use mathlib.Core.Option.{some, none, some-injective, some-ne-none}
 use lib.ListN.{get_elem?}
@@ -8,12 +8,12 @@ use Rattle.relay_action.specs.declared.mail.Mail.{Mail}
 use Rattle.relay_queue.specs.declared.rule.SentList.{SentList}
 use Rattle.relay_queue.specs.declared.rule.Knowledge.{Knowledge}
 use Rattle.relay_queue.specs.declared.rule.Knowledge.TheVariants.{Sender, Taker, Met}
-use Rattle.relay_queue.specs.Sent.{mail_of, HasDone, ClosedAs, IsWellSent}
+use Rattle.relay_queue.specs.Sent.{mail_of, HasDone, ClosedAs, IsWellSent, IsWellTaken}
 use Rattle.relay_queue.specs.Rule.{History, FitsSender, IsUnmade, WasMet, FitsTaker, Fits, Delivers}
 use Rattle.relay_queue.specs.Log.{IsAllOf, HasLog}
 use Rattle.relay_queue.specs.Steps as step
 use Rattle.relay_queue.specs.Steps.{IsSender, IsTaker, capacity_of, sender_of, sent_of, senders_of, taken_of, with_sender, new_sender, with_met}
-use Rattle.relay_queue.proofs.Mails.{mail_of-append, mail_of-own, mail_of-other, has_mail, no_mail, well_sent-nil, well_sent-push, well_sent-front}
+use Rattle.relay_queue.proofs.Mails.{both_empty, mail_of-append, mail_of-own, mail_of-other, has_mail, no_mail, well_sent-nil, well_sent-push, well_sent-front}
 use Rattle.relay_queue.proofs.Passes.{at_set, AllFit, fit_set, fit_push, pass_at, pass_at-own, pass_at-other, pass_at-none}
 
 -- ---- the beginning
@@ -131,8 +131,31 @@ takes pass (Taker capacity senders taken met) is_taker x queued passes h at =
         within = (let short = h.within in omega arith);
         known = fit_set (Fits (took_more history x)) passes pass (Taker capacity senders (taken ++ x ∷ []) met) mine_now (λ j u apart e. others_take history x j u (λ i. apart (i ∙ sym me.own)) (h.known j u e));
       },
-      (refl, omega arith, λ p. well_sent-front _ _ (subst IsWellSent (parts p) (h.well_sent p))),
+      (
+        refl,
+        omega arith,
+        record {
+          in_order = λ p. well_sent-front _ _ (subst IsWellSent (parts p) (h.well_sent p));
+          no_other = λ p le. (both_empty (mail_of p (taken ++ x ∷ [])) (mail_of p queued) (sym (parts p) ∙ (me.later p le).nothing)).0;
+        },
+      ),
     )
+
+-- what was taken stays well taken, whether a take found a message or not
+pub well_taken-kept : {E : Type 0} (F : Type 0) (v w : Knowledge) (r : Result Mail E) → IsWellTaken (senders_of v) (taken_of v) → MatchResult r (λ m. step.Receives v m w) (λ e. (w ≡ v) × F) → IsWellTaken (senders_of w) (taken_of w)
+well_taken-kept F v w (Ok m) h t = t.2
+well_taken-kept F v w (Err e) h t = subst (λ u. IsWellTaken (senders_of u) (taken_of u)) (sym t.0) h
+
+-- the pass stays the taker's
+pub is_taker-kept : {E : Type 0} (F : Type 0) (v w : Knowledge) (r : Result Mail E) → IsTaker v → MatchResult r (λ m. step.Receives v m w) (λ e. (w ≡ v) × F) → IsTaker w
+is_taker-kept F (Sender capacity sender sent closed) w r h t = absurd h
+is_taker-kept F Met w r h t = absurd h
+is_taker-kept F (Taker capacity senders taken met) w (Ok m) h t = subst IsTaker (sym t.0) tt
+is_taker-kept F (Taker capacity senders taken met) w (Err e) h t = subst IsTaker (sym t.0) tt
+
+-- nothing was taken yet
+pub well_taken-nil : (senders : ℕ) → IsWellTaken senders []
+well_taken-nil senders = record { in_order = λ p. well_sent-nil; no_other = λ p le. refl }
 
 -- ---- a new sender
 

@@ -50,7 +50,7 @@ last-push : (a : List Mail) (x : Mail) → ¬ HasDone a → NothingAfterDone (a 
 last-push [] x h = ((λ _. refl), tt)
 last-push (m ∷ ms) x h = ((λ d. absurd (h (inl d))), last-push ms x (λ d. h (inr d)))
 
-both_empty : (a b : List Mail) → a ++ b ≡ [] → (a ≡ []) × (b ≡ [])
+pub both_empty : (a b : List Mail) → a ++ b ≡ [] → (a ≡ []) × (b ≡ [])
 both_empty [] b e = (refl, e)
 both_empty (m ∷ ms) b e = cc
 
@@ -58,10 +58,10 @@ last-front : (a b : List Mail) → NothingAfterDone (a ++ b) → NothingAfterDon
 last-front [] b h = tt
 last-front (m ∷ ms) b h = ((λ d. (both_empty ms b (h.0 d)).0), last-front ms b h.1)
 
--- behind a list with a Done nothing stands
-pub nothing_behind : (a b : List Mail) → NothingAfterDone (a ++ b) → HasDone a → b ≡ []
-nothing_behind [] b h d = absurd d
-nothing_behind (m ∷ ms) b h d = ⊎_elim (λ (e : IsDone m). (both_empty ms b (h.0 e)).1) (λ (e : HasDone ms). nothing_behind ms b h.1 e) d
+-- after a list with a Done nothing stands
+pub nothing_after : (a b : List Mail) → NothingAfterDone (a ++ b) → HasDone a → b ≡ []
+nothing_after [] b h d = absurd d
+nothing_after (m ∷ ms) b h d = ⊎_elim (λ (e : IsDone m). (both_empty ms b (h.0 e)).1) (λ (e : HasDone ms). nothing_after ms b h.1 e) d
 
 pub done-push : (a : List Mail) (x : Mail) → IsDone x → HasDone (a ++ x ∷ [])
 done-push [] x d = inl d

@@ -8,7 +8,7 @@ use Rattle.relay_queue.specs.declared.rule.Knowledge.{Knowledge}
 use Rattle.relay_queue.specs.declared.rule.Knowledge.TheVariants.{Sender, Taker}
 use Rattle.relay_queue.specs.Sent.{mail_of, ClosedAs, IsWellSent}
 
--- the log holds of this sender exactly the list that it sent, numbered from 1 and with nothing behind
+-- the log holds of this sender exactly the list that it sent, numbered from 1 and with nothing after
 -- a Done, and Done is in it where the sender closed, and only there
 pub record IsAllOf (log : List Mail) (sender : ℕ) (sent : List Mail) (closed : Bool) : Type 0 where
   pub all : sent ≡ mail_of sender log

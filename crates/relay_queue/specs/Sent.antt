@@ -1,5 +1,5 @@
 -- What one sender may send, and which messages of a list are one sender's.
-use Rattle.std.specs.Prelude.{◌≡◌, ℕ, ◌+◌, ◌==◌, Bool, true, false, if◌then◌else◌, List, [], ◌∷◌, ◌⊎◌, ⊤}
+use Rattle.std.specs.Prelude.{◌≡◌, ℕ, ◌+◌, ◌≤◌, ◌==◌, Bool, true, false, if◌then◌else◌, List, [], ◌∷◌, ◌⊎◌, ⊤}
 use Rattle.relay_action.specs.declared.mail.Mail.{Mail}
 use Rattle.relay_action.specs.declared.mail.Body.{Body}
 use Rattle.relay_action.specs.declared.mail.Body.TheVariants.{Done}
@@ -27,14 +27,20 @@ abbrev pub HasDone : List Mail → Type 0
 HasDone [] = ⊥
 HasDone (m ∷ ms) = IsDone m ⊎ HasDone ms
 
--- nothing stands behind a Done
+-- nothing stands after a Done
 abbrev pub NothingAfterDone : List Mail → Type 0
 NothingAfterDone [] = ⊤
 NothingAfterDone (m ∷ ms) = (IsDone m → ms ≡ []) × NothingAfterDone ms
 
--- what one sender may have sent: numbered from 1, and nothing behind a Done
+-- what one sender may have sent: numbered from 1, and nothing after a Done
 abbrev pub IsWellSent : List Mail → Type 0
 IsWellSent ms = AreNumberedFrom 1 ms × NothingAfterDone ms
+
+-- what may have been taken from a queue of so many senders: of each a front of what it may send, and
+-- nothing of any other
+pub record IsWellTaken (senders : ℕ) (taken : List Mail) : Type 0 where
+  pub in_order : (sender : ℕ) → IsWellSent (mail_of sender taken)
+  pub no_other : (sender : ℕ) → senders ≤ sender → mail_of sender taken ≡ []
 
 -- Done was sent where the sender closed, and only there
 abbrev pub ClosedAs : Bool → List Mail → Type 0

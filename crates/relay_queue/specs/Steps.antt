@@ -6,7 +6,7 @@ use Rattle.relay_action.specs.declared.mail.Mail.{Mail}
 use Rattle.relay_queue.specs.declared.rule.SentList.{SentList}
 use Rattle.relay_queue.specs.declared.rule.Knowledge.{Knowledge}
 use Rattle.relay_queue.specs.declared.rule.Knowledge.TheVariants.{Sender, Taker, Met}
-use Rattle.relay_queue.specs.Sent.{mail_of, ClosedAs, IsWellSent}
+use Rattle.relay_queue.specs.Sent.{ClosedAs, IsWellSent, IsWellTaken}
 use Rattle.relay_queue.specs.Log.{IsAllOf}
 
 -- ---- the parts of what a pass knows
@@ -96,9 +96,9 @@ abbrev pub Sends : Bool → Knowledge → Mail → Knowledge → Type 0
 Sends state v m w = (w ≡ with_sent state v m) × IsWellSent (sent_of w) × ClosedAs state (sent_of w)
 
 -- a take: the message joined what was taken; its sender is one of those that were made, and what was
--- taken of each sender is well sent
+-- taken is well taken of the senders
 abbrev pub Receives : Knowledge → Mail → Knowledge → Type 0
-Receives v m w = (w ≡ with_taken v m) × (m.sender < senders_of v) × ((sender : ℕ) → IsWellSent (mail_of sender (taken_of w)))
+Receives v m w = (w ≡ with_taken v m) × (m.sender < senders_of v) × IsWellTaken (senders_of w) (taken_of w)
 
 -- a reading: no more is queued than there are places, and what each sender sent that was met is all that
 -- the log, what was taken and then what is queued, holds of it, with a Done

@@ -17,8 +17,6 @@ pub mod refusal;
 pub mod rule;
 pub mod sender;
 pub mod taker;
-#[cfg(test)]
-mod tests;
 
 pub use queue::lane_queue;
 pub use refusal::{Gone, PutRefusal};

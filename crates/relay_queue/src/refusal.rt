@@ -16,3 +16,12 @@ pub enum PutRefusal {
     #[error("Spent")]
     Spent,
 }
+
+/// Why a look at the channel moved no message.
+#[derive(Clone, Copy, Drop)]
+pub(crate) enum Missed {
+    /// There was no room, or nothing was queued: a later look may move one.
+    NotYet,
+    /// The other end is dropped.
+    Gone,
+}

@@ -2,7 +2,7 @@
 ghost use Rattle.std.specs.Prelude.{◌≡◌, ◌≢◌, ◌+◌, ◌<◌, ◌≤◌, ◌^◌, ◌↔◌, [], ◌∷◌, ◌++◌, length, IfOk, IfErr, OnOk, IsErrAnd};
 ghost use Rattle.relay_queue.specs.Sent.{message, IsWellSent, HasDone};
 
-use crate::refusal::{Gone, PutRefusal};
+use crate::refusal::{Gone, Missed, PutRefusal};
 use crate::rule::{Closes, MailPass, MailSender, Puts};
 use crossbeam_channel::{SendError, TrySendError};
 use relay_action::{Body, Mail};
@@ -91,17 +91,16 @@ impl LanePut {
         for turn in 0..TRIES {
             match self.try_put(rt, body) {
                 Ok(number) => return Ok(number),
-                Err((true, back)) => body = back,
-                Err((false, back)) => return Err((PutRefusal::Gone, back)),
+                Err((Missed::NotYet, back)) => body = back,
+                Err((Missed::Gone, back)) => return Err((PutRefusal::Gone, back)),
             }
             pause(turn);
         }
         self.put_waiting(rt, body)
     }
 
-    // Sends a message where there is room at once. An error hands the body back, and tells whether it was
-    // for want of room.
-    fn try_put<R: Wait>(&mut self, rt: &R, body: Body) -> Result<u64, (bool, Body)>
+    // Sends a message where there is room at once. An error hands the body back.
+    fn try_put<R: Wait>(&mut self, rt: &R, body: Body) -> Result<u64, (Missed, Body)>
         requires body { body ≢ Body.Done }
         requires limit { length self.old.sent < 2 ^ 40 }
         ensures same { (self.new.queue ≡ self.old.queue) × (self.new.sender ≡ self.old.sender) }
@@ -127,8 +126,8 @@ impl LanePut {
                 self.count = number;
                 Ok(number)
             }
-            Err(TrySendError::Full(mail)) => Err((true, mail.body)),
-            Err(TrySendError::Disconnected(mail)) => Err((false, mail.body)),
+            Err(TrySendError::Full(mail)) => Err((Missed::NotYet, mail.body)),
+            Err(TrySendError::Disconnected(mail)) => Err((Missed::Gone, mail.body)),
             Err(TrySendError::OutOfMemory(_)) => unreachable!(),
         }
     }

@@ -1,9 +1,9 @@
 //! The end of the taker.
-ghost use Rattle.std.specs.Prelude.{◌≡◌, ◌<◌, ◌≤◌, ℕ, List, [], ◌∷◌, ◌++◌, length, IfOk, IfErr};
+ghost use Rattle.std.specs.Prelude.{◌≡◌, ◌<◌, ◌≤◌, List, [], ◌∷◌, ◌++◌, length, IfOk, IfErr};
 ghost use Rattle.relay_action.specs.declared.mail.Mail.{Mail};
-ghost use Rattle.relay_queue.specs.Sent.{mail_of, HasDone, IsWellSent};
+ghost use Rattle.relay_queue.specs.Sent.{mail_of, HasDone, IsWellSent, IsWellTaken};
 
-use crate::refusal::Gone;
+use crate::refusal::{Gone, Missed};
 use crate::rule::{MailPass, MailReceiver, Meets, Reads, Takes};
 use crate::sender::{ClosedPut, TRIES, pause};
 use crossbeam_channel::TryRecvError;
@@ -23,6 +23,7 @@ impl Model for LaneTake {
     ghost use Rattle.crossbeam_channel.specs.Claims.{view as known_by, IsSeatAt};
     ghost use Rattle.crossbeam_channel.specs.Ends.{receives_on};
     ghost use Rattle.relay_queue.specs.Ends.{TakerEnd, queue_of};
+    ghost use Rattle.relay_queue.specs.Sent.{IsWellTaken};
     ghost use Rattle.relay_queue.specs.Steps.{IsTaker, senders_of, taken_of};
 
     ghost Value = { TakerEnd };
@@ -33,13 +34,14 @@ impl Model for LaneTake {
       taken = taken_of (known_by a.pass);
     } };
 
-    ghost invariant = { λ a. IsSeatAt (receives_on a.channel) a.pass × IsTaker (known_by a.pass) };
+    ghost invariant = { λ a. IsSeatAt (receives_on a.channel) a.pass × IsTaker (known_by a.pass)
+        × IsWellTaken (senders_of (known_by a.pass)) (taken_of (known_by a.pass)) };
 }
 
 impl LaneTake {
     /// Takes the message at the front. It waits while nothing is queued, and takes no memory. What was
-    /// taken of each sender is in that sender's order, numbered from 1, and nothing comes after its
-    /// Done; between senders no order is promised.
+    /// taken so far, also where it answers `Gone`, is of each sender in that sender's order, numbered
+    /// from 1, with nothing after its Done, and of nobody else; between senders no order is promised.
     ///
     /// `Gone` says that all ends of senders are dropped, the closed ones too, and nothing is queued; it
     /// takes nothing, and when it comes is not promised.
@@ -47,32 +49,31 @@ impl LaneTake {
         ensures same { (self.new.queue ≡ self.old.queue) × (self.new.senders ≡ self.old.senders) }
         ensures taken { IfOk result (λ m. self.new.taken ≡ self.old.taken ++ m ∷ []) }
         ensures sender { IfOk result (λ m. m.sender < self.old.senders) }
-        ensures in_order { IfOk result
-            (λ _. (sender : ℕ) → IsWellSent (mail_of sender self.new.taken)) }
+        ensures well_taken { IsWellTaken self.new.senders self.new.taken }
         ensures gone { IfErr result (λ _. self.new ≡ self.old) }
     {
         for turn in 0..TRIES {
             match self.try_take(rt) {
                 Ok(mail) => return Ok(mail),
-                Err(true) => pause(turn),
-                Err(false) => return Err(Gone),
+                Err(Missed::NotYet) => pause(turn),
+                Err(Missed::Gone) => return Err(Gone),
             }
         }
         self.take_waiting(rt)
     }
 
-    // Takes the message at the front where there is one at once. An error tells whether a sender is left.
-    fn try_take<R: Wait>(&mut self, rt: &R) -> Result<Mail, bool>
+    // Takes the message at the front where there is one at once.
+    fn try_take<R: Wait>(&mut self, rt: &R) -> Result<Mail, Missed>
         ensures same { (self.new.queue ≡ self.old.queue) × (self.new.senders ≡ self.old.senders) }
         ensures taken { IfOk result (λ m. self.new.taken ≡ self.old.taken ++ m ∷ []) }
         ensures sender { IfOk result (λ m. m.sender < self.old.senders) }
-        ensures in_order { IfOk result
-            (λ _. (sender : ℕ) → IsWellSent (mail_of sender self.new.taken)) }
+        ensures well_taken { IsWellTaken self.new.senders self.new.taken }
         ensures gone { IfErr result (λ _. self.new ≡ self.old) }
     {
         match self.channel.try_recv_as::<Takes, R>(rt, &mut self.pass) {
             Ok(mail) => Ok(mail),
-            Err(e) => Err(matches!(e, TryRecvError::Empty)),
+            Err(TryRecvError::Empty) => Err(Missed::NotYet),
+            Err(TryRecvError::Disconnected) => Err(Missed::Gone),
         }
     }
 
@@ -81,8 +82,7 @@ impl LaneTake {
         ensures same { (self.new.queue ≡ self.old.queue) × (self.new.senders ≡ self.old.senders) }
         ensures taken { IfOk result (λ m. self.new.taken ≡ self.old.taken ++ m ∷ []) }
         ensures sender { IfOk result (λ m. m.sender < self.old.senders) }
-        ensures in_order { IfOk result
-            (λ _. (sender : ℕ) → IsWellSent (mail_of sender self.new.taken)) }
+        ensures well_taken { IsWellTaken self.new.senders self.new.taken }
         ensures gone { IfErr result (λ _. self.new ≡ self.old) }
     {
         match self.channel.recv_as::<Takes, R>(rt, &mut self.pass) {
@@ -91,9 +91,11 @@ impl LaneTake {
         }
     }
 
-    /// Takes no more. What is queued is dropped with the last end of the queue.
+    /// Takes no more. What is queued is dropped with the last end of the queue. What was taken is of
+    /// each sender a front of what it may send, and of nobody else.
     pub fn end(self) -> Taken
-        ensures { result ≡ self }
+        ensures same { result ≡ self }
+        ensures well_taken { IsWellTaken result.senders result.taken }
     {
         let LaneTake { channel, pass } = self;
         drop(channel);
@@ -111,6 +113,7 @@ impl Model for Taken {
     ghost use Rattle.std.specs.Prelude.{◌≡◌, []};
     ghost use Rattle.crossbeam_channel.specs.Claims.{view as known_by};
     ghost use Rattle.relay_queue.specs.Ends.{TakerEnd, queue_of};
+    ghost use Rattle.relay_queue.specs.Sent.{IsWellTaken};
     ghost use Rattle.relay_queue.specs.Steps.{IsTaker, senders_of, taken_of};
 
     ghost Value = { TakerEnd };
@@ -121,7 +124,8 @@ impl Model for Taken {
       taken = taken_of (known_by a.pass);
     } };
 
-    ghost invariant = { λ a. (a.pass.me.1 ≡ []) × IsTaker (known_by a.pass) };
+    ghost invariant = { λ a. (a.pass.me.1 ≡ []) × IsTaker (known_by a.pass)
+        × IsWellTaken (senders_of (known_by a.pass)) (taken_of (known_by a.pass)) };
 }
 
 impl Taken {
@@ -131,6 +135,7 @@ impl Taken {
     pub fn meet(mut self, closed: ClosedPut) -> Taken
         requires { self.queue ≡ closed.queue }
         ensures same { result ≡ self }
+        ensures well_taken { IsWellTaken result.senders result.taken }
         ensures sender { closed.sender < self.senders }
         ensures in_order { IsWellSent closed.sent }
         ensures done { HasDone closed.sent }

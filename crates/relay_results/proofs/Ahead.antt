@@ -5,7 +5,7 @@ use Rattle.relay_results.specs.declared.outcome.Outcome.{Outcome}
 use Rattle.relay_results.specs.Replies.{IsEntry, IsNoEntry, AreEntries, IsBadAt}
 use Rattle.relay_results.specs.Parts.{PushesEntry}
 
--- what the entries to come say, all entries say behind the outcomes so far
+-- what the entries to come say, all entries say after the outcomes so far
 pub record GoesOn (whole rest : Items) (found : List Outcome) (place : ℕ) : Type 0 where
   pub entries : (os : List Outcome) → AreEntries rest os → AreEntries whole (found ++ os)
   pub bad : (n : ℕ) → IsBadAt rest n → IsBadAt whole (place + n)
@@ -16,8 +16,8 @@ goes_on_at_start ds = record {
   bad = λ n h. rw (zero-add n) h;
 }
 
-pub goes_on_behind : (whole : Items) (d : Data) (ds : Items) (found : List Outcome) (o : Outcome) (place : ℕ) → GoesOn whole (item d ds) found place → IsEntry d o → GoesOn whole ds (found ++ o ∷ []) (place + 1)
-goes_on_behind whole d ds found o place g e = record {
+pub goes_on_after : (whole : Items) (d : Data) (ds : Items) (found : List Outcome) (o : Outcome) (place : ℕ) → GoesOn whole (item d ds) found place → IsEntry d o → GoesOn whole ds (found ++ o ∷ []) (place + 1)
+goes_on_after whole d ds found o place g e = record {
   entries = λ os h. rw (append_assoc found (o ∷ []) os) (g.entries (o ∷ os) (e, h));
   bad = λ n h.
       let same : place + suc n ≡ place + 1 + n = omega arith in
@@ -36,4 +36,4 @@ bad_here whole d ds found place g h =
 
 pub step_read : (whole : Items) (d : Data) (ds : Items) (place : ℕ) (old new : List Outcome) → GoesOn whole (item d ds) old place → PushesEntry d old new true → GoesOn whole ds new (place + 1)
 step_read whole d ds place old new g p =
-    subst (λ found. GoesOn whole ds found (place + 1)) (sym p.2) (goes_on_behind whole d ds old p.0 place g p.1)
+    subst (λ found. GoesOn whole ds found (place + 1)) (sym p.2) (goes_on_after whole d ds old p.0 place g p.1)

@@ -1,67 +1,17 @@
 -- What the definitions rule out.
-use Rattle.std.proofs.Common.{◌≡◌, ◌≢◌, ◌∙◌, ℕ, arith, inl, inr, lit<, List, [], ◌∷◌, Option, Some, None, Bool, true, false, refl, ap, sym}
-use Rattle.std.specs.Prelude.{unwrap_or, is_some, not, ◌&&◌, nat_le, nat_lt, if◌then◌else◌}
+use Rattle.std.proofs.Common.{◌≡◌, ◌∙◌, ℕ, arith, inl, inr, [], Option, Some, None, Bool, true, false, refl, ap, sym}
+use Rattle.std.specs.Prelude.{is_some, not, ◌&&◌, nat_le, nat_lt, if◌then◌else◌}
 use Rattle.relay_action.specs.declared.write.Write.{Write}
-use Rattle.relay_results.specs.Words.{Mem}
-use Rattle.relay_results.specs.Documents.{document_of, write_for, same_op}
-use Rattle.relay_results.specs.Outside.{Items, Request, Ran, RunOutcome, Outside, IsRefusal, IsOutcomeOf, is_above, is_applied}
-use Rattle.relay_results.specs.Causes.{IsTrueRefusal}
-use Rattle.relay_results.specs.Schedules.{entry}
-use Rattle.relay_results.specs.Laws.{request, NotGivenUpWhenSettled, NotRefusedWithoutStatus, NotRefusedWithoutError, AssignsTwo, NotAssignedTwice, RefusedWhateverSent, MayAlwaysRun, NotAppliedAgain}
+use Rattle.relay_results.specs.Documents.{document_of}
+use Rattle.relay_results.specs.Outside.{RunOutcome, IsRefusal, IsOutcomeOf, is_above, is_applied}
+use Rattle.relay_results.specs.Laws.{RefusedWhateverSent, MayAlwaysRun, NotAppliedAgain}
 use Rattle.relay_results.specs.declared.decide.ItemVerdict.{ItemVerdict}
 use Rattle.relay_results.specs.declared.decide.ItemVerdict.TheVariants as verdict
-use Rattle.relay_action.specs.Actions.{kind_of}
-use Rattle.relay_action.specs.declared.operation.OpName.{OpName}
 use Rattle.relay_results.specs.Verdicts.{is_2xx, is_absent, is_conflict, is_retried_item}
-use Rattle.relay_results.proofs.Same.{same_write-self, same_op-true, same_op-self, same_op-joined}
-use Rattle.relay_results.proofs.Played.{apart, apart_tests, some-same, none_some, matches-one, entry-self}
-
-pub settled : NotGivenUpWhenSettled
-settled o v sends t runs g =
-    let w : Write = write_for o v in
-    let third : Request = request (w ∷ []) (Items (entry w 200 ∷ [])) in
-    apart_tests (g.each 2 0 third (record { write = w; sent = refl; stands = refl; same = same_write-self w }) (matches-one (entry w 200) w (entry-self w 200)))
-
-no_status : (s : Outside) (w : Write) (status : ℕ) (error : List ℕ) → ((r : Ran) → Mem r s.runs → r.outcome.status ≢ status) → IsTrueRefusal s w status error → ⊥
-no_status s w status error none h = none h.answered.ran.run h.answered.ran.among (h.answered.ran.status ∙ h.status_is)
-
-pub without_status : NotRefusedWithoutStatus
-without_status o None t s status error none h = h
-without_status o (Some v) t s status error none h = no_status s (write_for o v) status error none h
-
--- a text that is not empty is there
-unwrap_or-some : (o : Option (List ℕ)) (text : List ℕ) → text ≢ [] → unwrap_or o [] ≡ text → o ≡ Some text
-unwrap_or-some None text some e = absurd (some (sym e))
-unwrap_or-some (Some x) text some e = ap Some e
-
-no_error : (s : Outside) (w : Write) (status : ℕ) (error : List ℕ) → error ≢ [] → ((r : Ran) → Mem r s.runs → r.outcome.error ≢ Some error) → IsTrueRefusal s w status error → ⊥
-no_error s w status error some none h =
-    none h.answered.ran.run h.answered.ran.among (h.answered.ran.error ∙ unwrap_or-some h.outcome.error error some h.error_is)
-
-pub without_error : NotRefusedWithoutError
-without_error o None t s status error some none h = h
-without_error o (Some v) t s status error some none h = no_error s (write_for o v) status error some none h
-
--- where the two answers are one version, the two operations are the same as one of the two
-by_places : (R : Type 0) (v : ℕ) (p q r s : Bool) → (p ≡ true → r ≡ true → R) → (q ≡ true → s ≡ true → R)
-    → (if p then Some 1 else if q then Some 2 else None) ≡ Some v → (if r then Some 1 else if s then Some 2 else None) ≡ Some v → R
-by_places R v true q true s f g a b = f refl refl
-by_places R v true q false true f g a b = absurd (apart 1 2 (some-same (a ∙ sym b)) (lit< tt))
-by_places R v true q false false f g a b = absurd (none_some v b)
-by_places R v false true true s f g a b = absurd (apart 1 2 (some-same (b ∙ sym a)) (lit< tt))
-by_places R v false true false true f g a b = g refl refl
-by_places R v false true false false f g a b = absurd (none_some v b)
-by_places R v false false r s f g a b = absurd (none_some v a)
-
-pub assigns_two : AssignsTwo
-assigns_two a b other = (
-  λ x y v p q same. by_places (same_op x y ≡ true) v (same_op x a) (same_op x b) (same_op y a) (same_op y b) (same_op-joined x y a) (same_op-joined x y b) p q,
-  (let s = same_op-self a in rw s refl),
-  (let s = same_op-self b in rw (other, s) refl),
-)
+use Rattle.relay_results.proofs.Lists.{apart_tests}
 
 -- the table, by its tests
-abbrev by_lines : Bool → Bool → Bool → Bool → Bool → Bool → ItemVerdict
+abbrev pub by_lines : Bool → Bool → Bool → Bool → Bool → Bool → ItemVerdict
 by_lines success absent conflict busy repeated left =
     if success then verdict.Applied else if absent then verdict.Applied
     else if conflict && repeated then verdict.Already else if conflict then verdict.Conflict
@@ -76,15 +26,9 @@ by_tests false false false true r true s t e = cc
 by_tests false false false true r false s t e = cc
 by_tests false false false false r l s t e = refl
 
--- one version for two operations of a document
-pub not_twice : NotAssignedTwice
-not_twice versions a b v same other p q h =
-    let t = same_op-true a b (h a b v p q same) in
-    other (ap (λ (n : OpName). n.number) t.name)
-
 pub refused_whatever : RefusedWhateverSent
-refused_whatever w o sends attempts max e s a m =
-    by_tests (not (is_some o.error) && is_2xx o.status) (not (is_some o.error) && is_absent (kind_of w.action) o.status) (is_conflict o.status) (is_retried_item o.status)
+refused_whatever kind status has_error sends attempts max e s a m =
+    by_tests (not has_error && is_2xx status) (not has_error && is_absent kind status) (is_conflict status) (is_retried_item status)
     (nat_le 2 sends) (nat_lt attempts max) (nat_le 2 s) (nat_lt a m) e
 
 -- ---- runs

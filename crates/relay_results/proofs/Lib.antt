@@ -1,8 +1,9 @@
+pub mod Lists
 pub mod Entries
 pub mod Same
-pub mod Played
 pub mod Ahead
 pub mod Excluded
+pub mod Fates
 pub mod ReadsBack
 pub mod OneReading
 pub mod Steps

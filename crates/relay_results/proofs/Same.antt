@@ -10,7 +10,8 @@ use Rattle.relay_action.specs.declared.action.ActionKind.TheVariants as kind
 use Rattle.relay_action.specs.declared.write.Write.{Write}
 use Rattle.relay_action.specs.declared.operation.Op.{Op}
 use Rattle.relay_action.specs.declared.operation.OpName.{OpName}
-use Rattle.relay_results.specs.Documents.{Document, document_of, same_document, source_of, same_source, same_kind, same_write, same_op, name_of}
+use Rattle.relay_results.specs.Documents.{Document, document_of, same_document, source_of, same_source, same_kind, same_write, same_name, same_op, name_of}
+use Rattle.relay_results.specs.Laws.{NamesEqual}
 
 -- both parts of a test hold
 pub both : (a b : Bool) → (a && b) ≡ true → (a ≡ true) × (b ≡ true)
@@ -68,6 +69,19 @@ same_write-true x y h =
 pub same_write-self : (x : Write) → same_write x x ≡ true
 same_write-self x = and-true _ _ ((Decides-eqb x.version x.version).1 refl) (and-true _ _ (same_document-self (document_of x.key)) (same_source-self (source_of x.action)))
 
+pub same_name-true : (a b : OpName) → same_name a b ≡ true → a ≡ b
+same_name-true a b h =
+    let q = both (a.producer == b.producer) (a.number == b.number) h in
+    let e : a.producer ≡ b.producer = eqb-true a.producer b.producer q.0 in
+    let f : a.number ≡ b.number = eqb-true a.number b.number q.1 in
+    λ i. record { producer = e i; number = f i }
+
+pub same_name-self : (a : OpName) → same_name a a ≡ true
+same_name-self a = and-true _ _ ((Decides-eqb a.producer a.producer).1 refl) ((Decides-eqb a.number a.number).1 refl)
+
+pub names_equal : NamesEqual
+names_equal a b = (same_name-true a b, λ e. ap (same_name a) (sym e) ∙ same_name-self a)
+
 -- and two operations one name, one document and one action
 pub record SameOps (a b : Op) : Type 0 where
   pub name : name_of a ≡ name_of b
@@ -76,25 +90,22 @@ pub record SameOps (a b : Op) : Type 0 where
 
 pub same_op-true : (a b : Op) → same_op a b ≡ true → SameOps a b
 same_op-true a b h =
-    let p = both ((a.producer == b.producer) && (a.number == b.number)) (same_document (document_of a.key) (document_of b.key) && same_source (source_of a.action) (source_of b.action)) h in
-    let q = both (a.producer == b.producer) (a.number == b.number) p.0 in
+    let p = both (same_name (name_of a) (name_of b)) (same_document (document_of a.key) (document_of b.key) && same_source (source_of a.action) (source_of b.action)) h in
     let r = both (same_document (document_of a.key) (document_of b.key)) (same_source (source_of a.action) (source_of b.action)) p.1 in
-    let e : a.producer ≡ b.producer = eqb-true a.producer b.producer q.0 in
-    let f : a.number ≡ b.number = eqb-true a.number b.number q.1 in
     record {
-      name = λ i. record { producer = e i; number = f i };
+      name = same_name-true (name_of a) (name_of b) p.0;
       document = same_document-true (document_of a.key) (document_of b.key) r.0;
       source = same_source-true (source_of a.action) (source_of b.action) r.1;
     }
 
 pub same_op-self : (a : Op) → same_op a a ≡ true
 same_op-self a =
-    and-true _ _ (and-true _ _ ((Decides-eqb a.producer a.producer).1 refl) ((Decides-eqb a.number a.number).1 refl))
+    and-true _ _ (same_name-self (name_of a))
     (and-true _ _ (same_document-self (document_of a.key)) (same_source-self (source_of a.action)))
 
 pub same_op-from : (a b : Op) → SameOps a b → same_op a b ≡ true
 same_op-from a b s =
-    and-true _ _ (and-true _ _ ((Decides-eqb a.producer b.producer).1 (ap (λ (n : OpName). n.producer) s.name)) ((Decides-eqb a.number b.number).1 (ap (λ (n : OpName). n.number) s.name)))
+    and-true _ _ (ap (same_name (name_of a)) (sym s.name) ∙ same_name-self (name_of a))
     (and-true _ _ (ap (λ k. same_document (document_of a.key) k) (sym s.document) ∙ same_document-self (document_of a.key))
     (ap (λ t. same_source (source_of a.action) t) (sym s.source) ∙ same_source-self (source_of a.action)))
 

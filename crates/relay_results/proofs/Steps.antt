@@ -1,11 +1,11 @@
--- What a step of the outside does.
-use Rattle.std.proofs.Common.{◌≡◌, ◌⊎◌, ◌∙◌, ℕ, List, [], ◌++◌, Option, Some, Bool, true, false, refl, ap, sym, subst, inl, inr, append-nil}
+-- What a step of the outside does, and events one after another.
+use Rattle.std.proofs.Common.{◌≡◌, ◌⊎◌, ◌∙◌, List, [], ◌∷◌, ◌++◌, ℕ, Option, Some, Bool, true, false, refl, ap, sym, subst, inl, inr, append-nil}
 use Rattle.relay_action.specs.declared.write.Write.{Write}
 use Rattle.relay_results.specs.Documents.{Document, document_of, same_document}
-use Rattle.relay_results.specs.Outside.{Ran, RunOutcome, Outside, IsOutcomeOf, is_above, is_applied, ran_of}
-use Rattle.relay_results.specs.Laws.{GrowsBy, StaysAt, StepGrows, PlaysFromOpening}
-use Rattle.relay_results.proofs.Same.{same_document-true}
-use Rattle.relay_results.proofs.Played.{apart_tests}
+use Rattle.relay_results.specs.Outside.{Ran, RunOutcome, Outside, IsOutcomeOf, is_above, is_applied, ran_of, write_at, Event, after, after_all, AllMayHappen}
+use Rattle.relay_results.specs.Laws.{GrowsBy, StaysAt, RunsItem, StepRunsItem, ContinuesItself, ContinuesOn, EventContinues}
+use Rattle.relay_results.proofs.Lists.{apart_tests}
+use Rattle.relay_results.proofs.Same.{same_document-true, same_document-self}
 use Rattle.relay_results.proofs.Excluded.{with_error}
 
 -- an outcome of a run that applied its write says that the version was above
@@ -19,46 +19,70 @@ above_of stored w o run a =
       ]
     ]
 
-none_more : {A : Type 0} (xs : List A) → xs ++ [] ≡ xs
-none_more xs = append-nil xs
-
 -- what a run does to a document, by whether it applied the write and whether the write is of this document
+grown : (old : Outside) (r : Ran) (w : Write) (k : Document) → is_applied w r.outcome ≡ true → same_document k (document_of w.key) ≡ true → IsOutcomeOf (old.stored (document_of w.key)) w r.outcome
+    → GrowsBy old (ran_of old r (Some w)) k w
+grown old r w k e d run =
+    let place : k ≡ document_of w.key = same_document-true k (document_of w.key) d in
+    rw e (record {
+      applied = rw d refl;
+      of_document = sym place;
+      above = subst (λ j. is_above (old.stored j) w.version ≡ true) (sym place) (above_of (old.stored (document_of w.key)) w r.outcome run e);
+      stored = rw d refl;
+    })
+
 at_document : (old : Outside) (r : Ran) (w : Write) (k : Document) (a same : Bool) → is_applied w r.outcome ≡ a → same_document k (document_of w.key) ≡ same
     → IsOutcomeOf (old.stored (document_of w.key)) w r.outcome
-    → StaysAt old (ran_of old r (Some w)) k ⊎ ((x : Write) × GrowsBy old (ran_of old r (Some w)) k x)
+    → StaysAt old (ran_of old r (Some w)) k ⊎ ((is_applied w r.outcome ≡ true) × GrowsBy old (ran_of old r (Some w)) k w)
 at_document old r w k false same e d run = inl (rw e (record { applied = refl; stored = refl }))
-at_document old r w k true false e d run = inl (rw e (record { applied = rw d (none_more (old.applied k)); stored = rw d refl }))
-at_document old r w k true true e d run =
-    let place : k ≡ document_of w.key = same_document-true k (document_of w.key) d in
-    inr (
-      w,
-      rw e (record {
-        applied = rw d refl;
-        of_document = sym place;
-        above = subst (λ j. is_above (old.stored j) w.version ≡ true) (sym place) (above_of (old.stored (document_of w.key)) w r.outcome run e);
-        stored = rw d refl;
-      }),
-    )
+at_document old r w k true false e d run = inl (rw e (record { applied = rw d (append-nil (old.applied k)); stored = rw d refl }))
+at_document old r w k true true e d run = inr (e, grown old r w k e d run)
 
-kept_requests : (old : Outside) (r : Ran) (w : Write) (a : Bool) → is_applied w r.outcome ≡ a → ((ran_of old r (Some w)).requests ≡ old.requests) × ((ran_of old r (Some w)).before ≡ old.before)
-kept_requests old r w true e = rw e (refl, refl)
-kept_requests old r w false e = rw e (refl, refl)
+-- what it leaves of the rest
+record Keeps (old new : Outside) (r : Ran) : Type 0 where
+  requests : new.requests ≡ old.requests
+  runs : new.runs ≡ old.runs ++ r ∷ []
+  before : new.before ≡ old.before
 
-grows_from : (old new : Outside) (r : Ran) (w : Write) → new ≡ ran_of old r (Some w) → IsOutcomeOf (old.stored (document_of w.key)) w r.outcome
-    → (new.requests ≡ old.requests) × (new.before ≡ old.before) × ((k : Document) → StaysAt old new k ⊎ ((x : Write) × GrowsBy old new k x))
-grows_from old new r w e run =
-    let kept = kept_requests old r w (is_applied w r.outcome) refl in (
-      ap (λ (s : Outside). s.requests) e ∙ kept.0,
-      ap (λ (s : Outside). s.before) e ∙ kept.1,
-      λ k. subst (λ s. StaysAt old s k ⊎ ((x : Write) × GrowsBy old s k x)) (sym e)
-          (at_document old r w k (is_applied w r.outcome) (same_document k (document_of w.key)) refl refl run),
-    )
+keeps : (old : Outside) (r : Ran) (w : Write) (a : Bool) → is_applied w r.outcome ≡ a → Keeps old (ran_of old r (Some w)) r
+keeps old r w true e = rw e (record { requests = refl; runs = refl; before = refl })
+keeps old r w false e = rw e (record { requests = refl; runs = refl; before = refl })
 
-pub step_grows : StepGrows
-step_grows old new s = grows_from old new s.run s.may.write (s.reached ∙ ap (ran_of old s.run) s.may.sent) s.may.outcome
+runs_from : (old new : Outside) (r : Ran) (w : Write) → new ≡ ran_of old r (Some w) → write_at old.requests r.request r.place ≡ Some w → IsOutcomeOf (old.stored (document_of w.key)) w r.outcome → RunsItem old new r w
+runs_from old new r w e sent run =
+    let kept = keeps old r w (is_applied w r.outcome) refl in
+    record {
+      item = sent;
+      requests = ap (λ (s : Outside). s.requests) e ∙ kept.requests;
+      runs = ap (λ (s : Outside). s.runs) e ∙ kept.runs;
+      before = ap (λ (s : Outside). s.before) e ∙ kept.before;
+      documents = λ k. subst (λ s. StaysAt old s k ⊎ ((is_applied w r.outcome ≡ true) × GrowsBy old s k w)) (sym e)
+          (at_document old r w k (is_applied w r.outcome) (same_document k (document_of w.key)) refl refl run);
+      grows = λ a. subst (λ s. GrowsBy old s (document_of w.key) w) (sym e) (grown old r w (document_of w.key) a (same_document-self (document_of w.key)) run);
+    }
 
-pub from_opening : PlaysFromOpening
-from_opening accepted events k ws ops p = (
-  record { requests = refl; runs = refl; applied = λ _. refl },
-  record { events = events; may = p.may; reached = refl },
-)
+pub step_runs_item : StepRunsItem
+step_runs_item old new s = runs_from old new s.run s.may.write (s.reached ∙ ap (ran_of old s.run) s.may.sent) s.may.sent s.may.outcome
+
+-- ---- events one after another
+
+after_both : (es fs : List Event) (s : Outside) → after_all (es ++ fs) s ≡ after_all fs (after_all es s)
+after_both [] fs s = refl
+after_both (e ∷ es) fs s = after_both es fs (after e s)
+
+may_both : (es fs : List Event) (s : Outside) → AllMayHappen es s → AllMayHappen fs (after_all es s) → AllMayHappen (es ++ fs) s
+may_both [] fs s m n = n
+may_both (e ∷ es) fs s m n = (m.0, may_both es fs (after e s) m.1 n)
+
+pub continues_itself : ContinuesItself
+continues_itself s = record { events = []; may = tt; reached = refl }
+
+pub event_continues : EventContinues
+event_continues e s may = record { events = e ∷ []; may = (may, tt); reached = refl }
+
+pub continues_on : ContinuesOn
+continues_on a b c m n = record {
+  events = m.events ++ n.events;
+  may = may_both m.events n.events a m.may (subst (λ s. AllMayHappen n.events s) m.reached n.may);
+  reached = n.reached ∙ ap (after_all n.events) m.reached ∙ sym (after_both m.events n.events a);
+}

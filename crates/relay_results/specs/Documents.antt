@@ -1,5 +1,6 @@
 -- Documents, actions, writes and operations as plain data, and when two of them are the same.
-use Rattle.std.specs.Prelude.{ℕ, List, Option, Some, None, Bool, true, false, ◌==◌, ◌&&◌, bytes_eq}
+use Rattle.std.specs.Prelude.{ℕ, ◌%◌, ◌++◌, ◌∷◌, List, Option, Some, None, Bool, true, false, ◌==◌, ◌&&◌, bytes_eq}
+use Rattle.relay_action.specs.Lanes.{fnv1a}
 use Rattle.relay_action.specs.declared.key.DocKey.{DocKey}
 use Rattle.relay_action.specs.declared.action.Action.{Action}
 use Rattle.relay_action.specs.declared.action.Action.TheVariants.{Index, Delete}
@@ -16,6 +17,10 @@ pub record Document : Type 0 where
 
 abbrev pub document_of : DocKey → Document
 document_of key = record { index = key.index; id = key.id }
+
+-- the lane that a document belongs to, among so many
+abbrev pub lane_of : ℕ → Document → ℕ
+lane_of lanes k = fnv1a (k.index ++ 255 ∷ k.id) % lanes
 
 -- the two documents are one
 abbrev pub same_document : Document → Document → Bool
@@ -50,15 +55,20 @@ same_write x y =
     (x.version == y.version)
     && (same_document (document_of x.key) (document_of y.key) && same_source (source_of x.action) (source_of y.action))
 
--- the two operations have one name, one document and one action
-abbrev pub same_op : Op → Op → Bool
-same_op a b =
-    ((a.producer == b.producer) && (a.number == b.number))
-    && (same_document (document_of a.key) (document_of b.key) && same_source (source_of a.action) (source_of b.action))
-
--- the name of an operation, and the write that it asks for, under a version
+-- the name of an operation
 abbrev pub name_of : Op → OpName
 name_of o = record { producer = o.producer; number = o.number }
 
+-- the two names are one
+abbrev pub same_name : OpName → OpName → Bool
+same_name a b = (a.producer == b.producer) && (a.number == b.number)
+
+-- the two operations have one name, one document and one action
+abbrev pub same_op : Op → Op → Bool
+same_op a b =
+    same_name (name_of a) (name_of b)
+    && (same_document (document_of a.key) (document_of b.key) && same_source (source_of a.action) (source_of b.action))
+
+-- the write that an operation asks for, under a version
 abbrev pub write_for : Op → ℕ → Write
 write_for o version = record { key = o.key; version = version; action = o.action }

@@ -1,23 +1,15 @@
 -- What the answer of a request makes of the operations that it carried.
-use Rattle.std.specs.Prelude.{ℕ, List, [], Option, Some, None, is_some, unwrap_or, slice_get, if◌then◌else◌, nat_lt}
+use Rattle.std.specs.Prelude.{◌≡◌, ℕ, List, [], Option, Some, None, is_some, unwrap_or, slice_get, Bool, true, if◌then◌else◌, nat_lt}
 use Rattle.relay_action.specs.declared.action.ActionKind.{ActionKind}
 use Rattle.relay_action.specs.declared.write.Write.{Write}
+use Rattle.relay_results.specs.declared.cause.Cause.{Cause}
+use Rattle.relay_results.specs.declared.cause.Cause.TheVariants as cause
 use Rattle.relay_results.specs.declared.outcome.Outcome.{Outcome}
 use Rattle.relay_results.specs.declared.decide.ItemVerdict.{ItemVerdict}
 use Rattle.relay_results.specs.declared.decide.ItemVerdict.TheVariants as verdict
-use Rattle.relay_results.specs.Verdicts.{verdict_of, is_retried_whole}
+use Rattle.relay_results.specs.Verdicts.{verdict_of, is_retried_item, is_retried_whole}
 use Rattle.relay_results.specs.Matching.{matches}
 use Rattle.relay_results.specs.Outside.{Answer, Unanswered, Items, Whole, Lost}
-
--- Why an operation is reported: the index refused its write, with this status and this type of error; its request as
--- a whole was answered with this status; its first send met a conflict; so many requests carried it, and none settled
--- it; or its lane had no version left for it.
-pub data Cause : Type 0 where
-  Refused : ℕ → List ℕ → Cause
-  Request : ℕ → Cause
-  Conflict : Cause
-  GaveUp : ℕ → Cause
-  Spent : Cause
 
 -- What becomes of an operation: it still flies; it ends as applied, now or by an earlier request; it waits to be sent
 -- again; or it ends with a report.
@@ -37,16 +29,16 @@ pub record Tries : Type 0 where
 
 -- it is sent again while tries are left
 abbrev pub tried_again : Tries → Fate
-tried_again t = if nat_lt t.attempts t.max then Retried else Reported (GaveUp t.sends)
+tried_again t = if nat_lt t.attempts t.max then Retried else Reported (cause.GaveUp t.sends)
 
 -- item by item: what the verdict says, and a refusal is reported with its status and its error's type
 abbrev pub fate_of_verdict : Tries → Outcome → ItemVerdict → Fate
 fate_of_verdict t o verdict.Applied = Applied
 fate_of_verdict t o verdict.Already = Already
-fate_of_verdict t o verdict.Conflict = Reported Conflict
+fate_of_verdict t o verdict.Conflict = Reported cause.Conflict
 fate_of_verdict t o verdict.Retry = Retried
-fate_of_verdict t o verdict.GaveUp = Reported (GaveUp t.sends)
-fate_of_verdict t o verdict.Refused = Reported (Refused o.status (unwrap_or o.error []))
+fate_of_verdict t o verdict.GaveUp = Reported (cause.GaveUp t.sends)
+fate_of_verdict t o verdict.Refused = Reported (cause.Refused o.status (unwrap_or o.error []))
 
 abbrev pub fate_of_item : Tries → ActionKind → Outcome → Fate
 fate_of_item t kind o = fate_of_verdict t o (verdict_of kind o.status (is_some o.error) t.sends t.attempts t.max)
@@ -60,5 +52,25 @@ fate_of_entry t kind (Some o) = fate_of_item t kind o
 abbrev pub fate : Tries → List Write → ℕ → ActionKind → Answer → Fate
 fate t ws place kind Unanswered = Flies
 fate t ws place kind (Items os) = if matches os ws then fate_of_entry t kind (slice_get os place) else tried_again t
-fate t ws place kind (Whole status) = if is_retried_whole status then tried_again t else Reported (Request status)
+fate t ws place kind (Whole status) = if is_retried_whole status then tried_again t else Reported (cause.Request status)
 fate t ws place kind Lost = tried_again t
+
+-- ---- what an answer says
+
+-- its entries match the writes, and this is the one for the item at a place
+pub record HasEntry (ws : List Write) (place : ℕ) (a : Answer) (o : Outcome) : Type 0 where
+  pub entries : List Outcome
+  pub answer : a ≡ Items entries
+  pub matching : matches entries ws ≡ true
+  pub entry : slice_get entries place ≡ Some o
+
+-- it is of a kind that is tried again for the item at a place, whether tries are left or not
+abbrev pub is_retried_entry : Option Outcome → Bool
+is_retried_entry None = true
+is_retried_entry (Some o) = is_retried_item o.status
+
+abbrev pub IsRetried : List Write → ℕ → Answer → Type 0
+IsRetried ws place Unanswered = ⊥
+IsRetried ws place (Items os) = matches os ws ≡ true → is_retried_entry (slice_get os place) ≡ true
+IsRetried ws place (Whole status) = is_retried_whole status ≡ true
+IsRetried ws place Lost = Unit {0}

@@ -1,82 +1,25 @@
--- What the definitions rule out.
-use Rattle.std.specs.Prelude.{◌⊎◌, ◌^◌, ◌++◌, ◌≡◌, ◌≢◌, ℕ, ◌≤◌, List, [], ◌∷◌, Option, Some, None, true, false, is_some, if◌then◌else◌}
+-- What the definitions rule out, and what follows from them.
+use Rattle.std.specs.Prelude.{◌⊎◌, ◌++◌, ◌≡◌, ◌≢◌, ℕ, ◌<◌, ◌≤◌, List, [], ◌∷◌, Some, Bool, true, false, is_some, unwrap_or}
+use Rattle.relay_action.specs.Lanes.{lane_of_document}
+use Rattle.relay_action.specs.declared.action.ActionKind.{ActionKind}
+use Rattle.relay_action.specs.declared.key.DocKey.{DocKey}
+use Rattle.relay_action.specs.declared.operation.OpName.{OpName}
 use Rattle.relay_action.specs.declared.write.Write.{Write}
-use Rattle.relay_action.specs.declared.operation.Op.{Op}
+use Rattle.relay_results.specs.declared.cause.Cause.TheVariants as cause
 use Rattle.relay_results.specs.declared.outcome.Outcome.{Outcome}
 use Rattle.relay_results.specs.declared.reading.ReplyFault.{ReplyFault}
 use Rattle.relay_results.specs.declared.reading.ReplyFault.TheVariants as fault
 use Rattle.relay_results.specs.declared.decide.ItemVerdict.TheVariants as verdict
-use Rattle.relay_action.specs.Actions.{kind_of}
-use Rattle.relay_results.specs.Verdicts.{verdict_of}
+use Rattle.relay_results.specs.Verdicts.{verdict_of, IsRefused, is_conflict, is_retried_whole, is_success}
 use Rattle.relay_results.specs.Replies.{IsReply, IsFaultOf}
 use Rattle.relay_results.specs.Words.{Mem}
-use Rattle.relay_results.specs.Documents.{Document, document_of, write_for, name_of, same_op}
+use Rattle.relay_results.specs.Documents.{Document, document_of, lane_of, same_name}
 use Rattle.relay_results.specs.Matching.{matches}
-use Rattle.relay_results.specs.Outside.{Answer, Items, Lost, Request, Ran, RunOutcome, Outside, IsHonest, write_at, MayRun, IsRefusal, IsOutcomeOf, is_applied, is_above, Event, IsStep, Continues, IsOpening}
-use Rattle.relay_results.specs.Fates as of
-use Rattle.relay_results.specs.Attribution.{IsAttribution, IsInProducerOrder}
-use Rattle.relay_results.specs.Causes.{Terms, IsTrueCause, IsAssignment, IsRefused, last_version, deals_from}
-use Rattle.relay_results.specs.Schedules.{entry, terms, nothing, end_of, Plays}
+use Rattle.relay_results.specs.Numbers.{from_one, from_zero}
+use Rattle.relay_results.specs.Outside.{Answer, Unanswered, Items, Whole, Ran, RunOutcome, Outside, WasRun, IsHonest, write_at, MayRun, IsRefusal, IsOutcomeOf, is_applied, is_above, Event, MayHappen, after, IsStep, Continues}
+use Rattle.relay_results.specs.Fates.{Fate, Flies, Applied, Already, Retried, Reported, Tries, fate, HasEntry, IsRetried}
 
--- one operation is attributed to two applied writes
-abbrev pub NoneTwice : Type 0
-NoneTwice =
-    (accepted : ℕ → List Op) (k : Document) (w x : Write) (o : Op) →
-    IsAttribution accepted k (w ∷ x ∷ []) (o ∷ o ∷ []) → ⊥
-
--- of two operations of one producer, the one put later stands first
-abbrev pub NoneOutOfOrder : Type 0
-NoneOutOfOrder =
-    (accepted : ℕ → List Op) (a b : Op) → a.producer ≡ b.producer → accepted a.producer ≡ a ∷ b ∷ [] →
-    name_of a ≢ name_of b → IsInProducerOrder accepted (b ∷ a ∷ []) → ⊥
-
--- the requests that were sent, where the outside is of no other matter
-abbrev pub sent : List Request → List Ran → Outside
-sent requests runs = record {
-  requests = requests;
-  runs = runs;
-  stored = λ k. None;
-  before = λ k. [];
-  applied = λ k. [];
-}
-
-abbrev pub request : List Write → Answer → Request
-request ws answer = record { writes = ws; answer = answer }
-
--- one reply was lost, and the operation may have three tries
-abbrev pub NotGivenUpAfterOne : Type 0
-NotGivenUpAfterOne = (o : Op) (v deals taken sends : ℕ) (runs : List Ran) →
-    let requests = request (write_for o v ∷ []) Lost ∷ [] in
-    IsTrueCause (terms 3 deals taken) (sent requests runs) o (Some v) (of.GaveUp sends) → ⊥
-
--- the last of three answers settled it
-abbrev pub NotGivenUpWhenSettled : Type 0
-NotGivenUpWhenSettled = (o : Op) (v sends : ℕ) (t : Terms) (runs : List Ran) →
-    let ws = write_for o v ∷ [] in
-    let applied = Items (entry (write_for o v) 200 ∷ []) in
-    IsTrueCause t (sent (request ws Lost ∷ request ws Lost ∷ request ws applied ∷ []) runs) o (Some v) (of.GaveUp sends) → ⊥
-
--- two requests carried it
-abbrev pub NoConflictAfterTwo : Type 0
-NoConflictAfterTwo = (o : Op) (v : ℕ) (t : Terms) (first second : Answer) (runs : List Ran) →
-    let ws = write_for o v ∷ [] in
-    IsTrueCause t (sent (request ws first ∷ request ws second ∷ []) runs) o (Some v) of.Conflict → ⊥
-
--- no run had this status; none had an error of this type
-abbrev pub NotRefusedWithoutStatus : Type 0
-NotRefusedWithoutStatus =
-    (o : Op) (dealt : Option ℕ) (t : Terms) (s : Outside) (status : ℕ) (error : List ℕ) →
-    ((r : Ran) → Mem r s.runs → r.outcome.status ≢ status) → IsTrueCause t s o dealt (of.Refused status error) → ⊥
-
-abbrev pub NotRefusedWithoutError : Type 0
-NotRefusedWithoutError =
-    (o : Op) (dealt : Option ℕ) (t : Terms) (s : Outside) (status : ℕ) (error : List ℕ) → error ≢ [] →
-    ((r : Ran) → Mem r s.runs → r.outcome.error ≢ Some error) → IsTrueCause t s o dealt (of.Refused status error) → ⊥
-
--- its lane took no more Puts than it deals versions
-abbrev pub NotSpentWithinLimit : Type 0
-NotSpentWithinLimit =
-    (o : Op) (dealt : Option ℕ) (t : Terms) (s : Outside) → t.taken ≤ t.deals → IsTrueCause t s o dealt of.Spent → ⊥
+-- ---- answers
 
 -- a matching entry has a status that no run had
 abbrev pub NotHonestWithoutRun : Type 0
@@ -84,45 +27,69 @@ NotHonestWithoutRun =
     (runs : List Ran) (request : ℕ) (w : Write) (o : Outcome) → matches (o ∷ []) (w ∷ []) ≡ true →
     ((r : Ran) → Mem r runs → r.outcome.status ≢ o.status) → IsHonest runs request (w ∷ []) (Items (o ∷ [])) → ⊥
 
+-- each entry of an honest answer is what a run of the item at its place gave
+abbrev pub HonestEntryWasRun : Type 0
+HonestEntryWasRun =
+    (runs : List Ran) (request place : ℕ) (ws : List Write) (a : Answer) (o : Outcome) →
+    IsHonest runs request ws a → HasEntry ws place a o → WasRun runs request place o
+
+-- ---- fates
+
+-- what each fate says of the answer that it comes from
+abbrev pub Says : Tries → List Write → ℕ → ActionKind → Answer → Fate → Type 0
+Says t ws place kind a Flies = a ≡ Unanswered
+Says t ws place kind a Applied =
+    (o : Outcome) × HasEntry ws place a o × (is_success kind o.status (is_some o.error) ≡ true)
+Says t ws place kind a Already = (2 ≤ t.sends) × ((o : Outcome) × HasEntry ws place a o × (is_conflict o.status ≡ true))
+Says t ws place kind a Retried = (t.attempts < t.max) × IsRetried ws place a
+Says t ws place kind a (Reported (cause.Refused status error)) =
+    (o : Outcome) × HasEntry ws place a o
+    × IsRefused kind o.status (is_some o.error) × (o.status ≡ status) × (unwrap_or o.error [] ≡ error)
+Says t ws place kind a (Reported (cause.Request status)) = (a ≡ Whole status) × (is_retried_whole status ≡ false)
+Says t ws place kind a (Reported cause.Conflict) =
+    (t.sends < 2) × ((o : Outcome) × HasEntry ws place a o × (is_conflict o.status ≡ true))
+Says t ws place kind a (Reported (cause.GaveUp sends)) =
+    (sends ≡ t.sends) × (t.max ≤ t.attempts) × IsRetried ws place a
+Says t ws place kind a (Reported cause.Spent) = ⊥
+
+abbrev pub FateSays : Type 0
+FateSays =
+    (t : Tries) (ws : List Write) (place : ℕ) (kind : ActionKind) (a : Answer) →
+    Says t ws place kind a (fate t ws place kind a)
+
+-- what is answered flies no longer
+abbrev pub AnswersEndFlight : Type 0
+AnswersEndFlight =
+    (t : Tries) (ws : List Write) (place : ℕ) (kind : ActionKind) (a : Answer) → a ≢ Unanswered →
+    fate t ws place kind a ≢ Flies
+
+-- what is tried again has tries left
+abbrev pub RetriedHasTries : Type 0
+RetriedHasTries =
+    (t : Tries) (ws : List Write) (place : ℕ) (kind : ActionKind) (a : Answer) →
+    fate t ws place kind a ≡ Retried → t.attempts < t.max
+
+-- the table's word Refused does not depend on what was sent before
+abbrev pub RefusedWhateverSent : Type 0
+RefusedWhateverSent = (kind : ActionKind) (status : ℕ) (has_error : Bool) (sends attempts max : ℕ) →
+    verdict_of kind status has_error sends attempts max ≡ verdict.Refused → IsRefused kind status has_error
+
 -- ---- replies
 
 -- a text says one list of outcomes at most
 abbrev pub OneReply : Type 0
 OneReply = (text : List ℕ) (os ps : List Outcome) → IsReply text os → IsReply text ps → os ≡ ps
 
--- a reply has no fault but want of memory
+-- a reply has no fault but that memory ran out
 abbrev pub NoFaultOfReply : Type 0
 NoFaultOfReply =
     (text : List ℕ) (os : List Outcome) (e : ReplyFault) → IsReply text os → IsFaultOf text e → e ≡ fault.Memory
 
--- a text has one fault at most beside want of memory
+-- a text has one fault at most, beside that memory ran out
 abbrev pub OneFault : Type 0
 OneFault =
     (text : List ℕ) (e f : ReplyFault) → e ≢ fault.Memory → f ≢ fault.Memory →
     IsFaultOf text e → IsFaultOf text f → e ≡ f
-
--- ---- the version assignment
-
--- two operations of one document have one version
-abbrev pub NotAssignedTwice : Type 0
-NotAssignedTwice =
-    (versions : Op → Option ℕ) (a b : Op) (v : ℕ) → document_of a.key ≡ document_of b.key → a.number ≢ b.number →
-    versions a ≡ Some v → versions b ≡ Some v → IsAssignment versions → ⊥
-
--- the first operation is dealt 1, the second 2, and no other any
-abbrev pub first_two : Op → Op → Op → Option ℕ
-first_two a b o = if same_op o a then Some 1 else if same_op o b then Some 2 else None
-
--- this is an assignment
-abbrev pub AssignsTwo : Type 0
-AssignsTwo =
-    (a b : Op) → same_op b a ≡ false →
-    IsAssignment (first_two a b) × (first_two a b a ≡ Some 1) × (first_two a b b ≡ Some 2)
-
--- the table's word Refused does not depend on what was sent before
-abbrev pub RefusedWhateverSent : Type 0
-RefusedWhateverSent = (w : Write) (o : Outcome) (sends attempts max : ℕ) →
-    verdict_of (kind_of w.action) o.status (is_some o.error) sends attempts max ≡ verdict.Refused → IsRefused w o
 
 -- ---- runs
 
@@ -137,8 +104,7 @@ NotAppliedAgain =
     (w : Write) (stored : ℕ) (o : RunOutcome) → w.version ≤ stored → IsOutcomeOf (Some stored) w o →
     is_applied w o ≡ false
 
--- A step of the outside sends and answers nothing. It leaves a document as it is, or adds one write of the document at the
--- end of its list, whose version was above the one stored and is stored then.
+-- one write of the document was added at the end of its list, whose version was above the one stored and is stored now
 pub record GrowsBy (old new : Outside) (k : Document) (w : Write) : Type 0 where
   pub applied : new.applied k ≡ old.applied k ++ w ∷ []
   pub of_document : document_of w.key ≡ k
@@ -149,18 +115,42 @@ pub record StaysAt (old new : Outside) (k : Document) : Type 0 where
   pub applied : new.applied k ≡ old.applied k
   pub stored : new.stored k ≡ old.stored k
 
-abbrev pub StepGrows : Type 0
-StepGrows =
-    (old new : Outside) → IsStep old new →
-    (new.requests ≡ old.requests) × (new.before ≡ old.before)
-    × ((k : Document) → StaysAt old new k ⊎ ((w : Write) × GrowsBy old new k w))
+-- A step of the outside runs one item: it sends and answers nothing, its run is noted, and the item's write alone may
+-- be added, to its own document, where the outcome says that it was applied.
+pub record RunsItem (old new : Outside) (run : Ran) (w : Write) : Type 0 where
+  pub item : write_at old.requests run.request run.place ≡ Some w
+  pub requests : new.requests ≡ old.requests
+  pub runs : new.runs ≡ old.runs ++ run ∷ []
+  pub before : new.before ≡ old.before
+  pub documents : (k : Document) → StaysAt old new k ⊎ ((is_applied w run.outcome ≡ true) × GrowsBy old new k w)
+  pub grows : is_applied w run.outcome ≡ true → GrowsBy old new (document_of w.key) w
 
--- before a schedule nothing was sent, and what stands at its end continues that
-abbrev pub PlaysFromOpening : Type 0
-PlaysFromOpening =
-    (accepted : List Op) (events : List Event) (k : Document) (ws : List Write) (ops : List Op) →
-    Plays accepted events k ws ops → IsOpening nothing × Continues nothing (end_of events)
+abbrev pub StepRunsItem : Type 0
+StepRunsItem = (old new : Outside) (s : IsStep old new) → RunsItem old new s.run s.may.write
 
--- a lane that begins with version 1 deals 2^56 versions, and one that begins with the last version deals one
-abbrev pub DealsVersions : Type 0
-DealsVersions = (deals_from 1 ≡ 2 ^ 56) × (deals_from last_version ≡ 1)
+-- ---- events one after another
+
+abbrev pub ContinuesItself : Type 0
+ContinuesItself = (s : Outside) → Continues s s
+
+abbrev pub ContinuesOn : Type 0
+ContinuesOn = (a b c : Outside) → Continues a b → Continues b c → Continues a c
+
+abbrev pub EventContinues : Type 0
+EventContinues = (e : Event) (s : Outside) → MayHappen e s → Continues s (after e s)
+
+-- ---- words
+
+-- the lane of a document is that of its key
+abbrev pub LaneOfKey : Type 0
+LaneOfKey = (key : DocKey) (lanes : ℕ) → lane_of_document key lanes ≡ lane_of lanes (document_of key)
+
+-- two names that the test calls one are equal, and a name is itself
+abbrev pub NamesEqual : Type 0
+NamesEqual = (a b : OpName) → (same_name a b ≡ true → a ≡ b) × (a ≡ b → same_name a b ≡ true)
+
+-- numbers from 1 and counts from 0 say the same
+abbrev pub NumbersFromOne : Type 0
+NumbersFromOne =
+    ((count : ℕ) → (1 ≤ from_one count) × (from_zero (from_one count) ≡ count))
+    × ((number : ℕ) → 1 ≤ number → from_one (from_zero number) ≡ number)

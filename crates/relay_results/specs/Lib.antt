@@ -2,11 +2,9 @@ pub mod Words
 pub mod Documents
 pub mod Verdicts
 pub mod Matching
+pub mod Numbers
 pub mod Outside
 pub mod Fates
-pub mod Attribution
-pub mod Causes
-pub mod Schedules
 pub mod Laws
 pub mod Replies
 pub mod Parts

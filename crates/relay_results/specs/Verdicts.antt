@@ -1,5 +1,5 @@
 -- What the status of an item says, and of a request as a whole.
-use Rattle.std.specs.Prelude.{ℕ, List, [], ◌∷◌, Bool, not, ◌==◌, ◌&&◌, ◌||◌, nat_le, nat_lt, if◌then◌else◌}
+use Rattle.std.specs.Prelude.{◌≡◌, ℕ, List, [], ◌∷◌, Bool, not, ◌==◌, ◌&&◌, ◌||◌, nat_le, nat_lt, if◌then◌else◌}
 use Rattle.relay_action.specs.declared.action.ActionKind.{ActionKind}
 use Rattle.relay_results.specs.declared.decide.ItemVerdict.{ItemVerdict}
 use Rattle.relay_results.specs.declared.decide.ItemVerdict.TheVariants as verdict
@@ -55,3 +55,8 @@ verdict_of kind status has_error sends attempts max = first_line
     ∷ when (is_retried_item status) verdict.GaveUp
     ∷ [])
     verdict.Refused
+
+-- the table says Refused, whatever was sent before
+abbrev pub IsRefused : ActionKind → ℕ → Bool → Type 0
+IsRefused kind status has_error =
+    (sends attempts max : ℕ) → verdict_of kind status has_error sends attempts max ≡ verdict.Refused

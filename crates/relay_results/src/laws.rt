@@ -1,79 +1,54 @@
-//! What the definitions of `specs/` say of worked schedules: each meets them, and what none may do
-//! does not. These functions do nothing; their contracts are the laws.
-ghost use Rattle.relay_results.specs.Schedules.{LostThenAlready, LateRunChangesNothing, RunTwice, RefusedOrRejected, NoVersionLeft, BusyThenNext, GivenUpAndApplied, ThreeThenOne};
-ghost use Rattle.relay_results.specs.Laws.{NoneTwice, NoneOutOfOrder, NotGivenUpAfterOne, NotGivenUpWhenSettled, NoConflictAfterTwo, NotRefusedWithoutStatus, NotRefusedWithoutError, NotSpentWithinLimit, NotHonestWithoutRun, OneReply, NoFaultOfReply, OneFault, AssignsTwo, NotAssignedTwice, RefusedWhateverSent, MayAlwaysRun, NotAppliedAgain, StepGrows, PlaysFromOpening, DealsVersions};
-
-/// Worked schedules of one operation meet the definitions: applied and lost, then a conflict with
-/// its own version; run late, after its repeat; run twice; refused, or rejected with its whole
-/// request; spent.
-pub fn schedules_of_one()
-    ensures already { LostThenAlready }
-    ensures late { LateRunChangesNothing }
-    ensures twice { RunTwice }
-    ensures refused { RefusedOrRejected }
-    ensures spent { NoVersionLeft }
-{}
-
-/// Worked schedules of several operations meet the definitions: retried before the next of its
-/// document is sent; given up, and applied all the same before the next; three documents in one
-/// request.
-pub fn schedules_of_several()
-    ensures busy { BusyThenNext }
-    ensures given_up { GivenUpAndApplied }
-    ensures three { ThreeThenOne }
-{}
-
-/// No attribution has an operation twice, or one producer's operations out of their order.
-pub fn attributions_exclude()
-    ensures twice { NoneTwice }
-    ensures order { NoneOutOfOrder }
-{}
-
-/// No cause is true that the requests, the runs and the answers do not bear out.
-pub fn causes_exclude()
-    ensures one_lost { NotGivenUpAfterOne }
-    ensures settled { NotGivenUpWhenSettled }
-    ensures two_sends { NoConflictAfterTwo }
-    ensures status { NotRefusedWithoutStatus }
-    ensures error { NotRefusedWithoutError }
-    ensures within_limit { NotSpentWithinLimit }
-{}
+//! What the definitions of `specs/` rule out, and what follows from them. These functions do nothing;
+//! their contracts are the laws.
+ghost use Rattle.relay_results.specs.Laws.{NotHonestWithoutRun, HonestEntryWasRun, FateSays, AnswersEndFlight, RetriedHasTries, RefusedWhateverSent, OneReply, NoFaultOfReply, OneFault, MayAlwaysRun, NotAppliedAgain, StepRunsItem, ContinuesItself, ContinuesOn, EventContinues, LaneOfKey, NamesEqual, NumbersFromOne};
 
 /// Any item of any sent request may be run at any time, a write that was applied is not applied again,
-/// and a step adds at most one write to the list of one document.
+/// and a step of the outside notes its run and adds at most the item's own write.
 pub fn runs_apply_once()
     ensures always { MayAlwaysRun }
     ensures once { NotAppliedAgain }
-    ensures grows { StepGrows }
+    ensures item { StepRunsItem }
 {}
 
-/// A schedule begins where nothing was sent, and a lane deals the versions from its first to the last,
-/// at most 2^56.
-pub fn schedules_begin()
-    ensures opening { PlaysFromOpening }
-    ensures deals { DealsVersions }
+/// What stands outside continues itself, each event that may happen continues it, and so do events
+/// after events.
+pub fn events_continue()
+    ensures itself { ContinuesItself }
+    ensures event { EventContinues }
+    ensures on { ContinuesOn }
 {}
 
-/// No answer is honest whose matching entries no run gave.
+/// No answer is honest whose matching entries no run gave, and each such entry is a run's.
 pub fn answers_exclude()
-    ensures { NotHonestWithoutRun }
+    ensures without_run { NotHonestWithoutRun }
+    ensures entry { HonestEntryWasRun }
+{}
+
+/// What becomes of an operation says which answer it had; an answer ends its flight, and what is tried
+/// again has tries left.
+pub fn fates_say()
+    ensures answer { FateSays }
+    ensures ends { AnswersEndFlight }
+    ensures tries { RetriedHasTries }
 {}
 
 /// A text says one list of outcomes or has one fault, and not both: so what [`crate::read_reply`]
-/// answers is settled, but for want of memory.
+/// answers is settled, unless memory runs out.
 pub fn replies_exclude()
     ensures one { OneReply }
     ensures no_fault { NoFaultOfReply }
     ensures one_fault { OneFault }
 {}
 
-/// A version assignment may deal versions, and gives none to two operations of one document.
-pub fn assignments_differ()
-    ensures deals { AssignsTwo }
-    ensures twice { NotAssignedTwice }
-{}
-
 /// The verdict Refused does not depend on what was sent before.
 pub fn refusals_stay()
     ensures { RefusedWhateverSent }
+{}
+
+/// The lane of a document is that of its key, the test of names decides whether they are equal, and
+/// numbers from 1 are places from 0.
+pub fn words_agree()
+    ensures lane { LaneOfKey }
+    ensures names { NamesEqual }
+    ensures numbers { NumbersFromOne }
 {}

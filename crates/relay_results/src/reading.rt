@@ -181,10 +181,7 @@ pub fn read_reply(alloc: Global, bytes: &[u8]) -> Result<Vec<Outcome>, ReplyFaul
     ensures err { IfErr result (λ e. IsFaultOf bytes.now e) }
 {
     let mut scratch = Scratch::new(alloc);
-    let tree = match value_of(alloc, bytes, &mut scratch) {
-        Ok(tree) => tree,
-        Err(fault) => return Err(fault),
-    };
+    let tree = value_of(alloc, bytes, &mut scratch)?;
     let Some(entries) = entries_of(tree.root()) else {
         return Err(ReplyFault::NoItems);
     };

@@ -10,5 +10,5 @@ pub meet_all-is_met-requires : goal.meet_all-is_met-requires
 meet_all-is_met-requires g c =
     let queue : Queue = c.in_ok-take.take.queue in
     let puts = All-same (λ (p : SenderEnd). p.queue ≡ queue) _ _ c.in_ok-take.ensures.senders (fresh_puts-queue queue c.args.senders) in
-    let same : c.end.result.queue ≡ queue = ap (λ (t : TakerEnd). t.queue) c.end.ensures ∙ c.take_all-is_in_order.ensures in
+    let same : c.end.result.queue ≡ queue = ap (λ (t : TakerEnd). t.queue) c.end.ensures.same ∙ c.take_all-is_in_order.ensures in
     All-weaker (λ (t : PromisedHandle (Option SenderEnd) SendPromise). t.promise.put.value.queue ≡ queue) (λ t. t.promise.put.value.queue ≡ c.end.result.queue) (λ t e. e ∙ sym same) _ (c.in_ok-threads.ensures queue puts)

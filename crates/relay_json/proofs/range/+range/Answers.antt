@@ -6,8 +6,8 @@ use Rattle.serde_json.specs.Read.{of_json}
 use Rattle.relay_json.proofs.Ranges.{members_fit-passed}
 use Rattle.relay_json.proofs.range.+range.Goals as goal
 
-pub items_have_data-has_data-requires : goal.items_have_data-has_data-requires
-items_have_data-has_data-requires t c =
+pub items_in_range-numbers_in_range-requires : goal.items_in_range-numbers_in_range-requires
+items_in_range-numbers_in_range-requires t c =
     let xs = c.deref-item-items.result.now in
     let x = c.item-item.result in
     let smaller : length (json_tokens (value_view x)) < length (items_tokens (items_view c.args.items.now.items)) =
@@ -15,8 +15,8 @@ items_have_data-has_data-requires t c =
     (subst (λ y. length (json_tokens (value_view y)) < length (items_tokens (items_view xs))) (sym c.item-item.is) (item_smaller xs c.loop-item.item-index x (omega arith))) in
     search rules
 
-pub members_have_data-has_data-requires : goal.members_have_data-has_data-requires
-members_have_data-has_data-requires t c =
+pub members_in_range-numbers_in_range-requires : goal.members_in_range-numbers_in_range-requires
+members_in_range-numbers_in_range-requires t c =
     let xs = c.deref-member-items.result.now in
     let x = c.member-item.result in
     let smaller : length (json_tokens (value_view x.1)) < length (members_tokens (members_view c.args.members.now.items)) =
@@ -24,8 +24,8 @@ members_have_data-has_data-requires t c =
     (subst (λ y. length (json_tokens (value_view y.1)) < length (members_tokens (members_view xs))) (sym c.member-item.is) (member_smaller xs c.loop-member.member-index x (omega arith))) in
     search rules
 
-pub members_have_data-loop-member-preserved : goal.members_have_data-loop-member-preserved
-members_have_data-loop-member-preserved t c =
+pub members_in_range-loop-member-preserved : goal.members_in_range-loop-member-preserved
+members_in_range-loop-member-preserved t c =
     let m = c.member-item.result in
     let good : is_some (of_json (value_view m.1)) ≡ true = grind arith in
     members_fit-passed c.deref-member-items.result.now c.loop-member.member-index m (omega arith) c.member-item.is c.loop-member.invariant good

@@ -1,7 +1,7 @@
 use Rattle.std.proofs.Common.{◌≡◌, length, arith, inl, inr, subst, sym, List, ℕ}
 use Rattle.std.proofs.lemmas.Grind.{common_steps}
 use Rattle.relay_ndjson.specs.Bodies.{IsBulk}
-use Rattle.relay_ndjson.proofs.Bodies.{lines_within, read_more, all_read, read_broken}
+use Rattle.relay_ndjson.proofs.Bodies.{lines_within, nothing_read, read_more, all_read, read_broken}
 use Rattle.relay_ndjson.proofs.Fronts.{nil_of}
 use Rattle.relay_ndjson.proofs.OneBody.{one_bulk, no_fault_in_bulk}
 use Rattle.relay_ndjson.proofs.Written.{bulk_text_is_bulk}
@@ -32,3 +32,13 @@ returns-clause-round_trip c =
     let all = all_read c.args.body.now c.writes.rest.now c.writes.writes.items c.writes.lines c.writes.invariant (nil_of c.writes.rest.now none) in
     λ ws dealt same.
     one_bulk c.args.body.now c.writes.writes.items ws all (subst (λ (bytes : List ℕ). IsBulk bytes ws) (sym same) (bulk_text_is_bulk ws dealt))
+
+pub writes-init : goal.writes-init
+writes-init c = rw c.new-writes.ensures.items (nothing_read c.args.body.now)
+
+pub returns-in-Err-clause-err : goal.returns-in-Err-clause-err
+returns-in-Err-clause-err c =
+    elim c.in-Err.ensures.err [
+      | inl memory ↦ inl memory
+      | inr breaks ↦ inr (read_broken c.args.body.now c.writes.rest.now c.writes.writes.items c.writes.lines c.in-Err.fault.line c.in-Err.fault.kind c.writes.invariant breaks)
+    ]

@@ -1,5 +1,6 @@
 use Rattle.relay_ndjson.proofs.Deciding.{text_decides}
 use Rattle.relay_ndjson.proofs.Exclusion.{no_operation_at_fault, no_end_at_fault, no_operation_at_end, one_fault}
+use Rattle.relay_ndjson.proofs.OneOperation.{one_operation, no_operation_at_read}
 use Rattle.relay_ndjson.proofs.Totality.{always_decided}
 use Rattle.relay_ndjson.proofs.laws.faults_exclude.Goals as goal
 
@@ -17,6 +18,12 @@ returns-clause-neither c = no_operation_at_end
 
 pub returns-clause-one : goal.returns-clause-one
 returns-clause-one c = one_fault
+
+pub returns-clause-front : goal.returns-clause-front
+returns-clause-front c = one_operation
+
+pub returns-clause-read : goal.returns-clause-read
+returns-clause-read c = no_operation_at_read
 
 pub returns-clause-total : goal.returns-clause-total
 returns-clause-total c = always_decided

@@ -2,6 +2,7 @@ use Rattle.std.proofs.Common.{take, ◌∙◌, ◌++◌, ◌∷◌, [], ap, sym,
 use Rattle.std.proofs.lemmas.List.{take_more}
 use Rattle.relay_index.specs.Runs.{RunsOne}
 use Rattle.relay_index.specs.Plans.{choice_at}
+use Rattle.relay_index.specs.Serving.{under}
 use Rattle.relay_index.proofs.Served.{RunsAll-push}
 use Rattle.relay_index.proofs.index.Index.run_all.Goals as goal
 
@@ -14,7 +15,7 @@ writes-preserved c =
     record { item_of = rw c.choice-choice.ensures.choice at c.in-Ok-run.ensures.item; effect = rw c.choice-choice.ensures.choice at c.in-Ok-run.ensures.effect } in
     record {
       runs = rw (more, c.push_reserved.ensures.items, c.step.ensures)
-          (RunsAll-push c.args.self.now c.args.script.now (take c.writes.write-index ws) c.writes.items.items c.writes.self c.writes.script write c.in-Ok-run.done c.run.new.self c.writes.invariant.runs run);
+          (RunsAll-push (under c.args.self.now c.args.script.now) (take c.writes.write-index ws) c.writes.items.items (under c.writes.self c.writes.script) write c.in-Ok-run.done c.run.new.self c.writes.invariant.runs run);
       counted = search rules;
       room = search rules;
     }

@@ -1,3 +1,4 @@
+use Rattle.std.proofs.Common.{rules}
 use Rattle.std.proofs.Common.{None, ◌∙◌, ap}
 use Rattle.std.specs.Io.KnownBytes.{prepend_known}
 use Rattle.relay_ndjson.proofs.Pieces.{line_refused, line_goes_on}
@@ -21,3 +22,6 @@ returns-in-Err-take_part-clause-line g c =
     let begun = c.pieces.self.text.items in
     let taken = c.pieces.invariant.taken ∙ ap (prepend_known begun) c.refill.ensures.left in
     line_refused begun c.refill.new.self c.take_part.new.self.text.items c.take_part.new.self.piece _ None _ c.in-Err-take_part.fault taken c.in-Err-take_part.ensures.part
+
+pub returns-in-Ok-false-clause-line : goal.returns-in-Ok-false-clause-line
+returns-in-Ok-false-clause-line g c = search rules

@@ -1,6 +1,7 @@
 use Rattle.std.proofs.Common.{◌≡◌, ◌+◌, ◌-◌, vec_len}
 use Rattle.std.specs.Io.KnownBytes.{prepend_known}
-use Rattle.relay_ndjson.specs.Lines.{IsUnbroken, IsStart, line_limit}
+use Rattle.relay_ndjson.specs.Lines.{IsUnbroken, line_limit}
+use Rattle.relay_ndjson.specs.Steps.{IsStart}
 use Rattle.relay_ndjson.proofs.lines.Lines.read_line.Given as goal
 
 -- the line so far, what the piece holds and what the stream has left are what stood at the front

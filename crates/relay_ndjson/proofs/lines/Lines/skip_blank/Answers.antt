@@ -1,5 +1,6 @@
 use Rattle.std.proofs.Common.{◌≡◌, ◌+◌, ◌≤◌, arith, rules, length, ◌∙◌}
 use Rattle.relay_ndjson.specs.Operations.{blank_limit}
+use Rattle.relay_ndjson.proofs.Stopping.{blank_stops}
 use Rattle.relay_ndjson.proofs.Taking.{blank_next, skip_fault, blank_fault}
 use Rattle.relay_ndjson.proofs.lines.Lines.skip_blank.Goals as goal
 
@@ -12,6 +13,11 @@ pub returns-clause-line : goal.returns-clause-line
 returns-clause-line g c =
     let all : c.loop-blank.blank ≡ blank_limit + 1 = omega (arith, c.loop-blank-test.false, c.loop-blank.auto.blank-end) in
     λ default. blank_fault default _ _ c.loop-blank.blank c.args.self.now.count c.loop-blank.self.count all c.loop-blank.invariant.blank c.loop-blank.invariant.count
+
+pub returns-clause-stop : goal.returns-clause-stop
+returns-clause-stop g c =
+    let all : c.loop-blank.blank ≡ blank_limit + 1 = omega (arith, c.loop-blank-test.false, c.loop-blank.auto.blank-end) in
+    λ default. blank_stops default _ _ c.loop-blank.self.piece c.loop-blank.blank c.args.self.now.count c.loop-blank.self.count all c.loop-blank.invariant.blank c.loop-blank.invariant.count
 
 pub loop-blank-preserved : goal.loop-blank-preserved
 loop-blank-preserved g c =

@@ -1,3 +1,4 @@
+use Rattle.std.proofs.lemmas.Grind.{common_steps}
 use Rattle.std.proofs.Common.{◌≡◌, ◌-◌, length, take, drop, ap, sym, ◌∙◌, arith}
 use Rattle.std.proofs.lemmas.List.{with_items_is}
 use Rattle.std.specs.Io.KnownBytes.{prepend_known}
@@ -11,3 +12,6 @@ returns-in-Ok-read-clause-left g c =
     let items = with_items_is bytes c.read.new.buffer n in
     c.in-Ok-read.ensures.bytes
     ∙ ap (λ held. prepend_known held (g.R.ByteStream.left c.read.new.self)) (sym (ap (λ xs. take (c.in-Ok-read.count - 0) (drop 0 xs)) items ∙ range_front c.read.new.buffer c.in-Ok-read.count))
+
+pub returns-in-Ok-read-clause-end : goal.returns-in-Ok-read-clause-end
+returns-in-Ok-read-clause-end g c = grind (arith, common_steps)

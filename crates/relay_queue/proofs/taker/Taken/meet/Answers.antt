@@ -4,7 +4,7 @@ use Rattle.relay_queue.specs.Sent.{mail_of}
 use Rattle.relay_queue.specs.Steps.{IsTaker}
 use Rattle.relay_queue.specs.Log.{IsAllOf}
 use Rattle.relay_queue.specs.Ends.{SenderEnd, TakerEnd}
-use Rattle.relay_queue.proofs.Mails.{mail_of-append, length-mail_of, nothing_behind}
+use Rattle.relay_queue.proofs.Mails.{mail_of-append, length-mail_of, nothing_after}
 use Rattle.relay_queue.proofs.Keeping.{meets, reads, taker-met, met_tells}
 use Rattle.relay_queue.proofs.taker.Taken.meet.Goals as goal
 
@@ -46,5 +46,5 @@ returns-clause-whole c done =
     let t = told c in
     let front = mail_of c.args.closed.sender c.args.self.taken in
     let rest = mail_of c.args.closed.sender t.0 in
-    let none_left : rest ≡ [] = nothing_behind front rest (rw (← parts c) t.3.well_sent.1) done in
+    let none_left : rest ≡ [] = nothing_after front rest (rw (← parts c) t.3.well_sent.1) done in
     sym (parts c ∙ ap (λ l. front ++ l) none_left ∙ append-nil front)

@@ -1,4 +1,0 @@
-pub mod Lines
-pub mod Exits
-pub mod Applies
-pub mod Refusals

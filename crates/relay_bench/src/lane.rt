@@ -1,0 +1,162 @@
+//! A lane that holds many operations: they are taken, a request of at most 500 is formed, and it is answered.
+ghost use Rattle.std.specs.Prelude.{◌≤◌, ◌^◌, IfOk};
+
+use crate::fault::BenchFault;
+use crate::rate::nanoseconds_since;
+use relay_action::{Action, Body, DocKey, Mail, Op, Text, Write};
+use relay_batch::Limits;
+use relay_lane::{Lane, RelayConfig};
+use relay_results::Outcome;
+use std::alloc::Global;
+use std::time::{Clock, Instant};
+
+/// The most operations of the request.
+pub const BATCH: u32 = 500;
+
+// The source of each operation, of 100 bytes.
+const SOURCE: &str =
+    "{\"title\":\"A document of one hundred bytes, as a service may hand it over\",\"year\":2026,\"tags\":[\"a\",\"b\"]}";
+
+/// What the calls of a lane took.
+#[derive(Clone, Copy, Debug, PartialEq, Eq)]
+pub struct LaneTimes {
+    /// The operations that the request carried, all of which its reply applied.
+    pub sent: u32,
+    /// The nanoseconds of all takes, at most 10^18.
+    pub take: u64,
+    /// The nanoseconds of the request, at most 10^18.
+    pub request: u64,
+    /// The nanoseconds of the reply, at most 10^18.
+    pub reply: u64,
+}
+
+// The message that puts the operation with this number, each on a document of its own.
+fn mail_of(alloc: Global, number: u64) -> Result<Mail, BenchFault> {
+    let id = format!(in alloc; "{number}")?;
+    let Ok(key) = DocKey::new(alloc, "books", id.as_str()) else {
+        return Err(BenchFault::Memory);
+    };
+    let Ok(action) = Action::index(alloc, SOURCE) else {
+        return Err(BenchFault::Memory);
+    };
+    Ok(Mail {
+        sender: 0,
+        number,
+        body: Body::Put(Op {
+            producer: 0,
+            number,
+            key,
+            action,
+        }),
+    })
+}
+
+fn mails_of(alloc: Global, count: u32) -> Result<Vec<Mail>, BenchFault> {
+    let mut mails = Vec::new(alloc);
+    for number in 0..count {
+        let mail = mail_of(alloc, number as u64 + 1)?;
+        if mails.push(mail).is_err() {
+            return Err(BenchFault::Memory);
+        }
+    }
+    Ok(mails)
+}
+
+fn take_all(lane: &mut Lane, mails: Vec<Mail>) -> Result<(), BenchFault> {
+    for mail in mails {
+        if mail.sender >= lane.senders() || lane.take(mail).is_err() {
+            return Err(BenchFault::Lane);
+        }
+    }
+    Ok(())
+}
+
+// What a reply says where each write was applied.
+fn applied(alloc: Global, writes: &[Write]) -> Result<Vec<Outcome>, BenchFault> {
+    let mut outcomes = Vec::new(alloc);
+    for write in writes {
+        let outcome = Outcome {
+            kind: write.action.kind(),
+            id: Text::new(alloc, write.key.id())?,
+            status: 201,
+            error: None,
+        };
+        if outcomes.push(outcome).is_err() {
+            return Err(BenchFault::Memory);
+        }
+    }
+    Ok(outcomes)
+}
+
+// Answers a request so that all of its writes were applied: how many those are, and how long it took.
+fn answer<R: Clock>(
+    rt: &R,
+    alloc: Global,
+    lane: &mut Lane,
+    number: u64,
+) -> Result<(u32, u64), BenchFault>
+    ensures { IfOk result (λ r. r.1 ≤ 10 ^ 18) }
+{
+    let Some(writes) = lane.writes(number) else {
+        return Err(BenchFault::Lane);
+    };
+    let outcomes = applied(alloc, writes)?;
+    let start = Instant::now(rt)?;
+    let Ok(settled) = lane.reply(number, outcomes) else {
+        return Err(BenchFault::Lane);
+    };
+    let nanoseconds = nanoseconds_since(rt, start)?;
+    Ok((settled.applied, nanoseconds))
+}
+
+// Takes so many operations, and forms and answers one request.
+fn drive<R: Clock>(
+    rt: &R,
+    alloc: Global,
+    lane: &mut Lane,
+    mails: Vec<Mail>,
+) -> Result<LaneTimes, BenchFault>
+    ensures { IfOk result (λ t. (t.take ≤ 10 ^ 18) × (t.request ≤ 10 ^ 18) × (t.reply ≤ 10 ^ 18)) }
+{
+    let start = Instant::now(rt)?;
+    take_all(lane, mails)?;
+    let take = nanoseconds_since(rt, start)?;
+    let start = Instant::now(rt)?;
+    let Some(number) = lane.request()? else {
+        return Err(BenchFault::Lane);
+    };
+    let request = nanoseconds_since(rt, start)?;
+    let (sent, reply) = answer(rt, alloc, lane, number)?;
+    Ok(LaneTimes {
+        sent,
+        take,
+        request,
+        reply,
+    })
+}
+
+/// Measures a lane that takes and holds so many operations, of 100 bytes each.
+pub fn measure<R: Clock>(rt: &R, alloc: Global, held: u32) -> Result<LaneTimes, BenchFault>
+    ensures { IfOk result (λ t. (t.take ≤ 10 ^ 18) × (t.request ≤ 10 ^ 18) × (t.reply ≤ 10 ^ 18)) }
+{
+    let config = RelayConfig {
+        lanes: 1,
+        producers: 1,
+        capacity: 1,
+        max_held: held,
+        limits: Limits {
+            count: BATCH,
+            bytes: 16_777_216,
+            linger: 0,
+        },
+        attempts: 3,
+        in_flight: 1,
+        first_version: 1,
+    };
+    if !config.valid() {
+        return Err(BenchFault::Usage);
+    }
+    let mails = mails_of(alloc, held)?;
+    let mut lane = Lane::new(alloc, config)?;
+    drive(rt, alloc, &mut lane, mails)
+}

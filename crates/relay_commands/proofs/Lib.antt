@@ -1,0 +1,6 @@
+pub mod Taken
+pub mod Written
+pub mod Streaming
+pub mod Passed
+mod Bodies
+mod Parted

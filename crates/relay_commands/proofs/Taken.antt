@@ -1,0 +1,27 @@
+-- One more operation.
+use Rattle.std.proofs.Common.{◌≡◌, ℕ, ◌+◌, List, [], ◌∷◌, ◌++◌, length, refl, ap, ◌∙◌, sym, subst, arith, append-nil, length-append}
+use Rattle.std.proofs.lemmas.Grind.{flat_map-append}
+use Rattle.relay_ndjson.specs.Bulk.{write_text, text_of}
+use Rattle.relay_ndjson.specs.Operations.{Operation}
+use Rattle.relay_ndjson.specs.Reading.{Reading, Takes}
+use Rattle.relay_commands.specs.Lines.{TakesAll, Deals, numbered, lines_of, write_of}
+
+pub takes_more : (old mid new : Reading) (ops : List Operation) (n : ℕ) (op : Operation) → TakesAll old mid ops → Takes mid new n op → TakesAll old new (ops ++ op ∷ [])
+takes_more old mid new [] n op t s = (n, new, subst (λ (o : Reading). Takes o new n op) t s, refl)
+takes_more old mid new (first ∷ ops) n op t s = (t.0, t.1, t.2, takes_more t.1 mid new ops n op t.3 s)
+
+numbered-push : (first : ℕ) (ops : List Operation) (op : Operation) → numbered first (ops ++ op ∷ []) ≡ numbered first ops ++ write_of op (first + length ops) ∷ []
+numbered-push first [] op = ap (λ v. write_of op v ∷ []) (omega arith)
+numbered-push first (one ∷ ops) op =
+    let later : (first + 1) + length ops ≡ first + length (one ∷ ops) = omega arith in
+    ap (λ ws. write_of one first ∷ ws) (numbered-push (first + 1) ops op ∙ ap (λ v. numbered (first + 1) ops ++ write_of op v ∷ []) later)
+
+pub lines_of-push : (first version : ℕ) (ops : List Operation) (op : Operation) → version ≡ first + length ops → lines_of first (ops ++ op ∷ []) ≡ lines_of first ops ++ write_text (write_of op version)
+lines_of-push first version ops op v =
+    ap text_of (numbered-push first ops op)
+    ∙ (flat_map-append write_text (numbered first ops) (write_of op (first + length ops) ∷ [])
+    ∙ (ap (λ t. lines_of first ops ++ t) (append-nil (write_text (write_of op (first + length ops))))
+    ∙ ap (λ n. lines_of first ops ++ write_text (write_of op n)) (sym v)))
+
+pub version_more : (first version : ℕ) (ops : List Operation) (op : Operation) → version ≡ first + length ops → version + 1 ≡ first + length (ops ++ op ∷ [])
+version_more first version ops op v = simp length-append (omega arith)

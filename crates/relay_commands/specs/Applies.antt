@@ -1,0 +1,55 @@
+-- What `relay apply` reads, and what it writes.
+use Rattle.std.specs.Prelude.{◌≡◌, ℕ, ◌+◌, ◌<◌, ◌≤◌, List, ◌++◌, length, take, decimal, Option, Result, Ok, Err}
+use Rattle.std.specs.Io.KnownBytes.{append_known, prepend_known, IsAtEnd}
+use Rattle.relay_ndjson.specs.Bulk.{line_end}
+use Rattle.relay_index.specs.States.{State, fresh}
+use Rattle.relay_index.specs.Plans.{Plan}
+use Rattle.relay_index.specs.Serving.{under, answer_of, Answers}
+use Rattle.relay_commands.specs.declared.apply.TheConstants.{BODY_LIMIT}
+use Rattle.relay_commands.specs.declared.apply.ApplyFault.{ApplyFault}
+use Rattle.relay_commands.specs.declared.apply.ApplyFault.TheVariants as fault
+
+-- the most bytes of the body of a bulk request
+abbrev pub body_limit : ℕ
+body_limit = BODY_LIMIT
+
+-- the reader gave these bytes and then its end, and they are no more than a body may have
+pub record GivesBody (old new : Option (List ℕ)) (body : List ℕ) : Type 0 where
+  pub within : length body ≤ body_limit
+  pub taken : old ≡ prepend_known body new
+  pub ended : IsAtEnd new
+
+-- one byte more than a body may have was taken from the reader, and no more
+pub record PassesLimit (old new : Option (List ℕ)) : Type 0 where
+  pub bytes : List ℕ
+  pub past : length bytes ≡ body_limit + 1
+  pub taken : old ≡ prepend_known bytes new
+
+-- a fresh index answers the body so, under the script
+pub record IsAnswer (plan : Plan) (body : List ℕ) (status : ℕ) (text : List ℕ) : Type 0 where
+  pub index : State
+  pub end : Plan
+  pub answers : Answers body (under fresh plan) (answer_of status text) (under index end)
+
+-- what is written for an answer: its status and its text, each on a line of its own
+abbrev pub answer_lines : ℕ → List ℕ → List ℕ
+answer_lines status text = decimal status ++ line_end ++ text ++ line_end
+
+-- these are the lines of the answer to the body
+pub record IsOutput (plan : Plan) (body out : List ℕ) : Type 0 where
+  pub status : ℕ
+  pub text : List ℕ
+  pub answer : IsAnswer plan body status text
+  pub lines : out ≡ answer_lines status text
+
+-- What was written, by how it ended: the lines of the answer to the body that was read; after a failed write exactly the
+-- first of their bytes; else nothing.
+abbrev pub Applies : {T : Type 0} → Plan → Option (List ℕ) → Option (List ℕ) → Option (List ℕ) → Option (List ℕ) → Result T ApplyFault → Type 0
+Applies plan old new before after (Ok x) =
+    (body : List ℕ) × (out : List ℕ) × GivesBody old new body × IsOutput plan body out × (after ≡ append_known before out)
+Applies plan old new before after (Err fault.BodyLong) = PassesLimit old new × (after ≡ before)
+Applies plan old new before after (Err fault.Read) = after ≡ before
+Applies plan old new before after (Err (fault.Write sent)) =
+    (body : List ℕ) × (out : List ℕ) × GivesBody old new body × IsOutput plan body out × (sent < length out)
+    × (after ≡ append_known before (take sent out))
+Applies plan old new before after (Err fault.Memory) = after ≡ before

@@ -1,0 +1,36 @@
+-- How the program ends, and with which status.
+use Rattle.std.specs.Prelude.{ℕ}
+use Rattle.relay_ndjson.specs.declared.kind.LineKind.{LineKind}
+use Rattle.relay_ndjson.specs.declared.kind.LineKind.TheVariants as kind
+use Rattle.relay_commands.specs.declared.lines.LinesFault.{LinesFault}
+use Rattle.relay_commands.specs.declared.lines.LinesFault.TheVariants as fault
+use Rattle.relay_commands.specs.declared.apply.ApplyFault.{ApplyFault}
+use Rattle.relay_commands.specs.declared.apply.ApplyFault.TheVariants as apply
+use Rattle.relay_commands.specs.declared.exit.Exit.{Exit}
+use Rattle.relay_commands.specs.declared.exit.Exit.TheVariants as exit
+
+-- 0 done, 1 usage, 2 input fault, 3 device fault, 4 out of memory
+abbrev pub status_of : Exit → ℕ
+status_of exit.Done = 0
+status_of exit.Usage = 1
+status_of exit.Input = 2
+status_of exit.Device = 3
+status_of exit.Memory = 4
+
+-- a failed read is a device fault, and out of memory is a status of its own; all other kinds are faults of the input
+abbrev pub exit_of_kind : LineKind → Exit
+exit_of_kind kind.Read = exit.Device
+exit_of_kind kind.Memory = exit.Memory
+exit_of_kind other = exit.Input
+
+abbrev pub exit_of : LinesFault → Exit
+exit_of (fault.Input e) = exit_of_kind e.kind
+exit_of (fault.VersionsSpent line) = exit.Input
+exit_of (fault.Write sent) = exit.Device
+exit_of fault.Memory = exit.Memory
+
+abbrev pub exit_of_apply : ApplyFault → Exit
+exit_of_apply apply.BodyLong = exit.Input
+exit_of_apply apply.Read = exit.Device
+exit_of_apply (apply.Write sent) = exit.Device
+exit_of_apply apply.Memory = exit.Memory

@@ -1,0 +1,9 @@
+pub mod Lines
+pub mod Applies
+pub mod Calls
+pub mod Exits
+pub mod Refusals
+pub mod Sending
+pub mod Passing
+pub mod Pieces
+pub mod Cuts

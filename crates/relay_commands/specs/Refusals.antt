@@ -1,0 +1,56 @@
+-- The refusals that a command line asks for, as `2:429,5:400`.
+use Rattle.std.specs.Prelude.{◌≡◌, ℕ, zero, suc, ◌<◌, ◌^◌, List, [], ◌∷◌, ◌++◌, Option, None, Some, ◌==◌, if◌then◌else◌}
+use Rattle.std.specs.Option.{option_or}
+use Rattle.std.specs.List.{before_first}
+use Rattle.std.specs.Str.Parse.{IsNumeral, digits_value}
+use Rattle.relay_index.specs.Choices.{MayRefuse}
+use Rattle.relay_index.specs.Plans.{Plan, refusal_at}
+use Rattle.relay_commands.specs.declared.refuse_list.ListFault.{ListFault}
+use Rattle.relay_commands.specs.declared.refuse_list.ListFault.TheVariants as fault
+
+-- decimal digits, one or more, for a number of 64 bits; there is no sign, and leading zeros mean nothing
+pub record IsNumber (text : List ℕ) (n : ℕ) : Type 0 where
+  pub digits : IsNumeral 10 text
+  pub value : digits_value 10 text ≡ n
+  pub within : n < 2 ^ 64
+
+-- a refusal: the place of an item, counted from 1, a colon, and the status that the item is refused with
+pub record IsRefusal (text : List ℕ) (place status : ℕ) : Type 0 where
+  pub front : List ℕ
+  pub back : List ℕ
+  pub whole : text ≡ front ++ 58 ∷ back
+  pub place_is : IsNumber front place
+  pub status_is : IsNumber back status
+  pub from_one : 0 < place
+  pub may : MayRefuse status
+
+-- refusals, one or more, with a comma between each two
+abbrev pub IsList : List ℕ → List (ℕ × ℕ) → Type 0
+IsList text [] = ⊥
+IsList text (x ∷ []) = IsRefusal text x.0 x.1
+IsList text (x ∷ y ∷ xs) = (front : List ℕ) × (rest : List ℕ) × IsRefusal front x.0 x.1 × IsList rest (y ∷ xs) × (text ≡ front ++ 44 ∷ rest)
+
+-- the status of a place: the last that is given for it
+abbrev pub last_status : List (ℕ × ℕ) → ℕ → Option ℕ
+last_status [] place = None
+last_status (x ∷ xs) place = option_or (last_status xs place) (if x.0 == place then Some x.1 else None)
+
+-- the script refuses just these items, and nothing was run under it
+pub record Refuses (refusals : List (ℕ × ℕ)) (plan : Plan) : Type 0 where
+  pub statuses : (place : ℕ) → refusal_at plan place ≡ last_status refusals place
+  pub none_run : plan.ran ≡ 0
+
+-- the text is no refusal
+abbrev pub IsNoRefusal : List ℕ → Type 0
+IsNoRefusal text = (place status : ℕ) → IsRefusal text place status → ⊥
+
+-- after so many refusals, each with a comma after it, what stands before the next comma or the end is none
+abbrev pub IsBadAfter : List ℕ → ℕ → Type 0
+IsBadAfter text zero = IsNoRefusal (before_first (λ b. b == 44) text)
+IsBadAfter text (suc n) =
+    (front : List ℕ) × (rest : List ℕ) × (place : ℕ) × (status : ℕ) × IsRefusal front place status × (text ≡ front ++ 44 ∷ rest) × IsBadAfter rest n
+
+-- why there is no script: the text is no list, and this pair is the first that is at fault; or memory ran out
+abbrev pub IsListFault : List ℕ → ListFault → Type 0
+IsListFault text (fault.BadList before) = ((refusals : List (ℕ × ℕ)) → IsList text refusals → ⊥) × IsBadAfter text before
+IsListFault text fault.Memory = Unit {0}

@@ -1,0 +1,101 @@
+//! One bulk request against a fresh stand-in index: the function behind `relay apply`.
+ghost use Rattle.std.specs.Prelude.{◌≡◌, IfOk, IfErr};
+ghost use Rattle.relay_commands.specs.Applies.{Applies, IsOutput, answer_lines};
+ghost use Rattle.relay_commands.specs.Calls.{FailsOnceInApply};
+ghost use Rattle.relay_commands.specs.Pieces.{IsAnswered, IsBodyFault, Sends, failed_by};
+
+use crate::body::read_body;
+use itoa::Buffer;
+use relay_action::{ByteIn, ByteOut, write_all};
+use relay_index::{Index, Script};
+use std::alloc::{AllocError, Global};
+use thiserror::Error;
+
+/// The most bytes of the body of a bulk request.
+pub const BODY_LIMIT: usize = 16_777_216;
+
+/// Why a request was not answered. The text of a variant is what the program prints.
+#[derive(Clone, Copy, Debug, PartialEq, Eq, Error)]
+pub enum ApplyFault {
+    /// The body has more than 16,777,216 bytes. Nothing is asked for after the first byte that is too
+    /// many, and nothing was written.
+    #[error("body too long")]
+    BodyLong,
+    /// A read failed. It is not repeated, and nothing was written.
+    #[error("read failed")]
+    Read,
+    /// A write failed. Exactly the first `sent` bytes of the answer went out.
+    #[error("write failed")]
+    Write {
+        /// How many bytes went out.
+        sent: u64,
+    },
+    /// There was no memory. Nothing was written.
+    #[error("out of memory")]
+    Memory,
+}
+
+/// Reads the body of a bulk request to its end, serves it with a fresh index under the script, and
+/// writes the status of the answer and its text, each with a line end. Nothing is written before the
+/// whole body was served. The faults say what went out; where memory was refused while the request was
+/// served, nothing did. A call of a stream that failed is not repeated.
+pub fn apply<R: ByteIn, W: ByteOut>(
+    alloc: Global,
+    reader: &mut R,
+    writer: &mut W,
+    script: Script,
+) -> Result<(), ApplyFault>
+    ensures applied { Applies script (R.left reader.old) (R.left reader.new) (W.written writer.old) (W.written writer.new) result }
+    ensures calls { FailsOnceInApply (R.failed reader.old) (R.failed reader.new)
+        (W.failed writer.old) (W.failed writer.new) result }
+{
+    match answer(alloc, reader, script) {
+        Ok(out) => send(writer, out.as_slice()),
+        Err(fault) => Err(fault),
+    }
+}
+
+// Reads a body to its end, and gives the lines of a fresh index's answer to it. The fault is `BodyLong`,
+// `Read` or `Memory`.
+fn answer<R: ByteIn>(alloc: Global, reader: &mut R, script: Script) -> Result<Vec<u8>, ApplyFault>
+    ensures ok { IfOk result (λ out. IsAnswered script (R.left reader.old) (R.left reader.new) out.items) }
+    ensures err { IfErr result (IsBodyFault (R.left reader.old) (R.left reader.new)) }
+    ensures failed { R.failed reader.new ≡ failed_by result (R.failed reader.old) }
+{
+    let body = read_body(alloc, reader)?;
+    output(alloc, body.as_slice(), script).map_err(|_| ApplyFault::Memory)
+}
+
+// Writes the lines of an answer.
+fn send<W: ByteOut>(writer: &mut W, out: &[u8]) -> Result<(), ApplyFault>
+    ensures { Sends (W.written writer.old) (W.written writer.new) (W.failed writer.old) (W.failed writer.new) out.now result }
+{
+    match write_all(writer, out) {
+        Ok(()) => Ok(()),
+        Err(sent) => Err(ApplyFault::Write { sent: sent as u64 }),
+    }
+}
+
+// What is written for a body: the lines of a fresh index's answer to it.
+fn output(alloc: Global, body: &[u8], mut script: Script) -> Result<Vec<u8>, AllocError>
+    ensures { IfOk result (λ out. IsOutput script body.now out.items) }
+{
+    let mut index = Index::new(alloc);
+    match index.serve_body(alloc, body, &mut script) {
+        Ok((status, text)) => answer_lines(alloc, status, text.as_bytes()),
+        Err(_) => Err(AllocError),
+    }
+}
+
+// What is written for an answer: its status and its text, each on a line of its own.
+fn answer_lines(alloc: Global, status: u16, text: &[u8]) -> Result<Vec<u8>, AllocError>
+    ensures { IfOk result (λ out. out.items ≡ answer_lines status text.now) }
+{
+    let mut digits = Buffer::new();
+    let mut out = Vec::new(alloc);
+    out.extend_from_slice(digits.format(status).as_bytes())?;
+    out.push(b'\n')?;
+    out.extend_from_slice(text)?;
+    out.push(b'\n')?;
+    Ok(out)
+}

@@ -1,0 +1,86 @@
+//! The body of a bulk request, read to its end.
+ghost use Rattle.std.specs.Prelude.{◌≡◌, ◌<◌, ◌≤◌, [], vec_len, IfOk, IfErr, OnOk};
+ghost use Rattle.relay_commands.specs.Applies.{GivesBody, body_limit};
+ghost use Rattle.relay_commands.specs.Pieces.{IsBodyFault, IsPieceFault, TakesPiece, failed_by};
+
+use crate::apply::{ApplyFault, BODY_LIMIT};
+use relay_action::ByteIn;
+use std::alloc::Global;
+
+// How many bytes are asked for at a time.
+const PIECE: usize = 65_536;
+
+// What a read gave.
+#[derive(Clone, Copy, Debug, PartialEq, Eq)]
+enum Part {
+    // Some bytes.
+    More,
+    // The end.
+    End,
+}
+
+/// Reads a body to its end. The fault is `BodyLong`, `Read` or `Memory`.
+pub fn read_body<R: ByteIn>(alloc: Global, reader: &mut R) -> Result<Vec<u8>, ApplyFault>
+    ensures body { IfOk result (λ body. GivesBody (R.left reader.old) (R.left reader.new) body.items) }
+    ensures err { IfErr result (IsBodyFault (R.left reader.old) (R.left reader.new)) }
+    ensures failed { R.failed reader.new ≡ failed_by result (R.failed reader.old) }
+{
+    let mut piece = match vec![in alloc; 0; PIECE] {
+        Ok(piece) => piece,
+        Err(_) => return Err(ApplyFault::Memory),
+    };
+    let mut body = Vec::new(alloc);
+    match read_pieces(reader, &mut piece, &mut body) {
+        Ok(()) => Ok(body),
+        Err(fault) => Err(fault),
+    }
+}
+
+// Reads a body to its end, piece by piece.
+fn read_pieces<R: ByteIn>(
+    reader: &mut R,
+    piece: &mut Vec<u8>,
+    body: &mut Vec<u8>,
+) -> Result<(), ApplyFault>
+    requires body { body.old.items ≡ [] }
+    requires piece { 0 < vec_len piece.old }
+    ensures body { OnOk result (GivesBody (R.left reader.old) (R.left reader.new) body.new.items) }
+    ensures err { IfErr result (IsBodyFault (R.left reader.old) (R.left reader.new)) }
+    ensures failed { R.failed reader.new ≡ failed_by result (R.failed reader.old) }
+{
+    'pieces: loop {
+        match read_piece(reader, piece, body) {
+            Ok(Part::More) => {}
+            Ok(Part::End) => return Ok(()),
+            Err(fault) => return Err(fault),
+        }
+        if body.len() > BODY_LIMIT {
+            return Err(ApplyFault::BodyLong);
+        }
+    }
+}
+
+// Reads some bytes of a body after those that were read before, if there are any. No more are asked for
+// than show that the body is too long.
+fn read_piece<R: ByteIn>(
+    reader: &mut R,
+    piece: &mut Vec<u8>,
+    body: &mut Vec<u8>,
+) -> Result<Part, ApplyFault>
+    requires room { vec_len body.old ≤ body_limit }
+    requires piece { 0 < vec_len piece.old }
+    ensures taken { IfOk result (TakesPiece (R.left reader.old) (R.left reader.new) body.old.items body.new.items) }
+    ensures err { IfErr result IsPieceFault }
+    ensures piece { 0 < vec_len piece.new }
+    ensures failed { R.failed reader.new ≡ failed_by result (R.failed reader.old) }
+{
+    piece.truncate(BODY_LIMIT + 1 - body.len());
+    match reader.read(piece.as_mut_slice()) {
+        Ok(0) => Ok(Part::End),
+        Ok(count) => match body.extend_from_slice(&piece[..count]) {
+            Ok(()) => Ok(Part::More),
+            Err(_) => Err(ApplyFault::Memory),
+        },
+        Err(_) => Err(ApplyFault::Read),
+    }
+}

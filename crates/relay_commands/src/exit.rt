@@ -1,0 +1,64 @@
+//! How the program ends.
+ghost use Rattle.std.specs.Prelude.{◌≡◌};
+ghost use Rattle.relay_commands.specs.Exits.{exit_of, exit_of_apply, status_of};
+
+use crate::apply::ApplyFault;
+use crate::lines::LinesFault;
+use relay_ndjson::LineKind;
+
+/// How the program ends.
+#[derive(Clone, Copy, Debug, PartialEq, Eq)]
+pub enum Exit {
+    /// All was done.
+    Done,
+    /// The command line is not one of the program's.
+    Usage,
+    /// The input is at fault.
+    Input,
+    /// A device is: a read or a write failed.
+    Device,
+    /// There was no memory.
+    Memory,
+}
+
+impl Exit {
+    /// The exit status.
+    pub fn status(self) -> u8
+        ensures { result ≡ status_of self }
+    {
+        match self {
+            Exit::Done => 0,
+            Exit::Usage => 1,
+            Exit::Input => 2,
+            Exit::Device => 3,
+            Exit::Memory => 4,
+        }
+    }
+}
+
+/// How `relay lines` ends after a fault.
+pub fn exit_of(fault: LinesFault) -> Exit
+    ensures { result ≡ exit_of fault }
+{
+    match fault {
+        LinesFault::Input(fault) => match fault.kind {
+            LineKind::Read => Exit::Device,
+            LineKind::Memory => Exit::Memory,
+            _ => Exit::Input,
+        },
+        LinesFault::VersionsSpent { .. } => Exit::Input,
+        LinesFault::Write { .. } => Exit::Device,
+        LinesFault::Memory => Exit::Memory,
+    }
+}
+
+/// How `relay apply` ends after a fault.
+pub fn exit_of_apply(fault: ApplyFault) -> Exit
+    ensures { result ≡ exit_of_apply fault }
+{
+    match fault {
+        ApplyFault::BodyLong => Exit::Input,
+        ApplyFault::Read | ApplyFault::Write { .. } => Exit::Device,
+        ApplyFault::Memory => Exit::Memory,
+    }
+}

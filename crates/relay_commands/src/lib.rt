@@ -1,0 +1,17 @@
+//! What the commands of the program do, over any reader and writer: `lines` turns a producer's NDJSON
+//! into bulk lines with versions, and `apply` serves one bulk request with a fresh stand-in index, under
+//! a script that `refuse_list` reads. `exit` says with which status a command ends. It stands on
+//! `relay_ndjson` and `relay_index`.
+//!
+//! It carries these promises: `lines` writes the bulk text of the operations before the first fault, with
+//! versions that rise by one, and no version past the last; `apply` writes the answer of a fresh index to
+//! the body that it read, and nothing before the whole body was served; and a call of a stream that failed
+//! is not repeated.
+#![tactic(auto)]
+
+pub mod apply;
+mod body;
+pub mod exit;
+pub mod lines;
+mod outgoing;
+pub mod refuse_list;

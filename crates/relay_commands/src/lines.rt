@@ -1,0 +1,179 @@
+//! A producer's NDJSON as bulk lines with versions: the function behind `relay lines`.
+ghost use Rattle.std.specs.Prelude.{◌≡◌, ◌≤◌, []};
+ghost use Rattle.relay_action.specs.Limits.{last_version};
+ghost use Rattle.relay_ndjson.specs.Metadata.{shown};
+ghost use Rattle.relay_ndjson.specs.Reading.{fresh, reading};
+ghost use Rattle.relay_ndjson.specs.declared.parser.Phase.TheVariants as phase;
+ghost use Rattle.relay_commands.specs.Calls.{FailsOnce};
+ghost use Rattle.relay_commands.specs.Lines.{Streams};
+ghost use Rattle.relay_commands.specs.Passing.{AddsNext, FailsInPass, IsNext, IsNumbered, Passes, failed_by, fault_of};
+
+use crate::outgoing::Outgoing;
+use relay_action::{Action, ByteIn, ByteOut, DocKey, Write};
+use relay_ndjson::{InputFault, LAST_VERSION, LineKind, Parser};
+use std::alloc::Global;
+use thiserror::Error;
+
+/// Why not all of a producer's lines were written. The text is what the program prints, but that it
+/// prints `read failed` where the kind is `Read`.
+#[derive(Clone, Copy, Debug, PartialEq, Eq, Error)]
+pub enum LinesFault {
+    /// A line breaks the producer grammar, or a read failed. The lines of all operations before it were
+    /// written. The kind is neither `Memory` nor `Failed`.
+    #[error("{0}")]
+    Input(InputFault),
+    /// The action line of this number finds no version: 9,000,000,000,000,000,000 was the last. The lines
+    /// of all operations before it were written.
+    #[error("line {line}: VersionsSpent")]
+    VersionsSpent {
+        /// The line, counted from 1.
+        line: u64,
+    },
+    /// A write failed. Exactly the first `sent` bytes of the bulk text went out.
+    #[error("write failed")]
+    Write {
+        /// How many bytes went out in all. At 2^64 - 1 the count stays.
+        sent: u64,
+    },
+    /// There was no memory. What went out is a prefix of the bulk text.
+    #[error("out of memory")]
+    Memory,
+}
+
+/// Writes the bulk text of the reader's operations, with the versions `first`, `first + 1` and so on, and
+/// answers how many they were. An operation that names no index has the default index, if one is given.
+/// The faults say what went out; of several only the first is answered, but out of memory before a failed
+/// write, and a failed write before a fault of the input. A call of a stream that failed is not repeated.
+///
+/// What is ready goes out before a read that may wait, and from 256 KiB on. The memory that is held does
+/// not grow with the input.
+pub fn lines<R: ByteIn, W: ByteOut>(
+    alloc: Global,
+    reader: &mut R,
+    writer: &mut W,
+    default_index: Option<&str>,
+    first: u64,
+) -> Result<u64, LinesFault>
+    requires { first ≤ last_version }
+    ensures lines { Streams first (fresh (R.left reader.old) (R.failed reader.old) (shown default_index.entry))
+        (R.left reader.new) (R.failed reader.new) (W.written writer.old) (W.written writer.new) result }
+    ensures calls { FailsOnce (R.failed reader.old) (R.failed reader.new)
+        (W.failed writer.old) (W.failed writer.new) result }
+{
+    let mut parser = Parser::new(alloc, default_index);
+    let mut outgoing = Outgoing::new(alloc);
+    let answer = pass_on(alloc, reader, &mut parser, writer, &mut outgoing, first);
+    outgoing.close(writer, answer)
+}
+
+// Passes the operations on, until there are no more or something is at fault. But for what was gathered last
+// their lines were written.
+fn pass_on<R: ByteIn, W: ByteOut>(
+    alloc: Global,
+    reader: &mut R,
+    parser: &mut Parser<'_>,
+    writer: &mut W,
+    outgoing: &mut Outgoing,
+    first: u64,
+) -> Result<u64, LinesFault>
+    requires first { first ≤ last_version }
+    requires open { parser.old.phase ≡ phase.Open }
+    requires text { outgoing.old.text.items ≡ [] }
+    requires sent { outgoing.old.sent ≡ 0 }
+    ensures lines { Passes first (reading (R.left reader.old) (R.failed reader.old) parser.old)
+        (R.left reader.new) (R.failed reader.new) (W.written writer.old) (W.written writer.new)
+        outgoing.new.text.items outgoing.new.sent result }
+    ensures calls { FailsInPass (R.failed reader.old) (R.failed reader.new)
+        (W.failed writer.old) (W.failed writer.new) result }
+{
+    let mut version = first;
+    'operations: loop {
+        if let Err(sent) = outgoing.make_way(writer, !parser.is_ready()) {
+            return Err(LinesFault::Write { sent });
+        }
+        match add_next(alloc, reader, parser, outgoing, version) {
+            Ok(Next::Added) => version += 1,
+            Ok(Next::Ended) => return Ok(version - first),
+            Err(fault) => return Err(fault),
+        }
+    }
+}
+
+// What came next.
+#[derive(Clone, Copy, Debug, PartialEq, Eq)]
+enum Next {
+    // An operation, whose lines were added.
+    Added,
+    // The end of the input.
+    Ended,
+}
+
+// Adds the lines of the next operation, with this version.
+fn add_next<R: ByteIn>(
+    alloc: Global,
+    reader: &mut R,
+    parser: &mut Parser<'_>,
+    outgoing: &mut Outgoing,
+    version: u64,
+) -> Result<Next, LinesFault>
+    requires { parser.old.phase ≡ phase.Open }
+    ensures next { AddsNext version (reading (R.left reader.old) (R.failed reader.old) parser.old)
+        (reading (R.left reader.new) (R.failed reader.new) parser.new)
+        outgoing.old.text.items outgoing.new.text.items result }
+    ensures sent { outgoing.new.sent ≡ outgoing.old.sent }
+    ensures failed { R.failed reader.new ≡ failed_by result (R.failed reader.old) }
+{
+    match next_write(reader, parser, version) {
+        Ok(Some(write)) => match outgoing.add(alloc, &write) {
+            Ok(()) => Ok(Next::Added),
+            Err(_) => Err(LinesFault::Memory),
+        },
+        Ok(None) => Ok(Next::Ended),
+        Err(fault) => Err(fault),
+    }
+}
+
+// The write of the next operation, with this version.
+fn next_write<R: ByteIn>(
+    reader: &mut R,
+    parser: &mut Parser<'_>,
+    version: u64,
+) -> Result<Option<Write>, LinesFault>
+    requires { parser.old.phase ≡ phase.Open }
+    ensures next { IsNext version (reading (R.left reader.old) (R.failed reader.old) parser.old)
+        (reading (R.left reader.new) (R.failed reader.new) parser.new) result }
+    ensures failed { R.failed reader.new ≡ failed_by result (R.failed reader.old) }
+{
+    match parser.next(reader) {
+        Ok(Some((key, action))) => match numbered(key, action, version, parser.line()) {
+            Ok(write) => Ok(Some(write)),
+            Err(fault) => Err(fault),
+        },
+        Ok(None) => Ok(None),
+        Err(fault) => Err(fault_of(fault)),
+    }
+}
+
+// The write of an operation whose action line has this number, unless its version would be past the last.
+fn numbered(key: DocKey, action: Action, version: u64, line: u64) -> Result<Write, LinesFault>
+    ensures { IsNumbered (key, action) version line result }
+{
+    if version > LAST_VERSION {
+        return Err(LinesFault::VersionsSpent { line });
+    }
+    Ok(Write {
+        key,
+        version,
+        action,
+    })
+}
+
+// The fault that an input's fault is.
+fn fault_of(fault: InputFault) -> LinesFault
+    ensures { result ≡ fault_of fault }
+{
+    match fault.kind {
+        LineKind::Memory => LinesFault::Memory,
+        _ => LinesFault::Input(fault),
+    }
+}

@@ -1,0 +1,117 @@
+//! The refusals that a command line asks for.
+ghost use Rattle.std.specs.Prelude.{◌≡◌, ◌↔◌, ℕ, List, IsTrue, IfSome, IfNone, IfOk, IfErr, OnOk, MatchOption};
+ghost use Rattle.relay_index.specs.Choices.{MayRefuse};
+ghost use Rattle.relay_commands.specs.Cuts.{Adds, IsCut, IsPartFault, IsUncut};
+ghost use Rattle.relay_commands.specs.Refusals.{IsList, IsListFault, IsNoRefusal, IsNumber, IsRefusal, Refuses};
+
+use relay_index::{Script, may_refuse};
+use std::alloc::Global;
+use thiserror::Error;
+
+/// Why a text gives no script.
+#[derive(Clone, Copy, Debug, PartialEq, Eq, Error)]
+pub enum ListFault {
+    /// The text is no list of refusals: after so many pairs the next one is no refusal.
+    #[error("BadList")]
+    BadList {
+        /// How many pairs stand before it.
+        before: u64,
+    },
+    /// There was no memory for the script.
+    #[error("Memory")]
+    Memory,
+}
+
+/// The script of a list of refusals, as `2:429,5:400`: pairs of a place and a status, both decimal
+/// digits, with a colon inside and commas between them. Places count the items from 1, up to
+/// 2^64 - 1; a status is from 400 to 599, and neither 404 nor 409. Leading zeros are allowed, a sign
+/// or a space is not. A place that is given twice keeps its last status.
+///
+/// `BadList`: the text is no such list, and the pair at fault is the first that is no refusal. `Memory`:
+/// there was no memory for the script.
+pub fn refuse_list(alloc: Global, list: &str) -> Result<Script, ListFault>
+    ensures ok { IfOk result (λ script. (refusals : List (ℕ × ℕ)) × IsList list.now refusals × Refuses refusals script) }
+    ensures err { IfErr result (IsListFault list.now) }
+{
+    let mut script = Script::new(alloc);
+    let mut rest = list;
+    let mut before = 0;
+    'parts: while let Some((part, later)) = cut_at_comma(rest) {
+        if let Err(fault) = add(&mut script, part, before) {
+            return Err(fault);
+        }
+        rest = later;
+        before += 1;
+    }
+    match add(&mut script, rest, before) {
+        Ok(()) => Ok(script),
+        Err(fault) => Err(fault),
+    }
+}
+
+// The parts of a text before its first colon and after it.
+fn cut_at_colon(text: &str) -> Option<(&str, &str)>
+    ensures { MatchOption result (IsUncut 58 text.now) (λ x. IsCut 58 text.now x.0.now x.1.now) }
+{
+    text.split_once(':')
+}
+
+// The parts of a text before its first comma and after it.
+fn cut_at_comma(text: &str) -> Option<(&str, &str)>
+    ensures { MatchOption result (IsUncut 44 text.now) (λ x. IsCut 44 text.now x.0.now x.1.now) }
+{
+    text.split_once(',')
+}
+
+// The number that decimal digits are, without a sign.
+fn number_of(text: &str) -> Option<u64>
+    ensures some { IfSome result (IsNumber text.now) }
+    ensures none { IfNone result ((n : ℕ) → IsNumber text.now n → ⊥) }
+{
+    if text.as_bytes().first() == Some(&b'+') {
+        return None;
+    }
+    text.parse::<u64>().ok()
+}
+
+// Whether a number is a status that an index may refuse an item with.
+fn is_refusal(status: u64) -> bool
+    ensures { IsTrue result ↔ MayRefuse status }
+{
+    u16::try_from(status).is_ok_and(may_refuse)
+}
+
+// The place and the status of a refusal.
+fn refusal_of(part: &str) -> Option<(u64, u16)>
+    ensures some { IfSome result (λ r. IsRefusal part.now r.0 r.1) }
+    ensures none { IfNone result (IsNoRefusal part.now) }
+{
+    let Some((place, status)) = cut_at_colon(part) else {
+        return None;
+    };
+    let Some(place) = number_of(place) else {
+        return None;
+    };
+    let Some(status) = number_of(status) else {
+        return None;
+    };
+    if place == 0 || !is_refusal(status) {
+        return None;
+    }
+    Some((place, status as u16))
+}
+
+// Adds the refusal that a part of a list is. So many stand before it.
+fn add(script: &mut Script, part: &str, before: u64) -> Result<(), ListFault>
+    ensures ok { OnOk result ((place : ℕ) × (status : ℕ) × IsRefusal part.now place status
+        × Adds script.old script.new place status) }
+    ensures err { IfErr result (IsPartFault part.now before) }
+{
+    let Some((place, status)) = refusal_of(part) else {
+        return Err(ListFault::BadList { before });
+    };
+    match script.refuse(place, status) {
+        Ok(()) => Ok(()),
+        Err(_) => Err(ListFault::Memory),
+    }
+}

@@ -1,0 +1,11 @@
+//! Tests of relay_commands.
+#![tactic(auto)]
+
+#[cfg(test)]
+mod apply;
+#[cfg(test)]
+mod lines;
+#[cfg(test)]
+mod refusals;
+#[cfg(test)]
+mod statuses;

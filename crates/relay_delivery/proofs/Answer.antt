@@ -1,0 +1,417 @@
+-- An answer settles a request of a lane.
+use Rattle.std.proofs.Common.{◌≡◌, ◌≢◌, ℕ, ◌+◌, ◌≤◌, List, ◌++◌, Option, Some, true, refl, sym, ap, ◌∙◌, subst, ⊎_elim, inl, inr, arith, length-append}
+use Rattle.std.specs.Prelude.{◌⊎◌, slice_get, is_some}
+use Rattle.relay_action.specs.Actions.{kind_of}
+use Rattle.relay_action.specs.declared.write.Write.{Write}
+use Rattle.relay_action.specs.declared.operation.Op.{Op}
+use Rattle.relay_results.specs.declared.outcome.Outcome.{Outcome}
+use Rattle.relay_results.specs.Words.{Mem, update, count}
+use Rattle.relay_results.specs.Documents.{Document, document_of, write_for}
+use Rattle.relay_results.specs.Verdicts.{is_success}
+use Rattle.relay_results.specs.Outside.{Answer, Unanswered, Request, Ran, RunOutcome, Outside, WasRun, IsHonest, MayAnswer, is_applied}
+use Rattle.relay_results.specs.Fates.{Fate, Flies, Applied, Already, Retried, Reported, Tries, IsRetried, HasEntry}
+use Rattle.relay_results.specs.declared.cause.Cause.{Cause}
+use Rattle.relay_results.specs.Laws.{Says}
+use Rattle.relay_results.specs.declared.cause.Cause.TheVariants as cause
+use Rattle.relay_delivery.specs.Causes.{carries, CarriedAt, IsAnswered, IsTrueOf}
+use Rattle.relay_results.proofs.Same.{same_write-self}
+use Rattle.relay_delivery.specs.Machine.{Config, Core, Held, Place, Report, write_of, report_on, landed, kept, reported, writes_or, settle, how_many, is_applied_fate, is_already_fate}
+use Rattle.relay_results.proofs.Fates.{says_as, honest_entry}
+use Rattle.relay_results.proofs.Lists.{equal, equal_or_not, at-Mem, Mem-cases, Mem-left, Mem-right, at-update-cases, at-update_same, at-update_other, count-update, count-append, count_some, some_same}
+use Rattle.relay_delivery.proofs.Facts.{IsSent, HeldFact, RunFact, IndexFact, ReportFact, IsSomewhere, CoreFacts, is_report_as}
+use Rattle.relay_delivery.proofs.Dealt.{write_once, of_held, with_answer, sent_answered, carries_at}
+use Rattle.relay_delivery.proofs.Fates.{turn, kept-from, reported-from, goes_to, count-settled, totals-settled, rising-settled, IsAway, IsHere, away_or_here}
+
+-- what a run of a write says
+record RunSays (stored : Document → Option ℕ) (applied : Document → List Write) (w : Write) (o : RunOutcome) : Type 0 where
+  if_applied : is_applied w o ≡ true → Mem w (applied (document_of w.key))
+  if_conflict : o.status ≡ 409 → (u : ℕ) × (stored (document_of w.key) ≡ Some u) × (w.version ≤ u)
+
+module _ (g : Config) (past : Write → Type 0) (c : Core) (f : CoreFacts g past c) (number : ℕ) (q : Request) (stands : slice_get c.outside.requests number ≡ Some q) (unanswered : q.answer ≡ Unanswered) (a : Answer)
+    (answered : a ≡ Unanswered → ⊥) (honest : IsHonest c.outside.runs number q.writes a) where
+  abbrev requests : List Request
+  requests = c.outside.requests
+
+  abbrev new : List Request
+  new = update number (with_answer a) c.outside.requests
+
+  abbrev later : Outside
+  later = record { requests = update number (with_answer a) c.outside.requests; runs = c.outside.runs; stored = c.outside.stored; before = c.outside.before; applied = c.outside.applied }
+
+  new_here : slice_get new number ≡ Some (with_answer a q)
+  new_here = at-update_same number (with_answer a) c.outside.requests q stands
+
+  -- another request stays, and this one has the answer
+  new_cases : (m : ℕ) (p : Request) → slice_get new m ≡ Some p → ((m ≢ number) × (slice_get requests m ≡ Some p)) ⊎ ((m ≡ number) × (p ≡ with_answer a q))
+  new_cases m p s = ⊎_elim
+      (λ l. inl l)
+      (λ r. let e : r.1.0 ≡ q = some_same r.1.0 q (sym r.1.1 ∙ stands) in inr (r.0, r.1.2 ∙ ap (with_answer a) e))
+      (at-update-cases number (with_answer a) c.outside.requests m p s)
+
+  -- one that was answered is another
+  other_stays : (m : ℕ) (p : Request) → slice_get requests m ≡ Some p → (p.answer ≡ Unanswered → ⊥) → slice_get new m ≡ Some p
+  other_stays m p s ne =
+      let d : m ≢ number = λ e. ne (ap (λ (z : Request). z.answer) (some_same p q (sym s ∙ ap (slice_get requests) e ∙ stands)) ∙ unanswered) in
+      at-update_other number (with_answer a) c.outside.requests m d ∙ s
+
+  same-counts : (w : Write) → count (carries w) new ≡ count (carries w) requests
+  same-counts w = count-update (carries w) number (with_answer a) c.outside.requests (λ p. refl)
+
+  -- what the answered request carries it carried before
+  carried_before : (w : Write) (m place : ℕ) (p : Request) → CarriedAt new w m place p → m ≡ number → p ≡ with_answer a q → CarriedAt requests w number place q
+  carried_before w m place p k em ep = record {
+    write = k.write;
+    sent = stands;
+    stands = subst (λ (z : Request). slice_get z.writes place ≡ Some k.write) ep k.stands;
+    same = k.same;
+  }
+
+  no_answer : (place : ℕ) → IsRetried q.writes place q.answer → ⊥
+  no_answer place r = subst (λ b. IsRetried q.writes place b) unanswered r
+
+  -- ---- held operations
+
+  held-stays : (h : Held) → Mem h c.held → IsAway g number q.writes a h → HeldFact g c.taken new h
+  held-stays h m w =
+      let k = f.held h m in
+      record {
+        dealt = k.dealt;
+        sends = same-counts (write_of h) ∙ k.sends;
+        attempts = k.attempts;
+        retried = λ i place p y. ⊎_elim
+            (λ l. k.retried i place p (record { write = y.write; sent = l.1; stands = y.stands; same = y.same }))
+            (λ r. ⊎_elim
+            (λ z. absurd (no_answer place z))
+            (λ e. absurd (w.elsewhere place e))
+            (k.retried number place q (carried_before (write_of h) i place p y r.0 r.1)))
+            (new_cases i p y.sent);
+        flying = λ at e.
+            let v = k.flying at e in
+            let ne : at.request ≢ number = λ d. w.elsewhere at.place (e ∙ (λ i. Some (record { request = d i; place = at.place }))) in
+            record { request = v.request; sent = at-update_other number (with_answer a) c.outside.requests at.request ne ∙ v.sent; stands = v.stands; unanswered = v.unanswered };
+        last = λ x s doc. k.last x (sent_answered c.outside.requests number a x s) doc;
+      }
+
+  -- a request that carried it and does not have this answer was answered before
+  others_retried : (h : Held) → Mem h c.held → (w : IsHere g number q.writes a h) → IsRetried q.writes w.place a → (i place : ℕ) (p : Request) → CarriedAt new (write_of h) i place p → IsRetried p.writes place p.answer
+  others_retried h m w again i place p y = ⊎_elim
+      (λ l. ⊎_elim
+      (λ z. z)
+      (λ e. absurd (l.0 (ap (λ (z : Place). z.request) (some_same (record { request = i; place = place }) (record { request = number; place = w.place }) (sym e ∙ w.flies)))))
+      ((f.held h m).retried i place p (record { write = y.write; sent = l.1; stands = y.stands; same = y.same })))
+      (λ r. ⊎_elim
+      (λ z. absurd (no_answer place z))
+      (λ e.
+      let same : w.place ≡ place = ap (λ (z : Place). z.place) (some_same (record { request = number; place = w.place }) (record { request = number; place = place }) (sym w.flies ∙ e)) in
+      subst (λ (z : Request). IsRetried z.writes place z.answer) (sym r.1) (subst (λ n. IsRetried q.writes n a) same again))
+      ((f.held h m).retried number place q (carried_before (write_of h) i place p y r.0 r.1)))
+      (new_cases i p y.sent)
+
+  tries : Held → Tries
+  tries h = record { sends = h.sends; attempts = h.attempts; max = g.max }
+
+  abbrev SaysOf : Held → ℕ → Fate → Type 0
+  SaysOf h place t = Says (record { sends = h.sends; attempts = h.attempts; max = g.max }) q.writes place (kind_of h.op.action) a t
+
+  -- what its fate says
+  says : (h : Held) → (w : IsHere g number q.writes a h) → (t : Fate) → turn g number q.writes a h ≡ t → SaysOf h w.place t
+  says h w t e = says_as (record { sends = h.sends; attempts = h.attempts; max = g.max }) q.writes w.place (kind_of h.op.action) a t (sym w.fate_is ∙ e)
+
+  held-landed : (h : Held) → Mem h c.held → (w : IsHere g number q.writes a h) → turn g number q.writes a h ≡ Retried → HeldFact g c.taken new (landed h)
+  held-landed h m w t =
+      let k = f.held h m in
+      record {
+        dealt = k.dealt;
+        sends = same-counts (write_of h) ∙ k.sends;
+        attempts = k.attempts;
+        retried = λ i place p y. inl (others_retried h m w (says h w Retried t).1 i place p y);
+        flying = λ at e. absurd (cc);
+        last = λ x s doc. k.last x (sent_answered c.outside.requests number a x s) doc;
+      }
+
+  -- what the run of an entry says of the operation that flies at its place
+  entry_run : (h : Held) (w : IsHere g number q.writes a h) (o : Outcome) → HasEntry q.writes w.place a o → WasRun c.outside.runs number w.place o
+  entry_run h w o e = honest_entry c.outside.runs number w.place q.writes a o honest e
+
+  its_place : (h : Held) → Mem h c.held → (w : IsHere g number q.writes a h) → slice_get q.writes w.place ≡ Some (write_of h)
+  its_place h m w =
+      let v = (f.held h m).flying (record { request = number; place = w.place }) w.flies in
+      let e : v.request ≡ q = some_same v.request q (sym v.sent ∙ stands) in
+      subst (λ (z : Request). slice_get z.writes w.place ≡ Some (write_of h)) e v.stands
+
+  its_run : (h : Held) → Mem h c.held → (w : IsHere g number q.writes a h) (o : Outcome) (e : HasEntry q.writes w.place a o) → RunSays c.outside.stored c.outside.applied (write_of h) (entry_run h w o e).run.outcome
+  its_run h m w o e =
+      let y = entry_run h w o e in
+      let r = f.runs y.run y.among in
+      let eq : r.request ≡ q = some_same r.request q (sym r.sent ∙ ap (slice_get requests) y.of_request ∙ stands) in
+      let at : slice_get q.writes w.place ≡ Some r.write = subst (λ n. slice_get q.writes n ≡ Some r.write) y.of_place (subst (λ (z : Request). slice_get z.writes y.run.place ≡ Some r.write) eq r.stands) in
+      let ew : r.write ≡ write_of h = some_same r.write (write_of h) (sym at ∙ its_place h m w) in
+      subst (λ z. RunSays c.outside.stored c.outside.applied z y.run.outcome) ew (record { if_applied = r.if_applied; if_conflict = r.if_conflict })
+
+  -- what is done was applied
+  abbrev WasApplied : Held → Type 0
+  WasApplied h = Mem (write_of h) (c.outside.applied (document_of h.op.key))
+
+  applied_now : (h : Held) → Mem h c.held → IsHere g number q.writes a h → turn g number q.writes a h ≡ Applied → WasApplied h
+  applied_now h m w t =
+      let s = says h w Applied t in
+      let y = entry_run h w s.0 s.1 in
+      (its_run h m w s.0 s.1).if_applied ((λ i. is_success (kind_of h.op.action) (y.status i) (is_some (y.error i))) ∙ s.2)
+
+  applied_before : (h : Held) → Mem h c.held → IsHere g number q.writes a h → turn g number q.writes a h ≡ Already → WasApplied h
+  applied_before h m w t =
+      let s = (says h w Already t).1 in
+      let y = entry_run h w s.0 s.1 in
+      let u = (its_run h m w s.0 s.1).if_conflict (y.status ∙ equal s.0.status 409 s.2) in
+      let k = f.held h m in
+      let x = f.index (document_of h.op.key) in
+      ⊎_elim
+      (λ lt. let v = k.dealt.version in absurd (omega (arith, u.2, v, lt)))
+      (λ z.
+      let le = k.last z.0 (x.sent z.0 z.1) (x.document z.0 z.1) in
+      let v : z.0.version ≡ h.version = omega (arith, u.2, z.2, le) in
+      ⊎_elim
+      (λ one.
+      let same = write_once g c.taken z.0 (write_of h) one (of_held g c.taken requests h k) v in
+      subst (λ b. Mem b (c.outside.applied (document_of h.op.key))) same z.1)
+      (λ old. let b = f.past_below z.0 old in let d = k.dealt.version in absurd (omega (arith, b, d, v)))
+      (f.sent z.0 (x.sent z.0 z.1)))
+      (x.from u.0 u.1)
+
+  -- one that does not fly here is neither
+  ended : (h : Held) → Mem h c.held → (turn g number q.writes a h ≡ Applied) ⊎ (turn g number q.writes a h ≡ Already) → WasApplied h
+  ended h m t = ⊎_elim
+      (λ w. ⊎_elim (λ e. absurd (cc (e, w.stays))) (λ e. absurd (cc (e, w.stays))) t)
+      (λ w. ⊎_elim (λ e. applied_now h m w e) (λ e. applied_before h m w e) t)
+      (away_or_here g number q.writes a h)
+
+  -- ---- causes
+
+  carried_here : (h : Held) → Mem h c.held → (w : IsHere g number q.writes a h) → CarriedAt new (write_of h) number w.place (with_answer a q)
+  carried_here h m w = record { write = write_of h; sent = new_here; stands = its_place h m w; same = same_write-self (write_of h) }
+
+  answered_here : (h : Held) → Mem h c.held → (w : IsHere g number q.writes a h) (o : Outcome) → HasEntry q.writes w.place a o → IsAnswered later (write_of h) o
+  answered_here h m w o e = record {
+    number = number;
+    place = w.place;
+    request = with_answer a q;
+    carried = carried_here h m w;
+    says = e;
+    ran = entry_run h w o e;
+  }
+
+  new_cause : (h : Held) → Mem h c.held → (w : IsHere g number q.writes a h) → (e : Cause) → SaysOf h w.place (Reported e) → IsTrueOf g.max later (write_of h) e
+  new_cause h m w (cause.Refused status error) s = record {
+    outcome = s.0;
+    answered = answered_here h m w s.0 s.1;
+    refused = s.2;
+    status_is = s.3;
+    error_is = s.4;
+  }
+  new_cause h m w (cause.Request status) s = (record { number = number; place = w.place; request = with_answer a q; carried = carried_here h m w; answer = s.0 }, s.1)
+  new_cause h m w cause.Conflict s =
+      let some = count_some (carries (write_of h)) (with_answer a q) new (at-Mem new number (with_answer a q) new_here) (carries_at new number w.place (with_answer a q) (write_of h) (carried_here h m w)) in
+      let k = (f.held h m).sends in
+      let n = same-counts (write_of h) in
+      let few = s.0 in
+      record { once = omega arith; outcome = s.1.0; answered = answered_here h m w s.1.0 s.1.1; conflict = s.1.2 }
+  new_cause h m w (cause.GaveUp n) s = record {
+    exactly = same-counts (write_of h) ∙ (f.held h m).sends ∙ sym s.0;
+    enough = let x = (f.held h m).attempts in let y = s.1 in let z = s.0 in omega (arith, x, y, z);
+    each = others_retried h m w s.2;
+  }
+  new_cause h m w cause.Spent s = s
+
+  -- a cause that was true stays true
+  answered-stays : (w : Write) (o : Outcome) → IsAnswered c.outside w o → IsAnswered later w o
+  answered-stays w o x = record {
+    number = x.number;
+    place = x.place;
+    request = x.request;
+    carried = record { write = x.carried.write; sent = other_stays x.number x.request x.carried.sent (λ e. absurd (cc (e, x.says.answer))); stands = x.carried.stands; same = x.carried.same };
+    says = x.says;
+    ran = x.ran;
+  }
+
+  cause-stays : (max : ℕ) (w : Write) (e : Cause) → IsTrueOf max c.outside w e → IsTrueOf max later w e
+  cause-stays max w (cause.Refused status error) h = record { outcome = h.outcome; answered = answered-stays w h.outcome h.answered; refused = h.refused; status_is = h.status_is; error_is = h.error_is }
+  cause-stays max w (cause.Request status) h = (
+    record {
+      number = h.0.number;
+      place = h.0.place;
+      request = h.0.request;
+      carried = record { write = h.0.carried.write; sent = other_stays h.0.number h.0.request h.0.carried.sent (λ e. absurd (cc (e, h.0.answer))); stands = h.0.carried.stands; same = h.0.carried.same };
+      answer = h.0.answer;
+    },
+    h.1,
+  )
+  cause-stays max w cause.Conflict h = record { once = same-counts w ∙ h.once; outcome = h.outcome; answered = answered-stays w h.outcome h.answered; conflict = h.conflict }
+  cause-stays max w (cause.GaveUp n) h = record {
+    exactly = same-counts w ∙ h.exactly;
+    enough = h.enough;
+    each = λ i place p y. ⊎_elim
+        (λ l. h.each i place p (record { write = y.write; sent = l.1; stands = y.stands; same = y.same }))
+        (λ r. absurd (no_answer place (h.each number place q (carried_before w i place p y r.0 r.1))))
+        (new_cases i p y.sent);
+  }
+  cause-stays max w cause.Spent h = h
+
+  -- ---- all together
+
+  abbrev held_after : List Held
+  held_after = kept g number q.writes a c.held
+
+  kept_of : (k : Held) → Mem k (kept g number q.writes a c.held) → (h : Held) × Mem h c.held × ((turn g number q.writes a h ≡ Flies) ⊎ (turn g number q.writes a h ≡ Retried)) × (k.version ≡ h.version)
+  kept_of k m =
+      let h = kept-from g number q.writes a c.held k m in
+      (h.0, h.1, ⊎_elim (λ y. inl y.0) (λ y. inr y.0) h.2, ⊎_elim {C = k.version ≡ h.0.version} (λ y. ap (λ (z : Held). z.version) y.1) (λ y. ap (λ (z : Held). z.version) y.1) h.2)
+
+  report-stays : (r : Report) → ReportFact g c.taken c.held c.outside r → ReportFact g c.taken (kept g number q.writes a c.held) later r
+  report-stays r x = ⊎_elim
+      (λ s. inl s)
+      (λ s. inr (record {
+        op = s.op;
+        name = s.name;
+        document = s.document;
+        version = s.version;
+        dealt = s.dealt;
+        settled = λ k m e. let h = kept_of k m in s.settled h.0 h.1 (sym h.3 ∙ e);
+        cause = cause-stays g.max (write_for s.op s.version) r.cause s.cause;
+      }))
+      x
+
+  new_report : (h : Held) → Mem h c.held → (e : Cause) → turn g number q.writes a h ≡ Reported e → ReportFact g c.taken (kept g number q.writes a c.held) later (report_on h.op e)
+  new_report h m e t = ⊎_elim
+      (λ w. absurd (cc (t, w.stays)))
+      (λ w. inr (record {
+        op = h.op;
+        name = refl;
+        document = refl;
+        version = h.version;
+        dealt = (f.held h m).dealt;
+        settled = λ k mk v.
+            let j = kept_of k mk in
+            let same = f.alone j.0 h j.1 m (sym j.3 ∙ v) in
+            let tj = ap (turn g number q.writes a) same ∙ t in
+            ⊎_elim {C = ⊥} (λ y. cc (y, tj)) (λ y. cc (y, tj)) j.2;
+        cause = new_cause h m w e (says h w (Reported e) t);
+      }))
+      (away_or_here g number q.writes a h)
+
+  run-stays : (r : Ran) → RunFact requests c.outside.stored c.outside.applied r → RunFact new c.outside.stored c.outside.applied r
+  run-stays r x = ⊎_elim
+      (λ e.
+      let same : x.request ≡ q = some_same x.request q (sym x.sent ∙ ap (slice_get requests) e ∙ stands) in
+      record { request = with_answer a q; write = x.write; sent = subst (λ n. slice_get new n ≡ Some (with_answer a q)) (sym e) new_here; stands = subst (λ (z : Request). slice_get z.writes r.place ≡ Some x.write) same x.stands; if_applied = x.if_applied; if_conflict = x.if_conflict })
+      (λ ne. record { request = x.request; write = x.write; sent = at-update_other number (with_answer a) c.outside.requests r.request ne ∙ x.sent; stands = x.stands; if_applied = x.if_applied; if_conflict = x.if_conflict })
+      (equal_or_not r.request number)
+
+  sent-stays : (w : Write) → IsSent requests w → IsSent new w
+  sent-stays w s = ⊎_elim
+      (λ e.
+      let same : s.request ≡ q = some_same s.request q (sym s.sent ∙ ap (slice_get requests) e ∙ stands) in
+      record { number = number; request = with_answer a q; sent = new_here; is_in = subst (λ (z : Request). Mem w z.writes) same s.is_in })
+      (λ ne. record { number = s.number; request = s.request; sent = at-update_other number (with_answer a) c.outside.requests s.number ne ∙ s.sent; is_in = s.is_in })
+      (equal_or_not s.number number)
+
+  index-stays : (k : Document) → IndexFact g requests (c.outside.stored k) (c.outside.applied k) k → IndexFact g new (c.outside.stored k) (c.outside.applied k) k
+  index-stays k h = record { sent = λ w m. sent-stays w (h.sent w m); document = h.document; rising = h.rising; above = h.above; from = h.from }
+
+  abbrev settled_core : Core
+  settled_core = record { taken = c.taken; held = kept g number q.writes a c.held; reports = c.reports ++ reported g number q.writes a c.held; applied = c.applied + how_many is_applied_fate g number q.writes a c.held; already = c.already + how_many is_already_fate g number q.writes a c.held; outside = later }
+
+  held_kept : (k : Held) → Mem k (kept g number q.writes a c.held) → HeldFact g c.taken new k
+  held_kept k m =
+      let h = kept-from g number q.writes a c.held k m in
+      ⊎_elim
+      (λ y. ⊎_elim
+      (λ w. subst (λ z. HeldFact g c.taken new z) (sym y.1) (held-stays h.0 h.1 w))
+      (λ w. absurd (answered (says h.0 w Flies y.0)))
+      (away_or_here g number q.writes a h.0))
+      (λ y. ⊎_elim
+      (λ w. absurd (cc (y.0, w.stays)))
+      (λ w. subst (λ z. HeldFact g c.taken new z) (sym y.1) (held-landed h.0 h.1 w y.0))
+      (away_or_here g number q.writes a h.0))
+      h.2
+
+  alone_kept : (k l : Held) → Mem k (kept g number q.writes a c.held) → Mem l (kept g number q.writes a c.held) → k.version ≡ l.version → k ≡ l
+  unfolding kept_of
+  alone_kept k l mk ml e =
+      let h = kept-from g number q.writes a c.held k mk in
+      let j = kept-from g number q.writes a c.held l ml in
+      let hk = kept_of k mk in
+      let hl = kept_of l ml in
+      let vh : k.version ≡ h.0.version = hk.3 in
+      let vj : l.version ≡ j.0.version = hl.3 in
+      let same : h.0 ≡ j.0 = f.alone h.0 j.0 h.1 j.1 (sym vh ∙ e ∙ vj) in
+      ⊎_elim
+      (λ y. ⊎_elim
+      (λ z. y.1 ∙ same ∙ sym z.1)
+      (λ z. absurd (cc (ap (turn g number q.writes a) same, y.0, z.0)))
+      j.2)
+      (λ y. ⊎_elim
+      (λ z. absurd (cc (ap (turn g number q.writes a) same, y.0, z.0)))
+      (λ z. y.1 ∙ ap landed same ∙ sym z.1)
+      j.2)
+      h.2
+
+  somewhere : (place : ℕ) (o : Op) → slice_get c.taken place ≡ Some o → IsSomewhere g c o place → IsSomewhere g settled_core o place
+  somewhere place o s x = ⊎_elim
+      (λ h.
+      let d = (f.held h.held_op h.is_in).dealt in
+      let at : d.place ≡ place = (let v = d.version in let u = h.version in omega (arith, v, u)) in
+      let same : h.held_op.op ≡ o = some_same h.held_op.op o (sym d.stands ∙ ap (slice_get c.taken) at ∙ s) in
+      ⊎_elim
+      (λ y. inl (record { held_op = y.0; is_in = y.1; version = y.2 ∙ h.version }))
+      (λ z. ⊎_elim
+      (λ y. inr (inl (record { write = write_of h.held_op; is_in = subst (λ p. Mem (write_of h.held_op) (c.outside.applied (document_of p.key))) same (ended h.held_op h.is_in y); version = h.version })))
+      (λ y. inr (inr (record { report = report_on h.held_op.op y.0; is_in = Mem-right (report_on h.held_op.op y.0) c.reports (reported g number q.writes a c.held) y.1; name = ap (λ p. (report_on p y.0).name) same })))
+      z)
+      (goes_to g number q.writes a c.held h.held_op h.is_in))
+      (λ z. ⊎_elim
+      (λ y. inr (inl y))
+      (λ p. inr (inr (record { report = p.report; is_in = Mem-left p.report c.reports (reported g number q.writes a c.held) p.is_in; name = p.name })))
+      z)
+      x
+
+  settled_keeps : CoreFacts g past settled_core
+  settled_keeps = record {
+    past_below = f.past_below;
+    held = held_kept;
+    alone = alone_kept;
+    in_rise = rising-settled g number q.writes a c.held f.in_rise;
+    sent = λ w s. f.sent w (sent_answered c.outside.requests number a w s);
+    runs = λ r m. run-stays r (f.runs r m);
+    index = λ k. index-stays k (f.index k);
+    reports = λ r m. ⊎_elim
+        (λ old. report-stays r (f.reports r old))
+        (λ y.
+        let h = reported-from g number q.writes a c.held r y in
+        subst (λ z. ReportFact g c.taken (kept g number q.writes a c.held) later z) (sym h.2.2) (new_report h.0 h.1 h.2.0 h.2.1))
+        (Mem-cases r c.reports (reported g number q.writes a c.held) m);
+    apart = λ n.
+        let e = count-append (is_report_as n) c.reports (reported g number q.writes a c.held) in
+        let s = count-settled g number q.writes a n c.held in
+        let b = f.apart n in omega arith;
+    totals =
+        let t = f.totals in
+        let e = totals-settled g number q.writes a c.held in
+        let r = length-append c.reports (reported g number q.writes a c.held) in
+        omega (arith, t, r, e);
+    nothing_lost = λ place o s. somewhere place o s (f.nothing_lost place o s);
+  }
+
+no_unanswered : (runs : List Ran) (number : ℕ) (ws : List Write) (a : Answer) → IsHonest runs number ws a → a ≡ Unanswered → ⊥
+no_unanswered runs number ws a h e = subst (λ b. IsHonest runs number ws b) e h
+
+pub answer_keeps : (g : Config) (past : Write → Type 0) (c : Core) (f : CoreFacts g past c) (number : ℕ) (a : Answer) → MayAnswer c.outside number a → CoreFacts g past (settle g number a c)
+answer_keeps g past c f number a may =
+    subst (λ p. CoreFacts g past (record {
+      taken = c.taken;
+      held = kept g number (writes_or p) a c.held;
+      reports = c.reports ++ reported g number (writes_or p) a c.held;
+      applied = c.applied + how_many is_applied_fate g number (writes_or p) a c.held;
+      already = c.already + how_many is_already_fate g number (writes_or p) a c.held;
+      outside = record { requests = update number (with_answer a) c.outside.requests; runs = c.outside.runs; stored = c.outside.stored; before = c.outside.before; applied = c.outside.applied };
+    })) (sym may.sent)
+    (settled_keeps g past c f number may.request may.sent may.open_yet a (no_unanswered c.outside.runs number may.request.writes a may.honest) may.honest)

@@ -1,0 +1,142 @@
+-- What the definitions rule out.
+use Rattle.std.proofs.Common.{◌≡◌, ◌≢◌, ◌∙◌, ℕ, ◌≤◌, inl, inr, arith, lit<, List, [], ◌∷◌, Option, Some, None, Bool, true, false, refl, ap, sym, subst, ⊎_elim}
+use Rattle.std.specs.Prelude.{◌⊎◌, unwrap_or, is_some, not, ◌&&◌, nat_le, nat_lt, if◌then◌else◌}
+use Rattle.relay_action.specs.declared.write.Write.{Write}
+use Rattle.relay_action.specs.declared.operation.OpName.{OpName}
+use Rattle.relay_results.specs.declared.cause.Cause.{Cause}
+use Rattle.relay_results.specs.declared.cause.Cause.TheVariants as cause
+use Rattle.relay_results.specs.Documents.{write_for, same_op}
+use Rattle.relay_results.specs.Outside.{Items, Request, Outside}
+use Rattle.relay_action.specs.Actions.{kind_of}
+use Rattle.relay_results.specs.declared.decide.ItemVerdict.TheVariants as verdict
+use Rattle.relay_results.specs.Verdicts.{is_2xx, is_absent, is_conflict, is_retried_item}
+use Rattle.relay_results.proofs.Excluded.{by_lines}
+use Rattle.relay_results.proofs.Lists.{apart_tests, equal, none_some, some_same, count_some, at-Mem}
+use Rattle.relay_results.proofs.Same.{same_write-self, same_op-true, same_op-self, same_op-joined}
+use Rattle.relay_delivery.specs.Causes.{carries, CarriedAt, IsTrueOf, IsTrueDealt, IsTrueCause, Terms}
+use Rattle.relay_action.specs.declared.operation.Op.{Op}
+use Rattle.relay_delivery.specs.Schedules.{entry}
+use Rattle.relay_delivery.specs.Laws.{request, NoneOfOtherDocument, NoneUnaccepted, NotGivenUpWhenSettled, NotRefusedWithoutStatus, NotRefusedWithoutError, NotRefusedWhenBusy, NotReportedUnsent, NotRejectedWithoutAnswer, NotRejectedWhenRetried, NoConflictWithoutRun, NoneReportedTwice, NoneReportedUntaken, AssignsTwo, NotAssignedTwice}
+use Rattle.relay_results.specs.Words.{count}
+use Rattle.relay_delivery.proofs.Dealt.{carries_at}
+use Rattle.relay_delivery.proofs.Played.{apart, matches-one, entry-self}
+
+pub other_document : NoneOfOtherDocument
+other_document accepted k w o other a = other (a.of_document o (inl refl))
+
+pub unaccepted : NoneUnaccepted
+unaccepted accepted k w o none a = let m = a.accepted_each o (inl refl) in none m.0 m.1
+
+-- a cause other than Spent is true of the write under the version that was dealt
+not_spent : (t : Terms) (s : Outside) (o : Op) (dealt : Option ℕ) (c : Cause) → (c ≡ cause.Spent → ⊥) → IsTrueCause t s o dealt c → IsTrueDealt t.max s o dealt c
+not_spent t s o dealt c other h = ⊎_elim (λ d. d) (λ p. absurd (other p.cause_is)) h
+
+of_version : (t : Terms) (s : Outside) (o : Op) (v : ℕ) (c : Cause) → (c ≡ cause.Spent → ⊥) → IsTrueCause t s o (Some v) c → IsTrueOf t.max s (write_for o v) c
+of_version t s o v c other h =
+    let d = not_spent t s o (Some v) c other h in
+    subst (λ u. IsTrueOf t.max s (write_for o u) c) (sym (some_same v d.version d.is_dealt)) d.of_write
+
+pub settled : NotGivenUpWhenSettled
+settled o v sends t runs h =
+    let w : Write = write_for o v in
+    let third : Request = request (w ∷ []) (Items (entry w 200 ∷ [])) in
+    let g = of_version t _ o v (cause.GaveUp sends) (λ e. cc) h in
+    apart_tests (g.each 2 0 third (record { write = w; sent = refl; stands = refl; same = same_write-self w }) (matches-one (entry w 200) w (entry-self w 200)))
+
+pub without_status : NotRefusedWithoutStatus
+without_status o dealt t s status error none h =
+    let d = (not_spent t s o dealt (cause.Refused status error) (λ e. cc) h).of_write in
+    none d.answered.ran.run d.answered.ran.among (d.answered.ran.status ∙ d.status_is)
+
+-- a text that is not empty is there
+unwrap_or-some : (o : Option (List ℕ)) (text : List ℕ) → text ≢ [] → unwrap_or o [] ≡ text → o ≡ Some text
+unwrap_or-some None text some e = absurd (some (sym e))
+unwrap_or-some (Some x) text some e = ap Some e
+
+pub without_error : NotRefusedWithoutError
+without_error o dealt t s status error some none h =
+    let d = (not_spent t s o dealt (cause.Refused status error) (λ e. cc) h).of_write in
+    none d.answered.ran.run d.answered.ran.among (d.answered.ran.error ∙ unwrap_or-some d.outcome.error error some d.error_is)
+
+-- by the table, neither a conflict nor a busy index is Refused
+no_refusal : (success absent conflict busy r l : Bool) → (conflict ≡ true) ⊎ (busy ≡ true) → by_lines success absent conflict busy r l ≡ verdict.Refused → ⊥
+no_refusal true absent conflict busy r l h e = cc
+no_refusal false true conflict busy r l h e = cc
+no_refusal false false true busy true l h e = cc
+no_refusal false false true busy false l h e = cc
+no_refusal false false false true r true h e = cc
+no_refusal false false false true r false h e = cc
+no_refusal false false false false r l h e = ⊎_elim (λ x. apart_tests x) (λ x. apart_tests x) h
+
+pub not_busy : NotRefusedWhenBusy
+not_busy o dealt t s status error busy h =
+    let d = not_spent t s o dealt (cause.Refused status error) (λ e. cc) h in
+    let r = d.of_write in
+    let k = kind_of o.action in
+    let u = r.outcome.status in
+    let e = is_some r.outcome.error in
+    no_refusal (not e && is_2xx u) (not e && is_absent k u) (is_conflict u) (is_retried_item u) (nat_le 2 0) (nat_lt 0 0)
+    (⊎_elim (λ x. inl (ap is_conflict r.status_is ∙ x)) (λ x. inr (ap is_retried_item r.status_is ∙ x)) busy)
+    (r.refused 0 0 0)
+
+-- what carries it is counted
+some_carried : (requests : List Request) (w : Write) (number place : ℕ) (q : Request) → CarriedAt requests w number place q → 1 ≤ count (carries w) requests
+some_carried requests w number place q c = count_some (carries w) q requests (at-Mem requests number q c.sent) (carries_at requests number place q w c)
+
+unsent_of : (max : ℕ) (s : Outside) (w : Write) (c : Cause) → 1 ≤ max → count (carries w) s.requests ≡ 0 → IsTrueOf max s w c → ⊥
+unsent_of max s w (cause.Refused status error) some none h = let a = h.answered in let n = some_carried s.requests w a.number a.place a.request a.carried in omega (arith, n, none)
+unsent_of max s w (cause.Request status) some none h = let a = h.0 in let n = some_carried s.requests w a.number a.place a.request a.carried in omega (arith, n, none)
+unsent_of max s w cause.Conflict some none h = let n = h.once in omega (arith, n, none)
+unsent_of max s w (cause.GaveUp sends) some none h = let n = h.exactly in let e = h.enough in omega (arith, n, e, none, some)
+unsent_of max s w cause.Spent some none h = h
+
+pub not_unsent : NotReportedUnsent
+not_unsent o v t s c some none h = ⊎_elim
+    (λ d. absurd (unsent_of t.max s (write_for o v) c some none (subst (λ u. IsTrueOf t.max s (write_for o u) c) (sym (some_same v d.version d.is_dealt)) d.of_write)))
+    (λ p. p.cause_is)
+    h
+
+pub not_unanswered : NotRejectedWithoutAnswer
+not_unanswered o dealt t s status none h =
+    let a = (not_spent t s o dealt (cause.Request status) (λ e. cc) h).of_write.0 in
+    none a.number a.request a.carried.sent a.answer
+
+pub not_retried : NotRejectedWhenRetried
+not_retried o dealt t s status again h =
+    let n = (not_spent t s o dealt (cause.Request status) (λ e. cc) h).of_write.1 in
+    apart_tests (sym n ∙ again)
+
+pub no_conflict : NoConflictWithoutRun
+no_conflict o dealt t s none h =
+    let d = (not_spent t s o dealt cause.Conflict (λ e. cc) h).of_write in
+    none d.answered.ran.run d.answered.ran.among (d.answered.ran.status ∙ equal d.outcome.status 409 d.conflict)
+
+pub none_twice : NoneReportedTwice
+none_twice g taken r s ops h = h.once.0 (inl refl)
+
+pub none_untaken : NoneReportedUntaken
+none_untaken g taken reports r s ops m none h = let t = h.true_reports r m in none t.op t.was_taken (sym t.name)
+
+-- where the two answers are one version, the two operations are the same as one of the two
+by_places : (R : Type 0) (v : ℕ) (p q r s : Bool) → (p ≡ true → r ≡ true → R) → (q ≡ true → s ≡ true → R)
+    → (if p then Some 1 else if q then Some 2 else None) ≡ Some v → (if r then Some 1 else if s then Some 2 else None) ≡ Some v → R
+by_places R v true q true s f g a b = f refl refl
+by_places R v true q false true f g a b = absurd (apart 1 2 (some_same 1 2 (a ∙ sym b)) (lit< tt))
+by_places R v true q false false f g a b = absurd (none_some v b)
+by_places R v false true true s f g a b = absurd (apart 1 2 (some_same 1 2 (b ∙ sym a)) (lit< tt))
+by_places R v false true false true f g a b = g refl refl
+by_places R v false true false false f g a b = absurd (none_some v b)
+by_places R v false false r s f g a b = absurd (none_some v a)
+
+pub assigns_two : AssignsTwo
+assigns_two a b other = (
+  λ x y v p q same. by_places (same_op x y ≡ true) v (same_op x a) (same_op x b) (same_op y a) (same_op y b) (same_op-joined x y a) (same_op-joined x y b) p q,
+  (let s = same_op-self a in rw s refl),
+  (let s = same_op-self b in rw (other, s) refl),
+)
+
+-- one version for two operations of a document
+pub not_twice : NotAssignedTwice
+not_twice versions a b v same other p q h =
+    let t = same_op-true a b (h a b v p q same) in
+    other (ap (λ (n : OpName). n.number) t.name)

@@ -1,0 +1,324 @@
+-- Each call of a lane is a step of its core.
+use Rattle.std.proofs.Common.{◌≡◌, ◌≢◌, ℕ, ◌+◌, ◌-◌, ◌≤◌, List, [], ◌∷◌, ◌++◌, length, Option, Some, None, Bool, true, false, ◌==◌, refl, sym, ap, ◌∙◌, subst, ⊎_elim, inl, inr, arith, length-append}
+use Rattle.std.specs.Prelude.{slice_get, nat_lt, nat_le, ◌&&◌, ◌||◌, map, if◌then◌else◌}
+use Rattle.std.specs.List.{list_any}
+use Rattle.std.proofs.lemmas.List.{map-append, length-map}
+use Rattle.relay_results.specs.Numbers.{from_zero}
+use borrow.Author.Tests.{ltb-false}
+use Rattle.relay_action.specs.declared.write.Write.{Write}
+use Rattle.relay_action.specs.declared.operation.Op.{Op}
+use Rattle.relay_results.specs.Words.{Mem, IsSubsequence, AllDistinct}
+use Rattle.relay_results.specs.Documents.{document_of, same_document, name_of}
+use Rattle.relay_results.specs.Outside.{Answer, Unanswered, Request, Ran, Outside, Event, IsOpening, MayRun, MayAnswer, after, after_all, AllMayHappen}
+use Rattle.relay_results.specs.Outside as outside
+use Rattle.relay_results.specs.Fates.{Fate, Flies, Applied, Already, Retried, Reported}
+use Rattle.relay_results.proofs.Same.{same_document-self}
+use Rattle.relay_results.proofs.Steps.{step_runs_item}
+use Rattle.relay_delivery.specs.Machine.{Config, Core, Held, Place, Step, Takes, Sends, Runs, Answers, held_if, spent_if, launched, fate_of, kept_one, kept, reported, how_many, is_applied_fate, is_already_fate, writes_or, step, IsEligible, MaySend, MayStep, CameAbout}
+use Rattle.relay_delivery.specs.Lane.{Entry, Flying, State, held_of, entry_if, taken_op, waits, is_candidate, candidates, launched_entry, writes_of_all, sent, kept_entry, kept_entries, is_other, settled, IsOf, writes_at, Fits, FreshFits, ClockFits, TakeFits, SendFits, RunFits, AnswerFits, SoundWhereItFits, CompleteWhereItFits, TotalWhereItFits, WritesWhereItFits, EarliestWhereItFits, OneFliesWhereItFits, tries_of, SendTakesTry, AnswerGivesNoTry}
+use Rattle.relay_delivery.specs.Delivery.{attributed, IsSound, IsComplete, IsDealtWrite}
+use Rattle.relay_delivery.specs.Bound.{tries_left}
+use Rattle.relay_delivery.proofs.Bounded.{within_tries_left, left-kept}
+use Rattle.relay_delivery.proofs.Earliest.{earliest_flies, one_flies}
+use Rattle.relay_results.proofs.Lists.{true_or_false, and_left, and_right, and_both, not_true, equal_test, any_false, at-left, at-last, at-update_other, Mem-cases, Mem-one, Mem-map, map-Mem, Mem-filter, sub_joined, filter_sub, Mem-sub, AllDistinct-sub, sub-map, length-update, equal}
+use Rattle.relay_delivery.proofs.Facts.{AreRising, CoreFacts}
+use Rattle.relay_delivery.proofs.Dealt.{with_answer}
+use Rattle.relay_delivery.proofs.Keeps.{none_past, facts_of}
+use Rattle.relay_delivery.proofs.Whole.{sound, complete, fresh_came_about, step_came_about, writes_are_dealt}
+
+-- one more step
+next : (s s' : State) (taken taken' : List Op) (out out' : Outside) (f : Fits s taken out) (st : Step) → s'.config ≡ s.config → MayStep st f.core
+    → IsOf s' (step s.config st f.core) → (step s.config st f.core).taken ≡ taken' → (step s.config st f.core).outside ≡ out' → Fits s' taken' out'
+next s s' taken taken' out out' f st same may is took outside_is = record {
+  core = step s.config st f.core;
+  came_about = subst (λ g. CameAbout g (step s.config st f.core)) (sym same) (step_came_about s.config f.core st f.came_about may);
+  is_of = is;
+  took = took;
+  outside = outside_is;
+}
+
+-- ---- take
+
+held_new : (b : Bool) (s : State) (o : Op) (bytes : ℕ) → held_of (entry_if b s o bytes) ≡ held_if b s.config s.taken o
+held_new true s o bytes = refl
+held_new false s o bytes = refl
+
+pub take_fits : TakeFits
+take_fits s o bytes taken out f =
+    let c = f.core in
+    let is = f.is_of in
+    next s (taken_op s o bytes) taken (taken ++ o ∷ []) out out f (Takes o) refl tt
+    (record {
+      taken = ap (λ n. n + 1) is.taken ∙ sym (length-append c.taken (o ∷ []));
+      held = map-append (λ (e : Entry). e.held) s.held (entry_if (nat_lt s.taken s.config.deals) s o bytes)
+          ∙ ap (λ xs. held_of s.held ++ xs) (held_new (nat_lt s.taken s.config.deals) s o bytes)
+          ∙ (λ i. is.held i ++ held_if (nat_lt (is.taken i) s.config.deals) s.config (is.taken i) o);
+      reports = λ i. is.reports i ++ spent_if (nat_lt (is.taken i) s.config.deals) o;
+      applied = is.applied;
+      already = is.already;
+      requests = is.requests;
+      flying = is.flying;
+    })
+    (ap (λ os. os ++ o ∷ []) f.took)
+    f.outside
+
+-- ---- request
+
+waits_none : (p : Option Place) → waits p ≡ true → p ≡ None
+waits_none None t = refl
+waits_none (Some f) t = absurd (cc)
+
+distinct_versions : (hs : List Held) → AreRising hs → AllDistinct (map (λ (h : Held). h.version) hs)
+distinct_versions [] r = tt
+distinct_versions (h ∷ hs) r = (
+  (λ m. let k = Mem-map (λ (x : Held). x.version) h.version hs m in let lt = r.0 k.0 k.1 in let e = k.2 in omega (arith, lt, e)),
+  distinct_versions hs r.1,
+)
+
+module _ (s : State) (chosen : List Entry) (taken : List Op) (out : Outside) (part : IsSubsequence chosen (candidates s)) (f : Fits s taken out) where
+  core : Core
+  core = f.core
+
+  facts : CoreFacts s.config none_past core
+  unfolding core
+  facts = facts_of s.config f.core f.came_about
+
+  held_is : held_of s.held ≡ core.held
+  unfolding core
+  held_is = f.is_of.held
+
+  among : IsSubsequence (held_of chosen) core.held
+  among = subst (λ hs. IsSubsequence (held_of chosen) hs) held_is
+      (sub-map (λ (e : Entry). e.held) chosen s.held (sub_joined chosen (candidates s) s.held part (filter_sub (is_candidate s) s.held)))
+
+  eligible : (h : Held) → Mem h (held_of chosen) → IsEligible core.held h
+  eligible h m =
+      let e = Mem-map (λ (x : Entry). x.held) h chosen m in
+      let t = (Mem-filter (is_candidate s) e.0 s.held (Mem-sub e.0 chosen (candidates s) part e.1)).1 in
+      let w = and_left _ _ t in
+      let n = not_true _ (and_right (nat_le e.0.due s.clock) _ (and_right (waits e.0.held.flies) _ t)) in
+      record {
+        is_held = Mem-sub h (held_of chosen) core.held among m;
+        waits = ap (λ (x : Held). x.flies) e.2 ∙ waits_none e.0.held.flies w;
+        first = λ j mj doc.
+            let no = any_false (λ (x : Held). same_document (document_of x.op.key) (document_of e.0.held.op.key) && nat_lt x.version e.0.held.version) j (held_of s.held) n (subst (λ hs. Mem j hs) (sym held_is) mj) in
+            let doc' : document_of j.op.key ≡ document_of e.0.held.op.key = doc ∙ ap (λ (x : Held). document_of x.op.key) e.2 in
+            let d : same_document (document_of j.op.key) (document_of e.0.held.op.key) ≡ true = ap (same_document (document_of j.op.key)) (sym doc') ∙ same_document-self (document_of j.op.key) in
+            let v = ap (λ (x : Held). x.version) e.2 in
+            ⊎_elim {C = h.version ≤ j.version}
+            (λ lt. absurd (cc (and_both _ _ d lt, no)))
+            (λ ge. let le = ltb-false _ _ ge in omega (arith, v, le))
+            (true_or_false (nat_lt j.version e.0.held.version));
+      }
+
+  may_send : MaySend core (held_of chosen)
+  may_send = record {
+    eligible = eligible;
+    distinct = AllDistinct-sub (map (λ (h : Held). h.version) (held_of chosen)) (map (λ (h : Held). h.version) core.held) (distinct_versions core.held facts.in_rise)
+        (sub-map (λ (h : Held). h.version) (held_of chosen) core.held among);
+  }
+
+held_launched : (n : ℕ) (hs : List Held) (es : List Entry) → held_of (map (launched_entry n hs) es) ≡ map (launched n hs) (held_of es)
+held_launched n hs [] = refl
+held_launched n hs (e ∷ es) = ap (λ xs. launched n hs e.held ∷ xs) (held_launched n hs es)
+
+pub send_fits : SendFits
+unfolding core
+send_fits s chosen taken out part f =
+    let c = f.core in
+    let is = f.is_of in
+    next s (sent s chosen) taken taken out (after (outside.Sends (writes_of_all chosen)) out) f (Sends (held_of chosen)) refl (may_send s chosen taken out part f)
+    (record {
+      taken = is.taken;
+      held = held_launched s.requests (held_of chosen) s.held ∙ (λ i. map (launched (is.requests i) (held_of chosen)) (is.held i));
+      reports = is.reports;
+      applied = is.applied;
+      already = is.already;
+      requests = ap (λ n. n + 1) is.requests ∙ sym (length-append c.outside.requests (record { writes = writes_of_all chosen; answer = Unanswered } ∷ []));
+      flying = λ x m. ⊎_elim
+          (λ old. at-left c.outside.requests (record { writes = writes_of_all chosen; answer = Unanswered } ∷ []) x.request (record { writes = x.writes; answer = Unanswered }) (is.flying x old))
+          (λ new.
+          let e = Mem-one x (record { request = s.requests; writes = writes_of_all chosen }) new in
+          let n : x.request ≡ length c.outside.requests = ap (λ (z : Flying). z.request) e ∙ is.requests in
+          ap (slice_get (c.outside.requests ++ record { writes = writes_of_all chosen; answer = Unanswered } ∷ [])) n
+          ∙ at-last c.outside.requests (record { writes = writes_of_all chosen; answer = Unanswered })
+          ∙ ap (λ (z : Flying). Some (record { writes = z.writes; answer = Unanswered })) (sym e))
+          (Mem-cases x s.flying (record { request = s.requests; writes = writes_of_all chosen } ∷ []) m);
+    })
+    f.took
+    (ap (after (outside.Sends (writes_of_all chosen))) f.outside)
+
+-- ---- runs
+
+pub run_fits : RunFits
+run_fits s r taken out may f =
+    let c = f.core in
+    let is = f.is_of in
+    let may' : MayRun c.outside r = subst (λ o. MayRun o r) (sym f.outside) may in
+    let same : (after (outside.Runs r) c.outside).requests ≡ c.outside.requests = (step_runs_item c.outside (after (outside.Runs r) c.outside) (record { run = r; may = may'; reached = refl })).requests in
+    next s s taken taken out (after (outside.Runs r) out) f (Runs r) refl may'
+    (record {
+      taken = is.taken;
+      held = is.held;
+      reports = is.reports;
+      applied = is.applied;
+      already = is.already;
+      requests = is.requests ∙ ap length (sym same);
+      flying = λ x m. ap (λ rs. slice_get rs x.request) same ∙ is.flying x m;
+    })
+    f.took
+    (ap (after (outside.Runs r)) f.outside)
+
+-- ---- reply, whole, lost
+
+held_kept_one : (clock : ℕ) (t : Fate) (e : Entry) → held_of (kept_entry clock t e) ≡ kept_one t e.held
+held_kept_one clock Flies e = refl
+held_kept_one clock Applied e = refl
+held_kept_one clock Already e = refl
+held_kept_one clock Retried e = refl
+held_kept_one clock (Reported cause) e = refl
+
+held_kept : (g : Config) (clock number : ℕ) (ws : List Write) (a : Answer) (es : List Entry) → held_of (kept_entries g clock number ws a es) ≡ kept g number ws a (held_of es)
+held_kept g clock number ws a [] = refl
+held_kept g clock number ws a (e ∷ es) =
+    map-append (λ (x : Entry). x.held) (kept_entry clock (fate_of g number ws a e.held e.held.flies) e) (kept_entries g clock number ws a es)
+    ∙ (λ i. held_kept_one clock (fate_of g number ws a e.held e.held.flies) e i ++ held_kept g clock number ws a es i)
+
+-- an answer to a request in flight, counted from 0, that carried these writes
+pub settle_fits : (s : State) (number : ℕ) (ws : List Write) (a : Answer) (taken : List Op) (out : Outside) → Mem (record { request = number; writes = ws }) s.flying → MayAnswer out number a → Fits s taken out
+    → Fits (settled s number ws a) taken (after (outside.Answers number a) out)
+settle_fits s number ws a taken out flies may f =
+    let c = f.core in
+    let is = f.is_of in
+    let may' : MayAnswer c.outside number a = subst (λ o. MayAnswer o number a) (sym f.outside) may in
+    let here : ws ≡ writes_or (slice_get c.outside.requests number) = sym (ap writes_or (is.flying (record { request = number; writes = ws }) flies)) in
+    next s (settled s number ws a) taken taken out (after (outside.Answers number a) out) f (Answers number a) refl may'
+    (record {
+      taken = is.taken;
+      held = held_kept s.config s.clock number ws a s.held ∙ (λ i. kept s.config number (here i) a (is.held i));
+      reports = λ i. is.reports i ++ reported s.config number (here i) a (is.held i);
+      applied = λ i. is.applied i + how_many is_applied_fate s.config number (here i) a (is.held i);
+      already = λ i. is.already i + how_many is_already_fate s.config number (here i) a (is.held i);
+      requests = is.requests ∙ sym (length-update number (with_answer a) c.outside.requests);
+      flying = λ x m.
+          let y = Mem-filter (is_other number) x s.flying m in
+          let ne : x.request ≢ number = λ e. cc (equal_test x.request number e, not_true (x.request == number) y.1) in
+          at-update_other number (with_answer a) c.outside.requests x.request ne ∙ is.flying x y.0;
+    })
+    f.took
+    (ap (after (outside.Answers number a)) f.outside)
+
+-- what flies has its writes
+flies_at : (xs : List Flying) (n : ℕ) → list_any (λ (x : Flying). x.request + 1 == n) xs ≡ true → Mem (record { request = n - 1; writes = writes_at (n - 1) xs }) xs
+flies_at [] n t = absurd (cc)
+flies_at (x ∷ xs) n t = ⊎_elim {C = Mem (record { request = n - 1; writes = writes_at (n - 1) (x ∷ xs) }) (x ∷ xs)}
+    (λ u. inl (λ i. record { request = sym (equal x.request (n - 1) u) i; writes = (if u i then x.writes else writes_at (n - 1) xs) }))
+    (λ u.
+    let ne : (x.request + 1 == n) ≡ false = ⊎_elim {C = (x.request + 1 == n) ≡ false} (λ v. let q = equal (x.request + 1) n v in let k = equal_test x.request (n - 1) (omega (arith, q)) in absurd (cc)) (λ v. v) (true_or_false (x.request + 1 == n)) in
+    let rest : list_any (λ (y : Flying). y.request + 1 == n) xs ≡ true = ap (λ b. b || list_any (λ (y : Flying). y.request + 1 == n) xs) (sym ne) ∙ t in
+    inr (subst (λ ws. Mem (record { request = n - 1; writes = ws }) xs) (sym (ap (λ b. if b then x.writes else writes_at (n - 1) xs) u)) (flies_at xs n rest)))
+    (true_or_false (x.request == n - 1))
+
+pub answer_fits : AnswerFits
+answer_fits s number a taken out flies may f = settle_fits s (from_zero number) (writes_at (from_zero number) s.flying) a taken out (flies_at s.flying number flies) may f
+
+-- ---- at the start, and what is promised
+
+pub fresh_fits : FreshFits
+fresh_fits g out opening below =
+    let start : Core = record { taken = []; held = []; reports = []; applied = 0; already = 0; outside = out } in
+    record {
+      core = start;
+      came_about = fresh_came_about g start (record { taken = refl; held = refl; reports = refl; applied = refl; already = refl; opening = opening; below = below });
+      is_of = record { taken = refl; held = refl; reports = refl; applied = refl; already = refl; requests = sym (ap length opening.requests); flying = λ x m. absurd m };
+      took = refl;
+      outside = refl;
+    }
+
+pub clock_fits : ClockFits
+clock_fits s clock taken out f =
+    let is = f.is_of in
+    record {
+      core = f.core;
+      came_about = f.came_about;
+      is_of = record { taken = is.taken; held = is.held; reports = is.reports; applied = is.applied; already = is.already; requests = is.requests; flying = is.flying };
+      took = f.took;
+      outside = f.outside;
+    }
+
+pub sound_where : SoundWhereItFits
+sound_where s taken out f distinct =
+    let c = f.core in
+    let facts = facts_of s.config f.core f.came_about in
+    let d = subst (λ os. AllDistinct (map name_of os)) (sym f.took) distinct in
+    subst (λ os. IsSound s.config os s.reports out (attributed s.config os out)) f.took
+    (subst (λ o. IsSound s.config c.taken s.reports o (attributed s.config c.taken o)) f.outside
+    (subst (λ rs. IsSound s.config c.taken rs c.outside (attributed s.config c.taken c.outside)) (sym f.is_of.reports) (sound s.config c facts d)))
+
+pub complete_where : CompleteWhereItFits
+complete_where s taken out f distinct none =
+    let c = f.core in
+    let facts = facts_of s.config f.core f.came_about in
+    let d = subst (λ os. AllDistinct (map name_of os)) (sym f.took) distinct in
+    subst (λ os. IsComplete os s.reports (attributed s.config os out)) f.took
+    (subst (λ o. IsComplete c.taken s.reports (attributed s.config c.taken o)) f.outside
+    (subst (λ rs. IsComplete c.taken rs (attributed s.config c.taken c.outside)) (sym f.is_of.reports) (complete s.config c facts d (sym f.is_of.held ∙ ap held_of none))))
+
+pub total_where : TotalWhereItFits
+total_where s taken out f =
+    let facts = facts_of s.config f.core f.came_about in
+    let t = facts.totals in
+    let h = length-map s.held (λ (e : Entry). e.held) in
+    let hs = ap length f.is_of.held in
+    let r = ap length f.is_of.reports in
+    let a = f.is_of.applied in
+    let b = f.is_of.already in
+    let n = f.is_of.taken in (
+      n ∙ ap length f.took,
+      f.is_of.requests ∙ ap (λ (o : Outside). length o.requests) f.outside,
+      omega (arith, t, h, hs, r, a, b, n),
+    )
+
+-- ---- what flies
+
+pub writes_where : WritesWhereItFits
+writes_where s taken out f q m w n =
+    subst (λ os. IsDealtWrite s.config os w) f.took
+    (writes_are_dealt s.config f.core f.came_about q (subst (λ (o : Outside). Mem q o.requests) (sym f.outside) m) w n)
+
+entry_held : (s : State) (taken : List Op) (out : Outside) (f : Fits s taken out) (e : Entry) → Mem e s.held → Mem e.held f.core.held
+entry_held s taken out f e m = subst (λ hs. Mem e.held hs) f.is_of.held (map-Mem (λ (x : Entry). x.held) e s.held m)
+
+pub earliest_where : EarliestWhereItFits
+earliest_where s taken out f e d p me md fe doc =
+    earliest_flies s.config f.core f.came_about e.held d.held p (entry_held s taken out f e me) (entry_held s taken out f d md) fe doc
+
+pub one_flies_where : OneFliesWhereItFits
+one_flies_where s taken out f e d p q me md fe fd doc =
+    one_flies s.config f.core f.came_about e.held d.held p q (entry_held s taken out f e me) (entry_held s taken out f d md) fe fd doc
+
+-- ---- tries
+
+some_chosen : (chosen : List Entry) → chosen ≢ [] → held_of chosen ≢ []
+some_chosen [] some e = some refl
+some_chosen (e ∷ es) some q = let n = ap length q in absurd (omega (arith, n))
+
+pub send_takes_try : SendTakesTry
+unfolding core
+send_takes_try s chosen taken out some ne part f =
+    let is = f.is_of in
+    let n = within_tries_left s.config f.core (Sends (held_of chosen) ∷ []) some f.came_about (may_send s chosen taken out part f, tt) (some_chosen chosen ne, tt) in
+    let longer = length-append f.core.outside.requests (record { writes = writes_of_all chosen; answer = Unanswered } ∷ []) in
+    let new : List Request = record { writes = writes_of_all chosen; answer = Unanswered } ∷ [] in
+    let one : length new ≡ 1 = refl in
+    let now : tries_of (sent s chosen) ≡ tries_left s.config.max (map (launched (length f.core.outside.requests) (held_of chosen)) f.core.held) =
+    ap (tries_left s.config.max) (held_launched s.requests (held_of chosen) s.held ∙ (λ i. map (launched (is.requests i) (held_of chosen)) (is.held i))) in
+    let before : tries_of s ≡ tries_left s.config.max f.core.held = ap (tries_left s.config.max) is.held in
+    omega (arith, n, longer, one, now, before)
+
+pub answer_gives_no_try : AnswerGivesNoTry
+answer_gives_no_try s number a =
+    let ws = writes_at (from_zero number) s.flying in
+    let e = ap (tries_left s.config.max) (held_kept s.config s.clock (from_zero number) ws a s.held) in
+    let le = left-kept s.config (from_zero number) ws a (held_of s.held) in
+    omega (arith, e, le)

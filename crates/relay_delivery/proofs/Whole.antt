@@ -1,0 +1,153 @@
+-- What holds at every moment says that all is accounted for.
+use Rattle.std.proofs.Common.{◌≡◌, ℕ, List, [], ◌∷◌, ◌++◌, Option, Some, refl, sym, ap, ◌∙◌, subst, ⊎_elim, inl, inr, arith}
+use Rattle.std.specs.Prelude.{slice_get, map}
+use Rattle.relay_action.specs.declared.write.Write.{Write}
+use Rattle.relay_action.specs.declared.operation.Op.{Op}
+use Rattle.relay_results.specs.Words.{Mem, AllDistinct, IsSubsequence}
+use Rattle.relay_results.specs.Documents.{Document, document_of, name_of, write_for}
+use Rattle.relay_results.specs.Outside.{Outside, Event, Continues}
+use Rattle.relay_results.specs.Outside as outside
+use Rattle.relay_delivery.specs.Attribution.{IsAttribution, IsInProducerOrder, is_from}
+use Rattle.relay_delivery.specs.Machine.{Config, Core, Report, Takes, Sends, Runs, Answers, Step, step, steps_of, MayStep, AllMayStep, write_of}
+use Rattle.relay_delivery.specs.Delivery.{taken_of, attributed, IsTrueReport, IsSound, IsComplete, SoundAlways, CompleteAtTheEnd, TotalAlways, WritesAreDealt, ContinuesAlways, FreshCameAbout, StepCameAbout}
+use Rattle.relay_results.proofs.Lists.{equal_test, at-Mem, at-within, Mem-at, map-Mem, filter-Mem, some_same, sub-filter, sub-map, Mem-sub, AllDistinct-sub}
+use Rattle.relay_delivery.proofs.Facts.{IsDealt, IsOfOne, SpentFact, CauseFact, CoreFacts}
+use Rattle.relay_delivery.proofs.Ordered.{ops-in_order, ops-same, op-of, of-op}
+use Rattle.relay_delivery.proofs.Versions.{version_in, version_of, is_assignment, none_over}
+use Rattle.relay_delivery.proofs.Names.{taken_once, reported_once}
+use Rattle.relay_delivery.proofs.Keeps.{none_past, facts_of, own_sent}
+
+module _ (g : Config) (c : Core) (f : CoreFacts g none_past c) (distinct : AllDistinct (map name_of c.taken)) where
+  of_one : (k : Document) (w : Write) → Mem w (c.outside.applied k) → IsOfOne g c.taken w
+  of_one k w m = own_sent g c f w ((f.index k).sent w m)
+
+  ops_sub : (k : Document) → IsSubsequence (attributed g c.taken c.outside k) c.taken
+  ops_sub k = ops-in_order g c.taken (c.outside.applied k) (f.index k).rising (of_one k)
+
+  attribution : (k : Document) → IsAttribution (taken_of c.taken) k (c.outside.applied k) (attributed g c.taken c.outside k)
+  attribution k = record {
+    actions = ops-same g c.taken (c.outside.applied k) (of_one k);
+    distinct = AllDistinct-sub (map name_of (attributed g c.taken c.outside k)) (map name_of c.taken) distinct (sub-map name_of (attributed g c.taken c.outside k) c.taken (ops_sub k));
+    accepted_each = λ o m. (o.producer, filter-Mem (is_from o.producer) o c.taken (Mem-sub o (attributed g c.taken c.outside k) c.taken (ops_sub k) m) (equal_test o.producer o.producer refl));
+    of_document = λ o m.
+        let w = op-of g c.taken (c.outside.applied k) (of_one k) o m in
+        ap (λ (x : Op). document_of x.key) w.2.1 ∙ sym (ap (λ (x : Write). document_of x.key) w.2.0.write) ∙ (f.index k).document w.0 w.1;
+  }
+
+  in_order : (k : Document) → IsInProducerOrder (taken_of c.taken) (attributed g c.taken c.outside k)
+  in_order k p = sub-filter (is_from p) (attributed g c.taken c.outside k) c.taken (ops_sub k)
+
+  versions : Op → Option ℕ
+  versions = version_in g.first g.deals c.taken
+
+  dealt_version : (o : Op) (v : ℕ) → IsDealt g c.taken o v → versions o ≡ Some v
+  unfolding versions
+  dealt_version o v d = version_of c.taken g.first g.deals d.place o distinct d.stands d.within ∙ ap Some (sym d.version)
+
+  true_spent : (r : Report) → SpentFact g c.taken r → IsTrueReport g c.taken c.outside versions r
+  unfolding versions
+  true_spent r s = record {
+    op = s.op;
+    was_taken = at-Mem c.taken s.place s.op s.stands;
+    name = s.name;
+    document = s.document;
+    cause = inr (record {
+      cause_is = s.cause;
+      never_sent = λ v e. absurd (none_over g.first g.deals c.taken s.op s.place v distinct s.stands s.past e);
+      over = let w = at-within c.taken s.place s.op s.stands in let p = s.past in omega (arith, w, p);
+    });
+  }
+
+  true_cause : (r : Report) → CauseFact g c.taken c.held c.outside r → IsTrueReport g c.taken c.outside versions r
+  true_cause r s = record {
+    op = s.op;
+    was_taken = at-Mem c.taken s.dealt.place s.op s.dealt.stands;
+    name = s.name;
+    document = s.document;
+    cause = inl (record { version = s.version; is_dealt = dealt_version s.op s.version s.dealt; of_write = s.cause });
+  }
+
+  pub reports_true : (r : Report) → Mem r c.reports → IsTrueReport g c.taken c.outside (version_in g.first g.deals c.taken) r
+  unfolding versions
+  reports_true r m = ⊎_elim (λ s. true_spent r s) (λ s. true_cause r s) (f.reports r m)
+
+  pub sound : IsSound g c.taken c.reports c.outside (attributed g c.taken c.outside)
+  unfolding versions
+  sound = record {
+    attribution = attribution;
+    in_order = in_order;
+    versions = versions;
+    assignment = is_assignment g.first g.deals c.taken;
+    true_reports = λ r m. ⊎_elim (λ s. true_spent r s) (λ s. true_cause r s) (f.reports r m);
+    once = reported_once c.reports (λ n. let a = f.apart n in let b = taken_once c.taken distinct n in omega (arith, a, b));
+  }
+
+  pub complete : c.held ≡ [] → IsComplete c.taken c.reports (attributed g c.taken c.outside)
+  complete none o m =
+      let at = Mem-at o c.taken m in
+      ⊎_elim
+      (λ h. absurd (subst (λ hs. Mem h.held_op hs) none h.is_in))
+      (λ z. ⊎_elim
+      (λ y.
+      let a = of_one (document_of o.key) y.write y.is_in in
+      let place : a.dealt.place ≡ at.0 = (let v = a.dealt.version in let u = y.version in omega (arith, v, u)) in
+      let same : a.op ≡ o = some_same a.op o (sym a.dealt.stands ∙ ap (slice_get c.taken) place ∙ at.1) in
+      inl (subst (λ p. Mem p (attributed g c.taken c.outside (document_of o.key))) same (of-op g c.taken (c.outside.applied (document_of o.key)) y.write y.is_in a)))
+      (λ p. inr (subst (λ n. Mem n (map (λ (r : Report). r.name) c.reports)) p.name (map-Mem (λ (r : Report). r.name) p.report c.reports p.is_in)))
+      z)
+      (f.nothing_lost at.0 o at.1)
+
+pub sound_always : SoundAlways
+sound_always g c r distinct = sound g c (facts_of g c r) distinct
+
+pub complete_at_the_end : CompleteAtTheEnd
+complete_at_the_end g c r distinct none = complete g c (facts_of g c r) distinct none
+
+pub total_always : TotalAlways
+total_always g c r = (facts_of g c r).totals
+
+pub writes_are_dealt : WritesAreDealt
+writes_are_dealt g c r q m w n =
+    let at = Mem-at q c.outside.requests m in
+    let one = own_sent g c (facts_of g c r) w (record { number = at.0; request = q; sent = at.1; is_in = n }) in
+    record {
+      op = one.op;
+      place = one.dealt.place;
+      was_taken = one.dealt.stands;
+      within = one.dealt.within;
+      write = one.write ∙ ap (write_for one.op) one.dealt.version;
+    }
+
+-- ---- what comes about
+
+pub fresh_came_about : FreshCameAbout
+fresh_came_about g c fresh = record { start = c; fresh = fresh; steps = []; may = tt; reached = refl }
+
+steps_more : (g : Config) (ss : List Step) (s : Step) (c : Core) → steps_of g (ss ++ s ∷ []) c ≡ step g s (steps_of g ss c)
+steps_more g [] s c = refl
+steps_more g (x ∷ ss) s c = steps_more g ss s (step g x c)
+
+may_more : (g : Config) (ss : List Step) (s : Step) (c : Core) → AllMayStep g ss c → MayStep s (steps_of g ss c) → AllMayStep g (ss ++ s ∷ []) c
+may_more g [] s c all may = (may, tt)
+may_more g (x ∷ ss) s c all may = (all.0, may_more g ss s (step g x c) all.1 may)
+
+pub step_came_about : StepCameAbout
+step_came_about g c s r may = record {
+  start = r.start;
+  fresh = r.fresh;
+  steps = r.steps ++ s ∷ [];
+  may = may_more g r.steps s r.start r.may (subst (λ d. MayStep s d) (sym r.reached) may);
+  reached = steps_more g r.steps s r.start ∙ ap (step g s) r.reached;
+}
+
+-- ---- the events of steps
+
+steps_continue : (g : Config) (ss : List Step) (c : Core) → AllMayStep g ss c → Continues c.outside (steps_of g ss c).outside
+steps_continue g [] c may = record { events = []; may = tt; reached = refl }
+steps_continue g (Takes o ∷ ss) c may = steps_continue g ss (step g (Takes o) c) may.1
+steps_continue g (Sends chosen ∷ ss) c may = let r = steps_continue g ss (step g (Sends chosen) c) may.1 in record { events = outside.Sends (map write_of chosen) ∷ r.events; may = (tt, r.may); reached = r.reached }
+steps_continue g (Runs x ∷ ss) c may = let r = steps_continue g ss (step g (Runs x) c) may.1 in record { events = outside.Runs x ∷ r.events; may = (may.0, r.may); reached = r.reached }
+steps_continue g (Answers number a ∷ ss) c may = let r = steps_continue g ss (step g (Answers number a) c) may.1 in record { events = outside.Answers number a ∷ r.events; may = (may.0, r.may); reached = r.reached }
+
+pub continues_always : ContinuesAlways
+continues_always g c r = (r.start.outside, r.fresh.opening, subst (λ d. Continues r.start.outside d.outside) r.reached (steps_continue g r.steps r.start r.may))

@@ -1,0 +1,26 @@
+use Rattle.relay_delivery.proofs.Excluded.{settled, without_status, without_error, not_busy, not_unsent, not_unanswered, not_retried, no_conflict}
+use Rattle.relay_delivery.proofs.laws.causes_exclude.Goals as goal
+
+pub returns-clause-settled : goal.returns-clause-settled
+returns-clause-settled c = settled
+
+pub returns-clause-status : goal.returns-clause-status
+returns-clause-status c = without_status
+
+pub returns-clause-error : goal.returns-clause-error
+returns-clause-error c = without_error
+
+pub returns-clause-busy : goal.returns-clause-busy
+returns-clause-busy c = not_busy
+
+pub returns-clause-unsent : goal.returns-clause-unsent
+returns-clause-unsent c = not_unsent
+
+pub returns-clause-unanswered : goal.returns-clause-unanswered
+returns-clause-unanswered c = not_unanswered
+
+pub returns-clause-retried : goal.returns-clause-retried
+returns-clause-retried c = not_retried
+
+pub returns-clause-no_conflict : goal.returns-clause-no_conflict
+returns-clause-no_conflict c = no_conflict

@@ -1,0 +1,22 @@
+use Rattle.relay_delivery.proofs.Gathered.{fresh_together, act_together, together_may, together_runs}
+use Rattle.relay_delivery.proofs.OneOutside.{together_continues}
+use Rattle.relay_delivery.proofs.Joined.{nothing_after_close}
+use Rattle.relay_delivery.proofs.promises.acts_lead_on.Goals as goal
+
+pub returns-clause-fresh : goal.returns-clause-fresh
+returns-clause-fresh c = fresh_together
+
+pub returns-clause-act : goal.returns-clause-act
+returns-clause-act c = act_together
+
+pub returns-clause-may : goal.returns-clause-may
+returns-clause-may c = together_may
+
+pub returns-clause-runs : goal.returns-clause-runs
+returns-clause-runs c = together_runs
+
+pub returns-clause-outside : goal.returns-clause-outside
+returns-clause-outside c = together_continues
+
+pub returns-clause-closed : goal.returns-clause-closed
+returns-clause-closed c = nothing_after_close

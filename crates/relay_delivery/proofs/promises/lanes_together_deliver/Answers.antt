@@ -1,0 +1,8 @@
+use Rattle.relay_delivery.proofs.Gathered.{sound_together, complete_together}
+use Rattle.relay_delivery.proofs.promises.lanes_together_deliver.Goals as goal
+
+pub returns-clause-sound : goal.returns-clause-sound
+returns-clause-sound c = sound_together
+
+pub returns-clause-complete : goal.returns-clause-complete
+returns-clause-complete c = complete_together

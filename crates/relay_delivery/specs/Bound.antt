@@ -1,0 +1,34 @@
+-- How many requests a lane sends that takes nothing more.
+use Rattle.std.specs.Prelude.{◌≢◌, ℕ, ◌+◌, ◌-◌, ◌*◌, ◌<◌, ◌≤◌, List, [], ◌∷◌, length}
+use Rattle.relay_delivery.specs.Machine.{Config, Core, Held, Step, Takes, Sends, Runs, Answers, steps_of, AllMayStep, CameAbout}
+
+-- nothing is taken, and no empty request is sent
+abbrev pub IsDraining : Step → Type 0
+IsDraining (Takes o) = ⊥
+IsDraining (Sends chosen) = chosen ≢ []
+IsDraining (Runs r) = Unit {0}
+IsDraining (Answers number a) = Unit {0}
+
+abbrev pub AllDraining : List Step → Type 0
+AllDraining [] = Unit {0}
+AllDraining (s ∷ ss) = IsDraining s × AllDraining ss
+
+abbrev pub sent_of : Core → ℕ
+sent_of c = length c.outside.requests
+
+-- the tries that held operations have left
+abbrev pub tries_left : ℕ → List Held → ℕ
+tries_left max [] = 0
+tries_left max (h ∷ hs) = (max - h.attempts) + tries_left max hs
+
+-- each further request takes one of them at least
+abbrev pub WithinTriesLeft : Type 0
+WithinTriesLeft =
+    (g : Config) (c : Core) (more : List Step) → 0 < g.max → CameAbout g c → AllMayStep g more c → AllDraining more →
+    sent_of (steps_of g more c) + tries_left g.max (steps_of g more c).held ≤ sent_of c + tries_left g.max c.held
+
+-- so there are at most as many as operations are held, times the tries
+abbrev pub FewRequests : Type 0
+FewRequests =
+    (g : Config) (c : Core) (more : List Step) → 0 < g.max → CameAbout g c → AllMayStep g more c → AllDraining more →
+    sent_of (steps_of g more c) ≤ sent_of c + length c.held * g.max

@@ -1,0 +1,115 @@
+-- When the cause of a report is true.
+use Rattle.std.specs.Prelude.{◌≡◌, ◌⊎◌, ℕ, ◌+◌, ◌-◌, ◌^◌, ◌<◌, ◌≤◌, min, List, [], Option, Some, is_some, unwrap_or, slice_get, Bool, true, false}
+use Rattle.std.specs.List.{list_any}
+use Rattle.relay_action.specs.Actions.{kind_of}
+use Rattle.relay_action.specs.Limits.{last_version}
+use Rattle.relay_action.specs.declared.write.Write.{Write}
+use Rattle.relay_action.specs.declared.operation.Op.{Op}
+use Rattle.relay_results.specs.declared.cause.Cause.{Cause}
+use Rattle.relay_results.specs.declared.cause.Cause.TheVariants as cause
+use Rattle.relay_results.specs.declared.outcome.Outcome.{Outcome}
+use Rattle.relay_results.specs.Words.{count}
+use Rattle.relay_results.specs.Documents.{document_of, same_write, same_op, write_for}
+use Rattle.relay_results.specs.Verdicts.{IsRefused, is_conflict, is_retried_whole}
+use Rattle.relay_results.specs.Outside.{Whole, Request, Outside, WasRun}
+use Rattle.relay_results.specs.Fates.{HasEntry, IsRetried}
+
+-- ---- the version assignment
+
+-- Operations are dealt versions, or none, and no two operations of one document the same.
+abbrev pub IsAssignment : (Op → Option ℕ) → Type 0
+IsAssignment versions =
+    (a b : Op) (v : ℕ) → versions a ≡ Some v → versions b ≡ Some v → document_of a.key ≡ document_of b.key
+    → same_op a b ≡ true
+
+-- how many versions a lane deals that begins with this one
+abbrev pub deals_from : ℕ → ℕ
+deals_from first = min (2 ^ 56) (last_version + 1 - first)
+
+-- ---- what was carried and answered
+
+-- a request carried the write: its document, its version and its action
+abbrev pub carries : Write → Request → Bool
+carries w q = list_any (same_write w) q.writes
+
+-- it did at this place
+pub record CarriedAt (requests : List Request) (w : Write) (number place : ℕ) (q : Request) : Type 0 where
+  pub write : Write
+  pub sent : slice_get requests number ≡ Some q
+  pub stands : slice_get q.writes place ≡ Some write
+  pub same : same_write w write ≡ true
+
+-- a request that carried the write was answered by matching entries, of which the one at its place is this, and one of
+-- the item's runs gave it
+pub record IsAnswered (s : Outside) (w : Write) (o : Outcome) : Type 0 where
+  pub number : ℕ
+  pub place : ℕ
+  pub request : Request
+  pub carried : CarriedAt s.requests w number place request
+  pub says : HasEntry request.writes place request.answer o
+  pub ran : WasRun s.runs number place o
+
+-- a request that carried the write was answered as a whole with this status
+pub record IsAnsweredWhole (s : Outside) (w : Write) (status : ℕ) : Type 0 where
+  pub number : ℕ
+  pub place : ℕ
+  pub request : Request
+  pub carried : CarriedAt s.requests w number place request
+  pub answer : request.answer ≡ Whole status
+
+-- ---- true causes
+
+-- Refused: it was answered by this status and this error's type, which one of its runs gave and the table refuses.
+pub record IsTrueRefusal (s : Outside) (w : Write) (status : ℕ) (error : List ℕ) : Type 0 where
+  pub outcome : Outcome
+  pub answered : IsAnswered s w outcome
+  pub refused : IsRefused (kind_of w.action) outcome.status (is_some outcome.error)
+  pub status_is : outcome.status ≡ status
+  pub error_is : unwrap_or outcome.error [] ≡ error
+
+-- Conflict: exactly one request carried it, and that was answered by 409, which one of its runs gave.
+pub record IsTrueConflict (s : Outside) (w : Write) : Type 0 where
+  pub once : count (carries w) s.requests ≡ 1
+  pub outcome : Outcome
+  pub answered : IsAnswered s w outcome
+  pub conflict : is_conflict outcome.status ≡ true
+
+-- GaveUp: exactly so many requests carried it, as many as tries were allowed at least, and to each came an answer that is
+-- tried again.
+pub record GaveUpAfter (requests : List Request) (w : Write) (max sends : ℕ) : Type 0 where
+  pub exactly : count (carries w) requests ≡ sends
+  pub enough : max ≤ sends
+  pub each : (number place : ℕ) (q : Request) → CarriedAt requests w number place q → IsRetried q.writes place q.answer
+
+-- The cause is true of a write that was dealt a version, of which so many tries were allowed. Request: it was answered as
+-- a whole with this status, which is not tried again.
+abbrev pub IsTrueOf : ℕ → Outside → Write → Cause → Type 0
+IsTrueOf max s w (cause.Refused status error) = IsTrueRefusal s w status error
+IsTrueOf max s w (cause.Request status) = IsAnsweredWhole s w status × (is_retried_whole status ≡ false)
+IsTrueOf max s w cause.Conflict = IsTrueConflict s w
+IsTrueOf max s w (cause.GaveUp sends) = GaveUpAfter s.requests w max sends
+IsTrueOf max s w cause.Spent = ⊥
+
+-- what a lane's causes are judged by beside the outside: how many tries an operation has, how many versions the lane
+-- deals, and how many Puts it took from its queue
+pub record Terms : Type 0 where
+  pub max : ℕ
+  pub deals : ℕ
+  pub taken : ℕ
+
+-- the operation was dealt a version, and the cause is true of its write
+pub record IsTrueDealt (max : ℕ) (s : Outside) (o : Op) (dealt : Option ℕ) (c : Cause) : Type 0 where
+  pub version : ℕ
+  pub is_dealt : dealt ≡ Some version
+  pub of_write : IsTrueOf max s (write_for o version) c
+
+-- Spent: no request carried the operation, under the version that it was dealt, if any, and its lane took more Puts than
+-- it deals versions.
+pub record IsTrueSpent (t : Terms) (s : Outside) (o : Op) (dealt : Option ℕ) (c : Cause) : Type 0 where
+  pub cause_is : c ≡ cause.Spent
+  pub never_sent : (v : ℕ) → dealt ≡ Some v → count (carries (write_for o v)) s.requests ≡ 0
+  pub over : t.deals < t.taken
+
+-- the cause is true of an operation that was dealt this version, or none
+abbrev pub IsTrueCause : Terms → Outside → Op → Option ℕ → Cause → Type 0
+IsTrueCause t s o dealt c = IsTrueDealt t.max s o dealt c ⊎ IsTrueSpent t s o dealt c

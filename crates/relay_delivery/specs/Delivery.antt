@@ -1,0 +1,120 @@
+-- What is promised of the operations that a lane took.
+use Rattle.std.specs.Prelude.{◌≡◌, ◌⊎◌, ℕ, ◌+◌, ◌-◌, ◌<◌, ◌≤◌, List, [], ◌∷◌, ◌++◌, Option, Some, option_to_list, slice_get, map, filter, length}
+use Rattle.relay_action.specs.declared.write.Write.{Write}
+use Rattle.relay_action.specs.declared.operation.Op.{Op}
+use Rattle.relay_action.specs.declared.operation.OpName.{OpName}
+use Rattle.relay_results.specs.Words.{Mem, AllDistinct}
+use Rattle.relay_results.specs.Documents.{Document, document_of, name_of, write_for}
+use Rattle.relay_results.specs.Outside.{Request, Outside, IsOpening, Continues}
+use Rattle.relay_delivery.specs.Attribution.{IsAttribution, IsInProducerOrder, is_from}
+use Rattle.relay_delivery.specs.Causes.{Terms, IsAssignment, IsTrueCause}
+use Rattle.relay_delivery.specs.Machine.{Config, version_at, Held, Place, Core, Report, Step, step, MayStep, IsFresh, CameAbout}
+
+-- ---- sound
+
+-- what it took of a producer, in order
+abbrev pub taken_of : List Op → ℕ → List Op
+taken_of taken p = filter (is_from p) taken
+
+abbrev pub terms_of : Config → List Op → Terms
+terms_of g taken = record { max = g.max; deals = g.deals; taken = length taken }
+
+-- a report names an operation that was taken, and its cause is true
+pub record IsTrueReport (g : Config) (taken : List Op) (s : Outside) (versions : Op → Option ℕ) (r : Report) : Type 0 where
+  pub op : Op
+  pub was_taken : Mem op taken
+  pub name : r.name ≡ name_of op
+  pub document : r.document ≡ document_of op.key
+  pub cause : IsTrueCause (terms_of g taken) s op (versions op) r.cause
+
+abbrev pub names_of : List Report → List OpName
+names_of reports = map (λ (r : Report). r.name) reports
+
+-- The writes applied to each document are those of distinct operations that were taken, each producer's in its order; each
+-- report has a true cause, by one assignment of versions; and none is reported twice.
+pub record IsSound (g : Config) (taken : List Op) (reports : List Report) (s : Outside) (ops : Document → List Op) : Type 0 where
+  pub attribution : (k : Document) → IsAttribution (taken_of taken) k (s.applied k) (ops k)
+  pub in_order : (k : Document) → IsInProducerOrder (taken_of taken) (ops k)
+  pub versions : Op → Option ℕ
+  pub assignment : IsAssignment versions
+  pub true_reports : (r : Report) → Mem r reports → IsTrueReport g taken s versions r
+  pub once : AllDistinct (names_of reports)
+
+-- ---- complete
+
+-- each operation that was taken was applied, or is reported
+abbrev pub IsComplete : List Op → List Report → (Document → List Op) → Type 0
+IsComplete taken reports ops = (o : Op) → Mem o taken → Mem o (ops (document_of o.key)) ⊎ Mem (name_of o) (names_of reports)
+
+-- ---- the promise
+
+-- the operations that writes are of: a version says the place at which its operation was taken
+abbrev pub ops_of : ℕ → List Op → List Write → List Op
+ops_of first taken [] = []
+ops_of first taken (w ∷ ws) = option_to_list (slice_get taken (w.version - first)) ++ ops_of first taken ws
+
+-- those of the writes applied to a document
+abbrev pub attributed : Config → List Op → Outside → Document → List Op
+attributed g taken s k = ops_of g.first taken (s.applied k)
+
+-- no two operations that were taken have one name
+abbrev pub HasDistinctNames : List Op → Type 0
+HasDistinctNames taken = AllDistinct (map name_of taken)
+
+-- after any steps, from a fresh lane on, delivery is sound
+abbrev pub SoundAlways : Type 0
+SoundAlways =
+    (g : Config) (c : Core) → CameAbout g c → HasDistinctNames c.taken →
+    IsSound g c.taken c.reports c.outside (attributed g c.taken c.outside)
+
+-- and by the same attribution it is complete where nothing is held
+abbrev pub CompleteAtTheEnd : Type 0
+CompleteAtTheEnd =
+    (g : Config) (c : Core) → CameAbout g c → HasDistinctNames c.taken → c.held ≡ [] →
+    IsComplete c.taken c.reports (attributed g c.taken c.outside)
+
+-- each operation that was taken is held, ended as applied, or was reported
+abbrev pub HasTotals : Core → Type 0
+HasTotals c = length c.held + (c.applied + c.already) + length c.reports ≡ length c.taken
+
+abbrev pub TotalAlways : Type 0
+TotalAlways = (g : Config) (c : Core) → CameAbout g c → HasTotals c
+
+-- each write that was sent is that of an operation that was taken, under the version that was dealt at its place
+pub record IsDealtWrite (g : Config) (taken : List Op) (w : Write) : Type 0 where
+  pub op : Op
+  pub place : ℕ
+  pub was_taken : slice_get taken place ≡ Some op
+  pub within : place < g.deals
+  pub write : w ≡ write_for op (version_at g place)
+
+abbrev pub WritesAreDealt : Type 0
+WritesAreDealt =
+    (g : Config) (c : Core) → CameAbout g c → (q : Request) → Mem q c.outside.requests → (w : Write) → Mem w q.writes →
+    IsDealtWrite g c.taken w
+
+-- a held operation that flies is the earliest that is held of its document
+abbrev pub EarliestFlies : Type 0
+EarliestFlies =
+    (g : Config) (c : Core) → CameAbout g c → (h j : Held) (f : Place) → Mem h c.held → Mem j c.held → h.flies ≡ Some f →
+    document_of j.op.key ≡ document_of h.op.key → h.version ≤ j.version
+
+-- so two of one document that fly are one
+abbrev pub OneFlies : Type 0
+OneFlies =
+    (g : Config) (c : Core) → CameAbout g c → (h j : Held) (f k : Place) → Mem h c.held → Mem j c.held →
+    h.flies ≡ Some f → j.flies ≡ Some k → document_of j.op.key ≡ document_of h.op.key → h ≡ j
+
+-- what stands outside came of an opening, by events that may happen
+abbrev pub ContinuesAlways : Type 0
+ContinuesAlways = (g : Config) (c : Core) → CameAbout g c → (s : Outside) × IsOpening s × Continues s c.outside
+
+-- ---- what comes about
+
+-- a fresh lane has come about
+abbrev pub FreshCameAbout : Type 0
+FreshCameAbout = (g : Config) (c : Core) → IsFresh g c → CameAbout g c
+
+-- and so has what any step makes of what came about
+abbrev pub StepCameAbout : Type 0
+StepCameAbout = (g : Config) (c : Core) (s : Step) → CameAbout g c → MayStep s c → CameAbout g (step g s c)

@@ -1,0 +1,239 @@
+-- A lane as its callers see it, what each call makes of it, and the outside that it fits: the form in which the calls of
+-- real code are tied to delivery.
+use Rattle.std.specs.Prelude.{◌≡◌, ◌≢◌, ◌≤◌, ℕ, ◌+◌, ◌-◌, ◌<◌, ◌^◌, min, List, [], ◌∷◌, ◌++◌, Option, Some, None, slice_get, Bool, true, false, ◌==◌, ◌&&◌, not, nat_lt, nat_le, map, filter, length, if◌then◌else◌}
+use Rattle.std.specs.List.{list_any}
+use Rattle.relay_action.specs.declared.write.Write.{Write}
+use Rattle.relay_action.specs.declared.operation.Op.{Op}
+use Rattle.relay_results.specs.Words.{Mem, IsSubsequence}
+use Rattle.relay_results.specs.Numbers.{from_one, from_zero}
+use Rattle.relay_results.specs.Documents.{Document, document_of, same_document}
+use Rattle.relay_results.specs.Outside.{Answer, Unanswered, Request, Ran, Outside, Sends, Runs, Answers, IsOpening, MayRun, MayAnswer, after}
+use Rattle.relay_results.specs.Fates.{Fate, Flies, Applied, Already, Retried, Reported}
+use Rattle.relay_delivery.specs.Machine.{Config, Core, Held, Place, Report, write_of, held_at, spent_if, launched, landed, fate_of, reported, how_many, is_applied_fate, is_already_fate, CameAbout}
+use Rattle.relay_delivery.specs.Delivery.{HasDistinctNames, IsSound, IsComplete, attributed, IsDealtWrite}
+use Rattle.relay_delivery.specs.Bound.{tries_left}
+
+-- a held operation, its bytes, the clock at its take, and the tick from which on it may be sent
+pub record Entry : Type 0 where
+  pub held : Held
+  pub bytes : ℕ
+  pub taken_at : ℕ
+  pub due : ℕ
+
+-- a request in flight, counted from 0, and its writes
+pub record Flying : Type 0 where
+  pub request : ℕ
+  pub writes : List Write
+
+-- the clock, how many Puts were taken and how many requests sent, what is held and what flies, the reports, and how many
+-- ended as applied
+pub record State : Type 0 where
+  pub config : Config
+  pub clock : ℕ
+  pub taken : ℕ
+  pub requests : ℕ
+  pub held : List Entry
+  pub flying : List Flying
+  pub reports : List Report
+  pub applied : ℕ
+  pub already : ℕ
+
+abbrev pub held_of : List Entry → List Held
+held_of es = map (λ (e : Entry). e.held) es
+
+-- ---- take
+
+abbrev pub entry_at : State → Op → ℕ → Entry
+entry_at s o bytes = record { held = held_at s.config s.taken o; bytes = bytes; taken_at = s.clock; due = s.clock }
+
+abbrev pub entry_if : Bool → State → Op → ℕ → List Entry
+entry_if true s o bytes = entry_at s o bytes ∷ []
+entry_if false s o bytes = []
+
+abbrev pub taken_op : State → Op → ℕ → State
+taken_op s o bytes = record s {
+  taken = s.taken + 1;
+  held = s.held ++ entry_if (nat_lt s.taken s.config.deals) s o bytes;
+  reports = s.reports ++ spent_if (nat_lt s.taken s.config.deals) o;
+}
+
+-- ---- request
+
+abbrev pub waits : Option Place → Bool
+waits None = true
+waits (Some f) = false
+
+-- a held operation of its document has a lower version
+abbrev pub is_later : List Held → Held → Bool
+is_later hs h = list_any (λ (j : Held). same_document (document_of j.op.key) (document_of h.op.key) && nat_lt j.version h.version) hs
+
+-- it is eligible and due
+abbrev pub is_candidate : State → Entry → Bool
+is_candidate s e = waits e.held.flies && (nat_le e.due s.clock && not (is_later (held_of s.held) e.held))
+
+abbrev pub candidates : State → List Entry
+candidates s = filter (is_candidate s) s.held
+
+abbrev pub launched_entry : ℕ → List Held → Entry → Entry
+launched_entry request chosen e = record { held = launched request chosen e.held; bytes = e.bytes; taken_at = e.taken_at; due = e.due }
+
+abbrev pub writes_of_all : List Entry → List Write
+writes_of_all es = map write_of (held_of es)
+
+-- these entries are sent as one request
+abbrev pub sent : State → List Entry → State
+sent s chosen = record s {
+  requests = s.requests + 1;
+  held = map (launched_entry s.requests (held_of chosen)) s.held;
+  flying = s.flying ++ record { request = s.requests; writes = writes_of_all chosen } ∷ [];
+}
+
+-- ---- reply, whole, lost
+
+-- after so many tries it is due so many ticks later: 1, 2, 4 and so on, 64 at most
+abbrev pub backoff : ℕ → ℕ → ℕ
+backoff clock attempts = min (clock + min (2 ^ (attempts - 1)) 64) 18446744073709551615
+
+abbrev pub kept_entry : ℕ → Fate → Entry → List Entry
+kept_entry clock Flies e = e ∷ []
+kept_entry clock Applied e = []
+kept_entry clock Already e = []
+kept_entry clock Retried e = record { held = landed e.held; bytes = e.bytes; taken_at = e.taken_at; due = backoff clock e.held.attempts } ∷ []
+kept_entry clock (Reported cause) e = []
+
+abbrev pub kept_entries : Config → ℕ → ℕ → List Write → Answer → List Entry → List Entry
+kept_entries g clock request ws a [] = []
+kept_entries g clock request ws a (e ∷ es) = kept_entry clock (fate_of g request ws a e.held e.held.flies) e ++ kept_entries g clock request ws a es
+
+abbrev pub is_other : ℕ → Flying → Bool
+is_other request f = not (f.request == request)
+
+-- an answer to a request, counted from 0, that carried these writes
+abbrev pub settled : State → ℕ → List Write → Answer → State
+settled s request ws a = record s {
+  held = kept_entries s.config s.clock request ws a s.held;
+  flying = filter (is_other request) s.flying;
+  reports = s.reports ++ reported s.config request ws a (held_of s.held);
+  applied = s.applied + how_many is_applied_fate s.config request ws a (held_of s.held);
+  already = s.already + how_many is_already_fate s.config request ws a (held_of s.held);
+}
+
+-- a request with this number, from 1, is in flight
+abbrev pub is_flying : ℕ → State → Bool
+is_flying number s = list_any (λ (f : Flying). from_one f.request == number) s.flying
+
+-- the writes of a request in flight
+abbrev pub writes_at : ℕ → List Flying → List Write
+writes_at request [] = []
+writes_at request (f ∷ fs) = if f.request == request then f.writes else writes_at request fs
+
+-- an answer to the request with a number
+abbrev pub answered : State → ℕ → Answer → State
+answered s number a = settled s (from_zero number) (writes_at (from_zero number) s.flying) a
+
+-- ---- the outside that a lane fits
+
+-- the core that the lane stands for
+pub record IsOf (s : State) (c : Core) : Type 0 where
+  pub taken : s.taken ≡ length c.taken
+  pub held : held_of s.held ≡ c.held
+  pub reports : s.reports ≡ c.reports
+  pub applied : s.applied ≡ c.applied
+  pub already : s.already ≡ c.already
+  pub requests : s.requests ≡ length c.outside.requests
+  pub flying : (f : Flying) → Mem f s.flying → slice_get c.outside.requests f.request ≡ Some (record { writes = f.writes; answer = Unanswered })
+
+-- it took these operations, its requests are those that were sent, in order, and the answers alone settled them: both came
+-- about by the same steps, from a fresh lane and an opening on
+pub record Fits (s : State) (taken : List Op) (out : Outside) : Type 0 where
+  pub core : Core
+  pub came_about : CameAbout s.config core
+  pub is_of : IsOf s core
+  pub took : core.taken ≡ taken
+  pub outside : core.outside ≡ out
+
+-- ---- each call keeps it
+
+abbrev pub fresh_state : Config → State
+fresh_state g = record { config = g; clock = 0; taken = 0; requests = 0; held = []; flying = []; reports = []; applied = 0; already = 0 }
+
+-- a lane that took nothing fits an outside in which nothing was sent and every stored version is below its first
+abbrev pub FreshFits : Type 0
+FreshFits =
+    (g : Config) (out : Outside) → IsOpening out → ((k : Document) (u : ℕ) → out.stored k ≡ Some u → u < g.first) →
+    Fits (fresh_state g) [] out
+
+-- a tick changes the clock alone
+abbrev pub ClockFits : Type 0
+ClockFits = (s : State) (clock : ℕ) (taken : List Op) (out : Outside) → Fits s taken out → Fits (record s { clock = clock }) taken out
+
+abbrev pub TakeFits : Type 0
+TakeFits = (s : State) (o : Op) (bytes : ℕ) (taken : List Op) (out : Outside) → Fits s taken out → Fits (taken_op s o bytes) (taken ++ o ∷ []) out
+
+-- some of the candidates are sent
+abbrev pub SendFits : Type 0
+SendFits =
+    (s : State) (chosen : List Entry) (taken : List Op) (out : Outside) → IsSubsequence chosen (candidates s) → Fits s taken out →
+    Fits (sent s chosen) taken (after (Sends (writes_of_all chosen)) out)
+
+-- an item is run meanwhile
+abbrev pub RunFits : Type 0
+RunFits = (s : State) (r : Ran) (taken : List Op) (out : Outside) → MayRun out r → Fits s taken out → Fits s taken (after (Runs r) out)
+
+abbrev pub AnswerFits : Type 0
+AnswerFits =
+    (s : State) (number : ℕ) (a : Answer) (taken : List Op) (out : Outside) → is_flying number s ≡ true →
+    MayAnswer out (from_zero number) a → Fits s taken out →
+    Fits (answered s number a) taken (after (Answers (from_zero number) a) out)
+
+-- ---- what is promised of a lane and an outside that it fits
+
+abbrev pub SoundWhereItFits : Type 0
+SoundWhereItFits =
+    (s : State) (taken : List Op) (out : Outside) → Fits s taken out → HasDistinctNames taken →
+    IsSound s.config taken s.reports out (attributed s.config taken out)
+
+abbrev pub CompleteWhereItFits : Type 0
+CompleteWhereItFits =
+    (s : State) (taken : List Op) (out : Outside) → Fits s taken out → HasDistinctNames taken → s.held ≡ [] →
+    IsComplete taken s.reports (attributed s.config taken out)
+
+-- each operation is held, done or reported, and the counts are those of what was taken and sent
+abbrev pub TotalWhereItFits : Type 0
+TotalWhereItFits =
+    (s : State) (taken : List Op) (out : Outside) → Fits s taken out →
+    (s.taken ≡ length taken) × (s.requests ≡ length out.requests)
+    × (length s.held + (s.applied + s.already) + length s.reports ≡ s.taken)
+
+-- each write that was sent is that of an operation that it took, under the version that was dealt at its take
+abbrev pub WritesWhereItFits : Type 0
+WritesWhereItFits =
+    (s : State) (taken : List Op) (out : Outside) → Fits s taken out → (q : Request) → Mem q out.requests → (w : Write) →
+    Mem w q.writes → IsDealtWrite s.config taken w
+
+-- of a document one operation flies at a time, the earliest that is held
+abbrev pub EarliestWhereItFits : Type 0
+EarliestWhereItFits =
+    (s : State) (taken : List Op) (out : Outside) → Fits s taken out → (e d : Entry) (f : Place) → Mem e s.held → Mem d s.held →
+    e.held.flies ≡ Some f → document_of d.held.op.key ≡ document_of e.held.op.key → e.held.version ≤ d.held.version
+
+abbrev pub OneFliesWhereItFits : Type 0
+OneFliesWhereItFits =
+    (s : State) (taken : List Op) (out : Outside) → Fits s taken out → (e d : Entry) (f g : Place) → Mem e s.held →
+    Mem d s.held → e.held.flies ≡ Some f → d.held.flies ≡ Some g →
+    document_of d.held.op.key ≡ document_of e.held.op.key → e.held ≡ d.held
+
+-- ---- how many requests it sends
+
+-- the tries that are left to what it holds
+abbrev pub tries_of : State → ℕ
+tries_of s = tries_left s.config.max (held_of s.held)
+
+-- a request takes one of them at least, and no answer gives one back
+abbrev pub SendTakesTry : Type 0
+SendTakesTry =
+    (s : State) (chosen : List Entry) (taken : List Op) (out : Outside) → 0 < s.config.max → chosen ≢ [] →
+    IsSubsequence chosen (candidates s) → Fits s taken out → tries_of (sent s chosen) + 1 ≤ tries_of s
+
+abbrev pub AnswerGivesNoTry : Type 0
+AnswerGivesNoTry = (s : State) (number : ℕ) (a : Answer) → tries_of (answered s number a) ≤ tries_of s

@@ -1,0 +1,12 @@
+pub mod Attribution
+pub mod Causes
+pub mod Machine
+pub mod Delivery
+pub mod Bound
+pub mod Lane
+pub mod Lanes
+pub mod Together
+pub mod Restarts
+pub mod Schedules
+pub mod Worked
+pub mod Laws

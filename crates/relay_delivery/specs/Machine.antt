@@ -1,0 +1,249 @@
+-- A lane as delivery sees it, beside what stands outside: what it took, what it holds and what it reported. It has no
+-- clock, batch, limit or queue: they only decide which of these steps are made, and when.
+use Rattle.std.specs.Prelude.{◌≡◌, ℕ, suc, ◌+◌, ◌<◌, ◌≤◌, List, [], ◌∷◌, ◌++◌, Option, Some, None, option_map, slice_get, Bool, true, false, ◌==◌, nat_lt, if◌then◌else◌, map, length}
+use Rattle.relay_action.specs.Actions.{kind_of}
+use Rattle.relay_action.specs.declared.write.Write.{Write}
+use Rattle.relay_action.specs.declared.operation.Op.{Op}
+use Rattle.relay_action.specs.declared.operation.OpName.{OpName}
+use Rattle.relay_results.specs.declared.cause.Cause.{Cause}
+use Rattle.relay_results.specs.declared.cause.Cause.TheVariants.{Spent}
+use Rattle.relay_results.specs.Words.{Mem, AllDistinct, count}
+use Rattle.relay_results.specs.Documents.{Document, document_of, name_of, write_for}
+use Rattle.relay_results.specs.Outside.{Answer, Request, writes_of, Ran, Outside, IsOpening, MayRun, MayAnswer, after}
+use Rattle.relay_results.specs.Outside as outside
+use Rattle.relay_results.specs.Fates.{Fate, Flies, Applied, Already, Retried, Reported, fate}
+
+-- ---- what a lane has
+
+-- the first version that it deals, how many it deals, and how many tries an operation has
+pub record Config : Type 0 where
+  pub first : ℕ
+  pub deals : ℕ
+  pub max : ℕ
+
+-- the version that is dealt at a place of what is taken
+abbrev pub version_at : Config → ℕ → ℕ
+version_at g place = g.first + place
+
+-- a place of a request; both are counted from 0
+pub record Place : Type 0 where
+  pub request : ℕ
+  pub place : ℕ
+
+-- an operation that is neither done nor reported: the version that it was dealt, how many requests carried it, how many of
+-- them count as tries, and where it flies, if it does
+pub record Held : Type 0 where
+  pub op : Op
+  pub version : ℕ
+  pub sends : ℕ
+  pub attempts : ℕ
+  pub flies : Option Place
+
+abbrev pub write_of : Held → Write
+write_of h = write_for h.op h.version
+
+pub record Report : Type 0 where
+  pub name : OpName
+  pub document : Document
+  pub cause : Cause
+
+abbrev pub report_on : Op → Cause → Report
+report_on o cause = record { name = name_of o; document = document_of o.key; cause = cause }
+
+-- All operations that were taken, in order; those that are held; the reports, in order; how many ended as applied, by the
+-- answer and by an earlier request; and what stands outside.
+pub record Core : Type 0 where
+  pub taken : List Op
+  pub held : List Held
+  pub reports : List Report
+  pub applied : ℕ
+  pub already : ℕ
+  pub outside : Outside
+
+-- ---- an operation is taken
+
+abbrev pub held_at : Config → ℕ → Op → Held
+held_at g place o = record { op = o; version = version_at g place; sends = 0; attempts = 0; flies = None }
+
+-- it is held where a version is left for it, and else reported
+abbrev pub held_if : Bool → Config → ℕ → Op → List Held
+held_if true g place o = held_at g place o ∷ []
+held_if false g place o = []
+
+abbrev pub spent_if : Bool → Op → List Report
+spent_if true o = []
+spent_if false o = report_on o Spent ∷ []
+
+abbrev pub take : Config → Op → Core → Core
+take g o c = record {
+  taken = c.taken ++ o ∷ [];
+  held = c.held ++ held_if (nat_lt (length c.taken) g.deals) g (length c.taken) o;
+  reports = c.reports ++ spent_if (nat_lt (length c.taken) g.deals) o;
+  applied = c.applied;
+  already = c.already;
+  outside = c.outside;
+}
+
+-- ---- a request is sent
+
+-- it waits, and no held operation of its document has a lower version
+pub record IsEligible (held : List Held) (h : Held) : Type 0 where
+  pub is_held : Mem h held
+  pub waits : h.flies ≡ None
+  pub first : (j : Held) → Mem j held → document_of j.op.key ≡ document_of h.op.key → h.version ≤ j.version
+
+-- any eligible operations may be sent as one request, in any order
+pub record MaySend (c : Core) (chosen : List Held) : Type 0 where
+  pub eligible : (h : Held) → Mem h chosen → IsEligible c.held h
+  pub distinct : AllDistinct (map (λ (h : Held). h.version) chosen)
+
+-- the place among them of the operation with a version
+abbrev pub place_of : ℕ → List Held → Option ℕ
+place_of version [] = None
+place_of version (h ∷ hs) = if h.version == version then Some 0 else option_map suc (place_of version hs)
+
+-- each of them flies, is sent once more, and has one try more
+abbrev pub launched_at : ℕ → Held → Option ℕ → Held
+launched_at number h None = h
+launched_at number h (Some place) = record {
+  op = h.op;
+  version = h.version;
+  sends = h.sends + 1;
+  attempts = h.attempts + 1;
+  flies = Some (record { request = number; place = place });
+}
+
+abbrev pub launched : ℕ → List Held → Held → Held
+launched number chosen h = launched_at number h (place_of h.version chosen)
+
+abbrev pub send : List Held → Core → Core
+send chosen c = record {
+  taken = c.taken;
+  held = map (launched (length c.outside.requests) chosen) c.held;
+  reports = c.reports;
+  applied = c.applied;
+  already = c.already;
+  outside = after (outside.Sends (map write_of chosen)) c.outside;
+}
+
+-- ---- a request is answered
+
+-- what becomes of a held operation; one that does not fly in this request stays as it is
+abbrev pub fate_of : Config → ℕ → List Write → Answer → Held → Option Place → Fate
+fate_of g number ws a h None = Flies
+fate_of g number ws a h (Some f) =
+    if f.request == number
+    then fate (record { sends = h.sends; attempts = h.attempts; max = g.max }) ws f.place (kind_of h.op.action) a
+    else Flies
+
+-- it waits to be sent again
+abbrev pub landed : Held → Held
+landed h = record { op = h.op; version = h.version; sends = h.sends; attempts = h.attempts; flies = None }
+
+abbrev pub kept_one : Fate → Held → List Held
+kept_one Flies h = h ∷ []
+kept_one Applied h = []
+kept_one Already h = []
+kept_one Retried h = landed h ∷ []
+kept_one (Reported cause) h = []
+
+abbrev pub reported_one : Fate → Held → List Report
+reported_one Flies h = []
+reported_one Applied h = []
+reported_one Already h = []
+reported_one Retried h = []
+reported_one (Reported cause) h = report_on h.op cause ∷ []
+
+abbrev pub kept : Config → ℕ → List Write → Answer → List Held → List Held
+kept g number ws a [] = []
+kept g number ws a (h ∷ hs) = kept_one (fate_of g number ws a h h.flies) h ++ kept g number ws a hs
+
+abbrev pub reported : Config → ℕ → List Write → Answer → List Held → List Report
+reported g number ws a [] = []
+reported g number ws a (h ∷ hs) = reported_one (fate_of g number ws a h h.flies) h ++ reported g number ws a hs
+
+abbrev pub is_applied_fate : Fate → Bool
+is_applied_fate Flies = false
+is_applied_fate Applied = true
+is_applied_fate Already = false
+is_applied_fate Retried = false
+is_applied_fate (Reported cause) = false
+
+abbrev pub is_already_fate : Fate → Bool
+is_already_fate Flies = false
+is_already_fate Applied = false
+is_already_fate Already = true
+is_already_fate Retried = false
+is_already_fate (Reported cause) = false
+
+abbrev pub how_many : (Fate → Bool) → Config → ℕ → List Write → Answer → List Held → ℕ
+how_many test g number ws a hs = count (λ (h : Held). test (fate_of g number ws a h h.flies)) hs
+
+abbrev pub writes_or : Option Request → List Write
+writes_or None = []
+writes_or (Some q) = writes_of q
+
+abbrev pub settle : Config → ℕ → Answer → Core → Core
+settle g number a c = record {
+  taken = c.taken;
+  held = kept g number (writes_or (slice_get c.outside.requests number)) a c.held;
+  reports = c.reports ++ reported g number (writes_or (slice_get c.outside.requests number)) a c.held;
+  applied = c.applied + how_many is_applied_fate g number (writes_or (slice_get c.outside.requests number)) a c.held;
+  already = c.already + how_many is_already_fate g number (writes_or (slice_get c.outside.requests number)) a c.held;
+  outside = after (outside.Answers number a) c.outside;
+}
+
+-- ---- steps
+
+-- an operation is taken, held operations are sent as one request, an item of a request is run, or a request is answered
+pub data Step : Type 0 where
+  Takes : Op → Step
+  Sends : List Held → Step
+  Runs : Ran → Step
+  Answers : ℕ → Answer → Step
+
+abbrev pub with_outside : Core → Outside → Core
+with_outside c s = record { taken = c.taken; held = c.held; reports = c.reports; applied = c.applied; already = c.already; outside = s }
+
+abbrev pub step : Config → Step → Core → Core
+step g (Takes o) c = take g o c
+step g (Sends chosen) c = send chosen c
+step g (Runs r) c = with_outside c (after (outside.Runs r) c.outside)
+step g (Answers number a) c = settle g number a c
+
+-- An operation may be taken at any time; any eligible operations may be sent; any item of any sent request may be run; and
+-- a request in flight may be given an honest answer.
+abbrev pub MayStep : Step → Core → Type 0
+MayStep (Takes o) c = Unit {0}
+MayStep (Sends chosen) c = MaySend c chosen
+MayStep (Runs r) c = MayRun c.outside r
+MayStep (Answers number a) c = MayAnswer c.outside number a
+
+-- steps one after another
+abbrev pub steps_of : Config → List Step → Core → Core
+steps_of g [] c = c
+steps_of g (s ∷ ss) c = steps_of g ss (step g s c)
+
+abbrev pub AllMayStep : Config → List Step → Core → Type 0
+AllMayStep g [] c = Unit {0}
+AllMayStep g (s ∷ ss) c = MayStep s c × AllMayStep g ss (step g s c)
+
+-- ---- a fresh lane, and what comes of it
+
+-- nothing was taken and nothing sent, and each version that is stored is below the first one dealt
+pub record IsFresh (g : Config) (c : Core) : Type 0 where
+  pub taken : c.taken ≡ []
+  pub held : c.held ≡ []
+  pub reports : c.reports ≡ []
+  pub applied : c.applied ≡ 0
+  pub already : c.already ≡ 0
+  pub opening : IsOpening c.outside
+  pub below : (k : Document) (u : ℕ) → c.outside.stored k ≡ Some u → u < g.first
+
+-- it came about by steps that may happen, from a fresh lane on
+pub record CameAbout (g : Config) (c : Core) : Type 0 where
+  pub start : Core
+  pub fresh : IsFresh g start
+  pub steps : List Step
+  pub may : AllMayStep g steps start
+  pub reached : steps_of g steps start ≡ c

@@ -1,0 +1,213 @@
+-- Worked schedules, of any document and any source: what is sent, run and answered, what is applied then, and what
+-- becomes of the operations.
+use Rattle.std.specs.Prelude.{◌≡◌, ℕ, List, [], ◌∷◌, Some, None, false, codes, filter}
+use Rattle.relay_action.specs.Actions.{kind_of}
+use Rattle.relay_action.specs.declared.key.DocKey.{DocKey}
+use Rattle.relay_action.specs.declared.action.Source.{Source}
+use Rattle.relay_action.specs.declared.action.Action.{Action}
+use Rattle.relay_action.specs.declared.action.Action.TheVariants.{Index, Delete}
+use Rattle.relay_action.specs.declared.write.Write.{Write}
+use Rattle.relay_action.specs.declared.operation.Op.{Op}
+use Rattle.relay_results.specs.declared.cause.Cause.TheVariants as cause
+use Rattle.relay_results.specs.declared.outcome.Outcome.{Outcome}
+use Rattle.relay_results.specs.Documents.{Document, document_of, same_document, write_for}
+use Rattle.relay_results.specs.Outside.{Answer, Items, Whole, Lost, Ran, Outside, Event, Sends, Runs, Answers, after_all, AllMayHappen}
+use Rattle.relay_results.specs.Fates.{Fate, Tries, fate}
+use Rattle.relay_results.specs.Fates as of
+use Rattle.relay_delivery.specs.Attribution.{IsAttribution, IsInProducerOrder, is_from}
+use Rattle.relay_delivery.specs.Causes.{Terms, IsTrueCause}
+
+-- ---- the words of a schedule
+
+-- nothing was sent, and the index has nothing
+abbrev pub nothing : Outside
+nothing = record { requests = []; runs = []; stored = λ k. None; before = λ k. []; applied = λ k. [] }
+
+-- what stands outside after these events
+abbrev pub end_of : List Event → Outside
+end_of events = after_all events nothing
+
+-- an operation of producer 0 with this number
+abbrev pub op : ℕ → DocKey → Action → Op
+op number key action = record { producer = 0; number = number; key = key; action = action }
+
+-- the accepted lists, where these operations were accepted in this order
+abbrev pub accepted_of : List Op → ℕ → List Op
+accepted_of ops p = filter (is_from p) ops
+
+-- a run without an error, and with one; requests and places are counted from 0
+abbrev pub ran : ℕ → ℕ → ℕ → Ran
+ran request place status = record { request = request; place = place; outcome = record { status = status; error = None } }
+
+abbrev pub failed : ℕ → ℕ → ℕ → List ℕ → Ran
+failed request place status error = record {
+  request = request;
+  place = place;
+  outcome = record { status = status; error = Some error };
+}
+
+-- the entry of a reply for a write, without an error and with one
+abbrev pub entry : Write → ℕ → Outcome
+entry w status = record { kind = kind_of w.action; id = w.key.id; status = status; error = None }
+
+abbrev pub failed_entry : Write → ℕ → List ℕ → Outcome
+failed_entry w status error = record { kind = kind_of w.action; id = w.key.id; status = status; error = Some error }
+
+abbrev pub conflict : List ℕ
+conflict = codes "version_conflict_engine_exception"
+
+abbrev pub busy : List ℕ
+busy = codes "rejected_execution_exception"
+
+abbrev pub refusal : List ℕ
+refusal = codes "mapper_parsing_exception"
+
+-- an operation that so many requests carried, all of them tries, of which it may have so many
+abbrev pub tried : ℕ → ℕ → Tries
+tried sends max = record { sends = sends; attempts = sends; max = max }
+
+-- so many tries, so many versions that the lane deals, and so many Puts that it took
+abbrev pub terms : ℕ → ℕ → ℕ → Terms
+terms max deals taken = record { max = max; deals = deals; taken = taken }
+
+-- Each of the events may happen, from nothing; at their end these writes are applied to the document, and they are those
+-- of these operations, each producer's in its order.
+pub record Plays (accepted : List Op) (events : List Event) (k : Document) (writes : List Write) (ops : List Op) : Type 0 where
+  pub may : AllMayHappen events nothing
+  pub applied : (end_of events).applied k ≡ writes
+  pub attribution : IsAttribution (accepted_of accepted) k writes ops
+  pub in_order : IsInProducerOrder (accepted_of accepted) ops
+
+-- what the answer of a sent request makes of the item at a place
+abbrev pub becomes : Tries → List Write → ℕ → Action → Answer → Fate → Type 0
+becomes t ws place action answer f = fate t ws place (kind_of action) answer ≡ f
+
+-- ---- one operation
+
+-- applied by the first request, whose reply is lost; the repeat meets its own version
+abbrev pub lost_then_conflict : Write → List Event
+lost_then_conflict w =
+    Sends (w ∷ []) ∷ Runs (ran 0 0 201) ∷ Answers 0 Lost
+    ∷ Sends (w ∷ []) ∷ Runs (failed 1 0 409 conflict) ∷ Answers 1 (Items (failed_entry w 409 conflict ∷ []))
+    ∷ []
+
+abbrev pub LostThenAlready : Type 0
+LostThenAlready = (key : DocKey) (source : Source) →
+    let o = op 1 key (Index source) in let w = write_for o 1 in
+    Plays (o ∷ []) (lost_then_conflict w) (document_of key) (w ∷ []) (o ∷ [])
+    × becomes (tried 1 3) (w ∷ []) 0 (Index source) Lost of.Retried
+    × becomes (tried 2 3) (w ∷ []) 0 (Index source) (Items (failed_entry w 409 conflict ∷ [])) of.Already
+
+-- the first request is lost before it is run; the second is applied, and then the first is run late
+abbrev pub lost_then_late : Write → List Event
+lost_then_late w =
+    Sends (w ∷ []) ∷ Answers 0 Lost ∷ Sends (w ∷ []) ∷ Runs (ran 1 0 201) ∷ Runs (failed 0 0 409 conflict)
+    ∷ Answers 1 (Items (entry w 201 ∷ []))
+    ∷ []
+
+abbrev pub LateRunChangesNothing : Type 0
+LateRunChangesNothing = (key : DocKey) (source : Source) →
+    let o = op 1 key (Index source) in let w = write_for o 1 in
+    Plays (o ∷ []) (lost_then_late w) (document_of key) (w ∷ []) (o ∷ [])
+    × becomes (tried 2 3) (w ∷ []) 0 (Index source) (Items (entry w 201 ∷ [])) of.Applied
+
+-- one request is run twice: which of its runs is answered decides
+abbrev pub run_twice : Write → Answer → List Event
+run_twice w answer = Sends (w ∷ []) ∷ Runs (ran 0 0 404) ∷ Runs (failed 0 0 409 conflict) ∷ Answers 0 answer ∷ []
+
+abbrev pub RunTwice : Type 0
+RunTwice = (key : DocKey) →
+    let o = op 1 key Delete in let w = write_for o 1 in
+    let second = Items (failed_entry w 409 conflict ∷ []) in let first = Items (entry w 404 ∷ []) in
+    Plays (o ∷ []) (run_twice w second) (document_of key) (w ∷ []) (o ∷ [])
+    × becomes (tried 1 3) (w ∷ []) 0 Delete second (of.Reported cause.Conflict)
+    × IsTrueCause (terms 3 1000 1) (end_of (run_twice w second)) o (Some 1) cause.Conflict
+    × Plays (o ∷ []) (run_twice w first) (document_of key) (w ∷ []) (o ∷ [])
+    × becomes (tried 1 3) (w ∷ []) 0 Delete first of.Applied
+
+-- a request whose item the index refuses, and one that is answered as a whole
+abbrev pub refused : Write → List Event
+refused w = Sends (w ∷ []) ∷ Runs (failed 0 0 400 refusal) ∷ Answers 0 (Items (failed_entry w 400 refusal ∷ [])) ∷ []
+
+abbrev pub answered_whole : Write → ℕ → List Event
+answered_whole w status = Sends (w ∷ []) ∷ Answers 0 (Whole status) ∷ []
+
+abbrev pub RefusedOrRejected : Type 0
+RefusedOrRejected = (key : DocKey) (source : Source) →
+    let o = op 1 key (Index source) in let w = write_for o 1 in
+    Plays (o ∷ []) (refused w) (document_of key) [] []
+    × becomes (tried 1 3) (w ∷ []) 0 (Index source) (Items (failed_entry w 400 refusal ∷ [])) (of.Reported (cause.Refused 400 refusal))
+    × IsTrueCause (terms 3 1000 1) (end_of (refused w)) o (Some 1) (cause.Refused 400 refusal)
+    × Plays (o ∷ []) (answered_whole w 401) (document_of key) [] []
+    × becomes (tried 1 3) (w ∷ []) 0 (Index source) (Whole 401) (of.Reported (cause.Request 401))
+    × IsTrueCause (terms 3 1000 1) (end_of (answered_whole w 401)) o (Some 1) (cause.Request 401)
+    × Plays (o ∷ []) (answered_whole w 503) (document_of key) [] []
+    × becomes (tried 1 3) (w ∷ []) 0 (Index source) (Whole 503) of.Retried
+
+-- no version was left for it, and it was never sent
+abbrev pub NoVersionLeft : Type 0
+NoVersionLeft = (key : DocKey) →
+    IsTrueCause (terms 3 1 2) nothing (op 2 key Delete) None cause.Spent
+
+-- ---- two operations of one document
+
+-- the first is refused once, since the index is busy, and sent again; the second is sent after it
+abbrev pub busy_then_next : Write → Write → List Event
+busy_then_next w x =
+    Sends (w ∷ []) ∷ Runs (failed 0 0 429 busy) ∷ Answers 0 (Items (failed_entry w 429 busy ∷ []))
+    ∷ Sends (w ∷ []) ∷ Runs (ran 1 0 201) ∷ Answers 1 (Items (entry w 201 ∷ []))
+    ∷ Sends (x ∷ []) ∷ Runs (ran 2 0 200) ∷ Answers 2 (Items (entry x 200 ∷ []))
+    ∷ []
+
+abbrev pub BusyThenNext : Type 0
+BusyThenNext = (key : DocKey) (source other : Source) →
+    let o = op 1 key (Index source) in let p = op 2 key (Index other) in
+    let w = write_for o 1 in let x = write_for p 2 in
+    Plays (o ∷ p ∷ []) (busy_then_next w x) (document_of key) (w ∷ x ∷ []) (o ∷ p ∷ [])
+    × becomes (tried 1 3) (w ∷ []) 0 (Index source) (Items (failed_entry w 429 busy ∷ [])) of.Retried
+    × becomes (tried 2 3) (w ∷ []) 0 (Index source) (Items (entry w 201 ∷ [])) of.Applied
+    × becomes (tried 1 3) (x ∷ []) 0 (Index other) (Items (entry x 200 ∷ [])) of.Applied
+
+-- both replies of the first are lost, and it is given up after two tries; its first request is run late, before the second
+-- operation, and its second request after it
+abbrev pub given_up_then_next : Write → Write → List Event
+given_up_then_next w x =
+    Sends (w ∷ []) ∷ Answers 0 Lost ∷ Sends (w ∷ []) ∷ Answers 1 Lost
+    ∷ Runs (ran 0 0 201)
+    ∷ Sends (x ∷ []) ∷ Runs (ran 2 0 200) ∷ Runs (failed 1 0 409 conflict) ∷ Answers 2 (Items (entry x 200 ∷ []))
+    ∷ []
+
+abbrev pub GivenUpAndApplied : Type 0
+GivenUpAndApplied = (key : DocKey) (source : Source) →
+    let o = op 1 key (Index source) in let p = op 2 key Delete in
+    let w = write_for o 1 in let x = write_for p 2 in
+    Plays (o ∷ p ∷ []) (given_up_then_next w x) (document_of key) (w ∷ x ∷ []) (o ∷ p ∷ [])
+    × becomes (tried 1 2) (w ∷ []) 0 (Index source) Lost of.Retried
+    × becomes (tried 2 2) (w ∷ []) 0 (Index source) Lost (of.Reported (cause.GaveUp 2))
+    × IsTrueCause (terms 2 1000 2) (end_of (given_up_then_next w x)) o (Some 1) (cause.GaveUp 2)
+    × becomes (tried 1 2) (x ∷ []) 0 Delete (Items (entry x 200 ∷ [])) of.Applied
+
+-- ---- three documents
+
+-- of three items one is applied, one refused since the index is busy, and one finds no document to delete; the refused one
+-- is sent again
+abbrev pub three_then_one : Write → Write → Write → List Event
+three_then_one w x y =
+    Sends (w ∷ x ∷ y ∷ []) ∷ Runs (ran 0 0 201) ∷ Runs (failed 0 1 429 busy) ∷ Runs (ran 0 2 404)
+    ∷ Answers 0 (Items (entry w 201 ∷ failed_entry x 429 busy ∷ entry y 404 ∷ []))
+    ∷ Sends (x ∷ []) ∷ Runs (ran 1 0 201) ∷ Answers 1 (Items (entry x 201 ∷ []))
+    ∷ []
+
+abbrev pub ThreeThenOne : Type 0
+ThreeThenOne = (k l m : DocKey) (source other : Source) →
+    same_document (document_of k) (document_of l) ≡ false →
+    same_document (document_of l) (document_of m) ≡ false →
+    same_document (document_of k) (document_of m) ≡ false →
+    let o = op 1 k (Index source) in let p = op 2 l (Index other) in let q = op 3 m Delete in
+    let w = write_for o 1 in let x = write_for p 2 in let y = write_for q 3 in
+    let three = Items (entry w 201 ∷ failed_entry x 429 busy ∷ entry y 404 ∷ []) in
+    Plays (o ∷ p ∷ q ∷ []) (three_then_one w x y) (document_of k) (w ∷ []) (o ∷ [])
+    × becomes (tried 1 3) (w ∷ x ∷ y ∷ []) 0 (Index source) three of.Applied
+    × becomes (tried 1 3) (w ∷ x ∷ y ∷ []) 1 (Index other) three of.Retried
+    × becomes (tried 1 3) (w ∷ x ∷ y ∷ []) 2 Delete three of.Applied
+    × becomes (tried 2 3) (x ∷ []) 0 (Index other) (Items (entry x 201 ∷ [])) of.Applied

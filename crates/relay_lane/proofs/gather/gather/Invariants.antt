@@ -1,0 +1,10 @@
+use Rattle.std.proofs.Common.{◌≡◌, ◌+◌, ◌-◌, ◌≤◌, ◌++◌, [], length, take, drop}
+use Rattle.relay_lane.specs.Walk.{items_of_kept}
+use Rattle.relay_lane.specs.Rule.{offered, closes}
+use Rattle.relay_lane.proofs.gather.gather.Given as goal
+
+abbrev pub invariant-ops : goal.invariant-ops
+invariant-ops l = record {
+  batch : offered (items_of_kept l.held l.clock (drop l.i l.held)) l.batcher ≡ offered (items_of_kept l.held l.clock l.held) (record { limits = l.fn.limits; items = [] });
+  closed : closes (items_of_kept l.held l.clock (drop l.i l.held)) l.batcher ≡ closes (items_of_kept l.held l.clock l.held) (record { limits = l.fn.limits; items = [] });
+}

@@ -1,0 +1,23 @@
+use Rattle.std.proofs.Common.{◌≡◌, List, sym, ap, ◌∙◌, length, true, false, arith, refl}
+use Rattle.std.specs.Prelude.{None, nat_lt, if◌then◌else◌}
+use Rattle.relay_lane.specs.State.{State, next_batch, all_closed}
+use Rattle.relay_lane.specs.Memory.{writes_in}
+use Rattle.relay_lane.specs.View.{seen}
+use Rattle.relay_lane.specs.Rule.{batch_of}
+use Rattle.relay_lane.specs.Walk.{items_of_kept}
+use Rattle.relay_lane.proofs.Reading.{if_ok_map, offers_seen}
+use Rattle.std.proofs.lemmas.Bool.{lt-ltb}
+use Rattle.relay_lane.proofs.lane.Lane.next_batch.Goals as goal
+
+pub returns-clause-batch : goal.returns-clause-batch
+returns-clause-batch c =
+    let a = c.self.inside in
+    let offers = offers_seen (seen a).core (writes_in a.flown.items) a.held.items refl in
+    let few : nat_lt (length a.flight.batches) a.config.in_flight ≡ true = lt-ltb _ _ (omega (arith, c.flying.ensures, c.if-flying-self.false)) in
+    if_ok_map c.due_batch.result _ _
+    (λ b e. e
+    ∙ ap (λ hs. batch_of a.clock a.mark c.closed.result a.config.limits (items_of_kept hs a.clock hs)) c.deref.ensures.value
+    ∙ (λ i. batch_of a.clock a.mark ((c.closed.ensures ∙ ap all_closed (sym c.self.view_is)) i) a.config.limits (sym offers i))
+    ∙ sym (ap (λ t. if t then batch_of a.clock a.mark (all_closed (seen a)) a.config.limits (Rattle.std.specs.Prelude.map Rattle.relay_lane.specs.Rule.item_of (Rattle.relay_delivery.specs.Lane.candidates (seen a).core)) else None) few)
+    ∙ ap next_batch c.self.view_is)
+    c.due_batch.ensures.batch

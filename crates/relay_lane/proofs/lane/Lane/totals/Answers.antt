@@ -1,0 +1,22 @@
+use Rattle.std.proofs.Common.{◌≡◌, ◌-◌, ◌+◌, ◌*◌, ◌^◌, ◌≤◌, ℕ, length, subst, sym, ap, ◌∙◌, arith, rules}
+use Rattle.std.specs.Prelude.{min}
+use Rattle.relay_lane.specs.State.{State, IsLane}
+use Rattle.relay_lane.specs.Memory.{writes_in}
+use Rattle.relay_lane.specs.View.{seen}
+use Rattle.relay_lane.proofs.Taken.{entries_length}
+use Rattle.relay_lane.proofs.lane.Lane.totals.Goals as goal
+
+pub returns-clause-lane : goal.returns-clause-lane
+returns-clause-lane c =
+    let i = c.self.inside in
+    let v = c.self.invariant in
+    let begun = v.flight.begun in
+    subst IsLane c.self.view_is (record {
+      valid = v.config;
+      config = λ j. record { first = i.config.first_version; deals = v.deals j; max = i.config.attempts };
+      senders = (let n = v.senders in omega arith);
+      held = (let n = entries_length i.held.items (writes_in i.flown.items) in let f = v.few in omega arith);
+      flying = (let w = v.flight.within in let m = v.most in omega arith);
+      next = omega (arith, begun);
+      numbers = (let l = v.left in let d = v.dealt in omega (arith, l, d, begun));
+    })

@@ -1,0 +1,9 @@
+use Rattle.relay_lane.proofs.Flights.{earlier_ones_settled}
+use Rattle.relay_lane.proofs.Forming.{items_of_operations}
+use Rattle.relay_lane.proofs.laws.requests_are_formed.Goals as goal
+
+pub returns-clause-earlier : goal.returns-clause-earlier
+returns-clause-earlier c = earlier_ones_settled
+
+pub returns-clause-items : goal.returns-clause-items
+returns-clause-items c = items_of_operations

@@ -1,0 +1,55 @@
+-- The sending rule: what is gathered of the candidates, and when it is sent.
+use Rattle.std.specs.Prelude.{ℕ, ◌+◌, List, [], ◌∷◌, ◌++◌, Option, Some, None, Bool, true, false, ◌&&◌, ◌||◌, not, nat_lt, nat_le, filter, map, length, if◌then◌else◌}
+use Rattle.std.specs.List.{list_any}
+use Rattle.relay_batch.specs.declared.item.Limits.{Limits}
+use Rattle.relay_batch.specs.declared.item.BatchItem.{BatchItem}
+use Rattle.relay_batch.specs.declared.offer.Offer.{Offer}
+use Rattle.relay_batch.specs.declared.offer.Offer.TheVariants.{Busy, Closed, Added}
+use Rattle.relay_batch.specs.Gathering.{Gathering, answer_to, is_ready}
+use Rattle.relay_results.specs.Documents.{Document, document_of, same_document, name_of}
+use Rattle.relay_delivery.specs.Lane.{Entry, State, candidates}
+
+-- by the answer to an offer
+abbrev pub by_answer : {A : Type 0} → Offer → A → A → A → A
+by_answer Busy busy closed added = busy
+by_answer Closed busy closed added = closed
+by_answer Added busy closed added = added
+
+abbrev pub with_item : BatchItem → Gathering → Gathering
+with_item i g = record g { items = g.items ++ i ∷ [] }
+
+-- the items are offered one after another until one is Closed or none is left
+abbrev pub offered : List BatchItem → Gathering → Gathering
+offered [] g = g
+offered (i ∷ is) g = by_answer (answer_to i g) (offered is g) g (offered is (with_item i g))
+
+-- an offer was Closed
+abbrev pub closes : List BatchItem → Gathering → Bool
+closes [] g = false
+closes (i ∷ is) g = by_answer (answer_to i g) (closes is g) true (closes is (with_item i g))
+
+-- its version numbers the document: nothing that is held of it is older
+abbrev pub item_of : Entry → BatchItem
+item_of e = record { name = name_of e.held.op; doc = e.held.version; version = e.held.version; bytes = e.bytes; taken_at = e.taken_at }
+
+-- those that were added
+abbrev pub chosen : List Entry → Gathering → List Entry
+chosen [] g = []
+chosen (e ∷ es) g = by_answer (answer_to (item_of e) g) (chosen es g) [] (e ∷ chosen es (with_item (item_of e) g))
+
+abbrev pub is_marked : ℕ → List BatchItem → Bool
+is_marked mark [] = false
+is_marked mark (i ∷ is) = nat_le i.version mark
+
+-- what is gathered is sent: something is, and it is ready, or an offer was Closed, or it was flushed, or the lane is closed
+abbrev pub goes : ℕ → ℕ → Bool → Gathering → Bool → Bool
+goes clock mark all_closed g closed = nat_lt 0 (length g.items) && (is_ready clock g || (closed || (is_marked mark g.items || all_closed)))
+
+abbrev pub batch_if : Bool → List BatchItem → Option (List BatchItem)
+batch_if true is = Some is
+batch_if false is = None
+
+abbrev pub batch_of : ℕ → ℕ → Bool → Limits → List BatchItem → Option (List BatchItem)
+batch_of clock mark all_closed limits is =
+    batch_if (goes clock mark all_closed (offered is (record { limits = limits; items = [] })) (closes is (record { limits = limits; items = [] })))
+    (offered is (record { limits = limits; items = [] })).items

@@ -1,0 +1,101 @@
+-- What the private steps of the readers answer, which find a line piece by piece and take a body line by line. No contract of a
+-- public function speaks of them.
+use Rattle.std.specs.Prelude.{◌≡◌, ◌≢◌, ℕ, ◌+◌, ◌<◌, ◌≤◌, ◌⊎◌, List, [], ◌∷◌, ◌++◌, length, Bool, true, false, Option, Some, None, Result, Ok, Err, slice_index, if◌then◌else◌}
+use Rattle.std.specs.Io.KnownBytes.{prepend_known, IsAtEnd}
+use Rattle.relay_action.specs.Actions.{IsIndexOf}
+use Rattle.relay_action.specs.Streams.{one_more}
+use Rattle.relay_action.specs.declared.action.Action.{Action}
+use Rattle.relay_action.specs.declared.write.Write.{Write}
+use Rattle.relay_ndjson.specs.declared.kind.InputFault.{InputFault}
+use Rattle.relay_ndjson.specs.declared.kind.LineKind.{LineKind}
+use Rattle.relay_ndjson.specs.declared.kind.LineKind.TheVariants as kind
+use Rattle.relay_ndjson.specs.declared.lines.NumberedOperation.{NumberedOperation}
+use Rattle.relay_ndjson.specs.declared.lines.Line.{Line}
+use Rattle.relay_ndjson.specs.declared.lines.Line.TheVariants as line
+use Rattle.relay_ndjson.specs.Lines.{IsUnbroken, IsRaw, IsPastLimit, IsLong, TakesText, TakesBlank, StopsInLine, is_read, line_limit}
+use Rattle.relay_ndjson.specs.Operations.{blank_limit, counted, line_count, TakesOperation, HoldsNoMore, BreaksSource, IsFault}
+use Rattle.relay_ndjson.specs.Bodies.{BeginsWithLine, IsLinesOf}
+
+-- ---- a line
+
+-- the bytes may be the start of a line: one more than its limit where that one may belong to its end
+abbrev pub IsStart : List ℕ → Type 0
+IsStart raw = (length raw ≤ line_limit + 1) × ((length raw ≡ line_limit + 1) → slice_index raw line_limit ≡ 13)
+
+-- why the last of the bytes were not added to the line
+abbrev pub IsAddFault : List ℕ → LineKind → Type 0
+IsAddFault raw k = ((k ≡ kind.LineLong) × IsPastLimit raw) ⊎ (k ≡ kind.Memory)
+
+-- what a piece gave of a line that had begun: its end, or all that it held
+abbrev pub TakesPart : List ℕ → List ℕ → List ℕ → List ℕ → Result Bool LineKind → Type 0
+TakesPart begun piece text rest (Ok true) = (raw : List ℕ) × IsUnbroken raw × IsRaw text raw × (length text ≤ line_limit) × (begun ++ piece ≡ raw ++ 10 ∷ rest)
+TakesPart begun piece text rest (Ok false) = IsUnbroken text × IsStart text × (text ≡ begun ++ piece) × (rest ≡ [])
+TakesPart begun piece text rest (Err k) = (raw : List ℕ) × (later : List ℕ) × IsUnbroken raw × (begun ++ piece ≡ raw ++ later) × IsAddFault raw k
+
+-- what a read of a line took from the front, and what line it put into the buffer
+abbrev pub TakesLine : Option (List ℕ) → Option (List ℕ) → List ℕ → Result Line LineKind → Type 0
+TakesLine old new text (Ok line.Ended) = (raw : List ℕ) × IsUnbroken raw × IsRaw text raw × (length text ≤ line_limit) × (old ≡ prepend_known (raw ++ 10 ∷ []) new)
+TakesLine old new text (Ok line.Open) = IsUnbroken text × (text ≢ []) × (length text ≤ line_limit) × (old ≡ prepend_known text new) × IsAtEnd new
+TakesLine old new text (Ok line.Absent) = IsAtEnd old × (new ≡ old)
+TakesLine old new text (Err k) = (k ≡ kind.Read) ⊎ (k ≡ kind.Memory) ⊎ ((k ≡ kind.LineLong) × IsLong old)
+
+-- where the input ends after these bytes, they are the last line, or nothing was left, or they are too many
+abbrev pub EndsLine : List ℕ → Result Line LineKind → Type 0
+EndsLine text (Ok line.Ended) = ⊥
+EndsLine text (Ok line.Open) = (text ≢ []) × (length text ≤ line_limit)
+EndsLine text (Ok line.Absent) = text ≡ []
+EndsLine text (Err k) = (k ≡ kind.LineLong) × (line_limit < length text)
+
+-- why no piece was read
+abbrev pub IsFillFault : LineKind → Type 0
+IsFillFault k = (k ≡ kind.Read) ⊎ (k ≡ kind.Memory)
+
+-- how many calls of the stream have failed after an answer
+abbrev pub failed_by : {T : Type 0} → Result T LineKind → ℕ → ℕ
+failed_by (Ok x) n = n
+failed_by (Err k) n = if is_read k then one_more n else n
+
+-- ---- an operation: whether there is a line, or an action line
+
+abbrev pub TakesNext : Option (List ℕ) → Option (List ℕ) → ℕ → ℕ → List ℕ → Result Bool InputFault → Type 0
+TakesNext old new count after text (Ok true) = TakesText old new text × (after ≡ one_more count)
+TakesNext old new count after text (Ok false) = IsAtEnd old × (new ≡ old) × (after ≡ count)
+TakesNext old new count after text (Err e) =
+    (e.line ≡ one_more count) × ((e.kind ≡ kind.Read) ⊎ (e.kind ≡ kind.Memory) ⊎ ((e.kind ≡ kind.LineLong) × IsLong old))
+
+abbrev pub SkipsBlank : Option (List ℕ) → Option (List ℕ) → ℕ → ℕ → List ℕ → Result Bool InputFault → Type 0
+SkipsBlank old new count after text (Ok true) =
+    (n : ℕ) × (mid : Option (List ℕ)) × (n ≤ blank_limit) × TakesBlank n old mid × TakesText mid new text × (text ≢ []) × (after ≡ counted (count + n + 1))
+SkipsBlank old new count after text (Ok false) = HoldsNoMore old
+SkipsBlank old new count after text (Err e) = (default : Option (List ℕ)) → IsFault default old count e
+
+-- the source line of the action on a line
+abbrev pub TakesSource : Option (List ℕ) → Option (List ℕ) → ℕ → ℕ → ℕ → Result Action InputFault → Type 0
+TakesSource old new line count after (Ok a) =
+    (text : List ℕ) × TakesText old new text × IsIndexOf text a × (after ≡ one_more count)
+TakesSource old new line count after (Err e) =
+    (e.kind ≡ kind.Read) ⊎ (e.kind ≡ kind.Memory)
+    ⊎ (IsAtEnd old × (e.kind ≡ kind.SourceMissing) × (e.line ≡ line))
+    ⊎ (BreaksSource old e.kind × (e.line ≡ one_more count))
+
+-- where the reader stopped in place of a source: in its line, or at the end, which is a fault of the action's line
+abbrev pub StopsInSource : Option (List ℕ) → Option (List ℕ) → List ℕ → ℕ → ℕ → InputFault → Type 0
+StopsInSource old new held line count e =
+    ((e.line ≡ one_more count) × StopsInLine old new held e.kind)
+    ⊎ ((e.line ≡ line) × (e.kind ≡ kind.SourceMissing) × (new ≡ old))
+
+abbrev pub Reads : Option (List ℕ) → Option (List ℕ) → Option (List ℕ) → ℕ → ℕ → Result (Option NumberedOperation) InputFault → Type 0
+Reads default old new count after (Ok (Some f)) =
+    (n : ℕ) × TakesOperation default old new n (f.key, f.action) × (f.line ≡ counted (count + n + 1)) × (after ≡ counted (count + n + line_count f.action))
+Reads default old new count after (Ok None) = HoldsNoMore old
+Reads default old new count after (Err e) = IsFault default old count e
+
+-- ---- a body
+
+-- the lines of a write stand at the front
+abbrev pub BeginsWithWrite : List ℕ → List ℕ → Write → Type 0
+BeginsWithWrite bytes rest w = (lines : List ℕ) × IsLinesOf lines w × (bytes ≡ lines ++ rest)
+
+-- a source line stands at the front, and the action stores what is on it
+abbrev pub BeginsWithSource : List ℕ → List ℕ → Action → Type 0
+BeginsWithSource bytes rest a = (text : List ℕ) × BeginsWithLine bytes rest text × IsIndexOf text a

@@ -1,0 +1,12 @@
+//! Tests of `relay_ndjson`, over its public items: bodies of bulk requests, the text of writes, the producer
+//! grammar by rows, and streams that fail.
+#![tactic(auto)]
+
+#[cfg(test)]
+mod bodies;
+#[cfg(test)]
+mod faults;
+#[cfg(test)]
+mod inputs;
+#[cfg(test)]
+mod written;

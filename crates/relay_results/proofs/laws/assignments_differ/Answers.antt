@@ -1,8 +1,0 @@
-use Rattle.relay_results.proofs.Excluded.{assigns_two, not_twice}
-use Rattle.relay_results.proofs.laws.assignments_differ.Goals as goal
-
-pub returns-clause-deals : goal.returns-clause-deals
-returns-clause-deals c = assigns_two
-
-pub returns-clause-twice : goal.returns-clause-twice
-returns-clause-twice c = not_twice

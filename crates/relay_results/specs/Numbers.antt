@@ -1,0 +1,10 @@
+-- Lanes and wires number requests from 1; what stands outside counts them from 0.
+use Rattle.std.specs.Prelude.{ℕ, ◌+◌, ◌-◌}
+
+-- the number from 1 of a request that is counted from 0
+abbrev pub from_one : ℕ → ℕ
+from_one count = count + 1
+
+-- and back
+abbrev pub from_zero : ℕ → ℕ
+from_zero number = number - 1
