@@ -3,8 +3,12 @@
 `rt ci` tells no times. So this looks at the processes below it, twice a second, and adds up the processor time of
 each crate: of its proof, of its tests and of its must-fail edits. What ends between two looks is counted up to the
 last of them. The budget of a crate is 15 processor minutes, and 20 for the largest (`docs/CONTRIBUTING.md`).
+
+What `rt ci` says is passed on as it comes. Where it fails, what it said of each failure stands once more at the end,
+below the table, where whoever sees the end of a log alone will find it.
 """
 import os
+import re
 import subprocess
 import sys
 import threading
@@ -14,6 +18,10 @@ TICKS = os.sysconf("SC_CLK_TCK")
 PARTS = ("proof", "tests", "edits")
 BUDGET, LARGEST = 15, 20
 LOOK, TELL = 0.5, 60
+# What the lines of `rt ci` on a failure have in them, and how many of them are said again.
+FAILURE = re.compile(r"NOT PROVED|NOT REFUSED|BAD EDIT|FAILED|: error|not-proved|panicked|^rt: .*(status|differ|had not ended|stopped)")
+EXPECTED = re.compile(r"refused, as it must be")
+SAID_AGAIN = 60
 
 
 class Process:
@@ -115,15 +123,30 @@ def tell(table, total):
     print("  %-24s %7.1f %7.1f %7.1f %7.1f" % ("all", *sums, total / 60))
 
 
+def pass_on(said):
+    """Prints each line as it comes, and answers those that tell of a failure."""
+    failures = []
+    for line in said:
+        print(line, end="", flush=True)
+        if FAILURE.search(line) and not EXPECTED.search(line):
+            failures.append(line.rstrip("\n"))
+    return failures
+
+
 def main():
     print("proving every crate from nothing, with its tests and must-fail edits", flush=True)
-    gate = subprocess.Popen(["rt", "ci"])
+    gate = subprocess.Popen(["rt", "ci"], stdout=subprocess.PIPE, stderr=subprocess.STDOUT, text=True, errors="replace")
     watch = Watch(gate.pid)
     watch.start()
+    failures = pass_on(gate.stdout)
     status = gate.wait()
     watch.ended.set()
     watch.join()
     tell(watch.table(), watch.total())
+    if status:
+        print("what failed:")
+        for line in failures[-SAID_AGAIN:]:
+            print("  " + line[:300])
     sys.exit(status)
 
 
