@@ -1,5 +1,5 @@
 -- Operations that are passed on one after another.
-use Rattle.std.proofs.Common.{◌≡◌, ◌≢◌, ℕ, ◌+◌, ◌-◌, ◌<◌, ◌≤◌, List, [], ◌∷◌, ◌++◌, length, Option, None, Some, Result, Ok, Err, refl, ap, sym, ◌∙◌, subst, arith, length-append}
+use Rattle.std.proofs.Common.{◌≡◌, ◌≢◌, ℕ, ◌+◌, ◌-◌, ◌<◌, ◌≤◌, List, [], ◌∷◌, ◌++◌, length, Option, None, Some, Result, Ok, Err, refl, ap, sym, ◌∙◌, subst, arith, length-append, inl, inr}
 use Rattle.relay_action.specs.declared.write.Write.{Write}
 use Rattle.relay_action.specs.Limits.{last_version}
 use Rattle.relay_ndjson.specs.Bulk.{write_text}
@@ -10,8 +10,8 @@ use Rattle.relay_ndjson.specs.declared.kind.InputFault.{InputFault}
 use Rattle.relay_ndjson.specs.declared.kind.LineKind.{LineKind}
 use Rattle.relay_ndjson.specs.declared.kind.LineKind.TheVariants as kind
 use Rattle.relay_ndjson.specs.declared.parser.Phase.TheVariants as phase
-use Rattle.relay_commands.specs.Lines.{Deals, Stops, lines_of, write_of}
-use Rattle.relay_commands.specs.Passing.{IsNoWrite, IsNumbered, IsWrite, Leaves, Passes, failed_by, fault_of, fault_of_kind}
+use Rattle.relay_commands.specs.Lines.{Deals, LacksMemory, Stops, failed_by, lines_of, write_of}
+use Rattle.relay_commands.specs.Passing.{IsNoWrite, IsNumbered, IsWrite, Leaves, Passes, fault_of, fault_of_kind}
 use Rattle.relay_commands.specs.Sending.{Moves, MovesPart, Wrote}
 use Rattle.relay_commands.specs.declared.lines.LinesFault.{LinesFault}
 use Rattle.relay_commands.specs.declared.lines.LinesFault.TheVariants as fault
@@ -23,14 +23,16 @@ pub record Underway (first version : ℕ) (old now : Reading) (before written : 
   pub ops : List Operation
   pub dealt : Deals first old now ops
   pub open_phase : now.phase ≡ phase.Open
+  pub held : length now.held ≤ piece_limit
   pub version_is : version ≡ first + length ops
   pub wrote : Wrote before written (lines_of first ops) text sent
 
-pub underway_none : (first : ℕ) (old : Reading) (before : Option (List ℕ)) (text : List ℕ) (sent : ℕ) → first ≤ last_version → old.phase ≡ phase.Open → text ≡ [] → sent ≡ 0 → Underway first first old old before before text sent
-underway_none first old before text sent within open_phase e f = record {
+pub underway_none : (first : ℕ) (old : Reading) (before : Option (List ℕ)) (text : List ℕ) (sent : ℕ) → first ≤ last_version → old.phase ≡ phase.Open → length old.held ≤ piece_limit → text ≡ [] → sent ≡ 0 → Underway first first old old before before text sent
+underway_none first old before text sent within open_phase held e f = record {
   ops = [];
   dealt = record { taken = refl; within = omega (arith, within) };
   open_phase = open_phase;
+  held = held;
   version_is = omega arith;
   wrote = subst (λ (t : List ℕ). Wrote before before [] t sent) (sym e) (subst (λ (n : ℕ). Wrote before before [] [] n) (sym f) (wrote_nothing before));
 }
@@ -41,13 +43,14 @@ underway_moved first version old now before written after text rest sent count u
   ops = u.ops;
   dealt = u.dealt;
   open_phase = u.open_phase;
+  held = u.held;
   version_is = u.version_is;
   wrote = wrote_moved before written after (lines_of first u.ops) text rest sent count u.wrote m;
 }
 
 -- one more operation was taken, and its lines were added
-pub underway_more : (first version : ℕ) (old now next : Reading) (before written : Option (List ℕ)) (text text' : List ℕ) (sent sent' : ℕ) (w : Write) → Underway first version old now before written text sent → IsWrite version now next w → text' ≡ text ++ write_text w → sent' ≡ sent → Underway first (version + 1) old next before written text' sent'
-underway_more first version old now next before written text text' sent sent' w u one e f =
+pub underway_more : (first version : ℕ) (old now next : Reading) (before written : Option (List ℕ)) (text text' : List ℕ) (sent sent' : ℕ) (w : Write) → Underway first version old now before written text sent → IsWrite version now next w → length next.held ≤ piece_limit → text' ≡ text ++ write_text w → sent' ≡ sent → Underway first (version + 1) old next before written text' sent'
+underway_more first version old now next before written text text' sent sent' w u one held e f =
     let ops = u.ops ++ one.op ∷ [] in
     let more : version + 1 ≡ first + length ops = version_more first version u.ops one.op u.version_is in
     let added : text' ≡ text ++ write_text (write_of one.op version) = e ∙ ap (λ x. text ++ write_text x) one.write in
@@ -58,6 +61,7 @@ underway_more first version old now next before written text text' sent sent' w 
         within = let a = one.within in omega (arith, more, a);
       };
       open_phase = one.next.phase;
+      held = held;
       version_is = more;
       wrote = subst (λ (n : ℕ). Wrote before written (lines_of first ops) text' n) (sym f) (wrote_more before written (lines_of first u.ops) text text' (write_text (write_of one.op version)) (lines_of first ops) sent u.wrote added (lines_of-push first version u.ops one.op u.version_is));
     }
@@ -65,34 +69,36 @@ underway_more first version old now next before written text text' sent sent' w 
 -- ---- how it stops
 
 -- a write failed
-pub stops_inside : (first version : ℕ) (old : Reading) (left : Option (List ℕ)) (failed : ℕ) (parser : Parsing) (before written after : Option (List ℕ)) (text text' : List ℕ) (sent sent' n : ℕ) → Underway first version old (reading left failed parser) before written text sent → MovesPart text sent written after n → Passes first old left failed before after text' sent' (Err (fault.Write n))
-stops_inside first version old left failed parser before written after text text' sent sent' n u m =
+pub stops_inside : (first version : ℕ) (old : Reading) (left : Option (List ℕ)) (failed : ℕ) (parser : Parsing) (before written after : Option (List ℕ)) (text text' : List ℕ) (sent sent' n : ℕ) → Underway first version old (reading left failed parser) before written text sent → MovesPart text sent written after n → failed ≡ old.failed → Passes first old left failed before after text' sent' (Err (fault.Write n))
+stops_inside first version old left failed parser before written after text text' sent sent' n u m reads =
     let p = wrote_part before written after (lines_of first u.ops) text sent n u.wrote m in record {
       ops = u.ops;
       rest = reading left failed parser;
       parser = parser;
       dealt = u.dealt;
-      stops = tt;
+      stops = inl (refl, reads);
+      held = u.held;
       written = (p.cut, p.less, p.count_is, p.written);
     }
 
 -- the end
-pub stops_at_end : (first version : ℕ) (old now : Reading) (left : Option (List ℕ)) (failed : ℕ) (parser : Parsing) (before written : Option (List ℕ)) (text text' : List ℕ) (sent sent' : ℕ) → Underway first version old now before written text sent → Ends now (reading left failed parser) → text' ≡ text → sent' ≡ sent → Passes first old left failed before written text' sent' (Ok (version - first))
-stops_at_end first version old now left failed parser before written text text' sent sent' u end e f = record {
+pub stops_at_end : (first version : ℕ) (old now : Reading) (left : Option (List ℕ)) (failed : ℕ) (parser : Parsing) (before written : Option (List ℕ)) (text text' : List ℕ) (sent sent' : ℕ) → Underway first version old now before written text sent → Ends now (reading left failed parser) → length parser.held ≤ piece_limit → text' ≡ text → sent' ≡ sent → Passes first old left failed before written text' sent' (Ok (version - first))
+stops_at_end first version old now left failed parser before written text text' sent sent' u end held e f = record {
   ops = u.ops;
   rest = now;
   parser = parser;
   dealt = u.dealt;
   stops = (end, let v = u.version_is in omega (arith, v));
+  held = held;
   written = subst (λ (t : List ℕ). Wrote before written (lines_of first u.ops) t sent') (sym e) (subst (λ (n : ℕ). Wrote before written (lines_of first u.ops) text n) (sym f) u.wrote);
 }
 
-stops_of : (first version : ℕ) (rest new : Reading) (ops : List Operation) (e : LinesFault) → IsNoWrite version rest new e → version ≡ first + length ops → first + length ops ≤ last_version + 1 → Stops first rest new ops (Err e)
-stops_of first version rest new ops (fault.Input e) h v within = h
-stops_of first version rest new ops (fault.VersionsSpent line) h v within =
+stops_of : (first failed version : ℕ) (rest new : Reading) (ops : List Operation) (e : LinesFault) → IsNoWrite version rest new e → version ≡ first + length ops → first + length ops ≤ last_version + 1 → Stops first failed rest new ops (Err e)
+stops_of first failed version rest new ops (fault.Input e) h v within = h
+stops_of first failed version rest new ops (fault.VersionsSpent line) h v within =
     let past = h.past in record { blank = h.blank; op = h.op; next = h.next; line_is = h.line_is; spent = omega (arith, v, within, past) }
-stops_of first version rest new ops (fault.Write sent) h v within = tt
-stops_of first version rest new ops fault.Memory h v within = tt
+stops_of first failed version rest new ops (fault.Write sent) h v within = absurd h
+stops_of first failed version rest new ops fault.Memory h v within = h
 
 leaves_of : (version : ℕ) (rest new : Reading) (before written : Option (List ℕ)) (all text : List ℕ) (sent : ℕ) (e : LinesFault) → IsNoWrite version rest new e → Wrote before written all text sent → Leaves before written all text sent (Err e)
 leaves_of version rest new before written all text sent (fault.Input e) h w = w
@@ -101,24 +107,29 @@ leaves_of version rest new before written all text sent (fault.Write n) h w = ab
 leaves_of version rest new before written all text sent fault.Memory h w = w
 
 -- a fault
-pub stops_at_fault : (first version : ℕ) (old now : Reading) (left : Option (List ℕ)) (failed : ℕ) (parser : Parsing) (before written : Option (List ℕ)) (text text' : List ℕ) (sent sent' : ℕ) (e : LinesFault) → Underway first version old now before written text sent → IsNoWrite version now (reading left failed parser) e → text' ≡ text → sent' ≡ sent → Passes first old left failed before written text' sent' (Err e)
-stops_at_fault first version old now left failed parser before written text text' sent sent' e u h same count = record {
+pub stops_at_fault : (first version : ℕ) (old now : Reading) (left : Option (List ℕ)) (failed : ℕ) (parser : Parsing) (before written : Option (List ℕ)) (text text' : List ℕ) (sent sent' : ℕ) (e : LinesFault) → Underway first version old now before written text sent → IsNoWrite version now (reading left failed parser) e → length parser.held ≤ piece_limit → text' ≡ text → sent' ≡ sent → Passes first old left failed before written text' sent' (Err e)
+stops_at_fault first version old now left failed parser before written text text' sent sent' e u h held same count = record {
   ops = u.ops;
   rest = now;
   parser = parser;
   dealt = u.dealt;
-  stops = stops_of first version now (reading left failed parser) u.ops e h u.version_is u.dealt.within;
+  stops = stops_of first old.failed version now (reading left failed parser) u.ops e h u.version_is u.dealt.within;
+  held = held;
   written = leaves_of version now (reading left failed parser) before written (lines_of first u.ops) text' sent' e h (subst (λ (t : List ℕ). Wrote before written (lines_of first u.ops) t sent') (sym same) (subst (λ (n : ℕ). Wrote before written (lines_of first u.ops) text n) (sym count) u.wrote));
 }
 
 -- ---- what the reader's fault is
 
-no_write_of_kind : (version : ℕ) (rest new : Reading) (e : InputFault) (k : LineKind) → k ≡ e.kind → Fails rest new e → length new.held ≤ piece_limit → IsNoWrite version rest new (fault_of_kind e k)
-no_write_of_kind version rest new e kind.Memory s f h = tt
-no_write_of_kind version rest new e other s f h = record { fault = f; held = h; not_memory = λ m. let bad : other ≡ kind.Memory = s ∙ m in cc }
+no_write_of_kind : (version : ℕ) (rest new : Reading) (e : InputFault) (k : LineKind) → k ≡ e.kind → Fails rest new e → IsNoWrite version rest new (fault_of_kind e k)
+no_write_of_kind version rest new e kind.Memory s f = inl (e, f, sym s)
+no_write_of_kind version rest new e other s f = record { fault = f; not_memory = λ m. let bad : other ≡ kind.Memory = s ∙ m in cc }
 
-pub no_write_of : (version : ℕ) (rest new : Reading) (e : InputFault) → Fails rest new e → length new.held ≤ piece_limit → IsNoWrite version rest new (fault_of e)
-no_write_of version rest new e f h = no_write_of_kind version rest new e e.kind refl f h
+pub no_write_of : (version : ℕ) (rest new : Reading) (e : InputFault) → Fails rest new e → IsNoWrite version rest new (fault_of e)
+no_write_of version rest new e f = no_write_of_kind version rest new e e.kind refl f
+
+-- the write was there, and no memory for its lines
+pub lacks_lines : (version : ℕ) (rest new : Reading) (w : Write) → IsWrite version rest new w → LacksMemory rest new
+lacks_lines version rest new w one = inr (one.blank, one.op, one.next)
 
 -- ---- what the next operation gives
 

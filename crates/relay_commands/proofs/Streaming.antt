@@ -10,7 +10,8 @@ use Rattle.relay_ndjson.specs.Reading.{Reading, Parsing, start, reading, fresh}
 use Rattle.relay_ndjson.specs.declared.parser.Phase.TheVariants as phase
 use Rattle.relay_ndjson.proofs.Pieces.{prepend_nothing}
 use Rattle.relay_commands.specs.Calls.{NoneFails, OneFails, OneAtMost, FailsOnce}
-use Rattle.relay_commands.specs.Lines.{Deals, Stops, Streams, Writes, lines_of}
+use Rattle.relay_ndjson.specs.Lines.{piece_limit}
+use Rattle.relay_commands.specs.Lines.{Concludes, Deals, IsCutOff, Streams, Writes, failed_by, lines_of}
 use Rattle.relay_commands.specs.Passing.{Passes, FailsInPass}
 use Rattle.relay_commands.specs.Sending.{BreaksOff, Closes, Finishes, FinishesOrFails, MovesPart, Wrote}
 use Rattle.relay_commands.specs.declared.lines.LinesFault.{LinesFault}
@@ -41,63 +42,68 @@ memory_fault before mid after all text sent n w m =
     let p = wrote_part before mid after all text sent n w m in (p.cut, p.written)
 
 -- a write failed while a text was written
-pub fails_inside : (first : ℕ) (old rest : Reading) (left : Option (List ℕ)) (failed : ℕ) (parser : Parsing) (before mid after : Option (List ℕ)) (ops : List Operation) (text : List ℕ) (sent n : ℕ) → Deals first old rest ops → Wrote before mid (lines_of first ops) text sent → MovesPart text sent mid after n → Streams first old left failed before after (Err (fault.Write n))
-fails_inside first old rest left failed parser before mid after ops text sent n d w m = record {
+pub fails_inside : (first : ℕ) (old rest : Reading) (left : Option (List ℕ)) (failed : ℕ) (parser : Parsing) (before mid after : Option (List ℕ)) (ops : List Operation) (text : List ℕ) (sent n : ℕ) → Deals first old rest ops → IsCutOff first old.failed rest (reading left failed parser) ops → length parser.held ≤ piece_limit → Wrote before mid (lines_of first ops) text sent → MovesPart text sent mid after n → Streams first old left failed before after (Err (fault.Write n))
+fails_inside first old rest left failed parser before mid after ops text sent n d stops held w m = record {
   ops = ops;
   rest = rest;
   parser = parser;
   dealt = d;
-  stops = tt;
+  stops = stops;
+  held = held;
   written = write_fault before mid after (lines_of first ops) text sent n w m;
 }
 
 -- the answer, or a failed write in its place
-finished : (first : ℕ) (old : Reading) (left : Option (List ℕ)) (failed : ℕ) (before mid after : Option (List ℕ)) (text : List ℕ) (sent f g : ℕ) (answer result : Result ℕ LinesFault) → (p : Passes first old left failed before mid text sent answer) → Wrote before mid (lines_of first p.ops) text sent → (after ≡ append_known before (lines_of first p.ops) → Writes before after (lines_of first p.ops) answer) → FinishesOrFails answer text sent mid f after g result → Streams first old left failed before after result
-finished first old left failed before mid after text sent f g answer result p w base (inl h) =
+finished : (first : ℕ) (old : Reading) (left : Option (List ℕ)) (failed : ℕ) (before mid after : Option (List ℕ)) (text : List ℕ) (sent f g : ℕ) (answer result : Result ℕ LinesFault) → (p : Passes first old left failed before mid text sent answer) → Concludes first p.rest (reading left failed p.parser) p.ops answer → failed ≡ failed_by answer old.failed → Wrote before mid (lines_of first p.ops) text sent → (after ≡ append_known before (lines_of first p.ops) → Writes before after (lines_of first p.ops) answer) → FinishesOrFails answer text sent mid f after g result → Streams first old left failed before after result
+finished first old left failed before mid after text sent f g answer result p ends reads w base (inl h) =
     subst (λ (r : Result ℕ LinesFault). Streams first old left failed before after r) (sym h.same) (record {
       ops = p.ops;
       rest = p.rest;
       parser = p.parser;
       dealt = p.dealt;
       stops = p.stops;
+      held = p.held;
       written = base (wrote_all before mid after (lines_of first p.ops) text sent w h.written);
     })
-finished first old left failed before mid after text sent f g answer result p w base (inr h) =
-    subst (λ (r : Result ℕ LinesFault). Streams first old left failed before after r) (sym h.2) (fails_inside first old p.rest left failed p.parser before mid after p.ops text sent h.0 p.dealt w h.1.part)
+finished first old left failed before mid after text sent f g answer result p ends reads w base (inr h) =
+    subst (λ (r : Result ℕ LinesFault). Streams first old left failed before after r) (sym h.2) (fails_inside first old p.rest left failed p.parser before mid after p.ops text sent h.0 p.dealt (inr (answer, ends, reads)) p.held w h.1.part)
 
 -- what was passed on, and then closed
-pub closed : (first : ℕ) (old : Reading) (left : Option (List ℕ)) (failed : ℕ) (before mid after : Option (List ℕ)) (text : List ℕ) (sent f g : ℕ) (answer result : Result ℕ LinesFault) → Passes first old left failed before mid text sent answer → Closes answer text sent mid f after g result → Streams first old left failed before after result
-closed first old left failed before mid after text sent f g (Ok n) result p c =
-    finished first old left failed before mid after text sent f g (Ok n) result p p.written (λ e. e) c
-closed first old left failed before mid after text sent f g (Err (fault.Input e)) result p c =
-    finished first old left failed before mid after text sent f g (Err (fault.Input e)) result p p.written (λ w. w) c
-closed first old left failed before mid after text sent f g (Err (fault.VersionsSpent line)) result p c =
-    finished first old left failed before mid after text sent f g (Err (fault.VersionsSpent line)) result p p.written (λ w. w) c
-closed first old left failed before mid after text sent f g (Err (fault.Write m)) result p c =
+pub closed : (first : ℕ) (old : Reading) (left : Option (List ℕ)) (failed : ℕ) (before mid after : Option (List ℕ)) (text : List ℕ) (sent e f g : ℕ) (answer result : Result ℕ LinesFault) → Passes first old left failed before mid text sent answer → FailsInPass old.failed failed e f answer → Closes answer text sent mid f after g result → Streams first old left failed before after result
+closed first old left failed before mid after text sent e f g (Ok n) result p calls c =
+    finished first old left failed before mid after text sent f g (Ok n) result p p.stops calls.0 p.written (λ w. w) c
+closed first old left failed before mid after text sent e f g (Err (fault.Input i)) result p calls c =
+    finished first old left failed before mid after text sent f g (Err (fault.Input i)) result p p.stops calls.0 p.written (λ w. w) c
+closed first old left failed before mid after text sent e f g (Err (fault.VersionsSpent line)) result p calls c =
+    finished first old left failed before mid after text sent f g (Err (fault.VersionsSpent line)) result p p.stops calls.0 p.written (λ w. w) c
+closed first old left failed before mid after text sent e f g (Err (fault.Write m)) result p calls c =
     subst (λ (r : Result ℕ LinesFault). Streams first old left failed before after r) (sym c.0) (record {
       ops = p.ops;
       rest = p.rest;
       parser = p.parser;
       dealt = p.dealt;
-      stops = tt;
+      stops = p.stops;
+      held = p.held;
       written = subst (λ (w : Option (List ℕ)). Writes before w (lines_of first p.ops) (Err (fault.Write m))) (sym c.1) p.written;
     })
-closed first old left failed before mid after text sent f g (Err fault.Memory) result p (inl h) =
+closed first old left failed before mid after text sent e f g (Err fault.Memory) result p calls (inl h) =
     subst (λ (r : Result ℕ LinesFault). Streams first old left failed before after r) (sym h.same) (record {
       ops = p.ops;
       rest = p.rest;
       parser = p.parser;
       dealt = p.dealt;
-      stops = tt;
+      stops = p.stops;
+      held = p.held;
       written = some_of_all before after (lines_of first p.ops) (wrote_all before mid after (lines_of first p.ops) text sent p.written h.written);
     })
-closed first old left failed before mid after text sent f g (Err fault.Memory) result p (inr h) =
+closed first old left failed before mid after text sent e f g (Err fault.Memory) result p calls (inr h) =
     subst (λ (r : Result ℕ LinesFault). Streams first old left failed before after r) (sym h.2) (record {
       ops = p.ops;
       rest = p.rest;
       parser = p.parser;
       dealt = p.dealt;
-      stops = tt;
+      stops = p.stops;
+      held = p.held;
       written = memory_fault before mid after (lines_of first p.ops) text sent h.0 p.written h.1.part;
     })
 

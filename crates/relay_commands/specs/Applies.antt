@@ -19,6 +19,12 @@ pub record GivesBody (old new : Option (List ℕ)) (body : List ℕ) : Type 0 wh
   pub taken : old ≡ prepend_known body new
   pub ended : IsAtEnd new
 
+-- no more was taken from the reader than shows that a body is too long
+pub record TakesSome (old new : Option (List ℕ)) : Type 0 where
+  pub bytes : List ℕ
+  pub within : length bytes ≤ body_limit + 1
+  pub taken : old ≡ prepend_known bytes new
+
 -- one byte more than a body may have was taken from the reader, and no more
 pub record PassesLimit (old new : Option (List ℕ)) : Type 0 where
   pub bytes : List ℕ
@@ -48,8 +54,8 @@ abbrev pub Applies : {T : Type 0} → Plan → Option (List ℕ) → Option (Lis
 Applies plan old new before after (Ok x) =
     (body : List ℕ) × (out : List ℕ) × GivesBody old new body × IsOutput plan body out × (after ≡ append_known before out)
 Applies plan old new before after (Err fault.BodyLong) = PassesLimit old new × (after ≡ before)
-Applies plan old new before after (Err fault.Read) = after ≡ before
+Applies plan old new before after (Err fault.Read) = TakesSome old new × (after ≡ before)
 Applies plan old new before after (Err (fault.Write sent)) =
     (body : List ℕ) × (out : List ℕ) × GivesBody old new body × IsOutput plan body out × (sent < length out)
     × (after ≡ append_known before (take sent out))
-Applies plan old new before after (Err fault.Memory) = after ≡ before
+Applies plan old new before after (Err fault.Memory) = TakesSome old new × (after ≡ before)

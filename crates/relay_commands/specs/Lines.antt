@@ -1,11 +1,11 @@
 -- What `relay lines` reads of a producer's lines, and what it writes for them.
-use Rattle.std.specs.Prelude.{◌≡◌, ◌≢◌, ℕ, ◌+◌, ◌<◌, ◌≤◌, min, List, [], ◌∷◌, length, take, Option, Result, Ok, Err}
+use Rattle.std.specs.Prelude.{◌≡◌, ◌≢◌, ◌⊎◌, ℕ, ◌+◌, ◌<◌, ◌≤◌, min, List, [], ◌∷◌, length, take, Option, Result, Ok, Err, if◌then◌else◌}
 use Rattle.std.specs.Io.KnownBytes.{append_known}
-use Rattle.relay_action.specs.Streams.{most}
+use Rattle.relay_action.specs.Streams.{most, one_more}
 use Rattle.relay_action.specs.declared.write.Write.{Write}
 use Rattle.relay_action.specs.Limits.{last_version}
 use Rattle.relay_ndjson.specs.Bulk.{text_of}
-use Rattle.relay_ndjson.specs.Lines.{piece_limit}
+use Rattle.relay_ndjson.specs.Lines.{is_read, piece_limit}
 use Rattle.relay_ndjson.specs.Operations.{Operation}
 use Rattle.relay_ndjson.specs.Reading.{Reading, Parsing, Takes, Ends, Fails, reading}
 use Rattle.relay_ndjson.specs.declared.kind.InputFault.{InputFault}
@@ -44,21 +44,43 @@ pub record IsSpent (first : ℕ) (rest new : Reading) (ops : List Operation) (li
   pub line_is : line ≡ new.line
   pub spent : first + length ops ≡ last_version + 1
 
--- What follows is at fault, or a read failed: then what is left begins no whole operation with what was read of it. No more
--- was read than the line at fault and one piece. Out of memory is a fault of its own.
+-- What follows is at fault, or a read failed: then what is left begins no whole operation with what was read of it. Out of
+-- memory is a fault of its own.
 pub record IsAtFault (rest new : Reading) (e : InputFault) : Type 0 where
   pub fault : Fails rest new e
-  pub held : length new.held ≤ piece_limit
   pub not_memory : e.kind ≢ kind.Memory
 
--- Why there were no more operations: blank lines alone were left; or what follows is at fault; or the versions were spent.
--- A failed write and out of memory may come at any place.
-abbrev pub Stops : ℕ → Reading → Reading → List Operation → Result ℕ LinesFault → Type 0
-Stops first rest new ops (Ok n) = Ends rest new × (n ≡ length ops)
-Stops first rest new ops (Err (fault.Input e)) = IsAtFault rest new e
-Stops first rest new ops (Err (fault.VersionsSpent line)) = IsSpent first rest new ops line
-Stops first rest new ops (Err (fault.Write sent)) = Unit {0}
-Stops first rest new ops (Err fault.Memory) = Unit {0}
+-- why there were no more operations: blank lines alone were left; or what follows is at fault; or the versions were spent
+abbrev pub Concludes : ℕ → Reading → Reading → List Operation → Result ℕ LinesFault → Type 0
+Concludes first rest new ops (Ok n) = Ends rest new × (n ≡ length ops)
+Concludes first rest new ops (Err (fault.Input e)) = IsAtFault rest new e
+Concludes first rest new ops (Err (fault.VersionsSpent line)) = IsSpent first rest new ops line
+Concludes first rest new ops (Err (fault.Write sent)) = ⊥
+Concludes first rest new ops (Err fault.Memory) = ⊥
+
+-- how many calls of the reader have failed after an answer
+abbrev pub failed_by : {T : Type 0} → Result T LinesFault → ℕ → ℕ
+failed_by (Err (fault.Input e)) n = if is_read e.kind then one_more n else n
+failed_by other n = n
+
+-- A write failed: of the lines that go out before a read, and then nothing more was read; or of the last lines, and then
+-- this would have been the answer.
+abbrev pub IsCutOff : ℕ → ℕ → Reading → Reading → List Operation → Type 0
+IsCutOff first failed rest new ops =
+    ((new ≡ rest) × (new.failed ≡ failed))
+    ⊎ ((answer : Result ℕ LinesFault) × Concludes first rest new ops answer × (new.failed ≡ failed_by answer failed))
+
+-- there was no memory for what stands there: for the operation itself, or for its lines
+abbrev pub LacksMemory : Reading → Reading → Type 0
+LacksMemory rest new =
+    ((e : InputFault) × Fails rest new e × (e.kind ≡ kind.Memory))
+    ⊎ ((blank : ℕ) × (op : Operation) × Takes rest new blank op)
+
+-- Why no more operations were passed on, where so many calls of the reader had failed before the first.
+abbrev pub Stops : ℕ → ℕ → Reading → Reading → List Operation → Result ℕ LinesFault → Type 0
+Stops first failed rest new ops (Err (fault.Write sent)) = IsCutOff first failed rest new ops
+Stops first failed rest new ops (Err fault.Memory) = LacksMemory rest new
+Stops first failed rest new ops other = Concludes first rest new ops other
 
 -- What was written of a text: all of it; after a failed write exactly its first bytes, fewer than all; where
 -- memory ran out some first bytes.
@@ -69,11 +91,13 @@ Writes before after text (Err fault.Memory) = (cut : ℕ) × (after ≡ append_k
 Writes before after text other = after ≡ append_known before text
 
 -- There are operations that were taken from the front, with a version for each; that is why there were no more, where
--- the reader has this left and so many of its calls failed; and that was written of their bulk text.
+-- the reader has this left and so many of its calls failed, and one piece at most was read of what stands after it; and
+-- that was written of their bulk text.
 pub record Streams (first : ℕ) (old : Reading) (left : Option (List ℕ)) (failed : ℕ) (before after : Option (List ℕ)) (result : Result ℕ LinesFault) : Type 0 where
   pub ops : List Operation
   pub rest : Reading
   pub parser : Parsing
   pub dealt : Deals first old rest ops
-  pub stops : Stops first rest (reading left failed parser) ops result
+  pub stops : Stops first old.failed rest (reading left failed parser) ops result
+  pub held : length parser.held ≤ piece_limit
   pub written : Writes before after (lines_of first ops) result

@@ -1,17 +1,16 @@
 -- For the steps of `lines`: one operation, its write, and all that are passed on.
-use Rattle.std.specs.Prelude.{◌≡◌, ℕ, ◌<◌, ◌≤◌, List, ◌++◌, Option, None, Some, Result, Ok, Err, if◌then◌else◌}
-use Rattle.relay_action.specs.Streams.{one_more}
+use Rattle.std.specs.Prelude.{◌≡◌, ℕ, ◌<◌, ◌≤◌, List, ◌++◌, length, Option, None, Some, Result, Ok, Err}
 use Rattle.relay_action.specs.declared.write.Write.{Write}
 use Rattle.relay_action.specs.Limits.{last_version}
 use Rattle.relay_ndjson.specs.Bulk.{write_text}
-use Rattle.relay_ndjson.specs.Lines.{is_read}
+use Rattle.relay_ndjson.specs.Lines.{piece_limit}
 use Rattle.relay_ndjson.specs.Operations.{Operation}
 use Rattle.relay_ndjson.specs.Reading.{Reading, Parsing, Takes, Ends, reading}
 use Rattle.relay_ndjson.specs.declared.kind.InputFault.{InputFault}
 use Rattle.relay_ndjson.specs.declared.kind.LineKind.{LineKind}
 use Rattle.relay_ndjson.specs.declared.kind.LineKind.TheVariants as kind
 use Rattle.relay_commands.specs.Calls.{NoneFails, OneFails}
-use Rattle.relay_commands.specs.Lines.{Deals, IsAtFault, Stops, Writes, lines_of, write_of}
+use Rattle.relay_commands.specs.Lines.{Deals, IsAtFault, LacksMemory, Stops, Writes, failed_by, lines_of, write_of}
 use Rattle.relay_commands.specs.Sending.{Wrote}
 use Rattle.relay_commands.specs.declared.lines.LinesFault.{LinesFault}
 use Rattle.relay_commands.specs.declared.lines.LinesFault.TheVariants as fault
@@ -25,11 +24,6 @@ fault_of_kind e other = fault.Input e
 
 abbrev pub fault_of : InputFault → LinesFault
 fault_of e = fault_of_kind e e.kind
-
--- how many calls of the reader have failed after an answer
-abbrev pub failed_by : {T : Type 0} → Result T LinesFault → ℕ → ℕ
-failed_by (Err (fault.Input e)) n = if is_read e.kind then one_more n else n
-failed_by other n = n
 
 -- the write of an operation, or that its version would be past the last
 abbrev pub IsNumbered : Operation → ℕ → ℕ → Result Write LinesFault → Type 0
@@ -57,7 +51,7 @@ abbrev pub IsNoWrite : ℕ → Reading → Reading → LinesFault → Type 0
 IsNoWrite version old new (fault.Input e) = IsAtFault old new e
 IsNoWrite version old new (fault.VersionsSpent line) = IsPast version old new line
 IsNoWrite version old new (fault.Write sent) = ⊥
-IsNoWrite version old new fault.Memory = Unit {0}
+IsNoWrite version old new fault.Memory = LacksMemory old new
 
 -- the next write, or the end, or why there is none
 abbrev pub IsNext : ℕ → Reading → Reading → Result (Option Write) LinesFault → Type 0
@@ -82,7 +76,8 @@ pub record Passes (first : ℕ) (old : Reading) (left : Option (List ℕ)) (fail
   pub rest : Reading
   pub parser : Parsing
   pub dealt : Deals first old rest ops
-  pub stops : Stops first rest (reading left failed parser) ops result
+  pub stops : Stops first old.failed rest (reading left failed parser) ops result
+  pub held : length parser.held ≤ piece_limit
   pub written : Leaves before now (lines_of first ops) text sent result
 
 -- which calls of the reader and of the writer failed in between: where a write did, nothing was read after it

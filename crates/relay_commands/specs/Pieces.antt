@@ -3,7 +3,7 @@ use Rattle.std.specs.Prelude.{◌≡◌, ◌≢◌, ℕ, ◌+◌, ◌<◌, ◌�
 use Rattle.std.specs.Io.KnownBytes.{append_known, prepend_known, IsAtEnd}
 use Rattle.relay_action.specs.Streams.{one_more}
 use Rattle.relay_index.specs.Plans.{Plan}
-use Rattle.relay_commands.specs.Applies.{GivesBody, IsOutput, PassesLimit, body_limit}
+use Rattle.relay_commands.specs.Applies.{GivesBody, IsOutput, PassesLimit, TakesSome, body_limit}
 use Rattle.relay_commands.specs.Calls.{NoneFails, OneFails}
 use Rattle.relay_commands.specs.declared.apply.ApplyFault.{ApplyFault}
 use Rattle.relay_commands.specs.declared.apply.ApplyFault.TheVariants as fault
@@ -19,16 +19,17 @@ TakesPiece old new before after End = (after ≡ before) × IsAtEnd old × (new 
 -- why a body was not read
 abbrev pub IsBodyFault : Option (List ℕ) → Option (List ℕ) → ApplyFault → Type 0
 IsBodyFault old new fault.BodyLong = PassesLimit old new
-IsBodyFault old new fault.Read = Unit {0}
+IsBodyFault old new fault.Read = TakesSome old new
 IsBodyFault old new (fault.Write sent) = ⊥
-IsBodyFault old new fault.Memory = Unit {0}
+IsBodyFault old new fault.Memory = TakesSome old new
 
--- why no piece was taken
-abbrev pub IsPieceFault : ApplyFault → Type 0
-IsPieceFault fault.BodyLong = ⊥
-IsPieceFault fault.Read = Unit {0}
-IsPieceFault (fault.Write sent) = ⊥
-IsPieceFault fault.Memory = Unit {0}
+-- why a piece was not added: a read failed, and nothing was taken; or there was no memory for the bytes that were taken
+abbrev pub IsPieceFault : Option (List ℕ) → Option (List ℕ) → List ℕ → ApplyFault → Type 0
+IsPieceFault old new before fault.BodyLong = ⊥
+IsPieceFault old new before fault.Read = new ≡ old
+IsPieceFault old new before (fault.Write sent) = ⊥
+IsPieceFault old new before fault.Memory =
+    (bytes : List ℕ) × (length before + length bytes ≤ body_limit + 1) × (old ≡ prepend_known bytes new)
 
 -- how many calls of the reader have failed after an answer
 abbrev pub failed_by : {T : Type 0} → Result T ApplyFault → ℕ → ℕ

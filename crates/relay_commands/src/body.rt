@@ -70,7 +70,7 @@ fn read_piece<R: ByteIn>(
     requires room { vec_len body.old ≤ body_limit }
     requires piece { 0 < vec_len piece.old }
     ensures taken { IfOk result (TakesPiece (R.left reader.old) (R.left reader.new) body.old.items body.new.items) }
-    ensures err { IfErr result IsPieceFault }
+    ensures err { IfErr result (IsPieceFault (R.left reader.old) (R.left reader.new) body.old.items) }
     ensures piece { 0 < vec_len piece.new }
     ensures failed { R.failed reader.new ≡ failed_by result (R.failed reader.old) }
 {

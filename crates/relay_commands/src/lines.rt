@@ -1,12 +1,13 @@
 //! A producer's NDJSON as bulk lines with versions: the function behind `relay lines`.
-ghost use Rattle.std.specs.Prelude.{◌≡◌, ◌≤◌, []};
+ghost use Rattle.std.specs.Prelude.{◌≡◌, ◌≤◌, [], length};
 ghost use Rattle.relay_action.specs.Limits.{last_version};
+ghost use Rattle.relay_ndjson.specs.Lines.{piece_limit};
 ghost use Rattle.relay_ndjson.specs.Metadata.{shown};
 ghost use Rattle.relay_ndjson.specs.Reading.{fresh, reading};
 ghost use Rattle.relay_ndjson.specs.declared.parser.Phase.TheVariants as phase;
 ghost use Rattle.relay_commands.specs.Calls.{FailsOnce};
-ghost use Rattle.relay_commands.specs.Lines.{Streams};
-ghost use Rattle.relay_commands.specs.Passing.{AddsNext, FailsInPass, IsNext, IsNumbered, Passes, failed_by, fault_of};
+ghost use Rattle.relay_commands.specs.Lines.{Streams, failed_by};
+ghost use Rattle.relay_commands.specs.Passing.{AddsNext, FailsInPass, IsNext, IsNumbered, Passes, fault_of};
 
 use crate::outgoing::Outgoing;
 use relay_action::{Action, ByteIn, ByteOut, DocKey, Write};
@@ -78,6 +79,7 @@ fn pass_on<R: ByteIn, W: ByteOut>(
 ) -> Result<u64, LinesFault>
     requires first { first ≤ last_version }
     requires open { parser.old.phase ≡ phase.Open }
+    requires held { length parser.old.held ≤ piece_limit }
     requires text { outgoing.old.text.items ≡ [] }
     requires sent { outgoing.old.sent ≡ 0 }
     ensures lines { Passes first (reading (R.left reader.old) (R.failed reader.old) parser.old)
@@ -122,6 +124,7 @@ fn add_next<R: ByteIn>(
         outgoing.old.text.items outgoing.new.text.items result }
     ensures sent { outgoing.new.sent ≡ outgoing.old.sent }
     ensures failed { R.failed reader.new ≡ failed_by result (R.failed reader.old) }
+    ensures held { length parser.new.held ≤ piece_limit }
 {
     match next_write(reader, parser, version) {
         Ok(Some(write)) => match outgoing.add(alloc, &write) {
@@ -143,6 +146,7 @@ fn next_write<R: ByteIn>(
     ensures next { IsNext version (reading (R.left reader.old) (R.failed reader.old) parser.old)
         (reading (R.left reader.new) (R.failed reader.new) parser.new) result }
     ensures failed { R.failed reader.new ≡ failed_by result (R.failed reader.old) }
+    ensures held { length parser.new.held ≤ piece_limit }
 {
     match parser.next(reader) {
         Ok(Some((key, action))) => match numbered(key, action, version, parser.line()) {

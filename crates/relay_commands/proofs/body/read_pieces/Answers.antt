@@ -11,7 +11,7 @@ pieces-init g c = (
 )
 
 pub returns-in-Err-clause-err : goal.returns-in-Err-clause-err
-returns-in-Err-clause-err g c = fault_of_piece _ _ c.in-Err.fault c.in-Err.ensures.err
+returns-in-Err-clause-err g c = fault_of_piece _ _ _ _ c.in-Err.fault c.pieces.invariant.0 (omega (arith, c.pieces.invariant.1, c.pieces.body.ok)) c.in-Err.ensures.err
 
 pub returns-then-len-gt-BODY_LIMIT-clause-err : goal.returns-then-len-gt-BODY_LIMIT-clause-err
 returns-then-len-gt-BODY_LIMIT-clause-err g c =

@@ -7,7 +7,7 @@ returns-clause-lines g c =
     let r = g.R.ByteStream in
     let start = reading-start (r.left c.args.reader.now) (r.failed c.args.reader.now) (shown c.args.default_index) c.new-parser.result c.new-parser.ensures in
     let passed = rw start at c.pass_on-answer.ensures.lines in
-    closed c.args.first _ _ _ _ _ _ _ _ _ _ c.pass_on-answer.result c.close.result passed c.close.ensures
+    closed c.args.first _ _ _ _ _ _ _ _ _ _ _ c.pass_on-answer.result c.close.result passed c.pass_on-answer.ensures.calls c.close.ensures
 
 pub returns-clause-calls : goal.returns-clause-calls
 returns-clause-calls g c = closed_calls _ _ _ _ _ _ _ _ _ c.pass_on-answer.result c.close.result c.pass_on-answer.ensures.calls c.close.ensures

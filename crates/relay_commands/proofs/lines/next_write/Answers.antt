@@ -3,7 +3,7 @@ use Rattle.relay_commands.proofs.Passed.{no_write_of, past_after, write_after, f
 use Rattle.relay_commands.proofs.lines.next_write.Goals as goal
 
 pub returns-in-Err-clause-next : goal.returns-in-Err-clause-next
-returns-in-Err-clause-next g c = rw c.fault_of.ensures (no_write_of c.args.version _ _ c.in-Err.fault (answers_of _ _ _ c.requires c.in-Err.ensures.lines) c.in-Err.ensures.held)
+returns-in-Err-clause-next g c = rw c.fault_of.ensures (no_write_of c.args.version _ _ c.in-Err.fault (answers_of _ _ _ c.requires c.in-Err.ensures.lines))
 
 pub returns-in-Ok-clause-next : goal.returns-in-Ok-clause-next
 returns-in-Ok-clause-next g c =

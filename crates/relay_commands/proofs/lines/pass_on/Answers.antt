@@ -4,20 +4,20 @@ use Rattle.relay_commands.proofs.lines.pass_on.Goals as goal
 
 pub operations-init : goal.operations-init
 operations-init g c = record {
-  taken = underway_none c.args.first _ _ _ _ c.requires.first c.requires.open c.requires.text c.requires.sent;
+  taken = underway_none c.args.first _ _ _ _ c.requires.first c.requires.open c.requires.held c.requires.text c.requires.sent;
   reads = refl;
   writes = refl;
 }
 
 pub returns-in-Err-clause-lines : goal.returns-in-Err-clause-lines
 returns-in-Err-clause-lines g c =
-    stops_inside c.args.first c.operations.version _ _ _ c.operations.parser _ _ _ _ _ _ _ c.in-Err.sent c.operations.invariant.taken c.in-Err.ensures.err
+    stops_inside c.args.first c.operations.version _ _ _ c.operations.parser _ _ _ _ _ _ _ c.in-Err.sent c.operations.invariant.taken c.in-Err.ensures.err c.operations.invariant.reads
 
 pub operations-preserved : goal.operations-preserved
 operations-preserved g c =
     let next = rw c.in-Ok-Added.field-0-is at c.in-Ok-Added.ensures.next in
     let moved = underway_moved c.args.first c.operations.version _ _ _ _ _ _ _ _ _ c.operations.invariant.taken c.in_default.ensures.ok in record {
-      taken = underway_more c.args.first c.operations.version _ _ _ _ _ _ _ _ _ next.0 moved next.1 next.2 c.in-Ok-Added.ensures.sent;
+      taken = underway_more c.args.first c.operations.version _ _ _ _ _ _ _ _ _ next.0 moved next.1 c.in-Ok-Added.ensures.held next.2 c.in-Ok-Added.ensures.sent;
       reads = c.in-Ok-Added.ensures.failed ∙ c.operations.invariant.reads;
       writes = c.in_default.ensures.succeeded ∙ c.operations.invariant.writes;
     }
@@ -26,13 +26,13 @@ pub returns-in-Ok-Ended-clause-lines : goal.returns-in-Ok-Ended-clause-lines
 returns-in-Ok-Ended-clause-lines g c =
     let next = rw c.in-Ok-Ended.field-0-is at c.in-Ok-Ended.ensures.next in
     let moved = underway_moved c.args.first c.operations.version _ _ _ _ _ _ _ _ _ c.operations.invariant.taken c.in_default.ensures.ok in
-    stops_at_end c.args.first c.operations.version _ _ _ _ c.add_next.new.parser _ _ _ _ _ _ moved next.0 next.1 c.in-Ok-Ended.ensures.sent
+    stops_at_end c.args.first c.operations.version _ _ _ _ c.add_next.new.parser _ _ _ _ _ _ moved next.0 c.in-Ok-Ended.ensures.held next.1 c.in-Ok-Ended.ensures.sent
 
 pub returns-in-Err-add_next-clause-lines : goal.returns-in-Err-add_next-clause-lines
 returns-in-Err-add_next-clause-lines g c =
     let next = c.in-Err-add_next.ensures.next in
     let moved = underway_moved c.args.first c.operations.version _ _ _ _ _ _ _ _ _ c.operations.invariant.taken c.in_default.ensures.ok in
-    stops_at_fault c.args.first c.operations.version _ _ _ _ c.add_next.new.parser _ _ _ _ _ _ c.in-Err-add_next.fault moved next.0 next.1 c.in-Err-add_next.ensures.sent
+    stops_at_fault c.args.first c.operations.version _ _ _ _ c.add_next.new.parser _ _ _ _ _ _ c.in-Err-add_next.fault moved next.0 c.in-Err-add_next.ensures.held next.1 c.in-Err-add_next.ensures.sent
 
 pub returns-in-Err-clause-calls : goal.returns-in-Err-clause-calls
 returns-in-Err-clause-calls g c = (c.operations.invariant.reads, rw c.operations.invariant.writes at c.in-Err.ensures.failed)
