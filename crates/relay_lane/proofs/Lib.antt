@@ -1,4 +1,3 @@
-pub mod Stock
 pub mod Tying
 pub mod Flights
 pub mod Launching

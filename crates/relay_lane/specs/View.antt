@@ -6,7 +6,7 @@ use Rattle.relay_lane.specs.declared.lane.Lane.TheInside.{Inside}
 use Rattle.relay_lane.specs.Limits.{is_valid}
 use Rattle.relay_lane.specs.State.{State, config_of}
 use Rattle.relay_lane.specs.Memory.{entries, writes_in, flying_of, IsReadable, SameNumbers, AllUnder, tries_left}
-use Rattle.relay_lane.specs.Walk.{report_of, AllEmpty}
+use Rattle.relay_lane.specs.Walk.{report_of}
 
 abbrev pub seen : Inside → State
 seen a = record {
@@ -35,8 +35,6 @@ pub record IsSound (a : Inside) : Type 0 where
   pub places : a.config.in_flight ≤ vec_capacity a.flown
   pub most : a.flight.max ≡ a.config.in_flight
   pub room : vec_len a.reports + vec_len a.held ≤ vec_capacity a.reports
-  pub stock : vec_len a.held ≤ vec_len a.empty
-  pub empty : AllEmpty a.empty.items
   pub few : vec_len a.held ≤ a.config.max_held
   pub limit : a.config.max_held ≤ 65536
   pub tries : (1 ≤ a.config.attempts) × (a.config.attempts ≤ 32)

@@ -83,11 +83,6 @@ said (code.Reported c) = of.Reported c
 abbrev pub report_of : Report → machine.Report
 report_of r = record { name = r.name; document = document_of r.key; cause = r.cause }
 
--- texts with no byte, in stock for refusals that tell no error
-abbrev pub AllEmpty : List (List ℕ) → Type 0
-AllEmpty [] = Unit {0}
-AllEmpty (t ∷ ts) = (t ≡ []) × AllEmpty ts
-
 abbrev pub fate_met : ℕ → Option ℕ → Kept → List Outcome → of.Fate
 fate_met max whole h os = fate_or whole (fate_of_entry (record { sends = h.sends; attempts = h.attempts; max = max }) h.kind (slice_get os 0))
 

@@ -1,11 +1,12 @@
 //! What an answer makes of one operation.
-ghost use Rattle.std.specs.Prelude.{◌≡◌, ◌+◌, ◌≤◌, ◌<◌, [], unwrap_or, vec_len};
+ghost use Rattle.std.specs.Prelude.{◌≡◌, [], unwrap_or};
 ghost use Rattle.relay_results.specs.Fates.{fate_of_item, fate_of_entry};
-ghost use Rattle.relay_lane.specs.Walk.{said, stays, tally, AllEmpty, fate_or};
+ghost use Rattle.relay_lane.specs.Walk.{said, fate_or};
 
 use crate::kept::Kept;
 use relay_action::{ActionKind, Text};
 use relay_results::{Cause, ItemVerdict, Outcome, verdict};
+use std::alloc::Global;
 
 /// What becomes of an operation when the answer of its request comes.
 #[derive(Debug, Drop)]
@@ -20,46 +21,27 @@ pub enum Fate {
     Reported(Cause),
 }
 
-// The next of the empty texts.
-fn empty_of(empty: &mut Vec<Text>) -> Text
-    requires some { 0 < vec_len empty.old }
-    requires empty { AllEmpty empty.old.items }
-    ensures text { result ≡ [] }
-    ensures empty { AllEmpty empty.new.items }
-    ensures len { vec_len empty.new + 1 ≡ vec_len empty.old }
-{
-    empty.pop().unwrap()
-}
-
 // The type of an error, or no text where there is none.
-fn error_type(error: Option<Text>, empty: &mut Vec<Text>) -> Text
-    requires some { 0 < vec_len empty.old }
-    requires empty { AllEmpty empty.old.items }
-    ensures text { result ≡ unwrap_or error [] }
-    ensures empty { AllEmpty empty.new.items }
-    ensures len { vec_len empty.old ≤ vec_len empty.new + 1 }
+fn error_type(alloc: Global, error: Option<Text>) -> Text
+    ensures { result ≡ unwrap_or error [] }
 {
     match error {
         Some(text) => text,
-        None => empty_of(empty),
+        None => Text::empty(alloc),
     }
 }
 
 // What an entry makes of the operation that it is for.
 fn fate_by(
+    alloc: Global,
     kind: ActionKind,
     outcome: Outcome,
     sends: u32,
     attempts: u32,
     max: u32,
-    empty: &mut Vec<Text>,
 ) -> Fate
-    requires some { 0 < vec_len empty.old }
-    requires empty { AllEmpty empty.old.items }
-    ensures fate { said result
+    ensures { said result
         ≡ fate_of_item (record { sends = sends; attempts = attempts; max = max }) kind outcome }
-    ensures empty { AllEmpty empty.new.items }
-    ensures len { vec_len empty.old + tally (stays (said result)) ≤ vec_len empty.new + 1 }
 {
     match verdict(
         kind,
@@ -76,29 +58,25 @@ fn fate_by(
         ItemVerdict::GaveUp => Fate::Reported(Cause::GaveUp { sends }),
         ItemVerdict::Refused => Fate::Reported(Cause::Refused {
             status: outcome.status,
-            kind: error_type(outcome.error, empty),
+            kind: error_type(alloc, outcome.error),
         }),
     }
 }
 
 // What the entry at its place makes of it, if there is one.
 fn fate_next(
+    alloc: Global,
     kind: ActionKind,
     entry: Option<Outcome>,
     sends: u32,
     attempts: u32,
     max: u32,
-    empty: &mut Vec<Text>,
 ) -> Fate
-    requires some { 0 < vec_len empty.old }
-    requires empty { AllEmpty empty.old.items }
-    ensures fate { said result
+    ensures { said result
         ≡ fate_of_entry (record { sends = sends; attempts = attempts; max = max }) kind entry }
-    ensures empty { AllEmpty empty.new.items }
-    ensures len { vec_len empty.old + tally (stays (said result)) ≤ vec_len empty.new + 1 }
 {
     match entry {
-        Some(outcome) => fate_by(kind, outcome, sends, attempts, max, empty),
+        Some(outcome) => fate_by(alloc, kind, outcome, sends, attempts, max),
         None => {
             if attempts < max {
                 Fate::Retried
@@ -110,25 +88,20 @@ fn fate_next(
 }
 
 /// What an answer makes of a held operation: the status of the whole request, where it is reported; else
-/// its entry, and where it has none it is tried again. The texts that it is handed are empty, and at most
-/// one of them is used.
+/// its entry, and where it has none it is tried again. It takes no memory.
 pub(crate) fn fate_in(
+    alloc: Global,
     one: &Kept,
     whole: Option<u16>,
     entry: Option<Outcome>,
     max: u32,
-    empty: &mut Vec<Text>,
 ) -> Fate
-    requires some { 0 < vec_len empty.old }
-    requires empty { AllEmpty empty.old.items }
-    ensures fate { said result
+    ensures { said result
         ≡ fate_or whole
         (fate_of_entry (record { sends = one.now.sends; attempts = one.now.attempts; max = max }) one.now.kind entry) }
-    ensures empty { AllEmpty empty.new.items }
-    ensures len { vec_len empty.old + tally (stays (said result)) ≤ vec_len empty.new + 1 }
 {
     match whole {
         Some(status) => Fate::Reported(Cause::Request { status }),
-        None => fate_next(one.kind, entry, one.sends, one.attempts, max, empty),
+        None => fate_next(alloc, one.kind, entry, one.sends, one.attempts, max),
     }
 }

@@ -1,7 +1,7 @@
 //! The writes of the requests in flight.
 ghost use Rattle.std.specs.Prelude.{◌≡◌, true, ◌+◌, ◌≤◌, ◌++◌, is_some, IfSome, OnSome, IfNone, map, vec_len, vec_capacity};
 ghost use Rattle.relay_delivery.specs.Machine.{is_applied_fate, is_already_fate};
-ghost use Rattle.relay_lane.specs.Walk.{report_of, AllEmpty, kept_walk, reports_walk, tally_walk};
+ghost use Rattle.relay_lane.specs.Walk.{report_of, kept_walk, reports_walk, tally_walk};
 ghost use Rattle.relay_lane.specs.State.{is_reported_fate, is_retried_fate};
 ghost use Rattle.relay_lane.specs.Memory.{has_number, writes_in, without};
 
@@ -9,8 +9,9 @@ use crate::kept::{Kept, Sent};
 use crate::report::Report;
 use crate::settle::settle_walk;
 use crate::settled::Settled;
-use relay_action::{Text, Write};
+use relay_action::Write;
 use relay_results::Outcome;
+use std::alloc::Global;
 
 /// The writes of a request, counted from 0, if it flies.
 pub(crate) fn find_writes(flown: &[Sent], number: u64) -> Option<&[Write]>
@@ -43,6 +44,7 @@ fn take_flown(flown: &mut Vec<Sent>, number: u64) -> Option<Sent>
 
 /// The operations of a request, counted from 0, meet its answer. Where it does not fly, nothing changes.
 pub(crate) fn settle_flown(
+    alloc: Global,
     held: &mut Vec<Kept>,
     flown: &mut Vec<Sent>,
     reports: &mut Vec<Report>,
@@ -51,14 +53,9 @@ pub(crate) fn settle_flown(
     number: u64,
     whole: Option<u16>,
     outcomes: Vec<Outcome>,
-    empty: &mut Vec<Text>,
 ) -> Option<Settled>
     requires room { vec_len reports.old + vec_len held.old ≤ vec_capacity reports.old }
     requires few { vec_len held.old ≤ 65536 }
-    requires stock { vec_len held.old ≤ vec_len empty.old }
-    requires empty { AllEmpty empty.old.items }
-    ensures stock { vec_len held.new ≤ vec_len empty.new }
-    ensures empty { AllEmpty empty.new.items }
     ensures found { is_some result ≡ has_number number flown.old.items }
     ensures flown { flown.new.items ≡ without flown.old.items number }
     ensures places { vec_capacity flown.new ≡ vec_capacity flown.old }
@@ -79,6 +76,7 @@ pub(crate) fn settle_flown(
 {
     match take_flown(flown, number) {
         Some(sent) => Some(settle_walk(
+            alloc,
             held,
             reports,
             max,
@@ -87,7 +85,6 @@ pub(crate) fn settle_flown(
             sent.writes,
             whole,
             outcomes,
-            empty,
         )),
         None => None,
     }

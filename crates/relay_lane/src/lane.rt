@@ -19,7 +19,7 @@ use crate::launch::launch;
 use crate::report::Report;
 use crate::settled::{NotFlying, Settled, TakeFault, Totals};
 use crate::taking::{NoRoom, kept_of, make_room, refused};
-use relay_action::{Body, Mail, Op, Text, Write};
+use relay_action::{Body, Mail, Op, Write};
 use relay_batch::{Batch, BatchItem};
 use relay_flight::Flight;
 use relay_results::{Cause, Outcome, matches};
@@ -42,7 +42,6 @@ pub struct Lane {
     flight: Flight,
     flown: Vec<Sent>,
     reports: Vec<Report>,
-    empty: Vec<Text>,
 }
 
 impl Model for Lane {
@@ -100,7 +99,6 @@ impl Lane {
             flight: Flight::new(alloc, config.in_flight)?,
             flown: Vec::with_capacity(alloc, config.in_flight as usize)?,
             reports: Vec::new(alloc),
-            empty: Vec::new(alloc),
         })
     }
 
@@ -203,14 +201,7 @@ impl Lane {
         ensures unchanged { OnErr result (self.new ≡ self.old) }
         ensures back { IfErr result (λ e. e.op ≡ op) }
     {
-        if make_room(
-            self.alloc,
-            &mut self.held,
-            &mut self.reports,
-            &mut self.empty,
-        )
-        .is_err()
-        {
+        if make_room(&mut self.held, &mut self.reports).is_err() {
             return Err(NoRoom { op });
         }
         if self.taken >= self.deals {
@@ -388,6 +379,7 @@ impl Lane {
         ensures unchanged { IfNone result (self.new ≡ self.old) }
     {
         match settle_flown(
+            self.alloc,
             &mut self.held,
             &mut self.flown,
             &mut self.reports,
@@ -396,7 +388,6 @@ impl Lane {
             number - 1,
             whole,
             outcomes,
-            &mut self.empty,
         ) {
             Some(found) => {
                 let _ = self.flight.settle(number);

@@ -3,15 +3,16 @@ ghost use Rattle.std.specs.Prelude.{◌≡◌, true, ◌-◌, ◌^◌, min, ◌+
 ghost use Rattle.std.specs.Vec.Iter.{into_iter_items};
 ghost use Rattle.relay_delivery.specs.Machine.{is_applied_fate, is_already_fate};
 ghost use Rattle.relay_delivery.specs.Lane.{backoff};
-ghost use Rattle.relay_lane.specs.Walk.{said, report_of, AllEmpty, flies_here, fate_or, fate_met, stays, met_one, met_list, reports_one, reports_list, met_maybe, reports_maybe, tally_maybe, tally, kept_walk, reports_walk, tally_walk};
+ghost use Rattle.relay_lane.specs.Walk.{said, report_of, flies_here, fate_or, fate_met, stays, met_one, met_list, reports_one, reports_list, met_maybe, reports_maybe, tally_maybe, tally, kept_walk, reports_walk, tally_walk};
 ghost use Rattle.relay_lane.specs.State.{is_reported_fate, is_retried_fate};
 
 use crate::fates::{Fate, fate_in};
 use crate::kept::{Kept, Spot};
 use crate::report::Report;
 use crate::settled::Settled;
-use relay_action::{Text, Write};
+use relay_action::Write;
 use relay_results::Outcome;
+use std::alloc::Global;
 use std::vec::IntoIter;
 
 // Whether it flies in a request.
@@ -195,6 +196,7 @@ fn next_of<T: Drop>(items: &mut IntoIter<T>) -> Option<T>
 
 /// What flies in a request is settled by its answer, in one pass; there is room for the reports.
 pub(crate) fn settle_walk(
+    alloc: Global,
     held: &mut Vec<Kept>,
     reports: &mut Vec<Report>,
     max: u32,
@@ -203,14 +205,9 @@ pub(crate) fn settle_walk(
     writes: Vec<Write>,
     whole: Option<u16>,
     outcomes: Vec<Outcome>,
-    empty: &mut Vec<Text>,
 ) -> Settled
     requires room { vec_len reports.old + vec_len held.old ≤ vec_capacity reports.old }
     requires few { vec_len held.old ≤ 65536 }
-    requires stock { vec_len held.old ≤ vec_len empty.old }
-    requires empty { AllEmpty empty.old.items }
-    ensures stock { vec_len held.new ≤ vec_len empty.new }
-    ensures empty { AllEmpty empty.new.items }
     ensures held { held.new.items ≡ kept_walk held.old.items max clock number whole writes.items outcomes.items }
     ensures reports { map report_of reports.new.items ≡ map report_of reports.old.items ++ reports_walk held.old.items max number whole writes.items outcomes.items }
     ensures applied { result.applied ≡ tally_walk is_applied_fate held.old.items max number whole writes.items outcomes.items }
@@ -235,7 +232,7 @@ pub(crate) fn settle_walk(
     let mut to = 0;
     'ops: for i in 0..held.len() {
         if is_in(held[i].flies, number) {
-            let fate = fate_in(&held[i], whole, next_of(&mut left), max, empty);
+            let fate = fate_in(alloc, &held[i], whole, next_of(&mut left), max);
             let write = next_of(&mut ahead);
             to = settle_one(held, i, to, fate, write, clock, reports, &mut counts);
         } else {

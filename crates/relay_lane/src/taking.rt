@@ -3,14 +3,13 @@ ghost use Rattle.std.specs.Prelude.{◌≡◌, ◌+◌, ◌^◌, ◌≤◌, ◌<
 ghost use Rattle.relay_ndjson.specs.Bulk.{write_text};
 ghost use Rattle.relay_results.specs.Documents.{write_for};
 ghost use Rattle.relay_lane.specs.Memory.{kept_new};
-ghost use Rattle.relay_lane.specs.Walk.{AllEmpty};
 
 use crate::kept::Kept;
 use crate::report::Report;
 use crate::settled::TakeFault;
-use relay_action::{Body, DocKey, Mail, Op, Text, Write};
+use relay_action::{Body, DocKey, Mail, Op, Write};
 use relay_ndjson::write_len;
-use std::alloc::{AllocError, Global};
+use std::alloc::AllocError;
 
 /// An operation that was not taken.
 #[derive(Debug, Drop)]
@@ -19,32 +18,9 @@ pub struct NoRoom {
     pub op: Op,
 }
 
-// One more empty text, where there are not more than operations.
-fn stock(alloc: Global, empty: &mut Vec<Text>, held: usize) -> Result<(), AllocError>
-    requires few { held ≤ vec_len empty.old }
-    requires empty { AllEmpty empty.old.items }
-    ensures few { held ≤ vec_len empty.new }
-    ensures empty { AllEmpty empty.new.items }
-    ensures more { OnOk result (held + 1 ≤ vec_len empty.new) }
-{
-    if empty.len() > held {
-        return Ok(());
-    }
-    empty.reserve(1)?;
-    empty.push_reserved(Text::new(alloc, "")?);
-    Ok(())
-}
-
-/// Room for one more operation and for its later report, in which an empty text may stand.
-pub(crate) fn make_room(
-    alloc: Global,
-    held: &mut Vec<Kept>,
-    reports: &mut Vec<Report>,
-    empty: &mut Vec<Text>,
-) -> Result<(), AllocError>
-    requires places { vec_len held.old + 1 < 2 ^ 32 }
-    requires few { vec_len held.old ≤ vec_len empty.old }
-    requires empty { AllEmpty empty.old.items }
+/// Room for one more operation and for its later report.
+pub(crate) fn make_room(held: &mut Vec<Kept>, reports: &mut Vec<Report>) -> Result<(), AllocError>
+    requires { vec_len held.old + 1 < 2 ^ 32 }
     ensures held { held.new.items ≡ held.old.items }
     ensures held_len { vec_len held.new ≡ vec_len held.old }
     ensures reports { reports.new.items ≡ reports.old.items }
@@ -52,13 +28,9 @@ pub(crate) fn make_room(
     ensures capacity { vec_capacity reports.old ≤ vec_capacity reports.new }
     ensures held_room { OnOk result (vec_len held.new < vec_capacity held.new) }
     ensures reports_room { OnOk result (vec_len reports.new + vec_len held.new + 1 ≤ vec_capacity reports.new) }
-    ensures few { vec_len held.new ≤ vec_len empty.new }
-    ensures empty { AllEmpty empty.new.items }
-    ensures stock { OnOk result (vec_len held.new + 1 ≤ vec_len empty.new) }
 {
     reports.reserve(held.len() + 1)?;
     held.reserve(1)?;
-    stock(alloc, empty, held.len())?;
     Ok(())
 }
 

@@ -4,7 +4,7 @@ use Rattle.std.specs.Vec.Iter.{into_iter_items}
 use Rattle.relay_results.specs.Fates.{fate_of_entry}
 use Rattle.relay_delivery.specs.Machine.{is_applied_fate, is_already_fate}
 use Rattle.relay_lane.specs.declared.kept.Kept.{Kept}
-use Rattle.relay_lane.specs.Walk.{said, flies_here, fate_or, fate_met, report_of, AllEmpty, met_maybe, reports_maybe, kept_walk, reports_walk, tally_walk}
+use Rattle.relay_lane.specs.Walk.{said, flies_here, fate_or, fate_met, report_of, met_maybe, reports_maybe, kept_walk, reports_walk, tally_walk}
 use Rattle.relay_lane.specs.State.{is_reported_fate, is_retried_fate}
 use Rattle.relay_lane.proofs.Steps.{first_same, here_and_after, held_step, reports_step, tally_step, held_past, reports_past, tally_past}
 use Rattle.relay_lane.proofs.settle.settle_walk.Goals.{then-is_in, else-is_in}
@@ -30,7 +30,7 @@ ops-preserved c = elim c.if-is_in.branch [
       let one : take 1 (drop i hs) ≡ h ∷ [] = ap (take 1) here in
       let same : c.index.result.now ≡ h = first_same (sym (here_and_after hs i c.index.result.now lt c.index.ensures) ∙ here) in
       let flies : flies_here n h.flies ≡ true = ap (λ (x : Kept). flies_here n x.flies) (sym same) ∙ sym c.is_in.ensures ∙ w.if-is_in.true in
-      let fate : f ≡ fate_met max whole h os = w.fate_in-fate.ensures.fate ∙ ap (λ x. fate_or whole (fate_of_entry (record { sends = h.sends; attempts = h.attempts; max = max }) h.kind x)) w.next_of.ensures.value in
+      let fate : f ≡ fate_met max whole h os = w.fate_in-fate.ensures ∙ ap (λ x. fate_or whole (fate_of_entry (record { sends = h.sends; attempts = h.attempts; max = max }) h.kind x)) w.next_of.ensures.value in
       let write = w.next_of-write.ensures.value in
       let writes = w.next_of-write.ensures.rest in
       let outcomes = w.next_of.ensures.rest in
@@ -41,8 +41,6 @@ ops-preserved c = elim c.if-is_in.branch [
         room = search rules;
         done = search rules;
         more = search rules;
-        stock = search rules;
-        empty = subst AllEmpty (sym (ap (λ v. v.items) w.empty-is)) w.fate_in-fate.ensures.empty;
         matched = search rules;
         held = (λ j. take (w.to-is j) (w.held-is j).items ++ kept_walk (drop (i + 1) (w.held-is j).items) max clock n whole (into_iter_items (w.ahead-is j)) (into_iter_items (w.left-is j)))
             ∙ ap (λ xs. take w.settle_one-to.result w.settle_one-to.new.held.items ++ kept_walk xs max clock n whole (into_iter_items w.next_of-write.new.items) (into_iter_items w.next_of.new.items)) e.rest
@@ -98,8 +96,6 @@ ops-preserved c = elim c.if-is_in.branch [
         room = search rules;
         done = search rules;
         more = search rules;
-        stock = search rules;
-        empty = search rules;
         matched = search rules;
         held = (λ j. take (w.to-is j) (w.held-is j).items ++ kept_walk (drop (i + 1) (w.held-is j).items) max clock n whole (into_iter_items (w.ahead-is j)) (into_iter_items (w.left-is j)))
             ∙ ap (λ xs. take (c.ops.to + 1) w.keep.new.held.items ++ kept_walk xs max clock n whole ws os) e.rest

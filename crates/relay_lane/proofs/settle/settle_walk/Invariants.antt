@@ -2,7 +2,7 @@ use Rattle.std.proofs.Common.{◌≡◌, ◌+◌, ◌-◌, ◌≤◌, ◌++◌, 
 use Rattle.std.specs.Prelude.{map}
 use Rattle.std.specs.Vec.Iter.{into_iter_items}
 use Rattle.relay_delivery.specs.Machine.{is_applied_fate, is_already_fate}
-use Rattle.relay_lane.specs.Walk.{report_of, kept_walk, reports_walk, tally_walk, AllEmpty}
+use Rattle.relay_lane.specs.Walk.{report_of, kept_walk, reports_walk, tally_walk}
 use Rattle.relay_lane.specs.State.{is_reported_fate, is_retried_fate}
 use Rattle.relay_lane.proofs.settle.settle_walk.Given as goal
 
@@ -14,8 +14,6 @@ invariant-ops l = record {
   room : vec_len l.reports + (vec_len l.held - l.i) + l.to ≤ vec_capacity l.reports;
   done : l.counts.applied + l.counts.already + l.to ≤ l.i;
   more : vec_len l.fn.reports ≤ vec_len l.reports;
-  stock : (vec_len l.held - l.i) + l.to ≤ vec_len l.empty;
-  empty : AllEmpty l.empty.items;
   matched : l.counts.matched ≡ true;
   held : take l.to l.held.items ++ kept_walk (drop l.i l.held.items) l.max l.clock l.number l.whole (into_iter_items l.ahead) (into_iter_items l.left) ≡ kept_walk l.fn.held.items l.max l.clock l.number l.whole l.fn.writes.items l.fn.outcomes.items;
   reports : map report_of l.reports.items ++ reports_walk (drop l.i l.held.items) l.max l.number l.whole (into_iter_items l.ahead) (into_iter_items l.left) ≡ map report_of l.fn.reports.items ++ reports_walk l.fn.held.items l.max l.number l.whole l.fn.writes.items l.fn.outcomes.items;

@@ -116,8 +116,6 @@ invariant_of-self c =
       places = (let a = c.push_reserved.ensures.capacity in let p = v.places in omega arith);
       most = ap (λ (y : flight.Flying). y.max) entered ∙ v.most;
       room = (let a = c.launch.ensures.len in let p = v.room in omega arith);
-      stock = (let a = c.launch.ensures.len in let p = v.stock in omega arith);
-      empty = v.empty;
       few = (let a = c.launch.ensures.len in let p = v.few in omega arith);
       limit = v.limit;
       tries = v.tries;

@@ -1,7 +1,6 @@
 use Rattle.std.proofs.Common.{◌≡◌, ℕ, ◌-◌, [], arith, refl, sym, ap, ◌∙◌, subst, rules}
 use Rattle.relay_flight.specs.Flying.{Flying, IsFlight}
 use Rattle.relay_lane.specs.Memory.{AllKept, Rises, NoneTwice, Carries, writes_in, AllUnder, SameNumbers, tries_left}
-use Rattle.relay_lane.specs.Walk.{AllEmpty}
 use Rattle.relay_lane.proofs.Valid.{valid_facts}
 use Rattle.relay_lane.proofs.lane.Lane.new.Goals as goal
 
@@ -28,8 +27,6 @@ invariant_of-result c =
       places = omega (arith, c.in_ok-with_capacity.ensures.exact);
       most = ap (λ (x : Flying). x.max) flight;
       room = omega (arith, c.new-3.ensures.len, c.new.ensures.len);
-      stock = omega (arith, c.new-4.ensures.len, c.new.ensures.len);
-      empty = subst AllEmpty (sym c.new-4.ensures.items) tt;
       few = omega (arith, c.new.ensures.len);
       limit = f.held;
       tries = f.tries;

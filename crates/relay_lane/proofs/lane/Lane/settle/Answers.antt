@@ -131,8 +131,6 @@ invariant_of-self c =
       dealt = v.dealt;
       counted = (let p = e.more in let q = v.counted in omega arith);
       done = (let p = e.done in let q = v.done in omega arith);
-      stock = e.stock;
-      empty = e.empty;
       left = (let p = left_walk i.config.attempts i.clock n c.args.whole i.held.items (writes_in i.flown.items n) c.args.outcomes.items in
           let q = ap (tries_left i.config.attempts) e.held in
           let t = ap (λ (f : flight.Flying). f.next) c.settle.ensures.after in
@@ -165,8 +163,6 @@ invariant_of-self-in-None c =
       dealt = v.dealt;
       counted = (let p = e.more in let q = v.counted in omega arith);
       done = (let p = e.fewer in let q = v.done in omega arith);
-      stock = e.stock;
-      empty = e.empty;
       left = (let q = ap (tries_left i.config.attempts) e.same_held in let l = v.left in omega arith);
       config = v.config;
       deals = v.deals;

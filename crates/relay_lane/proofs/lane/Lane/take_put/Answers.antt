@@ -42,8 +42,6 @@ invariant_of-self-2 c =
       dealt = v.dealt;
       counted = (let a = c.if-self.false in omega arith);
       done = (let a = p.len in let b = m.held_len in let d = v.done in let e = c.if-self.false in omega arith);
-      stock = (let a = p.len in let b = on_ok _ _ c.if-is_err.ensures.negation m.stock in omega arith);
-      empty = m.empty;
       left = (let a = ap (tries_left i.config.attempts) items in
           let b = left_more i.config.attempts hs (kept_new c.args.op (i.config.first_version + i.taken) (bytes_of (seen c.self.inside) c.args.op) i.clock) in
           let l = v.left in let t = v.tries in let e = c.if-self.false in omega arith);
