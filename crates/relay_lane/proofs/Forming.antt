@@ -57,10 +57,13 @@ formed s f hs items held e =
       some = subst (λ xs. 0 < length xs) b.1 (ltb-true _ _ (and_left _ _ b.0));
     }
 
-pub items_of_operations : ItemsAreOfOperations
-items_of_operations s items e =
+-- the batch is what was gathered of the candidates
+pub batch_offered : (s : State) (items : List BatchItem) → next_batch s ≡ Some items → (offered (map item_of (candidates s.core)) (gathering s)).items ≡ items
+batch_offered s items e =
     let a = if_some (nat_lt (length s.flights.batches) s.config.in_flight) _ items e in
     let all = map item_of (candidates s.core) in
     let g = gathering s in
-    let b = if_batch (goes s.core.clock s.mark (all_closed s) (offered all g) (closes all g)) _ items a.1 in
-    sym b.1 ∙ offered_chosen (candidates s.core) g
+    (if_batch (goes s.core.clock s.mark (all_closed s) (offered all g) (closes all g)) _ items a.1).1
+
+pub items_of_operations : ItemsAreOfOperations
+items_of_operations s items e = sym (batch_offered s items e) ∙ offered_chosen (candidates s.core) (gathering s)

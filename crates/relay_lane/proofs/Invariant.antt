@@ -174,7 +174,7 @@ met_kept : (max next clock : ℕ) (x : Fate) (h : Kept) (w : Write) (rest : List
 met_kept max next clock Flies h w rest k i t r = (k, r)
 met_kept max next clock Applied h w rest k i t r = r
 met_kept max next clock Already h w rest k i t r = r
-met_kept max next clock Retried h w rest k i t r = (record { home = (record { key = i.key; version = i.version; kind = i.kind }, t refl); sends = k.sends; due = due_most clock h.attempts }, r)
+met_kept max next clock Retried h w rest k i t r = (record { home = (record { key = i.key; version = i.version; kind = i.kind; bytes = i.bytes }, t refl); sends = k.sends; due = due_most clock h.attempts }, r)
 met_kept max next clock (Reported c) h w rest k i t r = r
 
 pub all_kept_walk : (max clock n next : ℕ) (whole : Option ℕ) (hs : List Kept) (p : ℕ) (ws : List Write) (os : List Outcome) → Carries n p hs ws → AllKept max next hs → AllKept max next (kept_walk hs max clock n whole ws os)

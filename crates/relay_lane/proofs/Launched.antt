@@ -125,7 +125,7 @@ carries_new max n (h ∷ hs) p is a = ⊎_elim {C = Carries n p (launched_kept (
     subst (λ b. Carries n p (if b then launch_one n p h ∷ launched_kept hs n (p + 1) (drop 1 is) else h ∷ launched_kept hs n p is) (if b then option_to_list h.write ++ freight hs (drop 1 is) else freight hs is)) (sym t)
     (subst (λ w. Carries n p (launch_one n p h ∷ launched_kept hs n (p + 1) (drop 1 is)) (option_to_list w ++ freight hs (drop 1 is))) (sym o.found)
     (subst (λ b. Given b (IsMet n p (launch_one n p h) (o.write ∷ freight hs (drop 1 is))) × Carries n (further b p) (launched_kept hs n (p + 1) (drop 1 is)) (rest_if b (o.write ∷ freight hs (drop 1 is)))) (sym (equal_test n n refl))
-    (record { write = o.write; found = refl; spot = refl; matches = record { key = o.matches.key; version = o.matches.version; kind = o.matches.kind } }, carries_new max n hs (p + 1) (drop 1 is) a.1))))
+    (record { write = o.write; found = refl; spot = refl; matches = record { key = o.matches.key; version = o.matches.version; kind = o.matches.kind; bytes = o.matches.bytes } }, carries_new max n hs (p + 1) (drop 1 is) a.1))))
     (λ t.
     subst (λ b. Carries n p (if b then launch_one n p h ∷ launched_kept hs n (p + 1) (drop 1 is) else h ∷ launched_kept hs n p is) (if b then option_to_list h.write ++ freight hs (drop 1 is) else freight hs is)) (sym t)
     (step_carries n p h (launched_kept hs n p is) (freight hs is) (not_yet max n h h.write h.flies a.0.home) (carries_new max n hs p is a.1)))

@@ -13,3 +13,4 @@ pub mod Settling
 pub mod Keeping
 pub mod Invariant
 pub mod Taken
+pub mod Weighing

@@ -4,6 +4,8 @@ use Rattle.std.specs.Prelude.{◌⊎◌, if◌then◌else◌, map, nat_lt, Resul
 use borrow.Author.Tests.{ltb-true}
 use Rattle.relay_action.specs.declared.write.Write.{Write}
 use Rattle.relay_action.specs.declared.operation.Op.{Op}
+use Rattle.relay_ndjson.specs.Bulk.{write_text}
+use Rattle.relay_results.specs.Documents.{write_for}
 use Rattle.relay_delivery.specs.Lane.{Entry, State, entry_at}
 use Rattle.relay_results.proofs.Lists.{true_or_false}
 use Rattle.relay_lane.specs.declared.kept.Kept.{Kept}
@@ -39,9 +41,9 @@ carries_more : (n p : ℕ) (hs : List Kept) (h : Kept) (ws : List Write) → fli
 carries_more n p [] h ws t c = subst (λ b. Given b (IsMet n p h ws) × (rest_if b ws ≡ [])) (sym t) (tt, c)
 carries_more n p (g ∷ hs) h ws t c = (c.0, carries_more n (further (flies_here n g.flies) p) hs h (rest_if (flies_here n g.flies) ws) t c.1)
 
-pub readable_more : (max next v bytes clock : ℕ) (hs hs' : List Kept) (fs : List Sent) (o : Op) → 1 ≤ max → clock ≤ 18446744073709551615 → hs' ≡ hs ++ kept_new o v bytes clock ∷ [] → AllUnder v hs → IsReadable max next hs fs → IsReadable max next hs' fs
-readable_more max next v bytes clock hs hs' fs o le ends e u r = subst (λ xs. IsReadable max next xs fs) (sym e) (record {
-  kept = kept_more max next hs (kept_new o v bytes clock) r.kept (record { home = (record { key = refl; version = refl; kind = refl }, omega (arith, le)); sends = omega arith; due = ends });
+pub readable_more : (max next v bytes clock : ℕ) (hs hs' : List Kept) (fs : List Sent) (o : Op) → 1 ≤ max → clock ≤ 18446744073709551615 → bytes ≡ length (write_text (write_for o v)) → hs' ≡ hs ++ kept_new o v bytes clock ∷ [] → AllUnder v hs → IsReadable max next hs fs → IsReadable max next hs' fs
+readable_more max next v bytes clock hs hs' fs o le ends weighed e u r = subst (λ xs. IsReadable max next xs fs) (sym e) (record {
+  kept = kept_more max next hs (kept_new o v bytes clock) r.kept (record { home = (record { key = refl; version = refl; kind = refl; bytes = weighed }, omega (arith, le)); sends = omega arith; due = ends });
   rises = rises_more hs (kept_new o v bytes clock) r.rises u;
   once = r.once;
   carries = λ n. carries_more n 0 hs (kept_new o v bytes clock) (writes_in fs n) refl (r.carries n);

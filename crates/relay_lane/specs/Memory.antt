@@ -1,11 +1,12 @@
 -- What stands in a lane's memory: how it is read, and what always holds of it.
-use Rattle.std.specs.Prelude.{◌≡◌, ℕ, ◌+◌, ◌-◌, ◌<◌, ◌≤◌, List, [], ◌∷◌, ◌++◌, Option, Some, None, option_map, Bool, true, false, ◌==◌, ◌||◌, map, slice_get, if◌then◌else◌}
+use Rattle.std.specs.Prelude.{◌≡◌, ℕ, ◌+◌, ◌-◌, ◌<◌, ◌≤◌, List, [], ◌∷◌, ◌++◌, Option, Some, None, option_map, Bool, true, false, ◌==◌, ◌||◌, map, length, slice_get, if◌then◌else◌}
 use Rattle.relay_action.specs.Actions.{kind_of}
 use Rattle.relay_action.specs.declared.write.Write.{Write}
 use Rattle.relay_action.specs.declared.action.Action.{Action}
 use Rattle.relay_action.specs.declared.action.Action.TheVariants.{Delete}
 use Rattle.relay_action.specs.declared.action.ActionKind.{ActionKind}
 use Rattle.relay_action.specs.declared.operation.Op.{Op}
+use Rattle.relay_ndjson.specs.Bulk.{write_text}
 use Rattle.relay_batch.specs.declared.item.BatchItem.{BatchItem}
 use Rattle.relay_results.specs.Outside.{Answer}
 use Rattle.relay_results.specs.declared.outcome.Outcome.{Outcome}
@@ -65,6 +66,7 @@ pub record IsWriteOf (h : Kept) (w : Write) : Type 0 where
   pub key : w.key ≡ h.key
   pub version : w.version ≡ h.version
   pub kind : kind_of w.action ≡ h.kind
+  pub bytes : h.bytes ≡ length (write_text w)
 
 abbrev pub Given : Bool → Type 0 → Type 0
 Given true X = X

@@ -10,13 +10,14 @@ use Rattle.relay_ndjson.specs.Bulk.{write_text}
 use Rattle.relay_batch.specs.declared.item.BatchItem.{BatchItem}
 use Rattle.relay_batch.specs.Gathering.{Gathering}
 use Rattle.relay_flight.specs.Flying as flight
+use Rattle.relay_results.specs.Words.{Mem}
 use Rattle.relay_results.specs.Documents.{write_for}
 use Rattle.relay_results.specs.Numbers.{from_zero}
 use Rattle.relay_results.specs.Outside.{Answer, Items}
 use Rattle.relay_results.specs.Matching.{matches}
 use Rattle.relay_results.specs.Fates as fates
 use Rattle.relay_delivery.specs.Causes.{deals_from}
-use Rattle.relay_delivery.specs.Machine.{Config, Held, version_at, how_many, is_applied_fate, is_already_fate}
+use Rattle.relay_delivery.specs.Machine.{Config, Held, version_at, write_of, how_many, is_applied_fate, is_already_fate}
 use Rattle.relay_delivery.specs.Lane as delivery
 use Rattle.relay_lane.specs.declared.config.RelayConfig.{RelayConfig}
 use Rattle.relay_lane.specs.declared.settled.TakeFault.{TakeFault}
@@ -184,6 +185,10 @@ is_finished s = all_closed s && (length s.core.held == 0)
 
 -- ---- what always holds
 
+-- the bytes of what waits are those of its lines
+abbrev pub AreWeighed : List delivery.Entry → Type 0
+AreWeighed es = (e : delivery.Entry) → Mem e es → e.held.flies ≡ None → e.bytes ≡ length (write_text (write_of e.held))
+
 -- It works within its limits, has all its senders, and holds and sends no more than it may; requests are numbered one
 -- after another, far below 2^63.
 pub record IsLane (s : State) : Type 0 where
@@ -191,6 +196,7 @@ pub record IsLane (s : State) : Type 0 where
   pub config : s.core.config ≡ config_of s.config
   pub senders : length s.closed ≡ s.config.producers + 1
   pub held : length s.core.held ≤ s.config.max_held
+  pub weighed : AreWeighed s.core.held
   pub flying : length s.flights.batches ≤ s.config.in_flight
   pub next : s.flights.next ≡ s.core.requests + 1
   pub numbers : s.core.requests ≤ 2 ^ 61

@@ -24,7 +24,7 @@ invariant_of-self-2 c =
     let hs = i.held.items in
     let items : c.push_reserved-2.new.self.items ≡ hs ++ kept_new c.args.op (i.config.first_version + i.taken) (bytes_of (seen c.self.inside) c.args.op) i.clock ∷ [] = p.items ∙ (λ j. m.held j ++ c.kept_of.ensures j ∷ []) in
     record {
-      readable = readable_more i.config.attempts (i.flight.next - 1) (i.config.first_version + i.taken) (bytes_of (seen c.self.inside) c.args.op) i.clock hs _ i.flown.items c.args.op v.tries.0 (omega (arith, c.self.ranges)) items
+      readable = readable_more i.config.attempts (i.flight.next - 1) (i.config.first_version + i.taken) (bytes_of (seen c.self.inside) c.args.op) i.clock hs _ i.flown.items c.args.op v.tries.0 (omega (arith, c.self.ranges)) refl items
           (under_same (i.config.first_version + min i.taken i.deals) (i.config.first_version + i.taken) hs (omega arith) v.under) v.readable;
       under = subst (λ xs. AllUnder (i.config.first_version + min (i.taken + 1) i.deals) xs) (sym items)
           (under_more (i.config.first_version + min i.taken i.deals) (i.config.first_version + min (i.taken + 1) i.deals) hs (kept_new c.args.op (i.config.first_version + i.taken) (bytes_of (seen c.self.inside) c.args.op) i.clock) (omega arith) (omega (arith, c.if-self.false)) v.under);

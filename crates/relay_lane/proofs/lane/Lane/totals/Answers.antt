@@ -4,6 +4,7 @@ use Rattle.relay_lane.specs.State.{State, IsLane}
 use Rattle.relay_lane.specs.Memory.{writes_in}
 use Rattle.relay_lane.specs.View.{seen}
 use Rattle.relay_lane.proofs.Taken.{entries_length}
+use Rattle.relay_lane.proofs.Weighing.{weighed_seen}
 use Rattle.relay_lane.proofs.lane.Lane.totals.Goals as goal
 
 pub returns-clause-lane : goal.returns-clause-lane
@@ -16,6 +17,7 @@ returns-clause-lane c =
       config = λ j. record { first = i.config.first_version; deals = v.deals j; max = i.config.attempts };
       senders = (let n = v.senders in omega arith);
       held = (let n = entries_length i.held.items (writes_in i.flown.items) in let f = v.few in omega arith);
+      weighed = weighed_seen i.config.attempts (i.flight.next - 1) (writes_in i.flown.items) i.held.items v.readable.kept;
       flying = (let w = v.flight.within in let m = v.most in omega arith);
       next = omega (arith, begun);
       numbers = (let l = v.left in let d = v.dealt in omega (arith, l, d, begun));
