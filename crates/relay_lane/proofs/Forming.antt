@@ -4,6 +4,8 @@ use Rattle.std.specs.Prelude.{if◌then◌else◌, nat_lt, map, filter, Result, 
 use borrow.Author.Tests.{ltb-true}
 use Rattle.relay_action.specs.declared.write.Write.{Write}
 use Rattle.relay_batch.specs.declared.item.BatchItem.{BatchItem}
+use Rattle.relay_batch.specs.declared.item.Limits.{Limits}
+use Rattle.std.proofs.lemmas.List.{length-map}
 use Rattle.relay_results.specs.Words.{IsSubsequence}
 use Rattle.relay_results.proofs.Lists.{and_left}
 use Rattle.relay_delivery.specs.Lane.{candidates}
@@ -67,3 +69,15 @@ batch_offered s items e =
 
 pub items_of_operations : ItemsAreOfOperations
 items_of_operations s items e = sym (batch_offered s items e) ∙ offered_chosen (candidates s.core) (gathering s)
+
+some_offered : (clock mark : ℕ) (all_closed : Bool) (limits : Limits) (is items : List BatchItem) → batch_of clock mark all_closed limits is ≡ Some items → 0 < length is
+some_offered clock mark all_closed limits [] items e = absurd (cc)
+some_offered clock mark all_closed limits (i ∷ is) items e = omega arith
+
+-- where a batch is sent there are candidates
+pub candidates_of_batch : (s : State) (items : List BatchItem) → next_batch s ≡ Some items → 0 < length (candidates s.core)
+candidates_of_batch s items e =
+    let a = if_some (nat_lt (length s.flights.batches) s.config.in_flight) _ items e in
+    let n = length-map (candidates s.core) item_of in
+    let some = some_offered s.core.clock s.mark (all_closed s) s.config.limits (map item_of (candidates s.core)) items a.1 in
+    omega (arith, some, n)

@@ -1,6 +1,6 @@
 -- What is read of the held list, and who is a candidate.
 use Rattle.std.proofs.Common.{◌≡◌, ℕ, zero, suc, ◌+◌, ◌-◌, ◌<◌, ◌≤◌, List, [], ◌∷◌, ◌++◌, length, Option, Some, None, Bool, true, false, ◌==◌, ◌&&◌, ◌||◌, refl, sym, ap, ◌∙◌, subst, ⊎_elim, inl, inr, arith, drop}
-use Rattle.std.specs.Prelude.{◌⊎◌, if◌then◌else◌, not, nat_lt, nat_le, map, filter, slice_get, option_map, Result, Ok, Err, IfOk, IfSome, is_some}
+use Rattle.std.specs.Prelude.{◌⊎◌, if◌then◌else◌, not, nat_lt, nat_le, map, filter, slice_get, option_map, Result, Ok, Err, IfOk, OnErr, IfSome, is_some}
 use Rattle.std.specs.List.{list_any}
 use Rattle.relay_action.specs.declared.write.Write.{Write}
 use Rattle.relay_batch.specs.declared.item.BatchItem.{BatchItem}
@@ -51,6 +51,10 @@ pub offers_seen : (s : delivery.State) (f : ℕ → List Write) (hs : List Kept)
 offers_seen s f hs e = ap (map item_of) (candidates_seen s f hs e) ∙ items_seen f (filter (is_candidate_kept hs s.clock) hs)
 
 -- ---- results
+
+pub on_err_map : {A E : Type 0} (r : Result A E) (P Q : Type 0) → (P → Q) → OnErr r P → OnErr r Q
+on_err_map (Ok x) P Q f h = tt
+on_err_map (Err e) P Q f h = f h
 
 pub if_ok_map : {A E : Type 0} (r : Result A E) (P Q : A → Type 0) → ((x : A) → P x → Q x) → IfOk r P → IfOk r Q
 if_ok_map (Ok x) P Q f h = f x h

@@ -94,6 +94,7 @@ pub(crate) fn gather(
     limits: Limits,
 ) -> Result<Gathered, AllocError>
     ensures batch { IfOk result (λ g. g.batcher ≡ offered (items_of_kept held.now clock held.now) (record { limits = limits; items = [] })) }
+    ensures err { OnErr result (0 < length (items_of_kept held.now clock held.now)) }
     ensures closed { IfOk result (λ g. g.closed ≡ closes (items_of_kept held.now clock held.now) (record { limits = limits; items = [] })) }
 {
     let mut batcher = Batcher::new(alloc, limits);
@@ -137,12 +138,8 @@ pub(crate) fn due_batch(
     limits: Limits,
 ) -> Result<Option<Batch>, AllocError>
     ensures batch { IfOk result (λ b. b ≡ batch_of clock mark all_closed limits (items_of_kept held.now clock held.now)) }
-    ensures held { OnErr result (0 < length held.now) }
-    ensures some { IfOk result (λ b. IfSome b (λ x. 0 < length held.now)) }
+    ensures err { OnErr result (0 < length (items_of_kept held.now clock held.now)) }
 {
-    if held.is_empty() {
-        return Ok(None);
-    }
     let Gathered { batcher, closed } = gather(alloc, held, clock, limits)?;
     let is_ready = batcher.ready(clock);
     let Some(batch) = batcher.close() else {

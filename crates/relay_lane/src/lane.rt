@@ -6,6 +6,7 @@ ghost use Rattle.relay_results.specs.Outside.{Answer, Lost, Whole, Items};
 ghost use Rattle.relay_results.specs.Matching.{matches};
 ghost use Rattle.relay_results.specs.Verdicts.{is_retried_whole};
 ghost use Rattle.relay_flight.specs.Flying.{batch_at};
+ghost use Rattle.relay_delivery.specs.Lane.{candidates};
 ghost use Rattle.relay_lane.specs.Limits.{is_valid};
 ghost use Rattle.relay_lane.specs.Walk.{report_of};
 ghost use Rattle.relay_lane.specs.Memory.{SaysAs};
@@ -284,8 +285,7 @@ impl Lane {
     fn next_batch(&self) -> Result<Option<Batch>, AllocError>
         ensures batch { IfOk result (λ b. b ≡ next_batch self.now) }
         ensures place { OnErr result (length self.now.flights.batches < self.now.config.in_flight) }
-        ensures held { OnErr result (0 < length self.now.core.held) }
-        ensures some { IfOk result (λ b. IfSome b (λ x. 0 < length self.now.core.held)) }
+        ensures candidates { OnErr result (0 < length (candidates self.now.core)) }
         ensures free { IfOk result (λ b. IfSome b (λ x. length self.now.flights.batches < self.now.config.in_flight)) }
     {
         if self.flight.flying() >= self.config.in_flight {
@@ -325,14 +325,14 @@ impl Lane {
     /// no older one of their document before them are gathered in rising version until the batch is
     /// closed, and they go where the batch is full, ready or flushed, or where the lane is closed. Each
     /// of them has one send and one attempt more. `AllocError`: there was no memory for the batch or for
-    /// its writes, and the lane is as before; a place was free then, and something is held.
+    /// its writes, and the lane is as before; a place was free then, and some operation may be sent.
     pub fn request(&mut self) -> Result<Option<u64>, AllocError>
         ensures when { IfOk result (λ o. is_some o ≡ is_some (next_batch self.old)) }
         ensures number { IfOk result (λ o. IfSome o (λ n. n ≡ self.old.flights.next)) }
         ensures after { OnOk result (self.new ≡ after_request self.old (next_batch self.old)) }
         ensures unchanged { OnErr result (self.new ≡ self.old) }
         ensures place { OnErr result (length self.old.flights.batches < self.old.config.in_flight) }
-        ensures held { OnErr result (0 < length self.old.core.held) }
+        ensures candidates { OnErr result (0 < length (candidates self.old.core)) }
     {
         let Some(batch) = self.next_batch()? else {
             return Ok(None);

@@ -6,5 +6,6 @@ use Rattle.relay_lane.proofs.gather.gather.Given as goal
 abbrev pub invariant-ops : goal.invariant-ops
 invariant-ops l = record {
   batch : offered (items_of_kept l.held l.clock (drop l.i l.held)) l.batcher ≡ offered (items_of_kept l.held l.clock l.held) (record { limits = l.fn.limits; items = [] });
+  fewer : length (items_of_kept l.held l.clock (drop l.i l.held)) ≤ length (items_of_kept l.held l.clock l.held);
   closed : closes (items_of_kept l.held l.clock (drop l.i l.held)) l.batcher ≡ closes (items_of_kept l.held l.clock l.held) (record { limits = l.fn.limits; items = [] });
 }

@@ -1,11 +1,14 @@
-use Rattle.std.proofs.Common.{◌≡◌, List, sym, ap, ◌∙◌, length, true, false, arith, refl}
+use Rattle.std.proofs.Common.{◌≡◌, ◌<◌, List, sym, ap, ◌∙◌, subst, length, true, false, arith, refl}
+use Rattle.std.proofs.lemmas.List.{length-map}
+use Rattle.relay_delivery.specs.Lane.{candidates}
+use Rattle.relay_lane.specs.Rule.{item_of}
 use Rattle.std.specs.Prelude.{None, nat_lt, if◌then◌else◌}
 use Rattle.relay_lane.specs.State.{State, next_batch, all_closed}
 use Rattle.relay_lane.specs.Memory.{writes_in}
 use Rattle.relay_lane.specs.View.{seen}
 use Rattle.relay_lane.specs.Rule.{batch_of}
 use Rattle.relay_lane.specs.Walk.{items_of_kept}
-use Rattle.relay_lane.proofs.Reading.{if_ok_map, offers_seen}
+use Rattle.relay_lane.proofs.Reading.{if_ok_map, on_err_map, offers_seen}
 use Rattle.std.proofs.lemmas.Bool.{lt-ltb}
 use Rattle.relay_lane.proofs.lane.Lane.next_batch.Goals as goal
 
@@ -21,3 +24,15 @@ returns-clause-batch c =
     ∙ sym (ap (λ t. if t then batch_of a.clock a.mark (all_closed (seen a)) a.config.limits (Rattle.std.specs.Prelude.map Rattle.relay_lane.specs.Rule.item_of (Rattle.relay_delivery.specs.Lane.candidates (seen a).core)) else None) few)
     ∙ ap next_batch c.self.view_is)
     c.due_batch.ensures.batch
+
+pub returns-clause-candidates : goal.returns-clause-candidates
+returns-clause-candidates c =
+    let a = c.self.inside in
+    let seen_items = offers_seen (seen a).core (writes_in a.flown.items) a.held.items refl in
+    on_err_map c.due_batch.result _ _
+    (λ some. subst (λ (s : State). 0 < length (candidates s.core)) c.self.view_is
+    (let n = length-map (candidates (seen a).core) item_of in
+    let m = ap length seen_items in
+    let k = ap (λ hs. length (items_of_kept hs a.clock hs)) c.deref.ensures.value in
+    omega (arith, some, n, m, k)))
+    c.due_batch.ensures.err
