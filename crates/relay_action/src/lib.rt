@@ -16,8 +16,6 @@ pub mod memory;
 pub mod operation;
 pub mod standard;
 pub mod stream;
-#[cfg(test)]
-mod tests;
 pub mod text;
 pub mod write;
 

@@ -12,8 +12,6 @@ mod names;
 mod number;
 mod range;
 mod reading;
-#[cfg(test)]
-mod tests;
 mod value;
 
 pub use items::Items;

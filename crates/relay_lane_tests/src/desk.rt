@@ -40,6 +40,8 @@ pub enum Step<'a> {
     NotTaken(TakeFault),
     /// So many ticks.
     Ticks(u32),
+    /// A tick that comes as a message.
+    Tick,
     Flush,
     /// A sender closes.
     Close(u32),
@@ -245,6 +247,7 @@ fn plays(alloc: Global, desk: &mut Desk, step: &Step<'_>) -> Result<bool, Fail> 
             }
             Ok(true)
         }
+        Step::Tick => Ok(take(&mut desk.lane, 0, 0, Body::Tick)?.is_none()),
         Step::Flush => Ok(take(&mut desk.lane, 0, 0, Body::Flush)?.is_none()),
         Step::Close(sender) => Ok(take(&mut desk.lane, *sender, 0, Body::Done)?.is_none()),
         _ => answers(alloc, desk, step),

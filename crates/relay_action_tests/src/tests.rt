@@ -1,15 +1,8 @@
 //! Limits, copies, and what a generic caller sees of a stream.
-use crate::action::{Action, ActionKind};
-use crate::fault::ActionFault;
-use crate::key::DocKey;
-use crate::lane::lane_of;
-use crate::list::List;
-use crate::memory::MemStream;
-use crate::operation::{Op, OpName};
-use crate::standard::StdStream;
-use crate::stream::{ByteIn, ByteOut, StreamFailed, write_all};
-use crate::text::Text;
-use crate::write::Write;
+use relay_action::{
+    Action, ActionFault, ActionKind, ByteIn, ByteOut, DocKey, List, MemStream, Op, OpName,
+    StdStream, StreamFailed, Text, Write, lane_of, write_all,
+};
 use std::alloc::{AllocError, Global};
 use std::test::Fail;
 

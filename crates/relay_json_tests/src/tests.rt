@@ -1,7 +1,7 @@
 //! Texts read, and looked into.
 ghost use Rattle.std.specs.Prelude.{◌||◌, bytes_eq, codes};
 
-use crate::{Names, ReadFault, Scratch, Tree};
+use relay_json::{Names, ReadFault, Scratch, Tree};
 use std::alloc::{AllocError, Global};
 use std::test::Fail;
 
