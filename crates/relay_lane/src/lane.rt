@@ -134,6 +134,13 @@ impl Lane {
         self.closed.len() as u32
     }
 
+    /// How many operations it holds at most.
+    pub fn max_held(&self) -> u32
+        ensures { result ≡ self.now.config.max_held }
+    {
+        self.config.max_held
+    }
+
     /// How many operations are held.
     pub fn held(&self) -> u32
         ensures { result ≡ length self.now.core.held }
