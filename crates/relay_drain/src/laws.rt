@@ -1,0 +1,1 @@
+//! Laws. These functions do nothing; their contracts are the laws.
