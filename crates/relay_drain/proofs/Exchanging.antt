@@ -18,7 +18,7 @@ use Rattle.relay_results.proofs.Fates.{answers_end, retried_tries}
 use Rattle.relay_delivery.specs.Machine.{Config, Held, Place, write_of, version_at, place_of, launched_at, launched, landed, fate_of}
 use Rattle.relay_delivery.specs.Lane as delivery
 use Rattle.relay_delivery.specs.Lane.{Entry, Flying, held_of, candidates, is_candidate, writes_of_all, launched_entry, backoff, kept_entry, kept_entries, is_other, settled, writes_at}
-use Rattle.relay_lane.specs.State.{State, all_closed, gathering, next_batch, next_entries, after_request, answered, is_flying, writes_of, IsLane}
+use Rattle.relay_lane.specs.State.{State, all_closed, gathering, next_batch, next_entries, after_request, answered, is_flying, writes_of}
 use Rattle.relay_lane.specs.Rule.{item_of, offered, closes, goes, batch_if}
 use Rattle.relay_lane.proofs.Forming.{items_of_operations}
 use Rattle.relay_drain.proofs.Limits.{among}
@@ -195,7 +195,7 @@ no_batches n items bs none =
     ap (λ xs. filter (λ (e : ℕ × List BatchItem). not (e.0 == n)) (xs ++ (n, items) ∷ [])) none
     ∙ ap (λ b. if not b then (n, items) ∷ [] else []) (equal_test n n refl)
 
-module _ (s : State) (l : IsLane s) (r : IsAtRest s) (items : List BatchItem) (some : next_batch s ≡ Some items) (a : Answer) (answers : a ≢ Unanswered) where
+module _ (s : State) (next : s.flights.next ≡ s.core.requests + 1) (r : IsAtRest s) (items : List BatchItem) (some : next_batch s ≡ Some items) (a : Answer) (answers : a ≢ Unanswered) where
   -- the lane once the request is sent, and once it is answered
   pub sent : State
   sent = after_request s (Some items)
@@ -209,7 +209,7 @@ module _ (s : State) (l : IsLane s) (r : IsAtRest s) (items : List BatchItem) (s
   done_is = ap (λ b. answered (after_request s b) s.flights.next a) some
 
   zero_is : from_zero s.flights.next ≡ s.core.requests
-  zero_is = let n = l.next in omega (arith, n)
+  zero_is = omega (arith, next)
 
   their_writes : List Write
   their_writes = writes_at (from_zero s.flights.next) (s.core.flying ++ record { request = s.core.requests; writes = writes_of_all (next_entries s) } ∷ [])
@@ -249,7 +249,7 @@ module _ (s : State) (l : IsLane s) (r : IsAtRest s) (items : List BatchItem) (s
   pub sent_flies : is_flying s.flights.next sent ≡ true
   unfolding sent
   sent_flies = ap (λ fs. list_any (λ (f : Flying). from_one f.request == s.flights.next) (fs ++ record { request = s.core.requests; writes = writes_of_all (next_entries s) } ∷ [])) r.flying
-      ∙ ap (λ b. b || false) (equal_test (from_one s.core.requests) s.flights.next (sym l.next))
+      ∙ ap (λ b. b || false) (equal_test (from_one s.core.requests) s.flights.next (sym next))
 
   pub sent_writes : writes_of s.flights.next sent ≡ writes_of_all (next_entries s)
   unfolding sent
