@@ -195,6 +195,20 @@ no_batches n items bs none =
     ap (λ xs. filter (λ (e : ℕ × List BatchItem). not (e.0 == n)) (xs ++ (n, items) ∷ [])) none
     ∙ ap (λ b. if not b then (n, items) ∷ [] else []) (equal_test n n refl)
 
+-- the request that is formed flies, with the writes of its operations
+module _ (s : State) (next : s.flights.next ≡ s.core.requests + 1) (r : IsAtRest s) (items : List BatchItem) (some : next_batch s ≡ Some items) where
+  pub request_flies : is_flying s.flights.next (after_request s (next_batch s)) ≡ true
+  request_flies = ap (λ b. is_flying s.flights.next (after_request s b)) some
+      ∙ ap (λ fs. list_any (λ (f : Flying). from_one f.request == s.flights.next) (fs ++ record { request = s.core.requests; writes = writes_of_all (next_entries s) } ∷ [])) r.flying
+      ∙ ap (λ b. b || false) (equal_test (from_one s.core.requests) s.flights.next (sym next))
+
+  pub request_writes : writes_of s.flights.next (after_request s (next_batch s)) ≡ writes_of_all (next_entries s)
+  request_writes =
+      let zero : s.core.requests ≡ from_zero s.flights.next = omega (arith, next) in
+      ap (λ b. writes_of s.flights.next (after_request s b)) some
+      ∙ ap (λ fs. writes_at (from_zero s.flights.next) (fs ++ record { request = s.core.requests; writes = writes_of_all (next_entries s) } ∷ [])) r.flying
+      ∙ ap (λ b. if b then writes_of_all (next_entries s) else []) (equal_test s.core.requests (from_zero s.flights.next) zero)
+
 module _ (s : State) (next : s.flights.next ≡ s.core.requests + 1) (r : IsAtRest s) (items : List BatchItem) (some : next_batch s ≡ Some items) (a : Answer) (answers : a ≢ Unanswered) where
   -- the lane once the request is sent, and once it is answered
   pub sent : State
@@ -244,17 +258,6 @@ module _ (s : State) (next : s.flights.next ≡ s.core.requests + 1) (r : IsAtRe
     clock = r.clock;
     held = λ e m. all_wait s.core.config s.core.taken s.core.clock s.core.requests chosen_ones their_writes a answers s.core.held r.held e (subst (Mem e) held_is m);
   }
-
-  -- it flies, with the writes of its operations
-  pub sent_flies : is_flying s.flights.next sent ≡ true
-  unfolding sent
-  sent_flies = ap (λ fs. list_any (λ (f : Flying). from_one f.request == s.flights.next) (fs ++ record { request = s.core.requests; writes = writes_of_all (next_entries s) } ∷ [])) r.flying
-      ∙ ap (λ b. b || false) (equal_test (from_one s.core.requests) s.flights.next (sym next))
-
-  pub sent_writes : writes_of s.flights.next sent ≡ writes_of_all (next_entries s)
-  unfolding sent
-  sent_writes = ap (λ fs. writes_at (from_zero s.flights.next) (fs ++ record { request = s.core.requests; writes = writes_of_all (next_entries s) } ∷ [])) r.flying
-      ∙ ap (λ b. if b then writes_of_all (next_entries s) else []) (equal_test s.core.requests (from_zero s.flights.next) (sym zero_is))
 
   -- the rest of the lane
   pub done_requests : done.core.requests ≡ s.core.requests + 1

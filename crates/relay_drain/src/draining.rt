@@ -30,7 +30,8 @@ pub fn pump<W: Wire>(lane: &mut Lane, wire: &mut W) -> Result<u64, AllocError>
     ensures describes { W.describes wire.new ≡ W.describes wire.old }
     ensures delivers { Delivers (W.describes wire.old) W.fits wire.old wire.new lane.old lane.new }
 {
-    let mut sent = 0;
+    let _ = lane.totals();
+    let mut sent: u64 = 0;
     'requests: while send_next(lane, wire)? {
         sent += 1;
     }
