@@ -41,7 +41,7 @@ worked_turn going x s t g may e = record { turns = x ∷ []; may = (g, may, tt);
 
 -- ---- one turn
 
-some_batch : (b : Option (List BatchItem)) → is_some b ≡ true → (items : List BatchItem) × (b ≡ Some items)
+pub some_batch : (b : Option (List BatchItem)) → is_some b ≡ true → (items : List BatchItem) × (b ≡ Some items)
 some_batch None e = absurd (cc)
 some_batch (Some items) e = (items, refl)
 

@@ -89,6 +89,14 @@ one_waits g taken clock n p Retried e d w flies m =
     (record { waits = refl; due = (let k : backoff clock (e.held.attempts + 1) ≤ last_tick = omega arith in k); bytes = w.bytes; place = w.place; version = w.version; was_taken = w.was_taken; within = w.within })
 one_waits g taken clock n p (Reported cause) e d w flies m = absurd m
 
+one_version : (clock n p : ℕ) (x : Fate) (e d : Entry) → Mem d (kept_entry clock x (flown_entry n p e)) → d.held.version ≡ e.held.version
+unfolding flown_entry
+one_version clock n p Flies e d m = ap (λ (y : Entry). y.held.version) (Mem-one d _ m)
+one_version clock n p Applied e d m = absurd m
+one_version clock n p Already e d m = absurd m
+one_version clock n p Retried e d m = ap (λ (y : Entry). y.held.version) (Mem-one d _ m)
+one_version clock n p (Reported cause) e d m = absurd m
+
 -- ---- all that are held
 
 module _ (g : Config) (taken clock n : ℕ) (chosen : List Held) (ws : List Write) (a : Answer) (answers : a ≢ Unanswered) where
@@ -161,6 +169,18 @@ module _ (g : Config) (taken clock n : ℕ) (chosen : List Held) (ws : List Writ
   all_wait (e ∷ es) w d m = ⊎_elim {C = IsWaiting g taken d}
       (λ here. waits_at e d (place_of e.held.version chosen) (w e (inl refl)) (subst (Mem d) (left_is g clock n chosen ws a e) here))
       (λ later. all_wait es (λ x y. w x (inr y)) d later)
+      (Mem-cases d (left_of g clock n chosen ws a e) (left_all es) (subst (Mem d) (left_cons e es) m))
+
+  version_at_place : (e d : Entry) (p : Option ℕ) → e.held.flies ≡ None → Mem d (left_at g clock n ws a e p) → d.held.version ≡ e.held.version
+  version_at_place e d None w m = ap (λ (y : Entry). y.held.version) (Mem-one d e (subst (Mem d) (left_none g clock n ws a e w) m))
+  version_at_place e d (Some p) w m = one_version clock n p (fate_at g p ws a e.held) e d (subst (Mem d) (left_some g clock n p ws a e) m)
+
+  -- each is one that was held
+  pub all_from : (es : List Entry) → ((e : Entry) → Mem e es → IsWaiting g taken e) → (d : Entry) → Mem d (left_all es) → (e : Entry) × Mem e es × (d.held.version ≡ e.held.version)
+  all_from [] w d m = absurd (subst (Mem d) left_nil m)
+  all_from (e ∷ es) w d m = ⊎_elim {C = (h : Entry) × Mem h (e ∷ es) × (d.held.version ≡ h.held.version)}
+      (λ here. (e, inl refl, version_at_place e d (place_of e.held.version chosen) (w e (inl refl)).waits (subst (Mem d) (left_is g clock n chosen ws a e) here)))
+      (λ later. let r = all_from es (λ x y. w x (inr y)) d later in (r.0, inr r.1, r.2))
       (Mem-cases d (left_of g clock n chosen ws a e) (left_all es) (subst (Mem d) (left_cons e es) m))
 
 -- ---- the lane
@@ -279,3 +299,7 @@ module _ (s : State) (next : s.flights.next ≡ s.core.requests + 1) (r : IsAtRe
   pub done_mark : (done.mark ≡ s.mark) × (done.closed ≡ s.closed)
   unfolding done sent
   done_mark = (refl, refl)
+
+  pub done_from : (d : Entry) → Mem d done.core.held → (e : Entry) × Mem e s.core.held × (d.held.version ≡ e.held.version)
+  unfolding all_left
+  done_from d m = all_from s.core.config s.core.taken s.core.clock s.core.requests chosen_ones their_writes a answers s.core.held r.held d (subst (Mem d) held_is m)

@@ -4,4 +4,6 @@ pub mod Waiting
 pub mod Ticking
 pub mod Sending
 pub mod Carrying
+pub mod Flushing
 pub mod Counting
+pub mod Stepping

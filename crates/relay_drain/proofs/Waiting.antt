@@ -100,7 +100,7 @@ below_test a b lt = ⊎_elim {C = nat_lt a b ≡ true} (λ t. t) (λ t. let k = 
 above_test : (a b : ℕ) → b < a → nat_le a b ≡ false
 above_test a b lt = ⊎_elim {C = nat_le a b ≡ false} (λ t. let k = leb-true a b t in absurd (omega (arith, k, lt))) (λ t. t) (true_or_false (nat_le a b))
 
-within_test : (a b : ℕ) → a ≤ b → nat_le a b ≡ true
+pub within_test : (a b : ℕ) → a ≤ b → nat_le a b ≡ true
 within_test a b le = ⊎_elim {C = nat_le a b ≡ true} (λ t. t) (λ t. let k = leb-false a b t in absurd (omega (arith, k, le))) (true_or_false (nat_le a b))
 
 -- the first offer is taken

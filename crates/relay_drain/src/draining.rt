@@ -82,7 +82,7 @@ pub fn make_room<W: Wire, P: Pace>(
     requires rest { IsAtRest lane.old }
     requires out { W.out wire.old ≡ [] }
     ensures done { OnOk result (length lane.new.core.held < lane.new.config.max_held) }
-    ensures memory { OnErr result (length lane.new.core.held ≡ lane.new.config.max_held) }
+    ensures memory { OnErr result (lane.new.config.max_held ≤ length lane.new.core.held) }
     ensures worked { Worked is_full (flushed lane.old) lane.new }
     ensures bound { lane.new.core.requests + sends_left lane.new
         ≤ lane.old.core.requests + sends_left lane.old }
