@@ -157,11 +157,11 @@ module _ (g : Config) (taken clock n : ℕ) (chosen : List Held) (ws : List Writ
       let k = ap (sends_among g.max) (left_cons e es) ∙ sends_append (left_of g clock n chosen ws a e) (left_all es) in
       ⊎_elim {C = sends_among g.max (left_all (e ∷ es)) + 1 ≤ sends_among g.max (e ∷ es)}
       (λ same.
-          let l = less_at e p (ap (λ (x : Entry). place_of x.held.version chosen) (sym same) ∙ is) in
-          let r = none_more es (λ x y. w x (inr y)) in omega (arith, k, l, r))
+      let l = less_at e p (ap (λ (x : Entry). place_of x.held.version chosen) (sym same) ∙ is) in
+      let r = none_more es (λ x y. w x (inr y)) in omega (arith, k, l, r))
       (λ later.
-          let l = at_most e (w e (inl refl)).waits in
-          let r = some_less es h p later is (λ x y. w x (inr y)) in omega (arith, k, l, r))
+      let l = at_most e (w e (inl refl)).waits in
+      let r = some_less es h p later is (λ x y. w x (inr y)) in omega (arith, k, l, r))
       m
 
   pub all_wait : (es : List Entry) → ((e : Entry) → Mem e es → IsWaiting g taken e) → (d : Entry) → Mem d (left_all es) → IsWaiting g taken d

@@ -5,5 +5,6 @@ pub mod Ticking
 pub mod Sending
 pub mod Carrying
 pub mod Flushing
+pub mod Resting
 pub mod Counting
 pub mod Stepping

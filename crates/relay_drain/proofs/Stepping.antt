@@ -45,11 +45,11 @@ exchanged_pressed s t l r some x p =
     let e : t ≡ d = x.2 ∙ done_is s l.next r b.0 b.1 x.0 x.1 in
     let k = done_mark s l.next r b.0 b.1 x.0 x.1 in
     let here : IsPressed d = λ y m.
-        let f = done_from s l.next r b.0 b.1 x.0 x.1 y m in
-        ⊎_elim {C = (all_closed d ≡ true) ⊎ (y.held.version ≤ d.mark)}
-        (λ closed. inl (ap (λ bs. list_all (λ (z : Bool). z) bs) k.1 ∙ closed))
-        (λ marked. let v = f.2 in let n = k.0 in inr (omega (arith, marked, v, n)))
-        (p f.0 f.1) in
+    let f = done_from s l.next r b.0 b.1 x.0 x.1 y m in
+    ⊎_elim {C = (all_closed d ≡ true) ⊎ (y.held.version ≤ d.mark)}
+    (λ closed. inl (ap (λ bs. list_all (λ (z : Bool). z) bs) k.1 ∙ closed))
+    (λ marked. let v = f.2 in let n = k.0 in inr (omega (arith, marked, v, n)))
+    (p f.0 f.1) in
     subst IsPressed (sym e) here
 
 -- ---- a pause

@@ -26,17 +26,23 @@ oldest e (d ∷ es) =
     let r = oldest d es in
     ⊎_elim {C = (o : Entry) × Mem o (e ∷ d ∷ es) × ((j : Entry) → Mem j (e ∷ d ∷ es) → o.held.version ≤ j.held.version)}
     (λ t.
-    let lt = ltb-true _ _ t in
-    (e, inl refl, λ j m. ⊎_elim {C = e.held.version ≤ j.held.version}
-        (λ same. let k = ap (λ (x : Entry). x.held.version) same in omega (arith, k))
-        (λ later. let k = r.2 j later in omega (arith, k, lt))
-        m))
+    let lt = ltb-true _ _ t in (
+      e,
+      inl refl,
+      λ j m. ⊎_elim {C = e.held.version ≤ j.held.version}
+          (λ same. let k = ap (λ (x : Entry). x.held.version) same in omega (arith, k))
+          (λ later. let k = r.2 j later in omega (arith, k, lt))
+          m,
+    ))
     (λ t.
-    let ge = ltb-false _ _ t in
-    (r.0, inr r.1, λ j m. ⊎_elim {C = r.0.held.version ≤ j.held.version}
-        (λ same. let k = ap (λ (x : Entry). x.held.version) same in omega (arith, k, ge))
-        (λ later. r.2 j later)
-        m))
+    let ge = ltb-false _ _ t in (
+      r.0,
+      inr r.1,
+      λ j m. ⊎_elim {C = r.0.held.version ≤ j.held.version}
+          (λ same. let k = ap (λ (x : Entry). x.held.version) same in omega (arith, k, ge))
+          (λ later. r.2 j later)
+          m,
+    ))
     (true_or_false (nat_lt e.held.version r.0.held.version))
 
 none_of : {A : Type 0} (p : A → Bool) (xs : List A) → ((x : A) → Mem x xs → p x ≡ false) → list_any p xs ≡ false
@@ -56,11 +62,11 @@ waits_true p e = ap waits e
 eligible : (s : State) (o : Entry) → o.held.flies ≡ None → ((j : Entry) → Mem j s.core.held → o.held.version ≤ j.held.version) → is_eligible s o ≡ true
 eligible s o w least =
     let none = none_of (λ (j : Held). same_document (document_of j.op.key) (document_of o.held.op.key) && nat_lt j.version o.held.version) (held_of s.core.held)
-        (λ j m.
-        let e = Mem-map (λ (x : Entry). x.held) j s.core.held m in
-        let v = ap (λ (x : Held). x.version) e.2 in
-        let le = least e.0 e.1 in
-        and_false (same_document (document_of j.op.key) (document_of o.held.op.key)) _ (not_below j.version o.held.version (omega (arith, v, le)))) in
+    (λ j m.
+    let e = Mem-map (λ (x : Entry). x.held) j s.core.held m in
+    let v = ap (λ (x : Held). x.version) e.2 in
+    let le = least e.0 e.1 in
+    and_false (same_document (document_of j.op.key) (document_of o.held.op.key)) _ (not_below j.version o.held.version (omega (arith, v, le)))) in
     and_both (waits o.held.flies) _ (waits_true o.held.flies w) (ap not none)
 
 -- ---- the first due
@@ -116,16 +122,16 @@ module _ (s : State) (l : IsLane s) (r : IsAtRest s) (pressed : IsPressed s) whe
       let o = offered all g in
       let added = first_added s (item_of c) v.count.0 in
       let items : o.items ≡ item_of c ∷ map item_of (chosen cs (with_item (item_of c) g)) =
-          offered_chosen (candidates s.core) g
-          ∙ ap (λ es. map item_of (chosen es g)) are
-          ∙ ap (λ x. map item_of (by_answer x (chosen cs g) [] (c ∷ chosen cs (with_item (item_of c) g)))) added in
+      offered_chosen (candidates s.core) g
+      ∙ ap (λ es. map item_of (chosen es g)) are
+      ∙ ap (λ x. map item_of (by_answer x (chosen cs g) [] (c ∷ chosen cs (with_item (item_of c) g)))) added in
       let some : nat_lt 0 (length o.items) ≡ true = ap (λ is. nat_lt 0 (length is)) items ∙ below_test 0 _ (omega arith) in
       let due : (is_ready s.core.clock o || (closes all g || (is_marked s.mark o.items || all_closed s))) ≡ true =
-          or_right (is_ready s.core.clock o) _ (or_right (closes all g) _
-          (⊎_elim {C = (is_marked s.mark o.items || all_closed s) ≡ true}
-          (λ closed. or_right (is_marked s.mark o.items) _ closed)
-          (λ marked. or_left (is_marked s.mark o.items) _ (ap (is_marked s.mark) items ∙ within_test _ _ marked))
-          (pressed c m))) in
+      or_right (is_ready s.core.clock o) _ (or_right (closes all g) _
+      (⊎_elim {C = (is_marked s.mark o.items || all_closed s) ≡ true}
+      (λ closed. or_right (is_marked s.mark o.items) _ closed)
+      (λ marked. or_left (is_marked s.mark o.items) _ (ap (is_marked s.mark) items ∙ within_test _ _ marked))
+      (pressed c m))) in
       let goes_now : goes s.core.clock s.mark (all_closed s) o (closes all g) ≡ true = and_both (nat_lt 0 (length o.items)) _ some due in
       let places = ap length r.batches in
       let few = v.places in
@@ -151,11 +157,11 @@ module _ (s : State) (l : IsLane s) (r : IsAtRest s) (pressed : IsPressed s) whe
       let at = f.at in
       let end = (r.held f.one y.0).due in
       let later : s.core.clock < f.due = ⊎_elim {C = s.core.clock < f.due}
-          (λ t. absurd (none_due (candidates s.core) refl none f.one
-              (filter-Mem (is_candidate s.core) f.one s.core.held y.0
-              (and_both (waits f.one.held.flies) _ (and_left _ _ y.1) (and_both (nat_le f.one.due s.core.clock) _ t (and_right (waits f.one.held.flies) _ y.1))))))
-          (λ t. let k = leb-false _ _ t in omega (arith, k, at))
-          (true_or_false (nat_le f.one.due s.core.clock)) in
+      (λ t. absurd (none_due (candidates s.core) refl none f.one
+      (filter-Mem (is_candidate s.core) f.one s.core.held y.0
+      (and_both (waits f.one.held.flies) _ (and_left _ _ y.1) (and_both (nat_le f.one.due s.core.clock) _ t (and_right (waits f.one.held.flies) _ y.1))))))
+      (λ t. let k = leb-false _ _ t in omega (arith, k, at))
+      (true_or_false (nat_le f.one.due s.core.clock)) in
       record {
         ticks = f.due - s.core.clock;
         due = ap (option_map (λ due. due - s.core.clock)) f.is;

@@ -83,10 +83,10 @@ turns-smaller-then-not-branch g c =
     let t = c.send_next.new.lane in
     let same = unchanged c.in_ok-send_next.field-0 s t c.if-not-branch.true c.in_ok-send_next.ensures.turn in
     let d = due_later s c.send_next.ensures.lane c.turns.invariant.rest c.turns.invariant.pressed
-        (let a = c.turns-test.true in let b = c.held.ensures in let d = c.requires.some in omega (arith, a, b, d))
-        (none_of (next_batch s) (sym c.if-not-branch.true ∙ c.in_ok-send_next.ensures.some)) in
+    (let a = c.turns-test.true in let b = c.held.ensures in let d = c.requires.some in omega (arith, a, b, d))
+    (none_of (next_batch s) (sym c.if-not-branch.true ∙ c.in_ok-send_next.ensures.some)) in
     let ticked : c.wait.new.lane ≡ after_ticks d.ticks s =
-        at_some (due_in t) d.ticks (λ n. c.wait.new.lane ≡ after_ticks n t) (ap due_in same ∙ d.due) c.wait.ensures.lane ∙ ap (after_ticks d.ticks) same in
+    at_some (due_in t) d.ticks (λ n. c.wait.new.lane ≡ after_ticks n t) (ap due_in same ∙ d.due) c.wait.ensures.lane ∙ ap (after_ticks d.ticks) same in
     let left = ap sends_left ticked in
     let clock = ap (λ (x : State). x.core.clock) ticked in
     let some = d.some in
@@ -103,12 +103,12 @@ turns-preserved-then-not-branch g c =
     let same = unchanged c.in_ok-send_next.field-0 s t c.if-not-branch.true c.in_ok-send_next.ensures.turn in
     let none = none_of (next_batch s) (sym c.if-not-branch.true ∙ c.in_ok-send_next.ensures.some) in
     let d = due_later s c.send_next.ensures.lane i.rest i.pressed
-        (let a = c.turns-test.true in let b = c.held.ensures in let d = c.requires.some in omega (arith, a, b, d)) none in
+    (let a = c.turns-test.true in let b = c.held.ensures in let d = c.requires.some in omega (arith, a, b, d)) none in
     let due : due_in t ≡ Some d.ticks = ap due_in same ∙ d.due in
     let of_t : u ≡ after_ticks d.ticks t = at_some (due_in t) d.ticks (λ n. u ≡ after_ticks n t) due c.wait.ensures.lane in
     let ticked : u ≡ after_ticks d.ticks s = of_t ∙ ap (after_ticks d.ticks) same in
     let paused : Paused d.ticks (g.P.Pace.paused c.turns.pace) (g.P.Pace.paused c.wait.new.pace) =
-        at_some (due_in t) d.ticks (λ n. Paused n (g.P.Pace.paused c.turns.pace) (g.P.Pace.paused c.wait.new.pace)) due c.wait.ensures.paused in
+    at_some (due_in t) d.ticks (λ n. Paused n (g.P.Pace.paused c.turns.pace) (g.P.Pace.paused c.wait.new.pace)) due c.wait.ensures.paused in
     let going : holds c.args.least s ≡ true = within_test _ _ (let a = c.turns-test.true in let b = c.held.ensures in omega (arith, a, b)) in
     let P : State → Type 0 = IsAtRest in
     let wire = c.send_next.new.wire in
