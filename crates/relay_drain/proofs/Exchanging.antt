@@ -21,7 +21,7 @@ use Rattle.relay_delivery.specs.Lane.{Entry, Flying, held_of, candidates, is_can
 use Rattle.relay_lane.specs.State.{State, all_closed, gathering, next_batch, next_entries, after_request, answered, is_flying, writes_of}
 use Rattle.relay_lane.specs.Rule.{item_of, offered, closes, goes, batch_if}
 use Rattle.relay_lane.proofs.Forming.{items_of_operations}
-use Rattle.relay_drain.proofs.Limits.{among}
+use Rattle.relay_drain.proofs.Limits.{among, nothing, waits_none}
 use Rattle.relay_drain.specs.Rest.{last_tick, IsWaiting, IsAtRest}
 use Rattle.relay_drain.specs.Turns.{after_exchange, sends_of, sends_among, sends_left}
 
@@ -86,7 +86,7 @@ one_waits g taken clock n p Applied e d w flies m = absurd m
 one_waits g taken clock n p Already e d w flies m = absurd m
 one_waits g taken clock n p Retried e d w flies m =
     subst (IsWaiting g taken) (sym (Mem-one d _ m))
-    (record { waits = refl; due = (let k : backoff clock (e.held.attempts + 1) ≤ last_tick = omega arith in k); bytes = w.bytes; place = w.place; version = w.version; was_taken = w.was_taken; within = w.within })
+    (record { waits = refl; due = (let k : backoff clock (e.held.attempts + 1) ≤ last_tick = omega arith in k); bytes = w.bytes; first = w.first; dealt = w.dealt })
 one_waits g taken clock n p (Reported cause) e d w flies m = absurd m
 
 one_version : (clock n p : ℕ) (x : Fate) (e d : Entry) → Mem d (kept_entry clock x (flown_entry n p e)) → d.held.version ≡ e.held.version
@@ -126,7 +126,7 @@ module _ (g : Config) (taken clock n : ℕ) (chosen : List Held) (ws : List Writ
       let l = one_less g.max clock n p (fate_at g p ws a e.held) e (fate_ends p e.held) (fate_tries p e.held) in omega (arith, k, l)
 
   waits_at : (e d : Entry) (p : Option ℕ) → IsWaiting g taken e → Mem d (left_at g clock n ws a e p) → IsWaiting g taken d
-  waits_at e d None w m = subst (IsWaiting g taken) (sym (Mem-one d e (subst (Mem d) (left_none g clock n ws a e w.waits) m))) w
+  waits_at e d None w m = subst (IsWaiting g taken) (sym (Mem-one d e (subst (Mem d) (left_none g clock n ws a e (waits_none e.held.flies w.waits)) m))) w
   waits_at e d (Some p) w m = one_waits g taken clock n p (fate_at g p ws a e.held) e d w (fate_ends p e.held) (subst (Mem d) (left_some g clock n p ws a e) m)
 
   sends_append : (xs ys : List Entry) → sends_among g.max (xs ++ ys) ≡ sends_among g.max xs + sends_among g.max ys
@@ -148,7 +148,7 @@ module _ (g : Config) (taken clock n : ℕ) (chosen : List Held) (ws : List Writ
   none_more [] w = let k = ap (sends_among g.max) left_nil in omega (arith, k)
   none_more (e ∷ es) w =
       let k = ap (sends_among g.max) (left_cons e es) ∙ sends_append (left_of g clock n chosen ws a e) (left_all es) in
-      let l = at_most e (w e (inl refl)).waits in
+      let l = at_most e (waits_none e.held.flies (w e (inl refl)).waits) in
       let r = none_more es (λ x m. w x (inr m)) in omega (arith, k, l, r)
 
   pub some_less : (es : List Entry) (h : Entry) (p : ℕ) → Mem h es → place_of h.held.version chosen ≡ Some p → ((e : Entry) → Mem e es → IsWaiting g taken e) → sends_among g.max (left_all es) + 1 ≤ sends_among g.max es
@@ -160,7 +160,7 @@ module _ (g : Config) (taken clock n : ℕ) (chosen : List Held) (ws : List Writ
       let l = less_at e p (ap (λ (x : Entry). place_of x.held.version chosen) (sym same) ∙ is) in
       let r = none_more es (λ x y. w x (inr y)) in omega (arith, k, l, r))
       (λ later.
-      let l = at_most e (w e (inl refl)).waits in
+      let l = at_most e (waits_none e.held.flies (w e (inl refl)).waits) in
       let r = some_less es h p later is (λ x y. w x (inr y)) in omega (arith, k, l, r))
       m
 
@@ -179,7 +179,7 @@ module _ (g : Config) (taken clock n : ℕ) (chosen : List Held) (ws : List Writ
   pub all_from : (es : List Entry) → ((e : Entry) → Mem e es → IsWaiting g taken e) → (d : Entry) → Mem d (left_all es) → (e : Entry) × Mem e es × (d.held.version ≡ e.held.version)
   all_from [] w d m = absurd (subst (Mem d) left_nil m)
   all_from (e ∷ es) w d m = ⊎_elim {C = (h : Entry) × Mem h (e ∷ es) × (d.held.version ≡ h.held.version)}
-      (λ here. (e, inl refl, version_at_place e d (place_of e.held.version chosen) (w e (inl refl)).waits (subst (Mem d) (left_is g clock n chosen ws a e) here)))
+      (λ here. (e, inl refl, version_at_place e d (place_of e.held.version chosen) (waits_none e.held.flies (w e (inl refl)).waits) (subst (Mem d) (left_is g clock n chosen ws a e) here)))
       (λ later. let r = all_from es (λ x y. w x (inr y)) d later in (r.0, inr r.1, r.2))
       (Mem-cases d (left_of g clock n chosen ws a e) (left_all es) (subst (Mem d) (left_cons e es) m))
 
@@ -219,14 +219,14 @@ no_batches n items bs none =
 module _ (s : State) (next : s.flights.next ≡ s.core.requests + 1) (r : IsAtRest s) (items : List BatchItem) (some : next_batch s ≡ Some items) where
   pub request_flies : is_flying s.flights.next (after_request s (next_batch s)) ≡ true
   request_flies = ap (λ b. is_flying s.flights.next (after_request s b)) some
-      ∙ ap (λ fs. list_any (λ (f : Flying). from_one f.request == s.flights.next) (fs ++ record { request = s.core.requests; writes = writes_of_all (next_entries s) } ∷ [])) r.flying
+      ∙ ap (λ fs. list_any (λ (f : Flying). from_one f.request == s.flights.next) (fs ++ record { request = s.core.requests; writes = writes_of_all (next_entries s) } ∷ [])) (nothing s.core.flying r.flying)
       ∙ ap (λ b. b || false) (equal_test (from_one s.core.requests) s.flights.next (sym next))
 
   pub request_writes : writes_of s.flights.next (after_request s (next_batch s)) ≡ writes_of_all (next_entries s)
   request_writes =
       let zero : s.core.requests ≡ from_zero s.flights.next = omega (arith, next) in
       ap (λ b. writes_of s.flights.next (after_request s b)) some
-      ∙ ap (λ fs. writes_at (from_zero s.flights.next) (fs ++ record { request = s.core.requests; writes = writes_of_all (next_entries s) } ∷ [])) r.flying
+      ∙ ap (λ fs. writes_at (from_zero s.flights.next) (fs ++ record { request = s.core.requests; writes = writes_of_all (next_entries s) } ∷ [])) (nothing s.core.flying r.flying)
       ∙ ap (λ b. if b then writes_of_all (next_entries s) else []) (equal_test s.core.requests (from_zero s.flights.next) zero)
 
 module _ (s : State) (next : s.flights.next ≡ s.core.requests + 1) (r : IsAtRest s) (items : List BatchItem) (some : next_batch s ≡ Some items) (a : Answer) (answers : a ≢ Unanswered) where
@@ -273,8 +273,8 @@ module _ (s : State) (next : s.flights.next ≡ s.core.requests + 1) (r : IsAtRe
   pub done_rests : IsAtRest done
   unfolding done sent all_left
   done_rests = record {
-    batches = no_batches s.flights.next items s.flights.batches r.batches;
-    flying = no_flying s.core.requests (from_zero s.flights.next) (writes_of_all (next_entries s)) s.core.flying r.flying (sym zero_is);
+    batches = ap length (no_batches s.flights.next items s.flights.batches (nothing s.flights.batches r.batches));
+    flying = ap length (no_flying s.core.requests (from_zero s.flights.next) (writes_of_all (next_entries s)) s.core.flying (nothing s.core.flying r.flying) (sym zero_is));
     clock = r.clock;
     held = λ e m. all_wait s.core.config s.core.taken s.core.clock s.core.requests chosen_ones their_writes a answers s.core.held r.held e (subst (Mem e) held_is m);
   }

@@ -24,11 +24,10 @@ mark_is s some = ⊎_elim {C = mark_of s ≡ s.core.config.first + min s.core.ta
 pub flushed_pressed : (s : State) → IsAtRest s → IsPressed (flushed s)
 flushed_pressed s r e m =
     let w = r.held e m in
-    let v = w.version in
-    let t = w.was_taken in
-    let d = w.within in
-    let k = mark_is s (omega (arith, t)) in
-    inr (omega (arith, v, t, d, k))
+    let v = w.first in
+    let d = w.dealt in
+    let k = mark_is s (omega (arith, v, d)) in
+    inr (omega (arith, d, k))
 
 -- ---- the config stays
 

@@ -23,8 +23,8 @@ use Rattle.relay_batch.specs.Gathering.{Gathering, holds_document, is_count_reac
 use Rattle.relay_results.specs.Words.{Mem, IsSubsequence}
 use Rattle.relay_results.proofs.Lists.{true_or_false, and_left, and_right, Mem-sub, filter_sub, sub_joined}
 use Rattle.relay_delivery.specs.Causes.{deals_from}
-use Rattle.relay_delivery.specs.Machine.{Config, write_of, version_at}
-use Rattle.relay_delivery.specs.Lane.{Entry, held_of, is_candidate, candidates, writes_of_all}
+use Rattle.relay_delivery.specs.Machine.{Config, Place, write_of}
+use Rattle.relay_delivery.specs.Lane.{Entry, held_of, waits, is_candidate, candidates, writes_of_all}
 use Rattle.relay_lane.specs.declared.config.RelayConfig.{RelayConfig}
 use Rattle.relay_lane.specs.Limits.{is_from_to, are_valid_limits, is_valid}
 use Rattle.relay_lane.specs.Rule.{by_answer, chosen, item_of, with_item}
@@ -57,6 +57,16 @@ valid_limits c t =
       bytes = (within 1024 16777216 c.limits.bytes (and_left _ _ (and_right (is_from_to 1 10000 c.limits.count) _ l))).1;
       places = (within 1 1 c.in_flight (and_left _ _ t7)).0;
     }
+
+-- ---- at rest
+
+pub nothing : {A : Type 0} (xs : List A) → length xs ≡ 0 → xs ≡ []
+nothing [] e = refl
+nothing (x ∷ xs) e = absurd (omega (arith, e))
+
+pub waits_none : (p : Option Place) → waits p ≡ true → p ≡ None
+waits_none None t = refl
+waits_none (Some f) t = absurd (cc)
 
 -- ---- a batch
 
@@ -128,11 +138,10 @@ version_small : (s : State) → IsLane s → (e : Entry) → IsWaiting s.core.co
 version_small s l e w =
     let first = ap (λ (c : Config). c.first) l.config in
     let deals = ap (λ (c : Config). c.deals) l.config in
-    let v = w.version in
-    let p = w.within in
+    let v = w.dealt in
     let f = (valid_facts s.config l.valid).last in
     let d : deals_from s.config.first_version ≤ last_version + 1 - s.config.first_version = omega arith in
-    omega (arith, first, deals, v, p, f, d)
+    omega (arith, first, deals, v, f, d)
 
 dealt_all : (s : State) → IsLane s → (es : List Entry) → ((e : Entry) → Mem e es → IsWaiting s.core.config s.core.taken e) → AreDealt (writes_of_all es)
 dealt_all s l [] w = All-nil (λ (x : Write). x.version ≤ last_version)

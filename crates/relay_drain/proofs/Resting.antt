@@ -1,6 +1,9 @@
 -- A fresh lane is at rest, and what is taken leaves it so.
 use Rattle.std.proofs.Common.{◌≡◌, ◌≢◌, ℕ, ◌+◌, ◌-◌, ◌<◌, ◌≤◌, List, [], ◌∷◌, ◌++◌, Bool, true, false, refl, sym, ap, subst, ⊎_elim, arith}
 use Rattle.std.specs.Prelude.{nat_lt, if◌then◌else◌}
+use Rattle.std.proofs.Math.Bool.{Bool-set}
+use Rattle.std.proofs.Math.Nat.{ℕ_set}
+use Rattle.std.specs.Coded.{le_prop}
 use borrow.Author.Tests.{ltb-true, ltb-false}
 use Rattle.relay_action.specs.declared.operation.Op.{Op}
 use Rattle.relay_action.specs.declared.mail.Body.{Body}
@@ -19,12 +22,12 @@ pub fresh_rests : FreshRests
 fresh_rests c = record { batches = refl; flying = refl; clock = omega arith; held = λ e m. absurd m }
 
 one_more : (g : Config) (n : ℕ) (e : Entry) → IsWaiting g n e → IsWaiting g (n + 1) e
-one_more g n e w = record { waits = w.waits; due = w.due; bytes = w.bytes; place = w.place; version = w.version; was_taken = (let t = w.was_taken in omega (arith, t)); within = w.within }
+one_more g n e w = record { waits = w.waits; due = w.due; bytes = w.bytes; first = w.first; dealt = (let t = w.dealt in omega (arith, t)) }
 
 new_waits : (s : State) (o : Op) (b : Bool) → nat_lt s.core.taken s.core.config.deals ≡ b → s.core.clock ≤ last_tick → (e : Entry) → Mem e (entry_if b s.core o (bytes_of s o)) → IsWaiting s.core.config (s.core.taken + 1) e
 new_waits s o true t clock e m =
     subst (IsWaiting s.core.config (s.core.taken + 1)) (sym (Mem-one e (entry_at s.core o (bytes_of s o)) m))
-    (record { waits = refl; due = clock; bytes = refl; place = s.core.taken; version = refl; was_taken = omega arith; within = ltb-true _ _ t })
+    (record { waits = refl; due = clock; bytes = refl; first = omega arith; dealt = (let lt = ltb-true _ _ t in omega (arith, lt)) })
 new_waits s o false t clock e m = absurd m
 
 tick_within : (n : ℕ) → n ≤ last_tick → later n ≤ last_tick
@@ -46,3 +49,10 @@ take_rests s sender (body.Put o) r = record {
 take_rests s sender body.Tick r = record { batches = r.batches; flying = r.flying; clock = tick_within s.core.clock r.clock; held = r.held }
 take_rests s sender body.Flush r = flushed_rests s r
 take_rests s sender body.Done r = record { batches = r.batches; flying = r.flying; clock = r.clock; held = r.held }
+
+-- a lane is at rest in one way alone, so a struct may keep the fact beside its lane
+pub IsWaiting-prop : (g : Config) (taken : ℕ) (e : Entry) → IsProp (IsWaiting g taken e)
+IsWaiting-prop g taken e = hlevel (Bool-set, ℕ_set, le_prop)
+
+pub IsAtRest-prop : (s : State) → IsProp (IsAtRest s)
+IsAtRest-prop s = hlevel (ℕ_set, le_prop, IsWaiting-prop)

@@ -56,10 +56,7 @@ and_false false b e = refl
 not_below : (a b : ℕ) → b ≤ a → nat_lt a b ≡ false
 not_below a b le = ⊎_elim {C = nat_lt a b ≡ false} (λ t. let k = ltb-true a b t in absurd (omega (arith, k, le))) (λ t. t) (true_or_false (nat_lt a b))
 
-waits_true : (p : Option Place) → p ≡ None → waits p ≡ true
-waits_true p e = ap waits e
-
-eligible : (s : State) (o : Entry) → o.held.flies ≡ None → ((j : Entry) → Mem j s.core.held → o.held.version ≤ j.held.version) → is_eligible s o ≡ true
+eligible : (s : State) (o : Entry) → waits o.held.flies ≡ true → ((j : Entry) → Mem j s.core.held → o.held.version ≤ j.held.version) → is_eligible s o ≡ true
 eligible s o w least =
     let none = none_of (λ (j : Held). same_document (document_of j.op.key) (document_of o.held.op.key) && nat_lt j.version o.held.version) (held_of s.core.held)
     (λ j m.
@@ -67,7 +64,7 @@ eligible s o w least =
     let v = ap (λ (x : Held). x.version) e.2 in
     let le = least e.0 e.1 in
     and_false (same_document (document_of j.op.key) (document_of o.held.op.key)) _ (not_below j.version o.held.version (omega (arith, v, le)))) in
-    and_both (waits o.held.flies) _ (waits_true o.held.flies w) (ap not none)
+    and_both (waits o.held.flies) _ w (ap not none)
 
 -- ---- the first due
 
@@ -133,7 +130,7 @@ module _ (s : State) (l : IsLane s) (r : IsAtRest s) (pressed : IsPressed s) whe
       (λ marked. or_left (is_marked s.mark o.items) _ (ap (is_marked s.mark) items ∙ within_test _ _ marked))
       (pressed c m))) in
       let goes_now : goes s.core.clock s.mark (all_closed s) o (closes all g) ≡ true = and_both (nat_lt 0 (length o.items)) _ some due in
-      let places = ap length r.batches in
+      let places = r.batches in
       let few = v.places in
       not_none (next_batch s) o.items
       (if_goes (nat_lt (length s.flights.batches) s.config.in_flight) _ o.items
