@@ -11,9 +11,9 @@ use Rattle.relay_delivery.specs.Bound.{tries_left}
 use Rattle.relay_delivery.specs.Lane.{Entry, held_of}
 use Rattle.relay_lane.specs.State.{State, next_batch, is_eligible, due_in, first_due}
 use Rattle.relay_drain.specs.Rest.{last_tick, IsWaiting, IsAtRest}
-use Rattle.relay_drain.specs.Turns.{Turn, Exchanges, Pauses, after_exchange, after_ticks, after_turn, MayTurn, after_turns, AllMayTurn, Worked, exchanges, ticks, sends_of, sends_among, sends_left}
+use Rattle.relay_drain.specs.Turns.{Turn, Stays, Exchanges, Pauses, after_exchange, after_ticks, after_turn, MayTurn, after_turns, AllMayTurn, Worked, exchanges, ticks, sends_of, sends_among, sends_left}
 use Rattle.relay_drain.specs.Laws.{Keeps, TurnsKeep, WorksOn, LeftAtMost, LeftIsTries}
-use Rattle.relay_drain.proofs.Exchanging.{sent, done, done_is, done_rests, done_requests, done_next, done_clock, done_config, sends_fewer}
+use Rattle.relay_drain.proofs.Exchanging.{sent, done, done_is, done_rests, done_requests, done_next, done_clock, done_stays, sends_fewer}
 use Rattle.relay_drain.proofs.Waiting.{HasFirst, some_first}
 
 -- ---- lists of turns
@@ -69,6 +69,15 @@ due_within s n r e =
 pub ticks_rest : (s : State) (n : ℕ) → IsAtRest s → s.core.clock + n ≤ last_tick → IsAtRest (after_ticks n s)
 ticks_rest s n r le = record { batches = r.batches; flying = r.flying; clock = le; held = r.held }
 
+pub stays_itself : (s : State) → Stays s s
+stays_itself s = record { config = refl; closed = refl; taken = refl }
+
+pub stays_as : (s t u : State) → Stays s t → u ≡ t → Stays s u
+stays_as s t u a e = subst (Stays s) (sym e) a
+
+pub stays_on : (s t u : State) → Stays s t → Stays t u → Stays s u
+stays_on s t u a b = record { config = b.config ∙ a.config; closed = b.closed ∙ a.closed; taken = b.taken ∙ a.taken }
+
 pub keeps_exchange : (s : State) (items : List BatchItem) (a : Answer) → s.flights.next ≡ s.core.requests + 1 → IsAtRest s → next_batch s ≡ Some items → a ≢ Unanswered → Keeps 1 0 s (after_exchange a s)
 keeps_exchange s items a next r some answers =
     let e = sym (done_is s next r items some a answers) in
@@ -78,7 +87,7 @@ keeps_exchange s items a next r some answers =
       next = (let x = done_next s next r items some a answers in let y = done_requests s next r items some a answers in omega (arith, x, y, next));
       requests = done_requests s next r items some a answers;
       clock = (let x = done_clock s next r items some a answers in omega (arith, x));
-      config = (done_config s next r items some a answers).1;
+      stays = done_stays s next r items some a answers;
       left = (let x = sends_fewer s next r items some a answers in omega (arith, x));
     })
 
@@ -88,7 +97,7 @@ keeps_ticks s n next r le = record {
   next = next;
   requests = omega arith;
   clock = refl;
-  config = refl;
+  stays = record { config = refl; closed = refl; taken = refl };
   left = omega arith;
 }
 
@@ -97,7 +106,7 @@ keeps_turn (Exchanges a) s next r may = let b = some_batch (next_batch s) may.0 
 keeps_turn (Pauses n) s next r may = subst (λ m. Keeps 0 m s (after_ticks n s)) (omega arith) (keeps_ticks s n next r (due_within s n r may.1))
 
 keeps_none : (s : State) → s.flights.next ≡ s.core.requests + 1 → IsAtRest s → Keeps 0 0 s s
-keeps_none s next r = record { rest = r; next = next; requests = omega arith; clock = omega arith; config = refl; left = omega arith }
+keeps_none s next r = record { rest = r; next = next; requests = omega arith; clock = omega arith; stays = stays_itself s; left = omega arith }
 
 keeps_on : (m n p q : ℕ) (s t u : State) → Keeps m p s t → Keeps n q t u → Keeps (m + n) (p + q) s u
 keeps_on m n p q s t u a b = record {
@@ -105,7 +114,7 @@ keeps_on m n p q s t u a b = record {
   next = b.next;
   requests = (let x = a.requests in let y = b.requests in omega (arith, x, y));
   clock = (let x = a.clock in let y = b.clock in omega (arith, x, y));
-  config = b.config ∙ a.config;
+  stays = stays_on s t u a.stays b.stays;
   left = (let x = a.left in let y = b.left in omega (arith, x, y));
 }
 

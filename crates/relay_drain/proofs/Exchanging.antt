@@ -23,7 +23,7 @@ use Rattle.relay_lane.specs.Rule.{item_of, offered, closes, goes, batch_if}
 use Rattle.relay_lane.proofs.Forming.{items_of_operations}
 use Rattle.relay_drain.proofs.Limits.{among, nothing, waits_none}
 use Rattle.relay_drain.specs.Rest.{last_tick, IsWaiting, IsAtRest}
-use Rattle.relay_drain.specs.Turns.{after_exchange, sends_of, sends_among, sends_left}
+use Rattle.relay_drain.specs.Turns.{after_exchange, Stays, sends_of, sends_among, sends_left}
 
 -- ---- one operation
 
@@ -292,9 +292,9 @@ module _ (s : State) (next : s.flights.next ≡ s.core.requests + 1) (r : IsAtRe
   unfolding done sent
   done_clock = refl
 
-  pub done_config : (done.core.config ≡ s.core.config) × (done.config ≡ s.config)
+  pub done_stays : Stays s done
   unfolding done sent
-  done_config = (refl, refl)
+  done_stays = record { config = refl; closed = refl; taken = refl }
 
   pub done_mark : (done.mark ≡ s.mark) × (done.closed ≡ s.closed)
   unfolding done sent

@@ -6,7 +6,7 @@ use Rattle.relay_delivery.specs.Lane.{Entry, tries_of}
 use Rattle.relay_lane.specs.declared.config.RelayConfig.{RelayConfig}
 use Rattle.relay_lane.specs.State.{State, fresh, after_take}
 use Rattle.relay_drain.specs.Rest.{IsAtRest}
-use Rattle.relay_drain.specs.Turns.{Worked, exchanges, ticks, sends_left}
+use Rattle.relay_drain.specs.Turns.{Worked, Stays, exchanges, ticks, sends_left}
 
 -- ---- at rest
 
@@ -26,7 +26,7 @@ pub record Keeps (sent passed : ℕ) (s t : State) : Type 0 where
   pub next : t.flights.next ≡ t.core.requests + 1
   pub requests : t.core.requests ≡ s.core.requests + sent
   pub clock : t.core.clock ≡ s.core.clock + passed
-  pub config : t.config ≡ s.config
+  pub stays : Stays s t
   pub left : sent + sends_left t ≤ sends_left s
 
 abbrev pub TurnsKeep : Type 0

@@ -43,6 +43,12 @@ pub record Worked (going : State → Bool) (old new : State) : Type 0 where
   pub may : AllMayTurn going turns old
   pub reached : new ≡ after_turns turns old
 
+-- what no turn changes: the config, which senders have closed, and how many Puts were taken
+pub record Stays (old new : State) : Type 0 where
+  pub config : new.config ≡ old.config
+  pub closed : new.closed ≡ old.closed
+  pub taken : new.core.taken ≡ old.core.taken
+
 -- how many requests were sent
 abbrev pub exchanges : List Turn → ℕ
 exchanges [] = 0

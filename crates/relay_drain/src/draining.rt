@@ -2,7 +2,7 @@
 ghost use Rattle.std.specs.Prelude.{◌≡◌, ◌+◌, ◌*◌, ◌-◌, ◌<◌, ◌≤◌, [], None, true, length, IfOk, OnOk, OnErr};
 ghost use Rattle.relay_lane.specs.State.{next_batch, all_closed, flushed};
 ghost use Rattle.relay_drain.specs.Rest.{IsAtRest};
-ghost use Rattle.relay_drain.specs.Turns.{Worked, always, holds, holds_some, is_full, Paused, sends_left};
+ghost use Rattle.relay_drain.specs.Turns.{Worked, Stays, always, holds, holds_some, is_full, Paused, sends_left};
 ghost use Rattle.relay_drain.specs.Steps.{IsPressed};
 ghost use Rattle.relay_drain.specs.Delivers.{Delivers};
 
@@ -25,6 +25,7 @@ pub fn pump<W: Wire>(lane: &mut Lane, wire: &mut W) -> Result<u64, AllocError>
     ensures clock { lane.new.core.clock ≡ lane.old.core.clock }
     ensures bound { lane.new.core.requests + sends_left lane.new
         ≤ lane.old.core.requests + sends_left lane.old }
+    ensures stays { Stays lane.old lane.new }
     ensures rest { IsAtRest lane.new }
     ensures out { W.out wire.new ≡ [] }
     ensures describes { W.describes wire.new ≡ W.describes wire.old }
@@ -55,6 +56,7 @@ fn work<W: Wire, P: Pace>(
     ensures bound { lane.new.core.requests + sends_left lane.new
         ≤ lane.old.core.requests + sends_left lane.old }
     ensures paused { Paused (lane.new.core.clock - lane.old.core.clock) (P.paused pace.old) (P.paused pace.new) }
+    ensures stays { Stays lane.old lane.new }
     ensures rest { IsAtRest lane.new }
     ensures out { W.out wire.new ≡ [] }
     ensures describes { W.describes wire.new ≡ W.describes wire.old }
@@ -87,6 +89,7 @@ pub fn make_room<W: Wire, P: Pace>(
     ensures bound { lane.new.core.requests + sends_left lane.new
         ≤ lane.old.core.requests + sends_left lane.old }
     ensures paused { Paused (lane.new.core.clock - lane.old.core.clock) (P.paused pace.old) (P.paused pace.new) }
+    ensures stays { Stays lane.old lane.new }
     ensures rest { IsAtRest lane.new }
     ensures out { W.out wire.new ≡ [] }
     ensures describes { W.describes wire.new ≡ W.describes wire.old }
@@ -117,6 +120,7 @@ pub fn drain<W: Wire, P: Pace>(
     ensures most { lane.new.core.requests
         ≤ lane.old.core.requests + length lane.old.core.held * lane.old.config.attempts }
     ensures paused { Paused (lane.new.core.clock - lane.old.core.clock) (P.paused pace.old) (P.paused pace.new) }
+    ensures stays { Stays lane.old lane.new }
     ensures rest { IsAtRest lane.new }
     ensures out { W.out wire.new ≡ [] }
     ensures describes { W.describes wire.new ≡ W.describes wire.old }

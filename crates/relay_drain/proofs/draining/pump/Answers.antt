@@ -1,6 +1,6 @@
 use Rattle.std.proofs.Common.{refl, sym, ◌∙◌, arith}
 use Rattle.relay_drain.specs.Turns.{always}
-use Rattle.relay_drain.proofs.Counting.{worked_none}
+use Rattle.relay_drain.proofs.Counting.{worked_none, stays_itself, stays_on}
 use Rattle.relay_drain.proofs.Carrying.{delivers_itself, delivers_on}
 use Rattle.relay_drain.proofs.Stepping.{exchanged, exchanged_keeps, exchanged_worked, sends_small}
 use Rattle.relay_drain.proofs.draining.pump.Goals as goal
@@ -11,6 +11,7 @@ requests-init g c =
     let small = sends_small s c.totals.ensures.lane in
     record {
       rest = c.requires.rest;
+      stays = stays_itself s;
       sent = omega arith;
       left = omega arith;
       few = omega (arith, small);
@@ -51,6 +52,7 @@ requests-preserved g c =
     let k = exchanged_keeps s t c.send_next.ensures.lane i.rest some x in
     record {
       rest = k.rest;
+      stays = stays_on c.args.lane.now s t i.stays k.stays;
       sent = (let a = i.sent in let b = k.requests in omega (arith, a, b));
       left = (let a = i.left in let b = k.left in omega (arith, a, b));
       few = i.few;

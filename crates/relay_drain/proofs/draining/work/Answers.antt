@@ -7,7 +7,7 @@ use Rattle.relay_drain.specs.Steps.{IsPressed, IsDueLater}
 use Rattle.relay_drain.proofs.Waiting.{due_later, within_test}
 use Rattle.relay_drain.proofs.Ticking.{if_some}
 use Rattle.relay_drain.proofs.Sending.{at_some}
-use Rattle.relay_drain.proofs.Counting.{worked_none, keeps_ticks, ticks_rest}
+use Rattle.relay_drain.proofs.Counting.{worked_none, ticks_rest, stays_itself, stays_on, stays_as}
 use Rattle.relay_drain.proofs.Carrying.{delivers_itself, delivers_on}
 use Rattle.relay_drain.proofs.Stepping.{exchanged, unchanged, exchanged_keeps, exchanged_worked, exchanged_pressed, paused_worked, none_of, paused_on, paused_none, paused_as, delivers_ticks}
 use Rattle.relay_drain.proofs.draining.work.Goals as goal
@@ -17,6 +17,7 @@ turns-init g c =
     let s = c.args.lane.now in
     record {
       rest = c.requires.rest;
+      stays = stays_itself s;
       pressed = c.requires.pressed;
       worked = worked_none (holds c.args.least) s s refl;
       left = omega arith;
@@ -56,6 +57,7 @@ turns-preserved g c =
     let going : holds c.args.least s ≡ true = within_test _ _ (let a = c.turns-test.true in let b = c.held.ensures in omega (arith, a, b)) in
     record {
       rest = k.rest;
+      stays = stays_on s0 s t i.stays k.stays;
       pressed = exchanged_pressed s t c.send_next.ensures.lane i.rest some x i.pressed;
       worked = exchanged_worked (holds c.args.least) s0 s t i.worked going some x;
       left = (let a = i.left in let b = k.left in let d = k.requests in omega (arith, a, b, d));
@@ -115,6 +117,7 @@ turns-preserved-then-not-branch g c =
     let clock = ap (λ (x : State). x.core.clock) ticked in
     record {
       rest = subst P (sym ticked) (ticks_rest s d.ticks i.rest d.within);
+      stays = stays_as s0 (after_ticks d.ticks s) u (record { config = i.stays.config; closed = i.stays.closed; taken = i.stays.taken }) ticked;
       pressed = subst IsPressed (sym ticked) i.pressed;
       worked = paused_worked (holds c.args.least) s0 s u d.ticks i.worked going none d.due ticked;
       left = (let a = i.left in let b = ap sends_left ticked in let r = ap (λ (x : State). x.core.requests) ticked in omega (arith, a, b, r));

@@ -1,6 +1,6 @@
 use Rattle.std.proofs.Common.{◌≡◌, ◌+◌, ◌-◌, ◌*◌, ◌≤◌, []}
 use Rattle.relay_drain.specs.Rest.{last_tick, IsAtRest}
-use Rattle.relay_drain.specs.Turns.{Worked, holds, Paused, sends_left}
+use Rattle.relay_drain.specs.Turns.{Worked, Stays, holds, Paused, sends_left}
 use Rattle.relay_drain.specs.Steps.{IsPressed}
 use Rattle.relay_drain.specs.Delivers.{Delivers}
 use Rattle.relay_drain.proofs.draining.work.Given as goal
@@ -8,6 +8,7 @@ use Rattle.relay_drain.proofs.draining.work.Given as goal
 abbrev pub invariant-turns : goal.invariant-turns
 invariant-turns g l = record {
   rest : IsAtRest l.lane;
+  stays : Stays l.fn.lane l.lane;
   pressed : IsPressed l.lane;
   worked : Worked (holds l.fn.least) l.fn.lane l.lane;
   left : l.lane.core.requests + sends_left l.lane ≤ l.fn.lane.core.requests + sends_left l.fn.lane;

@@ -1,0 +1,11 @@
+//! Tests of relay_drain.
+#![tactic(auto)]
+
+#[cfg(test)]
+mod desk;
+#[cfg(test)]
+mod examples;
+#[cfg(test)]
+mod many;
+#[cfg(test)]
+mod wires;

@@ -1,0 +1,1 @@
+//! Ten thousand operations over a wire that fails by a seed.
