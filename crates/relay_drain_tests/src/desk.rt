@@ -1,5 +1,5 @@
 //! A lane that messages are put into, and a pace that notes its pauses.
-ghost use Rattle.std.specs.Prelude.{◌<◌, ℕ, length};
+ghost use Rattle.std.specs.Prelude.{◌≡◌, ◌<◌, ℕ, length};
 ghost use Rattle.relay_drain.specs.Rest.{IsAtRest};
 ghost use Rattle.relay_drain.proofs.Resting.{IsAtRest-prop};
 
@@ -7,7 +7,6 @@ use relay_action::{Action, Body, DocKey, Mail, Op};
 use relay_batch::Limits;
 use relay_drain::{Lane, Pace, RelayConfig, TakeFault};
 use std::alloc::Global;
-use std::test::Fail;
 
 /// One lane and producer, batches of ten documents that go at once, and three attempts.
 pub const CONFIG: RelayConfig = RelayConfig {
@@ -25,10 +24,12 @@ pub const CONFIG: RelayConfig = RelayConfig {
     first_version: 1,
 };
 
-/// A lane at rest.
+/// A lane at rest, and how many operations it holds at most.
 #[derive(Drop)]
 pub struct Desk {
     pub lane: Lane,
+    pub max_held: u32,
+    ghost most: { max_held ≡ lane.config.max_held },
     ghost rest: { IsAtRest lane } by { IsAtRest-prop lane },
 }
 
@@ -36,7 +37,8 @@ pub struct Desk {
 fn take(lane: &mut Lane, mail: Mail) -> Option<TakeFault>
     requires known { mail.sender < length lane.old.closed }
     requires rest { IsAtRest lane.old }
-    ensures { IsAtRest lane.new }
+    ensures rest { IsAtRest lane.new }
+    ensures config { lane.new.config ≡ lane.old.config }
 {
     if let Err((fault, _)) = lane.take(mail) {
         return Some(fault);
@@ -44,13 +46,14 @@ fn take(lane: &mut Lane, mail: Mail) -> Option<TakeFault>
     None
 }
 
-/// A desk with a fresh lane of a config, which has to be valid.
-pub fn desk_of(alloc: Global, config: RelayConfig) -> Result<Desk, Fail> {
+/// A desk with a fresh lane of a config, which has to be valid. `None`: there was no memory for it.
+pub fn desk_of(alloc: Global, config: RelayConfig) -> Option<Desk> {
     if !config.valid() {
-        return Err("not valid")?;
+        return None;
     }
-    Ok(Desk {
-        lane: Lane::new(alloc, config)?,
+    Some(Desk {
+        lane: Lane::new(alloc, config).ok()?,
+        max_held: config.max_held,
     })
 }
 
@@ -67,23 +70,21 @@ pub fn sends(desk: &mut Desk, sender: u32, body: Body) -> bool {
     take(&mut desk.lane, mail).is_none()
 }
 
-/// Puts an operation of the first producer that indexes a source. Whether it was taken.
-pub fn puts(
-    alloc: Global,
-    desk: &mut Desk,
-    number: u64,
-    id: &str,
-    source: &str,
-) -> Result<bool, Fail> {
-    let key = DocKey::new(alloc, "b", id)?;
-    let action = Action::index(alloc, source)?;
-    let op = Op {
+fn op_of(alloc: Global, number: u64, id: &str, source: &str) -> Option<Op> {
+    Some(Op {
         producer: 0,
         number,
-        key,
-        action,
-    };
-    Ok(sends(desk, 0, Body::Put(op)))
+        key: DocKey::new(alloc, "b", id).ok()?,
+        action: Action::index(alloc, source).ok()?,
+    })
+}
+
+/// Puts an operation of the first producer that indexes a source. Whether it was taken.
+pub fn puts(alloc: Global, desk: &mut Desk, number: u64, id: &str, source: &str) -> bool {
+    match op_of(alloc, number, id, source) {
+        Some(op) => sends(desk, 0, Body::Put(op)),
+        None => false,
+    }
 }
 
 /// The producer and the control close. Whether the lane is closed.

@@ -2,10 +2,9 @@
 ghost use Rattle.std.specs.Prelude.{◌≡◌, None};
 
 use crate::desk::{CONFIG, Desk, NO_PAUSES, Notes, closes, desk_of, puts, sends};
-use crate::wires::{IndexWire, Way, wire_of};
-use relay_action::DocKey;
+use crate::wires::{IndexWire, Way, count_applied, wire_of};
 use relay_drain::{Cause, Lane, WireFault, drain, make_room, pump};
-use std::alloc::{AllocError, Global};
+use std::alloc::Global;
 use std::test::Fail;
 
 // What a drain came to: requests, pauses, reports of GaveUp after three sends and reports of the status of
@@ -35,23 +34,7 @@ fn reported(lane: &Lane) -> (u32, u32) {
     (gave_up, rejected)
 }
 
-// How many writes of these documents the index applied.
-fn applied(alloc: Global, wire: &IndexWire, ids: &[&str]) -> Result<usize, Fail> {
-    let mut count = 0usize;
-    for id in ids {
-        let key = DocKey::new(alloc, "b", *id)?;
-        count = count.saturating_add(wire.index.applied(&key).len());
-    }
-    Ok(count)
-}
-
-fn look_at(
-    alloc: Global,
-    lane: &Lane,
-    wire: &IndexWire,
-    pace: &Notes,
-    ids: &[&str],
-) -> Result<Came, Fail> {
+fn look_at(alloc: Global, lane: &Lane, wire: &IndexWire, pace: &Notes) -> Result<Came, Fail> {
     let (gave_up, rejected) = reported(lane);
     let totals = lane.totals();
     Ok(Came {
@@ -61,24 +44,24 @@ fn look_at(
         rejected,
         applied: totals.applied,
         already: totals.already,
-        in_index: applied(alloc, wire, ids)?,
+        in_index: count_applied(alloc, &wire.index)?,
     })
 }
 
 // A lane that took an operation for each of these documents.
-fn filled(alloc: Global, ids: &[&str]) -> Result<Desk, Fail> {
+fn filled(alloc: Global, ids: &[&str]) -> Option<Desk> {
     let mut desk = desk_of(alloc, CONFIG)?;
     for i in 0..ids.len() {
-        if !puts(alloc, &mut desk, i as u64, ids[i], "{}")? {
-            return Err("not taken")?;
+        if !puts(alloc, &mut desk, i as u64, ids[i], "{}") {
+            return None;
         }
     }
-    Ok(desk)
+    Some(desk)
 }
 
 // What a drain of such a lane comes to. It leaves nothing held.
 fn drained(alloc: Global, ids: &[&str], way: Way) -> Result<Came, Fail> {
-    let mut desk = filled(alloc, ids)?;
+    let mut desk = filled(alloc, ids).ok_or("not filled")?;
     closes(&mut desk);
     if !desk.lane.closed() {
         return Err("not closed")?;
@@ -89,7 +72,7 @@ fn drained(alloc: Global, ids: &[&str], way: Way) -> Result<Came, Fail> {
     if !desk.lane.finished() {
         return Err("not finished")?;
     }
-    look_at(alloc, &desk.lane, &wire, &pace, ids)
+    look_at(alloc, &desk.lane, &wire, &pace)
 }
 
 const NOTHING: Came = Came {
@@ -268,7 +251,7 @@ fn faults(rt: HostRuntime) -> Result<(), Fail> {
 
 // What pump answers for a lane that took these, and how many are held then.
 fn pumped(alloc: Global, ids: &[&str], way: Way) -> Result<(u64, u64, u32), Fail> {
-    let mut desk = filled(alloc, ids)?;
+    let mut desk = filled(alloc, ids).ok_or("not filled")?;
     let mut wire = wire_of(alloc, way);
     let sent = pump(&mut desk.lane, &mut wire)?;
     Ok((sent, wire.sends, desk.lane.held()))
@@ -299,9 +282,48 @@ fn pumps(rt: HostRuntime) -> Result<(), Fail> {
 // How many are held after room was made in a lane that holds ten at most and took these, the requests that
 // were sent, and the ticks that were paused.
 fn with_room(alloc: Global, ids: &[&str], way: Way) -> Result<(u32, u64, u64), Fail> {
-    let mut desk = filled(alloc, ids)?;
+    let mut desk = filled(alloc, ids).ok_or("not filled")?;
     let mut wire = wire_of(alloc, way);
     let mut pace = NO_PAUSES;
-    make_room(&mut desk.lane, &mut wire, &mut pace, 10)?;
+    make_room(&mut desk.lane, &mut wire, &mut pace, desk.max_held)?;
     Ok((desk.lane.held(), wire.sends, pace.ticks))
+}
+
+// Ten of one document: room is made by the first of them. Ten of ten documents go in one request.
+#[test]
+fn makes_room(rt: HostRuntime) -> Result<(), Fail> {
+    let one = ["1", "1", "1", "1", "1", "1", "1", "1", "1", "1"];
+    let ten = ["1", "2", "3", "4", "5", "6", "7", "8", "9", "10"];
+    let rows: [(&[&str], Way, (u32, u64, u64)); 5] = [
+        (&[], Way::Runs, (0, 0, 0)),
+        (&["1", "1", "2"], Way::Runs, (3, 0, 0)),
+        (&one, Way::Runs, (9, 1, 0)),
+        (&one, Way::Loses, (9, 3, 3)),
+        (&ten, Way::FailsReply(1, WireFault::Unreadable), (0, 2, 1)),
+    ];
+    for (ids, way, wanted) in rows {
+        assert!(rt; with_room(rt.alloc(), ids, way)? == wanted, "{way:?}");
+    }
+    Ok(())
+}
+
+// Whichever allocation is refused, a drain that answers so has lost nothing, and the next one ends.
+#[test]
+fn refusals(rt: HostRuntime) -> Result<(), Fail> {
+    let ids = ["1", "1", "2"];
+    let mut desk = match filled(rt.alloc(), &ids) {
+        Some(desk) => desk,
+        None => filled(rt.alloc(), &ids).ok_or("not filled")?,
+    };
+    closes(&mut desk);
+    let mut wire = wire_of(rt.alloc(), Way::Runs);
+    let mut pace = NO_PAUSES;
+    if desk.lane.closed() && drain(&mut desk.lane, &mut wire, &mut pace).is_err() {
+        assert!(rt; desk.lane.held() > 0 && desk.lane.closed());
+        drain(&mut desk.lane, &mut wire, &mut pace)?;
+    }
+    let totals = desk.lane.totals();
+    assert!(rt; desk.lane.finished() && desk.lane.reports().is_empty());
+    assert!(rt; totals.applied + totals.already == 3);
+    Ok(())
 }

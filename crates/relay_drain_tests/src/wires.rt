@@ -42,7 +42,7 @@ pub struct IndexWire {
     pub index: Index,
     way: Way,
     now: Way,
-    flying: Option<u64>,
+    pub flying: Option<u64>,
     reply: Vec<Outcome>,
     /// How many requests were to be sent.
     pub sends: u64,
@@ -177,4 +177,13 @@ impl Wire for IndexWire {
         let entries = mem::replace(&mut self.reply, Vec::new(self.alloc));
         answered(self.alloc, self.now, entries)
     }
+}
+
+/// How many writes an index applied.
+pub fn count_applied(alloc: Global, index: &Index) -> Result<usize, AllocError> {
+    let mut count = 0usize;
+    for key in &index.keys(alloc)? {
+        count = count.saturating_add(index.applied(key).len());
+    }
+    Ok(count)
 }
