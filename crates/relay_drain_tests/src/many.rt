@@ -1,5 +1,5 @@
 //! Ten thousand operations of a hundred documents over a wire that fails by a seed.
-ghost use Rattle.std.specs.Prelude.{◌≡◌, None};
+ghost use Rattle.std.specs.Prelude.{◌≡◌, ◌<◌, None};
 
 use crate::desk::{CONFIG, Desk, NO_PAUSES, Notes, closes, desk_of, puts};
 use crate::wires::{IndexWire, Way, count_applied, wire_of};
@@ -24,7 +24,9 @@ const MANY: RelayConfig = RelayConfig {
 };
 
 // The document of an operation.
-fn document_of(number: u64) -> u64 {
+fn document_of(number: u64) -> u64
+    ensures { result < 100 }
+{
     (number.wrapping_mul(2_654_435_761) >> 7) % 100
 }
 
@@ -102,7 +104,7 @@ fn ten_thousand(rt: HostRuntime) -> Result<(), Fail> {
     let totals = desk.lane.totals();
     assert!(rt; totals.taken == OPERATIONS && desk.lane.reports().is_empty());
     assert!(rt;
-        totals.already > 0 && totals.applied + totals.already == OPERATIONS,
+        totals.already > 0 && totals.applied.saturating_add(totals.already) == OPERATIONS,
         "{totals:?}"
     );
     assert!(rt; is_as_put(rt.alloc(), &wire.index)?);
