@@ -6,6 +6,8 @@ mod desk;
 #[cfg(test)]
 mod examples;
 #[cfg(test)]
+mod losing;
+#[cfg(test)]
 mod many;
 #[cfg(test)]
 mod wires;
