@@ -10,4 +10,6 @@ mod losing;
 #[cfg(test)]
 mod many;
 #[cfg(test)]
+mod telling;
+#[cfg(test)]
 mod wires;
