@@ -28,7 +28,7 @@ sends_on o ws = record { runs = no_runs (after (Sends ws) o) }
 pub lost_on : (o : Outside) (number : ℕ) → MayAnswer o (from_zero number) Lost → AnswersOn number Lost o (after (Answers (from_zero number) Lost) o)
 lost_on o number may = record { before = o; runs = no_runs o; may = may; reached = refl }
 
-pub unsent : Outside → ℕ → List Write → Outside
+unfoldable pub unsent : Outside → ℕ → List Write → Outside
 unsent o number ws = after (Answers (from_zero number) Lost) (after (Sends ws) o)
 
 pub unsent_on : (o : Outside) (number : ℕ) (ws : List Write) → IsNext number o → ExchangesOn number ws Lost o (unsent o number ws)

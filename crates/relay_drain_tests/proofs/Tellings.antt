@@ -1,21 +1,23 @@
 -- Requests that an index runs.
 use Rattle.std.proofs.Common.{◌≡◌, ◌≢◌, ℕ, zero, suc, ◌+◌, ◌-◌, ◌<◌, List, [], ◌∷◌, ◌++◌, length, Option, Some, None, Bool, true, false, refl, sym, ap, ◌∙◌, subst, ⊎_elim, inl, inr, arith}
-use Rattle.std.specs.Prelude.{slice_get, option_and_then, is_some}
+use Rattle.std.specs.Prelude.{slice_get, option_and_then, is_some, Result, Ok, Err, IfOk}
 use Rattle.std.specs.Option.{option_to_list}
 use Rattle.relay_action.specs.declared.write.Write.{Write}
 use Rattle.relay_index.specs.States.{State}
-use Rattle.relay_index.specs.Runs.{Shows}
+use Rattle.relay_index.specs.Runs.{Shows, outcome_of_run}
+use Rattle.relay_results.specs.declared.done.ItemDone.{ItemDone}
 use Rattle.relay_results.specs.declared.outcome.Outcome.{Outcome}
+use Rattle.relay_results.specs.Done.{outcome_of}
 use Rattle.relay_results.specs.Numbers.{from_one, from_zero}
 use Rattle.relay_results.specs.Words.{Mem}
 use Rattle.relay_results.specs.Documents.{document_of}
 use Rattle.relay_results.specs.Outside.{Request, Unanswered, writes_of, Items, Lost, Answer, RunOutcome, IsOutcomeOf, Ran, Outside, Event, Sends, Runs, Answers, MayRun, MayAnswer, WasRun, EachWasRun, write_at, ran_of, after, after_all, AllMayHappen}
 use Rattle.relay_results.specs.Laws.{RunsItem}
-use Rattle.relay_results.proofs.Lists.{Mem-left, Mem-last, at-last}
+use Rattle.relay_results.proofs.Lists.{Mem-left, Mem-last, at-last, at-left, at-within, at-update_other}
 use Rattle.relay_results.proofs.Steps.{step_runs_item}
 use Rattle.relay_drain.specs.Wires.{IsRun, AreRuns, RunsOn, SendsOn, AnswersOn, ExchangesOn, IsNext}
-use Rattle.relay_drain_tests.specs.Telling.{IsSent, Waits, IsOutWith, RanOne}
-use Rattle.relay_drain_tests.proofs.Losses.{no_runs, lost_on}
+use Rattle.relay_drain_tests.specs.Telling.{IsSent, Waits, IsOutWith, RanOne, entry_of}
+use Rattle.relay_drain_tests.proofs.Losses.{no_runs, lost_on, unsent, unsent_on}
 
 -- ---- runs one after another
 
@@ -73,6 +75,20 @@ ran_item n place s t o w done at may shows found each =
       keeps = λ x y. subst (Mem x) (sym i.runs) (Mem-left x o.runs (r ∷ []) y);
       each = each p.runs (subst (Mem r) (sym i.runs) (Mem-last o.runs r));
     }
+
+pub one_entry : {E : Type 0} (rs : List Ran) (n place : ℕ) (d : ItemDone) (r : Result Outcome E) → Mem (record { request = n; place = place; outcome = outcome_of_run d }) rs → IfOk r (λ x. x ≡ outcome_of d) → EachWasRun rs n place (entry_of r)
+one_entry rs n place d (Ok x) m e = (
+  record {
+    run = record { request = n; place = place; outcome = outcome_of_run d };
+    among = m;
+    of_request = refl;
+    of_place = refl;
+    status = sym (ap (λ (y : Outcome). y.status) e);
+    error = sym (ap (λ (y : Outcome). y.error) e);
+  },
+  tt,
+)
+one_entry rs n place d (Err e) m h = tt
 
 -- ---- the items of a request
 
@@ -168,3 +184,29 @@ pub answered_items : (x : Option ℕ) (number : ℕ) (reply later : List Outcome
 answered_items x number reply later o t m shows w =
     let y = waits_of x number reply o m w in
     answered_by number (Items reply) o t shows (record { request = record { writes = y.writes; answer = Unanswered }; sent = y.sent; open_yet = refl; honest = λ b. y.each }) later
+
+-- ---- a request that could not be sent
+
+still_waits : (o : Outside) (number k : ℕ) (ws : List Write) (reply : List Outcome) → IsNext number o → Waits k reply o → Waits k reply (unsent o number ws)
+unfolding unsent
+still_waits o number k ws reply next w =
+    let below = at-within o.requests (from_zero k) (record { writes = w.writes; answer = Unanswered }) w.sent in
+    let ne : from_zero k ≢ from_zero number = λ e. omega (arith, below, e, next) in
+    record {
+      writes = w.writes;
+      sent = at-update_other (from_zero number) (λ (q : Request). record { writes = writes_of q; answer = Lost }) (o.requests ++ record { writes = ws; answer = Unanswered } ∷ []) (from_zero k) ne
+          ∙ at-left o.requests (record { writes = ws; answer = Unanswered } ∷ []) (from_zero k) (record { writes = w.writes; answer = Unanswered }) w.sent;
+      each = w.each;
+    }
+
+still_out : (x : Option ℕ) (reply : List Outcome) (o : Outside) (number : ℕ) (ws : List Write) → IsNext number o → IsOutWith x reply o → IsOutWith x reply (unsent o number ws)
+still_out None reply o number ws next w = tt
+still_out (Some k) reply o number ws next w = still_waits o number k ws reply next w
+
+shows_unsent : (o : Outside) (number : ℕ) (ws : List Write) (t : State) → Shows o t → Shows (unsent o number ws) t
+unfolding unsent
+shows_unsent o number ws t x = record { versions = x.versions; lists = x.lists }
+
+pub refused_fits : (x : Option ℕ) (reply : List Outcome) (o : Outside) (number : ℕ) (ws : List Write) (t : State) → IsNext number o → Shows o t → IsOutWith x reply o
+    → (p : Outside) × (Shows p t × IsOutWith x reply p) × ExchangesOn number ws Lost o p
+refused_fits x reply o number ws t next shows w = (unsent o number ws, (shows_unsent o number ws t shows, still_out x reply o number ws next w), unsent_on o number ws next)

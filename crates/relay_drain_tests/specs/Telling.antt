@@ -38,6 +38,6 @@ abbrev pub entry_of : {E : Type 0} → Result Outcome E → List Outcome
 entry_of (Ok o) = o ∷ []
 entry_of (Err e) = []
 
-abbrev pub entries_of : {E : Type 0} → Result (Vec Outcome) E → List Outcome
+abbrev pub entries_of : {A E : Type 0} → Result (Vec Outcome A) E → List Outcome
 entries_of (Ok os) = os.items
 entries_of (Err e) = []

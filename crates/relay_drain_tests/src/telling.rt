@@ -1,11 +1,11 @@
 //! A wire round an index that describes what stands outside: the index runs each request once, and some of
 //! the replies are lost.
-ghost use Rattle.std.specs.Prelude.{◌≡◌, ℕ, Some};
+ghost use Rattle.std.specs.Prelude.{◌≡◌, ℕ, Some, None};
 ghost use Rattle.relay_results.specs.Outside.{Outside, write_at};
 ghost use Rattle.relay_index.specs.Runs.{Shows};
 ghost use Rattle.relay_drain_tests.specs.Telling.{IsSent, RanOne, entry_of, entries_of};
 
-use crate::desk::{CONFIG, NO_PAUSES, closes, desk_of, puts};
+use crate::desk::{CONFIG, Desk, NO_PAUSES, closes, desk_of, puts};
 use crate::wires::count_applied;
 use relay_action::Write;
 use relay_drain::{Wire, WireFault, WireReply, drain};
@@ -86,6 +86,17 @@ impl Wire for Telling {
     }
 }
 
+// Drains a lane that is closed. Whether it had memory enough.
+fn drains(desk: &mut Desk, wire: &mut Telling) -> bool
+    requires { wire.old.flying ≡ None }
+{
+    let mut pace = NO_PAUSES;
+    if !desk.lane.closed() {
+        return false;
+    }
+    drain(&mut desk.lane, wire, &mut pace).is_ok()
+}
+
 // Every other reply is lost, and all is applied once.
 #[test]
 fn tells(rt: HostRuntime) -> Result<(), Fail> {
@@ -97,14 +108,11 @@ fn tells(rt: HostRuntime) -> Result<(), Fail> {
         reply: Vec::new(rt.alloc()),
         sends: 0,
     };
-    let mut pace = NO_PAUSES;
     for number in 1..4u64 {
         assert!(rt; puts(rt.alloc(), &mut desk, number, "1", "{}"));
     }
     closes(&mut desk);
-    if desk.lane.closed() {
-        drain(&mut desk.lane, &mut wire, &mut pace)?;
-    }
+    assert!(rt; drains(&mut desk, &mut wire));
     assert!(rt; desk.lane.finished() && desk.lane.totals().requests == 5);
     assert!(rt; count_applied(rt.alloc(), &wire.index)? == 3);
     Ok(())
