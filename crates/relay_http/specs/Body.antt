@@ -1,0 +1,48 @@
+-- The body of a message (RFC 9112, section 6).
+use Rattle.std.specs.Prelude.{◌≡◌, ℕ, ◌<◌, ◌≤◌, ◌⊎◌, Bool, true, false, List, [], ◌∷◌, ◌++◌, length, flat_map, Option}
+use Rattle.std.specs.Io.KnownBytes.{IsAtEnd}
+use Rattle.std.specs.Io.KnownBytes.{prepend_known}
+use Rattle.relay_http.specs.Chunked.{IsChunked}
+use Rattle.relay_http.specs.Forms.{Form}
+use Rattle.relay_http.specs.declared.fault.HttpFault.{HttpFault}
+use Rattle.relay_http.specs.declared.fault.HttpFault.TheVariants as fault
+use Rattle.relay_http.specs.declared.framing.Framing.{Framing}
+use Rattle.relay_http.specs.declared.framing.Framing.TheVariants.{Absent, Sized, Chunked, ToEnd}
+
+-- so many bytes
+pub record IsSized (n : ℕ) (text : List ℕ) (ends : Bool) (content : List ℕ) : Type 0 where
+  pub length_is : length text ≡ n
+  pub same : content ≡ text
+
+-- all that is left of the stream
+pub record IsRest (limit : ℕ) (text : List ℕ) (ends : Bool) (content : List ℕ) : Type 0 where
+  pub whole : ends ≡ true
+  pub size : length text ≤ limit
+  pub same : content ≡ text
+
+-- the bytes are a body in this framing with at most limit bytes of content, and this is the content
+abbrev pub IsBody : ℕ → Framing → Form (List ℕ)
+IsBody limit Absent = IsSized 0
+IsBody limit (Sized n) = IsSized n
+IsBody limit Chunked = IsChunked limit
+IsBody limit ToEnd = IsRest limit
+
+-- so many bytes went from the front of what stood to the end of a list
+pub record TookData (size : ℕ) (old new : Option (List ℕ)) (before after : List ℕ) : Type 0 where
+  pub piece : List ℕ
+  pub length_is : length piece ≡ size
+  pub split : old ≡ prepend_known piece new
+  pub appended : after ≡ before ++ piece
+
+-- some bytes went from the front of what stood to the end of a list, and none only at the end of the stream
+pub record Moved (old new left : Option (List ℕ)) (before after : List ℕ) (most n : ℕ) : Type 0 where
+  pub bytes : List ℕ
+  pub length_is : length bytes ≡ n
+  pub bound : n ≤ most
+  pub split : old ≡ prepend_known bytes new
+  pub appended : after ≡ before ++ bytes
+  pub end : n ≡ 0 → (new ≡ left) × IsAtEnd left
+
+-- a read failed, or memory was refused
+abbrev pub IsOutside : HttpFault → Type 0
+IsOutside f = (f ≡ fault.Read) ⊎ (f ≡ fault.Memory)

@@ -1,0 +1,118 @@
+//! Bodies of messages.
+ghost use Rattle.std.specs.Prelude.{◌≡◌, ◌<◌, ◌≤◌, length, IfOk, IfErr, OnErr, MatchResult, OnOk, Err, if◌then◌else◌, is_ok};
+ghost use Rattle.std.specs.Io.KnownBytes.{IsAtEnd};
+ghost use Rattle.relay_http.specs.Window.{window_size};
+ghost use Rattle.relay_action.specs.Streams.{one_more};
+ghost use Rattle.relay_http.specs.Body.{IsSized, IsRest, IsBody, Moved, TookData, IsOutside};
+ghost use Rattle.relay_http.specs.Forms.{Took, Fails};
+ghost use Rattle.relay_http.specs.Pending.{pending, is_read};
+
+use crate::conn::Conn;
+use crate::fault::HttpFault;
+use crate::framing::Framing;
+use relay_action::ByteIn;
+use std::alloc::Global;
+
+impl<S: ByteIn + Drop> Conn<S> {
+    // Fills an empty window.
+    pub(crate) fn ready(&mut self) -> Result<(), HttpFault>
+        ensures stands { OnOk result (pending S.left self.new ≡ pending S.left self.old) }
+        ensures end { OnOk result (length self.new.window ≡ 0 → IsAtEnd (S.left self.new.stream)) }
+        ensures bound { length self.new.window ≤ window_size }
+        ensures err { OnErr result (result ≡ Err HttpFault.Read) }
+        ensures count { S.failed self.new.stream ≡ (if is_ok result then S.failed self.old.stream else one_more (S.failed self.old.stream)) }
+        ensures written { S.written self.new.stream ≡ S.written self.old.stream }
+    {
+        if !self.window.as_slice().is_empty() {
+            return Ok(());
+        }
+        match self.fill() {
+            Err(fault) => Err(fault),
+            Ok(_) => Ok(()),
+        }
+    }
+
+    // Moves some bytes to the end of a vector, and answers how many. None are moved only at the end of the stream.
+    fn take_some(&mut self, most: usize, into: &mut Vec<u8>) -> Result<usize, HttpFault>
+        requires { 0 < most }
+        ensures moved { IfOk result (Moved (pending S.left self.old) (pending S.left self.new) (S.left self.new.stream) into.old.items into.new.items most) }
+        ensures err { IfErr result IsOutside }
+        ensures count { S.failed self.new.stream ≡ (if is_read result then one_more (S.failed self.old.stream) else S.failed self.old.stream) }
+        ensures written { S.written self.new.stream ≡ S.written self.old.stream }
+    {
+        match self.ready() {
+            Err(_) => return Err(HttpFault::Read),
+            Ok(()) => {}
+        }
+        let count = self.window.as_slice().len().min(most);
+        match into.extend_from_slice(&self.window.as_slice()[..count]) {
+            Err(_) => return Err(HttpFault::Memory),
+            Ok(()) => {}
+        }
+        self.window.skip(count);
+        Ok(count)
+    }
+
+    // Moves so many bytes to the end of a vector.
+    pub(crate) fn read_data(&mut self, size: usize, into: &mut Vec<u8>) -> Result<(), HttpFault>
+        ensures answer { MatchResult result (λ u. TookData size (pending S.left self.old) (pending S.left self.new) into.old.items into.new.items) (Fails (IsSized size) (pending S.left self.old) (S.left self.new.stream)) }
+        ensures count { S.failed self.new.stream ≡ (if is_read result then one_more (S.failed self.old.stream) else S.failed self.old.stream) }
+        ensures written { S.written self.new.stream ≡ S.written self.old.stream }
+    {
+        let mut left = size;
+        'reading: while left > 0 {
+            match self.take_some(left, into) {
+                Err(fault) => return Err(fault),
+                Ok(0) => return Err(HttpFault::Ended),
+                Ok(count) => left -= count,
+            }
+        }
+        Ok(())
+    }
+
+    // Reads a body of so many bytes.
+    pub(crate) fn read_sized(&mut self, alloc: Global, size: usize) -> Result<Vec<u8>, HttpFault>
+        ensures answer { MatchResult result (λ body. Took (IsSized size) (pending S.left self.old) (pending S.left self.new) body.items) (Fails (IsSized size) (pending S.left self.old) (S.left self.new.stream)) }
+        ensures count { S.failed self.new.stream ≡ (if is_read result then one_more (S.failed self.old.stream) else S.failed self.old.stream) }
+        ensures written { S.written self.new.stream ≡ S.written self.old.stream }
+    {
+        let mut body = Vec::new(alloc);
+        match self.read_data(size, &mut body) {
+            Err(fault) => Err(fault),
+            Ok(()) => Ok(body),
+        }
+    }
+
+    // Reads what is left of the stream.
+    pub(crate) fn read_rest(&mut self, alloc: Global, limit: usize) -> Result<Vec<u8>, HttpFault>
+        requires { limit < 4294967296 }
+        ensures answer { MatchResult result (λ body. Took (IsRest limit) (pending S.left self.old) (pending S.left self.new) body.items) (Fails (IsRest limit) (pending S.left self.old) (S.left self.new.stream)) }
+        ensures count { S.failed self.new.stream ≡ (if is_read result then one_more (S.failed self.old.stream) else S.failed self.old.stream) }
+        ensures written { S.written self.new.stream ≡ S.written self.old.stream }
+    {
+        let mut body = Vec::new(alloc);
+        'reading: while body.len() <= limit {
+            match self.take_some(limit + 1 - body.len(), &mut body) {
+                Err(fault) => return Err(fault),
+                Ok(0) => return Ok(body),
+                Ok(_) => {}
+            }
+        }
+        Err(HttpFault::BodyLong)
+    }
+
+    // Reads a body.
+    pub(crate) fn read_body(&mut self, alloc: Global, framing: Framing, limit: usize) -> Result<Vec<u8>, HttpFault>
+        requires { limit < 4294967296 }
+        ensures answer { MatchResult result (λ body. Took (IsBody limit framing) (pending S.left self.old) (pending S.left self.new) body.items) (Fails (IsBody limit framing) (pending S.left self.old) (S.left self.new.stream)) }
+        ensures count { S.failed self.new.stream ≡ (if is_read result then one_more (S.failed self.old.stream) else S.failed self.old.stream) }
+        ensures written { S.written self.new.stream ≡ S.written self.old.stream }
+    {
+        match framing {
+            Framing::Absent => self.read_sized(alloc, 0),
+            Framing::Sized(size) => self.read_sized(alloc, size as usize),
+            Framing::Chunked => self.read_chunked(alloc, limit),
+            Framing::ToEnd => self.read_rest(alloc, limit),
+        }
+    }
+}

@@ -1,0 +1,61 @@
+//! Reading a chunked body.
+ghost use Rattle.std.specs.Prelude.{◌≡◌, ◌<◌, ◌≤◌, ◌++◌, length, MatchResult, if◌then◌else◌};
+ghost use Rattle.relay_action.specs.Streams.{one_more};
+ghost use Rattle.relay_http.specs.Body.{TookData};
+ghost use Rattle.relay_http.specs.Chunked.{IsChunked, IsDataAfter, TookChunk};
+ghost use Rattle.relay_http.specs.Forms.{Took, Fails};
+ghost use Rattle.relay_http.specs.Pending.{pending, is_read};
+
+use crate::conn::Conn;
+use crate::fault::HttpFault;
+use crate::piece::SizeLine;
+use crate::trailer::{ChunkEnd, Trailer};
+use relay_action::ByteIn;
+use std::alloc::Global;
+
+impl<S: ByteIn + Drop> Conn<S> {
+    // Moves the content of a chunk to the end of a vector, and passes the CRLF behind it.
+    fn read_chunk(&mut self, size: usize, limit: usize, into: &mut Vec<u8>) -> Result<(), HttpFault>
+        ensures answer { MatchResult result (λ u. TookChunk size (pending S.left self.old) (pending S.left self.new) into.old.items into.new.items) (Fails (IsDataAfter limit into.old.items size) (pending S.left self.old) (S.left self.new.stream)) }
+        ensures count { S.failed self.new.stream ≡ (if is_read result then one_more (S.failed self.old.stream) else S.failed self.old.stream) }
+        ensures written { S.written self.new.stream ≡ S.written self.old.stream }
+    {
+        match self.read_data(size, into) {
+            Err(fault) => return Err(fault),
+            Ok(()) => {}
+        }
+        match self.read_piece::<ChunkEnd>() {
+            Err(fault) => Err(fault),
+            Ok(_) => Ok(()),
+        }
+    }
+
+    // Reads a chunked body.
+    pub(crate) fn read_chunked(&mut self, alloc: Global, limit: usize) -> Result<Vec<u8>, HttpFault>
+        requires { limit < 4294967296 }
+        ensures answer { MatchResult result (λ body. Took (IsChunked limit) (pending S.left self.old) (pending S.left self.new) body.items) (Fails (IsChunked limit) (pending S.left self.old) (S.left self.new.stream)) }
+        ensures count { S.failed self.new.stream ≡ (if is_read result then one_more (S.failed self.old.stream) else S.failed self.old.stream) }
+        ensures written { S.written self.new.stream ≡ S.written self.old.stream }
+    {
+        let mut body = Vec::new(alloc);
+        'chunks: loop {
+            let size = match self.read_piece::<SizeLine>() {
+                Err(fault) => return Err(fault),
+                Ok(line) => line.size,
+            };
+            if size == 0 {
+                match self.read_piece::<Trailer>() {
+                    Err(fault) => return Err(fault),
+                    Ok(_) => return Ok(body),
+                }
+            }
+            if size > (limit - body.len()) as u64 {
+                return Err(HttpFault::BodyLong);
+            }
+            match self.read_chunk(size as usize, limit, &mut body) {
+                Err(fault) => return Err(fault),
+                Ok(()) => {}
+            }
+        }
+    }
+}
