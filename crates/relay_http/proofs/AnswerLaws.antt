@@ -7,14 +7,14 @@ use Rattle.std.proofs.lemmas.Bool.{false≢true}
 use Rattle.std.proofs.lemmas.Bool.Decides.{nat_tests}
 use Rattle.httparse.specs.Spans.{name_and_value}
 use Rattle.httparse.specs.Grammar.{ResponseHead, Field, trim_ows}
-use Rattle.relay_http.specs.Answer.{answer_text, answer_tree, reason_of, json_field, size_field, close_fields}
+use Rattle.relay_http.specs.WrittenAnswer.{answer_text, answer_tree, reason_of, json_field, size_field, close_fields}
 use Rattle.relay_http.specs.Fields.{Header, same_word, has_field, values_named, elements_named, elements}
 use Rattle.relay_http.specs.Forms.{Form, Begins, IsUnique}
 use Rattle.relay_http.specs.Framing.{framing_of_fields, framing_of_request, sized, keeps, reply_limit}
 use Rattle.relay_http.specs.declared.fault.HttpFault.{HttpFault}
 use Rattle.relay_http.specs.declared.framing.Framing.{Framing}
 use Rattle.relay_http.specs.declared.framing.Framing.TheVariants as framing
-use Rattle.relay_http.specs.Request.{host_field, type_field, length_field}
+use Rattle.relay_http.specs.WrittenRequest.{host_field, type_field, length_field}
 use Rattle.relay_http.proofs.Written.{elements_digits, digits_written, sized_written}
 
 -- no message is a proper prefix of another of its form

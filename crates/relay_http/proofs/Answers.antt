@@ -5,7 +5,7 @@ use Rattle.httparse.specs.Ascii.{crlf_bytes}
 use Rattle.httparse.specs.Grammar.{ResponseHead, print_response, Field, print_field, crlf}
 use Rattle.httparse.proofs.OnLiterals.{httparse_on_literals}
 use Rattle.httparse.proofs.GrammarLemmas.{cons-append}
-use Rattle.relay_http.specs.Answer.{answer_text, answer_tree, json_field, size_field, close_fields, ending}
+use Rattle.relay_http.specs.WrittenAnswer.{answer_text, answer_tree, json_field, size_field, close_fields, ending}
 
 pub answer_joined : (status reason digits e t1 t2 t3 t4 t5 t6 t7 : List ℕ) (keep : Bool)
     → t1 ≡ codes "HTTP/1.1 "

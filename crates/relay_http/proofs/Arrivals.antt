@@ -11,20 +11,19 @@ use Rattle.httparse.specs.declared.spans.HeaderSpan.{HeaderSpan}
 use Rattle.httparse.specs.declared.spans.RequestSpans.{RequestSpans}
 use Rattle.httparse.proofs.GrammarLemmas.{request_unique}
 use Rattle.relay_http.specs.Framing.{request_limit, framing_of_request, keeps}
-use Rattle.relay_http.specs.Forms.{Form, Begins, Gives, IsUnique, Took}
+use Rattle.relay_http.specs.Forms.{Form, Begins, Gives, IsUnique, IsStated, Took}
 use Rattle.relay_http.specs.Body.{IsBody}
-use Rattle.relay_http.specs.Reply.{Leads, IsStated}
-use Rattle.relay_http.specs.Incoming.{TookRequest, IsFound, request_view, FitsRequest, request_headers, is_bulk, request_info, IsRequestInfo, Request, IsRequest, IsRequestTail}
+use Rattle.relay_http.specs.Request.{TookRequest, IsFound, request_view, FitsRequest, request_headers, is_bulk, request_info, IsRequestInfo, Request, IsRequest, IsRequestBody}
 use Rattle.relay_http.specs.declared.fault.HttpFault.{HttpFault}
 use Rattle.relay_http.specs.declared.framing.Framing.{Framing}
 use Rattle.relay_http.specs.declared.framing.Framing.TheVariants as framing
-use Rattle.relay_http.specs.declared.incoming.RequestInfo.{RequestInfo}
+use Rattle.relay_http.specs.declared.request_head.RequestInfo.{RequestInfo}
 use Rattle.relay_http.proofs.Stands.{IsShort, full_never}
 use Rattle.relay_http.proofs.Heads.{front_of, fields_counted}
-use Rattle.relay_http.proofs.Leading.{moved, joined}
+use Rattle.relay_http.proofs.Messages.{begins_then, then_unique}
 use Rattle.relay_http.proofs.Replies.{fields_stated}
-use Rattle.relay_http.specs.declared.incoming.HttpRequest.{HttpRequest}
-use Rattle.relay_http.proofs.Unique.{body_unique, took_found}
+use Rattle.relay_http.specs.declared.request.HttpRequest.{HttpRequest}
+use Rattle.relay_http.proofs.Unique.{body_unique, ok_is, took_found}
 
 request_short : IsShort 16384 IsRequestInfo
 request_short = record {
@@ -51,36 +50,20 @@ request_at buf hs r h bulk framing lasting at few short b f l =
       info_is = rw (b, f, l, at.fields, at.method, at.path, at.version) refl;
     }
 
--- behind a head there is what it states
-told : (i j : RequestInfo) → i ≡ j → (s : List ℕ) (value : Request) (rest : List ℕ) → ((b : Begins (IsRequestTail i) s) × Gives value rest b) → ((b : Begins (IsRequestTail j) s) × Gives value rest b)
-told i j e s value rest b = subst (λ k. ((b : Begins (IsRequestTail k) s) × Gives value rest b)) e b
-
-pub request_leads : (t : List ℕ) (e : Bool) (info : RequestInfo) → IsRequestInfo t e info → Leads IsRequest (IsRequestTail info) t
-request_leads t e info m = record {
-  peel = λ s b.
-      let r = b.message in
-      let same = request_unique (t ++ s) m.head r.head s (r.text ++ b.rest) (m.fits.grammar, ap (λ w. w ++ s) m.bytes_are) (r.fits.grammar, b.split ∙ ap (λ w. w ++ b.rest) r.bytes_are ∙ append_assoc (print_request r.head) r.text b.rest) in
-      let tail : IsRequestTail (request_info r.head) r.text b.ends b.value = record { framing = r.framing; framed = r.framed; body = r.body; bulk_is = r.bulk_is; keep_is = r.keep_is } in
-      told (request_info m.head) info (sym m.info_is) s b.value b.rest
-      (record { front = r.text; ends = b.ends; value = b.value; rest = b.rest; message = subst (λ k. IsRequestTail (request_info k) r.text b.ends b.value) (sym same.0) tail; split = same.1; last = b.last }, record { value_is = refl; rest_is = refl });
-  build = λ x ends a r0.
-      let r : IsRequestTail (request_info m.head) x ends a = subst (λ k. IsRequestTail k x ends a) m.info_is r0 in
-      record { head = m.head; fits = m.fits; framing = r.framing; framed = r.framed; text = x; body = r.body; bytes_are = ap (λ w. w ++ x) m.bytes_are; bulk_is = r.bulk_is; keep_is = r.keep_is };
+pub request_head_unique : IsUnique IsRequestInfo
+request_head_unique = record {
+  same = λ s b c.
+      let same = request_unique s b.message.head c.message.head b.rest c.rest (b.message.fits.grammar, b.split ∙ ap (λ w. w ++ b.rest) b.message.bytes_are) (c.message.fits.grammar, c.split ∙ ap (λ w. w ++ c.rest) c.message.bytes_are) in
+      record { value_is = b.message.info_is ∙ ap request_info same.0 ∙ sym c.message.info_is; rest_is = same.1 };
 }
+
+pub request_either : (t : List ℕ) (e : Bool) (info : RequestInfo) → IsRequestInfo t e info → IsRequestInfo t false info
+request_either t e info m = record { head = m.head; fits = m.fits; bytes_are = m.bytes_are; info_is = m.info_is }
 
 pub request_stated : (t : List ℕ) (e : Bool) (info : RequestInfo) → IsRequestInfo t e info → (f : HttpFault) → info.framing ≡ Err f → IsStated f
 request_stated t e info m f h = fields_stated request_limit framing.Absent (request_headers m.head) f (sym (ap (λ (k : RequestInfo). k.framing) m.info_is) ∙ h)
 
--- a request begins with a head
-pub begins_request : (s : List ℕ) → Begins IsRequest s → Begins IsRequestInfo s
-begins_request s b =
-    let r = b.message in
-    record { front = print_request r.head; ends = false; value = request_info r.head; rest = r.text ++ b.rest; message = record { head = r.head; fits = r.fits; bytes_are = refl; info_is = refl }; split = b.split ∙ ap (λ w. w ++ b.rest) r.bytes_are ∙ append_assoc (print_request r.head) r.text b.rest; last = λ x. absurd (false≢true x) }
-
-pub ok_is : (f g : Framing) → ◌≡◌ {A = Result Framing HttpFault} (Ok f) (Ok g) → f ≡ g
-ok_is f g h = cc
-
-abbrev pub begins_request_body : (info : RequestInfo) (framing : Framing) → info.framing ≡ Ok framing → (s : List ℕ) → Begins (IsRequestTail info) s → Begins (IsBody request_limit framing) s
+abbrev pub begins_request_body : (info : RequestInfo) (framing : Framing) → info.framing ≡ Ok framing → (s : List ℕ) → Begins (IsRequestBody info) s → Begins (IsBody request_limit framing) s
 begins_request_body info framing e s b = record {
   front = b.front;
   ends = b.ends;
@@ -91,7 +74,7 @@ begins_request_body info framing e s b = record {
   last = b.last;
 }
 
-pub request_never : (info : RequestInfo) (f : HttpFault) → info.framing ≡ Err f → (s : List ℕ) → ¬ (Begins (IsRequestTail info) s)
+pub request_never : (info : RequestInfo) (f : HttpFault) → info.framing ≡ Err f → (s : List ℕ) → ¬ (Begins (IsRequestBody info) s)
 request_never info f e s b = wrong f b.message.framing (sym e ∙ b.message.framed)
   where
     wrong : (f : HttpFault) (g : Framing) → ◌≡◌ {A = Result Framing HttpFault} (Err f) (Ok g) → ⊥
@@ -100,20 +83,17 @@ request_never info f e s b = wrong f b.message.framing (sym e ∙ b.message.fram
 request_is : (a b : Request) → a.bulk ≡ b.bulk → a.body ≡ b.body → a.keep ≡ b.keep → a ≡ b
 request_is a b e f g = λ i. record { bulk = e i; body = f i; keep = g i }
 
-request_tail_unique : (info : RequestInfo) → IsUnique (IsRequestTail info)
-request_tail_unique info = record { same = λ s b c.
-    let x = begins_request_body info c.message.framing c.message.framed s b in
-    let y = begins_request_body info c.message.framing c.message.framed s c in
-    let same = (body_unique request_limit c.message.framing).same s x y in
-    record { value_is = request_is b.value c.value (b.message.bulk_is ∙ sym c.message.bulk_is) same.value_is (b.message.keep_is ∙ sym c.message.keep_is); rest_is = same.rest_is } }
+request_tail_unique : (info : RequestInfo) → IsUnique (IsRequestBody info)
+request_tail_unique info = record {
+  same = λ s b c.
+      let x = begins_request_body info c.message.framing c.message.framed s b in
+      let y = begins_request_body info c.message.framing c.message.framed s c in
+      let same = (body_unique request_limit c.message.framing).same s x y in
+      record { value_is = request_is b.value c.value (b.message.bulk_is ∙ sym c.message.bulk_is) same.value_is (b.message.keep_is ∙ sym c.message.keep_is); rest_is = same.rest_is };
+}
 
 pub request_unique_there : IsUnique IsRequest
-request_unique_there = record { same = λ s b c.
-    let h = begins_request s b in
-    let l = request_leads h.front h.ends h.value h.message in
-    let x = l.peel h.rest (moved h.split b) in
-    let y = l.peel h.rest (moved h.split c) in
-    joined b c x.0 y.0 x.1 y.1 ((request_tail_unique h.value).same h.rest x.0 y.0) }
+request_unique_there = then_unique IsRequestInfo IsRequestBody request_head_unique request_tail_unique
 
 -- a head is not empty
 printed_some : (h : RequestHead) → 0 < length h.method → 0 < length (print_request h)
@@ -123,15 +103,30 @@ printed_some h some = more (print_blank h.blank) h.method h.target (print_versio
     more : (a m t v e s : List ℕ) → 0 < length m → 0 < length (a ++ m ++ 32 ∷ t ++ 32 ∷ v ++ e ++ s)
     more a m t v e s some = grind (arith, common_steps, some)
 
--- no request stands where nothing does
-pub request_some : (s : List ℕ) → Begins IsRequest s → 0 < length s
-request_some s b =
-    let r = b.message in
-    let some = printed_some r.head r.fits.grammar.method.0 in
-    let whole : length s ≡ length ((print_request r.head ++ r.text) ++ b.rest) = ap length (b.split ∙ ap (λ w. w ++ b.rest) r.bytes_are) in
-    let outer = length-append (print_request r.head ++ r.text) b.rest in
-    let inner = length-append (print_request r.head) r.text in
-    omega (arith, some, whole, outer, inner)
+-- no head stands where nothing does, and no request
+pub request_head_some : (s : List ℕ) → Begins IsRequestInfo s → 0 < length s
+request_head_some s h =
+    let some = printed_some h.message.head h.message.fits.grammar.method.0 in
+    let whole : length s ≡ length (print_request h.message.head ++ h.rest) = ap length (h.split ∙ ap (λ w. w ++ h.rest) h.message.bytes_are) in
+    let parts = length-append (print_request h.message.head) h.rest in
+    omega (arith, some, whole, parts)
+
+request_some : (s : List ℕ) → Begins IsRequest s → 0 < length s
+request_some s b = request_head_some s (begins_then IsRequestInfo IsRequestBody s b)
+
+-- where the window is empty and the stream at its end, nothing stands
+pub nothing_there : (w : List ℕ) (left : Option (List ℕ)) (s : List ℕ) → length w ≡ 0 → IsAtEnd left → prepend_known w left ≡ Some s → ¬ (Begins IsRequestInfo s)
+nothing_there w None s l a e b = absurd (cc)
+nothing_there w (Some xs) s l a e b =
+    let whole : length (w ++ xs) ≡ length s = ap (λ o. length (bytes_of o)) e in
+    let parts = length-append w xs in
+    let end : length xs ≡ 0 = ap length a in
+    let some = request_head_some s b in
+    omega (arith, whole, parts, end, some, l)
+  where
+    bytes_of : Option (List ℕ) → List ℕ
+    bytes_of None = []
+    bytes_of (Some bytes) = bytes
 
 pub request_found : (old new : Option (List ℕ)) (r : Option HttpRequest) → TookRequest old new r → (s : List ℕ) (b : Begins IsRequest s) → old ≡ Some s → IsFound b new r
 request_found old new None t s b e =

@@ -11,8 +11,7 @@ use Rattle.std.specs.List.{AllByRecursion}
 use Rattle.httparse.specs.Ascii.{crlf_bytes}
 use Rattle.httparse.specs.Grammar.{ChunkLine, print_chunk_line, chunk_size}
 use Rattle.httparse.proofs.ChunkLemmas.{chunk_line_unique}
-use Rattle.relay_http.specs.Forms.{Form, Begins, Gives}
-use Rattle.relay_http.specs.Reply.{Leads}
+use Rattle.relay_http.specs.Forms.{Form, Begins, Gives, Leads}
 use Rattle.relay_http.specs.Chunked.{FitsLine, IsSizeLine, IsLine, Chunk, IsChunk, print_chunk, IsTrailer, IsTrailerText, IsCrlf, IsChunked, IsChunkedAfter, IsDataAfter, IsLastAfter, TookChunk}
 
 first_line : (t s : List ℕ) (l k : ChunkLine) (rest : List ℕ) → FitsLine l → FitsLine k → t ≡ print_chunk_line l → t ++ s ≡ print_chunk_line k ++ rest → (l ≡ k) × (s ≡ rest)
@@ -31,22 +30,24 @@ behind_size limit before t s l fits e some [] z trailer rest content ends each z
 behind_size limit before t s l fits e some (k ∷ ks) z trailer rest content ends each zfits none tr_is is size last split =
     let more = flat_map print_chunk ks ++ (print_chunk_line z ++ trailer) in
     let piece = k.content ++ (crlf_bytes ++ more) in
-    let same = first_line t s l k.line (piece ++ rest) fits each.0.fits e (split ∙ regroup (print_chunk_line k.line) k.content crlf_bytes (flat_map print_chunk ks) (print_chunk_line z ++ trailer) rest) in
-    (record {
-      front = piece;
-      ends = ends;
-      value = content;
-      rest = rest;
-      message = record {
-        piece = k.content;
-        more = more;
-        size_is = sym each.0.size_is ∙ ap chunk_size (sym same.0);
-        chunked = record { chunks = ks; each = each.1; zero_line = z; zero_fits = zfits; zero_is = none; trailer = trailer; trailer_is = tr_is; content_is = is ∙ sym (append_assoc before k.content (flat_map (λ c. c.content) ks)); size = size; bytes_are = refl };
-        bytes_are = refl;
-      };
-      split = same.1;
-      last = last;
-    }, record { value_is = refl; rest_is = refl })
+    let same = first_line t s l k.line (piece ++ rest) fits each.0.fits e (split ∙ regroup (print_chunk_line k.line) k.content crlf_bytes (flat_map print_chunk ks) (print_chunk_line z ++ trailer) rest) in (
+      record {
+        front = piece;
+        ends = ends;
+        value = content;
+        rest = rest;
+        message = record {
+          piece = k.content;
+          more = more;
+          size_is = sym each.0.size_is ∙ ap chunk_size (sym same.0);
+          chunked = record { chunks = ks; each = each.1; zero_line = z; zero_fits = zfits; zero_is = none; trailer = trailer; trailer_is = tr_is; content_is = is ∙ sym (append_assoc before k.content (flat_map (λ c. c.content) ks)); size = size; bytes_are = refl };
+          bytes_are = refl;
+        };
+        split = same.1;
+        last = last;
+      },
+      record { value_is = refl; rest_is = refl },
+    )
   where
     regroup : (a d c f z r : List ℕ) → (((a ++ (d ++ c)) ++ f) ++ z) ++ r ≡ a ++ ((d ++ (c ++ (f ++ z))) ++ r)
     regroup a d c f z r = simp (append_assoc)
@@ -59,7 +60,11 @@ size_leads limit before t e n m some = record {
       record {
         chunks = record { line = m.line; content = d.piece } ∷ r.chunks;
         each = (record { fits = m.fits; size_is = sym m.size_is ∙ sym d.size_is; some = rw d.size_is some }, r.each);
-        zero_line = r.zero_line; zero_fits = r.zero_fits; zero_is = r.zero_is; trailer = r.trailer; trailer_is = r.trailer_is;
+        zero_line = r.zero_line;
+        zero_fits = r.zero_fits;
+        zero_is = r.zero_is;
+        trailer = r.trailer;
+        trailer_is = r.trailer_is;
         content_is = r.content_is ∙ append_assoc before d.piece (flat_map (λ c. c.content) r.chunks);
         size = r.size;
         bytes_are = ap (λ w. w ++ x) m.bytes_are ∙ ap (λ w. print_chunk_line m.line ++ w) (d.bytes_are ∙ ap (λ w. d.piece ++ (crlf_bytes ++ w)) r.bytes_are) ∙ sym (back (print_chunk_line m.line) d.piece crlf_bytes (flat_map print_chunk r.chunks) (print_chunk_line r.zero_line ++ r.trailer));
@@ -83,16 +88,18 @@ chunk_leads limit before piece n size = record {
       let m = b.message in
       let whole : (piece ++ crlf_bytes) ++ s ≡ m.piece ++ (crlf_bytes ++ (m.more ++ b.rest)) = b.split ∙ ap (λ w. w ++ b.rest) m.bytes_are ∙ append_assoc m.piece (crlf_bytes ++ m.more) b.rest ∙ ap (λ w. m.piece ++ w) (append_assoc crlf_bytes m.more b.rest) in
       let first = same_front ((piece ++ crlf_bytes) ++ s) piece m.piece (crlf_bytes ++ s) (crlf_bytes ++ (m.more ++ b.rest)) (append_assoc piece crlf_bytes s) whole (size ∙ sym m.size_is) in
-      let second = same_front (crlf_bytes ++ s) crlf_bytes crlf_bytes s (m.more ++ b.rest) refl first.1 refl in
-      (record {
-        front = m.more;
-        ends = b.ends;
-        value = b.value;
-        rest = b.rest;
-        message = subst (λ p. IsChunkedAfter limit (before ++ p) m.more b.ends b.value) (sym first.0) m.chunked;
-        split = second.1;
-        last = b.last;
-      }, record { value_is = refl; rest_is = refl });
+      let second = same_front (crlf_bytes ++ s) crlf_bytes crlf_bytes s (m.more ++ b.rest) refl first.1 refl in (
+        record {
+          front = m.more;
+          ends = b.ends;
+          value = b.value;
+          rest = b.rest;
+          message = subst (λ p. IsChunkedAfter limit (before ++ p) m.more b.ends b.value) (sym first.0) m.chunked;
+          split = second.1;
+          last = b.last;
+        },
+        record { value_is = refl; rest_is = refl },
+      );
   build = λ x e a m. record { piece = piece; more = x; size_is = size; chunked = m; bytes_are = append_assoc piece crlf_bytes x };
 }
 
@@ -119,7 +126,13 @@ pub zero_leads : (limit : ℕ) (before t : List ℕ) (e : Bool) (n : ℕ) → Is
 zero_leads limit before t e n m none = record {
   peel = λ s b. behind_zero limit before t s m.line m.fits m.bytes_are (sym m.size_is ∙ none) b.message.chunks b.message.zero_line b.message.trailer b.rest b.value b.ends b.message.each b.message.zero_fits b.message.trailer_is b.message.content_is b.message.size b.last (b.split ∙ ap (λ w. w ++ b.rest) b.message.bytes_are);
   build = λ x ends a d. record {
-    chunks = []; each = tt; zero_line = m.line; zero_fits = m.fits; zero_is = sym m.size_is ∙ none; trailer = x; trailer_is = d.trailer_is;
+    chunks = [];
+    each = tt;
+    zero_line = m.line;
+    zero_fits = m.fits;
+    zero_is = sym m.size_is ∙ none;
+    trailer = x;
+    trailer_is = d.trailer_is;
     content_is = d.content_is ∙ sym (append-nil before);
     size = d.size;
     bytes_are = ap (λ w. w ++ x) m.bytes_are;
@@ -178,11 +191,13 @@ too_long limit before t e n m some long s b =
 -- ---- a stream begins with one chunked body at most
 
 last_unique : (limit : ℕ) (before : List ℕ) → IsUnique (IsLastAfter limit before)
-last_unique limit before = record { same = λ s b c.
-    let x = b.message.trailer_is in
-    let y = c.message.trailer_is in
-    let same = section_unique s x.fields y.fields x.last y.last b.rest c.rest (x.grammar, b.split ∙ ap (λ w. w ++ b.rest) x.bytes_are) (y.grammar, c.split ∙ ap (λ w. w ++ c.rest) y.bytes_are) in
-    record { value_is = b.message.content_is ∙ sym c.message.content_is; rest_is = same.2 } }
+last_unique limit before = record {
+  same = λ s b c.
+      let x = b.message.trailer_is in
+      let y = c.message.trailer_is in
+      let same = section_unique s x.fields y.fields x.last y.last b.rest c.rest (x.grammar, b.split ∙ ap (λ w. w ++ b.rest) x.bytes_are) (y.grammar, c.split ∙ ap (λ w. w ++ c.rest) y.bytes_are) in
+      record { value_is = b.message.content_is ∙ sym c.message.content_is; rest_is = same.2 };
+}
 
 zero_or : (n : ℕ) → (n ≡ 0) ⊎ (0 < n)
 zero_or zero = inl refl

@@ -1,9 +1,7 @@
 -- Messages behind a front that was read.
 use Rattle.std.proofs.Common.{◌≡◌, ℕ, ◌+◌, ◌-◌, ◌<◌, ◌≤◌, Bool, true, false, List, [], ◌∷◌, ◌++◌, length, refl, ap, ◌∙◌, sym, subst, arith, append_assoc, Option, inl, inr, ◌⊎◌}
 use Rattle.std.specs.Io.KnownBytes.{prepend_known}
-use Rattle.relay_http.specs.Forms.{Form, Begins, Gives, Took, Stopped, Refused, Fails}
-use Rattle.relay_http.specs.Reply.{Leads, IsStated}
-use Rattle.relay_http.specs.Body.{IsOutside}
+use Rattle.relay_http.specs.Forms.{Form, Begins, Gives, Leads, IsStated, Took, Stopped, Refused, Fails}
 use Rattle.relay_http.specs.declared.fault.HttpFault.{HttpFault}
 use Rattle.relay_http.specs.declared.fault.HttpFault.TheVariants as fault
 use Rattle.relay_http.proofs.Stands.{prepend_known-append}
@@ -66,7 +64,8 @@ pub fails_stated : {A : Type 0} (M : Form A) (old left : Option (List ℕ)) (f :
 fails_stated M old left f (inl e) r = subst (Fails M old left) (sym e) r
 fails_stated M old left f (inr (inl e)) r = subst (Fails M old left) (sym e) r
 fails_stated M old left f (inr (inr (inl e))) r = subst (Fails M old left) (sym e) r
-fails_stated M old left f (inr (inr (inr e))) r = subst (Fails M old left) (sym e) r
+fails_stated M old left f (inr (inr (inr (inl e)))) r = subst (Fails M old left) (sym e) r
+fails_stated M old left f (inr (inr (inr (inr e)))) r = subst (Fails M old left) (sym e) r
 
 -- what two messages lead to is one, so they are
 pub joined : {A : Type 0} {M N : Form A} {s t : List ℕ} (b c : Begins M s) (x y : Begins N t) → Gives b.value b.rest x → Gives c.value c.rest y → Gives x.value x.rest y → Gives b.value b.rest c

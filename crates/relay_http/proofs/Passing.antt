@@ -1,9 +1,8 @@
 -- Steps past the heads of a reply.
 use Rattle.std.proofs.Common.{◌≡◌, ℕ, ◌+◌, ◌-◌, ◌<◌, ◌≤◌, Bool, true, false, List, [], ◌∷◌, ◌++◌, refl, ap, ◌∙◌, sym, subst, arith, append_assoc, Option}
 use Rattle.std.specs.Io.KnownBytes.{prepend_known}
-use Rattle.relay_http.specs.Forms.{Form, Begins, Took, Refused}
-use Rattle.relay_http.specs.Reply.{Leads, IsReply, IsReplyWith, IsTail, Reply, Reached}
-use Rattle.relay_http.specs.Body.{IsBody}
+use Rattle.relay_http.specs.Forms.{Form, Begins, Leads, Refused}
+use Rattle.relay_http.specs.Reply.{IsHeads, IsHeadsWith}
 use Rattle.relay_http.proofs.Stands.{prepend_known-append}
 
 pub stood_behind : (x y : List ℕ) (old mid new : Option (List ℕ)) → old ≡ prepend_known x mid → mid ≡ prepend_known y new → old ≡ prepend_known (x ++ y) new
@@ -17,7 +16,7 @@ refused_here M x old window left e never = record {
   never = λ more b. never (window ++ more) (subst (Begins M) (append_assoc x window more) b);
 }
 
-pub eight : (passed : ℕ) (x : List ℕ) → passed < 8 → Leads IsReply (IsReplyWith (8 - passed - 1)) x → Leads IsReply (IsReplyWith (8 - (passed + 1))) x
+pub eight : (passed : ℕ) (x : List ℕ) → passed < 8 → Leads IsHeads (IsHeadsWith (8 - passed - 1)) x → Leads IsHeads (IsHeadsWith (8 - (passed + 1))) x
 eight passed x below f =
     let e : 8 - passed - 1 ≡ 8 - (passed + 1) = omega (arith, below) in
-    subst (λ k. Leads IsReply (IsReplyWith k) x) e f
+    subst (λ k. Leads IsHeads (IsHeadsWith k) x) e f

@@ -1,129 +1,159 @@
--- A reply behind its heads.
-use Rattle.std.proofs.Common.{◌≡◌, ℕ, suc, ◌+◌, ◌-◌, ◌<◌, ◌≤◌, Bool, true, false, not, ◌&&◌, ◌||◌, List, [], ◌∷◌, ◌++◌, length, flat_map, refl, ap, ◌∙◌, sym, subst, arith, append_assoc, Option, inl, inr, ◌⊎◌, Result, Ok, Err, cond, nat_lt, nat_le, ◌==◌, codes}
+-- The heads of a reply, and what they state.
+use Rattle.std.proofs.Common.{◌≡◌, ℕ, zero, suc, ◌+◌, ◌-◌, ◌<◌, ◌≤◌, Bool, true, false, not, ◌&&◌, ◌||◌, List, [], ◌∷◌, ◌++◌, length, flat_map, refl, ap, ◌∙◌, sym, subst, arith, append_assoc, Option, inl, inr, ◌⊎◌, Result, Ok, Err, cond, nat_lt, nat_le, ◌==◌, codes}
 use Rattle.std.proofs.lemmas.Bool.{false≢true}
 use Rattle.std.specs.List.{AllByRecursion, list_all}
-use Rattle.httparse.specs.Grammar.{ResponseHead, print_response, status_code, ReadsResponse}
+use Rattle.httparse.specs.Grammar.{ResponseHead, print_response, status_code}
 use Rattle.httparse.proofs.GrammarLemmas.{response_unique}
-use Rattle.std.specs.Io.KnownBytes.{prepend_known}
-use Rattle.relay_http.specs.Fields.{Header, has_field, values_named, elements_named, agrees}
-use Rattle.relay_http.specs.Framing.{framing_of, framing_of_fields, is_chunked, is_plain, sized, keeps, is_to_end, reply_limit}
+use Rattle.relay_http.specs.Fields.{Header, has_field, values_named, elements_named, agrees, number}
+use Rattle.relay_http.specs.Framing.{framing_of, framing_of_fields, is_chunked, is_interim, is_plain, sized, is_to_end, reply_limit}
 use Rattle.relay_http.specs.Body.{IsBody}
-use Rattle.relay_http.specs.Forms.{Form, Begins, Gives}
-use Rattle.relay_http.specs.Reply.{FitsHead, headers, info_of, IsHead, is_interim, IsInterim, Reply, IsReplyWith, IsTail, Leads, IsStated}
+use Rattle.relay_http.specs.Forms.{Form, Begins, Gives, IsUnique, IsStated, Leads}
+use Rattle.relay_http.specs.Reply.{FitsHead, headers, info_of, IsHead, IsInterim, IsHeadsWith, IsHeads, Reply, IsReply, IsReplyBody}
 use Rattle.relay_http.specs.declared.fault.HttpFault.{HttpFault}
 use Rattle.relay_http.specs.declared.fault.HttpFault.TheVariants as fault
 use Rattle.relay_http.specs.declared.framing.Framing.{Framing}
 use Rattle.relay_http.specs.declared.framing.Framing.TheVariants as framing
-use Rattle.relay_http.specs.Fields.{is_number, number}
 use Rattle.relay_http.specs.declared.head.HeadInfo.{HeadInfo}
+use Rattle.relay_http.proofs.Leading.{moved, joined}
+use Rattle.relay_http.proofs.Messages.{then_unique}
+use Rattle.relay_http.proofs.Unique.{body_unique, ok_is}
 
--- an interim status frames nothing
-interim_unframed : (status : ℕ) (fields : List Header) (f : Framing) → is_interim status ≡ true → framing_of status fields ≡ Ok f → ⊥
-interim_unframed status fields f i e = early (nat_lt status 200) (nat_lt 599 status) _ (both (nat_le 100 status) (nat_lt status 200) (not (status == 101)) i) e
-  where
-    both : (a b c : Bool) → (a && (b && c)) ≡ true → b ≡ true
-    both true true c e = refl
-    both true false c e = e
-    both false b c e = absurd (false≢true e)
+-- ---- one head after another
 
-    err_ok : ◌≡◌ {A = Result Framing HttpFault} (Err fault.Malformed) (Ok f) → ⊥
-    err_ok e = cc
-
-    early : (b c : Bool) (r : Result Framing HttpFault) → b ≡ true → cond (b || c) (Err fault.Malformed) r ≡ Ok f → ⊥
-    early true c r h e = err_ok e
-    early false c r h e = absurd (false≢true h)
-
--- a head at the front of a stream is the first head of a reply there
+-- a head at the front of a stream is the first of the heads there
 first_head : (t s : List ℕ) (h k : ResponseHead) (rest : List ℕ) → FitsHead h → FitsHead k → t ≡ print_response h → t ++ s ≡ print_response k ++ rest → (h ≡ k) × (s ≡ rest)
 first_head t s h k rest fh fk e f = response_unique (t ++ s) h k s rest (fh.grammar, ap (λ w. w ++ s) e) (fk.grammar, f)
 
--- the parts of a reply, at the front of a stream
-pub record Parts (most : ℕ) (interim : List ResponseHead) (head : ResponseHead) (framing : Framing) (text : List ℕ) (ends : Bool) (reply : Reply) : Type 0 where
-  pub few : length interim ≤ most
-  pub dropped : AllByRecursion IsInterim interim
-  pub fits : FitsHead head
-  pub framed : framing_of (status_code head) (headers head) ≡ Ok framing
-  pub body : IsBody reply_limit framing text ends reply.body
-  pub status_is : reply.status ≡ status_code head
-  pub keep_is : reply.keep ≡ (keeps head.minor (headers head) && not (is_to_end framing))
+-- the heads at the front of a stream, by their parts
+record Parts (most : ℕ) (interim : List ResponseHead) (head : ResponseHead) : Type 0 where
+  few : length interim ≤ most
+  dropped : AllByRecursion IsInterim interim
+  fits : FitsHead head
+  last : is_interim (status_code head) ≡ true → length interim ≡ most
 
-parts_of : (most : ℕ) (bytes : List ℕ) (ends : Bool) (reply : Reply) (r : IsReplyWith most bytes ends reply) → Parts most r.interim r.head r.framing r.text ends reply
-parts_of most bytes ends reply r = record { few = r.few; dropped = r.dropped; fits = r.fits; framed = r.framed; body = r.body; status_is = r.status_is; keep_is = r.keep_is }
-
-from_parts : (most : ℕ) (interim : List ResponseHead) (head : ResponseHead) (framing : Framing) (text : List ℕ) (ends : Bool) (reply : Reply)
-    → Parts most interim head framing text ends reply → IsReplyWith most (flat_map print_response interim ++ (print_response head ++ text)) ends reply
-from_parts most interim head framing text ends reply p = record { interim = interim; few = p.few; dropped = p.dropped; head = head; fits = p.fits; framing = framing; framed = p.framed; text = text; body = p.body; bytes_are = refl; status_is = p.status_is; keep_is = p.keep_is }
-
-regroup : (a b c rest : List ℕ) → (a ++ (b ++ c)) ++ rest ≡ a ++ (b ++ (c ++ rest))
-regroup a b c rest = append_assoc a (b ++ c) rest ∙ ap (λ w. a ++ w) (append_assoc b c rest)
-
--- behind an interim head
-behind_interim : (most : ℕ) (t s : List ℕ) (h : ResponseHead) → IsInterim h → t ≡ print_response h
-    → (interim : List ResponseHead) (head : ResponseHead) (framing : Framing) (text rest : List ℕ) (ends : Bool) (reply : Reply)
-    → Parts most interim head framing text ends reply → (ends ≡ true → rest ≡ []) → t ++ s ≡ (flat_map print_response interim ++ (print_response head ++ text)) ++ rest
-    → (0 < most) × ((b : Begins (IsReplyWith (most - 1)) s) × Gives reply rest b)
-behind_interim most t s h i e [] head framing text rest ends reply p last split =
-    let same = first_head t s h head (text ++ rest) i.fits p.fits e (split ∙ append_assoc (print_response head) text rest) in
-    absurd (interim_unframed (status_code head) (headers head) framing (subst (λ k. is_interim (status_code k) ≡ true) same.0 i.status) p.framed)
-behind_interim most t s h i e (k ∷ ks) head framing text rest ends reply p last split =
-    let bytes = flat_map print_response ks ++ (print_response head ++ text) in
+-- after an interim head
+behind_interim : (most : ℕ) (t s : List ℕ) (h : ResponseHead) → 0 < most → IsInterim h → t ≡ print_response h
+    → (interim : List ResponseHead) (head : ResponseHead) (info : HeadInfo) (rest : List ℕ) (ends : Bool)
+    → Parts most interim head → info ≡ info_of head → (ends ≡ true → rest ≡ []) → t ++ s ≡ (flat_map print_response interim ++ print_response head) ++ rest
+    → (b : Begins (IsHeadsWith (most - 1)) s) × Gives info rest b
+behind_interim most t s h some i e [] head info rest ends p says end split =
+    let same = first_head t s h head rest i.fits p.fits e split in
+    let none = p.last (subst (λ k. is_interim (status_code k) ≡ true) same.0 i.status) in
+    absurd (omega (arith, some, none))
+behind_interim most t s h some i e (k ∷ ks) head info rest ends p says end split =
+    let bytes = flat_map print_response ks ++ print_response head in
     let few = p.few in
-    let same = first_head t s h k (bytes ++ rest) i.fits p.dropped.0.fits e (split ∙ ap (λ w. w ++ rest) (append_assoc (print_response k) (flat_map print_response ks) (print_response head ++ text)) ∙ append_assoc (print_response k) bytes rest) in
-    let q : Parts (most - 1) ks head framing text ends reply = record { few = omega (arith, few); dropped = p.dropped.1; fits = p.fits; framed = p.framed; body = p.body; status_is = p.status_is; keep_is = p.keep_is } in
-    (omega (arith, few), (record { front = bytes; ends = ends; value = reply; rest = rest; message = from_parts (most - 1) ks head framing text ends reply q; split = same.1; last = last }, record { value_is = refl; rest_is = refl }))
+    let same = first_head t s h k (bytes ++ rest) i.fits p.dropped.0.fits e (split ∙ ap (λ w. w ++ rest) (append_assoc (print_response k) (flat_map print_response ks) (print_response head)) ∙ append_assoc (print_response k) bytes rest) in
+    let less : is_interim (status_code head) ≡ true → length ks ≡ most - 1 = λ x. let whole = p.last x in omega (arith, whole) in (
+      record {
+        front = bytes;
+        ends = ends;
+        value = info;
+        rest = rest;
+        message = record { interim = ks; few = omega (arith, few); dropped = p.dropped.1; head = head; fits = p.fits; last = less; bytes_are = refl; info_is = says };
+        split = same.1;
+        last = end;
+      },
+      record { value_is = refl; rest_is = refl },
+    )
 
--- behind a head that is not interim
-behind_final : (most : ℕ) (t s : List ℕ) (h : ResponseHead) → FitsHead h → is_interim (status_code h) ≡ false → t ≡ print_response h
-    → (interim : List ResponseHead) (head : ResponseHead) (framing : Framing) (text rest : List ℕ) (ends : Bool) (reply : Reply)
-    → Parts most interim head framing text ends reply → (ends ≡ true → rest ≡ []) → t ++ s ≡ (flat_map print_response interim ++ (print_response head ++ text)) ++ rest
-    → (b : Begins (IsTail (info_of h)) s) × Gives reply rest b
-behind_final most t s h fits i e [] head framing text rest ends reply p last split =
-    let same = first_head t s h head (text ++ rest) fits p.fits e (split ∙ append_assoc (print_response head) text rest) in
-    let tail : IsTail (info_of head) text ends reply = record { framing = framing; framed = p.framed; body = p.body; status_is = p.status_is; keep_is = p.keep_is } in
-    (record { front = text; ends = ends; value = reply; rest = rest; message = subst (λ k. IsTail (info_of k) text ends reply) (sym same.0) tail; split = same.1; last = last }, record { value_is = refl; rest_is = refl })
-behind_final most t s h fits i e (k ∷ ks) head framing text rest ends reply p last split =
-    let bytes = flat_map print_response ks ++ (print_response head ++ text) in
-    let same = first_head t s h k (bytes ++ rest) fits p.dropped.0.fits e (split ∙ ap (λ w. w ++ rest) (append_assoc (print_response k) (flat_map print_response ks) (print_response head ++ text)) ∙ append_assoc (print_response k) bytes rest) in
-    let wrong : true ≡ false = sym p.dropped.0.status ∙ ap (λ r. is_interim (status_code r)) (sym same.0) ∙ i in
-    absurd (cc)
+parts_of : (most : ℕ) (bytes : List ℕ) (ends : Bool) (info : HeadInfo) (m : IsHeadsWith most bytes ends info) → Parts most m.interim m.head
+parts_of most bytes ends info m = record { few = m.few; dropped = m.dropped; fits = m.fits; last = m.last }
 
-pub interim_leads : (most : ℕ) (t : List ℕ) (e : Bool) (info : HeadInfo) → IsHead t e info → is_interim info.status ≡ true → 0 < most → Leads (IsReplyWith most) (IsReplyWith (most - 1)) t
+interim_of : (t : List ℕ) (e : Bool) (info : HeadInfo) (m : IsHead t e info) → is_interim info.status ≡ true → IsInterim m.head
+interim_of t e info m i = record { fits = m.fits; status = subst (λ (k : HeadInfo). is_interim k.status ≡ true) m.info_is i }
+
+pub interim_leads : (most : ℕ) (t : List ℕ) (e : Bool) (info : HeadInfo) → IsHead t e info → is_interim info.status ≡ true → 0 < most → Leads (IsHeadsWith most) (IsHeadsWith (most - 1)) t
 interim_leads most t e info m i some =
-    let is : IsInterim m.head = record { fits = m.fits; status = subst (λ (k : HeadInfo). is_interim k.status ≡ true) m.info_is i } in
+    let is = interim_of t e info m i in
     record {
-      peel = λ s b. (behind_interim most t s m.head is m.bytes_are b.message.interim b.message.head b.message.framing b.message.text b.rest b.ends b.value (parts_of most b.front b.ends b.value b.message) b.last (b.split ∙ ap (λ w. w ++ b.rest) b.message.bytes_are)).1;
+      peel = λ s b. behind_interim most t s m.head some is m.bytes_are b.message.interim b.message.head b.value b.rest b.ends (parts_of most b.front b.ends b.value b.message) b.message.info_is b.last (b.split ∙ ap (λ w. w ++ b.rest) b.message.bytes_are);
       build = λ x ends a r.
           let few = r.few in
+          let more : is_interim (status_code r.head) ≡ true → length (m.head ∷ r.interim) ≡ most = λ w. let whole = r.last w in omega (arith, whole, some) in
           record {
-            interim = m.head ∷ r.interim; few = omega (arith, few, some); dropped = (is, r.dropped); head = r.head; fits = r.fits; framing = r.framing; framed = r.framed; text = r.text; body = r.body;
-            bytes_are = ap (λ w. w ++ x) m.bytes_are ∙ ap (λ w. print_response m.head ++ w) r.bytes_are ∙ sym (append_assoc (print_response m.head) (flat_map print_response r.interim) (print_response r.head ++ r.text));
-            status_is = r.status_is; keep_is = r.keep_is;
+            interim = m.head ∷ r.interim;
+            few = omega (arith, few, some);
+            dropped = (is, r.dropped);
+            head = r.head;
+            fits = r.fits;
+            last = more;
+            bytes_are = ap (λ w. w ++ x) m.bytes_are ∙ ap (λ w. print_response m.head ++ w) r.bytes_are ∙ sym (append_assoc (print_response m.head) (flat_map print_response r.interim) (print_response r.head));
+            info_is = r.info_is;
           };
     }
 
-told : (i j : HeadInfo) → i ≡ j → (s : List ℕ) (value : Reply) (rest : List ℕ) → ((b : Begins (IsTail i) s) × Gives value rest b) → ((b : Begins (IsTail j) s) × Gives value rest b)
-told i j e s value rest b = subst (λ k. ((b : Begins (IsTail k) s) × Gives value rest b)) e b
+-- a head that is the last makes the heads whole
+pub last_is : (most : ℕ) (t : List ℕ) (e : Bool) (info : HeadInfo) → IsHead t e info → (is_interim info.status ≡ true → most ≡ 0) → IsHeadsWith most t e info
+last_is most t e info m last = record {
+  interim = [];
+  few = omega arith;
+  dropped = tt;
+  head = m.head;
+  fits = m.fits;
+  last = λ x. sym (last (subst (λ (k : HeadInfo). is_interim k.status ≡ true) (sym m.info_is) x));
+  bytes_are = m.bytes_are;
+  info_is = m.info_is;
+}
 
-pub final_leads : (most : ℕ) (t : List ℕ) (e : Bool) (info : HeadInfo) → IsHead t e info → is_interim info.status ≡ false → Leads (IsReplyWith most) (IsTail info) t
-final_leads most t e info m i =
-    let not_interim : is_interim (status_code m.head) ≡ false = subst (λ (k : HeadInfo). is_interim k.status ≡ false) m.info_is i in
-    record {
-      peel = λ s b. told (info_of m.head) info (sym m.info_is) s b.value b.rest (behind_final most t s m.head m.fits not_interim m.bytes_are b.message.interim b.message.head b.message.framing b.message.text b.rest b.ends b.value (parts_of most b.front b.ends b.value b.message) b.last (b.split ∙ ap (λ w. w ++ b.rest) b.message.bytes_are));
-      build = λ x ends a r0.
-          let r : IsTail (info_of m.head) x ends a = subst (λ k. IsTail k x ends a) m.info_is r0 in
-          record {
-            interim = []; few = omega arith; dropped = tt; head = m.head; fits = m.fits; framing = r.framing; framed = r.framed; text = x; body = r.body;
-            bytes_are = ap (λ w. w ++ x) m.bytes_are; status_is = r.status_is; keep_is = r.keep_is;
-          };
-    }
+-- heads begin with a head
+pub begins_head : (most : ℕ) (s : List ℕ) → Begins (IsHeadsWith most) s → Begins IsHead s
+begins_head most s b = first b.message.interim b.message.dropped (b.split ∙ ap (λ w. w ++ b.rest) b.message.bytes_are)
+  where
+    head_of : (h : ResponseHead) (rest : List ℕ) → FitsHead h → s ≡ print_response h ++ rest → Begins IsHead s
+    head_of h rest fits e = record { front = print_response h; ends = false; value = info_of h; rest = rest; message = record { head = h; fits = fits; bytes_are = refl; info_is = refl }; split = e; last = λ x. absurd (false≢true x) }
 
-pub too_many : (t : List ℕ) (e : Bool) (info : HeadInfo) → IsHead t e info → is_interim info.status ≡ true → (s : List ℕ) → ¬ (Begins (IsReplyWith 0) (t ++ s))
-too_many t e info m i s b =
-    let is : IsInterim m.head = record { fits = m.fits; status = subst (λ (k : HeadInfo). is_interim k.status ≡ true) m.info_is i } in
-    let none = (behind_interim 0 t s m.head is m.bytes_are b.message.interim b.message.head b.message.framing b.message.text b.rest b.ends b.value (parts_of 0 b.front b.ends b.value b.message) b.last (b.split ∙ ap (λ w. w ++ b.rest) b.message.bytes_are)).0 in
-    omega (arith, none)
+    first : (interim : List ResponseHead) → AllByRecursion IsInterim interim → s ≡ (flat_map print_response interim ++ print_response b.message.head) ++ b.rest → Begins IsHead s
+    first [] d e = head_of b.message.head b.rest b.message.fits e
+    first (k ∷ ks) d e =
+        let bytes = flat_map print_response ks ++ print_response b.message.head in
+        head_of k (bytes ++ b.rest) d.0.fits (e ∙ ap (λ w. w ++ b.rest) (append_assoc (print_response k) (flat_map print_response ks) (print_response b.message.head)) ∙ append_assoc (print_response k) bytes b.rest)
 
--- the faults that fields give
+-- ---- heads are unique
+
+-- where the first head is the last one, it is all
+only : (most : ℕ) (s : List ℕ) (b : Begins (IsHeadsWith most) s) (h : Begins IsHead s) → (is_interim h.value.status ≡ true → most ≡ 0) → Gives h.value h.rest b
+only most s b h last = alone b.message.interim b.message.few b.message.dropped (b.split ∙ ap (λ w. w ++ b.rest) b.message.bytes_are)
+  where
+    alone : (interim : List ResponseHead) → length interim ≤ most → AllByRecursion IsInterim interim → s ≡ (flat_map print_response interim ++ print_response b.message.head) ++ b.rest → Gives h.value h.rest b
+    alone [] few d e =
+        let same = first_head h.front h.rest h.message.head b.message.head b.rest h.message.fits b.message.fits h.message.bytes_are (sym h.split ∙ e) in
+        record { value_is = h.message.info_is ∙ ap info_of same.0 ∙ sym b.message.info_is; rest_is = same.1 }
+    alone (k ∷ ks) few d e =
+        let bytes = flat_map print_response ks ++ print_response b.message.head in
+        let same = first_head h.front h.rest h.message.head k (bytes ++ b.rest) h.message.fits d.0.fits h.message.bytes_are (sym h.split ∙ e ∙ ap (λ w. w ++ b.rest) (append_assoc (print_response k) (flat_map print_response ks) (print_response b.message.head)) ∙ append_assoc (print_response k) bytes b.rest) in
+        let i : is_interim h.value.status ≡ true = subst (λ (v : HeadInfo). is_interim v.status ≡ true) (sym h.message.info_is) (subst (λ (v : ResponseHead). is_interim (status_code v) ≡ true) (sym same.0) d.0.status) in
+        let none = last i in
+        absurd (omega (arith, few, none))
+
+either : (b : Bool) → (b ≡ true) ⊎ (b ≡ false)
+either true = inl refl
+either false = inr refl
+
+twice : {A : Type 0} {M : Form A} {s : List ℕ} (value : A) (rest : List ℕ) (b c : Begins M s) → Gives value rest b → Gives value rest c → Gives b.value b.rest c
+twice value rest b c g h = record { value_is = sym g.value_is ∙ h.value_is; rest_is = sym g.rest_is ∙ h.rest_is }
+
+by_status : (most : ℕ) (s : List ℕ) (b c : Begins (IsHeadsWith most) s) (h : Begins IsHead s) → (is_interim h.value.status ≡ true) ⊎ (is_interim h.value.status ≡ false) → Gives b.value b.rest c
+by_status zero s b c h i = twice h.value h.rest b c (only zero s b h (λ x. refl)) (only zero s c h (λ x. refl))
+by_status (suc most) s b c h (inl i) =
+    let l = interim_leads (suc most) h.front h.ends h.value h.message i (omega arith) in
+    let x = l.peel h.rest (moved h.split b) in
+    let y = l.peel h.rest (moved h.split c) in
+    let m : suc most - 1 ≡ most = omega arith in
+    let next = subst (λ k. (p q : Begins (IsHeadsWith k) h.rest) → Gives p.value p.rest q) (sym m) (λ p q. by_status most h.rest p q (begins_head most h.rest p) (either (is_interim (begins_head most h.rest p).value.status))) in
+    joined b c x.0 y.0 x.1 y.1 (next x.0 y.0)
+by_status (suc most) s b c h (inr i) =
+    let last : is_interim h.value.status ≡ true → suc most ≡ 0 = λ x. absurd (false≢true (sym i ∙ x)) in
+    twice h.value h.rest b c (only (suc most) s b h last) (only (suc most) s c h last)
+
+pub heads_unique : (most : ℕ) → IsUnique (IsHeadsWith most)
+heads_unique most = record { same = λ s b c. by_status most s b c (begins_head most s b) (either (is_interim (begins_head most s b).value.status)) }
+
+pub heads_either : (most : ℕ) (t : List ℕ) (e : Bool) (info : HeadInfo) → IsHeadsWith most t e info → IsHeadsWith most t false info
+heads_either most t e info m = record { interim = m.interim; few = m.few; dropped = m.dropped; head = m.head; fits = m.fits; last = m.last; bytes_are = m.bytes_are; info_is = m.info_is }
+
+-- ---- the faults that heads state
+
 chosen_stated : (b : Bool) (e : HttpFault) (r : Result Framing HttpFault) → IsStated e → ((f : HttpFault) → r ≡ Err f → IsStated f) → (f : HttpFault) → cond b (Err e) r ≡ Err f → IsStated f
 chosen_stated true e r is others f h = subst IsStated (err_is h) is
   where
@@ -135,7 +165,7 @@ chosen_ok : (b : Bool) (g : Framing) (r : Result Framing HttpFault) → ((f : Ht
 chosen_ok true g r others f h = absurd (cc)
 chosen_ok false g r others f h = others f h
 
-err_is : (e f : HttpFault) → ◌≡◌ {A = Result Framing HttpFault} (Err e) (Err f) → e ≡ f
+pub err_is : (e f : HttpFault) → ◌≡◌ {A = Result Framing HttpFault} (Err e) (Err f) → e ≡ f
 err_is e f h = cc
 
 chosen_sized : (b c : Bool) (g : Framing) (f : HttpFault) → cond b (cond c (Ok g) (Err fault.BodyLong)) (Err fault.Malformed) ≡ Err f → IsStated f
@@ -155,32 +185,22 @@ fields_stated limit o fields =
     let last = chosen_ok (coded) framing.Chunked (sized limit o lengths) (sized_stated limit o lengths) in
     let refused = (coded && not (is_chunked codings)) || not (list_all is_plain (values_named (codes "content-encoding") fields)) in
     let middle = chosen_stated refused fault.CodedBody (cond (coded) (Ok framing.Chunked) (sized limit o lengths)) (inr (inr (inl refl))) last in
-    chosen_stated (coded && has_field (codes "content-length") fields) fault.BothLengths (cond refused (Err fault.CodedBody) (cond (coded) (Ok framing.Chunked) (sized limit o lengths))) (inr (inr (inr refl))) middle
+    chosen_stated (coded && has_field (codes "content-length") fields) fault.BothLengths (cond refused (Err fault.CodedBody) (cond (coded) (Ok framing.Chunked) (sized limit o lengths))) (inr (inr (inr (inl refl)))) middle
 
-pub framing_stated : (status : ℕ) (fields : List Header) (f : HttpFault) → framing_of status fields ≡ Err f → IsStated f
+framing_stated : (status : ℕ) (fields : List Header) (f : HttpFault) → framing_of status fields ≡ Err f → IsStated f
 framing_stated status fields =
     let bare = (status == 204) || (status == 304) in
-    chosen_stated (nat_lt status 200 || nat_lt 599 status) fault.Malformed (cond bare (Ok framing.Absent) (framing_of_fields reply_limit framing.ToEnd fields)) (inl refl)
-    (chosen_ok bare framing.Absent (framing_of_fields reply_limit framing.ToEnd fields) (fields_stated reply_limit framing.ToEnd fields))
+    let late = cond bare (Ok framing.Absent) (framing_of_fields reply_limit framing.ToEnd fields) in
+    let outer = chosen_stated (nat_lt status 200 || nat_lt 599 status) fault.Malformed late (inl refl) (chosen_ok bare framing.Absent (framing_of_fields reply_limit framing.ToEnd fields) (fields_stated reply_limit framing.ToEnd fields)) in
+    chosen_stated (is_interim status) fault.TooManyInterim (cond (nat_lt status 200 || nat_lt 599 status) (Err fault.Malformed) late) (inr (inr (inr (inr refl)))) outer
 
-pub info_stated : (t : List ℕ) (e : Bool) (info : HeadInfo) → IsHead t e info → (f : HttpFault) → info.framing ≡ Err f → IsStated f
-info_stated t e info m f h = framing_stated (status_code m.head) (headers m.head) f (sym (ap (λ (k : HeadInfo). k.framing) m.info_is) ∙ h)
+pub info_stated : (most : ℕ) (t : List ℕ) (e : Bool) (info : HeadInfo) → IsHeadsWith most t e info → (f : HttpFault) → info.framing ≡ Err f → IsStated f
+info_stated most t e info m f h = framing_stated (status_code m.head) (headers m.head) f (sym (ap (λ (k : HeadInfo). k.framing) m.info_is) ∙ h)
 
--- a reply begins with a head
-pub begins_head : (most : ℕ) (s : List ℕ) → Begins (IsReplyWith most) s → Begins IsHead s
-begins_head most s b = first b.message.interim b.message.dropped (b.split ∙ ap (λ w. w ++ b.rest) b.message.bytes_are)
-  where
-    head_of : (h : ResponseHead) (rest : List ℕ) → FitsHead h → s ≡ print_response h ++ rest → Begins IsHead s
-    head_of h rest fits e = record { front = print_response h; ends = false; value = info_of h; rest = rest; message = record { head = h; fits = fits; bytes_are = refl; info_is = refl }; split = e; last = λ x. absurd (false≢true x) }
+-- ---- bodies of replies
 
-    first : (interim : List ResponseHead) → AllByRecursion IsInterim interim → s ≡ (flat_map print_response interim ++ (print_response b.message.head ++ b.message.text)) ++ b.rest → Begins IsHead s
-    first [] d e = head_of b.message.head (b.message.text ++ b.rest) b.message.fits (e ∙ append_assoc (print_response b.message.head) b.message.text b.rest)
-    first (k ∷ ks) d e =
-        let bytes = flat_map print_response ks ++ (print_response b.message.head ++ b.message.text) in
-        head_of k (bytes ++ b.rest) d.0.fits (e ∙ ap (λ w. w ++ b.rest) (append_assoc (print_response k) (flat_map print_response ks) (print_response b.message.head ++ b.message.text)) ∙ append_assoc (print_response k) bytes b.rest)
-
--- what follows a final head begins with its body
-pub begins_body : (info : HeadInfo) (framing : Framing) → info.framing ≡ Ok framing → (s : List ℕ) → Begins (IsTail info) s → Begins (IsBody reply_limit framing) s
+-- what follows heads that state a framing begins with a body in it
+abbrev pub begins_body : (info : HeadInfo) (framing : Framing) → info.framing ≡ Ok framing → (s : List ℕ) → Begins (IsReplyBody info) s → Begins (IsBody reply_limit framing) s
 begins_body info framing e s b = record {
   front = b.front;
   ends = b.ends;
@@ -190,13 +210,26 @@ begins_body info framing e s b = record {
   split = b.split;
   last = b.last;
 }
-  where
-    ok_is : (f g : Framing) → ◌≡◌ {A = Result Framing HttpFault} (Ok f) (Ok g) → f ≡ g
-    ok_is f g h = cc
 
--- a final head that states a fault has nothing behind it
-pub stated_never : (info : HeadInfo) (f : HttpFault) → info.framing ≡ Err f → (s : List ℕ) → ¬ (Begins (IsTail info) s)
+-- heads that state a fault have no body after them
+pub stated_never : (info : HeadInfo) (f : HttpFault) → info.framing ≡ Err f → (s : List ℕ) → ¬ (Begins (IsReplyBody info) s)
 stated_never info f e s b = wrong f b.message.framing (sym e ∙ b.message.framed)
   where
     wrong : (f : HttpFault) (g : Framing) → ◌≡◌ {A = Result Framing HttpFault} (Err f) (Ok g) → ⊥
     wrong f g h = cc
+
+reply_is : (a b : Reply) → a.status ≡ b.status → a.body ≡ b.body → a.keep ≡ b.keep → a ≡ b
+reply_is a b e f g = λ i. record { status = e i; body = f i; keep = g i }
+
+body_after_unique : (info : HeadInfo) → IsUnique (IsReplyBody info)
+body_after_unique info = record {
+  same = λ s b c.
+      let f : b.message.framing ≡ c.message.framing = ok_is b.message.framing c.message.framing (sym b.message.framed ∙ c.message.framed) in
+      let x = begins_body info c.message.framing c.message.framed s b in
+      let y = begins_body info c.message.framing c.message.framed s c in
+      let same = (body_unique reply_limit c.message.framing).same s x y in
+      record { value_is = reply_is b.value c.value (b.message.status_is ∙ sym c.message.status_is) same.value_is (b.message.keep_is ∙ ap (λ k. info.lasting && not (is_to_end k)) f ∙ sym c.message.keep_is); rest_is = same.rest_is };
+}
+
+pub reply_unique : IsUnique IsReply
+reply_unique = then_unique IsHeads IsReplyBody (heads_unique 8) body_after_unique

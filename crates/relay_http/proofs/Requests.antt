@@ -12,7 +12,7 @@ use Rattle.httparse.proofs.GrammarLemmas.{cons-append, request_unique}
 use Rattle.std.specs.Fmt.{decimal}
 use Rattle.std.proofs.lemmas.Fmt.{decimal_injective}
 use Rattle.httparse.specs.Ascii.{crlf_bytes}
-use Rattle.relay_http.specs.Request.{head_text, written_head, host_field, type_field, length_field}
+use Rattle.relay_http.specs.WrittenRequest.{head_text, written_head, host_field, type_field, length_field}
 
 pub printed : (host digits : List ℕ) → print_request (written_head host digits) ≡ head_text host digits
 unfolding httparse_on_literals head_text
@@ -56,8 +56,8 @@ is_written host digits h d = record {
   target_text = IsUtf8-from_ascii (codes "/_bulk") (ascii (codes "/_bulk") refl);
   minor = omega arith;
   fields = All-cons IsField (host_field host) (type_field ∷ length_field digits ∷ []) (host_ok host h)
-    (All-cons IsField type_field (length_field digits ∷ []) type_ok
-    (All-cons IsField (length_field digits) [] (length_ok digits d) (All-nil IsField)));
+      (All-cons IsField type_field (length_field digits ∷ []) type_ok
+      (All-cons IsField (length_field digits) [] (length_ok digits d) (All-nil IsField)));
 }
 
 pub head_joined : (host digits t1 t2 t3 t4 t5 : List ℕ)

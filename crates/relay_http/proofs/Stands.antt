@@ -6,7 +6,7 @@ use Rattle.std.proofs.lemmas.Bool.{false≢true}
 use Rattle.std.specs.Io.KnownBytes.{IsAtEnd}
 use Rattle.std.specs.Io.KnownBytes.{prepend_known}
 use Rattle.relay_http.specs.Window.{Grown}
-use Rattle.relay_http.specs.Body.{Moved, IsOutside}
+use Rattle.relay_http.specs.Body.{Moved}
 use Rattle.relay_http.specs.Forms.{Form, Begins, Took, Stopped, Refused, Fails, Answers, Finds}
 use Rattle.relay_http.specs.declared.fault.HttpFault.{HttpFault}
 use Rattle.relay_http.specs.declared.fault.HttpFault.TheVariants as fault

@@ -1,19 +1,18 @@
 -- What a length that is written says.
 use Rattle.std.proofs.Common.{◌≡◌, ℕ, ◌+◌, ◌<◌, ◌≤◌, ◌^◌, Bool, true, false, not, ◌&&◌, ◌||◌, cond, eqb, List, [], ◌∷◌, ◌++◌, map, reverse, length, refl, ap, ◌∙◌, sym, subst, arith, codes, Result, Ok, Err}
-use Rattle.std.specs.Prelude.{bytes_eq, nat_le}
+use Rattle.std.specs.Prelude.{nat_le}
 use Rattle.std.specs.Char.{digit_value, is_ascii_digit}
 use Rattle.std.specs.List.{list_all}
 use Rattle.std.specs.Fmt.{decimal}
 use Rattle.std.specs.Str.Parse.{digits_value, AllDigits}
-use Rattle.std.proofs.lemmas.Bool.{and_from, lt-ltb, le-leb, false≢true}
+use Rattle.std.proofs.lemmas.Bool.{and_from, eq-eqb, lt-ltb, le-leb, false≢true}
 use Rattle.std.proofs.lemmas.Bool.Decides.{nat_tests}
 use Rattle.std.proofs.lemmas.Fmt.{decimal_is_IsNumeral, decimal_nonempty}
 use Rattle.std.proofs.lemmas.List.{reverse-reverse}
 use Rattle.std.proofs.lemmas.List.Sums.{AllPass-from_list_all, list_all-from_AllPass}
-use Rattle.std.proofs.lemmas.Slice.Eq.{bytes_eq-Decides}
 use Rattle.httparse.specs.Grammar.{AllPass, is_ows, is_value_byte, skip_ows, trim_ows}
 use Rattle.httparse.proofs.TrimLemmas.{AllPass-reverse}
-use Rattle.relay_http.specs.Fields.{elements, pieces, in_front, is_number, number, significant, agrees}
+use Rattle.relay_http.specs.Fields.{elements, pieces, in_front, is_number, number, agrees}
 use Rattle.relay_http.specs.Framing.{sized}
 use Rattle.relay_http.specs.declared.fault.HttpFault.{HttpFault}
 use Rattle.relay_http.specs.declared.fault.HttpFault.TheVariants as fault
@@ -27,7 +26,7 @@ decimal_digits : (text : List ℕ) → AllDigits 10 text → list_all is_ascii_d
 decimal_digits [] all = refl
 decimal_digits (c ∷ cs) all = and_from _ _ (decimal_digit c all.0) (decimal_digits cs all.1)
 
-both : (a b : Bool) → (a && b) ≡ true → (a ≡ true) × (b ≡ true)
+pub both : (a b : Bool) → (a && b) ≡ true → (a ≡ true) × (b ≡ true)
 both true true e = (refl, refl)
 both true false e = absurd (false≢true e)
 both false b e = absurd (false≢true e)
@@ -45,7 +44,7 @@ skip_digits : (ds : List ℕ) → list_all is_ascii_digit ds ≡ true → skip_o
 skip_digits [] d = refl
 skip_digits (c ∷ cs) d = ap (λ b. cond b (skip_ows cs) (c ∷ cs)) (no_ows c (both (is_ascii_digit c) (list_all is_ascii_digit cs) d).0)
 
-reversed_digits : (ds : List ℕ) → list_all is_ascii_digit ds ≡ true → list_all is_ascii_digit (reverse ds) ≡ true
+pub reversed_digits : (ds : List ℕ) → list_all is_ascii_digit ds ≡ true → list_all is_ascii_digit (reverse ds) ≡ true
 reversed_digits ds d = list_all-from_AllPass is_ascii_digit (reverse ds) (AllPass-reverse is_ascii_digit ds (AllPass-from_list_all is_ascii_digit ds d))
 
 pub trim_digits : (ds : List ℕ) → list_all is_ascii_digit ds ≡ true → trim_ows ds ≡ ds
@@ -80,8 +79,8 @@ sized_written limit n o small fits =
     let some = decimal_nonempty n small in
     let value : number (decimal n) ≡ n = (decimal_is_IsNumeral n small).1 in
     let is : is_number (decimal n) ≡ true = and_from _ _ (lt-ltb _ _ some) (digits_written n small) in
-    let same : bytes_eq (significant (decimal n)) (significant (decimal n)) ≡ true = (bytes_eq-Decides (significant (decimal n)) (significant (decimal n))).1 refl in
-    let all : (agrees (decimal n) (decimal n) && true) ≡ true = and_from _ _ (and_from _ _ is same) refl in
+    let same : eqb (number (decimal n)) (number (decimal n)) ≡ true = eq-eqb (number (decimal n)) (number (decimal n)) refl in
+    let all : (agrees (decimal n) (decimal n) && true) ≡ true = and_from _ _ (and_from _ _ is (and_from _ _ is same)) refl in
     let within : nat_le (number (decimal n)) limit ≡ true = ap (λ k. nat_le k limit) value ∙ le-leb n limit fits in
     chosen (agrees (decimal n) (decimal n) && true) (nat_le (number (decimal n)) limit) (number (decimal n)) n all within value
   where

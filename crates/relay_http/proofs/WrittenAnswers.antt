@@ -11,9 +11,9 @@ use Rattle.std.proofs.lemmas.Grind.{common_steps}
 use Rattle.std.proofs.lemmas.List.Elements.{All-cons, All-nil}
 use Rattle.httparse.proofs.OnLiterals.{httparse_on_literals}
 use Rattle.httparse.specs.Grammar.{is_value_byte, is_token_byte, IsField, IsResponseHead, Field, crlf, AllPass, status_code, print_response, trim_ows}
-use Rattle.relay_http.specs.Answer.{answer_text, answer_tree, reason_of, json_field, size_field, close_fields, ending}
-use Rattle.relay_http.specs.Reply.{IsReply, Reply, headers}
-use Rattle.relay_http.specs.Framing.{framing_of, framing_of_fields, keeps, reply_limit}
+use Rattle.relay_http.specs.WrittenAnswer.{IsAnswerStatus, answer, answer_text, answer_tree, reason_of, json_field, size_field, close_fields, ending}
+use Rattle.relay_http.specs.Reply.{IsReply, Reply, headers, info_of}
+use Rattle.relay_http.specs.Framing.{framing_of, framing_of_fields, is_interim, keeps, reply_limit}
 use Rattle.relay_http.specs.Fields.{Header, same_word, elements}
 use Rattle.relay_http.specs.declared.fault.HttpFault.{HttpFault}
 use Rattle.relay_http.specs.declared.fault.HttpFault.TheVariants as fault
@@ -84,19 +84,25 @@ few_fields : (digits : List ℕ) (keep : Bool) → length (json_field ∷ size_f
 few_fields digits true = omega arith
 few_fields digits false = omega arith
 
-by_tests : (a b c d : Bool) (r : Result Framing HttpFault) → a ≡ false → b ≡ false → c ≡ false → d ≡ false → cond (a || b) (Err fault.Malformed) (cond (c || d) (Ok framing.Absent) r) ≡ r
-by_tests false false false false r e f g h = refl
-by_tests true b c d r e f g h = absurd (true≢false e)
-by_tests false true c d r e f g h = absurd (true≢false f)
-by_tests false false true d r e f g h = absurd (true≢false g)
-by_tests false false false true r e f g h = absurd (true≢false h)
+by_tests : (i a b c d : Bool) (r : Result Framing HttpFault) → i ≡ false → a ≡ false → b ≡ false → c ≡ false → d ≡ false → cond i (Err fault.TooManyInterim) (cond (a || b) (Err fault.Malformed) (cond (c || d) (Ok framing.Absent) r)) ≡ r
+by_tests false false false false false r i e f g h = refl
+by_tests true a b c d r i e f g h = absurd (true≢false i)
+by_tests false true b c d r i e f g h = absurd (true≢false e)
+by_tests false false true c d r i e f g h = absurd (true≢false f)
+by_tests false false false true d r i e f g h = absurd (true≢false g)
+by_tests false false false false true r i e f g h = absurd (true≢false h)
+
+not_interim : (n : ℕ) → 200 ≤ n → is_interim n ≡ false
+not_interim n low = grind (arith, nat_tests, low)
 
 status_framed : (n : ℕ) (fields : List Header) → 200 ≤ n → n ≤ 599 → n ≢ 204 → n ≢ 304 → framing_of n fields ≡ framing_of_fields reply_limit framing.ToEnd fields
-status_framed n fields low high a b = by_tests (nat_lt n 200) (nat_lt 599 n) (n == 204) (n == 304) _ (grind (arith, nat_tests, low)) (grind (arith, nat_tests, high)) (ne_eqb n 204 a) (ne_eqb n 304 b)
+status_framed n fields low high a b = by_tests (is_interim n) (nat_lt n 200) (nat_lt 599 n) (n == 204) (n == 304) _ (not_interim n low) (grind (arith, nat_tests, low)) (grind (arith, nat_tests, high)) (ne_eqb n 204 a) (ne_eqb n 304 b)
 
-pub answer_written : (n : ℕ) (body : List ℕ) (keep : Bool) → 200 ≤ n → n ≤ 599 → n ≢ 204 → n ≢ 304 → length body ≤ 67108864
-    → IsReply (answer_text (decimal n) (reason_of n) (decimal (length body)) keep ++ body) false (record { status = n; body = body; keep = keep })
-answer_written n body keep low high a b fits =
+pub answer_written : (n : ℕ) (body : List ℕ) (keep : Bool) → IsAnswerStatus n → length body ≤ 67108864
+    → IsReply (answer n body keep) false (record { status = n; body = body; keep = keep })
+answer_written n body keep good fits =
+    let low = good.0 in
+    let high = good.1 in
     let m = length body in
     let small : m < 2 ^ 64 = omega (arith, fits) in
     let digits = decimal m in
@@ -107,23 +113,33 @@ answer_written n body keep low high a b fits =
     let bound = answer_size (decimal n) (reason_of n) digits keep three (reason_size n) size in
     let total = ap length (answered (decimal n) (reason_of n) digits keep) in
     let values = value_digits digits (digits_written m small) in
+    let final : is_interim (status_code tree) ≡ false = ap is_interim code ∙ not_interim n low in
     record {
-      interim = [];
-      few = omega arith;
-      dropped = tt;
-      head = tree;
-      fits = record {
-        grammar = record { minor = omega arith; digits = (three, all_pass is_ascii_digit (decimal n) (digits_written n (omega (arith, high)))); reason = all_pass is_value_byte (reason_of n) (reason_value n); fields = fields_ok digits keep values };
-        size = omega (arith, total, bound);
-        count = few_fields digits keep;
+      info = info_of tree;
+      head = answer_text (decimal n) (reason_of n) digits keep;
+      head_is = record {
+        interim = [];
+        few = omega arith;
+        dropped = tt;
+        head = tree;
+        fits = record {
+          grammar = record { minor = omega arith; digits = (three, all_pass is_ascii_digit (decimal n) (digits_written n (omega (arith, high)))); reason = all_pass is_value_byte (reason_of n) (reason_value n); fields = fields_ok digits keep values };
+          size = omega (arith, total, bound);
+          count = few_fields digits keep;
+        };
+        last = λ x. absurd (true≢false (sym x ∙ final));
+        bytes_are = sym (answered (decimal n) (reason_of n) digits keep);
+        info_is = refl;
       };
-      framing = framing.Sized m;
-      framed = ap (λ k. framing_of k (headers tree)) code ∙ status_framed n (headers tree) low high a b ∙ answer_framed reply_limit m framing.ToEnd keep small fits;
       text = body;
-      body = record { length_is = refl; same = refl };
-      bytes_are = ap (λ w. w ++ body) (sym (answered (decimal n) (reason_of n) digits keep));
-      status_is = sym code;
-      keep_is = keeps_all keep (keeps 1 (headers tree)) (answer_keeps (decimal n) (reason_of n) digits keep);
+      text_is = record {
+        framing = framing.Sized m;
+        framed = ap (λ k. framing_of k (headers tree)) code ∙ status_framed n (headers tree) low high good.2 good.3 ∙ answer_framed reply_limit m framing.ToEnd keep small fits;
+        body = record { length_is = refl; same = refl };
+        status_is = sym code;
+        keep_is = keeps_all keep (keeps 1 (headers tree)) (answer_keeps (decimal n) (reason_of n) digits keep);
+      };
+      bytes_are = refl;
     }
   where
     keeps_all : (k l : Bool) → l ≡ k → k ≡ (l && true)

@@ -42,7 +42,3 @@ pub record Moved (old new left : Option (List ℕ)) (before after : List ℕ) (m
   pub split : old ≡ prepend_known bytes new
   pub appended : after ≡ before ++ bytes
   pub end : n ≡ 0 → (new ≡ left) × IsAtEnd left
-
--- a read failed, or memory was refused
-abbrev pub IsOutside : HttpFault → Type 0
-IsOutside f = (f ≡ fault.Read) ⊎ (f ≡ fault.Memory)

@@ -14,4 +14,3 @@ abbrev pub next_coding : Coding → List ℕ → Coding
 next_coding coding.Absent v = if same_word v (codes "chunked") then coding.Chunked else coding.Other
 next_coding coding.Chunked v = coding.Other
 next_coding coding.Other v = coding.Other
-

@@ -28,6 +28,20 @@ pub record Gives {A : Type 0} {M : Form A} {s : List ℕ} (value : A) (rest : Li
 pub record IsUnique {A : Type 0} (M : Form A) : Type 0 where
   pub same : (stream : List ℕ) (b c : Begins M stream) → Gives b.value b.rest c
 
+-- a head, and after it what the head leads to
+pub record IsHeadThen {I A : Type 0} (H : Form I) (T : I → Form A) (bytes : List ℕ) (ends : Bool) (value : A) : Type 0 where
+  pub info : I
+  pub head : List ℕ
+  pub head_is : H head false info
+  pub text : List ℕ
+  pub text_is : T info text ends value
+  pub bytes_are : bytes ≡ head ++ text
+
+-- after the front, what makes an M is an N, and nothing else
+pub record Leads {A : Type 0} (M N : Form A) (front : List ℕ) : Type 0 where
+  pub peel : (stream : List ℕ) (b : Begins M (front ++ stream)) → (c : Begins N stream) × Gives b.value b.rest c
+  pub build : (bytes : List ℕ) (ends : Bool) (value : A) → N bytes ends value → M (front ++ bytes) ends value
+
 -- the message was taken from the front
 pub record Took {A : Type 0} (M : Form A) (old new : Option (List ℕ)) (value : A) : Type 0 where
   pub front : List ℕ
@@ -48,6 +62,18 @@ pub record Refused {A : Type 0} (M : Form A) (old left : Option (List ℕ)) : Ty
   pub read : List ℕ
   pub stood : old ≡ prepend_known read left
   pub never : (more : List ℕ) → ¬ (Begins M (read ++ more))
+
+-- a fault that a head gives
+abbrev pub IsStated : HttpFault → Type 0
+IsStated f = (f ≡ fault.Malformed) ⊎ ((f ≡ fault.BodyLong) ⊎ ((f ≡ fault.CodedBody) ⊎ ((f ≡ fault.BothLengths) ⊎ (f ≡ fault.TooManyInterim))))
+
+-- a read failed, or memory was refused
+abbrev pub IsOutside : HttpFault → Type 0
+IsOutside f = (f ≡ fault.Read) ⊎ (f ≡ fault.Memory)
+
+-- that fault, unless a read failed or memory was refused
+abbrev pub IsThatOrOutside : HttpFault → HttpFault → Type 0
+IsThatOrOutside f answer = (answer ≡ f) ⊎ IsOutside answer
 
 -- when a read of a message fails
 abbrev pub Fails : {A : Type 0} → Form A → Option (List ℕ) → Option (List ℕ) → HttpFault → Type 0

@@ -1,46 +1,80 @@
--- The request that carries a bulk body (RFC 9112, section 3), as it is written.
-use Rattle.std.specs.Prelude.{◌≡◌, ℕ, ◌<◌, ◌≤◌, Bool, List, [], ◌∷◌, ◌++◌, length, take, map, codes, Option, Result, Ok, Err}
-use Rattle.std.specs.Io.KnownBytes.{append_known}
-use Rattle.relay_http.specs.declared.fault.HttpFault.{HttpFault}
-use Rattle.relay_http.specs.declared.fault.HttpFault.TheVariants as fault
-use Rattle.std.specs.Int.Digits.{digits_of}
-use Rattle.httparse.specs.Ascii.{crlf_bytes}
-use Rattle.httparse.specs.Grammar.{RequestHead, Field, crlf, print_request}
+-- A request as it is read (RFC 9112, section 3): a head, and a body in the framing that it states.
+use Rattle.std.specs.Prelude.{◌&&◌, ◌≡◌, ℕ, ◌≤◌, Option, Some, None, Bool, List, [], ◌++◌, map, length, codes, bytes_eq, Result, Ok, Err}
+use Rattle.std.specs.Io.KnownBytes.{IsAtEnd}
+use Rattle.httparse.specs.Grammar.{RequestHead, IsRequestHead, print_request}
 use Rattle.httparse.specs.Spans.{name_and_value}
 use Rattle.relay_http.specs.Fields.{Header}
+use Rattle.relay_http.specs.Framing.{request_limit, framing_of_request, keeps}
+use Rattle.relay_http.specs.Body.{IsBody}
+use Rattle.relay_http.specs.Forms.{Form, IsHeadThen, Begins, Took}
+use Rattle.relay_http.specs.Reply.{head_limit, field_limit}
+use Rattle.relay_http.specs.declared.fault.HttpFault.{HttpFault}
+use Rattle.relay_http.specs.declared.framing.Framing.{Framing}
+use Rattle.relay_http.specs.declared.request_head.RequestInfo.{RequestInfo}
+use Rattle.relay_http.specs.declared.request.HttpRequest.{HttpRequest}
 
--- the head of a request to this host, with a length written as these digits
-unfoldable pub head_text : List ℕ → List ℕ → List ℕ
-head_text host digits =
-    codes "POST /_bulk HTTP/1.1" ++ (crlf_bytes
-    ++ (codes "Host: " ++ (host ++ (crlf_bytes
-    ++ (codes "Content-Type: application/x-ndjson" ++ (crlf_bytes
-    ++ (codes "Content-Length: " ++ ((digits ++ crlf_bytes)
-    ++ crlf_bytes))))))))
+-- a head within its limits
+pub record FitsRequest (h : RequestHead) : Type 0 where
+  pub grammar : IsRequestHead h
+  pub size : length (print_request h) ≤ head_limit
+  pub count : length h.fields ≤ field_limit
 
-abbrev pub host_field : List ℕ → Field
-host_field host = record { name = codes "Host"; raw = 32 ∷ host; end = crlf }
+-- the names and values of its fields
+abbrev pub request_headers : RequestHead → List Header
+request_headers h = map name_and_value h.fields
 
-abbrev pub type_field : Field
-type_field = record { name = codes "Content-Type"; raw = codes " application/x-ndjson"; end = crlf }
+-- a POST to /_bulk
+abbrev pub is_bulk : RequestHead → Bool
+is_bulk h = bytes_eq h.method (codes "POST") && bytes_eq h.target (codes "/_bulk")
 
-abbrev pub length_field : List ℕ → Field
-length_field digits = record { name = codes "Content-Length"; raw = 32 ∷ digits; end = crlf }
-
--- the same as a tree of the grammar
-abbrev pub written_head : List ℕ → List ℕ → RequestHead
-written_head host digits = record {
-  blank = [];
-  method = codes "POST";
-  target = codes "/_bulk";
-  minor = 1;
-  line_end = crlf;
-  fields = host_field host ∷ type_field ∷ length_field digits ∷ [];
-  last = crlf;
+-- what a head says
+abbrev pub request_info : RequestHead → RequestInfo
+request_info h = record {
+  bulk = is_bulk h;
+  framing = framing_of_request (request_headers h);
+  lasting = keeps h.minor (request_headers h);
 }
 
--- what a write of this message leaves: all of it, or a part where a write failed, or nothing
-abbrev pub Sends : List ℕ → Option (List ℕ) → Option (List ℕ) → Result (Unit {0}) HttpFault → Type 0
-Sends text old new (Ok _) = new ≡ append_known old text
-Sends text old new (Err fault.Write) = (sent : ℕ) × (sent < length text) × (new ≡ append_known old (take sent text))
-Sends text old new (Err f) = (f ≡ fault.Memory) × (new ≡ old)
+-- the bytes are a head that says this
+pub record IsRequestInfo (bytes : List ℕ) (ends : Bool) (info : RequestInfo) : Type 0 where
+  pub head : RequestHead
+  pub fits : FitsRequest head
+  pub bytes_are : bytes ≡ print_request head
+  pub info_is : info ≡ request_info head
+
+-- what a request says
+pub record Request : Type 0 where
+  pub bulk : Bool
+  pub body : List ℕ
+  pub keep : Bool
+
+-- the bytes are the body of a request whose head says this
+pub record IsRequestBody (info : RequestInfo) (bytes : List ℕ) (ends : Bool) (request : Request) : Type 0 where
+  pub framing : Framing
+  pub framed : info.framing ≡ Ok framing
+  pub body : IsBody request_limit framing bytes ends request.body
+  pub bulk_is : request.bulk ≡ info.bulk
+  pub keep_is : request.keep ≡ info.lasting
+
+-- the bytes, after which the stream ends or not, are this request
+abbrev pub IsRequest : Form Request
+IsRequest = IsHeadThen IsRequestInfo IsRequestBody
+
+-- the head at the front of a stream states this fault
+pub record RequestStates (stream : List ℕ) (f : HttpFault) : Type 0 where
+  pub head : Begins IsRequestInfo stream
+  pub fault_is : head.value.framing ≡ Err f
+
+-- a request, wherever it lies in memory
+abbrev pub request_view : HttpRequest → Request
+request_view r = record { bulk = r.bulk; body = r.body.items; keep = r.keep }
+
+-- the request that stood there, or none at the end of the stream
+abbrev pub TookRequest : Option (List ℕ) → Option (List ℕ) → Option HttpRequest → Type 0
+TookRequest old new None = IsAtEnd old × (new ≡ old)
+TookRequest old new (Some r) = Took IsRequest old new (request_view r)
+
+-- the answer is the request that stands at the front, and the rest stays
+abbrev pub IsFound : {stream : List ℕ} → Begins IsRequest stream → Option (List ℕ) → Option HttpRequest → Type 0
+IsFound there new None = ⊥
+IsFound there new (Some r) = (request_view r ≡ there.value) × (new ≡ Some there.rest)

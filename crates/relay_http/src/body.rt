@@ -3,35 +3,17 @@ ghost use Rattle.std.specs.Prelude.{◌≡◌, ◌<◌, ◌≤◌, length, IfOk,
 ghost use Rattle.std.specs.Io.KnownBytes.{IsAtEnd};
 ghost use Rattle.relay_http.specs.Window.{window_size};
 ghost use Rattle.relay_action.specs.Streams.{one_more};
-ghost use Rattle.relay_http.specs.Body.{IsSized, IsRest, IsBody, Moved, TookData, IsOutside};
-ghost use Rattle.relay_http.specs.Forms.{Took, Fails};
+ghost use Rattle.relay_http.specs.Body.{IsSized, IsRest, IsBody, Moved, TookData};
+ghost use Rattle.relay_http.specs.Forms.{Took, Fails, IsOutside};
 ghost use Rattle.relay_http.specs.Pending.{pending, is_read};
 
-use crate::conn::Conn;
+use crate::buffered::Buffered;
 use crate::fault::HttpFault;
 use crate::framing::Framing;
 use relay_action::ByteIn;
 use std::alloc::Global;
 
-impl<S: ByteIn + Drop> Conn<S> {
-    // Fills an empty window.
-    pub(crate) fn ready(&mut self) -> Result<(), HttpFault>
-        ensures stands { OnOk result (pending S.left self.new ≡ pending S.left self.old) }
-        ensures end { OnOk result (length self.new.window ≡ 0 → IsAtEnd (S.left self.new.stream)) }
-        ensures bound { length self.new.window ≤ window_size }
-        ensures err { OnErr result (result ≡ Err HttpFault.Read) }
-        ensures count { S.failed self.new.stream ≡ (if is_ok result then S.failed self.old.stream else one_more (S.failed self.old.stream)) }
-        ensures written { S.written self.new.stream ≡ S.written self.old.stream }
-    {
-        if !self.window.as_slice().is_empty() {
-            return Ok(());
-        }
-        match self.fill() {
-            Err(fault) => Err(fault),
-            Ok(_) => Ok(()),
-        }
-    }
-
+impl<S: ByteIn + Drop> Buffered<S> {
     // Moves some bytes to the end of a vector, and answers how many. None are moved only at the end of the stream.
     fn take_some(&mut self, most: usize, into: &mut Vec<u8>) -> Result<usize, HttpFault>
         requires { 0 < most }
@@ -102,7 +84,12 @@ impl<S: ByteIn + Drop> Conn<S> {
     }
 
     // Reads a body.
-    pub(crate) fn read_body(&mut self, alloc: Global, framing: Framing, limit: usize) -> Result<Vec<u8>, HttpFault>
+    pub(crate) fn read_body(
+        &mut self,
+        alloc: Global,
+        framing: Framing,
+        limit: usize,
+    ) -> Result<Vec<u8>, HttpFault>
         requires { limit < 4294967296 }
         ensures answer { MatchResult result (λ body. Took (IsBody limit framing) (pending S.left self.old) (pending S.left self.new) body.items) (Fails (IsBody limit framing) (pending S.left self.old) (S.left self.new.stream)) }
         ensures count { S.failed self.new.stream ≡ (if is_read result then one_more (S.failed self.old.stream) else S.failed self.old.stream) }

@@ -6,15 +6,14 @@ ghost use Rattle.relay_http.specs.Chunked.{IsChunked, IsDataAfter, TookChunk};
 ghost use Rattle.relay_http.specs.Forms.{Took, Fails};
 ghost use Rattle.relay_http.specs.Pending.{pending, is_read};
 
-use crate::conn::Conn;
+use crate::buffered::Buffered;
+use crate::chunk::{ChunkEnd, SizeLine, Trailer};
 use crate::fault::HttpFault;
-use crate::piece::SizeLine;
-use crate::trailer::{ChunkEnd, Trailer};
 use relay_action::ByteIn;
 use std::alloc::Global;
 
-impl<S: ByteIn + Drop> Conn<S> {
-    // Moves the content of a chunk to the end of a vector, and passes the CRLF behind it.
+impl<S: ByteIn + Drop> Buffered<S> {
+    // Moves the content of a chunk to the end of a vector, and passes the CRLF after it.
     fn read_chunk(&mut self, size: usize, limit: usize, into: &mut Vec<u8>) -> Result<(), HttpFault>
         ensures answer { MatchResult result (λ u. TookChunk size (pending S.left self.old) (pending S.left self.new) into.old.items into.new.items) (Fails (IsDataAfter limit into.old.items size) (pending S.left self.old) (S.left self.new.stream)) }
         ensures count { S.failed self.new.stream ≡ (if is_read result then one_more (S.failed self.old.stream) else S.failed self.old.stream) }

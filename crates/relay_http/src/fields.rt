@@ -4,7 +4,7 @@ ghost use Rattle.std.specs.List.{list_all, list_any};
 ghost use Rattle.httparse.specs.Spans.{IsHeaderWithin, header_bytes};
 ghost use Rattle.relay_http.specs.Fields.{Header, same_word, has_field, values_named, elements_named, elements, number, agrees};
 ghost use Rattle.relay_http.specs.Codings.{coding_of, next_coding};
-ghost use Rattle.relay_http.specs.Framing.{framing_of, framing_of_fields, framing_of_request, is_chunked, is_plain, sized, keeps};
+ghost use Rattle.relay_http.specs.Framing.{framing_of, framing_of_fields, framing_of_request, is_chunked, is_interim, is_plain, sized, keeps};
 
 use crate::elements::{all_agree, lists_word};
 use crate::fault::HttpFault;
@@ -170,7 +170,12 @@ fn first_element(value: &[u8]) -> &[u8]
 }
 
 // The length of a body.
-fn sized(buf: &[u8], headers: &[HeaderSpan], limit: u64, otherwise: Framing) -> Result<Framing, HttpFault>
+fn sized(
+    buf: &[u8],
+    headers: &[HeaderSpan],
+    limit: u64,
+    otherwise: Framing,
+) -> Result<Framing, HttpFault>
     requires within { All (IsHeaderWithin (length buf.now)) headers.now }
     requires limit { limit < 4294967296 }
     ensures { result ≡ sized limit otherwise (elements_named (codes "content-length") (map (header_bytes buf.now) headers.now)) }
@@ -184,7 +189,12 @@ fn sized(buf: &[u8], headers: &[HeaderSpan], limit: u64, otherwise: Framing) -> 
     Ok(otherwise)
 }
 
-fn framing_of_fields(buf: &[u8], headers: &[HeaderSpan], limit: u64, otherwise: Framing) -> Result<Framing, HttpFault>
+fn framing_of_fields(
+    buf: &[u8],
+    headers: &[HeaderSpan],
+    limit: u64,
+    otherwise: Framing,
+) -> Result<Framing, HttpFault>
     requires within { All (IsHeaderWithin (length buf.now)) headers.now }
     requires limit { limit < 4294967296 }
     ensures { result ≡ framing_of_fields limit otherwise (map (header_bytes buf.now) headers.now) }
@@ -202,11 +212,22 @@ fn framing_of_fields(buf: &[u8], headers: &[HeaderSpan], limit: u64, otherwise: 
     sized(buf, headers, limit, otherwise)
 }
 
-/// Where the body of a reply ends.
+/// Whether a head of this status stands before the final one and is dropped.
+pub fn is_interim(status: u16) -> bool
+    ensures { result ≡ is_interim status }
+{
+    status >= 100 && status < 200 && status != 101
+}
+
+/// Where the body of a reply ends, or why there is none: `TooManyInterim` (the status is interim),
+/// `Malformed` (it is not 200 to 599), and those of the fields.
 pub fn framing(status: u16, buf: &[u8], headers: &[HeaderSpan]) -> Result<Framing, HttpFault>
     requires { All (IsHeaderWithin (length buf.now)) headers.now }
     ensures { result ≡ framing_of status (map (header_bytes buf.now) headers.now) }
 {
+    if is_interim(status) {
+        return Err(HttpFault::TooManyInterim);
+    }
     if !(200..=599).contains(&status) {
         return Err(HttpFault::Malformed);
     }

@@ -1,4 +1,4 @@
-//! The head of a reply.
+//! The head of a reply (RFC 9112, sections 4 and 5).
 ghost use Rattle.std.specs.Prelude.{◌≡◌, ◌<◌, ◌≤◌, length, Ok, None};
 ghost use Rattle.relay_http.specs.Forms.{Finds};
 ghost use Rattle.relay_http.specs.Reply.{IsHead, head_limit};
@@ -6,21 +6,37 @@ ghost use Rattle.relay_http.specs.Reply.{IsHead, head_limit};
 use crate::fault::HttpFault;
 use crate::fields;
 use crate::framing::Framing;
+use crate::piece::Piece;
 use httparse::spans::{EMPTY_HEADER_SPAN, parse_response};
 use httparse::{Error, Status};
 
-/// What a head says.
+/// What the head of a reply says.
 #[derive(Clone, Copy, Debug, PartialEq, Eq)]
 pub struct HeadInfo {
     /// The status.
     pub status: u16,
-    /// Where the body ends, or why no reply begins so.
+    /// Where the body ends, or why no reply has this as its final head.
     pub framing: Result<Framing, HttpFault>,
     /// Whether the connection may carry a further message.
     pub lasting: bool,
 }
 
-/// Looks for a whole head at the front of the bytes, and answers it with its length.
+impl Piece for HeadInfo {
+    ghost form = { IsHead };
+
+    ghost size = { 16384 };
+
+    fn most() -> usize {
+        16384
+    }
+
+    fn find(buf: &[u8]) -> Result<Option<(HeadInfo, usize)>, HttpFault> {
+        find_head(buf)
+    }
+}
+
+/// Looks for a whole head at the front of the bytes, and answers it with its length. The faults:
+/// `Malformed`, and `HeadLong` where it has more than 64 fields or more than 16,384 bytes.
 pub fn find_head(buf: &[u8]) -> Result<Option<(HeadInfo, usize)>, HttpFault>
     requires { length buf.now ≤ head_limit }
     ensures found { Finds IsHead buf.now result }

@@ -1,21 +1,16 @@
 //! Pieces of a message that are looked for at the front of the window.
-ghost use Rattle.std.specs.Prelude.{◌≡◌, ◌<◌, ◌≤◌, ℕ, List, Bool, length, Ok, Err, None, IfOk, OnOk, OnErr, IsTrue, IsFalse, is_ok, if◌then◌else◌};
-ghost use Rattle.relay_action.specs.Streams.{one_more};
-ghost use Rattle.relay_http.specs.Chunked.{IsLine, IsCrlf, IsTrailer};
-ghost use Rattle.relay_http.specs.Forms.{Finds, Answers};
-ghost use Rattle.relay_http.specs.Reply.{IsHead};
+ghost use Rattle.std.specs.Prelude.{◌≡◌, ◌<◌, ◌≤◌, ℕ, List, Bool, length, Ok, None, Err, IfOk, OnOk, OnErr, IsTrue, IsFalse, is_ok, if◌then◌else◌};
 ghost use Rattle.std.specs.Io.KnownBytes.{IsAtEnd};
+ghost use Rattle.relay_action.specs.Streams.{one_more};
+ghost use Rattle.relay_http.specs.Forms.{Finds, Answers};
 ghost use Rattle.relay_http.specs.Pending.{pending, is_read};
 
-use crate::chunk::find_size_line;
-use crate::conn::Conn;
+use crate::buffered::Buffered;
 use crate::fault::HttpFault;
-use crate::head::{HeadInfo, find_head};
-use crate::trailer::{ChunkEnd, Trailer, find_crlf, find_trailer};
 use memchr::memchr;
 use relay_action::ByteIn;
 
-/// A piece of a message.
+/// A piece of a message, which ends in a line feed.
 pub trait Piece: Copy {
     /// The bytes are this piece.
     ghost form: { List ℕ → Bool → Self → Type 0 };
@@ -27,80 +22,15 @@ pub trait Piece: Copy {
     fn most() -> usize
         ensures { (result ≡ Self.size) × (result ≤ 16384) };
 
-    /// Looks for the piece at the front of the bytes, and answers it with its length.
+    /// Looks for the piece at the front of the bytes, and answers it with its length. `None`: more
+    /// bytes may make one.
     fn find(buf: &[u8]) -> Result<Option<(Self, usize)>, HttpFault>
         requires { length buf.now ≤ 16384 }
         ensures found { Finds Self.form buf.now result }
         ensures none { result ≡ Ok None → length buf.now < Self.size };
 }
 
-/// The size that a size line gives.
-#[derive(Clone, Copy)]
-pub struct SizeLine {
-    pub size: u64,
-}
-
-impl Piece for SizeLine {
-    ghost form = { IsLine };
-
-    ghost size = { 256 };
-
-    fn most() -> usize {
-        256
-    }
-
-    fn find(buf: &[u8]) -> Result<Option<(SizeLine, usize)>, HttpFault> {
-        match find_size_line(buf) {
-            Err(fault) => Err(fault),
-            Ok(None) => Ok(None),
-            Ok(Some((size, len))) => Ok(Some((SizeLine { size }, len))),
-        }
-    }
-}
-
-impl Piece for ChunkEnd {
-    ghost form = { IsCrlf };
-
-    ghost size = { 2 };
-
-    fn most() -> usize {
-        2
-    }
-
-    fn find(buf: &[u8]) -> Result<Option<(ChunkEnd, usize)>, HttpFault> {
-        find_crlf(buf)
-    }
-}
-
-impl Piece for Trailer {
-    ghost form = { IsTrailer };
-
-    ghost size = { 16384 };
-
-    fn most() -> usize {
-        16384
-    }
-
-    fn find(buf: &[u8]) -> Result<Option<(Trailer, usize)>, HttpFault> {
-        find_trailer(buf)
-    }
-}
-
-impl Piece for HeadInfo {
-    ghost form = { IsHead };
-
-    ghost size = { 16384 };
-
-    fn most() -> usize {
-        16384
-    }
-
-    fn find(buf: &[u8]) -> Result<Option<(HeadInfo, usize)>, HttpFault> {
-        find_head(buf)
-    }
-}
-
-impl<S: ByteIn + Drop> Conn<S> {
+impl<S: ByteIn + Drop> Buffered<S> {
     // Reads until a line feed came, so many bytes stand in the window, or the stream ended. `false`: it ended.
     fn fill_line(&mut self, most: usize) -> Result<bool, HttpFault>
         requires { (length self.old.window < most) × (most ≤ 16384) }

@@ -1,15 +1,15 @@
-//! Replies.
-ghost use Rattle.std.specs.Prelude.{◌≡◌, ◌<◌, ◌≤◌, length, IfOk, IfErr, OnErr, OnOk, MatchResult, Err, if◌then◌else◌, is_ok, Option, List, ℕ, ◌&&◌, not, IsTrue, IsFalse, Some};
-ghost use Rattle.relay_http.specs.Framing.{is_to_end, reply_limit};
+//! Replies (RFC 9112, section 4).
+ghost use Rattle.std.specs.Prelude.{◌≡◌, ◌<◌, ◌≤◌, ℕ, List, length, MatchResult, Some, ◌&&◌, not, if◌then◌else◌};
 ghost use Rattle.relay_action.specs.Streams.{one_more};
-ghost use Rattle.relay_http.specs.Body.{IsOutside};
-ghost use Rattle.relay_http.specs.Forms.{Took, Fails, Begins};
+ghost use Rattle.relay_http.specs.Forms.{Took, Fails, Answers, Begins, IsOutside, IsThatOrOutside};
+ghost use Rattle.relay_http.specs.Framing.{is_to_end};
+ghost use Rattle.relay_http.specs.declared.fault.HttpFault.{HttpFault};
 ghost use Rattle.relay_http.specs.Pending.{pending, is_read};
-ghost use Rattle.relay_http.specs.Reply.{IsReply, Reached, IsTail, is_interim};
-ghost use Rattle.relay_http.specs.View.{view, breaks};
+ghost use Rattle.relay_http.specs.Reply.{IsHeads, IsReply, ReplyStates, reply_view};
 
-use crate::conn::Conn;
+use crate::buffered::Buffered;
 use crate::fault::HttpFault;
+use crate::fields::is_interim;
 use crate::framing::Framing;
 use crate::head::HeadInfo;
 use relay_action::ByteIn;
@@ -19,25 +19,21 @@ use std::alloc::Global;
 pub const INTERIM_LIMIT: u8 = 8;
 
 /// The most bytes of a reply's body.
-pub const BODY_LIMIT: usize = 67_108_864;
+pub const REPLY_LIMIT: usize = 67_108_864;
 
 /// A reply.
 #[derive(Debug, Drop)]
 pub struct HttpReply {
-    /// The final status.
+    /// The final status, from 200 to 599.
     pub status: u16,
-    /// The body.
+    /// The body, at most 67,108,864 bytes.
     pub body: Vec<u8>,
-    /// Whether the connection carries a further message.
+    /// Whether the connection may carry a further message. `false` for HTTP/1.0, where the head says
+    /// `close`, and where the body goes to the end of the stream.
     pub keep: bool,
 }
 
-fn is_interim(status: u16) -> bool
-    ensures { result ≡ is_interim status }
-{
-    status >= 100 && status < 200 && status != 101
-}
-
+// Whether a message with this framing lets the connection carry a further one.
 fn keeps(lasting: bool, framing: Framing) -> bool
     ensures { result ≡ (lasting && not (is_to_end framing)) }
 {
@@ -47,60 +43,31 @@ fn keeps(lasting: bool, framing: Framing) -> bool
     }
 }
 
-impl<S: ByteIn + Drop> Conn<S> {
-    // Reads the heads of a reply, and answers the final one.
+impl<S: ByteIn + Drop> Buffered<S> {
+    // Reads the heads of a reply, and answers what the last of them says.
     fn read_heads(&mut self) -> Result<HeadInfo, HttpFault>
-        ensures answer { MatchResult result (Reached (pending S.left self.old) (pending S.left self.new)) (Fails IsReply (pending S.left self.old) (S.left self.new.stream)) }
+        ensures answer { Answers IsHeads (pending S.left self.old) (pending S.left self.new) (S.left self.new.stream) result }
         ensures count { S.failed self.new.stream ≡ (if is_read result then one_more (S.failed self.old.stream) else S.failed self.old.stream) }
         ensures written { S.written self.new.stream ≡ S.written self.old.stream }
     {
         let mut passed = 0;
         'heads: loop {
-            let info = match self.read_head() {
+            let info = match self.read_piece::<HeadInfo>() {
                 Err(fault) => return Err(fault),
                 Ok(info) => info,
             };
-            if !is_interim(info.status) {
+            if !is_interim(info.status) || passed == INTERIM_LIMIT {
                 return Ok(info);
-            }
-            if passed == INTERIM_LIMIT {
-                return Err(HttpFault::TooManyInterim);
             }
             passed += 1;
         }
     }
 
-    /// Reads the next reply.
-    pub fn read_reply(&mut self, alloc: Global) -> Result<HttpReply, HttpFault>
-        // A connection that broke answers Broken, and stays as it is.
-        ensures broken { IsTrue self.old.broken → (result ≡ Err HttpFault.Broken) × (self.new ≡ self.old) }
-        // What is answered is the reply that stood there, and each fault comes where it may.
-        ensures answer { IsFalse self.old.broken → MatchResult result (λ reply. Took IsReply (pending S.left self.old) (pending S.left self.new) (view reply)) (Fails IsReply (pending S.left self.old) (S.left self.new.stream)) }
-        // A reply that stands there is answered, and the bytes after it stay.
-        ensures found { (stream : List ℕ) (there : Begins IsReply stream) → IsFalse self.old.broken → pending S.left self.old ≡ Some stream
-            → MatchResult result (λ reply. (view reply ≡ there.value) × (pending S.left self.new ≡ Some there.rest)) IsOutside }
-        ensures state { self.new.broken ≡ breaks result }
-        ensures count { IsFalse self.old.broken → S.failed self.new.stream ≡ (if is_read result then one_more (S.failed self.old.stream) else S.failed self.old.stream) }
-        ensures written { S.written self.new.stream ≡ S.written self.old.stream }
-    {
-        if self.broken {
-            return Err(HttpFault::Broken);
-        }
-        match self.read_whole(alloc) {
-            Err(fault) => {
-                self.broken = true;
-                Err(fault)
-            }
-            Ok(reply) => {
-                self.broken = !reply.keep;
-                Ok(reply)
-            }
-        }
-    }
-
-    // Reads a reply.
-    fn read_whole(&mut self, alloc: Global) -> Result<HttpReply, HttpFault>
-        ensures answer { MatchResult result (λ reply. Took IsReply (pending S.left self.old) (pending S.left self.new) (view reply)) (Fails IsReply (pending S.left self.old) (S.left self.new.stream)) }
+    // Reads a reply. What stands there is found, and so is a fault that the heads there state.
+    pub(crate) fn next_reply(&mut self, alloc: Global) -> Result<HttpReply, HttpFault>
+        ensures answer { MatchResult result (λ reply. Took IsReply (pending S.left self.old) (pending S.left self.new) (reply_view reply)) (Fails IsReply (pending S.left self.old) (S.left self.new.stream)) }
+        ensures found { (stream : List ℕ) (there : Begins IsReply stream) → pending S.left self.old ≡ Some stream → MatchResult result (λ reply. (reply_view reply ≡ there.value) × (pending S.left self.new ≡ Some there.rest)) IsOutside }
+        ensures stated { (stream : List ℕ) (f : HttpFault) → ReplyStates stream f → pending S.left self.old ≡ Some stream → MatchResult result (λ reply. ⊥) (IsThatOrOutside f) }
         ensures count { S.failed self.new.stream ≡ (if is_read result then one_more (S.failed self.old.stream) else S.failed self.old.stream) }
         ensures written { S.written self.new.stream ≡ S.written self.old.stream }
     {
@@ -112,7 +79,7 @@ impl<S: ByteIn + Drop> Conn<S> {
             Err(fault) => return Err(fault),
             Ok(framing) => framing,
         };
-        let body = match self.read_body(alloc, framing, BODY_LIMIT) {
+        let body = match self.read_body(alloc, framing, REPLY_LIMIT) {
             Err(fault) => return Err(fault),
             Ok(body) => body,
         };

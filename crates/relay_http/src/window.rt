@@ -40,7 +40,11 @@ fn move_to_front(bytes: &mut [u8], from: usize, to: usize)
 }
 
 // Reads some bytes into the room behind the first ones.
-fn read_behind<S: ByteIn>(stream: &mut S, bytes: &mut [u8], at: usize) -> Result<usize, StreamFailed>
+fn read_behind<S: ByteIn>(
+    stream: &mut S,
+    bytes: &mut [u8],
+    at: usize,
+) -> Result<usize, StreamFailed>
     requires { at < length bytes.old }
     ensures bytes { IfOk result (λ n. (at + n ≤ length bytes.new) × Grown (take at bytes.old) (take (at + n) bytes.new) (S.left stream.old) (S.left stream.new) n) }
     ensures length { length bytes.new ≡ length bytes.old }

@@ -1,5 +1,5 @@
 //! Words and numbers in the values of fields.
-ghost use Rattle.std.specs.Prelude.{◌≡◌, reverse, if◌then◌else◌, Some, None};
+ghost use Rattle.std.specs.Prelude.{◌≡◌, ◌==◌, true, reverse, if◌then◌else◌, Some, None};
 ghost use Rattle.httparse.specs.Grammar.{skip_ows, trim_ows};
 ghost use Rattle.relay_http.specs.Fields.{same_word, is_number, fits_number, number, significant, agrees};
 
@@ -79,9 +79,20 @@ fn significant(mut s: &[u8]) -> &[u8]
     s
 }
 
-/// Whether the text is a number, and the one that the first digits give.
+/// Whether both texts are decimal digits that say one number, of whatever length.
 pub fn agrees(first: &[u8], text: &[u8]) -> bool
     ensures { result ≡ agrees first.now text.now }
 {
-    is_number(text) && significant(text) == significant(first)
+    if !is_number(first) || !is_number(text) {
+        return false;
+    }
+    is_same_number(first, text)
+}
+
+// Whether digits say one number: they do where they are the same from the first that is not 0.
+fn is_same_number(first: &[u8], text: &[u8]) -> bool
+    requires { (is_number first.now ≡ true) × (is_number text.now ≡ true) }
+    ensures { result ≡ (number first.now == number text.now) }
+{
+    significant(text) == significant(first)
 }

@@ -1,11 +1,9 @@
-use Rattle.std.proofs.Common.{rules}
-use Rattle.relay_http.specs.Incoming.{IsRequest}
-use Rattle.relay_http.proofs.Unique.{fails_found}
-use Rattle.relay_http.proofs.Arrivals.{request_found}
+use Rattle.std.proofs.Common.{◌≡◌, ◌∙◌, ap}
+use Rattle.relay_http.specs.Connection.{ahead}
 use Rattle.relay_http.proofs.conn.Conn.read_request.Goals as goal
 
-pub returns-in-Ok-clause-found : goal.returns-in-Ok-clause-found
-returns-in-Ok-clause-found g c = λ stream there whole stands. request_found _ _ c.in-Ok.request c.in-Ok.ensures.answer stream there stands
+pub returns-clause-found : goal.returns-clause-found
+returns-clause-found g c = λ stream there whole stands. c.next_request-result.ensures.found stream there (ap ahead c.self.view_is ∙ stands)
 
-pub returns-in-Err-clause-found : goal.returns-in-Err-clause-found
-returns-in-Err-clause-found g c = λ stream there whole stands. fails_found IsRequest _ _ c.in-Err.fault c.in-Err.ensures.answer stream there stands
+pub returns-clause-stated : goal.returns-clause-stated
+returns-clause-stated g c = λ stream f states whole stands. c.next_request-result.ensures.stated stream f states (ap ahead c.self.view_is ∙ stands)
