@@ -90,6 +90,20 @@ empty_ended before after old new n g l =
     let z : n ≡ 0 = grind (arith, common_steps, g.length_is, g.window, l) in
     subst IsAtEnd (none_came before after old new n g z) (g.end z)
 
+-- bytes went straight from the stream to the end of a list, where the window is empty
+pub moved_straight : (window : List ℕ) (old new : Option (List ℕ)) (before after : List ℕ) (most n : ℕ) → length window ≡ 0 → n ≤ most → Grown before after old new n → Moved (prepend_known window old) (prepend_known window new) new before after most n
+moved_straight window old new before after most n empty bound g = record {
+  bytes = g.bytes;
+  length_is = g.length_is;
+  bound = bound;
+  split = bare old ∙ g.stream ∙ ap (prepend_known g.bytes) (sym (bare new));
+  appended = g.window;
+  end = λ z. (bare new, subst IsAtEnd (none_came before after old new n g z) (g.end z));
+}
+  where
+    bare : (shown : Option (List ℕ)) → prepend_known window shown ≡ shown
+    bare shown = ap (λ w. prepend_known w shown) (no_bytes window empty) ∙ prepend_known-nil shown
+
 -- bytes of the window were moved to the end of a list
 pub moved_front : (old left : Option (List ℕ)) (window list after : List ℕ) (most n : ℕ) → old ≡ prepend_known window left → n ≡ min (length window) most → 0 < most → (length window ≡ 0 → IsAtEnd left) → after ≡ list ++ take n window
     → Moved old (prepend_known (drop n window) left) left list after most n

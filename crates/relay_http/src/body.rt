@@ -1,4 +1,4 @@
-//! Bodies of messages.
+//! Bodies of messages (RFC 9112, section 6).
 ghost use Rattle.std.specs.Prelude.{◌≡◌, ◌<◌, ◌≤◌, length, IfOk, IfErr, OnErr, MatchResult, OnOk, Err, if◌then◌else◌, is_ok};
 ghost use Rattle.std.specs.Io.KnownBytes.{IsAtEnd};
 ghost use Rattle.relay_http.specs.Window.{window_size};
@@ -8,16 +8,36 @@ ghost use Rattle.relay_http.specs.Forms.{Took, Fails, IsOutside};
 ghost use Rattle.relay_http.specs.Pending.{pending, is_read};
 
 use crate::buffered::Buffered;
+use crate::content::Content;
 use crate::fault::HttpFault;
 use crate::framing::Framing;
+use crate::window::WINDOW_SIZE;
 use relay_action::ByteIn;
 use std::alloc::Global;
 
 impl<S: ByteIn + Drop> Buffered<S> {
-    // Moves some bytes to the end of a vector, and answers how many. None are moved only at the end of the stream.
-    fn take_some(&mut self, most: usize, into: &mut Vec<u8>) -> Result<usize, HttpFault>
+    // Moves some bytes to the end of a content, and answers how many. None are moved only at the end of
+    // the stream. Many are read straight into the content, few through the window.
+    fn take_some(&mut self, most: usize, into: &mut Content) -> Result<usize, HttpFault>
         requires { 0 < most }
-        ensures moved { IfOk result (Moved (pending S.left self.old) (pending S.left self.new) (S.left self.new.stream) into.old.items into.new.items most) }
+        ensures moved { IfOk result (Moved (pending S.left self.old) (pending S.left self.new) (S.left self.new.stream) into.old into.new most) }
+        ensures err { IfErr result IsOutside }
+        ensures count { S.failed self.new.stream ≡ (if is_read result then one_more (S.failed self.old.stream) else S.failed self.old.stream) }
+        ensures written { S.written self.new.stream ≡ S.written self.old.stream }
+    {
+        if most < WINDOW_SIZE || !self.window.as_slice().is_empty() {
+            return self.take_held(most, into);
+        }
+        match into.fill(&mut self.stream, most) {
+            Err(fault) => Err(fault),
+            Ok(count) => Ok(count),
+        }
+    }
+
+    // The same through the window.
+    fn take_held(&mut self, most: usize, into: &mut Content) -> Result<usize, HttpFault>
+        requires { 0 < most }
+        ensures moved { IfOk result (Moved (pending S.left self.old) (pending S.left self.new) (S.left self.new.stream) into.old into.new most) }
         ensures err { IfErr result IsOutside }
         ensures count { S.failed self.new.stream ≡ (if is_read result then one_more (S.failed self.old.stream) else S.failed self.old.stream) }
         ensures written { S.written self.new.stream ≡ S.written self.old.stream }
@@ -27,7 +47,7 @@ impl<S: ByteIn + Drop> Buffered<S> {
             Ok(()) => {}
         }
         let count = self.window.as_slice().len().min(most);
-        match into.extend_from_slice(&self.window.as_slice()[..count]) {
+        match into.append(&self.window.as_slice()[..count]) {
             Err(_) => return Err(HttpFault::Memory),
             Ok(()) => {}
         }
@@ -35,9 +55,9 @@ impl<S: ByteIn + Drop> Buffered<S> {
         Ok(count)
     }
 
-    // Moves so many bytes to the end of a vector.
-    pub(crate) fn read_data(&mut self, size: usize, into: &mut Vec<u8>) -> Result<(), HttpFault>
-        ensures answer { MatchResult result (λ u. TookData size (pending S.left self.old) (pending S.left self.new) into.old.items into.new.items) (Fails (IsSized size) (pending S.left self.old) (S.left self.new.stream)) }
+    // Moves so many bytes to the end of a content.
+    pub(crate) fn read_data(&mut self, size: usize, into: &mut Content) -> Result<(), HttpFault>
+        ensures answer { MatchResult result (λ u. TookData size (pending S.left self.old) (pending S.left self.new) into.old into.new) (Fails (IsSized size) (pending S.left self.old) (S.left self.new.stream)) }
         ensures count { S.failed self.new.stream ≡ (if is_read result then one_more (S.failed self.old.stream) else S.failed self.old.stream) }
         ensures written { S.written self.new.stream ≡ S.written self.old.stream }
     {
@@ -58,10 +78,10 @@ impl<S: ByteIn + Drop> Buffered<S> {
         ensures count { S.failed self.new.stream ≡ (if is_read result then one_more (S.failed self.old.stream) else S.failed self.old.stream) }
         ensures written { S.written self.new.stream ≡ S.written self.old.stream }
     {
-        let mut body = Vec::new(alloc);
+        let mut body = Content::new(alloc);
         match self.read_data(size, &mut body) {
             Err(fault) => Err(fault),
-            Ok(()) => Ok(body),
+            Ok(()) => Ok(body.into_vec()),
         }
     }
 
@@ -72,11 +92,11 @@ impl<S: ByteIn + Drop> Buffered<S> {
         ensures count { S.failed self.new.stream ≡ (if is_read result then one_more (S.failed self.old.stream) else S.failed self.old.stream) }
         ensures written { S.written self.new.stream ≡ S.written self.old.stream }
     {
-        let mut body = Vec::new(alloc);
+        let mut body = Content::new(alloc);
         'reading: while body.len() <= limit {
             match self.take_some(limit + 1 - body.len(), &mut body) {
                 Err(fault) => return Err(fault),
-                Ok(0) => return Ok(body),
+                Ok(0) => return Ok(body.into_vec()),
                 Ok(_) => {}
             }
         }

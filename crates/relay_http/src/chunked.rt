@@ -1,4 +1,4 @@
-//! Reading a chunked body.
+//! Chunked bodies (RFC 9112, section 7.1).
 ghost use Rattle.std.specs.Prelude.{◌≡◌, ◌<◌, ◌≤◌, ◌++◌, length, MatchResult, if◌then◌else◌};
 ghost use Rattle.relay_action.specs.Streams.{one_more};
 ghost use Rattle.relay_http.specs.Body.{TookData};
@@ -8,14 +8,15 @@ ghost use Rattle.relay_http.specs.Pending.{pending, is_read};
 
 use crate::buffered::Buffered;
 use crate::chunk::{ChunkEnd, SizeLine, Trailer};
+use crate::content::Content;
 use crate::fault::HttpFault;
 use relay_action::ByteIn;
 use std::alloc::Global;
 
 impl<S: ByteIn + Drop> Buffered<S> {
-    // Moves the content of a chunk to the end of a vector, and passes the CRLF after it.
-    fn read_chunk(&mut self, size: usize, limit: usize, into: &mut Vec<u8>) -> Result<(), HttpFault>
-        ensures answer { MatchResult result (λ u. TookChunk size (pending S.left self.old) (pending S.left self.new) into.old.items into.new.items) (Fails (IsDataAfter limit into.old.items size) (pending S.left self.old) (S.left self.new.stream)) }
+    // Moves the content of a chunk to the end of a content, and passes the CRLF after it.
+    fn read_chunk(&mut self, size: usize, limit: usize, into: &mut Content) -> Result<(), HttpFault>
+        ensures answer { MatchResult result (λ u. TookChunk size (pending S.left self.old) (pending S.left self.new) into.old into.new) (Fails (IsDataAfter limit into.old size) (pending S.left self.old) (S.left self.new.stream)) }
         ensures count { S.failed self.new.stream ≡ (if is_read result then one_more (S.failed self.old.stream) else S.failed self.old.stream) }
         ensures written { S.written self.new.stream ≡ S.written self.old.stream }
     {
@@ -36,7 +37,7 @@ impl<S: ByteIn + Drop> Buffered<S> {
         ensures count { S.failed self.new.stream ≡ (if is_read result then one_more (S.failed self.old.stream) else S.failed self.old.stream) }
         ensures written { S.written self.new.stream ≡ S.written self.old.stream }
     {
-        let mut body = Vec::new(alloc);
+        let mut body = Content::new(alloc);
         'chunks: loop {
             let size = match self.read_piece::<SizeLine>() {
                 Err(fault) => return Err(fault),
@@ -45,7 +46,7 @@ impl<S: ByteIn + Drop> Buffered<S> {
             if size == 0 {
                 match self.read_piece::<Trailer>() {
                     Err(fault) => return Err(fault),
-                    Ok(_) => return Ok(body),
+                    Ok(_) => return Ok(body.into_vec()),
                 }
             }
             if size > (limit - body.len()) as u64 {

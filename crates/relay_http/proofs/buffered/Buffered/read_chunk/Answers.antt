@@ -11,12 +11,12 @@ use Rattle.relay_http.proofs.buffered.Buffered.read_chunk.Goals as goal
 
 pub returns-in-Err-clause-answer : goal.returns-in-Err-clause-answer
 returns-in-Err-clause-answer g c =
-    fails_behind (IsDataAfter c.args.limit c.args.into.now.items c.args.size) (IsSized c.args.size) [] _ _ _ c.in-Err.fault (λ s b. begins_data c.args.limit c.args.into.now.items c.args.size s b) (sym (prepend_known-nil _)) c.in-Err.ensures.answer
+    fails_behind (IsDataAfter c.args.limit c.args.into.now c.args.size) (IsSized c.args.size) [] _ _ _ c.in-Err.fault (λ s b. begins_data c.args.limit c.args.into.now c.args.size s b) (sym (prepend_known-nil _)) c.in-Err.ensures.answer
 
 pub returns-in-Err-read_piece-clause-answer : goal.returns-in-Err-read_piece-clause-answer
 returns-in-Err-read_piece-clause-answer g c =
     let d = c.in-Ok.ensures.answer in
-    fails_behind (IsDataAfter c.args.limit c.args.into.now.items c.args.size) IsCrlf d.piece _ _ _ c.in-Err-read_piece.fault (λ s b. begins_end _ c.args.limit c.args.into.now.items c.args.size d.piece d.length_is s b) d.split c.in-Err-read_piece.ensures.answer
+    fails_behind (IsDataAfter c.args.limit c.args.into.now c.args.size) IsCrlf d.piece _ _ _ c.in-Err-read_piece.fault (λ s b. begins_end _ c.args.limit c.args.into.now c.args.size d.piece d.length_is s b) d.split c.in-Err-read_piece.ensures.answer
 
 pub returns-in-Ok-read_piece-clause-answer : goal.returns-in-Ok-read_piece-clause-answer
 returns-in-Ok-read_piece-clause-answer g c =

@@ -12,7 +12,7 @@ use Rattle.relay_http.proofs.buffered.Buffered.read_chunked.Goals as goal
 
 pub chunks-init : goal.chunks-init
 chunks-init g c =
-    let nothing : c.new-body.result.items ≡ [] = search rules in
+    let nothing : c.new-body.result ≡ [] = search rules in
     record {
       few = search rules;
       front = ([], sym (prepend_known-nil _), subst (λ b. Leads (IsChunked c.args.limit) (IsChunkedAfter c.args.limit b) []) (sym nothing) (leads_none (IsChunked c.args.limit)));
@@ -23,15 +23,15 @@ chunks-init g c =
 pub returns-in-Err-clause-answer : goal.returns-in-Err-clause-answer
 returns-in-Err-clause-answer g c =
     let f = c.chunks.invariant.front in
-    fails_behind (IsChunked c.args.limit) IsLine f.0 _ _ _ c.in-Err.fault (λ s b. begins_piece c.args.limit c.chunks.body.items s (f.2.peel s b).0) f.1 c.in-Err.ensures.answer
+    fails_behind (IsChunked c.args.limit) IsLine f.0 _ _ _ c.in-Err.fault (λ s b. begins_piece c.args.limit c.chunks.body s (f.2.peel s b).0) f.1 c.in-Err.ensures.answer
 
 pub returns-in-Err-read_piece-clause-answer : goal.returns-in-Err-read_piece-clause-answer
 returns-in-Err-read_piece-clause-answer g c =
     let f = c.chunks.invariant.front in
     let t = c.in-Ok.ensures.answer in
     let none : c.in-Ok.line.size ≡ 0 = search rules in
-    let leads = leads_on (IsChunked c.args.limit) (IsChunkedAfter c.args.limit c.chunks.body.items) (IsLastAfter c.args.limit c.chunks.body.items) f.0 t.front f.2 (zero_leads c.args.limit c.chunks.body.items t.front t.ends c.in-Ok.line.size t.message none) in
-    fails_behind (IsChunked c.args.limit) IsTrailer (f.0 ++ t.front) _ _ _ c.in-Err-read_piece.fault (λ s b. begins_trailer _ c.args.limit c.chunks.body.items s (leads.peel s b).0) (stood_behind f.0 t.front _ _ _ f.1 t.split) c.in-Err-read_piece.ensures.answer
+    let leads = leads_on (IsChunked c.args.limit) (IsChunkedAfter c.args.limit c.chunks.body) (IsLastAfter c.args.limit c.chunks.body) f.0 t.front f.2 (zero_leads c.args.limit c.chunks.body t.front t.ends c.in-Ok.line.size t.message none) in
+    fails_behind (IsChunked c.args.limit) IsTrailer (f.0 ++ t.front) _ _ _ c.in-Err-read_piece.fault (λ s b. begins_trailer _ c.args.limit c.chunks.body s (leads.peel s b).0) (stood_behind f.0 t.front _ _ _ f.1 t.split) c.in-Err-read_piece.ensures.answer
 
 pub returns-in-Ok-read_piece-clause-answer : goal.returns-in-Ok-read_piece-clause-answer
 returns-in-Ok-read_piece-clause-answer g c =
@@ -39,26 +39,26 @@ returns-in-Ok-read_piece-clause-answer g c =
     let t = c.in-Ok.ensures.answer in
     let e = c.in-Ok-read_piece.ensures.answer in
     let none : c.in-Ok.line.size ≡ 0 = search rules in
-    let leads = leads_on (IsChunked c.args.limit) (IsChunkedAfter c.args.limit c.chunks.body.items) (IsLastAfter c.args.limit c.chunks.body.items) f.0 t.front f.2 (zero_leads c.args.limit c.chunks.body.items t.front t.ends c.in-Ok.line.size t.message none) in
-    took_behind (IsChunked c.args.limit) (IsLastAfter c.args.limit c.chunks.body.items) (f.0 ++ t.front) _ _ _ c.chunks.body.items leads (stood_behind f.0 t.front _ _ _ f.1 t.split)
-    (record { front = e.front; ends = e.ends; message = record { trailer_is = e.message; content_is = refl; size = c.chunks.invariant.few }; split = e.split; last = e.last })
+    let leads = leads_on (IsChunked c.args.limit) (IsChunkedAfter c.args.limit c.chunks.body) (IsLastAfter c.args.limit c.chunks.body) f.0 t.front f.2 (zero_leads c.args.limit c.chunks.body t.front t.ends c.in-Ok.line.size t.message none) in
+    rw c.into_vec.ensures (took_behind (IsChunked c.args.limit) (IsLastAfter c.args.limit c.chunks.body) (f.0 ++ t.front) _ _ _ c.chunks.body leads (stood_behind f.0 t.front _ _ _ f.1 t.split)
+    (record { front = e.front; ends = e.ends; message = record { trailer_is = e.message; content_is = refl; size = c.chunks.invariant.few }; split = e.split; last = e.last }))
 
 pub returns-then-size-limit-clause-answer : goal.returns-then-size-limit-clause-answer
 returns-then-size-limit-clause-answer g c =
     let f = c.chunks.invariant.front in
     let t = c.in-Ok.ensures.answer in
     let few = c.chunks.invariant.few in
-    let past : c.args.limit - length c.chunks.body.items < c.in-Ok.line.size = search rules in
+    let past : c.args.limit - length c.chunks.body < c.in-Ok.line.size = search rules in
     refused_here (IsChunked c.args.limit) (f.0 ++ t.front) _ c.read_piece.new.self.window (g.S.ByteStream.left c.read_piece.new.self.stream) (stood_behind f.0 t.front _ _ _ f.1 t.split)
-    (λ s b. too_long c.args.limit c.chunks.body.items t.front t.ends c.in-Ok.line.size t.message (omega (arith, past)) (omega (arith, past, few)) s (f.2.peel (t.front ++ s) (subst (Begins (IsChunked c.args.limit)) (append_assoc f.0 t.front s) b)).0)
+    (λ s b. too_long c.args.limit c.chunks.body t.front t.ends c.in-Ok.line.size t.message (omega (arith, past)) (omega (arith, past, few)) s (f.2.peel (t.front ++ s) (subst (Begins (IsChunked c.args.limit)) (append_assoc f.0 t.front s) b)).0)
 
 pub returns-in-Err-read_chunk-clause-answer : goal.returns-in-Err-read_chunk-clause-answer
 returns-in-Err-read_chunk-clause-answer g c =
     let f = c.chunks.invariant.front in
     let t = c.in-Ok.ensures.answer in
     let some : 0 < c.in-Ok.line.size = search rules in
-    let leads = leads_on (IsChunked c.args.limit) (IsChunkedAfter c.args.limit c.chunks.body.items) (IsDataAfter c.args.limit c.chunks.body.items c.in-Ok.line.size) f.0 t.front f.2 (size_leads c.args.limit c.chunks.body.items t.front t.ends c.in-Ok.line.size t.message some) in
-    fails_behind (IsChunked c.args.limit) (IsDataAfter c.args.limit c.chunks.body.items c.in-Ok.line.size) (f.0 ++ t.front) _ _ _ c.in-Err-read_chunk.fault (λ s b. (leads.peel s b).0) (stood_behind f.0 t.front _ _ _ f.1 t.split) c.in-Err-read_chunk.ensures.answer
+    let leads = leads_on (IsChunked c.args.limit) (IsChunkedAfter c.args.limit c.chunks.body) (IsDataAfter c.args.limit c.chunks.body c.in-Ok.line.size) f.0 t.front f.2 (size_leads c.args.limit c.chunks.body t.front t.ends c.in-Ok.line.size t.message some) in
+    fails_behind (IsChunked c.args.limit) (IsDataAfter c.args.limit c.chunks.body c.in-Ok.line.size) (f.0 ++ t.front) _ _ _ c.in-Err-read_chunk.fault (λ s b. (leads.peel s b).0) (stood_behind f.0 t.front _ _ _ f.1 t.split) c.in-Err-read_chunk.ensures.answer
 
 pub chunks-preserved : goal.chunks-preserved
 chunks-preserved g c =
@@ -67,11 +67,11 @@ chunks-preserved g c =
     let d = c.in-Ok-read_chunk.ensures.answer in
     let some : 0 < c.in-Ok.line.size = search rules in
     let few = c.chunks.invariant.few in
-    let below : c.in-Ok.line.size ≤ c.args.limit - length c.chunks.body.items = search rules in
-    let total = ap length d.appended ∙ length-append c.chunks.body.items d.piece in
+    let below : c.in-Ok.line.size ≤ c.args.limit - length c.chunks.body = search rules in
+    let total = ap length d.appended ∙ length-append c.chunks.body d.piece in
     let size = d.length_is in
-    let first = leads_on (IsChunked c.args.limit) (IsChunkedAfter c.args.limit c.chunks.body.items) (IsDataAfter c.args.limit c.chunks.body.items c.in-Ok.line.size) f.0 t.front f.2 (size_leads c.args.limit c.chunks.body.items t.front t.ends c.in-Ok.line.size t.message some) in
-    let second = leads_on (IsChunked c.args.limit) (IsDataAfter c.args.limit c.chunks.body.items c.in-Ok.line.size) (IsChunkedAfter c.args.limit (c.chunks.body.items ++ d.piece)) (f.0 ++ t.front) (d.piece ++ crlf_bytes) first (chunk_leads c.args.limit c.chunks.body.items d.piece c.in-Ok.line.size size) in
+    let first = leads_on (IsChunked c.args.limit) (IsChunkedAfter c.args.limit c.chunks.body) (IsDataAfter c.args.limit c.chunks.body c.in-Ok.line.size) f.0 t.front f.2 (size_leads c.args.limit c.chunks.body t.front t.ends c.in-Ok.line.size t.message some) in
+    let second = leads_on (IsChunked c.args.limit) (IsDataAfter c.args.limit c.chunks.body c.in-Ok.line.size) (IsChunkedAfter c.args.limit (c.chunks.body ++ d.piece)) (f.0 ++ t.front) (d.piece ++ crlf_bytes) first (chunk_leads c.args.limit c.chunks.body d.piece c.in-Ok.line.size size) in
     let front = (f.0 ++ t.front) ++ (d.piece ++ crlf_bytes) in
     record {
       few = omega (arith, total, size, few, below);

@@ -10,11 +10,11 @@ abbrev pub invariant-chunks : goal.invariant-chunks
 invariant-chunks g l =
     let show = g.S.ByteStream in
     record {
-      few : length l.body.items ≤ l.limit;
-      front : (x : List ℕ) × (pending show.left l.fn.self ≡ prepend_known x (pending show.left l.self)) × Leads (IsChunked l.limit) (IsChunkedAfter l.limit l.body.items) x;
+      few : length l.body ≤ l.limit;
+      front : (x : List ℕ) × (pending show.left l.fn.self ≡ prepend_known x (pending show.left l.self)) × Leads (IsChunked l.limit) (IsChunkedAfter l.limit l.body) x;
       count : show.failed l.self.stream ≡ show.failed l.fn.self.stream;
       written : show.written l.self.stream ≡ show.written l.fn.self.stream;
     }
 
 abbrev pub decreases-chunks : goal.decreases-chunks
-decreases-chunks g l = l.limit - length l.body.items
+decreases-chunks g l = l.limit - length l.body

@@ -10,7 +10,7 @@ invariant-reading g l =
     let show = g.S.ByteStream in
     record {
       few : l.left ≤ l.size;
-      taken : TookData (l.size - l.left) (pending show.left l.fn.self) (pending show.left l.self) l.fn.into.items l.into.items;
+      taken : TookData (l.size - l.left) (pending show.left l.fn.self) (pending show.left l.self) l.fn.into l.into;
       count : show.failed l.self.stream ≡ show.failed l.fn.self.stream;
       written : show.written l.self.stream ≡ show.written l.fn.self.stream;
     }

@@ -1,9 +1,8 @@
-use Rattle.std.proofs.Common.{rules, ◌≡◌, ◌∙◌, ap, sym, drop, take, length, min, ◌++◌}
-use Rattle.relay_http.specs.Body.{Moved}
-use Rattle.relay_http.proofs.Stands.{moved_front}
+use Rattle.std.proofs.Common.{rules, ◌≡◌, length}
+use Rattle.relay_http.proofs.Stands.{moved_straight}
 use Rattle.relay_http.proofs.buffered.Buffered.take_some.Goals as goal
 
-pub returns-clause-moved : goal.returns-clause-moved
-returns-clause-moved g c =
-    let stands = sym (c.in-Ok.ensures.stands) in
-    rw c.skip.ensures (moved_front _ (g.S.ByteStream.left c.ready.new.self.stream) c.ready.new.self.window c.args.into.now.items c.extend_from_slice.new.self.items c.args.most c.min-count.result stands (search rules) c.requires c.in-Ok.ensures.end (search rules))
+pub returns-in-Ok-clause-moved : goal.returns-in-Ok-clause-moved
+returns-in-Ok-clause-moved g c =
+    let empty : length c.args.self.now.window ≡ 0 = search rules in
+    moved_straight c.args.self.now.window _ _ c.args.into.now c.fill.new.self c.args.most c.in-Ok.count empty c.in-Ok.ensures.bound c.in-Ok.ensures.bytes
