@@ -88,7 +88,12 @@ fn move_to_front(bytes: &mut [u8], from: usize, to: usize)
 }
 
 // Reads some bytes into the room from `at` to `to`, after the first ones.
-pub(crate) fn read_behind<S: ByteIn>(stream: &mut S, bytes: &mut [u8], at: usize, to: usize) -> Result<usize, StreamFailed>
+pub(crate) fn read_behind<S: ByteIn>(
+    stream: &mut S,
+    bytes: &mut [u8],
+    at: usize,
+    to: usize,
+) -> Result<usize, StreamFailed>
     requires { (at < to) × (to ≤ length bytes.old) }
     ensures bound { IfOk result (λ n. at + n ≤ to) }
     ensures bytes { IfOk result (λ n. Grown (take at bytes.old) (take (at + n) bytes.new) (S.left stream.old) (S.left stream.new) n) }
