@@ -63,11 +63,11 @@ impl<S: ByteStream> Conn<S> {
         }
     }
 
-    /// What the connection may still carry.
-    pub fn phase(&self) -> Phase
-        ensures { result ≡ self.now.phase }
+    /// Whether the connection may carry further messages.
+    pub fn is_open(&self) -> bool
+        ensures { result ≡ is_open self.now.phase }
     {
-        self.phase
+        matches!(self.phase, Phase::Open)
     }
 
     /// How many bytes were read and not used yet: those that stand after the messages so far.

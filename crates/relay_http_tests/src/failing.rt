@@ -2,7 +2,7 @@
 ghost use Rattle.std.specs.Prelude.{◌<◌};
 
 use relay_action::MemStream;
-use relay_http::{Conn, HttpFault, Phase};
+use relay_http::{Conn, HttpFault};
 use std::alloc::Global;
 use std::test::Fail;
 
@@ -28,27 +28,27 @@ fn failing(
     }
 }
 
-// The answer to a read of a reply, and the phase after it.
-fn reply_failing(alloc: Global, fail_at: u64) -> Result<(Result<usize, HttpFault>, Phase), Fail> {
+// The answer to a read of a reply, and whether the connection is open after it.
+fn reply_failing(alloc: Global, fail_at: u64) -> Result<(Result<usize, HttpFault>, bool), Fail> {
     let mut conn = failing(alloc, REPLY, 0, fail_at)?;
     let read = conn.read_reply(alloc).map(|reply| reply.body.len());
-    Ok((read, conn.phase()))
+    Ok((read, conn.is_open()))
 }
 
 // The same of a request.
-fn request_failing(alloc: Global, fail_at: u64) -> Result<(Result<bool, HttpFault>, Phase), Fail> {
+fn request_failing(alloc: Global, fail_at: u64) -> Result<(Result<bool, HttpFault>, bool), Fail> {
     let mut conn = failing(alloc, REQUEST, 0, fail_at)?;
     let read = conn.read_request(alloc).map(|request| request.is_some());
-    Ok((read, conn.phase()))
+    Ok((read, conn.is_open()))
 }
 
 #[test]
 fn each_read_fails_in_turn(rt: HostRuntime) -> Result<(), Fail> {
     let reads = (REPLY.len() as u64).div_ceil(7);
     for fail_at in 1..=reads {
-        assert!(rt; reply_failing(rt.alloc(), fail_at)? == (Err(HttpFault::Read), Phase::Broken));
+        assert!(rt; reply_failing(rt.alloc(), fail_at)? == (Err(HttpFault::Read), false));
     }
-    assert!(rt; reply_failing(rt.alloc(), reads + 1)? == (Ok(11), Phase::Open));
+    assert!(rt; reply_failing(rt.alloc(), reads + 1)? == (Ok(11), true));
     Ok(())
 }
 
@@ -56,27 +56,27 @@ fn each_read_fails_in_turn(rt: HostRuntime) -> Result<(), Fail> {
 fn each_read_of_a_request_fails_in_turn(rt: HostRuntime) -> Result<(), Fail> {
     let reads = (REQUEST.len() as u64).div_ceil(7);
     for fail_at in 1..=reads {
-        assert!(rt; request_failing(rt.alloc(), fail_at)? == (Err(HttpFault::Read), Phase::Broken));
+        assert!(rt; request_failing(rt.alloc(), fail_at)? == (Err(HttpFault::Read), false));
     }
-    assert!(rt; request_failing(rt.alloc(), reads + 1)? == (Ok(true), Phase::Open));
+    assert!(rt; request_failing(rt.alloc(), reads + 1)? == (Ok(true), true));
     Ok(())
 }
 
-// The answer to a write of an answer, the phase after it, and how many of its bytes went out, where they
+// The answer to a write of an answer, whether the connection is open after it, and how many of its bytes went out, where they
 // are its first ones.
 fn answer_failing(
     alloc: Global,
     room: usize,
     fail_at: u64,
-) -> Result<(Result<(), HttpFault>, Phase, Option<usize>), Fail> {
+) -> Result<(Result<(), HttpFault>, bool, Option<usize>), Fail> {
     let mut conn = failing(alloc, b"", room, fail_at)?;
     let done = conn.write_answer(alloc, 200, "hello world", true);
-    let phase = conn.phase();
+    let open = conn.is_open();
     let stream = conn.into_stream();
     let sent = stream.written();
     Ok((
         done,
-        phase,
+        open,
         if ANSWER.starts_with(sent) {
             Some(sent.len())
         } else {
@@ -91,18 +91,14 @@ fn each_write_fails_in_turn(rt: HostRuntime) -> Result<(), Fail> {
     for fail_at in 1..=writes {
         let sent = 7 * (fail_at as usize - 1);
         assert!(rt;
-            answer_failing(rt.alloc(), 1000, fail_at)?
-                == (Err(HttpFault::Write), Phase::Broken, Some(sent))
+            answer_failing(rt.alloc(), 1000, fail_at)? == (Err(HttpFault::Write), false, Some(sent))
         );
     }
     for room in 0..ANSWER.len() {
         assert!(rt;
-            answer_failing(rt.alloc(), room, 0)?
-                == (Err(HttpFault::Write), Phase::Broken, Some(room))
+            answer_failing(rt.alloc(), room, 0)? == (Err(HttpFault::Write), false, Some(room))
         );
     }
-    assert!(rt;
-        answer_failing(rt.alloc(), ANSWER.len(), 0)? == (Ok(()), Phase::Open, Some(ANSWER.len()))
-    );
+    assert!(rt; answer_failing(rt.alloc(), ANSWER.len(), 0)? == (Ok(()), true, Some(ANSWER.len())));
     Ok(())
 }

@@ -2,7 +2,7 @@
 ghost use Rattle.std.specs.Prelude.{◌<◌};
 
 use relay_action::MemStream;
-use relay_http::{Conn, HttpFault, HttpReply, HttpRequest, Phase};
+use relay_http::{Conn, HttpFault, HttpReply, HttpRequest};
 use std::alloc::Global;
 use std::test::Fail;
 
@@ -75,7 +75,7 @@ pub fn reads_reply(alloc: Global, bytes: &[u8], piece: usize, wanted: Reply) -> 
     Ok(
         gives_reply(alloc, &mut conn, wanted)
             && (lasts || gives_reply(alloc, &mut conn, Err(HttpFault::Broken)))
-            && (conn.phase() == Phase::Open) == lasts,
+            && conn.is_open() == lasts,
     )
 }
 
@@ -94,6 +94,6 @@ pub fn reads_request(
     Ok(
         gives_request(alloc, &mut conn, wanted)
             && (lasts || gives_request(alloc, &mut conn, Err(HttpFault::Broken)))
-            && (conn.phase() == Phase::Open) == lasts,
+            && conn.is_open() == lasts,
     )
 }

@@ -4,7 +4,7 @@ ghost use Rattle.relay_http.specs.WrittenAnswer.{IsAnswerStatus};
 
 use crate::reading::{gives_reply, gives_request, over};
 use relay_action::{Action, DocKey, MemStream, Write};
-use relay_http::{Conn, HttpFault, Phase, is_host};
+use relay_http::{Conn, HttpFault, bool, is_host};
 use std::alloc::Global;
 use std::test::Fail;
 
@@ -32,7 +32,7 @@ fn a_request(rt: HostRuntime) -> Result<(), Fail> {
         conn.write_request(rt.alloc(), "127.0.0.1:9200", writes.as_slice())
             .is_ok()
     );
-    assert!(rt; conn.phase() == Phase::Open);
+    assert!(rt; conn.is_open());
     assert!(rt;
         was_written(
             conn,
@@ -68,7 +68,7 @@ fn is_answer(
 {
     let mut conn = over(alloc, b"", 5)?;
     let done = conn.write_answer(alloc, status, body, keep).is_ok();
-    Ok(done && (conn.phase() == Phase::Open) == keep && was_written(conn, wanted))
+    Ok(done && conn.is_open() == keep && was_written(conn, wanted))
 }
 
 #[test]
@@ -114,27 +114,26 @@ fn answers(rt: HostRuntime) -> Result<(), Fail> {
 }
 
 // What is written where a request was read before it, and what the connection may carry then.
-fn answers_to(alloc: Global, request: &[u8]) -> Result<(bool, Phase), Fail> {
+fn answers_to(alloc: Global, request: &[u8]) -> Result<(bool, bool), Fail> {
     let mut conn = over(alloc, request, 5)?;
     let read = conn.read_request(alloc).is_ok();
     let done = conn.write_answer(alloc, 200, "ok", true).is_ok();
-    let phase = conn.phase();
+    let open = conn.is_open();
     let says_close = was_written(
         conn,
         b"HTTP/1.1 200 OK\r\nContent-Type: application/json\r\nContent-Length: 2\r\nConnection: close\r\n\r\nok",
     );
-    Ok((read && done && says_close, phase))
+    Ok((read && done && says_close, open))
 }
 
 #[test]
 fn an_answer_closes_where_the_request_does(rt: HostRuntime) -> Result<(), Fail> {
     let alloc = rt.alloc();
     assert!(rt;
-        answers_to(alloc, b"POST /_bulk HTTP/1.1\r\nConnection: close\r\n\r\n")?
-            == (true, Phase::Broken)
+        answers_to(alloc, b"POST /_bulk HTTP/1.1\r\nConnection: close\r\n\r\n")? == (true, false)
     );
-    assert!(rt; answers_to(alloc, b"POST /_bulk HTTP/1.0\r\n\r\n")? == (true, Phase::Broken));
-    assert!(rt; answers_to(alloc, b"POST /_bulk HTTP/1.1\r\n\r\n")? == (false, Phase::Open));
+    assert!(rt; answers_to(alloc, b"POST /_bulk HTTP/1.0\r\n\r\n")? == (true, false));
+    assert!(rt; answers_to(alloc, b"POST /_bulk HTTP/1.1\r\n\r\n")? == (false, true));
     Ok(())
 }
 
