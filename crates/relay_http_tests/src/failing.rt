@@ -62,8 +62,8 @@ fn each_read_of_a_request_fails_in_turn(rt: HostRuntime) -> Result<(), Fail> {
     Ok(())
 }
 
-// The answer to a write of an answer, whether the connection is open after it, and how many of its bytes went out, where they
-// are its first ones.
+// The answer to a write of an answer, whether the connection is open after it, and how many bytes went
+// out, where they are the first ones of the answer.
 fn answer_failing(
     alloc: Global,
     room: usize,

@@ -4,7 +4,8 @@ ghost use Rattle.relay_http.specs.WrittenAnswer.{IsAnswerStatus};
 
 use crate::reading::{gives_reply, gives_request, over};
 use relay_action::{Action, DocKey, MemStream, Write};
-use relay_http::{Conn, HttpFault, bool, is_host};
+use relay_http::{Conn, HttpFault, is_host};
+use relay_ndjson::bulk_len;
 use std::alloc::Global;
 use std::test::Fail;
 
@@ -27,6 +28,7 @@ fn was_written(conn: Conn<MemStream>, wanted: &[u8]) -> bool {
 #[test]
 fn a_request(rt: HostRuntime) -> Result<(), Fail> {
     let writes = one_write(rt.alloc())?;
+    assert!(rt; writes.len() == 1 && bulk_len(writes.as_slice()) == 78);
     let mut conn = over(rt.alloc(), b"", 5)?;
     assert!(rt;
         conn.write_request(rt.alloc(), "127.0.0.1:9200", writes.as_slice())
