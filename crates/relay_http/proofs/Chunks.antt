@@ -14,7 +14,7 @@ use Rattle.httparse.proofs.ChunkLemmas.{chunk_line_unique}
 use Rattle.relay_http.specs.Forms.{Form, Begins, Gives, Leads}
 use Rattle.relay_http.specs.Chunked.{FitsLine, IsSizeLine, IsLine, Chunk, IsChunk, print_chunk, IsTrailer, IsTrailerText, IsCrlf, IsChunked, IsChunkedAfter, IsDataAfter, IsLastAfter, TookChunk}
 
-first_line : (t s : List ℕ) (l k : ChunkLine) (rest : List ℕ) → FitsLine l → FitsLine k → t ≡ print_chunk_line l → t ++ s ≡ print_chunk_line k ++ rest → (l ≡ k) × (s ≡ rest)
+pub first_line : (t s : List ℕ) (l k : ChunkLine) (rest : List ℕ) → FitsLine l → FitsLine k → t ≡ print_chunk_line l → t ++ s ≡ print_chunk_line k ++ rest → (l ≡ k) × (s ≡ rest)
 first_line t s l k rest fl fk e f = chunk_line_unique (t ++ s) l k s rest (fl.grammar, ap (λ w. w ++ s) e) (fk.grammar, f)
 
 -- behind a size line that is not 0 there are its data, CRLF and further chunks

@@ -65,7 +65,7 @@ pub prepend_known-nil : (shown : Option (List ℕ)) → prepend_known [] shown �
 prepend_known-nil None = refl
 prepend_known-nil (Some bytes) = refl
 
-no_bytes : (bytes : List ℕ) → length bytes ≡ 0 → bytes ≡ []
+pub no_bytes : (bytes : List ℕ) → length bytes ≡ 0 → bytes ≡ []
 no_bytes [] l = refl
 no_bytes (b ∷ bytes) l = absurd (omega (arith, l))
 

@@ -40,7 +40,7 @@ ok_is f g h = cc
 
 -- ---- what stands is what is answered
 
-shown : (x : List ℕ) (new : Option (List ℕ)) (s : List ℕ) → prepend_known x new ≡ Some s → (r : List ℕ) × (new ≡ Some r) × (s ≡ x ++ r)
+pub shown : (x : List ℕ) (new : Option (List ℕ)) (s : List ℕ) → prepend_known x new ≡ Some s → (r : List ℕ) × (new ≡ Some r) × (s ≡ x ++ r)
 shown x None s e = absurd (cc)
 shown x (Some r) s e = (r, refl, cc)
 
@@ -97,3 +97,17 @@ stated_framed H unique framing old new info t s b e f g stated is = wrong f g (s
   where
     wrong : (f : HttpFault) (g : Framing) → ◌≡◌ {A = Result Framing HttpFault} (Err f) (Ok g) → ⊥
     wrong f g h = cc
+
+-- heads that state a framing state no fault
+pub framed_fault : {I : Type 0} (H : Form I) → IsUnique H → (framing : I → Result Framing HttpFault) → (old new : Option (List ℕ)) (info : I) → Took H old new info → (s : List ℕ) (b : Begins H s) → old ≡ Some s
+    → (f : HttpFault) (g : Framing) → framing b.value ≡ Ok g → framing info ≡ Err f → ⊥
+framed_fault H unique framing old new info t s b e f g stated is = wrong f g (sym is ∙ ap framing (took_found H unique old new info t s b e).0 ∙ stated)
+  where
+    wrong : (f : HttpFault) (g : Framing) → ◌≡◌ {A = Result Framing HttpFault} (Err f) (Ok g) → ⊥
+    wrong f g h = cc
+
+pub framed_same : {I : Type 0} (H : Form I) → IsUnique H → (framing : I → Result Framing HttpFault) → (old new : Option (List ℕ)) (info : I) → Took H old new info → (s : List ℕ) (b : Begins H s) → old ≡ Some s
+    → (f g : Framing) → framing b.value ≡ Ok g → framing info ≡ Ok f → (g ≡ f) × (new ≡ Some b.rest)
+framed_same H unique framing old new info t s b e f g stated is =
+    let same = took_found H unique old new info t s b e in
+    (ok_is g f (sym stated ∙ sym (ap framing same.0) ∙ is), same.1)

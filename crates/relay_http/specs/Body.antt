@@ -2,7 +2,7 @@
 use Rattle.std.specs.Prelude.{◌≡◌, ℕ, ◌<◌, ◌≤◌, ◌⊎◌, Bool, true, false, List, [], ◌∷◌, ◌++◌, length, flat_map, Option}
 use Rattle.std.specs.Io.KnownBytes.{IsAtEnd}
 use Rattle.std.specs.Io.KnownBytes.{prepend_known}
-use Rattle.relay_http.specs.Chunked.{IsChunked}
+use Rattle.relay_http.specs.Chunked.{IsChunked, IsLongChunked}
 use Rattle.relay_http.specs.Forms.{Form}
 use Rattle.relay_http.specs.declared.fault.HttpFault.{HttpFault}
 use Rattle.relay_http.specs.declared.fault.HttpFault.TheVariants as fault
@@ -26,6 +26,17 @@ IsBody limit Absent = IsSized 0
 IsBody limit (Sized n) = IsSized n
 IsBody limit Chunked = IsChunked limit
 IsBody limit ToEnd = IsRest limit
+
+-- more stands there than the limit
+abbrev pub IsLongRest : ℕ → List ℕ → Type 0
+IsLongRest limit stream = limit < length stream
+
+-- a body in this framing that stands there passes the limit
+abbrev pub IsLongBody : ℕ → Framing → List ℕ → Type 0
+IsLongBody limit Absent stream = ⊥
+IsLongBody limit (Sized n) stream = ⊥
+IsLongBody limit Chunked stream = IsLongChunked limit [] stream
+IsLongBody limit ToEnd stream = IsLongRest limit stream
 
 -- so many bytes went from the front of what stood to the end of a list
 pub record TookData (size : ℕ) (old new : Option (List ℕ)) (before after : List ℕ) : Type 0 where

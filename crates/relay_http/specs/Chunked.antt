@@ -1,5 +1,5 @@
 -- A chunked body (RFC 9112, section 7.1).
-use Rattle.std.specs.Prelude.{◌≡◌, ℕ, ◌<◌, ◌≤◌, Bool, List, [], ◌∷◌, ◌++◌, length, flat_map, All, Option}
+use Rattle.std.specs.Prelude.{◌≡◌, ℕ, ◌+◌, ◌<◌, ◌≤◌, Bool, List, [], ◌∷◌, ◌++◌, length, flat_map, All, Option}
 use Rattle.std.specs.Io.KnownBytes.{prepend_known}
 use Rattle.std.specs.List.{AllByRecursion}
 use Rattle.relay_http.specs.Forms.{Form}
@@ -78,6 +78,23 @@ IsTrailer bytes ends value = IsTrailerText bytes
 -- the bytes are a chunked body with at most limit bytes of content
 abbrev pub IsChunked : ℕ → Form (List ℕ)
 IsChunked limit = IsChunkedAfter limit []
+
+-- chunks stand there, and then a size line with which the content so far passes the limit
+pub record IsLongChunked (limit : ℕ) (before : List ℕ) (stream : List ℕ) : Type 0 where
+  pub chunks : List Chunk
+  pub each : AllByRecursion IsChunk chunks
+  pub line : ChunkLine
+  pub fits : FitsLine line
+  pub past : limit < length before + length (flat_map (λ c. c.content) chunks) + chunk_size line
+  pub rest : List ℕ
+  pub split : stream ≡ flat_map print_chunk chunks ++ (print_chunk_line line ++ rest)
+
+-- so many bytes and CRLF stand there
+pub record IsChunkThere (size : ℕ) (stream : List ℕ) : Type 0 where
+  pub content : List ℕ
+  pub rest : List ℕ
+  pub size_is : length content ≡ size
+  pub split : stream ≡ content ++ (crlf_bytes ++ rest)
 
 -- what may follow a size line: the content, CRLF and further chunks
 pub record IsDataAfter (limit : ℕ) (before : List ℕ) (size : ℕ) (bytes : List ℕ) (ends : Bool) (content : List ℕ) : Type 0 where

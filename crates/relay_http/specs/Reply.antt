@@ -5,7 +5,7 @@ use Rattle.httparse.specs.Grammar.{ResponseHead, IsResponseHead, print_response,
 use Rattle.httparse.specs.Spans.{name_and_value}
 use Rattle.relay_http.specs.Fields.{Header}
 use Rattle.relay_http.specs.Framing.{reply_limit, is_interim, framing_of, keeps, is_to_end}
-use Rattle.relay_http.specs.Body.{IsBody}
+use Rattle.relay_http.specs.Body.{IsBody, IsLongBody}
 use Rattle.relay_http.specs.Forms.{Form, IsHeadThen, Begins}
 use Rattle.relay_http.specs.declared.fault.HttpFault.{HttpFault}
 use Rattle.relay_http.specs.declared.framing.Framing.{Framing}
@@ -90,6 +90,13 @@ IsReply = IsHeadThen IsHeads IsReplyBody
 pub record ReplyStates (stream : List ℕ) (f : HttpFault) : Type 0 where
   pub heads : Begins IsHeads stream
   pub fault_is : heads.value.framing ≡ Err f
+
+-- the heads at the front of a stream state a body, and what follows them passes its limit
+pub record ReplyPasses (stream : List ℕ) : Type 0 where
+  pub heads : Begins IsHeads stream
+  pub framing : Framing
+  pub framed : heads.value.framing ≡ Ok framing
+  pub long : IsLongBody reply_limit framing heads.rest
 
 -- a reply, wherever it lies in memory
 abbrev pub reply_view : HttpReply → Reply

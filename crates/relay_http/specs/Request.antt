@@ -5,7 +5,7 @@ use Rattle.httparse.specs.Grammar.{RequestHead, IsRequestHead, print_request}
 use Rattle.httparse.specs.Spans.{name_and_value}
 use Rattle.relay_http.specs.Fields.{Header}
 use Rattle.relay_http.specs.Framing.{request_limit, framing_of_request, keeps}
-use Rattle.relay_http.specs.Body.{IsBody}
+use Rattle.relay_http.specs.Body.{IsBody, IsLongBody}
 use Rattle.relay_http.specs.Forms.{Form, IsHeadThen, Begins, Took}
 use Rattle.relay_http.specs.Reply.{head_limit, field_limit}
 use Rattle.relay_http.specs.declared.fault.HttpFault.{HttpFault}
@@ -64,6 +64,13 @@ IsRequest = IsHeadThen IsRequestInfo IsRequestBody
 pub record RequestStates (stream : List ℕ) (f : HttpFault) : Type 0 where
   pub head : Begins IsRequestInfo stream
   pub fault_is : head.value.framing ≡ Err f
+
+-- the head at the front of a stream states a body, and what follows it passes its limit
+pub record RequestPasses (stream : List ℕ) : Type 0 where
+  pub head : Begins IsRequestInfo stream
+  pub framing : Framing
+  pub framed : head.value.framing ≡ Ok framing
+  pub long : IsLongBody request_limit framing head.rest
 
 -- a request, wherever it lies in memory
 abbrev pub request_view : HttpRequest → Request

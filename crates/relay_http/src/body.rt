@@ -1,11 +1,10 @@
 //! Bodies of messages (RFC 9112, section 6).
-ghost use Rattle.std.specs.Prelude.{◌≡◌, ◌<◌, ◌≤◌, length, IfOk, IfErr, OnErr, MatchResult, OnOk, Err, if◌then◌else◌, is_ok};
-ghost use Rattle.std.specs.Io.KnownBytes.{IsAtEnd};
-ghost use Rattle.relay_http.specs.Window.{window_size};
+ghost use Rattle.std.specs.Prelude.{◌≡◌, ◌<◌, ◌≤◌, ℕ, List, length, Some, IfOk, IfErr, MatchResult, if◌then◌else◌};
 ghost use Rattle.relay_action.specs.Streams.{one_more};
-ghost use Rattle.relay_http.specs.Body.{IsSized, IsRest, IsBody, Moved, TookData};
-ghost use Rattle.relay_http.specs.Forms.{Took, Fails, IsOutside};
+ghost use Rattle.relay_http.specs.Body.{IsSized, IsRest, IsBody, IsLongBody, IsLongRest, Moved, TookData};
+ghost use Rattle.relay_http.specs.Forms.{Took, Fails, IsOutside, IsThatOrOutside};
 ghost use Rattle.relay_http.specs.Pending.{pending, is_read};
+ghost use Rattle.relay_http.specs.declared.fault.HttpFault.{HttpFault};
 
 use crate::buffered::Buffered;
 use crate::content::Content;
@@ -88,6 +87,7 @@ impl<S: ByteIn + Drop> Buffered<S> {
     // Reads what is left of the stream.
     pub(crate) fn read_rest(&mut self, alloc: Global, limit: usize) -> Result<Vec<u8>, HttpFault>
         requires { limit < 4294967296 }
+        ensures long { (stream : List ℕ) → IsLongRest limit stream → pending S.left self.old ≡ Some stream → MatchResult result (λ body. ⊥) (IsThatOrOutside HttpFault.BodyLong) }
         ensures answer { MatchResult result (λ body. Took (IsRest limit) (pending S.left self.old) (pending S.left self.new) body.items) (Fails (IsRest limit) (pending S.left self.old) (S.left self.new.stream)) }
         ensures count { S.failed self.new.stream ≡ (if is_read result then one_more (S.failed self.old.stream) else S.failed self.old.stream) }
         ensures written { S.written self.new.stream ≡ S.written self.old.stream }
@@ -111,6 +111,7 @@ impl<S: ByteIn + Drop> Buffered<S> {
         limit: usize,
     ) -> Result<Vec<u8>, HttpFault>
         requires { limit < 4294967296 }
+        ensures long { (stream : List ℕ) → IsLongBody limit framing stream → pending S.left self.old ≡ Some stream → MatchResult result (λ body. ⊥) (IsThatOrOutside HttpFault.BodyLong) }
         ensures answer { MatchResult result (λ body. Took (IsBody limit framing) (pending S.left self.old) (pending S.left self.new) body.items) (Fails (IsBody limit framing) (pending S.left self.old) (S.left self.new.stream)) }
         ensures count { S.failed self.new.stream ≡ (if is_read result then one_more (S.failed self.old.stream) else S.failed self.old.stream) }
         ensures written { S.written self.new.stream ≡ S.written self.old.stream }

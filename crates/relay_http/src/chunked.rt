@@ -1,10 +1,11 @@
 //! Chunked bodies (RFC 9112, section 7.1).
-ghost use Rattle.std.specs.Prelude.{◌≡◌, ◌<◌, ◌≤◌, ◌++◌, length, MatchResult, if◌then◌else◌};
+ghost use Rattle.std.specs.Prelude.{◌≡◌, ◌<◌, ◌≤◌, ◌++◌, ℕ, List, [], length, Some, IfErr, MatchResult, if◌then◌else◌};
 ghost use Rattle.relay_action.specs.Streams.{one_more};
 ghost use Rattle.relay_http.specs.Body.{TookData};
-ghost use Rattle.relay_http.specs.Chunked.{IsChunked, IsDataAfter, TookChunk};
-ghost use Rattle.relay_http.specs.Forms.{Took, Fails};
+ghost use Rattle.relay_http.specs.Chunked.{IsChunked, IsChunkThere, IsDataAfter, IsLongChunked, TookChunk};
+ghost use Rattle.relay_http.specs.Forms.{Took, Fails, IsOutside, IsThatOrOutside};
 ghost use Rattle.relay_http.specs.Pending.{pending, is_read};
+ghost use Rattle.relay_http.specs.declared.fault.HttpFault.{HttpFault};
 
 use crate::buffered::Buffered;
 use crate::chunk::{ChunkEnd, SizeLine, Trailer};
@@ -16,6 +17,7 @@ use std::alloc::Global;
 impl<S: ByteIn + Drop> Buffered<S> {
     // Moves the content of a chunk to the end of a content, and passes the CRLF after it.
     fn read_chunk(&mut self, size: usize, limit: usize, into: &mut Content) -> Result<(), HttpFault>
+        ensures whole { (stream : List ℕ) → IsChunkThere size stream → pending S.left self.old ≡ Some stream → IfErr result IsOutside }
         ensures answer { MatchResult result (λ u. TookChunk size (pending S.left self.old) (pending S.left self.new) into.old into.new) (Fails (IsDataAfter limit into.old size) (pending S.left self.old) (S.left self.new.stream)) }
         ensures count { S.failed self.new.stream ≡ (if is_read result then one_more (S.failed self.old.stream) else S.failed self.old.stream) }
         ensures written { S.written self.new.stream ≡ S.written self.old.stream }
@@ -33,6 +35,7 @@ impl<S: ByteIn + Drop> Buffered<S> {
     // Reads a chunked body.
     pub(crate) fn read_chunked(&mut self, alloc: Global, limit: usize) -> Result<Vec<u8>, HttpFault>
         requires { limit < 4294967296 }
+        ensures long { (stream : List ℕ) → IsLongChunked limit [] stream → pending S.left self.old ≡ Some stream → MatchResult result (λ body. ⊥) (IsThatOrOutside HttpFault.BodyLong) }
         ensures answer { MatchResult result (λ body. Took (IsChunked limit) (pending S.left self.old) (pending S.left self.new) body.items) (Fails (IsChunked limit) (pending S.left self.old) (S.left self.new.stream)) }
         ensures count { S.failed self.new.stream ≡ (if is_read result then one_more (S.failed self.old.stream) else S.failed self.old.stream) }
         ensures written { S.written self.new.stream ≡ S.written self.old.stream }

@@ -3,8 +3,8 @@ ghost use Rattle.std.specs.Prelude.{◌≡◌, ◌≤◌, ◌++◌, ◌&&◌, no
 ghost use Rattle.relay_ndjson.specs.Bulk.{text_of};
 ghost use Rattle.relay_http.specs.Forms.{Took, Fails, Begins, IsOutside, IsThatOrOutside};
 ghost use Rattle.relay_http.specs.Framing.{reply_limit, request_limit};
-ghost use Rattle.relay_http.specs.Reply.{IsReply, ReplyStates, reply_view};
-ghost use Rattle.relay_http.specs.Request.{IsRequest, RequestStates, TookRequest, IsFound};
+ghost use Rattle.relay_http.specs.Reply.{IsReply, ReplyPasses, ReplyStates, reply_view};
+ghost use Rattle.relay_http.specs.Request.{IsRequest, RequestPasses, RequestStates, TookRequest, IsFound};
 ghost use Rattle.relay_http.specs.Window.{window_size};
 ghost use Rattle.relay_http.specs.WrittenAnswer.{IsAnswerStatus, answer};
 ghost use Rattle.relay_http.specs.WrittenRequest.{is_host, request, Sends};
@@ -102,6 +102,9 @@ impl<S: ByteIn + Drop> Conn<S> {
         // A fault that the heads there state is answered.
         ensures stated { (stream : List ℕ) (f : HttpFault) → ReplyStates stream f → IsTrue (is_open self.old.phase) → ahead self.old ≡ Some stream
             → MatchResult result (λ reply. ⊥) (IsThatOrOutside f) }
+        // A body that passes its limit is answered as too long.
+        ensures long { (stream : List ℕ) → ReplyPasses stream → IsTrue (is_open self.old.phase) → ahead self.old ≡ Some stream
+            → MatchResult result (λ reply. ⊥) (IsThatOrOutside HttpFault.BodyLong) }
         ensures phase { IsTrue (is_open self.old.phase) → self.new.phase ≡ after_reply result }
         // One call of the stream failed at most: a read, where that is the answer.
         ensures failed { IsTrue (is_open self.old.phase) → self.new.failed ≡ failed_reading result self.old.failed }
@@ -132,6 +135,9 @@ impl<S: ByteIn + Drop> Conn<S> {
         // A fault that the head there states is answered.
         ensures stated { (stream : List ℕ) (f : HttpFault) → RequestStates stream f → IsTrue (is_open self.old.phase) → ahead self.old ≡ Some stream
             → MatchResult result (λ request. ⊥) (IsThatOrOutside f) }
+        // A body that passes its limit is answered as too long.
+        ensures long { (stream : List ℕ) → RequestPasses stream → IsTrue (is_open self.old.phase) → ahead self.old ≡ Some stream
+            → MatchResult result (λ request. ⊥) (IsThatOrOutside HttpFault.BodyLong) }
         // Where nothing more stands, there is none.
         ensures none { IsTrue (is_open self.old.phase) → ahead self.old ≡ Some [] → MatchResult result (λ request. request ≡ None) IsOutside }
         ensures phase { IsTrue (is_open self.old.phase) → self.new.phase ≡ after_request result }

@@ -5,7 +5,7 @@ ghost use Rattle.relay_http.specs.Forms.{Took, Fails, Answers, Begins, IsOutside
 ghost use Rattle.relay_http.specs.Framing.{is_to_end};
 ghost use Rattle.relay_http.specs.declared.fault.HttpFault.{HttpFault};
 ghost use Rattle.relay_http.specs.Pending.{pending, is_read};
-ghost use Rattle.relay_http.specs.Reply.{IsHeads, IsReply, ReplyStates, reply_view};
+ghost use Rattle.relay_http.specs.Reply.{IsHeads, IsReply, ReplyPasses, ReplyStates, reply_view};
 
 use crate::buffered::Buffered;
 use crate::fault::HttpFault;
@@ -68,6 +68,7 @@ impl<S: ByteIn + Drop> Buffered<S> {
         ensures answer { MatchResult result (λ reply. Took IsReply (pending S.left self.old) (pending S.left self.new) (reply_view reply)) (Fails IsReply (pending S.left self.old) (S.left self.new.stream)) }
         ensures found { (stream : List ℕ) (there : Begins IsReply stream) → pending S.left self.old ≡ Some stream → MatchResult result (λ reply. (reply_view reply ≡ there.value) × (pending S.left self.new ≡ Some there.rest)) IsOutside }
         ensures stated { (stream : List ℕ) (f : HttpFault) → ReplyStates stream f → pending S.left self.old ≡ Some stream → MatchResult result (λ reply. ⊥) (IsThatOrOutside f) }
+        ensures long { (stream : List ℕ) → ReplyPasses stream → pending S.left self.old ≡ Some stream → MatchResult result (λ reply. ⊥) (IsThatOrOutside HttpFault.BodyLong) }
         ensures count { S.failed self.new.stream ≡ (if is_read result then one_more (S.failed self.old.stream) else S.failed self.old.stream) }
         ensures written { S.written self.new.stream ≡ S.written self.old.stream }
     {

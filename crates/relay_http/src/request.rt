@@ -3,7 +3,7 @@ ghost use Rattle.std.specs.Prelude.{◌≡◌, ◌<◌, ◌≤◌, ℕ, List, []
 ghost use Rattle.relay_action.specs.Streams.{one_more};
 ghost use Rattle.relay_http.specs.Forms.{Begins, Fails, IsOutside, IsThatOrOutside};
 ghost use Rattle.relay_http.specs.Pending.{pending, is_read};
-ghost use Rattle.relay_http.specs.Request.{IsFound, IsRequest, RequestStates, TookRequest};
+ghost use Rattle.relay_http.specs.Request.{IsFound, IsRequest, RequestPasses, RequestStates, TookRequest};
 ghost use Rattle.relay_http.specs.declared.fault.HttpFault.{HttpFault};
 
 use crate::buffered::Buffered;
@@ -33,6 +33,7 @@ impl<S: ByteIn + Drop> Buffered<S> {
         ensures answer { MatchResult result (TookRequest (pending S.left self.old) (pending S.left self.new)) (Fails IsRequest (pending S.left self.old) (S.left self.new.stream)) }
         ensures found { (stream : List ℕ) (there : Begins IsRequest stream) → pending S.left self.old ≡ Some stream → MatchResult result (IsFound there (pending S.left self.new)) IsOutside }
         ensures stated { (stream : List ℕ) (f : HttpFault) → RequestStates stream f → pending S.left self.old ≡ Some stream → MatchResult result (λ request. ⊥) (IsThatOrOutside f) }
+        ensures long { (stream : List ℕ) → RequestPasses stream → pending S.left self.old ≡ Some stream → MatchResult result (λ request. ⊥) (IsThatOrOutside HttpFault.BodyLong) }
         ensures none { pending S.left self.old ≡ Some [] → MatchResult result (λ request. request ≡ None) IsOutside }
         ensures count { S.failed self.new.stream ≡ (if is_read result then one_more (S.failed self.old.stream) else S.failed self.old.stream) }
         ensures written { S.written self.new.stream ≡ S.written self.old.stream }
@@ -54,6 +55,7 @@ impl<S: ByteIn + Drop> Buffered<S> {
     fn read_whole_request(&mut self, alloc: Global) -> Result<HttpRequest, HttpFault>
         ensures answer { MatchResult result (λ request. TookRequest (pending S.left self.old) (pending S.left self.new) (Some request)) (Fails IsRequest (pending S.left self.old) (S.left self.new.stream)) }
         ensures stated { (stream : List ℕ) (f : HttpFault) → RequestStates stream f → pending S.left self.old ≡ Some stream → MatchResult result (λ request. ⊥) (IsThatOrOutside f) }
+        ensures long { (stream : List ℕ) → RequestPasses stream → pending S.left self.old ≡ Some stream → MatchResult result (λ request. ⊥) (IsThatOrOutside HttpFault.BodyLong) }
         ensures count { S.failed self.new.stream ≡ (if is_read result then one_more (S.failed self.old.stream) else S.failed self.old.stream) }
         ensures written { S.written self.new.stream ≡ S.written self.old.stream }
     {

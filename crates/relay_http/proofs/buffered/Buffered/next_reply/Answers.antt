@@ -1,6 +1,6 @@
 use Rattle.std.proofs.Common.{rules, refl, [], ◌≡◌, ◌∙◌, ap, sym, subst, true, false, ◌&&◌, not}
 use Rattle.relay_http.specs.Framing.{is_to_end, reply_limit}
-use Rattle.relay_http.specs.Body.{IsBody}
+use Rattle.relay_http.specs.Body.{IsBody, IsLongBody}
 use Rattle.relay_http.specs.Forms.{Took, Fails, Begins}
 use Rattle.relay_http.specs.Reply.{IsHeads, IsReply, IsReplyBody, Reply, reply_view}
 use Rattle.relay_http.proofs.Stands.{prepend_known-nil}
@@ -8,7 +8,7 @@ use Rattle.relay_http.proofs.Leading.{fails_behind, fails_stated, took_behind}
 use Rattle.relay_http.proofs.Messages.{begins_then, then_leads}
 use Rattle.relay_http.proofs.Replies.{begins_body, reply_unique, stated_never, heads_unique, heads_either, info_stated}
 use Rattle.relay_http.proofs.Passing.{refused_here}
-use Rattle.relay_http.proofs.Unique.{fails_found, took_found, stated_outside, stated_fault, stated_framed}
+use Rattle.relay_http.proofs.Unique.{fails_found, took_found, stated_outside, stated_fault, stated_framed, framed_fault, framed_same}
 use Rattle.relay_http.proofs.buffered.Buffered.next_reply.Goals as goal
 
 pub returns-in-Err-clause-answer : goal.returns-in-Err-clause-answer
@@ -67,3 +67,20 @@ returns-in-Err-read_body-clause-found g c = λ stream there stands. fails_found 
 
 pub returns-clause-found : goal.returns-clause-found
 returns-clause-found g c = λ stream there stands. took_found IsReply reply_unique _ _ _ (returns-clause-answer g c) stream there stands
+
+pub returns-in-Err-clause-long : goal.returns-in-Err-clause-long
+returns-in-Err-clause-long g c = λ stream passes stands. stated_outside IsHeads _ _ c.in-Err.fault _ c.in-Err.ensures.answer stream passes.heads stands
+
+pub returns-in-Err-framing-clause-long : goal.returns-in-Err-framing-clause-long
+returns-in-Err-framing-clause-long g c = λ stream passes stands.
+    absurd (framed_fault IsHeads (heads_unique 8) (λ i. i.framing) _ _ c.in-Ok.info c.in-Ok.ensures.answer stream passes.heads stands c.in-Err-framing.fault passes.framing passes.framed c.in-Err-framing.is)
+
+pub returns-in-Err-read_body-clause-long : goal.returns-in-Err-read_body-clause-long
+returns-in-Err-read_body-clause-long g c = λ stream passes stands.
+    let same = framed_same IsHeads (heads_unique 8) (λ i. i.framing) _ _ c.in-Ok.info c.in-Ok.ensures.answer stream passes.heads stands c.in-Ok-framing.framing passes.framing passes.framed c.in-Ok-framing.is in
+    c.in-Err-read_body.ensures.long passes.heads.rest (subst (λ f. IsLongBody reply_limit f passes.heads.rest) same.0 passes.long) same.1
+
+pub returns-clause-long : goal.returns-clause-long
+returns-clause-long g c = λ stream passes stands.
+    let same = framed_same IsHeads (heads_unique 8) (λ i. i.framing) _ _ c.in-Ok.info c.in-Ok.ensures.answer stream passes.heads stands c.in-Ok-framing.framing passes.framing passes.framed c.in-Ok-framing.is in
+    c.in-Ok-read_body.ensures.long passes.heads.rest (subst (λ f. IsLongBody reply_limit f passes.heads.rest) same.0 passes.long) same.1

@@ -45,3 +45,16 @@ returns-in-Err-read_whole_request-clause-found g c = λ stream there stands. fai
 pub returns-in-Ok-read_whole_request-clause-found :
     goal.returns-in-Ok-read_whole_request-clause-found
 returns-in-Ok-read_whole_request-clause-found g c = λ stream there stands. request_found (pending g.S.ByteStream.left c.ready.new.self) (pending g.S.ByteStream.left c.read_whole_request.new.self) (Some c.in-Ok-read_whole_request.request) c.in-Ok-read_whole_request.ensures.answer stream there (c.in-Ok.ensures.stands ∙ stands)
+
+pub returns-then-is_empty-clause-long : goal.returns-then-is_empty-clause-long
+returns-then-is_empty-clause-long g c = λ stream passes stands.
+    let none : length c.ready.new.self.window ≡ 0 = search rules in
+    absurd (nothing_there c.ready.new.self.window (g.S.ByteStream.left c.ready.new.self.stream) stream none (c.in-Ok.ensures.end none) (c.in-Ok.ensures.stands ∙ stands) passes.head)
+
+pub returns-in-Err-read_whole_request-clause-long :
+    goal.returns-in-Err-read_whole_request-clause-long
+returns-in-Err-read_whole_request-clause-long g c = λ stream passes stands. c.in-Err-read_whole_request.ensures.long stream passes (c.in-Ok.ensures.stands ∙ stands)
+
+pub returns-in-Ok-read_whole_request-clause-long :
+    goal.returns-in-Ok-read_whole_request-clause-long
+returns-in-Ok-read_whole_request-clause-long g c = λ stream passes stands. c.in-Ok-read_whole_request.ensures.long stream passes (c.in-Ok.ensures.stands ∙ stands)

@@ -1,13 +1,15 @@
-use Rattle.std.proofs.Common.{rules, refl, [], ◌≡◌, ◌∙◌, ◌+◌, ◌-◌, ◌<◌, ◌≤◌, ◌++◌, append_assoc, length-append, ap, sym, subst, arith, length, List}
+use Rattle.std.proofs.Common.{rules, refl, inl, inr, [], ◌≡◌, ◌∙◌, ◌+◌, ◌-◌, ◌<◌, ◌≤◌, ◌++◌, append_assoc, length-append, ap, sym, subst, arith, length, List}
 use Rattle.std.specs.Io.KnownBytes.{prepend_known}
 use Rattle.httparse.specs.Ascii.{crlf_bytes}
 use Rattle.relay_http.specs.Forms.{Took, Fails, Begins}
 use Rattle.relay_http.specs.Forms.{Leads}
-use Rattle.relay_http.specs.Chunked.{IsLine, IsTrailer, IsChunked, IsChunkedAfter, IsDataAfter, IsLastAfter}
+use Rattle.relay_http.specs.Chunked.{IsLine, IsTrailer, IsChunked, IsChunkedAfter, IsDataAfter, IsLastAfter, IsLongChunked}
 use Rattle.relay_http.proofs.Stands.{prepend_known-append, prepend_known-nil}
 use Rattle.relay_http.proofs.Leading.{leads_none, leads_on, fails_behind, took_behind}
 use Rattle.relay_http.proofs.Passing.{stood_behind, refused_here}
 use Rattle.relay_http.proofs.Chunks.{size_leads, chunk_leads, zero_leads, begins_piece, begins_trailer, too_long}
+use Rattle.relay_http.proofs.LongBodies.{long_begins, line_taken, chunk_taken, chunk_there}
+use Rattle.relay_http.proofs.Unique.{fails_found}
 use Rattle.relay_http.proofs.buffered.Buffered.read_chunked.Goals as goal
 
 pub chunks-init : goal.chunks-init
@@ -16,6 +18,7 @@ chunks-init g c =
     record {
       few = search rules;
       front = ([], sym (prepend_known-nil _), subst (λ b. Leads (IsChunked c.args.limit) (IsChunkedAfter c.args.limit b) []) (sym nothing) (leads_none (IsChunked c.args.limit)));
+      long = λ s there stands. (s, subst (λ b. IsLongChunked c.args.limit b s) (sym nothing) there, stands);
       count = refl;
       written = refl;
     }
@@ -76,6 +79,42 @@ chunks-preserved g c =
     record {
       few = omega (arith, total, size, few, below);
       front = (front, stood_behind (f.0 ++ t.front) (d.piece ++ crlf_bytes) _ _ _ (stood_behind f.0 t.front _ _ _ f.1 t.split) d.split, subst (λ b. Leads (IsChunked c.args.limit) (IsChunkedAfter c.args.limit b) front) (sym d.appended) second);
+      long = λ s there stands.
+          let r = c.chunks.invariant.long s there stands in
+          let fits : length c.chunks.body + c.in-Ok.line.size ≤ c.args.limit = omega (arith, few, below) in
+          let q = line_taken c.args.limit c.chunks.body r.0 _ _ c.in-Ok.line.size r.1 r.2 t fits in
+          chunk_taken c.args.limit c.chunks.body _ q.0 _ _ c.in-Ok.line.size q.2 q.1 d;
       count = search rules;
       written = search rules;
     }
+
+pub returns-in-Err-clause-long : goal.returns-in-Err-clause-long
+returns-in-Err-clause-long g c = λ s there stands.
+    let r = c.chunks.invariant.long s there stands in
+    inr (fails_found IsLine _ _ c.in-Err.fault c.in-Err.ensures.answer r.0 (long_begins c.args.limit c.chunks.body r.0 r.1) r.2)
+
+pub returns-in-Err-read_piece-clause-long : goal.returns-in-Err-read_piece-clause-long
+returns-in-Err-read_piece-clause-long g c = λ s there stands.
+    let r = c.chunks.invariant.long s there stands in
+    let few = c.chunks.invariant.few in
+    let none : c.in-Ok.line.size ≡ 0 = search rules in
+    let q = line_taken c.args.limit c.chunks.body r.0 _ _ c.in-Ok.line.size r.1 r.2 c.in-Ok.ensures.answer (omega (arith, few, none)) in
+    let some = q.2.some in
+    absurd (omega (arith, some, none))
+
+pub returns-in-Ok-read_piece-clause-long : goal.returns-in-Ok-read_piece-clause-long
+returns-in-Ok-read_piece-clause-long g c = λ s there stands.
+    let r = c.chunks.invariant.long s there stands in
+    let few = c.chunks.invariant.few in
+    let none : c.in-Ok.line.size ≡ 0 = search rules in
+    let q = line_taken c.args.limit c.chunks.body r.0 _ _ c.in-Ok.line.size r.1 r.2 c.in-Ok.ensures.answer (omega (arith, few, none)) in
+    let some = q.2.some in
+    absurd (omega (arith, some, none))
+
+pub returns-in-Err-read_chunk-clause-long : goal.returns-in-Err-read_chunk-clause-long
+returns-in-Err-read_chunk-clause-long g c = λ s there stands.
+    let r = c.chunks.invariant.long s there stands in
+    let few = c.chunks.invariant.few in
+    let below : c.in-Ok.line.size ≤ c.args.limit - length c.chunks.body = search rules in
+    let q = line_taken c.args.limit c.chunks.body r.0 _ _ c.in-Ok.line.size r.1 r.2 c.in-Ok.ensures.answer (omega (arith, few, below)) in
+    inr (c.in-Err-read_chunk.ensures.whole q.0 (chunk_there c.args.limit c.chunks.body q.0 c.in-Ok.line.size q.2) q.1)

@@ -1,6 +1,6 @@
 use Rattle.std.proofs.Common.{rules, refl, [], ◌≡◌, ◌∙◌, ap, sym, subst}
 use Rattle.relay_http.specs.Framing.{request_limit}
-use Rattle.relay_http.specs.Body.{IsBody}
+use Rattle.relay_http.specs.Body.{IsBody, IsLongBody}
 use Rattle.relay_http.specs.Forms.{Took, Fails, Begins}
 use Rattle.relay_http.specs.Request.{IsRequest, IsRequestBody, IsRequestInfo}
 use Rattle.relay_http.proofs.Stands.{prepend_known-nil}
@@ -8,7 +8,7 @@ use Rattle.relay_http.proofs.Leading.{fails_behind, fails_stated, took_behind}
 use Rattle.relay_http.proofs.Messages.{begins_then, then_leads}
 use Rattle.relay_http.proofs.Passing.{refused_here}
 use Rattle.relay_http.proofs.Arrivals.{request_head_unique, request_either, request_stated, begins_request_body, request_never}
-use Rattle.relay_http.proofs.Unique.{stated_outside, stated_fault, stated_framed}
+use Rattle.relay_http.proofs.Unique.{stated_outside, stated_fault, stated_framed, framed_fault, framed_same}
 use Rattle.relay_http.proofs.buffered.Buffered.read_whole_request.Goals as goal
 
 pub returns-in-Err-clause-answer : goal.returns-in-Err-clause-answer
@@ -55,3 +55,20 @@ returns-clause-answer g c =
 pub returns-clause-stated : goal.returns-clause-stated
 returns-clause-stated g c = λ stream f states stands.
     absurd (stated_framed IsRequestInfo request_head_unique (λ i. i.framing) _ _ c.in-Ok.info c.in-Ok.ensures.answer stream states.head stands f c.in-Ok-framing.framing states.fault_is c.in-Ok-framing.is)
+
+pub returns-in-Err-clause-long : goal.returns-in-Err-clause-long
+returns-in-Err-clause-long g c = λ stream passes stands. stated_outside IsRequestInfo _ _ c.in-Err.fault _ c.in-Err.ensures.answer stream passes.head stands
+
+pub returns-in-Err-framing-clause-long : goal.returns-in-Err-framing-clause-long
+returns-in-Err-framing-clause-long g c = λ stream passes stands.
+    absurd (framed_fault IsRequestInfo request_head_unique (λ i. i.framing) _ _ c.in-Ok.info c.in-Ok.ensures.answer stream passes.head stands c.in-Err-framing.fault passes.framing passes.framed c.in-Err-framing.is)
+
+pub returns-in-Err-read_body-clause-long : goal.returns-in-Err-read_body-clause-long
+returns-in-Err-read_body-clause-long g c = λ stream passes stands.
+    let same = framed_same IsRequestInfo request_head_unique (λ i. i.framing) _ _ c.in-Ok.info c.in-Ok.ensures.answer stream passes.head stands c.in-Ok-framing.framing passes.framing passes.framed c.in-Ok-framing.is in
+    c.in-Err-read_body.ensures.long passes.head.rest (subst (λ f. IsLongBody request_limit f passes.head.rest) same.0 passes.long) same.1
+
+pub returns-clause-long : goal.returns-clause-long
+returns-clause-long g c = λ stream passes stands.
+    let same = framed_same IsRequestInfo request_head_unique (λ i. i.framing) _ _ c.in-Ok.info c.in-Ok.ensures.answer stream passes.head stands c.in-Ok-framing.framing passes.framing passes.framed c.in-Ok-framing.is in
+    c.in-Ok-read_body.ensures.long passes.head.rest (subst (λ f. IsLongBody request_limit f passes.head.rest) same.0 passes.long) same.1

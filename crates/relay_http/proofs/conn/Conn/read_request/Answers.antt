@@ -7,3 +7,6 @@ returns-clause-found g c = λ stream there whole stands. c.next_request-result.e
 
 pub returns-clause-stated : goal.returns-clause-stated
 returns-clause-stated g c = λ stream f states whole stands. c.next_request-result.ensures.stated stream f states (ap ahead c.self.view_is ∙ stands)
+
+pub returns-clause-long : goal.returns-clause-long
+returns-clause-long g c = λ stream passes whole stands. c.next_request-result.ensures.long stream passes (ap ahead c.self.view_is ∙ stands)
