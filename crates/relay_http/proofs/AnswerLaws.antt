@@ -1,17 +1,13 @@
 -- The answer that is written is a reply, and no such is a proper prefix of another.
-use Rattle.std.proofs.Common.{◌≡◌, ◌≢◌, ℕ, zero, suc, ◌+◌, ◌<◌, ◌≤◌, ◌^◌, Bool, true, false, not, ◌&&◌, ◌||◌, cond, eqb, List, [], ◌∷◌, ◌++◌, map, length, refl, ap, ◌∙◌, sym, subst, arith, codes, Result, Ok, Err, append-nil, length-append}
-use Rattle.std.specs.Prelude.{nat_lt, nat_le, ◌==◌}
-use Rattle.std.specs.List.{list_all, list_any}
+use Rattle.std.proofs.Common.{◌≡◌, ℕ, ◌<◌, ◌≤◌, ◌^◌, Bool, true, false, List, [], ◌∷◌, ◌++◌, map, refl, ap, ◌∙◌, sym, arith, Ok, append-nil}
 use Rattle.std.specs.Fmt.{decimal}
 use Rattle.std.proofs.lemmas.Bool.{false≢true}
-use Rattle.std.proofs.lemmas.Bool.Decides.{nat_tests}
 use Rattle.httparse.specs.Spans.{name_and_value}
-use Rattle.httparse.specs.Grammar.{ResponseHead, Field, trim_ows}
-use Rattle.relay_http.specs.WrittenAnswer.{answer_text, answer_tree, reason_of, json_field, size_field, close_fields}
-use Rattle.relay_http.specs.Fields.{Header, same_word, has_field, values_named, elements_named, elements}
+use Rattle.httparse.specs.Grammar.{trim_ows}
+use Rattle.relay_http.specs.WrittenAnswer.{json_field, size_field, close_fields}
+use Rattle.relay_http.specs.Fields.{same_word, elements}
 use Rattle.relay_http.specs.Forms.{Form, Begins, IsUnique}
-use Rattle.relay_http.specs.Framing.{framing_of_fields, framing_of_request, sized, keeps, reply_limit}
-use Rattle.relay_http.specs.declared.fault.HttpFault.{HttpFault}
+use Rattle.relay_http.specs.Framing.{framing_of_fields, framing_of_request, sized}
 use Rattle.relay_http.specs.declared.framing.Framing.{Framing}
 use Rattle.relay_http.specs.declared.framing.Framing.TheVariants as framing
 use Rattle.relay_http.specs.WrittenRequest.{host_field, type_field, length_field}

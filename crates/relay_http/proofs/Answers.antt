@@ -1,10 +1,9 @@
 -- The answer that is written is a reply.
-use Rattle.std.proofs.Common.{◌≡◌, ℕ, ◌+◌, ◌<◌, ◌≤◌, Bool, true, false, List, [], ◌∷◌, ◌++◌, refl, ap, ◌∙◌, sym, append_assoc, append-nil, codes, Some}
+use Rattle.std.proofs.Common.{◌≡◌, ℕ, Bool, true, false, List, [], ◌∷◌, ◌++◌, refl, ap, ◌∙◌, append_assoc, codes, Some}
 use Rattle.std.specs.List.{flat_map}
 use Rattle.httparse.specs.Ascii.{crlf_bytes}
-use Rattle.httparse.specs.Grammar.{ResponseHead, print_response, Field, print_field, crlf}
+use Rattle.httparse.specs.Grammar.{print_response, Field, print_field, crlf}
 use Rattle.httparse.proofs.OnLiterals.{httparse_on_literals}
-use Rattle.httparse.proofs.GrammarLemmas.{cons-append}
 use Rattle.relay_http.specs.WrittenAnswer.{answer_text, answer_tree, json_field, size_field, close_fields, ending}
 
 pub answer_joined : (status reason digits e t1 t2 t3 t4 t5 t6 t7 : List ℕ) (keep : Bool)

@@ -1,19 +1,18 @@
 -- Requests at the front of what stands.
-use Rattle.std.proofs.Common.{◌≡◌, ℕ, suc, zero, ◌+◌, ◌-◌, ◌<◌, ◌≤◌, Bool, true, false, ◌&&◌, List, [], ◌∷◌, ◌++◌, length, take, drop, map, refl, ap, ◌∙◌, sym, subst, arith, append_assoc, length-append, append-nil, Option, Some, None, Result, Ok, Err, MatchResult, inl, inr}
-use Rattle.std.proofs.lemmas.Bool.{false≢true}
+use Rattle.std.proofs.Common.{◌≡◌, ℕ, ◌<◌, ◌≤◌, Bool, false, ◌&&◌, List, [], ◌∷◌, ◌++◌, length, take, drop, map, refl, ap, ◌∙◌, sym, subst, arith, length-append, Option, Some, None, Result, Ok, Err}
 use Rattle.std.proofs.lemmas.Grind.{common_steps}
-use Rattle.std.proofs.lemmas.List.{take_at}
 use Rattle.std.specs.Io.KnownBytes.{IsAtEnd, prepend_known}
 use Rattle.std.specs.Prelude.{codes, bytes_eq}
-use Rattle.httparse.specs.Grammar.{Field, RequestHead, print_request, print_blank, print_version, print_end, print_section, HasNoRequest}
-use Rattle.httparse.specs.Spans.{header_bytes, name_and_value, AreFieldsAt, IsRequestAt, span_bytes}
+use Rattle.httparse.specs.Grammar.{RequestHead, print_request, print_blank, print_version, print_end, print_section, HasNoRequest}
+use Rattle.httparse.specs.Spans.{header_bytes, IsRequestAt, span_bytes}
 use Rattle.httparse.specs.declared.spans.HeaderSpan.{HeaderSpan}
 use Rattle.httparse.specs.declared.spans.RequestSpans.{RequestSpans}
 use Rattle.httparse.proofs.GrammarLemmas.{request_unique}
 use Rattle.relay_http.specs.Framing.{request_limit, framing_of_request, keeps}
-use Rattle.relay_http.specs.Forms.{Form, Begins, Gives, IsUnique, IsStated, Took}
+use Rattle.relay_http.specs.Forms.{Begins, IsUnique}
+use Rattle.relay_http.proofs.Leading.{IsStated}
 use Rattle.relay_http.specs.Body.{IsBody}
-use Rattle.relay_http.specs.Request.{TookRequest, IsFound, request_view, FitsRequest, request_headers, is_bulk, request_info, IsRequestInfo, Request, IsRequest, IsRequestBody}
+use Rattle.relay_http.specs.Request.{TookRequest, IsFound, request_view, request_headers, request_info, IsRequestInfo, Request, IsRequest, IsRequestBody}
 use Rattle.relay_http.specs.declared.fault.HttpFault.{HttpFault}
 use Rattle.relay_http.specs.declared.framing.Framing.{Framing}
 use Rattle.relay_http.specs.declared.framing.Framing.TheVariants as framing

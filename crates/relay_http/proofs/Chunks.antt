@@ -1,18 +1,19 @@
 -- A chunked body behind a size line.
-use Rattle.std.proofs.Common.{◌≡◌, ℕ, ◌+◌, ◌-◌, ◌<◌, ◌≤◌, Bool, true, false, List, [], ◌∷◌, ◌++◌, length, flat_map, refl, ap, ◌∙◌, sym, subst, arith, append_assoc, append-nil, length-append, take, drop, Option, suc, zero, ◌⊎◌, inl, inr}
+use Rattle.std.proofs.Common.{◌≡◌, ℕ, ◌+◌, ◌<◌, ◌≤◌, Bool, true, false, List, [], ◌∷◌, ◌++◌, length, flat_map, refl, ap, ◌∙◌, sym, subst, arith, append_assoc, append-nil, length-append, take, drop, suc, zero, ◌⊎◌, inl, inr}
 use Rattle.std.proofs.lemmas.List.{take_at, drop_at}
 use Rattle.std.proofs.lemmas.Bool.{false≢true}
-use Rattle.std.specs.Io.KnownBytes.{prepend_known}
 use Rattle.httparse.proofs.GrammarLemmas.{section_unique}
-use Rattle.relay_http.specs.Forms.{IsUnique, Took}
+use Rattle.relay_http.specs.Forms.{IsUnique}
 use Rattle.relay_http.specs.Body.{IsSized}
-use Rattle.relay_http.proofs.Leading.{moved, joined, took_behind}
+use Rattle.relay_http.proofs.Leading.{moved, joined}
 use Rattle.std.specs.List.{AllByRecursion}
 use Rattle.httparse.specs.Ascii.{crlf_bytes}
 use Rattle.httparse.specs.Grammar.{ChunkLine, print_chunk_line, chunk_size}
 use Rattle.httparse.proofs.ChunkLemmas.{chunk_line_unique}
-use Rattle.relay_http.specs.Forms.{Form, Begins, Gives, Leads}
-use Rattle.relay_http.specs.Chunked.{FitsLine, IsSizeLine, IsLine, Chunk, IsChunk, print_chunk, IsTrailer, IsTrailerText, IsCrlf, IsChunked, IsChunkedAfter, IsDataAfter, IsLastAfter, TookChunk}
+use Rattle.relay_http.specs.Forms.{Begins, Gives}
+use Rattle.relay_http.proofs.Leading.{Leads}
+use Rattle.relay_http.specs.Steps.{IsLine, IsTrailer, IsCrlf, IsDataAfter, IsLastAfter}
+use Rattle.relay_http.specs.Chunked.{FitsLine, IsSizeLine, Chunk, IsChunk, print_chunk, IsTrailerText, IsChunkedAfter}
 
 pub first_line : (t s : List ℕ) (l k : ChunkLine) (rest : List ℕ) → FitsLine l → FitsLine k → t ≡ print_chunk_line l → t ++ s ≡ print_chunk_line k ++ rest → (l ≡ k) × (s ≡ rest)
 first_line t s l k rest fl fk e f = chunk_line_unique (t ++ s) l k s rest (fl.grammar, ap (λ w. w ++ s) e) (fk.grammar, f)

@@ -1,13 +1,13 @@
 -- Elements of values, and what one more field adds.
-use Rattle.std.proofs.Common.{◌≡◌, ◌≢◌, ℕ, zero, suc, ◌+◌, ◌*◌, ◌-◌, ◌<◌, ◌≤◌, ◌^◌, Bool, true, false, not, cond, ◌&&◌, ◌||◌, List, [], ◌∷◌, ◌++◌, map, length, get_or, take, drop, sym, refl, ap, ◌∙◌, arith, subst, Option, Some, None}
+use Rattle.std.proofs.Common.{◌≡◌, ◌≢◌, ℕ, zero, suc, ◌+◌, ◌*◌, ◌<◌, ◌≤◌, Bool, true, false, cond, ◌&&◌, ◌||◌, List, [], ◌∷◌, ◌++◌, map, length, get_or, take, drop, sym, refl, ap, ◌∙◌, arith}
 use Rattle.std.specs.Prelude.{codes, bytes_eq, IsTrue, ◌↔◌}
-use Rattle.std.specs.List.{list_all, list_any, flat_map}
+use Rattle.std.specs.List.{list_all, list_any}
 use Rattle.std.specs.Char.{digit_value}
 use Rattle.std.specs.Str.Parse.{digits_value_after, digits_value}
 use Rattle.std.proofs.Math.Nat.{mul-le-mul_left}
-use Rattle.std.proofs.lemmas.List.{append-nil, length-append, take_more, take-append-drop}
+use Rattle.std.proofs.lemmas.List.{append-nil, take_more, take-append-drop}
 use Rattle.std.proofs.lemmas.Grind.{flat_map-append}
-use Rattle.std.proofs.lemmas.Bool.{and_left, and_right, and_from, eq-eqb, ne_eqb}
+use Rattle.std.proofs.lemmas.Bool.{and_left, and_right, eq-eqb, ne_eqb}
 use Rattle.std.proofs.lemmas.Bool.{false≢true}
 use Rattle.std.proofs.lemmas.Slice.Eq.{bytes_eq-Decides}
 use Rattle.std.specs.Bool.{Decides}
@@ -22,7 +22,7 @@ use Rattle.relay_http.specs.declared.framing.Framing.{Framing}
 use Rattle.relay_http.specs.declared.framing.Framing.TheVariants as framing
 use Rattle.relay_http.specs.Fields.{Header, same_word, has_field, values_named, elements_named, elements, pieces, in_front, agrees}
 use Rattle.relay_http.specs.Codings.{coding_of, next_coding}
-use Rattle.relay_http.specs.Framing.{is_chunked, is_plain}
+use Rattle.relay_http.specs.Framing.{is_chunked}
 use Rattle.relay_http.specs.declared.fields.Coding.{Coding}
 use Rattle.relay_http.specs.declared.fields.Coding.TheVariants as coding
 

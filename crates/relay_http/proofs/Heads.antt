@@ -1,14 +1,14 @@
 -- What httparse answers is what the head says.
-use Rattle.std.proofs.Common.{◌≡◌, ℕ, ◌≤◌, min, Bool, false, List, ◌++◌, length, take, drop, map, refl, ap, ◌∙◌, sym, arith, Result}
+use Rattle.std.proofs.Common.{◌≡◌, ℕ, ◌≤◌, Bool, false, List, ◌++◌, length, take, drop, map, refl, ap, ◌∙◌, sym, arith, Result}
 use Rattle.std.proofs.lemmas.List.{take_at, length-take, length-map}
-use Rattle.httparse.specs.Grammar.{Field, ResponseHead, print_response, status_code, HasNoResponse}
+use Rattle.httparse.specs.Grammar.{Field, ResponseHead, print_response, HasNoResponse}
 use Rattle.httparse.specs.Spans.{header_bytes, name_and_value, AreFieldsAt, IsResponseAt}
 use Rattle.httparse.specs.declared.spans.HeaderSpan.{HeaderSpan}
 use Rattle.httparse.specs.declared.spans.ResponseSpans.{ResponseSpans}
 use Rattle.relay_http.specs.Framing.{framing_of, keeps}
 use Rattle.relay_http.proofs.Stands.{IsShort, full_never}
 use Rattle.relay_http.specs.Forms.{Begins}
-use Rattle.relay_http.specs.Reply.{FitsHead, headers, info_of, IsHead}
+use Rattle.relay_http.specs.Reply.{info_of, IsHead}
 use Rattle.relay_http.specs.declared.fault.HttpFault.{HttpFault}
 use Rattle.relay_http.specs.declared.framing.Framing.{Framing}
 use Rattle.relay_http.specs.declared.head.HeadInfo.{HeadInfo}

@@ -1,10 +1,19 @@
 -- Messages behind a front that was read.
-use Rattle.std.proofs.Common.{◌≡◌, ℕ, ◌+◌, ◌-◌, ◌<◌, ◌≤◌, Bool, true, false, List, [], ◌∷◌, ◌++◌, length, refl, ap, ◌∙◌, sym, subst, arith, append_assoc, Option, inl, inr, ◌⊎◌}
+use Rattle.std.proofs.Common.{◌≡◌, ℕ, Bool, List, [], ◌++◌, refl, ap, ◌∙◌, sym, subst, append_assoc, Option, inl, inr, ◌⊎◌}
 use Rattle.std.specs.Io.KnownBytes.{prepend_known}
-use Rattle.relay_http.specs.Forms.{Form, Begins, Gives, Leads, IsStated, Took, Stopped, Refused, Fails}
+use Rattle.relay_http.specs.Forms.{Form, Begins, Gives, Took, Stopped, Refused, Fails}
 use Rattle.relay_http.specs.declared.fault.HttpFault.{HttpFault}
 use Rattle.relay_http.specs.declared.fault.HttpFault.TheVariants as fault
 use Rattle.relay_http.proofs.Stands.{prepend_known-append}
+
+-- after the front, what makes an M is an N, and nothing else
+pub record Leads {A : Type 0} (M N : Form A) (front : List ℕ) : Type 0 where
+  pub peel : (stream : List ℕ) (b : Begins M (front ++ stream)) → (c : Begins N stream) × Gives b.value b.rest c
+  pub build : (bytes : List ℕ) (ends : Bool) (value : A) → N bytes ends value → M (front ++ bytes) ends value
+
+-- a fault that a head gives
+abbrev pub IsStated : HttpFault → Type 0
+IsStated f = (f ≡ fault.Malformed) ⊎ ((f ≡ fault.BodyLong) ⊎ ((f ≡ fault.CodedBody) ⊎ ((f ≡ fault.BothLengths) ⊎ (f ≡ fault.TooManyInterim))))
 
 -- a message at the front of the same bytes
 abbrev pub moved : {A : Type 0} {M : Form A} {s t : List ℕ} → s ≡ t → Begins M s → Begins M t

@@ -1,13 +1,14 @@
 -- Bodies that pass their limit.
-use Rattle.std.proofs.Common.{◌≡◌, ℕ, ◌+◌, ◌-◌, ◌<◌, ◌≤◌, Bool, true, false, List, [], ◌∷◌, ◌++◌, length, flat_map, refl, ap, ◌∙◌, sym, subst, arith, append_assoc, append-nil, length-append, Option, Some, None}
+use Rattle.std.proofs.Common.{◌≡◌, ℕ, ◌+◌, ◌<◌, ◌≤◌, Bool, false, List, [], ◌∷◌, ◌++◌, length, flat_map, refl, ap, ◌∙◌, sym, subst, arith, append_assoc, length-append, Option, Some}
 use Rattle.std.proofs.lemmas.Bool.{false≢true}
 use Rattle.std.specs.List.{AllByRecursion}
 use Rattle.std.specs.Io.KnownBytes.{IsAtEnd, prepend_known}
 use Rattle.httparse.specs.Ascii.{crlf_bytes}
 use Rattle.httparse.specs.Grammar.{ChunkLine, print_chunk_line, chunk_size}
 use Rattle.relay_http.specs.Forms.{Begins, Took}
-use Rattle.relay_http.specs.Body.{IsSized, IsLongRest, Moved}
-use Rattle.relay_http.specs.Chunked.{FitsLine, IsSizeLine, IsLine, Chunk, IsChunk, print_chunk, IsChunkThere, IsCrlf, IsLongChunked, TookChunk}
+use Rattle.relay_http.specs.Body.{IsSized, IsLongRest}
+use Rattle.relay_http.specs.Steps.{Moved, IsLine, IsChunkThere, IsCrlf, TookChunk}
+use Rattle.relay_http.specs.Chunked.{FitsLine, IsSizeLine, Chunk, IsChunk, print_chunk, IsLongChunked}
 use Rattle.relay_http.proofs.Chunks.{first_line, same_front}
 use Rattle.relay_http.proofs.Stands.{no_bytes, prepend_known-nil}
 use Rattle.relay_http.proofs.Unique.{shown}

@@ -1,7 +1,8 @@
 -- A head, and what follows it.
-use Rattle.std.proofs.Common.{◌≡◌, ℕ, Bool, true, false, List, [], ◌++◌, refl, ap, ◌∙◌, sym, subst, append_assoc}
+use Rattle.std.proofs.Common.{ℕ, false, List, ◌++◌, refl, ap, ◌∙◌, sym, subst, append_assoc}
 use Rattle.std.proofs.lemmas.Bool.{false≢true}
-use Rattle.relay_http.specs.Forms.{Form, Begins, Gives, IsUnique, IsHeadThen, Leads}
+use Rattle.relay_http.specs.Forms.{Form, Begins, IsUnique, IsHeadThen}
+use Rattle.relay_http.proofs.Leading.{Leads}
 use Rattle.relay_http.proofs.Leading.{moved, joined}
 
 -- the head that a message has at the front of a stream

@@ -1,7 +1,8 @@
 -- Steps past the heads of a reply.
-use Rattle.std.proofs.Common.{◌≡◌, ℕ, ◌+◌, ◌-◌, ◌<◌, ◌≤◌, Bool, true, false, List, [], ◌∷◌, ◌++◌, refl, ap, ◌∙◌, sym, subst, arith, append_assoc, Option}
+use Rattle.std.proofs.Common.{◌≡◌, ℕ, ◌+◌, ◌-◌, ◌<◌, List, ◌++◌, ap, ◌∙◌, sym, subst, arith, append_assoc, Option}
 use Rattle.std.specs.Io.KnownBytes.{prepend_known}
-use Rattle.relay_http.specs.Forms.{Form, Begins, Leads, Refused}
+use Rattle.relay_http.specs.Forms.{Form, Begins, Refused}
+use Rattle.relay_http.proofs.Leading.{Leads}
 use Rattle.relay_http.specs.Reply.{IsHeads, IsHeadsWith}
 use Rattle.relay_http.proofs.Stands.{prepend_known-append}
 

@@ -1,5 +1,5 @@
 -- The heads of a reply, and what they state.
-use Rattle.std.proofs.Common.{◌≡◌, ℕ, zero, suc, ◌+◌, ◌-◌, ◌<◌, ◌≤◌, Bool, true, false, not, ◌&&◌, ◌||◌, List, [], ◌∷◌, ◌++◌, length, flat_map, refl, ap, ◌∙◌, sym, subst, arith, append_assoc, Option, inl, inr, ◌⊎◌, Result, Ok, Err, cond, nat_lt, nat_le, ◌==◌, codes}
+use Rattle.std.proofs.Common.{◌≡◌, ℕ, zero, suc, ◌-◌, ◌<◌, ◌≤◌, Bool, true, false, not, ◌&&◌, ◌||◌, List, [], ◌∷◌, ◌++◌, length, flat_map, refl, ap, ◌∙◌, sym, subst, arith, append_assoc, inl, inr, ◌⊎◌, Result, Ok, Err, cond, nat_lt, nat_le, ◌==◌, codes}
 use Rattle.std.proofs.lemmas.Bool.{false≢true}
 use Rattle.std.specs.List.{AllByRecursion, list_all}
 use Rattle.httparse.specs.Grammar.{ResponseHead, print_response, status_code}
@@ -7,7 +7,8 @@ use Rattle.httparse.proofs.GrammarLemmas.{response_unique}
 use Rattle.relay_http.specs.Fields.{Header, has_field, values_named, elements_named, agrees, number}
 use Rattle.relay_http.specs.Framing.{framing_of, framing_of_fields, is_chunked, is_interim, is_plain, sized, is_to_end, reply_limit}
 use Rattle.relay_http.specs.Body.{IsBody}
-use Rattle.relay_http.specs.Forms.{Form, Begins, Gives, IsUnique, IsStated, Leads}
+use Rattle.relay_http.specs.Forms.{Form, Begins, Gives, IsUnique}
+use Rattle.relay_http.proofs.Leading.{IsStated, Leads}
 use Rattle.relay_http.specs.Reply.{FitsHead, headers, info_of, IsHead, IsInterim, IsHeadsWith, IsHeads, Reply, IsReply, IsReplyBody}
 use Rattle.relay_http.specs.declared.fault.HttpFault.{HttpFault}
 use Rattle.relay_http.specs.declared.fault.HttpFault.TheVariants as fault

@@ -1,5 +1,5 @@
 -- The request that is written is one of the grammar.
-use Rattle.std.proofs.Common.{◌≡◌, ℕ, ◌+◌, ◌<◌, ◌≤◌, ◌^◌, Bool, true, false, ◌&&◌, List, [], ◌∷◌, ◌++◌, length, map, IsTrue, rules, refl, ap, ◌∙◌, sym, arith, append_assoc, codes, append-nil, drop, length-append}
+use Rattle.std.proofs.Common.{◌≡◌, ℕ, ◌<◌, ◌^◌, Bool, true, false, ◌&&◌, List, [], ◌∷◌, ◌++◌, length, IsTrue, rules, refl, ap, ◌∙◌, sym, arith, append_assoc, codes, append-nil, drop, length-append}
 use Rattle.std.proofs.lemmas.Bool.{false≢true}
 use Rattle.httparse.specs.Grammar.{crlf, RequestHead, Field, IsRequestHead, print_request, IsField, AllPass, is_value_byte, is_token_byte, is_uri_byte}
 use Rattle.std.specs.List.{list_all}
@@ -8,7 +8,7 @@ use Rattle.std.specs.Prelude.{IsAscii, nat_lt, slice_index}
 use Rattle.std.proofs.lemmas.Grind.{common_steps}
 use Rattle.std.proofs.lemmas.List.Elements.{All-cons, All-nil}
 use Rattle.httparse.proofs.OnLiterals.{httparse_on_literals}
-use Rattle.httparse.proofs.GrammarLemmas.{cons-append, request_unique}
+use Rattle.httparse.proofs.GrammarLemmas.{request_unique}
 use Rattle.std.specs.Fmt.{decimal}
 use Rattle.std.proofs.lemmas.Fmt.{decimal_injective}
 use Rattle.httparse.specs.Ascii.{crlf_bytes}

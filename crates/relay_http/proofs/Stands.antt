@@ -1,13 +1,12 @@
 -- Messages at the front of what stands.
-use Rattle.std.proofs.Common.{◌≡◌, ◌≢◌, ℕ, ◌+◌, ◌-◌, ◌<◌, ◌≤◌, min, Bool, true, false, List, [], ◌∷◌, ◌++◌, length, take, drop, refl, ap, ◌∙◌, sym, subst, arith, Option, Some, None, append_assoc, Result, Ok, Err, inl, inr, ◌⊎◌}
+use Rattle.std.proofs.Common.{◌≡◌, ℕ, ◌<◌, ◌≤◌, min, Bool, false, List, [], ◌∷◌, ◌++◌, length, take, drop, refl, ap, ◌∙◌, sym, subst, arith, Option, Some, None, append_assoc, inl, inr, ◌⊎◌}
 use Rattle.std.proofs.lemmas.Grind.{common_steps}
-use Rattle.std.proofs.lemmas.List.{take_at, drop_at, take-append-drop, take-append-le, drop-append-le, length-take-le, drop_all}
+use Rattle.std.proofs.lemmas.List.{take_at, take-append-drop, take-append-le, length-take-le, drop_all}
 use Rattle.std.proofs.lemmas.Bool.{false≢true}
 use Rattle.std.specs.Io.KnownBytes.{IsAtEnd}
 use Rattle.std.specs.Io.KnownBytes.{prepend_known}
-use Rattle.relay_http.specs.Window.{Grown}
-use Rattle.relay_http.specs.Body.{Moved}
-use Rattle.relay_http.specs.Forms.{Form, Begins, Took, Stopped, Refused, Fails, Answers, Finds}
+use Rattle.relay_http.specs.Steps.{Grown, Moved}
+use Rattle.relay_http.specs.Forms.{Form, Begins, Took, Stopped, Fails}
 use Rattle.relay_http.specs.declared.fault.HttpFault.{HttpFault}
 use Rattle.relay_http.specs.declared.fault.HttpFault.TheVariants as fault
 

@@ -1,8 +1,8 @@
 -- Trailers at the front of a buffer.
-use Rattle.std.proofs.Common.{◌≡◌, ℕ, ◌≤◌, Bool, false, List, ◌++◌, length, refl, ap, ◌∙◌}
+use Rattle.std.proofs.Common.{ℕ, ◌≤◌, List, ◌++◌, length, ap, ◌∙◌}
 use Rattle.httparse.specs.Grammar.{HasNoSection}
-use Rattle.relay_http.specs.Forms.{Form, Begins}
-use Rattle.relay_http.specs.Chunked.{IsTrailer}
+use Rattle.relay_http.specs.Forms.{Begins}
+use Rattle.relay_http.specs.Steps.{IsTrailer}
 use Rattle.relay_http.proofs.Stands.{IsShort, full_never}
 
 trailer_short : {A : Type 0} → IsShort {A = A} 16384 IsTrailer

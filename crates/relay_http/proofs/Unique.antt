@@ -1,15 +1,14 @@
 -- A stream begins with one body at most, and what stands there is what is answered.
-use Rattle.std.proofs.Common.{◌≡◌, ℕ, zero, suc, ◌+◌, ◌-◌, ◌<◌, ◌≤◌, Bool, true, false, not, ◌&&◌, ◌⊎◌, List, [], ◌∷◌, ◌++◌, length, take, drop, refl, ap, ◌∙◌, sym, subst, arith, append_assoc, append-nil, Option, Some, None, inl, inr, Result, Ok, Err, MatchResult}
-use Rattle.std.proofs.lemmas.List.{take_at, drop_at}
+use Rattle.std.proofs.Common.{◌≡◌, ℕ, List, [], ◌++◌, refl, ap, ◌∙◌, sym, subst, append-nil, Option, Some, None, inl, inr, Result, Ok, Err}
 use Rattle.std.specs.Io.KnownBytes.{IsAtEnd}
 use Rattle.std.specs.Io.KnownBytes.{prepend_known}
-use Rattle.relay_http.specs.Forms.{Form, Begins, Gives, IsUnique, Took, Fails, Stopped, Refused, IsOutside, IsThatOrOutside}
+use Rattle.relay_http.specs.Forms.{Form, Begins, IsUnique, Took, Fails, Stopped, Refused, IsOutside, IsThatOrOutside}
 use Rattle.relay_http.specs.Body.{IsSized, IsRest, IsBody}
 use Rattle.relay_http.specs.declared.fault.HttpFault.{HttpFault}
 use Rattle.relay_http.specs.declared.fault.HttpFault.TheVariants as fault
 use Rattle.relay_http.specs.declared.framing.Framing.{Framing}
 use Rattle.relay_http.specs.declared.framing.Framing.TheVariants as framing
-use Rattle.relay_http.proofs.Leading.{moved, joined}
+use Rattle.relay_http.proofs.Leading.{moved}
 use Rattle.relay_http.proofs.Chunks.{same_front, chunked_unique}
 
 -- ---- bodies

@@ -1,6 +1,6 @@
 -- The answer that is written is a reply.
-use Rattle.std.proofs.Common.{◌≡◌, ◌≢◌, ℕ, ◌+◌, ◌<◌, ◌≤◌, ◌^◌, ◌/◌, ◌%◌, Bool, true, false, not, ◌&&◌, ◌||◌, cond, eqb, List, [], ◌∷◌, ◌++◌, map, length, refl, ap, ◌∙◌, sym, arith, length-append, codes, Result, Ok, Err}
-use Rattle.std.specs.Prelude.{nat_lt, nat_le, ◌==◌, All}
+use Rattle.std.proofs.Common.{◌≡◌, ◌≢◌, ℕ, ◌+◌, ◌<◌, ◌≤◌, ◌^◌, ◌/◌, ◌%◌, Bool, true, false, ◌&&◌, ◌||◌, cond, List, [], ◌∷◌, ◌++◌, length, refl, ap, ◌∙◌, sym, arith, codes, Result, Ok, Err}
+use Rattle.std.specs.Prelude.{nat_lt, ◌==◌, All}
 use Rattle.std.specs.List.{list_all}
 use Rattle.std.specs.Fmt.{decimal}
 use Rattle.std.specs.Char.{is_ascii_digit}
@@ -10,9 +10,9 @@ use Rattle.std.proofs.lemmas.Fmt.{length-decimal-le, decimal_step, decimal_digit
 use Rattle.std.proofs.lemmas.Grind.{common_steps}
 use Rattle.std.proofs.lemmas.List.Elements.{All-cons, All-nil}
 use Rattle.httparse.proofs.OnLiterals.{httparse_on_literals}
-use Rattle.httparse.specs.Grammar.{is_value_byte, is_token_byte, IsField, IsResponseHead, Field, crlf, AllPass, status_code, print_response, trim_ows}
-use Rattle.relay_http.specs.WrittenAnswer.{IsAnswerStatus, answer, answer_text, answer_tree, reason_of, json_field, size_field, close_fields, ending}
-use Rattle.relay_http.specs.Reply.{IsReply, Reply, headers, info_of}
+use Rattle.httparse.specs.Grammar.{is_value_byte, is_token_byte, IsField, crlf, status_code, trim_ows}
+use Rattle.relay_http.specs.WrittenAnswer.{IsAnswerStatus, answer, answer_text, answer_tree, reason_of, json_field, size_field, close_fields}
+use Rattle.relay_http.specs.Reply.{IsReply, headers, info_of}
 use Rattle.relay_http.specs.Framing.{framing_of, framing_of_fields, is_interim, keeps, reply_limit}
 use Rattle.relay_http.specs.Fields.{Header, same_word, elements}
 use Rattle.relay_http.specs.declared.fault.HttpFault.{HttpFault}

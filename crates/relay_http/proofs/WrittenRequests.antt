@@ -1,5 +1,5 @@
 -- The request that is written is a request.
-use Rattle.std.proofs.Common.{◌≡◌, ℕ, ◌+◌, ◌<◌, ◌≤◌, ◌^◌, Bool, true, false, List, [], ◌∷◌, ◌++◌, length, refl, ap, ◌∙◌, sym, arith, length-append, ◌&&◌, nat_lt, nat_le}
+use Rattle.std.proofs.Common.{◌≡◌, ℕ, ◌<◌, ◌≤◌, ◌^◌, true, false, List, [], ◌∷◌, length, refl, ap, sym, arith, ◌&&◌, nat_lt, nat_le}
 use Rattle.std.specs.List.{list_all}
 use Rattle.std.specs.Fmt.{decimal}
 use Rattle.std.proofs.lemmas.Bool.{and_from}
@@ -8,7 +8,7 @@ use Rattle.std.proofs.lemmas.Fmt.{length-decimal-le}
 use Rattle.std.proofs.lemmas.Grind.{common_steps}
 use Rattle.httparse.specs.Grammar.{is_value_byte}
 use Rattle.relay_http.specs.WrittenRequest.{head_text, written_head, is_visible, is_host, request}
-use Rattle.relay_http.specs.Request.{IsRequest, Request, is_bulk, request_headers, request_info}
+use Rattle.relay_http.specs.Request.{IsRequest, request_headers, request_info}
 use Rattle.relay_http.specs.Framing.{keeps}
 use Rattle.relay_http.specs.Fields.{same_word}
 use Rattle.relay_http.specs.declared.framing.Framing.TheVariants as framing

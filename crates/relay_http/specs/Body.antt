@@ -1,11 +1,7 @@
 -- The body of a message (RFC 9112, section 6).
-use Rattle.std.specs.Prelude.{◌≡◌, ℕ, ◌<◌, ◌≤◌, ◌⊎◌, Bool, true, false, List, [], ◌∷◌, ◌++◌, length, flat_map, Option}
-use Rattle.std.specs.Io.KnownBytes.{IsAtEnd}
-use Rattle.std.specs.Io.KnownBytes.{prepend_known}
+use Rattle.std.specs.Prelude.{◌≡◌, ℕ, ◌<◌, ◌≤◌, Bool, true, List, [], length}
 use Rattle.relay_http.specs.Chunked.{IsChunked, IsLongChunked}
 use Rattle.relay_http.specs.Forms.{Form}
-use Rattle.relay_http.specs.declared.fault.HttpFault.{HttpFault}
-use Rattle.relay_http.specs.declared.fault.HttpFault.TheVariants as fault
 use Rattle.relay_http.specs.declared.framing.Framing.{Framing}
 use Rattle.relay_http.specs.declared.framing.Framing.TheVariants.{Absent, Sized, Chunked, ToEnd}
 
@@ -37,19 +33,3 @@ IsLongBody limit Absent stream = ⊥
 IsLongBody limit (Sized n) stream = ⊥
 IsLongBody limit Chunked stream = IsLongChunked limit [] stream
 IsLongBody limit ToEnd stream = IsLongRest limit stream
-
--- so many bytes went from the front of what stood to the end of a list
-pub record TookData (size : ℕ) (old new : Option (List ℕ)) (before after : List ℕ) : Type 0 where
-  pub piece : List ℕ
-  pub length_is : length piece ≡ size
-  pub split : old ≡ prepend_known piece new
-  pub appended : after ≡ before ++ piece
-
--- some bytes went from the front of what stood to the end of a list, and none only at the end of the stream
-pub record Moved (old new left : Option (List ℕ)) (before after : List ℕ) (most n : ℕ) : Type 0 where
-  pub bytes : List ℕ
-  pub length_is : length bytes ≡ n
-  pub bound : n ≤ most
-  pub split : old ≡ prepend_known bytes new
-  pub appended : after ≡ before ++ bytes
-  pub end : n ≡ 0 → (new ≡ left) × IsAtEnd left

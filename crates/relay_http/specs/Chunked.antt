@@ -1,9 +1,7 @@
 -- A chunked body (RFC 9112, section 7.1).
-use Rattle.std.specs.Prelude.{◌≡◌, ℕ, ◌+◌, ◌<◌, ◌≤◌, Bool, List, [], ◌∷◌, ◌++◌, length, flat_map, All, Option}
-use Rattle.std.specs.Io.KnownBytes.{prepend_known}
+use Rattle.std.specs.Prelude.{◌≡◌, ℕ, ◌+◌, ◌<◌, ◌≤◌, Bool, List, [], ◌++◌, length, flat_map, All}
 use Rattle.std.specs.List.{AllByRecursion}
 use Rattle.relay_http.specs.Forms.{Form}
-use Rattle.relay_http.specs.declared.chunk.SizeLine.{SizeLine}
 use Rattle.httparse.specs.Ascii.{crlf_bytes}
 use Rattle.httparse.specs.Grammar.{ChunkLine, IsChunkLine, print_chunk_line, chunk_size, Field, IsField, LineEnd, print_section}
 
@@ -27,10 +25,6 @@ pub record IsSizeLine (bytes : List ℕ) (ends : Bool) (size : ℕ) : Type 0 whe
   pub fits : FitsLine line
   pub bytes_are : bytes ≡ print_chunk_line line
   pub size_is : size ≡ chunk_size line
-
--- the same as what a search for it finds
-abbrev pub IsLine : Form SizeLine
-IsLine bytes ends line = IsSizeLine bytes ends line.size
 
 -- a size line, that many bytes, and CRLF
 pub record Chunk : Type 0 where
@@ -67,14 +61,6 @@ pub record IsChunkedAfter (limit : ℕ) (before : List ℕ) (bytes : List ℕ) (
   pub size : length content ≤ limit
   pub bytes_are : bytes ≡ flat_map print_chunk chunks ++ (print_chunk_line zero_line ++ trailer)
 
--- the end of a chunk
-abbrev pub IsCrlf : {A : Type 0} → Form A
-IsCrlf bytes ends value = bytes ≡ crlf_bytes
-
--- the same, whatever the value
-abbrev pub IsTrailer : {A : Type 0} → Form A
-IsTrailer bytes ends value = IsTrailerText bytes
-
 -- the bytes are a chunked body with at most limit bytes of content
 abbrev pub IsChunked : ℕ → Form (List ℕ)
 IsChunked limit = IsChunkedAfter limit []
@@ -88,37 +74,3 @@ pub record IsLongChunked (limit : ℕ) (before : List ℕ) (stream : List ℕ) :
   pub past : limit < length before + length (flat_map (λ c. c.content) chunks) + chunk_size line
   pub rest : List ℕ
   pub split : stream ≡ flat_map print_chunk chunks ++ (print_chunk_line line ++ rest)
-
--- so many bytes and CRLF stand there
-pub record IsChunkThere (size : ℕ) (stream : List ℕ) : Type 0 where
-  pub content : List ℕ
-  pub rest : List ℕ
-  pub size_is : length content ≡ size
-  pub split : stream ≡ content ++ (crlf_bytes ++ rest)
-
--- what may follow a size line: the content, CRLF and further chunks
-pub record IsDataAfter (limit : ℕ) (before : List ℕ) (size : ℕ) (bytes : List ℕ) (ends : Bool) (content : List ℕ) : Type 0 where
-  pub piece : List ℕ
-  pub more : List ℕ
-  pub size_is : length piece ≡ size
-  pub chunked : IsChunkedAfter limit (before ++ piece) more ends content
-  pub bytes_are : bytes ≡ piece ++ (crlf_bytes ++ more)
-
--- what may follow the content of a chunk: CRLF and further chunks
-pub record IsEndAfter (limit : ℕ) (before : List ℕ) (bytes : List ℕ) (ends : Bool) (content : List ℕ) : Type 0 where
-  pub more : List ℕ
-  pub chunked : IsChunkedAfter limit before more ends content
-  pub bytes_are : bytes ≡ crlf_bytes ++ more
-
--- what may follow a line of size 0: the trailer
-pub record IsLastAfter (limit : ℕ) (before : List ℕ) (bytes : List ℕ) (ends : Bool) (content : List ℕ) : Type 0 where
-  pub trailer_is : IsTrailerText bytes
-  pub content_is : content ≡ before
-  pub size : length content ≤ limit
-
--- the content of a chunk and CRLF went from the front of what stood, and the content to the end of a list
-pub record TookChunk (size : ℕ) (old new : Option (List ℕ)) (before after : List ℕ) : Type 0 where
-  pub piece : List ℕ
-  pub length_is : length piece ≡ size
-  pub split : old ≡ prepend_known (piece ++ crlf_bytes) new
-  pub appended : after ≡ before ++ piece

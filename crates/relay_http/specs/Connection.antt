@@ -2,8 +2,8 @@
 use Rattle.std.specs.Prelude.{ℕ, List, [], Bool, true, false, Option, Some, None, Result, Ok, Err, if◌then◌else◌}
 use Rattle.std.specs.Io.KnownBytes.{prepend_known}
 use Rattle.relay_action.specs.Streams.{one_more}
-use Rattle.relay_http.specs.Pending.{is_read, is_write}
 use Rattle.relay_http.specs.declared.fault.HttpFault.{HttpFault}
+use Rattle.relay_http.specs.declared.fault.HttpFault.TheVariants as fault
 use Rattle.relay_http.specs.declared.phase.Phase.{Phase}
 use Rattle.relay_http.specs.declared.phase.Phase.TheVariants as phase
 use Rattle.relay_http.specs.declared.reply.HttpReply.{HttpReply}
@@ -56,6 +56,36 @@ after_request (Err f) = phase.Broken
 abbrev pub after_write : Bool → Result (Unit {0}) HttpFault → Phase
 after_write keep (Ok _) = phase_of keep
 after_write keep (Err f) = phase.Broken
+
+-- whether a read failed
+abbrev pub is_read : {A : Type 0} → Result A HttpFault → Bool
+is_read (Ok a) = false
+is_read (Err fault.Malformed) = false
+is_read (Err fault.HeadLong) = false
+is_read (Err fault.BodyLong) = false
+is_read (Err fault.CodedBody) = false
+is_read (Err fault.BothLengths) = false
+is_read (Err fault.Ended) = false
+is_read (Err fault.Read) = true
+is_read (Err fault.Write) = false
+is_read (Err fault.TooManyInterim) = false
+is_read (Err fault.Memory) = false
+is_read (Err fault.Broken) = false
+
+-- whether a write failed
+abbrev pub is_write : {A : Type 0} → Result A HttpFault → Bool
+is_write (Ok a) = false
+is_write (Err fault.Malformed) = false
+is_write (Err fault.HeadLong) = false
+is_write (Err fault.BodyLong) = false
+is_write (Err fault.CodedBody) = false
+is_write (Err fault.BothLengths) = false
+is_write (Err fault.Ended) = false
+is_write (Err fault.Read) = false
+is_write (Err fault.Write) = true
+is_write (Err fault.TooManyInterim) = false
+is_write (Err fault.Memory) = false
+is_write (Err fault.Broken) = false
 
 -- how many calls have failed after a call that reads, and after one that writes
 abbrev pub failed_reading : {A : Type 0} → Result A HttpFault → ℕ → ℕ

@@ -1,5 +1,5 @@
 -- Messages at the front of a stream, and what a call that reads one says of the bytes that stood there.
-use Rattle.std.specs.Prelude.{◌≡◌, ◌≤◌, ◌⊎◌, ℕ, List, [], ◌++◌, length, take, Bool, true, false, Option, Some, None, Result, Ok, Err}
+use Rattle.std.specs.Prelude.{◌≡◌, ◌⊎◌, ℕ, List, [], ◌++◌, Bool, true, false, Option}
 use Rattle.std.specs.Io.KnownBytes.{IsAtEnd}
 use Rattle.std.specs.Io.KnownBytes.{prepend_known}
 use Rattle.relay_http.specs.declared.fault.HttpFault.{HttpFault}
@@ -37,11 +37,6 @@ pub record IsHeadThen {I A : Type 0} (H : Form I) (T : I → Form A) (bytes : Li
   pub text_is : T info text ends value
   pub bytes_are : bytes ≡ head ++ text
 
--- after the front, what makes an M is an N, and nothing else
-pub record Leads {A : Type 0} (M N : Form A) (front : List ℕ) : Type 0 where
-  pub peel : (stream : List ℕ) (b : Begins M (front ++ stream)) → (c : Begins N stream) × Gives b.value b.rest c
-  pub build : (bytes : List ℕ) (ends : Bool) (value : A) → N bytes ends value → M (front ++ bytes) ends value
-
 -- the message was taken from the front
 pub record Took {A : Type 0} (M : Form A) (old new : Option (List ℕ)) (value : A) : Type 0 where
   pub front : List ℕ
@@ -62,10 +57,6 @@ pub record Refused {A : Type 0} (M : Form A) (old left : Option (List ℕ)) : Ty
   pub read : List ℕ
   pub stood : old ≡ prepend_known read left
   pub never : (more : List ℕ) → ¬ (Begins M (read ++ more))
-
--- a fault that a head gives
-abbrev pub IsStated : HttpFault → Type 0
-IsStated f = (f ≡ fault.Malformed) ⊎ ((f ≡ fault.BodyLong) ⊎ ((f ≡ fault.CodedBody) ⊎ ((f ≡ fault.BothLengths) ⊎ (f ≡ fault.TooManyInterim))))
 
 -- a read failed, or memory was refused
 abbrev pub IsOutside : HttpFault → Type 0
@@ -88,17 +79,3 @@ Fails M old left fault.Write = ⊥
 Fails M old left fault.TooManyInterim = Refused M old left
 Fails M old left fault.Memory = Unit {0}
 Fails M old left fault.Broken = ⊥
-
--- what a call that reads a message answers, where old and new stand before and after it, and left is not yet read
-abbrev pub Answers : {A : Type 0} → Form A → Option (List ℕ) → Option (List ℕ) → Option (List ℕ) → Result A HttpFault → Type 0
-Answers M old new left (Ok value) = Took M old new value
-Answers M old new left (Err f) = Fails M old left f
-
--- what a call that looks for a message at the front of a buffer finds: one with its length, none so far, or none whatever follows
-abbrev pub Finds : {A : Type 0} → Form A → List ℕ → Result (Option (A × ℕ)) HttpFault → Type 0
-Finds M bytes (Ok (Some found)) = (found.1 ≤ length bytes) × M (take found.1 bytes) false found.0
-Finds M bytes (Ok None) = ¬ (Begins M bytes)
-Finds M bytes (Err f) = IsOfBytes f × ((more : List ℕ) → ¬ (Begins M (bytes ++ more)))
-  where
-    IsOfBytes : HttpFault → Type 0
-    IsOfBytes f = (f ≡ fault.Malformed) ⊎ (f ≡ fault.HeadLong)

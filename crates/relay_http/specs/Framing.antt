@@ -1,9 +1,9 @@
 -- Where the body of a message ends, from its status and its fields (RFC 9112, section 6.3).
-use Rattle.std.specs.Prelude.{ℕ, ◌^◌, Bool, true, false, not, ◌&&◌, ◌||◌, List, [], ◌∷◌, map, length, if◌then◌else◌, ◌==◌, nat_lt, nat_le, codes, Result, Ok, Err, Option, Some, None}
+use Rattle.std.specs.Prelude.{ℕ, Bool, true, false, not, ◌&&◌, ◌||◌, List, [], ◌∷◌, length, if◌then◌else◌, ◌==◌, nat_lt, nat_le, codes, Result, Ok, Err}
 use Rattle.std.specs.List.{list_all, list_any}
 use Rattle.relay_http.specs.Fields.{Header, same_word, values_named, elements_named, has_field, number, agrees}
 use Rattle.relay_http.specs.declared.fault.HttpFault.{HttpFault}
-use Rattle.relay_http.specs.declared.fault.HttpFault.TheVariants.{Malformed, HeadLong, BodyLong, CodedBody, BothLengths, TooManyInterim}
+use Rattle.relay_http.specs.declared.fault.HttpFault.TheVariants.{Malformed, BodyLong, CodedBody, BothLengths, TooManyInterim}
 use Rattle.relay_http.specs.declared.framing.Framing.{Framing}
 use Rattle.relay_http.specs.declared.framing.Framing.TheVariants.{Absent, Sized, Chunked, ToEnd}
 

@@ -1,5 +1,5 @@
 -- The reply to a request (RFC 9112, section 4): at most eight interim heads, a final head, and a body.
-use Rattle.std.specs.Prelude.{◌&&◌, not, ◌≡◌, ℕ, ◌≤◌, Option, Bool, true, false, List, ◌++◌, map, length, flat_map, Result, Ok, Err}
+use Rattle.std.specs.Prelude.{◌&&◌, not, ◌≡◌, ℕ, ◌≤◌, Bool, true, List, ◌++◌, map, length, flat_map, Ok, Err}
 use Rattle.std.specs.List.{AllByRecursion}
 use Rattle.httparse.specs.Grammar.{ResponseHead, IsResponseHead, print_response, status_code}
 use Rattle.httparse.specs.Spans.{name_and_value}

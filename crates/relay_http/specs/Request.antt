@@ -1,5 +1,5 @@
 -- A request as it is read (RFC 9112, section 3): a head, and a body in the framing that it states.
-use Rattle.std.specs.Prelude.{◌&&◌, ◌≡◌, ℕ, ◌≤◌, Option, Some, None, Bool, List, [], ◌++◌, map, length, codes, bytes_eq, Result, Ok, Err}
+use Rattle.std.specs.Prelude.{◌&&◌, ◌≡◌, ℕ, ◌≤◌, Option, Some, None, Bool, List, map, length, codes, bytes_eq, Ok, Err}
 use Rattle.std.specs.Io.KnownBytes.{IsAtEnd}
 use Rattle.httparse.specs.Grammar.{RequestHead, IsRequestHead, print_request}
 use Rattle.httparse.specs.Spans.{name_and_value}

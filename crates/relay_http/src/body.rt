@@ -1,9 +1,10 @@
 //! Bodies of messages (RFC 9112, section 6).
 ghost use Rattle.std.specs.Prelude.{◌≡◌, ◌<◌, ◌≤◌, ℕ, List, length, Some, IfOk, IfErr, MatchResult, if◌then◌else◌};
 ghost use Rattle.relay_action.specs.Streams.{one_more};
-ghost use Rattle.relay_http.specs.Body.{IsSized, IsRest, IsBody, IsLongBody, IsLongRest, Moved, TookData};
+ghost use Rattle.relay_http.specs.Body.{IsSized, IsRest, IsBody, IsLongBody, IsLongRest};
+ghost use Rattle.relay_http.specs.Steps.{Moved, TookData, pending};
+ghost use Rattle.relay_http.specs.Connection.{is_read};
 ghost use Rattle.relay_http.specs.Forms.{Took, Fails, IsOutside, IsThatOrOutside};
-ghost use Rattle.relay_http.specs.Pending.{pending, is_read};
 ghost use Rattle.relay_http.specs.declared.fault.HttpFault.{HttpFault};
 
 use crate::buffered::Buffered;

@@ -2,8 +2,8 @@
 ghost use Rattle.std.specs.Prelude.{◌≡◌, ◌<◌, ◌≤◌, ◌++◌, length, OnErr, OnOk, IfOk, Err, if◌then◌else◌, is_ok};
 ghost use Rattle.std.specs.Io.KnownBytes.{IsAtEnd};
 ghost use Rattle.relay_action.specs.Streams.{one_more};
-ghost use Rattle.relay_http.specs.Pending.{pending};
-ghost use Rattle.relay_http.specs.Window.{Grown, window_size};
+ghost use Rattle.relay_http.specs.Steps.{pending, Grown};
+ghost use Rattle.relay_http.specs.Window.{window_size};
 
 use crate::fault::HttpFault;
 use crate::window::Window;

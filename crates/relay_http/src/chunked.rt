@@ -1,10 +1,10 @@
 //! Chunked bodies (RFC 9112, section 7.1).
 ghost use Rattle.std.specs.Prelude.{◌≡◌, ◌<◌, ◌≤◌, ◌++◌, ℕ, List, [], length, Some, IfErr, MatchResult, if◌then◌else◌};
 ghost use Rattle.relay_action.specs.Streams.{one_more};
-ghost use Rattle.relay_http.specs.Body.{TookData};
-ghost use Rattle.relay_http.specs.Chunked.{IsChunked, IsChunkThere, IsDataAfter, IsLongChunked, TookChunk};
+ghost use Rattle.relay_http.specs.Steps.{TookData, IsChunkThere, IsDataAfter, TookChunk, pending};
+ghost use Rattle.relay_http.specs.Connection.{is_read};
+ghost use Rattle.relay_http.specs.Chunked.{IsChunked, IsLongChunked};
 ghost use Rattle.relay_http.specs.Forms.{Took, Fails, IsOutside, IsThatOrOutside};
-ghost use Rattle.relay_http.specs.Pending.{pending, is_read};
 ghost use Rattle.relay_http.specs.declared.fault.HttpFault.{HttpFault};
 
 use crate::buffered::Buffered;

@@ -2,8 +2,8 @@
 ghost use Rattle.std.specs.Prelude.{◌≡◌, ◌+◌, ◌<◌, ◌≤◌, ◌++◌, [], length, take, vec_len, IfOk, IfErr, OnOk, if◌then◌else◌};
 ghost use Rattle.relay_action.specs.Streams.{one_more};
 ghost use Rattle.relay_http.specs.Forms.{IsOutside};
-ghost use Rattle.relay_http.specs.Pending.{is_read};
-ghost use Rattle.relay_http.specs.Window.{Grown};
+ghost use Rattle.relay_http.specs.Connection.{is_read};
+ghost use Rattle.relay_http.specs.Steps.{Grown};
 
 use crate::fault::HttpFault;
 use crate::window::read_behind;

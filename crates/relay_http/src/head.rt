@@ -1,6 +1,6 @@
 //! The head of a reply (RFC 9112, sections 4 and 5).
 ghost use Rattle.std.specs.Prelude.{◌≡◌, ◌<◌, ◌≤◌, length, Ok, None};
-ghost use Rattle.relay_http.specs.Forms.{Finds};
+ghost use Rattle.relay_http.specs.Steps.{Finds};
 ghost use Rattle.relay_http.specs.Reply.{IsHead, head_limit};
 
 use crate::fault::HttpFault;

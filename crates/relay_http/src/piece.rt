@@ -2,8 +2,8 @@
 ghost use Rattle.std.specs.Prelude.{◌≡◌, ◌<◌, ◌≤◌, ℕ, List, Bool, length, Ok, None, Err, IfOk, OnOk, OnErr, IsTrue, IsFalse, is_ok, if◌then◌else◌};
 ghost use Rattle.std.specs.Io.KnownBytes.{IsAtEnd};
 ghost use Rattle.relay_action.specs.Streams.{one_more};
-ghost use Rattle.relay_http.specs.Forms.{Finds, Answers};
-ghost use Rattle.relay_http.specs.Pending.{pending, is_read};
+ghost use Rattle.relay_http.specs.Steps.{Finds, Answers, pending};
+ghost use Rattle.relay_http.specs.Connection.{is_read};
 
 use crate::buffered::Buffered;
 use crate::fault::HttpFault;

@@ -1,10 +1,11 @@
 //! Replies (RFC 9112, section 4).
 ghost use Rattle.std.specs.Prelude.{◌≡◌, ◌<◌, ◌≤◌, ℕ, List, length, MatchResult, Some, ◌&&◌, not, if◌then◌else◌};
 ghost use Rattle.relay_action.specs.Streams.{one_more};
-ghost use Rattle.relay_http.specs.Forms.{Took, Fails, Answers, Begins, IsOutside, IsThatOrOutside};
+ghost use Rattle.relay_http.specs.Forms.{Took, Fails, Begins, IsOutside, IsThatOrOutside};
+ghost use Rattle.relay_http.specs.Steps.{Answers, pending};
+ghost use Rattle.relay_http.specs.Connection.{is_read};
 ghost use Rattle.relay_http.specs.Framing.{is_to_end};
 ghost use Rattle.relay_http.specs.declared.fault.HttpFault.{HttpFault};
-ghost use Rattle.relay_http.specs.Pending.{pending, is_read};
 ghost use Rattle.relay_http.specs.Reply.{IsHeads, IsReply, ReplyPasses, ReplyStates, reply_view};
 
 use crate::buffered::Buffered;

@@ -2,7 +2,8 @@
 ghost use Rattle.std.specs.Prelude.{◌≡◌, ◌<◌, ◌≤◌, ℕ, List, [], length, MatchResult, Some, None, if◌then◌else◌};
 ghost use Rattle.relay_action.specs.Streams.{one_more};
 ghost use Rattle.relay_http.specs.Forms.{Begins, Fails, IsOutside, IsThatOrOutside};
-ghost use Rattle.relay_http.specs.Pending.{pending, is_read};
+ghost use Rattle.relay_http.specs.Steps.{pending};
+ghost use Rattle.relay_http.specs.Connection.{is_read};
 ghost use Rattle.relay_http.specs.Request.{IsFound, IsRequest, RequestPasses, RequestStates, TookRequest};
 ghost use Rattle.relay_http.specs.declared.fault.HttpFault.{HttpFault};
 

@@ -1,6 +1,6 @@
 //! The head of a request (RFC 9112, sections 3 and 5).
 ghost use Rattle.std.specs.Prelude.{◌≡◌, ◌<◌, ◌≤◌, length, Ok, None, codes, ◌&&◌, bytes_eq};
-ghost use Rattle.relay_http.specs.Forms.{Finds};
+ghost use Rattle.relay_http.specs.Steps.{Finds};
 ghost use Rattle.relay_http.specs.Request.{IsRequestInfo};
 
 use crate::fault::HttpFault;

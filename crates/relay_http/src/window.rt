@@ -3,7 +3,8 @@ ghost use Rattle.std.specs.Prelude.{◌≡◌, ◌+◌, ◌-◌, ◌<◌, ◌≤
 ghost use Rattle.std.specs.Io.KnownBytes.{IsAtEnd};
 ghost use Rattle.relay_action.specs.Streams.{one_more};
 ghost use Rattle.std.specs.Io.KnownBytes.{prepend_known};
-ghost use Rattle.relay_http.specs.Window.{Grown, window_size};
+ghost use Rattle.relay_http.specs.Window.{window_size};
+ghost use Rattle.relay_http.specs.Steps.{Grown};
 
 use relay_action::{ByteIn, StreamFailed};
 use std::alloc::{AllocError, Global};

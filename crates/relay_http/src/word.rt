@@ -1,7 +1,8 @@
 //! Words and numbers in the values of fields.
 ghost use Rattle.std.specs.Prelude.{◌≡◌, ◌==◌, true, reverse, if◌then◌else◌, Some, None};
 ghost use Rattle.httparse.specs.Grammar.{skip_ows, trim_ows};
-ghost use Rattle.relay_http.specs.Fields.{same_word, is_number, fits_number, number, significant, agrees};
+ghost use Rattle.relay_http.specs.Fields.{same_word, is_number, number, agrees};
+ghost use Rattle.relay_http.specs.Steps.{fits_number, significant};
 
 use httparse::is_space_or_tab;
 

@@ -1,4 +1,4 @@
-use Rattle.std.proofs.Common.{rules, refl, inl, inr, ◌≤◌, length}
+use Rattle.std.proofs.Common.{rules, refl, inr}
 use Rattle.relay_http.proofs.Trailers.{trailer_full}
 use Rattle.relay_http.proofs.chunk.find_trailer.Goals as goal
 

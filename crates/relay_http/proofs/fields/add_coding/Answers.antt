@@ -1,8 +1,8 @@
-use Rattle.std.proofs.Common.{rules, ◌≡◌, ◌∙◌, sym, ap, true, false}
+use Rattle.std.proofs.Common.{rules, ◌≡◌, ◌∙◌, sym, ap, true}
 use Rattle.std.specs.Prelude.{codes}
 use Rattle.relay_http.specs.Fields.{same_word, values_named}
 use Rattle.relay_http.specs.Codings.{coding_of, next_coding}
-use Rattle.relay_http.proofs.FieldLists.{values_same, values_other, coding_push}
+use Rattle.relay_http.proofs.FieldLists.{values_same, coding_push}
 use Rattle.relay_http.proofs.fields.add_coding.Goals as goal
 
 pub returns : goal.returns

@@ -1,10 +1,8 @@
-use Rattle.std.proofs.Common.{◌≡◌, map, take, [], List, ℕ}
+use Rattle.std.proofs.Common.{◌≡◌, map, take}
 use Rattle.std.specs.Prelude.{codes}
-use Rattle.std.specs.List.{list_all, list_any}
+use Rattle.std.specs.List.{list_all}
 use Rattle.httparse.specs.Spans.{header_bytes}
-use Rattle.relay_http.specs.Fields.{same_word, has_field, values_named, elements_named, agrees}
-use Rattle.relay_http.specs.Codings.{coding_of}
-use Rattle.relay_http.specs.Framing.{is_plain}
+use Rattle.relay_http.specs.Fields.{elements_named, agrees}
 use Rattle.relay_http.proofs.fields.all_lengths_agree.Given as goal
 
 abbrev pub invariant-loop-header : goal.invariant-loop-header

@@ -1,4 +1,4 @@
-use Rattle.std.proofs.Common.{rules, ◌≡◌, ◌+◌, drop, ◌∙◌, sym, ap, [], ◌∷◌, add-one}
+use Rattle.std.proofs.Common.{rules, ◌+◌, drop, ◌∙◌, sym, ap, [], ◌∷◌}
 use Rattle.relay_http.specs.Fields.{elements}
 use Rattle.relay_http.proofs.FieldLists.{elements_at, elements_whole}
 use Rattle.relay_http.proofs.fields.first_element.Goals as goal

@@ -1,4 +1,4 @@
-use Rattle.std.proofs.Common.{rules, ◌≡◌, ◌∙◌, sym, ap, true, false, ◌++◌}
+use Rattle.std.proofs.Common.{◌∙◌, sym, ap, ◌++◌}
 use Rattle.std.specs.Prelude.{codes}
 use Rattle.httparse.specs.Spans.{header_bytes}
 use Rattle.relay_http.specs.Fields.{same_word, elements}

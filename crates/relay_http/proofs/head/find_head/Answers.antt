@@ -1,4 +1,4 @@
-use Rattle.std.proofs.Common.{rules, ◌≤◌, length, arith, inr, refl}
+use Rattle.std.proofs.Common.{rules, ◌≤◌, arith, inr, refl}
 use Rattle.relay_http.proofs.Heads.{head_at, head_full}
 use Rattle.relay_http.proofs.head.find_head.Goals as goal
 

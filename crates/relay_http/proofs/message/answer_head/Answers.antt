@@ -1,4 +1,4 @@
-use Rattle.std.proofs.Common.{rules, ◌≡◌}
+use Rattle.std.proofs.Common.{rules}
 use Rattle.std.specs.Fmt.{decimal}
 use Rattle.relay_http.specs.WrittenAnswer.{reason_of}
 use Rattle.relay_http.proofs.Answers.{answer_joined}

@@ -1,4 +1,4 @@
-use Rattle.std.proofs.Common.{rules, ◌≡◌}
+use Rattle.std.proofs.Common.{rules}
 use Rattle.std.specs.Fmt.{decimal}
 use Rattle.relay_http.proofs.Requests.{head_joined}
 use Rattle.relay_http.proofs.message.request_head.Goals as goal

@@ -1,4 +1,4 @@
-use Rattle.std.proofs.Common.{rules, ◌≤◌, ◌&&◌, ◌∙◌, length, arith, inr, refl}
+use Rattle.std.proofs.Common.{rules, ◌≤◌, ◌&&◌, ◌∙◌, arith, inr, refl}
 use Rattle.std.specs.Prelude.{codes, bytes_eq}
 use Rattle.relay_http.proofs.Arrivals.{request_at, request_full}
 use Rattle.relay_http.proofs.request_head.find_request_head.Goals as goal

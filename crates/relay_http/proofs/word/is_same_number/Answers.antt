@@ -1,6 +1,6 @@
-use Rattle.std.proofs.Common.{rules, ◌≡◌, ◌∙◌, true, List, ℕ, Bool, eqb}
+use Rattle.std.proofs.Common.{rules, ◌≡◌, ◌∙◌}
 use Rattle.std.specs.Prelude.{bytes_eq}
-use Rattle.relay_http.specs.Fields.{number, significant, is_number}
+use Rattle.relay_http.specs.Steps.{significant}
 use Rattle.relay_http.proofs.Written.{both}
 use Rattle.relay_http.proofs.Numbers.{same_number_is}
 use Rattle.relay_http.proofs.word.is_same_number.Goals as goal

@@ -6,7 +6,7 @@ use Rattle.std.proofs.lemmas.List.{take_all}
 use Rattle.std.proofs.lemmas.Bool.{and_left, and_right, and_from, le-ltb, lt-ltb, cond-true, cond-false}
 use Rattle.std.proofs.lemmas.Bool.Decides.{nat_tests}
 use Rattle.std.proofs.lemmas.Int.Digits.{digits_value_more}
-use Rattle.relay_http.specs.Fields.{fits_number}
+use Rattle.relay_http.specs.Steps.{fits_number}
 use Rattle.relay_http.proofs.FieldLists.{list_all_more, list_all_fails, digits_value-take-le}
 use Rattle.relay_http.proofs.word.parse_number.Goals as goal
 

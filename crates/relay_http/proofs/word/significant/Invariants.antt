@@ -1,5 +1,5 @@
 use Rattle.std.proofs.Common.{◌≡◌, length}
-use Rattle.relay_http.specs.Fields.{significant}
+use Rattle.relay_http.specs.Steps.{significant}
 use Rattle.relay_http.proofs.word.significant.Given as goal
 
 abbrev pub invariant-loop-s : goal.invariant-loop-s

@@ -1,5 +1,5 @@
 use Rattle.std.proofs.Common.{◌≡◌, ◌-◌, ◌<◌, ◌≤◌, length}
-use Rattle.relay_http.specs.Pending.{pending}
+use Rattle.relay_http.specs.Steps.{pending}
 use Rattle.relay_http.specs.Window.{window_size}
 use Rattle.relay_http.proofs.buffered.Buffered.fill_line.Given as goal
 

@@ -1,8 +1,7 @@
-use Rattle.std.proofs.Common.{rules, refl, [], ◌≡◌, ◌∙◌, ap, sym, subst, true, false, ◌&&◌, not}
-use Rattle.relay_http.specs.Framing.{is_to_end, reply_limit}
+use Rattle.std.proofs.Common.{refl, [], sym, subst}
+use Rattle.relay_http.specs.Framing.{reply_limit}
 use Rattle.relay_http.specs.Body.{IsBody, IsLongBody}
-use Rattle.relay_http.specs.Forms.{Took, Fails, Begins}
-use Rattle.relay_http.specs.Reply.{IsHeads, IsReply, IsReplyBody, Reply, reply_view}
+use Rattle.relay_http.specs.Reply.{IsHeads, IsReply, IsReplyBody}
 use Rattle.relay_http.proofs.Stands.{prepend_known-nil}
 use Rattle.relay_http.proofs.Leading.{fails_behind, fails_stated, took_behind}
 use Rattle.relay_http.proofs.Messages.{begins_then, then_leads}

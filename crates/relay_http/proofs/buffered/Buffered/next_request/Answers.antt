@@ -1,4 +1,4 @@
-use Rattle.relay_http.specs.Pending.{pending}
+use Rattle.relay_http.specs.Steps.{pending}
 use Rattle.std.proofs.Common.{rules, Some, ◌≡◌, ◌<◌, ◌∙◌, arith, length}
 use Rattle.relay_http.proofs.Arrivals.{no_window, nothing_there, request_found}
 use Rattle.relay_http.specs.Request.{IsRequest, IsRequestInfo, IsRequestBody}

@@ -1,9 +1,8 @@
-use Rattle.std.proofs.Common.{rules, ◌≡◌, ◌++◌, ◌∙◌, ap, sym, []}
+use Rattle.std.proofs.Common.{◌∙◌, ap, sym, []}
 use Rattle.std.specs.Io.KnownBytes.{prepend_known}
 use Rattle.httparse.specs.Ascii.{crlf_bytes}
 use Rattle.relay_http.specs.Body.{IsSized}
-use Rattle.relay_http.specs.Pending.{pending}
-use Rattle.relay_http.specs.Chunked.{IsDataAfter, IsCrlf}
+use Rattle.relay_http.specs.Steps.{pending, IsDataAfter, IsCrlf}
 use Rattle.relay_http.proofs.Stands.{prepend_known-append, prepend_known-nil}
 use Rattle.relay_http.proofs.Leading.{fails_behind}
 use Rattle.relay_http.proofs.Chunks.{begins_data, begins_end}

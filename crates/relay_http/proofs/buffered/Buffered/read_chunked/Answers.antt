@@ -1,10 +1,10 @@
-use Rattle.std.proofs.Common.{rules, refl, inl, inr, [], ◌≡◌, ◌∙◌, ◌+◌, ◌-◌, ◌<◌, ◌≤◌, ◌++◌, append_assoc, length-append, ap, sym, subst, arith, length, List}
-use Rattle.std.specs.Io.KnownBytes.{prepend_known}
+use Rattle.std.proofs.Common.{rules, refl, inr, [], ◌≡◌, ◌∙◌, ◌+◌, ◌-◌, ◌<◌, ◌≤◌, ◌++◌, append_assoc, length-append, ap, sym, subst, arith, length}
 use Rattle.httparse.specs.Ascii.{crlf_bytes}
-use Rattle.relay_http.specs.Forms.{Took, Fails, Begins}
-use Rattle.relay_http.specs.Forms.{Leads}
-use Rattle.relay_http.specs.Chunked.{IsLine, IsTrailer, IsChunked, IsChunkedAfter, IsDataAfter, IsLastAfter, IsLongChunked}
-use Rattle.relay_http.proofs.Stands.{prepend_known-append, prepend_known-nil}
+use Rattle.relay_http.specs.Forms.{Begins}
+use Rattle.relay_http.proofs.Leading.{Leads}
+use Rattle.relay_http.specs.Steps.{IsLine, IsTrailer, IsDataAfter, IsLastAfter}
+use Rattle.relay_http.specs.Chunked.{IsChunked, IsChunkedAfter, IsLongChunked}
+use Rattle.relay_http.proofs.Stands.{prepend_known-nil}
 use Rattle.relay_http.proofs.Leading.{leads_none, leads_on, fails_behind, took_behind}
 use Rattle.relay_http.proofs.Passing.{stood_behind, refused_here}
 use Rattle.relay_http.proofs.Chunks.{size_leads, chunk_leads, zero_leads, begins_piece, begins_trailer, too_long}

@@ -1,7 +1,7 @@
-use Rattle.std.proofs.Common.{◌≡◌, ◌-◌, ◌+◌, ◌≤◌, List, ℕ, [], Some, length}
+use Rattle.std.proofs.Common.{◌≡◌, ◌-◌, ◌≤◌, List, ℕ, [], Some, length}
 use Rattle.std.specs.Io.KnownBytes.{prepend_known}
-use Rattle.relay_http.specs.Pending.{pending}
-use Rattle.relay_http.specs.Forms.{Leads}
+use Rattle.relay_http.specs.Steps.{pending}
+use Rattle.relay_http.proofs.Leading.{Leads}
 use Rattle.relay_http.specs.Chunked.{IsChunked, IsChunkedAfter, IsLongChunked}
 use Rattle.relay_http.proofs.buffered.Buffered.read_chunked.Given as goal
 

@@ -1,7 +1,5 @@
-use Rattle.std.proofs.Common.{◌≡◌, ◌-◌, ◌+◌, ◌≤◌, ◌++◌, List, ℕ, length, vec_len}
-use Rattle.std.specs.Io.KnownBytes.{prepend_known}
-use Rattle.relay_http.specs.Pending.{pending}
-use Rattle.relay_http.specs.Body.{TookData}
+use Rattle.std.proofs.Common.{◌≡◌, ◌-◌, ◌≤◌}
+use Rattle.relay_http.specs.Steps.{pending, TookData}
 use Rattle.relay_http.proofs.buffered.Buffered.read_data.Given as goal
 
 -- what was moved so far was taken from the front

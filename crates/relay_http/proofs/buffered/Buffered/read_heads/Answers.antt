@@ -1,9 +1,7 @@
-use Rattle.std.proofs.Common.{rules, refl, [], ◌≡◌, ◌∙◌, ◌+◌, ◌-◌, ◌<◌, ◌≤◌, ◌++◌, append_assoc, ap, sym, subst, arith, true, false, length, List}
-use Rattle.std.specs.Io.KnownBytes.{prepend_known}
+use Rattle.std.proofs.Common.{rules, refl, [], ◌≡◌, ◌-◌, ◌<◌, ◌++◌, sym, arith, true}
 use Rattle.relay_http.specs.Framing.{is_interim}
-use Rattle.relay_http.specs.Forms.{Begins}
 use Rattle.relay_http.specs.Reply.{IsHead, IsHeads, IsHeadsWith}
-use Rattle.relay_http.proofs.Stands.{prepend_known-append, prepend_known-nil}
+use Rattle.relay_http.proofs.Stands.{prepend_known-nil}
 use Rattle.relay_http.proofs.Leading.{leads_none, leads_on, fails_behind, took_behind}
 use Rattle.relay_http.proofs.Replies.{interim_leads, last_is, begins_head}
 use Rattle.relay_http.proofs.Passing.{stood_behind, eight}

@@ -1,7 +1,7 @@
-use Rattle.std.proofs.Common.{◌≡◌, ◌-◌, ◌+◌, ◌≤◌, List, ℕ, length}
+use Rattle.std.proofs.Common.{◌≡◌, ◌-◌, ◌≤◌, List, ℕ}
 use Rattle.std.specs.Io.KnownBytes.{prepend_known}
-use Rattle.relay_http.specs.Pending.{pending}
-use Rattle.relay_http.specs.Forms.{Leads}
+use Rattle.relay_http.specs.Steps.{pending}
+use Rattle.relay_http.proofs.Leading.{Leads}
 use Rattle.relay_http.specs.Reply.{IsHeads, IsHeadsWith}
 use Rattle.relay_http.proofs.buffered.Buffered.read_heads.Given as goal
 

@@ -1,7 +1,7 @@
 use Rattle.std.proofs.Common.{◌≡◌, ◌-◌, ◌+◌, length, true}
 use Rattle.std.specs.Prelude.{if◌then◌else◌}
 use Rattle.std.specs.Io.KnownBytes.{IsAtEnd}
-use Rattle.relay_http.specs.Pending.{pending}
+use Rattle.relay_http.specs.Steps.{pending}
 use Rattle.relay_http.specs.Window.{window_size}
 use Rattle.relay_http.proofs.buffered.Buffered.read_piece.Given as goal
 

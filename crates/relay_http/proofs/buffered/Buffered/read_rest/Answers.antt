@@ -1,7 +1,6 @@
 use Rattle.std.proofs.Common.{rules, ◌<◌, ◌++◌, ◌∙◌, sym, arith, length, length-append}
 use Rattle.relay_http.proofs.Bodies.{rest_never}
 use Rattle.relay_http.proofs.Stands.{prepend_known-append}
-use Rattle.relay_http.proofs.LongBodies.{not_long}
 use Rattle.relay_http.proofs.buffered.Buffered.read_rest.Goals as goal
 
 pub returns-clause-answer : goal.returns-clause-answer

@@ -1,6 +1,6 @@
-use Rattle.std.proofs.Common.{◌≡◌, ◌-◌, ◌+◌, ◌≤◌, length, vec_len}
+use Rattle.std.proofs.Common.{◌≡◌, ◌-◌, ◌+◌, ◌≤◌, length}
 use Rattle.std.specs.Io.KnownBytes.{prepend_known}
-use Rattle.relay_http.specs.Pending.{pending}
+use Rattle.relay_http.specs.Steps.{pending}
 use Rattle.relay_http.proofs.buffered.Buffered.read_rest.Given as goal
 
 -- the body so far is what was taken from the front

@@ -1,7 +1,6 @@
-use Rattle.std.proofs.Common.{rules, refl, [], ◌≡◌, ◌∙◌, ap, sym, subst}
+use Rattle.std.proofs.Common.{refl, [], sym, subst}
 use Rattle.relay_http.specs.Framing.{request_limit}
 use Rattle.relay_http.specs.Body.{IsBody, IsLongBody}
-use Rattle.relay_http.specs.Forms.{Took, Fails, Begins}
 use Rattle.relay_http.specs.Request.{IsRequest, IsRequestBody, IsRequestInfo}
 use Rattle.relay_http.proofs.Stands.{prepend_known-nil}
 use Rattle.relay_http.proofs.Leading.{fails_behind, fails_stated, took_behind}

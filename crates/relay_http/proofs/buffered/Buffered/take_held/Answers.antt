@@ -1,5 +1,4 @@
-use Rattle.std.proofs.Common.{rules, ◌≡◌, ◌∙◌, ap, sym, drop, take, length, min, ◌++◌}
-use Rattle.relay_http.specs.Body.{Moved}
+use Rattle.std.proofs.Common.{rules, sym}
 use Rattle.relay_http.proofs.Stands.{moved_front}
 use Rattle.relay_http.proofs.buffered.Buffered.take_held.Goals as goal
 

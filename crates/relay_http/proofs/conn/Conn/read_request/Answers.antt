@@ -1,4 +1,4 @@
-use Rattle.std.proofs.Common.{◌≡◌, ◌∙◌, ap}
+use Rattle.std.proofs.Common.{◌∙◌, ap}
 use Rattle.relay_http.specs.Connection.{ahead}
 use Rattle.relay_http.proofs.conn.Conn.read_request.Goals as goal
 
