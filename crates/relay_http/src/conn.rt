@@ -218,8 +218,7 @@ impl<S: ByteOut + Drop> Conn<S> {
             return Err(HttpFault::Broken);
         }
         let lasts = keep && self.phase.is_open();
-        let head = answer_head(alloc, status, body.len(), lasts);
-        let result = send(&mut self.bytes.stream, head, body.as_bytes());
+        let result = write_text(alloc, &mut self.bytes.stream, status, body, lasts);
         self.phase = Phase::after(result.is_ok() && lasts);
         result
     }
@@ -244,4 +243,20 @@ fn write_bulk<S: ByteOut>(
             body.as_slice(),
         ),
     }
+}
+
+// Writes the answer with this status and this body, which says close or not.
+fn write_text<S: ByteOut>(
+    alloc: Global,
+    stream: &mut S,
+    status: u16,
+    body: &str,
+    keep: bool,
+) -> Result<(), HttpFault>
+    ensures sent { Sends (answer status body.now keep) (S.written stream.old) (S.written stream.new) result }
+    ensures failed { S.failed stream.new ≡ failed_writing result (S.failed stream.old) }
+    ensures left { S.left stream.new ≡ S.left stream.old }
+{
+    let head = answer_head(alloc, status, body.len(), keep);
+    send(stream, head, body.as_bytes())
 }
