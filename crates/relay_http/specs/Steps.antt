@@ -12,7 +12,7 @@ use Rattle.relay_http.specs.declared.chunk.SizeLine.{SizeLine}
 use Rattle.relay_http.specs.declared.fault.HttpFault.{HttpFault}
 use Rattle.relay_http.specs.declared.fault.HttpFault.TheVariants as fault
 
--- those of its window, and then those that its stream has left
+-- the bytes that stand: those of the window, and then those that the stream has left
 abbrev pub pending : {S : Type 0} → (S → Option (List ℕ)) → Buffered S → Option (List ℕ)
 pending left c = prepend_known c.window (left c.stream)
 
@@ -54,15 +54,15 @@ abbrev pub Answers : {A : Type 0} → Form A → Option (List ℕ) → Option (L
 Answers M old new left (Ok value) = Took M old new value
 Answers M old new left (Err f) = Fails M old left f
 
--- the same as what a search for it finds
+-- a size line, as a search finds it
 abbrev pub IsLine : Form SizeLine
 IsLine bytes ends line = IsSizeLine bytes ends line.size
 
--- the end of a chunk
+-- the end of a chunk, whatever the value
 abbrev pub IsCrlf : {A : Type 0} → Form A
 IsCrlf bytes ends value = bytes ≡ crlf_bytes
 
--- the same, whatever the value
+-- a trailer, whatever the value
 abbrev pub IsTrailer : {A : Type 0} → Form A
 IsTrailer bytes ends value = IsTrailerText bytes
 
