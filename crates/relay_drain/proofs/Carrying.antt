@@ -1,12 +1,10 @@
 -- What a lane and an outside have in common stays so over requests.
-use Rattle.std.proofs.Common.{◌≡◌, ◌≢◌, ℕ, ◌+◌, List, [], ◌∷◌, ◌++◌, length, Option, Some, None, Bool, true, false, IsTrue, refl, sym, ap, ◌∙◌, subst, arith}
-use Rattle.std.specs.Prelude.{is_some}
+use Rattle.std.proofs.Common.{◌≡◌, ℕ, ◌+◌, List, [], ◌∷◌, Some, Bool, true, IsTrue, sym, ap, ◌∙◌, subst}
 use Rattle.relay_action.specs.declared.operation.Op.{Op}
 use Rattle.relay_action.specs.declared.write.Write.{Write}
 use Rattle.relay_batch.specs.declared.item.BatchItem.{BatchItem}
-use Rattle.relay_results.specs.Numbers.{from_one, from_zero}
-use Rattle.relay_results.specs.Outside.{Answer, Outside, Event, Ran, Sends, Runs, Answers, MayAnswer, MayHappen, Continues, after, after_all, AllMayHappen}
-use Rattle.relay_results.specs.Laws.{ContinuesItself, ContinuesOn, EventContinues}
+use Rattle.relay_results.specs.Numbers.{from_zero}
+use Rattle.relay_results.specs.Outside.{Answer, Outside, Event, Sends, Runs, Answers, MayHappen, Continues, after, after_all, AllMayHappen}
 use Rattle.relay_results.proofs.Steps.{continues_itself, continues_on, event_continues}
 use Rattle.relay_delivery.specs.Lane.{writes_of_all}
 use Rattle.relay_delivery.proofs.Fitting.{sound_where, complete_where, total_where}

@@ -1,8 +1,8 @@
 -- What turns add up to.
-use Rattle.std.proofs.Common.{◌≡◌, ◌≢◌, ℕ, zero, suc, ◌+◌, ◌-◌, ◌*◌, ◌<◌, ◌≤◌, List, [], ◌∷◌, ◌++◌, length, Option, Some, None, Bool, true, false, refl, sym, ap, ◌∙◌, subst, ⊎_elim, inl, inr, arith}
-use Rattle.std.specs.Prelude.{◌⊎◌, nat_lt, filter, is_some, option_map, if◌then◌else◌}
+use Rattle.std.proofs.Common.{◌≡◌, ◌≢◌, ℕ, ◌+◌, ◌-◌, ◌*◌, ◌<◌, ◌≤◌, List, [], ◌∷◌, ◌++◌, length, Option, Some, None, Bool, true, refl, sym, ap, ◌∙◌, subst, ⊎_elim, inl, inr, arith}
+use Rattle.std.specs.Prelude.{nat_lt, filter, is_some, option_map, if◌then◌else◌}
 use Rattle.std.proofs.Math.Nat.{suc-mul}
-use borrow.Author.Tests.{ltb-true, ltb-false}
+use borrow.Author.Tests.{ltb-false}
 use Rattle.relay_batch.specs.declared.item.BatchItem.{BatchItem}
 use Rattle.relay_results.specs.Words.{Mem}
 use Rattle.relay_results.specs.Outside.{Answer, Unanswered}
@@ -10,11 +10,11 @@ use Rattle.relay_results.proofs.Lists.{true_or_false, Mem-filter}
 use Rattle.relay_delivery.specs.Bound.{tries_left}
 use Rattle.relay_delivery.specs.Lane.{Entry, held_of}
 use Rattle.relay_lane.specs.State.{State, next_batch, is_eligible, due_in, first_due}
-use Rattle.relay_drain.specs.Rest.{last_tick, IsWaiting, IsAtRest}
-use Rattle.relay_drain.specs.Turns.{Turn, Stays, Exchanges, Pauses, after_exchange, after_ticks, after_turn, MayTurn, after_turns, AllMayTurn, Worked, exchanges, ticks, sends_of, sends_among, sends_left}
+use Rattle.relay_drain.specs.Rest.{last_tick, IsAtRest}
+use Rattle.relay_drain.specs.Turns.{Turn, Stays, Exchanges, Pauses, after_exchange, after_ticks, after_turn, MayTurn, after_turns, AllMayTurn, Worked, exchanges, ticks, sends_of, sends_among}
 use Rattle.relay_drain.specs.Laws.{Keeps, TurnsKeep, WorksOn, LeftAtMost, LeftIsTries}
-use Rattle.relay_drain.proofs.Exchanging.{sent, done, done_is, done_rests, done_requests, done_next, done_clock, done_stays, sends_fewer}
-use Rattle.relay_drain.proofs.Waiting.{HasFirst, some_first}
+use Rattle.relay_drain.proofs.Exchanging.{done_is, done_rests, done_requests, done_next, done_clock, done_stays, sends_fewer}
+use Rattle.relay_drain.proofs.Waiting.{some_first}
 
 -- ---- lists of turns
 

@@ -1,23 +1,20 @@
 -- A request and its answer: the lane is at rest again, and may send fewer requests than before.
-use Rattle.std.proofs.Common.{◌≡◌, ◌≢◌, ℕ, zero, suc, ◌+◌, ◌-◌, ◌*◌, ◌<◌, ◌≤◌, List, [], ◌∷◌, ◌++◌, length, Option, Some, None, Bool, true, false, refl, sym, ap, ◌∙◌, subst, ⊎_elim, inl, inr, arith, length-append}
-use Rattle.std.specs.Prelude.{◌⊎◌, option_map, ◌==◌, ◌&&◌, ◌||◌, not, nat_lt, nat_le, map, filter, min, is_some, if◌then◌else◌}
+use Rattle.std.proofs.Common.{◌≡◌, ◌≢◌, ℕ, suc, ◌+◌, ◌-◌, ◌<◌, ◌≤◌, List, [], ◌∷◌, ◌++◌, length, Option, Some, None, Bool, true, false, refl, sym, ap, ◌∙◌, subst, ⊎_elim, inl, inr, arith}
+use Rattle.std.specs.Prelude.{option_map, ◌==◌, ◌||◌, not, nat_lt, map, filter, if◌then◌else◌}
 use Rattle.std.specs.List.{list_any}
 use Rattle.std.proofs.lemmas.List.{length-map}
 use borrow.Author.Tests.{ltb-true, ltb-false}
 use Rattle.relay_action.specs.declared.write.Write.{Write}
-use Rattle.relay_action.specs.declared.action.ActionKind.{ActionKind}
 use Rattle.relay_action.specs.Actions.{kind_of}
 use Rattle.relay_batch.specs.declared.item.BatchItem.{BatchItem}
-use Rattle.relay_flight.specs.Flying as flight
-use Rattle.relay_results.specs.Words.{Mem, IsSubsequence}
+use Rattle.relay_results.specs.Words.{Mem}
 use Rattle.relay_results.specs.Numbers.{from_one, from_zero}
 use Rattle.relay_results.specs.Outside.{Answer, Unanswered}
 use Rattle.relay_results.specs.Fates.{Fate, Flies, Applied, Already, Retried, Reported, Tries, fate}
-use Rattle.relay_results.proofs.Lists.{true_or_false, and_left, equal_test, Mem-cases, Mem-one, Mem-map, Mem-sub}
+use Rattle.relay_results.proofs.Lists.{true_or_false, and_left, equal_test, Mem-cases, Mem-one}
 use Rattle.relay_results.proofs.Fates.{answers_end, retried_tries}
-use Rattle.relay_delivery.specs.Machine.{Config, Held, Place, write_of, version_at, place_of, launched_at, launched, landed, fate_of}
-use Rattle.relay_delivery.specs.Lane as delivery
-use Rattle.relay_delivery.specs.Lane.{Entry, Flying, held_of, candidates, is_candidate, writes_of_all, launched_entry, backoff, kept_entry, kept_entries, is_other, settled, writes_at}
+use Rattle.relay_delivery.specs.Machine.{Config, Held, place_of, launched_at, launched, fate_of}
+use Rattle.relay_delivery.specs.Lane.{Entry, Flying, held_of, candidates, writes_of_all, launched_entry, backoff, kept_entry, kept_entries, is_other, writes_at}
 use Rattle.relay_lane.specs.State.{State, all_closed, gathering, next_batch, next_entries, after_request, answered, is_flying, writes_of}
 use Rattle.relay_lane.specs.Rule.{item_of, offered, closes, goes, batch_if}
 use Rattle.relay_lane.proofs.Forming.{items_of_operations}

@@ -1,15 +1,12 @@
 -- A lane that was flushed, and how far its config goes.
-use Rattle.std.proofs.Common.{◌≡◌, ◌≢◌, ℕ, ◌+◌, ◌-◌, ◌<◌, ◌≤◌, List, [], ◌∷◌, length, Option, Some, None, Bool, true, false, refl, sym, ap, ◌∙◌, subst, ⊎_elim, inl, inr, arith}
+use Rattle.std.proofs.Common.{◌≡◌, ℕ, ◌+◌, ◌-◌, ◌<◌, List, [], ◌∷◌, Option, Some, None, Bool, true, refl, sym, ap, ◌∙◌, subst, ⊎_elim, inr, arith}
 use Rattle.std.specs.Prelude.{◌==◌, min, if◌then◌else◌}
 use Rattle.relay_batch.specs.declared.item.BatchItem.{BatchItem}
-use Rattle.relay_results.specs.Words.{Mem}
-use Rattle.relay_results.specs.Outside.{Answer}
 use Rattle.relay_results.proofs.Lists.{true_or_false, equal}
-use Rattle.relay_delivery.specs.Machine.{Config}
 use Rattle.relay_lane.specs.declared.config.RelayConfig.{RelayConfig}
-use Rattle.relay_lane.specs.State.{State, next_batch, after_request, answered, flushed, mark_of, IsLane}
+use Rattle.relay_lane.specs.State.{State, next_batch, after_request, flushed, mark_of}
 use Rattle.relay_drain.specs.Rest.{IsAtRest}
-use Rattle.relay_drain.specs.Turns.{Turn, Exchanges, Pauses, after_turn, after_turns, MayTurn, AllMayTurn, Worked, holds, is_full}
+use Rattle.relay_drain.specs.Turns.{Turn, Exchanges, Pauses, after_turn, after_turns, AllMayTurn, Worked, holds, is_full}
 use Rattle.relay_drain.specs.Steps.{IsPressed}
 
 pub flushed_rests : (s : State) → IsAtRest s → IsAtRest (flushed s)

@@ -1,18 +1,17 @@
 -- What a request carries keeps the limits of a batch, and so those of a wire.
-use Rattle.std.proofs.Common.{◌≡◌, ℕ, zero, suc, ◌+◌, ◌-◌, ◌*◌, ◌<◌, ◌≤◌, ◌^◌, List, [], ◌∷◌, ◌++◌, length, Option, Some, None, Bool, true, false, ◌&&◌, refl, sym, ap, ◌∙◌, subst, ⊎_elim, inl, inr, arith, length-append, append_assoc}
-use Rattle.std.specs.Prelude.{◌⊎◌, ◌||◌, nat_lt, nat_le, map, min, if◌then◌else◌}
-use Rattle.std.specs.List.{All, flat_map}
-use Rattle.std.proofs.lemmas.List.{map-append, length-map}
+use Rattle.std.proofs.Common.{◌≡◌, ℕ, ◌+◌, ◌-◌, ◌*◌, ◌<◌, ◌≤◌, List, [], ◌∷◌, ◌++◌, length, Option, Some, None, Bool, true, false, ◌&&◌, refl, sym, ap, ◌∙◌, subst, ⊎_elim, inl, inr, arith, length-append, append_assoc}
+use Rattle.std.specs.Prelude.{◌⊎◌, ◌||◌, nat_lt, nat_le, map, if◌then◌else◌}
+use Rattle.std.proofs.lemmas.List.{length-map}
 use Rattle.std.proofs.lemmas.List.Sums.{sum_by_push, sum_by-cons}
 use Rattle.std.proofs.lemmas.List.Elements.{All-nil, All-cons}
-use borrow.Author.Tests.{ltb-true, ltb-false, leb-true, leb-false}
+use borrow.Author.Tests.{ltb-false, leb-true, leb-false}
 use Rattle.relay_action.specs.declared.write.Write.{Write}
 use Rattle.relay_action.specs.declared.action.Action.{Action}
 use Rattle.relay_action.specs.declared.action.Action.TheVariants.{Index, Delete}
 use Rattle.relay_action.specs.Limits.{last_version}
-use Rattle.relay_ndjson.specs.Bulk.{write_text, text_of, line_end}
+use Rattle.relay_ndjson.specs.Bulk.{write_text, text_of}
 use Rattle.relay_ndjson.specs.Lines.{IsLine, IsRaw, line_limit}
-use Rattle.relay_ndjson.specs.Bodies.{AreDealt, IsLinesOf, IsSourceOf, IsBulk}
+use Rattle.relay_ndjson.specs.Bodies.{AreDealt, IsLinesOf, IsSourceOf}
 use Rattle.relay_ndjson.proofs.Written.{bulk_text_is_bulk}
 use Rattle.relay_batch.specs.declared.item.BatchItem.{BatchItem}
 use Rattle.relay_batch.specs.declared.item.Limits.{Limits}
@@ -20,15 +19,15 @@ use Rattle.relay_batch.specs.declared.offer.Offer.{Offer}
 use Rattle.relay_batch.specs.declared.offer.Offer.TheVariants.{Busy, Closed, Added}
 use Rattle.relay_batch.specs.Batches.{bytes_of}
 use Rattle.relay_batch.specs.Gathering.{Gathering, holds_document, is_count_reached, passes_bytes, answer_to}
-use Rattle.relay_results.specs.Words.{Mem, IsSubsequence}
-use Rattle.relay_results.proofs.Lists.{true_or_false, and_left, and_right, Mem-sub, filter_sub, sub_joined}
+use Rattle.relay_results.specs.Words.{Mem}
+use Rattle.relay_results.proofs.Lists.{and_left, and_right, Mem-sub, filter_sub, sub_joined}
 use Rattle.relay_delivery.specs.Causes.{deals_from}
 use Rattle.relay_delivery.specs.Machine.{Config, Place, write_of}
 use Rattle.relay_delivery.specs.Lane.{Entry, held_of, waits, is_candidate, candidates, writes_of_all}
 use Rattle.relay_lane.specs.declared.config.RelayConfig.{RelayConfig}
 use Rattle.relay_lane.specs.Limits.{is_from_to, are_valid_limits, is_valid}
 use Rattle.relay_lane.specs.Rule.{by_answer, chosen, item_of, with_item}
-use Rattle.relay_lane.specs.State.{State, config_of, gathering, next_entries, IsLane}
+use Rattle.relay_lane.specs.State.{State, gathering, next_entries, IsLane}
 use Rattle.relay_lane.proofs.Tying.{chosen_sub}
 use Rattle.relay_lane.proofs.Valid.{valid_facts}
 use Rattle.relay_drain.specs.Rest.{IsWaiting, IsAtRest}

@@ -1,19 +1,17 @@
 -- A fresh lane is at rest, and what is taken leaves it so.
-use Rattle.std.proofs.Common.{◌≡◌, ◌≢◌, ℕ, ◌+◌, ◌-◌, ◌<◌, ◌≤◌, List, [], ◌∷◌, ◌++◌, Bool, true, false, refl, sym, ap, subst, ⊎_elim, arith}
+use Rattle.std.proofs.Common.{◌≡◌, ℕ, ◌+◌, ◌≤◌, Bool, true, false, refl, sym, ap, subst, ⊎_elim, arith}
 use Rattle.std.specs.Prelude.{nat_lt, if◌then◌else◌}
 use Rattle.std.proofs.Math.Bool.{Bool-set}
 use Rattle.std.proofs.Math.Nat.{ℕ_set}
 use Rattle.std.specs.Coded.{le_prop}
-use borrow.Author.Tests.{ltb-true, ltb-false}
+use borrow.Author.Tests.{ltb-true}
 use Rattle.relay_action.specs.declared.operation.Op.{Op}
-use Rattle.relay_action.specs.declared.mail.Body.{Body}
 use Rattle.relay_action.specs.declared.mail.Body.TheVariants as body
 use Rattle.relay_results.specs.Words.{Mem}
 use Rattle.relay_results.proofs.Lists.{true_or_false, Mem-cases, Mem-one}
 use Rattle.relay_delivery.specs.Machine.{Config}
-use Rattle.relay_delivery.specs.Lane as delivery
 use Rattle.relay_delivery.specs.Lane.{Entry, entry_at, entry_if}
-use Rattle.relay_lane.specs.State.{State, fresh, later, bytes_of, after_take}
+use Rattle.relay_lane.specs.State.{State, later, bytes_of}
 use Rattle.relay_drain.specs.Rest.{last_tick, IsWaiting, IsAtRest}
 use Rattle.relay_drain.specs.Laws.{FreshRests, TakeRests}
 use Rattle.relay_drain.proofs.Flushing.{flushed_rests}

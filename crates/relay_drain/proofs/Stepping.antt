@@ -1,21 +1,18 @@
 -- One turn of a loop: what it keeps and what falls.
-use Rattle.std.proofs.Common.{◌≡◌, ◌≢◌, ℕ, ◌+◌, ◌-◌, ◌*◌, ◌<◌, ◌≤◌, ◌^◌, List, [], ◌∷◌, length, Option, Some, None, Bool, true, false, refl, sym, ap, ◌∙◌, subst, ⊎_elim, inl, inr, arith}
-use Rattle.std.specs.Prelude.{◌⊎◌, IfSome, is_some}
+use Rattle.std.proofs.Common.{◌≡◌, ℕ, ◌+◌, ◌*◌, ◌≤◌, length, Option, Some, None, Bool, true, false, refl, sym, ap, ◌∙◌, subst, ⊎_elim, inl, inr, arith}
+use Rattle.std.specs.Prelude.{◌⊎◌, is_some}
 use Rattle.std.specs.List.{list_all}
 use Rattle.std.proofs.Math.Nat.{mul-le-mul_left}
-use Rattle.relay_action.specs.declared.operation.Op.{Op}
-use Rattle.relay_results.specs.Words.{Mem}
-use Rattle.relay_results.specs.Outside.{Outside, Unanswered}
+use Rattle.relay_results.specs.Outside.{Outside}
 use Rattle.relay_results.proofs.Steps.{continues_itself}
 use Rattle.relay_delivery.specs.Machine.{Config}
-use Rattle.relay_delivery.specs.Lane.{Entry}
 use Rattle.relay_delivery.proofs.Fitting.{clock_fits}
 use Rattle.relay_lane.specs.State.{State, all_closed, next_batch, due_in, IsLane}
 use Rattle.relay_lane.specs.Ties.{Fits}
 use Rattle.relay_lane.proofs.Valid.{valid_facts}
-use Rattle.relay_drain.specs.Rest.{last_tick, IsAtRest}
-use Rattle.relay_drain.specs.Turns.{Exchanges, Pauses, after_exchange, after_ticks, Worked, Paused, sends_left}
-use Rattle.relay_drain.specs.Steps.{Exchanged, IsPressed, IsDueLater}
+use Rattle.relay_drain.specs.Rest.{IsAtRest}
+use Rattle.relay_drain.specs.Turns.{Exchanges, Pauses, after_ticks, Worked, Paused, sends_left}
+use Rattle.relay_drain.specs.Steps.{Exchanged, IsPressed}
 use Rattle.relay_drain.specs.Delivers.{Delivers}
 use Rattle.relay_drain.specs.Laws.{Keeps}
 use Rattle.relay_drain.proofs.Exchanging.{done, done_is, done_from, done_mark}

@@ -1,20 +1,20 @@
 -- Where nothing is to be sent, the first operation that may be sent is due later.
-use Rattle.std.proofs.Common.{◌≡◌, ◌≢◌, ℕ, zero, suc, ◌+◌, ◌-◌, ◌<◌, ◌≤◌, List, [], ◌∷◌, ◌++◌, length, Option, Some, None, Bool, true, false, refl, sym, ap, ◌∙◌, subst, ⊎_elim, inl, inr, arith}
-use Rattle.std.specs.Prelude.{◌⊎◌, ◌&&◌, ◌||◌, not, nat_lt, nat_le, map, filter, min, option_map, if◌then◌else◌}
+use Rattle.std.proofs.Common.{◌≡◌, ℕ, ◌-◌, ◌<◌, ◌≤◌, List, [], ◌∷◌, length, Option, Some, None, Bool, true, false, refl, sym, ap, ◌∙◌, subst, ⊎_elim, inl, inr, arith}
+use Rattle.std.specs.Prelude.{◌&&◌, ◌||◌, not, nat_lt, nat_le, map, filter, min, option_map, if◌then◌else◌}
 use Rattle.std.specs.List.{list_any}
 use borrow.Author.Tests.{ltb-true, ltb-false, leb-true, leb-false}
 use Rattle.relay_batch.specs.declared.item.BatchItem.{BatchItem}
-use Rattle.relay_batch.specs.declared.offer.Offer.TheVariants.{Busy, Closed, Added}
-use Rattle.relay_batch.specs.Gathering.{Gathering, answer_to, is_ready}
+use Rattle.relay_batch.specs.declared.offer.Offer.TheVariants.{Closed, Added}
+use Rattle.relay_batch.specs.Gathering.{answer_to, is_ready}
 use Rattle.relay_results.specs.Words.{Mem}
 use Rattle.relay_results.specs.Documents.{document_of, same_document}
-use Rattle.relay_results.proofs.Lists.{true_or_false, and_left, and_right, and_both, or_left, or_right, Mem-filter, filter-Mem, map-Mem, Mem-map}
-use Rattle.relay_delivery.specs.Machine.{Held, Place}
-use Rattle.relay_delivery.specs.Lane.{Entry, held_of, waits, is_later, is_candidate, candidates}
-use Rattle.relay_lane.specs.Rule.{by_answer, offered, closes, chosen, item_of, with_item, is_marked, goes, batch_if, batch_of}
-use Rattle.relay_lane.specs.State.{State, all_closed, gathering, next_batch, is_eligible, sooner, first_due, due_in, IsLane}
+use Rattle.relay_results.proofs.Lists.{true_or_false, and_left, and_right, and_both, or_left, or_right, Mem-filter, filter-Mem, Mem-map}
+use Rattle.relay_delivery.specs.Machine.{Held}
+use Rattle.relay_delivery.specs.Lane.{Entry, held_of, waits, is_candidate, candidates}
+use Rattle.relay_lane.specs.Rule.{by_answer, offered, closes, chosen, item_of, with_item, is_marked, goes, batch_if}
+use Rattle.relay_lane.specs.State.{State, all_closed, gathering, next_batch, is_eligible, sooner, first_due, IsLane}
 use Rattle.relay_lane.proofs.Launching.{offered_chosen}
-use Rattle.relay_drain.specs.Rest.{last_tick, IsWaiting, IsAtRest}
+use Rattle.relay_drain.specs.Rest.{IsAtRest}
 use Rattle.relay_drain.specs.Steps.{IsPressed, IsDueLater}
 use Rattle.relay_drain.proofs.Limits.{valid_limits}
 

@@ -1,5 +1,5 @@
 -- What follows from the definitions.
-use Rattle.std.specs.Prelude.{◌≡◌, ◌+◌, ◌*◌, ◌<◌, ◌≤◌, ℕ, Bool, List, [], length, true}
+use Rattle.std.specs.Prelude.{◌≡◌, ◌+◌, ◌*◌, ◌<◌, ◌≤◌, ℕ, Bool, length}
 use Rattle.relay_action.specs.declared.mail.Body.{Body}
 use Rattle.relay_results.specs.Words.{Mem}
 use Rattle.relay_delivery.specs.Lane.{Entry, tries_of}

@@ -1,9 +1,8 @@
 -- Requests that are sent and lost.
-use Rattle.std.proofs.Common.{◌≡◌, ◌≢◌, ℕ, ◌+◌, ◌-◌, ◌<◌, List, [], ◌∷◌, ◌++◌, length, Option, Some, None, refl, sym, ap, ◌∙◌, subst, arith}
+use Rattle.std.proofs.Common.{◌≡◌, ◌≢◌, ℕ, List, [], ◌∷◌, ◌++◌, length, Option, Some, None, refl, ap, ◌∙◌, arith}
 use Rattle.std.specs.Prelude.{slice_get}
 use Rattle.relay_action.specs.declared.write.Write.{Write}
-use Rattle.relay_results.specs.Words.{update}
-use Rattle.relay_results.specs.Numbers.{from_one, from_zero}
+use Rattle.relay_results.specs.Numbers.{from_zero}
 use Rattle.relay_results.specs.Outside.{Request, Unanswered, Lost, Outside, Sends, Answers, MayAnswer, after, writes_of}
 use Rattle.relay_results.proofs.Lists.{at-left, at-last, at-within, at-update_other}
 use Rattle.relay_drain.specs.Wires.{RunsOn, SendsOn, AnswersOn, ExchangesOn, IsNext}

@@ -1,5 +1,5 @@
 -- Requests that an index runs.
-use Rattle.std.proofs.Common.{◌≡◌, ◌≢◌, ℕ, zero, suc, ◌+◌, ◌-◌, ◌<◌, List, [], ◌∷◌, ◌++◌, length, Option, Some, None, Bool, true, false, refl, sym, ap, ◌∙◌, subst, ⊎_elim, inl, inr, arith}
+use Rattle.std.proofs.Common.{◌≡◌, ◌≢◌, ℕ, suc, ◌+◌, List, [], ◌∷◌, ◌++◌, length, Option, Some, None, false, refl, sym, ap, ◌∙◌, subst, ⊎_elim, arith}
 use Rattle.std.specs.Prelude.{slice_get, option_and_then, is_some, Result, Ok, Err, IfOk}
 use Rattle.std.specs.Option.{option_to_list}
 use Rattle.relay_action.specs.declared.write.Write.{Write}
@@ -8,14 +8,13 @@ use Rattle.relay_index.specs.Runs.{Shows, outcome_of_run}
 use Rattle.relay_results.specs.declared.done.ItemDone.{ItemDone}
 use Rattle.relay_results.specs.declared.outcome.Outcome.{Outcome}
 use Rattle.relay_results.specs.Done.{outcome_of}
-use Rattle.relay_results.specs.Numbers.{from_one, from_zero}
+use Rattle.relay_results.specs.Numbers.{from_zero}
 use Rattle.relay_results.specs.Words.{Mem}
 use Rattle.relay_results.specs.Documents.{document_of}
 use Rattle.relay_results.specs.Outside.{Request, Unanswered, writes_of, Items, Lost, Answer, RunOutcome, IsOutcomeOf, Ran, Outside, Event, Sends, Runs, Answers, MayRun, MayAnswer, WasRun, EachWasRun, write_at, ran_of, after, after_all, AllMayHappen}
-use Rattle.relay_results.specs.Laws.{RunsItem}
 use Rattle.relay_results.proofs.Lists.{Mem-left, Mem-last, at-last, at-left, at-within, at-update_other}
 use Rattle.relay_results.proofs.Steps.{step_runs_item}
-use Rattle.relay_drain.specs.Wires.{IsRun, AreRuns, RunsOn, SendsOn, AnswersOn, ExchangesOn, IsNext}
+use Rattle.relay_drain.specs.Wires.{AreRuns, RunsOn, SendsOn, AnswersOn, ExchangesOn, IsNext}
 use Rattle.relay_drain_tests.specs.Telling.{IsSent, Waits, IsOutWith, RanOne, entry_of}
 use Rattle.relay_drain_tests.proofs.Losses.{no_runs, lost_on, unsent, unsent_on}
 

@@ -7,7 +7,7 @@ use Rattle.relay_index.specs.Runs.{Shows}
 use Rattle.relay_results.specs.declared.outcome.Outcome.{Outcome}
 use Rattle.relay_results.specs.Numbers.{from_zero}
 use Rattle.relay_results.specs.Words.{Mem}
-use Rattle.relay_results.specs.Outside.{Request, Unanswered, Ran, Outside, WasRun, EachWasRun, write_at}
+use Rattle.relay_results.specs.Outside.{Unanswered, Ran, Outside, EachWasRun}
 use Rattle.relay_drain.specs.Wires.{RunsOn}
 
 -- the request was sent with these writes, and not answered

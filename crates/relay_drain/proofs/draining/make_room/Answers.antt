@@ -1,9 +1,9 @@
-use Rattle.std.proofs.Common.{◌≡◌, ℕ, ◌<◌, ◌≤◌, sym, ap, ◌∙◌, subst, length, arith}
+use Rattle.std.proofs.Common.{◌≡◌, ℕ, ◌<◌, ◌≤◌, sym, ap, ◌∙◌, subst, length}
 use Rattle.std.specs.Prelude.{OnOk, OnErr}
 use Rattle.relay_lane.specs.declared.config.RelayConfig.{RelayConfig}
 use Rattle.relay_lane.specs.State.{State, flushed}
 use Rattle.relay_drain.specs.Rest.{IsAtRest}
-use Rattle.relay_drain.specs.Turns.{Worked, holds, is_full}
+use Rattle.relay_drain.specs.Turns.{Worked, holds}
 use Rattle.relay_drain.specs.Steps.{IsPressed}
 use Rattle.relay_drain.proofs.Flushing.{flushed_rests, flushed_pressed, worked_config, worked_full}
 use Rattle.relay_drain.proofs.draining.make_room.Goals as goal

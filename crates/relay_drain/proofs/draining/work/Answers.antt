@@ -1,11 +1,9 @@
-use Rattle.std.proofs.Common.{◌≡◌, ◌-◌, ◌+◌, ◌<◌, None, Some, true, length, refl, sym, ap, ◌∙◌, subst, arith}
-use Rattle.std.specs.Prelude.{nat_le}
+use Rattle.std.proofs.Common.{◌≡◌, ◌-◌, Some, true, refl, sym, ap, ◌∙◌, subst, arith}
 use Rattle.relay_lane.specs.State.{State, next_batch, due_in}
 use Rattle.relay_drain.specs.Rest.{IsAtRest}
 use Rattle.relay_drain.specs.Turns.{holds, after_ticks, Paused, sends_left}
 use Rattle.relay_drain.specs.Steps.{IsPressed, IsDueLater}
 use Rattle.relay_drain.proofs.Waiting.{due_later, within_test}
-use Rattle.relay_drain.proofs.Ticking.{if_some}
 use Rattle.relay_drain.proofs.Sending.{at_some}
 use Rattle.relay_drain.proofs.Counting.{worked_none, ticks_rest, stays_itself, stays_on, stays_as}
 use Rattle.relay_drain.proofs.Carrying.{delivers_itself, delivers_on}

@@ -1,4 +1,4 @@
-use Rattle.std.proofs.Common.{◌≡◌, ◌+◌, ◌<◌, Some, sym, ap, ◌∙◌, arith}
+use Rattle.std.proofs.Common.{◌≡◌, sym, ap, ◌∙◌, arith}
 use Rattle.relay_lane.specs.State.{due_in}
 use Rattle.relay_drain.specs.Turns.{after_ticks}
 use Rattle.relay_drain.proofs.Ticking.{tick_none, tick_more, some_same, if_some}

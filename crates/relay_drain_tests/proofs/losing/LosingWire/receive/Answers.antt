@@ -1,4 +1,4 @@
-use Rattle.std.proofs.Common.{◌≡◌, ◌⊎◌, ℕ, Option, Some, None, sym, subst, inl, ⊎_elim}
+use Rattle.std.proofs.Common.{ℕ, Option, Some, None, sym, subst, ⊎_elim}
 use Rattle.std.specs.Option.{option_to_list}
 use Rattle.relay_results.specs.Words.{Mem}
 use Rattle.relay_results.specs.Numbers.{from_zero}

@@ -1,4 +1,4 @@
-use Rattle.std.proofs.Common.{[], Vec, sym, ap, subst}
+use Rattle.std.proofs.Common.{[], Vec, sym, subst}
 use Rattle.relay_results.specs.declared.outcome.Outcome.{Outcome}
 use Rattle.relay_results.specs.Outside.{Outside, Items}
 use Rattle.relay_index.specs.Runs.{Shows}
