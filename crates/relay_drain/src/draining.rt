@@ -70,17 +70,14 @@ fn work<W: Wire, P: Pace>(
     Ok(())
 }
 
-/// Flushes, and then sends, repeats and settles until fewer than `max_held` operations are held, which is
-/// the config's number; where nothing is ready it pauses and ticks as [`drain`] does. So a lane that has
+/// Flushes, and then sends, repeats and settles until fewer than `max_held` operations are held; where nothing is ready it pauses and ticks as [`drain`] does. So a lane that has
 /// room is flushed and no more. `AllocError`: there was no memory for a request; the lane is as the last
 /// settled request left it, and the call may be made again.
 pub fn make_room<W: Wire, P: Pace>(
     lane: &mut Lane,
     wire: &mut W,
     pace: &mut P,
-    max_held: u32,
 ) -> Result<(), AllocError>
-    requires most { max_held ≡ lane.old.config.max_held }
     requires rest { IsAtRest lane.old }
     requires out { W.out wire.old ≡ [] }
     ensures done { OnOk result (length lane.new.core.held < lane.new.config.max_held) }
@@ -96,8 +93,9 @@ pub fn make_room<W: Wire, P: Pace>(
     ensures delivers { Delivers (W.describes wire.old) W.fits wire.old wire.new lane.old lane.new }
 {
     let _ = lane.totals();
+    let most = lane.max_held();
     lane.flush();
-    work(lane, wire, pace, max_held)
+    work(lane, wire, pace, most)
 }
 
 /// Sends, repeats and settles until a closed lane holds nothing: by at most as many requests as the

@@ -24,12 +24,10 @@ pub const CONFIG: RelayConfig = RelayConfig {
     first_version: 1,
 };
 
-/// A lane at rest, and how many operations it holds at most.
+/// A lane at rest.
 #[derive(Drop)]
 pub struct Desk {
     pub lane: Lane,
-    pub max_held: u32,
-    ghost most: { max_held ≡ lane.config.max_held },
     ghost rest: { IsAtRest lane } by { IsAtRest-prop lane },
 }
 
@@ -53,7 +51,6 @@ pub fn desk_of(alloc: Global, config: RelayConfig) -> Option<Desk> {
     }
     Some(Desk {
         lane: Lane::new(alloc, config).ok()?,
-        max_held: config.max_held,
     })
 }
 

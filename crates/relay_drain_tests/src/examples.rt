@@ -285,8 +285,7 @@ fn with_room(alloc: Global, ids: &[&str], way: Way) -> Result<(u32, u64, u64), F
     let mut desk = filled(alloc, ids).ok_or("not filled")?;
     let mut wire = wire_of(alloc, way);
     let mut pace = NO_PAUSES;
-    let max_held = desk.max_held;
-    make_room(&mut desk.lane, &mut wire, &mut pace, max_held)?;
+    make_room(&mut desk.lane, &mut wire, &mut pace)?;
     Ok((desk.lane.held(), wire.sends, pace.ticks))
 }
 

@@ -41,8 +41,8 @@ fn step(
     requires { wire.old.flying ≡ None }
     ensures { wire.new.flying ≡ None }
 {
-    if desk.lane.held() == desk.max_held {
-        make_room(&mut desk.lane, wire, pace, desk.max_held)?;
+    if desk.lane.held() == desk.lane.max_held() {
+        make_room(&mut desk.lane, wire, pace)?;
     }
     let id = format!(in alloc; "{}", document_of(number))?;
     let source = format!(in alloc; "{number}")?;

@@ -20,13 +20,13 @@ the_same n s u t most flush w = most ∙ ap (λ (c : RelayConfig). c.max_held) (
 
 pub returns-clause-done : goal.returns-clause-done
 returns-clause-done g c =
-    subst (λ n. OnOk c.work.result (length c.work.new.lane.core.held < n)) (the_same c.args.max_held c.args.lane.now c.flush.new.self c.work.new.lane c.requires.most c.flush.ensures c.work.ensures.worked) c.work.ensures.done
+    subst (λ n. OnOk c.work.result (length c.work.new.lane.core.held < n)) (the_same c.max_held-most.result c.args.lane.now c.flush.new.self c.work.new.lane c.max_held-most.ensures c.flush.ensures c.work.ensures.worked) c.work.ensures.done
 
 pub returns-clause-memory : goal.returns-clause-memory
 returns-clause-memory g c =
-    subst (λ n. OnErr c.work.result (n ≤ length c.work.new.lane.core.held)) (the_same c.args.max_held c.args.lane.now c.flush.new.self c.work.new.lane c.requires.most c.flush.ensures c.work.ensures.worked) c.work.ensures.memory
+    subst (λ n. OnErr c.work.result (n ≤ length c.work.new.lane.core.held)) (the_same c.max_held-most.result c.args.lane.now c.flush.new.self c.work.new.lane c.max_held-most.ensures c.flush.ensures c.work.ensures.worked) c.work.ensures.memory
 
 pub returns-clause-worked : goal.returns-clause-worked
 returns-clause-worked g c =
-    worked_full c.args.max_held (flushed c.args.lane.now) c.work.new.lane c.requires.most
-    (subst (λ s. Worked (holds c.args.max_held) s c.work.new.lane) c.flush.ensures c.work.ensures.worked)
+    worked_full c.max_held-most.result (flushed c.args.lane.now) c.work.new.lane c.max_held-most.ensures
+    (subst (λ s. Worked (holds c.max_held-most.result) s c.work.new.lane) c.flush.ensures c.work.ensures.worked)
