@@ -1,0 +1,85 @@
+-- The world as it stands in memory, and what always holds of it.
+use Rattle.std.specs.Prelude.{◌≡◌, ℕ, ◌+◌, ◌<◌, ◌≤◌, List, [], ◌∷◌, ◌++◌, Option, Some, None, option_map, unwrap_or, slice_get, slice_set, Bool, true, false, map, length}
+use Rattle.relay_action.specs.declared.operation.Op.{Op}
+use Rattle.relay_action.specs.declared.operation.OpName.{OpName}
+use Rattle.relay_action.specs.declared.write.Write.{Write}
+use Rattle.relay_action.specs.declared.mail.Mail.{Mail}
+use Rattle.relay_action.specs.declared.mail.Body.{Body}
+use Rattle.relay_batch.specs.declared.item.BatchItem.{BatchItem}
+use Rattle.relay_lane.specs.declared.config.RelayConfig.{RelayConfig}
+use Rattle.relay_results.specs.Documents.{Document, document_of, same_document, name_of, write_for}
+use Rattle.relay_results.specs.Outside.{Answer, Unanswered, Items, Whole, Lost, RunOutcome}
+use Rattle.relay_results.specs.Done.{failure}
+use Rattle.relay_index.specs.States as index
+use Rattle.relay_lane.specs.Limits.{is_valid}
+use Rattle.relay_world.specs.declared.request.RunDone.{RunDone}
+use Rattle.relay_world.specs.declared.request.Given.{Given}
+use Rattle.relay_world.specs.declared.request.Given.TheVariants.{Nothing, Entries, Status, Loss}
+use Rattle.relay_world.specs.declared.sender.Sender.{Sender}
+use Rattle.relay_world.specs.State.{Desk, Item, Sent, World, numbered, request_at, op_with}
+use Rattle.relay_world.specs.Changes.{is_done_mail}
+
+-- ---- requests
+
+abbrev pub run_outcome : RunDone → RunOutcome
+run_outcome r = record { status = r.status; error = failure r.result }
+
+abbrev pub answer_of : Given → Answer
+answer_of Nothing = Unanswered
+answer_of (Entries os) = Items os.items
+answer_of (Status status) = Whole status
+answer_of Loss = Lost
+
+-- the name and the write are those of an item of a request
+pub record IsItemOf (w : World) (request item : ℕ) (name : OpName) (x : Write) : Type 0 where
+  pub sent : Sent
+  pub was_sent : request_at w request ≡ Some sent
+  pub its_item : Item
+  pub stands : numbered sent.items item ≡ Some its_item
+  pub op : Op
+  pub its_op : op_with w sent.lane its_item.version ≡ Some op
+  pub name_is : name ≡ name_of op
+  pub write_is : x ≡ write_for op its_item.version
+
+-- ---- desks
+
+abbrev pub closed_if : Bool → ℕ → List Bool → List Bool
+closed_if true sender closed = slice_set closed sender true
+closed_if false sender closed = closed
+
+-- the senders that have closed, once a message is taken
+abbrev pub closed_by : Body → ℕ → List Bool → List Bool
+closed_by b sender closed = closed_if (is_done_mail b) sender closed
+
+-- Each queued message is of a known sender whose Done the lane will not have taken before it; once all are taken, the lane
+-- has taken the Done of those that have closed.
+abbrev pub Orderly : List Bool → List Mail → List Sender → Type 0
+Orderly closed [] senders = closed ≡ map (λ (s : Sender). s.closed) senders
+Orderly closed (m ∷ ms) senders = (slice_get closed m.sender ≡ Some false) × Orderly (closed_by m.body m.sender closed) ms senders
+
+-- the numbers of all batches are below this one
+abbrev pub AllBelow : ℕ → List (ℕ × List BatchItem) → Type 0
+AllBelow n [] = Unit {0}
+AllBelow n (b ∷ bs) = (b.0 < n) × AllBelow n bs
+
+pub record IsDesk (d : Desk) : Type 0 where
+  pub orderly : Orderly d.lane.closed d.queue d.senders
+  pub senders : length d.senders ≡ d.lane.config.producers + 1
+  pub fresh : AllBelow d.lane.flights.next d.lane.flights.batches
+
+-- the sender is known there, and has not closed there
+abbrev pub IsOpenAt : ℕ → Desk → Type 0
+IsOpenAt sender d = option_map (λ (s : Sender). s.closed) (slice_get d.senders sender) ≡ Some false
+
+-- ---- the world
+
+-- the desk works as the world does
+pub record WorksAs (c : RelayConfig) (d : Desk) : Type 0 where
+  pub config : d.lane.config ≡ c
+  pub senders : length d.senders ≡ c.producers + 1
+
+pub record ArePartsOf (w : World) : Type 0 where
+  pub valid : is_valid w.config ≡ true
+  pub lanes : length w.desks ≡ w.config.lanes
+  pub producers : length w.accepted ≡ w.config.producers
+  pub works : (l : ℕ) (d : Desk) → slice_get w.desks l ≡ Some d → WorksAs w.config d

@@ -1,0 +1,7 @@
+//! Tests of relay_world.
+#![tactic(auto)]
+
+#[cfg(test)]
+mod script;
+#[cfg(test)]
+mod worked;
