@@ -43,19 +43,10 @@ pub record IsItemOf (w : World) (request item : ℕ) (name : OpName) (x : Write)
 
 -- ---- desks
 
-abbrev pub closed_if : Bool → ℕ → List Bool → List Bool
-closed_if true sender closed = slice_set closed sender true
-closed_if false sender closed = closed
-
--- the senders that have closed, once a message is taken
-abbrev pub closed_by : Body → ℕ → List Bool → List Bool
-closed_by b sender closed = closed_if (is_done_mail b) sender closed
-
--- Each queued message is of a known sender whose Done the lane will not have taken before it; once all are taken, the lane
--- has taken the Done of those that have closed.
-abbrev pub Orderly : List Bool → List Mail → List Sender → Type 0
-Orderly closed [] senders = closed ≡ map (λ (s : Sender). s.closed) senders
-Orderly closed (m ∷ ms) senders = (slice_get closed m.sender ≡ Some false) × Orderly (closed_by m.body m.sender closed) ms senders
+-- each message is of one of so many senders
+abbrev pub AllKnown : ℕ → List Mail → Type 0
+AllKnown n [] = Unit {0}
+AllKnown n (m ∷ ms) = (m.sender < n) × AllKnown n ms
 
 -- the numbers of all batches are below this one
 abbrev pub AllBelow : ℕ → List (ℕ × List BatchItem) → Type 0
@@ -63,8 +54,8 @@ AllBelow n [] = Unit {0}
 AllBelow n (b ∷ bs) = (b.0 < n) × AllBelow n bs
 
 pub record IsDesk (d : Desk) : Type 0 where
-  pub orderly : Orderly d.lane.closed d.queue d.senders
-  pub senders : length d.senders ≡ d.lane.config.producers + 1
+  pub known : AllKnown (length d.lane.closed) d.queue
+  pub senders : length d.senders ≡ length d.lane.closed
   pub fresh : AllBelow d.lane.flights.next d.lane.flights.batches
 
 -- the sender is known there, and has not closed there

@@ -1,19 +1,21 @@
 //! A lane with its queue.
-ghost use Rattle.std.specs.Prelude.{◌≡◌, ℕ, ◌+◌, ◌≤◌, ◌≢◌, [], ◌∷◌, ◌++◌, None, Some, true, IsTrue, OnOk, OnErr, IfOk, IfSome, OnSome, IfNone, map, option_map, is_some, is_ok, length, nat_le, nat_lt, slice_get};
+ghost use Rattle.std.specs.Prelude.{◌≡◌, ℕ, ◌+◌, ◌≤◌, ◌≢◌, [], ◌∷◌, ◌++◌, None, Some, true, IsTrue, OnOk, OnErr, IfOk, IfSome, OnSome, IfNone, map, option_map, is_some, is_ok, length, nat_le, nat_lt, slice_get, vec_capacity};
+ghost use Rattle.std.specs.List.{list_all};
 ghost use Rattle.relay_lane.specs.Limits.{is_valid};
 ghost use Rattle.relay_lane.specs.Walk.{report_of};
-ghost use Rattle.relay_lane.specs.State.{answered, is_flying, next_batch, writes_of, AreCounts};
+ghost use Rattle.relay_lane.specs.State.{is_flying, after_request, next_batch, writes_of, AreCounts};
 ghost use Rattle.relay_results.specs.Outside.{Items, Whole, Lost};
 ghost use Rattle.relay_results.specs.Matching.{matches};
 ghost use Rattle.relay_world.specs.State.{fresh_desk, has_closed, is_done};
 ghost use Rattle.relay_world.specs.Refusals.{front_refusal};
-ghost use Rattle.relay_world.specs.Changes.{posted, took_front, sent_request, answered_desk, items_of};
-ghost use Rattle.relay_world.specs.Memory.{IsOpenAt, IsDesk};
+ghost use Rattle.relay_world.specs.Changes.{after_mail, posted, took_front, sent_request, answered_desk, item_of, items_of};
+ghost use Rattle.relay_world.specs.Memory.{AllBelow, IsOpenAt};
 
 use crate::event::Refusal;
 use crate::request::SentItem;
 use crate::sender::Sender;
 use relay_action::{Body, Mail, Op};
+use relay_batch::BatchItem;
 use relay_lane::{Lane, RelayConfig, Report, Settled, TakeFault};
 use relay_results::Outcome;
 use std::alloc::{AllocError, Global};
@@ -59,6 +61,54 @@ fn copy_of(body: &Body) -> Result<Body, AllocError>
     }
 }
 
+// Adds the items of a batch, for which there is room.
+fn add_items(alloc: Global, batch: &[BatchItem], items: &mut Vec<SentItem>)
+    requires none { items.old.items ≡ [] }
+    requires room { length batch.now ≤ vec_capacity items.old }
+    ensures { items.new.items ≡ map item_of batch.now }
+{
+    'batch: for item in batch {
+        items.push_reserved(SentItem::new(alloc, item.version));
+    }
+}
+
+// A lane forms its next request, if there is one. `AllocError`: there was no memory for it, and nothing
+// changed.
+fn form(lane: &mut Lane, alloc: Global) -> Result<Option<Formed>, AllocError>
+    requires { AllBelow lane.old.flights.next lane.old.flights.batches }
+    ensures when { IfOk result (λ o. is_some o ≡ is_some (next_batch lane.old)) }
+    ensures number { IfOk result (λ o. IfSome o (λ f. f.number ≡ lane.old.flights.next)) }
+    ensures items { IfOk result
+        (λ o. IfSome o (λ f. f.items.items ≡ items_of (next_batch lane.old))) }
+    ensures ok { OnOk result (lane.new ≡ after_request lane.old (next_batch lane.old)) }
+    ensures unchanged { OnErr result (lane.new ≡ lane.old) }
+{
+    let mut items = Vec::with_capacity(alloc, lane.held() as usize)?;
+    let Some(number) = lane.request()? else {
+        return Ok(None);
+    };
+    let batch = lane.items(number).unwrap();
+    add_items(alloc, batch, &mut items);
+    Ok(Some(Formed { number, items }))
+}
+
+// Whether each sender has closed.
+fn are_closed(senders: &[Sender]) -> bool
+    ensures { result ≡ list_all (λ s. s.closed) senders.now }
+{
+    senders.iter().all(|sender| sender.closed)
+}
+
+// What a sender has done at a lane with one message more.
+fn next_of(sender: Sender, body: &Body) -> Sender
+    ensures { result ≡ after_mail body.now sender }
+{
+    Sender {
+        count: sender.count.saturating_add(1),
+        closed: sender.closed || matches!(body, Body::Done),
+    }
+}
+
 impl Desk {
     pub(crate) fn new(alloc: Global, config: RelayConfig) -> Result<Desk, AllocError>
         requires { is_valid config ≡ true }
@@ -97,9 +147,7 @@ impl Desk {
     pub(crate) fn is_done(&self) -> bool
         ensures { result ≡ is_done self.now }
     {
-        self.senders.iter().all(|sender| sender.closed)
-            && self.queue.len() == 0
-            && self.lane.held() == 0
+        are_closed(&self.senders) && (self.queue.len() == 0 && self.lane.held() == 0)
     }
 
     // The operation at a place of what the lane took.
@@ -124,16 +172,11 @@ impl Desk {
         ensures unchanged { OnErr result (self.new ≡ self.old) }
     {
         self.queue.reserve(1)?;
-        let standing = self.senders[sender as usize];
-        let count = standing.count.saturating_add(1);
-        let closes = matches!(&body, Body::Done);
-        self.senders[sender as usize] = Sender {
-            count,
-            closed: standing.closed || closes,
-        };
+        let next = next_of(self.senders[sender as usize], &body);
+        self.senders[sender as usize] = next;
         self.queue.push_back_reserved(Mail {
             sender,
-            number: count,
+            number: next.count,
             body,
         });
         Ok(())
@@ -192,16 +235,7 @@ impl Desk {
         ensures ok { OnOk result (self.new ≡ sent_request self.old) }
         ensures unchanged { OnErr result (self.new ≡ self.old) }
     {
-        let mut items = Vec::with_capacity(alloc, self.lane.held() as usize)?;
-        let Some(number) = self.lane.request()? else {
-            return Ok(None);
-        };
-        if let Some(batch) = self.lane.items(number) {
-            for item in batch {
-                items.push_reserved(SentItem::new(alloc, item.version));
-            }
-        }
-        Ok(Some(Formed { number, items }))
+        form(&mut self.lane, alloc)
     }
 
     // Whether a request flies.
@@ -219,7 +253,10 @@ impl Desk {
         ensures matched { IfSome result (λ c. c.matched ≡ true) }
         ensures unchanged { IfNone result (self.new ≡ self.old) }
     {
-        self.lane.lost(number).ok()
+        match self.lane.lost(number) {
+            Ok(settled) => Some(settled),
+            Err(_) => None,
+        }
     }
 
     // A request as a whole was answered by this status.
@@ -231,7 +268,10 @@ impl Desk {
         ensures matched { IfSome result (λ c. c.matched ≡ true) }
         ensures unchanged { IfNone result (self.new ≡ self.old) }
     {
-        self.lane.whole(number, status).ok()
+        match self.lane.whole(number, status) {
+            Ok(settled) => Some(settled),
+            Err(_) => None,
+        }
     }
 
     // A request was answered by these entries.
@@ -242,6 +282,9 @@ impl Desk {
         ensures matched { IfSome result (λ c. c.matched ≡ matches outcomes.items (writes_of number self.old.lane)) }
         ensures unchanged { IfNone result (self.new ≡ self.old) }
     {
-        self.lane.reply(number, outcomes).ok()
+        match self.lane.reply(number, outcomes) {
+            Ok(settled) => Some(settled),
+            Err(_) => None,
+        }
     }
 }

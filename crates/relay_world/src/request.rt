@@ -35,6 +35,18 @@ pub enum Given {
     Loss,
 }
 
+// Whether the index applies a write.
+fn applies(index: &Index, write: &Write, choice: Choice) -> bool
+    ensures { result ≡ is_run index.now write.now choice }
+{
+    match choice {
+        Choice::Refuse(_) => false,
+        Choice::Run => index
+            .version(&write.key)
+            .is_none_or(|stored| stored < write.version),
+    }
+}
+
 // An item of a sent request. Contracts see it as the version of its operation and the outcomes of its runs.
 #[derive(Drop)]
 pub(crate) struct SentItem {
@@ -104,16 +116,13 @@ impl SentItem {
     {
         self.runs.reserve(1)?;
         names.reserve(1)?;
-        let applies = choice == Choice::Run
-            && index
-                .version(&write.key)
-                .is_none_or(|stored| stored < write.version);
+        let applied = applies(index, write, choice);
         let done = index.run(write, choice)?;
         self.runs.push_reserved(RunDone {
             status: done.status,
             result: done.result,
         });
-        if applies {
+        if applied {
             names.push_reserved(name);
         }
         Ok(done.status)

@@ -1,0 +1,4 @@
+pub mod Places
+pub mod Desks
+pub mod Named
+pub mod Ran
