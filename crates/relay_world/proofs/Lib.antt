@@ -2,3 +2,5 @@ pub mod Places
 pub mod Desks
 pub mod Named
 pub mod Ran
+pub mod Holding
+pub mod Starting

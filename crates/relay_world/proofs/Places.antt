@@ -1,7 +1,9 @@
 -- Elements at places of lists.
-use Rattle.std.proofs.Common.{◌≡◌, ◌≢◌, ℕ, zero, suc, ◌+◌, ◌<◌, ◌≤◌, List, [], ◌∷◌, ◌++◌, length, get_or, Option, Some, None, Bool, true, false, refl, sym, ap, ◌∙◌, subst, inl, inr, arith, rules}
-use Rattle.std.specs.Prelude.{slice_get, slice_set, map, OnOk, OnErr, Ok, Err, Result, option_map, is_some, IsSome, IsOk}
+use Rattle.std.proofs.Common.{◌≡◌, ◌≢◌, ℕ, zero, suc, ◌+◌, ◌-◌, ◌<◌, ◌≤◌, List, [], ◌∷◌, ◌++◌, length, get_or, Option, Some, None, Bool, true, false, refl, sym, ap, ◌∙◌, subst, inl, inr, arith, rules}
+use Rattle.std.specs.Prelude.{◌==◌, slice_get, slice_set, map, OnOk, OnErr, Ok, Err, Result, option_map, is_some, IsSome, IsOk}
 use Rattle.relay_results.specs.Words.{IsSubsequence, update}
+use Rattle.relay_results.proofs.Lists.{equal}
+use Rattle.relay_world.specs.State.{numbered}
 
 -- what follows from each of two outcomes follows
 pub either : {A E : Type 0} (r : Result A E) (P Q C : Type 0) → OnOk r P → OnErr r Q → (P → C) → (Q → C) → C
@@ -58,3 +60,15 @@ on_err (Err x) P Q f p = f p
 pub ok_fact : {A E : Type 0} (r : Result A E) (P : Type 0) → IsOk r → OnOk r P → P
 ok_fact (Ok x) P i p = p
 ok_fact (Err x) P i p = absurd (cc)
+
+-- a number that is not 0 is that of the element before it
+pub minus_one : {A : Type 0} (xs : List A) (n : ℕ) → (n ≡ 0 → ⊥) → numbered xs n ≡ slice_get xs (n - 1)
+minus_one xs n ne = by (n == 0) refl
+  where
+    by : (b : Bool) → (n == 0) ≡ b → numbered xs n ≡ slice_get xs (n - 1)
+    by true e = absurd (ne (equal n 0 e))
+    by false e = rw e refl
+
+pub on_err_two : {A E : Type 0} (r : Result A E) (P Q R : Type 0) → (P → Q → R) → OnErr r P → OnErr r Q → OnErr r R
+on_err_two (Ok x) P Q R f p q = p
+on_err_two (Err x) P Q R f p q = f p q

@@ -12,12 +12,14 @@ use Rattle.relay_results.specs.Outside.{Answer, Unanswered, Items, Whole, Lost, 
 use Rattle.relay_results.specs.Done.{failure}
 use Rattle.relay_index.specs.States as index
 use Rattle.relay_lane.specs.Limits.{is_valid}
+use Rattle.relay_lane.specs.State as lane
+use Rattle.relay_action.specs.declared.key.DocKey.{DocKey}
 use Rattle.relay_world.specs.declared.request.RunDone.{RunDone}
 use Rattle.relay_world.specs.declared.request.Given.{Given}
 use Rattle.relay_world.specs.declared.request.Given.TheVariants.{Nothing, Entries, Status, Loss}
 use Rattle.relay_world.specs.declared.sender.Sender.{Sender}
-use Rattle.relay_world.specs.State.{Desk, Item, Sent, World, numbered, request_at, op_with}
-use Rattle.relay_world.specs.Changes.{is_done_mail}
+use Rattle.relay_world.specs.State.{Desk, Item, Sent, World, desk_at, numbered, request_at, op_with, write_at}
+use Rattle.relay_world.specs.Changes.{after_send}
 
 -- ---- requests
 
@@ -40,6 +42,11 @@ pub record IsItemOf (w : World) (request item : ℕ) (name : OpName) (x : Write)
   pub its_op : op_with w sent.lane its_item.version ≡ Some op
   pub name_is : name ≡ name_of op
   pub write_is : x ≡ write_for op its_item.version
+
+-- the document and the version are those of the write of an item
+pub record IsWriteAt (w : World) (request item : ℕ) (key : DocKey) (version : ℕ) : Type 0 where
+  pub document : option_map (λ (x : Write). x.key) (write_at w request item) ≡ Some key
+  pub dealt : option_map (λ (x : Write). x.version) (write_at w request item) ≡ Some version
 
 -- ---- desks
 
@@ -74,3 +81,26 @@ pub record ArePartsOf (w : World) : Type 0 where
   pub lanes : length w.desks ≡ w.config.lanes
   pub producers : length w.accepted ≡ w.config.producers
   pub works : (l : ℕ) (d : Desk) → slice_get w.desks l ≡ Some d → WorksAs w.config d
+
+-- there is such a lane
+pub record IsThere (w : World) (l : ℕ) : Type 0 where
+  pub desk : Desk
+  pub there : desk_at w l ≡ Some desk
+
+-- there is such a lane, and the sender is known and has not closed there
+pub record IsOpenIn (w : World) (sender l : ℕ) : Type 0 where
+  pub desk : Desk
+  pub there : desk_at w l ≡ Some desk
+  pub is_open : IsOpenAt sender desk
+
+-- the lane formed a request, or there was none to form
+abbrev pub FormsBy : World → ℕ → Option (List BatchItem) → Bool → World → Type 0
+FormsBy w l None b new = (b ≡ false) × (new ≡ w)
+FormsBy w l (Some is) b new = (b ≡ true) × (new ≡ after_send w l)
+
+abbrev pub batch_at : Option Desk → Option (List BatchItem)
+batch_at None = None
+batch_at (Some d) = lane.next_batch d.lane
+
+abbrev pub Forms : World → ℕ → Bool → World → Type 0
+Forms w l b new = FormsBy w l (batch_at (desk_at w l)) b new

@@ -7,7 +7,7 @@ ghost use Rattle.relay_lane.specs.State.{is_flying, after_request, next_batch, w
 ghost use Rattle.relay_results.specs.Outside.{Items, Whole, Lost};
 ghost use Rattle.relay_results.specs.Matching.{matches};
 ghost use Rattle.relay_world.specs.State.{fresh_desk, has_closed, is_done};
-ghost use Rattle.relay_world.specs.Refusals.{front_refusal};
+ghost use Rattle.relay_world.specs.Refusals.{cause_if, front_refusal};
 ghost use Rattle.relay_world.specs.Changes.{after_mail, posted, took_front, sent_request, answered_desk, item_of, items_of};
 ghost use Rattle.relay_world.specs.Memory.{AllBelow, IsOpenAt};
 
@@ -16,7 +16,7 @@ use crate::request::SentItem;
 use crate::sender::Sender;
 use relay_action::{Body, Mail, Op};
 use relay_batch::BatchItem;
-use relay_lane::{Lane, RelayConfig, Report, Settled, TakeFault};
+use relay_lane::{Lane, NotFlying, RelayConfig, Report, Settled};
 use relay_results::Outcome;
 use std::alloc::{AllocError, Global};
 use std::collections::VecDeque;
@@ -126,13 +126,6 @@ impl Desk {
         })
     }
 
-    // How many messages are queued.
-    pub(crate) fn queued(&self) -> u64
-        ensures { result ≡ length self.now.queue }
-    {
-        self.queue.len() as u64
-    }
-
     // Whether a sender has closed here.
     pub(crate) fn has_closed(&self, sender: u32) -> bool
         ensures { result ≡ has_closed sender self.now }
@@ -180,6 +173,38 @@ impl Desk {
             body,
         });
         Ok(())
+    }
+
+    // Why a Close of a sender is refused here, if it is, among so many producers and messages.
+    pub(crate) fn close_refusal(
+        &self,
+        sender: u32,
+        producers: u32,
+        capacity: u32,
+    ) -> Option<Refusal>
+        ensures { result ≡ cause_if (nat_lt producers sender) Refusal.NoSuch
+            (cause_if (has_closed sender self.now) Refusal.Closed
+            (cause_if (nat_le capacity (length self.now.queue)) Refusal.QueueFull None)) }
+    {
+        if sender > producers {
+            return Some(Refusal::NoSuch);
+        }
+        if self.has_closed(sender) {
+            return Some(Refusal::Closed);
+        }
+        self.full_refusal(capacity)
+    }
+
+    // Whether so many messages are queued as may.
+    pub(crate) fn full_refusal(&self, capacity: u32) -> Option<Refusal>
+        ensures { result
+            ≡ cause_if (nat_le capacity (length self.now.queue)) Refusal.QueueFull None }
+    {
+        if self.queue.len() >= capacity as usize {
+            Some(Refusal::QueueFull)
+        } else {
+            None
+        }
     }
 
     // Why the lane takes nothing, if it does not.
@@ -246,45 +271,43 @@ impl Desk {
     }
 
     // The reply to a request was lost.
-    pub(crate) fn lost(&mut self, number: u64) -> Option<Settled>
-        ensures flies { is_some result ≡ is_flying number self.old.lane }
-        ensures ok { OnSome result (self.new ≡ answered_desk number Lost self.old) }
-        ensures counts { IfSome result (λ c. AreCounts self.old.lane number Lost c) }
-        ensures matched { IfSome result (λ c. c.matched ≡ true) }
-        ensures unchanged { IfNone result (self.new ≡ self.old) }
+    pub(crate) fn lost(&mut self, number: u64) -> Result<Settled, NotFlying>
+        ensures flies { is_ok result ≡ is_flying number self.old.lane }
+        ensures ok { OnOk result (self.new ≡ answered_desk number Lost self.old) }
+        ensures counts { IfOk result (λ c. AreCounts self.old.lane number Lost c) }
+        ensures matched { IfOk result (λ c. c.matched ≡ true) }
+        ensures unchanged { OnErr result (self.new ≡ self.old) }
     {
-        match self.lane.lost(number) {
-            Ok(settled) => Some(settled),
-            Err(_) => None,
-        }
+        self.lane.lost(number)
     }
 
     // A request as a whole was answered by this status.
-    pub(crate) fn whole(&mut self, number: u64, status: u16) -> Option<Settled>
+    pub(crate) fn whole(&mut self, number: u64, status: u16) -> Result<Settled, NotFlying>
         requires { status ≢ 200 }
-        ensures flies { is_some result ≡ is_flying number self.old.lane }
-        ensures ok { OnSome result (self.new ≡ answered_desk number (Whole status) self.old) }
-        ensures counts { IfSome result (λ c. AreCounts self.old.lane number (Whole status) c) }
-        ensures matched { IfSome result (λ c. c.matched ≡ true) }
-        ensures unchanged { IfNone result (self.new ≡ self.old) }
+        ensures flies { is_ok result ≡ is_flying number self.old.lane }
+        ensures ok { OnOk result (self.new ≡ answered_desk number (Whole status) self.old) }
+        ensures counts { IfOk result (λ c. AreCounts self.old.lane number (Whole status) c) }
+        ensures matched { IfOk result (λ c. c.matched ≡ true) }
+        ensures unchanged { OnErr result (self.new ≡ self.old) }
     {
-        match self.lane.whole(number, status) {
-            Ok(settled) => Some(settled),
-            Err(_) => None,
-        }
+        self.lane.whole(number, status)
     }
 
     // A request was answered by these entries.
-    pub(crate) fn reply(&mut self, number: u64, outcomes: Vec<Outcome>) -> Option<Settled>
-        ensures flies { is_some result ≡ is_flying number self.old.lane }
-        ensures ok { OnSome result (self.new ≡ answered_desk number (Items outcomes.items) self.old) }
-        ensures counts { IfSome result (λ c. AreCounts self.old.lane number (Items outcomes.items) c) }
-        ensures matched { IfSome result (λ c. c.matched ≡ matches outcomes.items (writes_of number self.old.lane)) }
-        ensures unchanged { IfNone result (self.new ≡ self.old) }
+    pub(crate) fn reply(
+        &mut self,
+        number: u64,
+        outcomes: Vec<Outcome>,
+    ) -> Result<Settled, NotFlying>
+        ensures flies { is_ok result ≡ is_flying number self.old.lane }
+        ensures ok { OnOk result
+            (self.new ≡ answered_desk number (Items outcomes.items) self.old) }
+        ensures counts { IfOk result
+            (λ c. AreCounts self.old.lane number (Items outcomes.items) c) }
+        ensures matched { IfOk result
+            (λ c. c.matched ≡ matches outcomes.items (writes_of number self.old.lane)) }
+        ensures unchanged { OnErr result (self.new ≡ self.old) }
     {
-        match self.lane.reply(number, outcomes) {
-            Ok(settled) => Some(settled),
-            Err(_) => None,
-        }
+        self.lane.reply(number, outcomes)
     }
 }

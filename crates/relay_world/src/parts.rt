@@ -1,16 +1,16 @@
 //! What the world is made of, and each event of it.
-ghost use Rattle.std.specs.Prelude.{◌≡◌, ℕ, ◌+◌, ◌<◌, ◌≤◌, [], ◌∷◌, ◌++◌, None, Some, true, OnOk, OnErr, IfOk, IfSome, IfNone, map, option_map, is_some, length};
-ghost use Rattle.relay_action.specs.declared.mail.Body.TheVariants as body;
-ghost use Rattle.relay_results.specs.Outside.{Answer, Items, Whole, Lost};
-ghost use Rattle.relay_results.specs.Documents.{document_of, name_of};
+ghost use Rattle.std.specs.Prelude.{◌≡◌, ℕ, ◌+◌, ◌-◌, ◌^◌, ◌<◌, ◌≤◌, [], ◌∷◌, ◌++◌, None, Some, true, OnOk, OnErr, IfOk, IfSome, IsSome, map, option_map, is_some, length, replicate};
+ghost use Rattle.relay_results.specs.Words.{update};
+ghost use Rattle.relay_results.specs.Documents.{document_of};
+ghost use Rattle.relay_index.specs.Keys.{AreKeys};
 ghost use Rattle.relay_lane.specs.Limits.{is_valid};
-ghost use Rattle.relay_world.specs.declared.event.Event.TheVariants as event;
 ghost use Rattle.relay_lane.specs.Walk.{report_of};
-ghost use Rattle.relay_world.specs.State.{fresh, lane_of, accepted_from, applied, names_at, reports, request_at, item_at, is_closed, is_finished, op_with, write_at};
+ghost use Rattle.relay_world.specs.declared.event.Event.TheVariants as event;
+ghost use Rattle.relay_world.specs.State.{fresh, fresh_desk, desk_at, lane_of, accepted_from, applied, names_at, reports, request_at, item_at, is_closed, is_finished, op_with, write_at};
 ghost use Rattle.relay_world.specs.Refusals.{put_refusal, close_refusal, control_refusal, take_refusal, may_choose, is_flying, entry_at, entries};
-ghost use Rattle.relay_world.specs.Memory.{IsItemOf};
-ghost use Rattle.relay_world.specs.Changes.{op_of_put, after_put, at_lane, posted};
+ghost use Rattle.relay_world.specs.Changes.{after_put, at_lane, posted, took_front, with_answer};
 ghost use Rattle.relay_world.specs.Steps.{Steps};
+ghost use Rattle.relay_world.specs.Memory.{answer_of, IsItemOf, IsWriteAt, IsThere, IsOpenIn, Forms, ArePartsOf};
 
 use crate::accepted::Accepted;
 use crate::desk::{Desk, Formed};
@@ -50,6 +50,29 @@ impl Model for Parts {
     ghost invariant = { IsSound };
 }
 
+// So many fresh desks as there are lanes. `AllocError`: there was no memory for them.
+fn fresh_desks(alloc: Global, config: RelayConfig) -> Result<Vec<Desk>, AllocError>
+    requires { is_valid config ≡ true }
+    ensures { IfOk result (λ v. v.items ≡ replicate config.lanes (fresh_desk config)) }
+{
+    let mut desks = Vec::with_capacity(alloc, config.lanes as usize)?;
+    'desks: for _ in 0..config.lanes {
+        desks.push(Desk::new(alloc, config)?)?;
+    }
+    Ok(desks)
+}
+
+// So many empty lists as there are producers. `AllocError`: there was no memory for them.
+fn none_accepted(alloc: Global, producers: u32) -> Result<Vec<Accepted>, AllocError>
+    ensures { IfOk result (λ v. v.items ≡ replicate producers []) }
+{
+    let mut accepted = Vec::with_capacity(alloc, producers as usize)?;
+    'lists: for _ in 0..producers {
+        accepted.push(Accepted::new(alloc))?;
+    }
+    Ok(accepted)
+}
+
 // Whether an index may do so.
 fn may_choose(choice: Choice) -> bool
     ensures { result ≡ may_choose choice }
@@ -66,19 +89,11 @@ impl Parts {
         requires { is_valid config ≡ true }
         ensures { IfOk result (λ w. w ≡ fresh config index) }
     {
-        let mut desks = Vec::with_capacity(alloc, config.lanes as usize)?;
-        for _ in 0..config.lanes {
-            desks.push(Desk::new(alloc, config)?)?;
-        }
-        let mut accepted = Vec::with_capacity(alloc, config.producers as usize)?;
-        for _ in 0..config.producers {
-            accepted.push(Accepted::new(alloc))?;
-        }
         Ok(Parts {
             alloc,
             config,
-            desks,
-            accepted,
+            desks: fresh_desks(alloc, config)?,
+            accepted: none_accepted(alloc, config.producers)?,
             sent: Vec::new(alloc),
             index,
             names: Names::new(alloc),
@@ -86,8 +101,23 @@ impl Parts {
     }
 }
 
-// Look-ups.
+// What is asked.
 impl Parts {
+    // How it works.
+    fn config(&self) -> RelayConfig
+        ensures config { result ≡ self.now.config }
+        ensures kept { ArePartsOf self.now }
+    {
+        self.config
+    }
+
+    // A lane with its queue.
+    fn desk(&self, lane: u32) -> Option<&Desk>
+        ensures { option_map (λ d. d.now) result ≡ desk_at self.now lane }
+    {
+        self.desks.get(lane as usize)
+    }
+
     // What was accepted from a producer; nothing where there is no such producer.
     pub(crate) fn accepted(&self, producer: u32) -> &[Op]
         ensures { result.now ≡ accepted_from self.now producer }
@@ -121,14 +151,16 @@ impl Parts {
     pub(crate) fn reports(&self, lane: u32) -> &[Report]
         ensures { map report_of result.now ≡ reports self.now lane }
     {
-        match self.desks.get(lane as usize) {
+        match self.desk(lane) {
             Some(desk) => desk.reports(),
             None => &[],
         }
     }
 
-    // The documents that a write was applied to since the start.
-    pub(crate) fn keys(&self) -> Result<Vec<DocKey>, AllocError> {
+    // The documents that a write was applied to.
+    pub(crate) fn keys(&self) -> Result<Vec<DocKey>, AllocError>
+        ensures { IfOk result (λ keys. AreKeys self.now.index keys.items) }
+    {
         self.index.keys(self.alloc)
     }
 
@@ -137,17 +169,20 @@ impl Parts {
         ensures { option_map (λ s. s.now) result ≡ request_at self.now request }
     {
         if request == 0 {
-            return None;
+            None
+        } else {
+            self.sent.get((request - 1) as usize)
         }
-        self.sent.get((request - 1) as usize)
     }
 
     // The operation that a lane dealt a version.
     fn op_with(&self, lane: u32, version: u64) -> Option<&Op>
         ensures { option_map (λ o. o.now) result ≡ op_with self.now lane version }
     {
-        let desk = self.desks.get(lane as usize)?;
-        desk.op_at(version.saturating_sub(self.config.first_version))
+        match self.desk(lane) {
+            Some(desk) => desk.op_at(version.saturating_sub(self.config().first_version)),
+            None => None,
+        }
     }
 
     // Whether each sender has closed at each lane, nothing is queued, and no lane holds an operation.
@@ -171,7 +206,8 @@ impl Parts {
     fn put_refusal(&self, producer: u32, lane: u32) -> Option<Refusal>
         ensures { result ≡ put_refusal self.now producer lane }
     {
-        if producer >= self.config.producers {
+        let config = self.config();
+        if producer >= config.producers {
             return Some(Refusal::NoSuch);
         }
         if self.is_closed(producer) {
@@ -180,27 +216,23 @@ impl Parts {
         if self.accepted(producer).len() as u64 >= NUMBER_LIMIT {
             return Some(Refusal::NumbersSpent);
         }
-        match self.desks.get(lane as usize) {
+        match self.desk(lane) {
             None => Some(Refusal::NoSuch),
-            Some(desk) if desk.queued() >= u64::from(self.config.capacity) => {
-                Some(Refusal::QueueFull)
-            }
-            Some(_) => None,
+            Some(desk) => desk.full_refusal(config.capacity),
         }
     }
 
     // Accepts an operation, which is not refused.
-    fn accept(&mut self, op: Op) -> Result<(), AllocError>
-        requires { put_refusal self.old op.producer (lane_of self.old (document_of op.key)) ≡ None }
+    fn accept(&mut self, op: Op, lane: u32) -> Result<(), AllocError>
+        requires lane { lane ≡ lane_of self.old (document_of op.key) }
+        requires fits { put_refusal self.old op.producer lane ≡ None }
         ensures ok { OnOk result (self.new ≡ after_put self.old op) }
         ensures unchanged { OnErr result (self.new ≡ self.old) }
     {
-        let producer = op.producer as usize;
-        let lane = lane_of(&op.key, self.config.lanes) as usize;
-        self.accepted[producer].accept(op, &mut self.desks[lane])
+        self.accepted[op.producer as usize].accept(op, &mut self.desks[lane as usize])
     }
 
-    /// A producer puts an operation.
+    // A producer puts an operation.
     pub(crate) fn put(
         &mut self,
         producer: u32,
@@ -211,7 +243,8 @@ impl Parts {
             (λ x. Steps self.old (event.Put producer key.now action.now) x self.new) }
         ensures unchanged { OnErr result (self.new ≡ self.old) }
     {
-        if let Some(refusal) = self.put_refusal(producer, lane_of(key, self.config.lanes)) {
+        let lane = self.lane_of(key);
+        if let Some(refusal) = self.put_refusal(producer, lane) {
             return Ok(StepAnswer::Refused(refusal));
         }
         let op = Op {
@@ -221,30 +254,52 @@ impl Parts {
             action: action.copy()?,
         };
         let name = op.name();
-        self.accept(op)?;
+        self.accept(op, lane)?;
         Ok(StepAnswer::Put(name))
+    }
+
+    // The lane of a document.
+    fn lane_of(&self, key: &DocKey) -> u32
+        ensures { result ≡ lane_of self.now (document_of key.now) }
+    {
+        lane_of(key, self.config.lanes)
     }
 
     // Why a Close of a sender at a lane is refused, if it is.
     fn close_refusal(&self, sender: u32, lane: u32) -> Option<Refusal>
-        ensures { result ≡ close_refusal self.now sender lane }
+        ensures value { result ≡ close_refusal self.now sender lane }
+        ensures kept { ArePartsOf self.now }
     {
-        let Some(desk) = self.desks.get(lane as usize) else {
-            return Some(Refusal::NoSuch);
-        };
-        if sender > self.config.producers {
-            return Some(Refusal::NoSuch);
+        let config = self.config();
+        match self.desk(lane) {
+            None => Some(Refusal::NoSuch),
+            Some(desk) => desk.close_refusal(sender, config.producers, config.capacity),
         }
-        if desk.has_closed(sender) {
-            return Some(Refusal::Closed);
-        }
-        if desk.queued() >= u64::from(self.config.capacity) {
-            return Some(Refusal::QueueFull);
-        }
-        None
     }
 
-    /// A sender closes at a lane.
+    // Why a tick or a flush of a lane is refused, if it is.
+    fn control_refusal(&self, lane: u32) -> Option<Refusal>
+        ensures value { result ≡ control_refusal self.now lane }
+        ensures kept { ArePartsOf self.now }
+    {
+        let config = self.config();
+        match self.desk(lane) {
+            None => Some(Refusal::NoSuch),
+            Some(_) if self.is_closed(config.producers) => Some(Refusal::Closed),
+            Some(desk) => desk.full_refusal(config.capacity),
+        }
+    }
+
+    // Puts a message of a sender that has not closed there into the queue of a lane.
+    fn post(&mut self, sender: u32, lane: u32, body: Body) -> Result<(), AllocError>
+        requires { IsOpenIn self.old sender lane }
+        ensures ok { OnOk result (self.new ≡ at_lane lane (posted sender body) self.old) }
+        ensures unchanged { OnErr result (self.new ≡ self.old) }
+    {
+        self.desks[lane as usize].post(sender, body)
+    }
+
+    // A sender closes at a lane.
     pub(crate) fn close(&mut self, sender: u32, lane: u32) -> Result<StepAnswer, AllocError>
         ensures ok { IfOk result (λ x. Steps self.old (event.Close sender lane) x self.new) }
         ensures unchanged { OnErr result (self.new ≡ self.old) }
@@ -252,27 +307,11 @@ impl Parts {
         if let Some(refusal) = self.close_refusal(sender, lane) {
             return Ok(StepAnswer::Refused(refusal));
         }
-        self.desks[lane as usize].post(sender, Body::Done)?;
+        self.post(sender, lane, Body::Done)?;
         Ok(StepAnswer::Done)
     }
 
-    // Why a tick or a flush of a lane is refused, if it is.
-    fn control_refusal(&self, lane: u32) -> Option<Refusal>
-        ensures { result ≡ control_refusal self.now lane }
-    {
-        let Some(desk) = self.desks.get(lane as usize) else {
-            return Some(Refusal::NoSuch);
-        };
-        if self.is_closed(self.config.producers) {
-            return Some(Refusal::Closed);
-        }
-        if desk.queued() >= u64::from(self.config.capacity) {
-            return Some(Refusal::QueueFull);
-        }
-        None
-    }
-
-    /// The control puts a tick into the queue of a lane.
+    // The control puts a tick into the queue of a lane.
     pub(crate) fn tick(&mut self, lane: u32) -> Result<StepAnswer, AllocError>
         ensures ok { IfOk result (λ x. Steps self.old (event.Tick lane) x self.new) }
         ensures unchanged { OnErr result (self.new ≡ self.old) }
@@ -280,11 +319,12 @@ impl Parts {
         if let Some(refusal) = self.control_refusal(lane) {
             return Ok(StepAnswer::Refused(refusal));
         }
-        self.desks[lane as usize].post(self.config.producers, Body::Tick)?;
+        let control = self.config().producers;
+        self.post(control, lane, Body::Tick)?;
         Ok(StepAnswer::Done)
     }
 
-    /// The control puts a flush into the queue of a lane.
+    // The control puts a flush into the queue of a lane.
     pub(crate) fn flush(&mut self, lane: u32) -> Result<StepAnswer, AllocError>
         ensures ok { IfOk result (λ x. Steps self.old (event.Flush lane) x self.new) }
         ensures unchanged { OnErr result (self.new ≡ self.old) }
@@ -292,7 +332,8 @@ impl Parts {
         if let Some(refusal) = self.control_refusal(lane) {
             return Ok(StepAnswer::Refused(refusal));
         }
-        self.desks[lane as usize].post(self.config.producers, Body::Flush)?;
+        let control = self.config().producers;
+        self.post(control, lane, Body::Flush)?;
         Ok(StepAnswer::Done)
     }
 }
@@ -303,13 +344,22 @@ impl Parts {
     fn take_refusal(&self, lane: u32) -> Option<Refusal>
         ensures { result ≡ take_refusal self.now lane }
     {
-        match self.desks.get(lane as usize) {
-            Some(desk) => desk.front_refusal(self.config.max_held),
+        match self.desk(lane) {
+            Some(desk) => desk.front_refusal(self.config().max_held),
             None => Some(Refusal::NoSuch),
         }
     }
 
-    /// A lane takes the front of its queue.
+    // A lane takes the front of its queue, which is not refused.
+    fn take_front(&mut self, lane: u32) -> Result<(), AllocError>
+        requires { take_refusal self.old lane ≡ None }
+        ensures ok { OnOk result (self.new ≡ at_lane lane took_front self.old) }
+        ensures unchanged { OnErr result (self.new ≡ self.old) }
+    {
+        self.desks[lane as usize].take()
+    }
+
+    // A lane takes the front of its queue.
     pub(crate) fn take(&mut self, lane: u32) -> Result<StepAnswer, AllocError>
         ensures ok { IfOk result (λ x. Steps self.old (event.Take lane) x self.new) }
         ensures unchanged { OnErr result (self.new ≡ self.old) }
@@ -317,30 +367,53 @@ impl Parts {
         if let Some(refusal) = self.take_refusal(lane) {
             return Ok(StepAnswer::Refused(refusal));
         }
-        self.desks[lane as usize].take()?;
+        self.take_front(lane)?;
         Ok(StepAnswer::Done)
     }
 
-    /// A lane forms its next request, and it is sent.
+    // A lane forms its next request, if there is one, and it is sent.
+    fn form(&mut self, lane: u32) -> Result<bool, AllocError>
+        requires { IsThere self.old lane }
+        ensures ok { IfOk result (λ b. Forms self.old lane b self.new) }
+        ensures unchanged { OnErr result (self.new ≡ self.old) }
+    {
+        self.sent.reserve(1)?;
+        match self.desks[lane as usize].request(self.alloc)? {
+            None => Ok(false),
+            Some(Formed { number, items }) => {
+                self.sent.push_reserved(SentRequest {
+                    lane,
+                    number,
+                    items,
+                    given: Given::Nothing,
+                });
+                Ok(true)
+            }
+        }
+    }
+
+    // How many requests were sent.
+    fn requests(&self) -> u64
+        ensures requests { result ≡ length self.now.sent }
+        ensures few { result < 2 ^ 63 }
+    {
+        self.sent.len() as u64
+    }
+
+    // A lane forms its next request, and it is sent.
     pub(crate) fn send(&mut self, lane: u32) -> Result<StepAnswer, AllocError>
         ensures ok { IfOk result (λ x. Steps self.old (event.Send lane) x self.new) }
         ensures unchanged { OnErr result (self.new ≡ self.old) }
     {
-        if lane as usize >= self.desks.len() {
+        if self.desk(lane).is_none() {
             return Ok(StepAnswer::Refused(Refusal::NoSuch));
         }
-        self.sent.reserve(1)?;
-        let Some(formed) = self.desks[lane as usize].request(self.alloc)? else {
-            return Ok(StepAnswer::Refused(Refusal::NoRequest));
-        };
-        let Formed { number, items } = formed;
-        self.sent.push_reserved(SentRequest {
-            lane,
-            number,
-            items,
-            given: Given::Nothing,
-        });
-        Ok(StepAnswer::Sent(self.sent.len() as u64))
+        let number = self.requests().saturating_add(1);
+        if self.form(lane)? {
+            Ok(StepAnswer::Sent(number))
+        } else {
+            Ok(StepAnswer::Refused(Refusal::NoRequest))
+        }
     }
 }
 
@@ -350,16 +423,18 @@ impl Parts {
     fn item(&self, request: u64, item: u64) -> Option<&SentItem>
         ensures { option_map (λ i. i.now) result ≡ item_at self.now request item }
     {
-        if item == 0 {
-            return None;
+        match self.request(request) {
+            Some(sent) if item > 0 => sent.items.get((item - 1) as usize),
+            _ => None,
         }
-        self.request(request)?.items.get((item - 1) as usize)
     }
 
     // The name and the write of an item of a request.
     fn write(&self, request: u64, item: u64) -> Result<Option<(OpName, Write)>, AllocError>
-        ensures found { IfOk result (λ o. is_some o ≡ is_some (write_at self.now request item)) }
-        ensures write { IfOk result (λ o. IfSome o (λ p. IsItemOf self.now request item p.0 p.1)) }
+        ensures found { IfOk result
+            (λ o. is_some o ≡ is_some (write_at self.now request item)) }
+        ensures write { IfOk result
+            (λ o. IfSome o (λ p. IsItemOf self.now request item p.0 p.1)) }
     {
         let Some(sent) = self.request(request) else {
             return Ok(None);
@@ -378,14 +453,15 @@ impl Parts {
         Ok(Some((op.name(), write)))
     }
 
-    /// The index runs an item of a sent request.
+    // The index runs an item of a sent request.
     pub(crate) fn run(
         &mut self,
         request: u64,
         item: u64,
         choice: Choice,
     ) -> Result<StepAnswer, AllocError>
-        ensures ok { IfOk result (λ x. Steps self.old (event.Run request item choice) x self.new) }
+        ensures ok { IfOk result
+            (λ x. Steps self.old (event.Run request item choice) x self.new) }
         ensures unchanged { OnErr result (self.new ≡ self.old) }
     {
         let Some((name, write)) = self.write(request, item)? else {
@@ -412,7 +488,7 @@ impl Parts {
     fn is_flying(&self, sent: &SentRequest) -> bool
         ensures { result ≡ is_flying self.now sent.now }
     {
-        match self.desks.get(sent.lane as usize) {
+        match self.desk(sent.lane) {
             Some(desk) => desk.is_flying(sent.number),
             None => false,
         }
@@ -445,15 +521,21 @@ impl Parts {
     }
 
     // The entries of a reply to a request, if the picks are right and each item has the run.
-    fn entries(&self, sent: &SentRequest, picks: &[u64]) -> Result<Option<Vec<Outcome>>, AllocError>
-        ensures { IfOk result (λ o. option_map (λ v. v.items) o ≡ entries self.now sent.now picks.now) }
+    fn entries(
+        &self,
+        sent: &SentRequest,
+        picks: &[u64],
+    ) -> Result<Option<Vec<Outcome>>, AllocError>
+        ensures { IfOk result
+            (λ o. option_map (λ v. v.items) o ≡ entries self.now sent.now picks.now) }
     {
         if !picks.is_empty() && picks.len() != sent.items.len() {
             return Ok(None);
         }
         let mut outcomes = Vec::with_capacity(self.alloc, sent.items.len())?;
         for place in 0..sent.items.len() {
-            let Some(entry) = self.entry(sent.lane, &sent.items[place], picks.get(place).copied())?
+            let Some(entry) =
+                self.entry(sent.lane, &sent.items[place], picks.get(place).copied())?
             else {
                 return Ok(None);
             };
@@ -463,12 +545,21 @@ impl Parts {
     }
 
     // Notes what a request was answered.
-    fn note(&mut self, request: u64, given: Given) {
+    fn note(&mut self, request: u64, given: Given)
+        requires { IsSome (request_at self.old request) }
+        ensures { self.new ≡ record self.old {
+          sent = update (request - 1) (with_answer (answer_of given)) self.old.sent;
+        } }
+    {
         self.sent[(request - 1) as usize].given = given;
     }
 
-    /// A request is answered by the outcomes of its items' runs.
-    pub(crate) fn reply(&mut self, request: u64, picks: &[u64]) -> Result<StepAnswer, AllocError> {
+    // A request is answered by the outcomes of its items' runs.
+    pub(crate) fn reply(&mut self, request: u64, picks: &[u64]) -> Result<StepAnswer, AllocError>
+        ensures ok { IfOk result
+            (λ x. Steps self.old (event.Reply request picks.now) x self.new) }
+        ensures unchanged { OnErr result (self.new ≡ self.old) }
+    {
         let Some(sent) = self.request(request) else {
             return Ok(StepAnswer::Refused(Refusal::NotSent));
         };
@@ -482,15 +573,17 @@ impl Parts {
         let Some(given) = self.entries(sent, picks)? else {
             return Ok(StepAnswer::Refused(Refusal::NotRun));
         };
-        let Some(counts) = self.desks[lane as usize].reply(number, given) else {
+        let Ok(counts) = self.desks[lane as usize].reply(number, given) else {
             return Ok(StepAnswer::Refused(Refusal::NotFlying));
         };
         self.note(request, Given::Entries(kept));
         Ok(StepAnswer::Settled(counts))
     }
 
-    /// A request as a whole is answered by a status.
-    pub(crate) fn whole(&mut self, request: u64, status: u16) -> StepAnswer {
+    // A request as a whole is answered by a status.
+    pub(crate) fn whole(&mut self, request: u64, status: u16) -> StepAnswer
+        ensures { Steps self.old (event.Whole request status) result self.new }
+    {
         let Some(sent) = self.request(request) else {
             return StepAnswer::Refused(Refusal::NotSent);
         };
@@ -501,15 +594,17 @@ impl Parts {
             return StepAnswer::Refused(Refusal::BadStatus);
         }
         let (lane, number) = (sent.lane, sent.number);
-        let Some(counts) = self.desks[lane as usize].whole(number, status) else {
+        let Ok(counts) = self.desks[lane as usize].whole(number, status) else {
             return StepAnswer::Refused(Refusal::NotFlying);
         };
         self.note(request, Given::Status(status));
         StepAnswer::Settled(counts)
     }
 
-    /// The reply to a request is lost.
-    pub(crate) fn lost(&mut self, request: u64) -> StepAnswer {
+    // The reply to a request is lost.
+    pub(crate) fn lost(&mut self, request: u64) -> StepAnswer
+        ensures { Steps self.old (event.Lost request) result self.new }
+    {
         let Some(sent) = self.request(request) else {
             return StepAnswer::Refused(Refusal::NotSent);
         };
@@ -517,7 +612,7 @@ impl Parts {
             return StepAnswer::Refused(Refusal::NotFlying);
         }
         let (lane, number) = (sent.lane, sent.number);
-        let Some(counts) = self.desks[lane as usize].lost(number) else {
+        let Ok(counts) = self.desks[lane as usize].lost(number) else {
             return StepAnswer::Refused(Refusal::NotFlying);
         };
         self.note(request, Given::Loss);
@@ -526,8 +621,9 @@ impl Parts {
 
     // The document and the version of an item of a sent request.
     pub(crate) fn sent(&self, request: u64, item: u64) -> Option<(&DocKey, u64)>
-        ensures { option_map (λ p. (p.0.now, p.1)) result
-            ≡ option_map (λ x. (x.key, x.version)) (write_at self.now request item) }
+        ensures found { is_some result ≡ is_some (write_at self.now request item) }
+        ensures write { IfSome result
+            (λ p. IsWriteAt self.now request item p.0.now p.1) }
     {
         let sent = self.request(request)?;
         let item = self.item(request, item)?;
