@@ -1,6 +1,6 @@
 -- What the parts of the world keep.
-use Rattle.std.proofs.Common.{◌≡◌, ◌≢◌, ℕ, zero, suc, ◌+◌, ◌<◌, ◌≤◌, List, [], ◌∷◌, ◌++◌, length, Option, Some, None, Bool, true, false, refl, sym, ap, ◌∙◌, subst, ⊎_elim, arith}
-use Rattle.std.specs.Prelude.{slice_get, slice_set, option_map, unwrap_or, nat_lt, nat_le, OnOk, OnErr, Result}
+use Rattle.std.proofs.Common.{◌≡◌, ◌≢◌, ℕ, zero, suc, ◌+◌, ◌<◌, ◌≤◌, List, [], ◌∷◌, ◌++◌, length, Option, Some, None, Bool, true, false, refl, sym, ap, ◌∙◌, subst, ⊎_elim, arith, append-nil}
+use Rattle.std.specs.Prelude.{slice_get, slice_set, option_map, unwrap_or, nat_lt, nat_le, is_some, OnOk, OnErr, IfOk, Ok, Err, Result, if◌then◌else◌}
 use Rattle.relay_action.specs.declared.mail.Mail.{Mail}
 use Rattle.relay_action.specs.declared.mail.Body.{Body}
 use Rattle.relay_action.specs.declared.operation.Op.{Op}
@@ -19,7 +19,7 @@ use borrow.Author.Tests.{ltb-false, leb-false}
 use Rattle.relay_world.specs.State.{Desk, Sent, World, desk_at, lane_of, has_closed, is_closed}
 use Rattle.relay_world.specs.Refusals.{cause_if, at_desk, front_refusal, put_refusal, close_refusal, control_refusal, take_refusal, is_spent, is_full}
 use Rattle.relay_world.specs.Changes.{at_lane, posted, front_taken, took_front, sent_request, answered_desk, after_mail, after_put, after_send, request_of, sent_by, with_answer}
-use Rattle.relay_world.specs.Memory.{WorksAs, ArePartsOf, IsOpenAt, IsOpenIn, IsThere}
+use Rattle.relay_world.specs.Memory.{WorksAs, ArePartsOf, IsOpenAt, IsOpenIn, IsThere, Forms, FormsBy, batch_at}
 use Rattle.relay_world.proofs.Places.{either, on_ok, on_ok_two, on_err, on_err_two, set-update, set-same, length-set}
 use Rattle.relay_world.proofs.Desks.{took_config}
 
@@ -39,7 +39,7 @@ at_lane_keeps w l f keeps p = record {
   valid = p.valid;
   lanes = length-update l f w.desks ∙ p.lanes;
   producers = p.producers;
-  works = λ m d e. ⊎_elim (λ o. p.works m d o.1) (λ s. subst (WorksAs w.config) s.1.2 (keeps s.1.0 (p.works l s.1.0 s.1.1))) (at-update-cases l f w.desks m d e);
+  works = λ m d e. ⊎_elim (λ o. p.works m d o.1) (λ s. subst (WorksAs w.config) (sym s.1.2) (keeps s.1.0 (p.works l s.1.0 s.1.1))) (at-update-cases l f w.desks m d e);
 }
 
 -- by how a call of a desk ended
@@ -175,3 +175,30 @@ module _ {A E : Type 0} (r : Result A E) (w : World) (o : Op) (l : ℕ) (d e : D
       let ls = ap (slice_set w.accepted o.producer) m ∙ set-same w.accepted o.producer old at in
       λ i. record w { desks = ds i; accepted = ls i })
       queue same
+
+-- ---- a request is formed
+
+pub formed_parts : {A E : Type 0} (r : Result A E) (w : World) (l : ℕ) (d e : Desk) (ss : List Sent) → desk_at w l ≡ Some d → OnOk r (e ≡ sent_request d) → OnErr r (e ≡ d) → ArePartsOf w
+    → ArePartsOf (record w { desks = slice_set w.desks l e; sent = ss })
+formed_parts r w l d e ss there ok err p =
+    let k = parts_result r w l sent_request d e there ok err (sent_works w) p in
+    record { valid = k.valid; lanes = k.lanes; producers = k.producers; works = k.works }
+
+formed_by : (w : World) (l : ℕ) (d e : Desk) (ss : List Sent) (b : Bool) (o : Option (List BatchItem)) → lane.next_batch d.lane ≡ o → desk_at w l ≡ Some d → b ≡ is_some o → e ≡ sent_request d
+    → ss ≡ w.sent ++ (if b then request_of l d ∷ [] else []) → FormsBy w l o b (record w { desks = slice_set w.desks l e; sent = ss })
+formed_by w l d e ss b None batch there when is more =
+    let same : e ≡ d = is ∙ ap (λ x. record d { lane = lane.after_request d.lane x }) batch in
+    let ds = ap (slice_set w.desks l) same ∙ set-same w.desks l d there in
+    let none : ss ≡ w.sent = more ∙ ap (λ x. w.sent ++ (if x then request_of l d ∷ [] else [])) when ∙ append-nil w.sent in
+    (when, λ i. record w { desks = ds i; sent = none i })
+formed_by w l d e ss b (Some is) batch there when made more =
+    let ds = set-update sent_request w.desks l d e there made in
+    let one : ss ≡ w.sent ++ sent_by l (desk_at w l) = more ∙ ap (λ x. w.sent ++ (if x then request_of l d ∷ [] else [])) when ∙ ap (λ x. w.sent ++ sent_by l x) (sym there) in
+    (when, λ i. record w { desks = ds i; sent = one i })
+
+pub formed : {E : Type 0} (r : Result Bool E) (w : World) (l : ℕ) (d e : Desk) (ss : List Sent) → desk_at w l ≡ Some d → IfOk r (λ b. b ≡ is_some (lane.next_batch d.lane)) → OnOk r (e ≡ sent_request d)
+    → IfOk r (λ b. ss ≡ w.sent ++ (if b then request_of l d ∷ [] else [])) → IfOk r (λ b. Forms w l b (record w { desks = slice_set w.desks l e; sent = ss }))
+formed (Ok b) w l d e ss there when made more =
+    subst (λ x. FormsBy w l (batch_at x) b (record w { desks = slice_set w.desks l e; sent = ss })) (sym there)
+    (formed_by w l d e ss b (lane.next_batch d.lane) refl there when made more)
+formed (Err x) w l d e ss there when made more = when

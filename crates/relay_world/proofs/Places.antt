@@ -1,6 +1,6 @@
 -- Elements at places of lists.
 use Rattle.std.proofs.Common.{◌≡◌, ◌≢◌, ℕ, zero, suc, ◌+◌, ◌-◌, ◌<◌, ◌≤◌, List, [], ◌∷◌, ◌++◌, length, get_or, Option, Some, None, Bool, true, false, refl, sym, ap, ◌∙◌, subst, inl, inr, arith, rules}
-use Rattle.std.specs.Prelude.{◌==◌, slice_get, slice_set, map, OnOk, OnErr, Ok, Err, Result, option_map, is_some, IsSome, IsOk}
+use Rattle.std.specs.Prelude.{◌==◌, slice_get, slice_set, map, OnOk, OnErr, Ok, Err, Result, option_map, is_some, IsSome, IsOk, IfOk}
 use Rattle.relay_results.specs.Words.{IsSubsequence, update}
 use Rattle.relay_results.proofs.Lists.{equal}
 use Rattle.relay_world.specs.State.{numbered}
@@ -72,3 +72,7 @@ minus_one xs n ne = by (n == 0) refl
 pub on_err_two : {A E : Type 0} (r : Result A E) (P Q R : Type 0) → (P → Q → R) → OnErr r P → OnErr r Q → OnErr r R
 on_err_two (Ok x) P Q R f p q = p
 on_err_two (Err x) P Q R f p q = f p q
+
+pub if_ok_two : {A E : Type 0} (r : Result A E) (P Q R : A → Type 0) → ((x : A) → P x → Q x → R x) → IfOk r P → IfOk r Q → IfOk r R
+if_ok_two (Ok x) P Q R f p q = f x p q
+if_ok_two (Err x) P Q R f p q = p

@@ -13,13 +13,14 @@ use Rattle.relay_results.specs.Done.{failure}
 use Rattle.relay_index.specs.States as index
 use Rattle.relay_lane.specs.Limits.{is_valid}
 use Rattle.relay_lane.specs.State as lane
+use Rattle.relay_lane.specs.declared.settled.Settled.{Settled}
 use Rattle.relay_action.specs.declared.key.DocKey.{DocKey}
 use Rattle.relay_world.specs.declared.request.RunDone.{RunDone}
 use Rattle.relay_world.specs.declared.request.Given.{Given}
 use Rattle.relay_world.specs.declared.request.Given.TheVariants.{Nothing, Entries, Status, Loss}
 use Rattle.relay_world.specs.declared.sender.Sender.{Sender}
 use Rattle.relay_world.specs.State.{Desk, Item, Sent, World, desk_at, numbered, request_at, op_with, write_at}
-use Rattle.relay_world.specs.Changes.{after_send}
+use Rattle.relay_world.specs.Changes.{after_send, matched_by}
 
 -- ---- requests
 
@@ -92,6 +93,17 @@ pub record IsOpenIn (w : World) (sender l : ℕ) : Type 0 where
   pub desk : Desk
   pub there : desk_at w l ≡ Some desk
   pub is_open : IsOpenAt sender desk
+
+pub record IsSent (w : World) (request : ℕ) : Type 0 where
+  pub sent : Sent
+  pub was_sent : request_at w request ≡ Some sent
+
+-- the counts are those of an answer to a request of a lane
+pub record IsSettledAt (w : World) (l number : ℕ) (a : Answer) (c : Settled) : Type 0 where
+  pub desk : Desk
+  pub there : desk_at w l ≡ Some desk
+  pub are : lane.AreCounts desk.lane number a c
+  pub matched : c.matched ≡ matched_by a (lane.writes_of number desk.lane)
 
 -- the lane formed a request, or there was none to form
 abbrev pub FormsBy : World → ℕ → Option (List BatchItem) → Bool → World → Type 0

@@ -110,18 +110,15 @@ entry_for w o = record { kind = kind_of w.action; id = w.key.id; status = o.stat
 abbrev pub entry_at : World → ℕ → Option ℕ → Item → Option Outcome
 entry_at w l pick i = option_and_then (λ o. option_map (entry_for (write_for o i.version)) (run_by i.runs pick)) (op_with w l i.version)
 
-abbrev pub entry_of : World → Sent → Option ℕ → Item → Option Outcome
-entry_of w s pick i = entry_at w s.lane pick i
-
 -- entry after entry, where each item has one
 abbrev pub and_more : Option Outcome → Option (List Outcome) → Option (List Outcome)
 and_more None rest = None
 and_more (Some o) None = None
 and_more (Some o) (Some os) = Some (o ∷ os)
 
-abbrev pub entries_from : World → Sent → List ℕ → ℕ → List Item → Option (List Outcome)
-entries_from w s picks place [] = Some []
-entries_from w s picks place (i ∷ is) = and_more (entry_of w s (slice_get picks place) i) (entries_from w s picks (place + 1) is)
+abbrev pub entries_from : World → ℕ → List ℕ → ℕ → List Item → Option (List Outcome)
+entries_from w l picks place [] = Some []
+entries_from w l picks place (i ∷ is) = and_more (entry_at w l (slice_get picks place) i) (entries_from w l picks (place + 1) is)
 
 -- there are no picks, or one for each item
 abbrev pub are_picks : List ℕ → Sent → Bool
@@ -129,7 +126,7 @@ are_picks picks s = (length picks == 0) || (length picks == length s.items)
 
 -- the entries of a reply to a request, where the picks are right and each item has the run
 abbrev pub entries : World → Sent → List ℕ → Option (List Outcome)
-entries w s picks = if are_picks picks s then entries_from w s picks 0 s.items else None
+entries w s picks = if are_picks picks s then entries_from w s.lane picks 0 s.items else None
 
 -- what is asked of a request, where it was sent
 abbrev pub at_request : Option Sent → (Sent → Option Refusal) → Option Refusal

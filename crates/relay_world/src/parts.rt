@@ -1,16 +1,18 @@
 //! What the world is made of, and each event of it.
-ghost use Rattle.std.specs.Prelude.{◌≡◌, ℕ, ◌+◌, ◌-◌, ◌^◌, ◌<◌, ◌≤◌, [], ◌∷◌, ◌++◌, None, Some, true, OnOk, OnErr, IfOk, IfSome, IsSome, map, option_map, is_some, length, replicate};
+ghost use Rattle.std.specs.Prelude.{◌≡◌, ◌≢◌, slice_get, is_ok, if◌then◌else◌, ℕ, ◌+◌, ◌-◌, ◌^◌, ◌<◌, ◌≤◌, [], ◌∷◌, ◌++◌, None, Some, true, OnOk, OnErr, IfOk, IfSome, IsSome, map, option_map, is_some, length, replicate};
 ghost use Rattle.relay_results.specs.Words.{update};
+ghost use Rattle.relay_results.specs.Outside.{Items, Whole, Lost};
+ghost use Rattle.relay_lane.specs.State.{next_batch};
 ghost use Rattle.relay_results.specs.Documents.{document_of};
 ghost use Rattle.relay_index.specs.Keys.{AreKeys};
 ghost use Rattle.relay_lane.specs.Limits.{is_valid};
 ghost use Rattle.relay_lane.specs.Walk.{report_of};
 ghost use Rattle.relay_world.specs.declared.event.Event.TheVariants as event;
 ghost use Rattle.relay_world.specs.State.{fresh, fresh_desk, desk_at, lane_of, accepted_from, applied, names_at, reports, request_at, item_at, is_closed, is_finished, op_with, write_at};
-ghost use Rattle.relay_world.specs.Refusals.{put_refusal, close_refusal, control_refusal, take_refusal, may_choose, is_flying, entry_at, entries};
-ghost use Rattle.relay_world.specs.Changes.{after_put, at_lane, posted, took_front, with_answer};
+ghost use Rattle.relay_world.specs.Refusals.{entries_from, flies_at, put_refusal, close_refusal, control_refusal, take_refusal, may_choose, is_flying, entry_at, entries};
+ghost use Rattle.relay_world.specs.Changes.{after_put, at_lane, posted, took_front, with_answer, answered_desk, sent_request, request_of, RunsItem};
 ghost use Rattle.relay_world.specs.Steps.{Steps};
-ghost use Rattle.relay_world.specs.Memory.{answer_of, IsItemOf, IsWriteAt, IsThere, IsOpenIn, Forms, ArePartsOf};
+ghost use Rattle.relay_world.specs.Memory.{answer_of, IsItemOf, IsWriteAt, IsThere, IsOpenIn, IsSent, IsSettledAt, Forms, ArePartsOf};
 
 use crate::accepted::Accepted;
 use crate::desk::{Desk, Formed};
@@ -19,7 +21,7 @@ use crate::names::Names;
 use crate::request::{Given, SentItem, SentRequest};
 use relay_action::{Action, Body, DocKey, Op, OpName, Write, lane_of};
 use relay_index::{Choice, Index, may_refuse};
-use relay_lane::{RelayConfig, Report};
+use relay_lane::{NotFlying, RelayConfig, Report, Settled};
 use relay_results::{ItemDone, Outcome};
 use std::alloc::{AllocError, Global};
 use std::marker::Model;
@@ -48,6 +50,31 @@ impl Model for Parts {
     ghost view = { seen };
 
     ghost invariant = { IsSound };
+}
+
+// A lane forms its next request, if there is one, and it stands at the end of those that were sent.
+// `AllocError`: there was no memory for it, and nothing changed.
+fn send_from(
+    desk: &mut Desk,
+    sent: &mut Vec<SentRequest>,
+    alloc: Global,
+    lane: u32,
+) -> Result<bool, AllocError>
+    ensures when { IfOk result (λ b. b ≡ is_some (next_batch desk.old.lane)) }
+    ensures desk { OnOk result (desk.new ≡ sent_request desk.old) }
+    ensures sent { IfOk result (λ b. sent.new.items
+        ≡ sent.old.items ++ (if b then request_of lane desk.old ∷ [] else [])) }
+    ensures same_desk { OnErr result (desk.new ≡ desk.old) }
+    ensures same_sent { OnErr result (sent.new.items ≡ sent.old.items) }
+{
+    sent.reserve(1)?;
+    match desk.request(alloc)? {
+        None => Ok(false),
+        Some(Formed { number, items }) => {
+            sent.push_reserved(SentRequest::new(lane, number, items));
+            Ok(true)
+        }
+    }
 }
 
 // So many fresh desks as there are lanes. `AllocError`: there was no memory for them.
@@ -171,8 +198,15 @@ impl Parts {
         if request == 0 {
             None
         } else {
-            self.sent.get((request - 1) as usize)
+            self.sent_at(request - 1)
         }
+    }
+
+    // A sent request, by its place from 0.
+    fn sent_at(&self, place: u64) -> Option<&SentRequest>
+        ensures { option_map (λ s. s.now) result ≡ slice_get self.now.sent place }
+    {
+        self.sent.get(place as usize)
     }
 
     // The operation that a lane dealt a version.
@@ -377,19 +411,7 @@ impl Parts {
         ensures ok { IfOk result (λ b. Forms self.old lane b self.new) }
         ensures unchanged { OnErr result (self.new ≡ self.old) }
     {
-        self.sent.reserve(1)?;
-        match self.desks[lane as usize].request(self.alloc)? {
-            None => Ok(false),
-            Some(Formed { number, items }) => {
-                self.sent.push_reserved(SentRequest {
-                    lane,
-                    number,
-                    items,
-                    given: Given::Nothing,
-                });
-                Ok(true)
-            }
-        }
+        send_from(&mut self.desks[lane as usize], &mut self.sent, self.alloc, lane)
     }
 
     // How many requests were sent.
@@ -424,7 +446,7 @@ impl Parts {
         ensures { option_map (λ i. i.now) result ≡ item_at self.now request item }
     {
         match self.request(request) {
-            Some(sent) if item > 0 => sent.items.get((item - 1) as usize),
+            Some(sent) if item > 0 => sent.items().get((item - 1) as usize),
             _ => None,
         }
     }
@@ -442,7 +464,7 @@ impl Parts {
         let Some(item) = self.item(request, item) else {
             return Ok(None);
         };
-        let Some(op) = self.op_with(sent.lane, item.version()) else {
+        let Some(op) = self.op_with(sent.lane(), item.version()) else {
             return Ok(None);
         };
         let write = Write {
@@ -470,15 +492,33 @@ impl Parts {
         if !may_choose(choice) {
             return Ok(StepAnswer::Refused(Refusal::BadStatus));
         }
-        let sent = &mut self.sent[(request - 1) as usize];
-        let status = self.names.run(
-            &mut self.index,
-            &mut sent.items[(item - 1) as usize],
-            name,
-            &write,
-            choice,
-        )?;
+        let status = self.run_write(request, item, name, &write, choice)?;
         Ok(StepAnswer::Ran(status))
+    }
+
+    // The index runs the write of an item.
+    fn run_write(
+        &mut self,
+        request: u64,
+        item: u64,
+        name: OpName,
+        write: &Write,
+        choice: Choice,
+    ) -> Result<u16, AllocError>
+        requires item { IsItemOf self.old request item name write.now }
+        requires choice { may_choose choice ≡ true }
+        ensures ok { IfOk result
+            (λ s. RunsItem self.old request item choice (StepAnswer.Ran s) self.new) }
+        ensures unchanged { OnErr result (self.new ≡ self.old) }
+    {
+        self.sent[request.saturating_sub(1) as usize].run(
+            item,
+            &mut self.names,
+            &mut self.index,
+            name,
+            write,
+            choice,
+        )
     }
 }
 
@@ -488,8 +528,8 @@ impl Parts {
     fn is_flying(&self, sent: &SentRequest) -> bool
         ensures { result ≡ is_flying self.now sent.now }
     {
-        match self.desk(sent.lane) {
-            Some(desk) => desk.is_flying(sent.number),
+        match self.desk(sent.lane()) {
+            Some(desk) => desk.is_flying(sent.number()),
             None => false,
         }
     }
@@ -529,14 +569,26 @@ impl Parts {
         ensures { IfOk result
             (λ o. option_map (λ v. v.items) o ≡ entries self.now sent.now picks.now) }
     {
-        if !picks.is_empty() && picks.len() != sent.items.len() {
-            return Ok(None);
+        if picks.is_empty() || picks.len() == sent.items().len() {
+            self.entries_for(sent.lane(), sent.items(), picks)
+        } else {
+            Ok(None)
         }
-        let mut outcomes = Vec::with_capacity(self.alloc, sent.items.len())?;
-        for place in 0..sent.items.len() {
-            let Some(entry) =
-                self.entry(sent.lane, &sent.items[place], picks.get(place).copied())?
-            else {
+    }
+
+    // The entries of these items, where each has the run.
+    fn entries_for(
+        &self,
+        lane: u32,
+        items: &[SentItem],
+        picks: &[u64],
+    ) -> Result<Option<Vec<Outcome>>, AllocError>
+        ensures { IfOk result (λ o. option_map (λ v. v.items) o
+            ≡ entries_from self.now lane picks.now 0 items.now) }
+    {
+        let mut outcomes = Vec::with_capacity(self.alloc, items.len())?;
+        'items: for place in 0..items.len() {
+            let Some(entry) = self.entry(lane, &items[place], picks.get(place).copied())? else {
                 return Ok(None);
             };
             outcomes.push(entry)?;
@@ -546,12 +598,54 @@ impl Parts {
 
     // Notes what a request was answered.
     fn note(&mut self, request: u64, given: Given)
-        requires { IsSome (request_at self.old request) }
+        requires { IsSent self.old request }
         ensures { self.new ≡ record self.old {
           sent = update (request - 1) (with_answer (answer_of given)) self.old.sent;
         } }
     {
-        self.sent[(request - 1) as usize].given = given;
+        self.sent[request.saturating_sub(1) as usize].note(given);
+    }
+
+    // A request of a lane was lost.
+    fn lose(&mut self, lane: u32, number: u64) -> Result<Settled, NotFlying>
+        requires { IsThere self.old lane }
+        ensures flies { is_ok result ≡ flies_at number (desk_at self.old lane) }
+        ensures ok { OnOk result (self.new ≡ at_lane lane (answered_desk number Lost) self.old) }
+        ensures counts { IfOk result (λ c. IsSettledAt self.old lane number Lost c) }
+        ensures unchanged { OnErr result (self.new ≡ self.old) }
+    {
+        self.desks[lane as usize].lost(number)
+    }
+
+    // A request of a lane was answered as a whole.
+    fn reject(&mut self, lane: u32, number: u64, status: u16) -> Result<Settled, NotFlying>
+        requires there { IsThere self.old lane }
+        requires status { status ≢ 200 }
+        ensures flies { is_ok result ≡ flies_at number (desk_at self.old lane) }
+        ensures ok { OnOk result
+            (self.new ≡ at_lane lane (answered_desk number (Whole status)) self.old) }
+        ensures counts { IfOk result (λ c. IsSettledAt self.old lane number (Whole status) c) }
+        ensures unchanged { OnErr result (self.new ≡ self.old) }
+    {
+        self.desks[lane as usize].whole(number, status)
+    }
+
+    // A request of a lane was answered by entries.
+    fn settle(
+        &mut self,
+        lane: u32,
+        number: u64,
+        entries: Vec<Outcome>,
+    ) -> Result<Settled, NotFlying>
+        requires { IsThere self.old lane }
+        ensures flies { is_ok result ≡ flies_at number (desk_at self.old lane) }
+        ensures ok { OnOk result
+            (self.new ≡ at_lane lane (answered_desk number (Items entries.items)) self.old) }
+        ensures counts { IfOk result
+            (λ c. IsSettledAt self.old lane number (Items entries.items) c) }
+        ensures unchanged { OnErr result (self.new ≡ self.old) }
+    {
+        self.desks[lane as usize].reply(number, entries)
     }
 
     // A request is answered by the outcomes of its items' runs.
@@ -566,18 +660,21 @@ impl Parts {
         if !self.is_flying(sent) {
             return Ok(StepAnswer::Refused(Refusal::NotFlying));
         }
-        let (lane, number) = (sent.lane, sent.number);
+        let lane = sent.lane();
+        let number = sent.number();
         let Some(kept) = self.entries(sent, picks)? else {
             return Ok(StepAnswer::Refused(Refusal::NotRun));
         };
         let Some(given) = self.entries(sent, picks)? else {
             return Ok(StepAnswer::Refused(Refusal::NotRun));
         };
-        let Ok(counts) = self.desks[lane as usize].reply(number, given) else {
-            return Ok(StepAnswer::Refused(Refusal::NotFlying));
-        };
-        self.note(request, Given::Entries(kept));
-        Ok(StepAnswer::Settled(counts))
+        match self.settle(lane, number, given) {
+            Err(_) => Ok(StepAnswer::Refused(Refusal::NotFlying)),
+            Ok(counts) => {
+                self.note(request, Given::Entries(kept));
+                Ok(StepAnswer::Settled(counts))
+            }
+        }
     }
 
     // A request as a whole is answered by a status.
@@ -593,12 +690,15 @@ impl Parts {
         if status <= 200 || status > 599 {
             return StepAnswer::Refused(Refusal::BadStatus);
         }
-        let (lane, number) = (sent.lane, sent.number);
-        let Ok(counts) = self.desks[lane as usize].whole(number, status) else {
-            return StepAnswer::Refused(Refusal::NotFlying);
-        };
-        self.note(request, Given::Status(status));
-        StepAnswer::Settled(counts)
+        let lane = sent.lane();
+        let number = sent.number();
+        match self.reject(lane, number, status) {
+            Err(_) => StepAnswer::Refused(Refusal::NotFlying),
+            Ok(counts) => {
+                self.note(request, Given::Status(status));
+                StepAnswer::Settled(counts)
+            }
+        }
     }
 
     // The reply to a request is lost.
@@ -611,12 +711,15 @@ impl Parts {
         if !self.is_flying(sent) {
             return StepAnswer::Refused(Refusal::NotFlying);
         }
-        let (lane, number) = (sent.lane, sent.number);
-        let Ok(counts) = self.desks[lane as usize].lost(number) else {
-            return StepAnswer::Refused(Refusal::NotFlying);
-        };
-        self.note(request, Given::Loss);
-        StepAnswer::Settled(counts)
+        let lane = sent.lane();
+        let number = sent.number();
+        match self.lose(lane, number) {
+            Err(_) => StepAnswer::Refused(Refusal::NotFlying),
+            Ok(counts) => {
+                self.note(request, Given::Loss);
+                StepAnswer::Settled(counts)
+            }
+        }
     }
 
     // The document and the version of an item of a sent request.
@@ -627,7 +730,7 @@ impl Parts {
     {
         let sent = self.request(request)?;
         let item = self.item(request, item)?;
-        let op = self.op_with(sent.lane, item.version())?;
+        let op = self.op_with(sent.lane(), item.version())?;
         Some((&op.key, item.version()))
     }
 }

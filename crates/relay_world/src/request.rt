@@ -1,12 +1,16 @@
 //! Sent requests.
-ghost use Rattle.std.specs.Prelude.{◌≡◌, [], ◌∷◌, ◌++◌, option_map, OnOk, OnErr, IfOk, length, slice_get, if◌then◌else◌};
-ghost use Rattle.relay_results.specs.Documents.{name_of};
+ghost use Rattle.std.specs.Prelude.{◌≡◌, ℕ, ◌-◌, ◌<◌, [], ◌∷◌, ◌++◌, ◌&&◌, option_map, OnOk, OnErr, IfOk, length, if◌then◌else◌};
+ghost use Rattle.relay_results.specs.Documents.{Document, document_of, same_document};
+ghost use Rattle.relay_results.specs.Outside.{Unanswered};
 ghost use Rattle.relay_index.specs.Choices.{MayChoose};
+ghost use Rattle.relay_index.specs.States.{applied};
 ghost use Rattle.relay_index.specs.Runs.{is_run, done_of, outcome_of_run, Effect};
+ghost use Rattle.relay_world.specs.State.{kept_among, names_of, before_of};
 ghost use Rattle.relay_world.specs.Refusals.{run_by};
-ghost use Rattle.relay_world.specs.Changes.{with_outcome};
+ghost use Rattle.relay_world.specs.Changes.{with_outcome, ran_item, with_answer as sent_answer};
 ghost use Rattle.relay_world.specs.Memory.{run_outcome, answer_of};
 
+use crate::names::Names;
 use relay_action::{OpName, Write};
 use relay_index::{Choice, Index};
 use relay_results::{DoneResult, Outcome};
@@ -132,10 +136,10 @@ impl SentItem {
 // A sent request. Contracts see it as its lane, its number there, its items and its answer.
 #[derive(Drop)]
 pub(crate) struct SentRequest {
-    pub(crate) lane: u32,
-    pub(crate) number: u64,
-    pub(crate) items: Vec<SentItem>,
-    pub(crate) given: Given,
+    lane: u32,
+    number: u64,
+    items: Vec<SentItem>,
+    given: Given,
 }
 
 impl Model for SentRequest {
@@ -145,4 +149,87 @@ impl Model for SentRequest {
     ghost Value = { Sent };
 
     ghost view = { λ s. record { lane = s.lane; number = s.number; items = s.items.items; answer = answer_of s.given } };
+}
+
+impl SentRequest {
+    // A request that was not answered yet.
+    pub(crate) fn new(lane: u32, number: u64, items: Vec<SentItem>) -> SentRequest
+        ensures { result ≡ record {
+          lane = lane;
+          number = number;
+          items = items.items;
+          answer = Unanswered;
+        } }
+    {
+        SentRequest {
+            lane,
+            number,
+            items,
+            given: Given::Nothing,
+        }
+    }
+
+    // The lane that sent it.
+    pub(crate) fn lane(&self) -> u32
+        ensures { result ≡ self.now.lane }
+    {
+        self.lane
+    }
+
+    // Its number there.
+    pub(crate) fn number(&self) -> u64
+        ensures { result ≡ self.now.number }
+    {
+        self.number
+    }
+
+    // Its items.
+    pub(crate) fn items(&self) -> &[SentItem]
+        ensures { result.now ≡ self.now.items }
+    {
+        self.items.as_slice()
+    }
+
+    // Notes what was answered.
+    pub(crate) fn note(&mut self, given: Given)
+        ensures { self.new ≡ sent_answer (answer_of given) self.old }
+    {
+        self.given = given;
+    }
+
+    // The index runs an item, and its name is noted where the write was applied. `AllocError`: there was no
+    // memory for it, and nothing changed.
+    pub(crate) fn run(
+        &mut self,
+        item: u64,
+        names: &mut Names,
+        index: &mut Index,
+        name: OpName,
+        write: &Write,
+        choice: Choice,
+    ) -> Result<u16, AllocError>
+        requires choice { MayChoose choice }
+        requires item { item - 1 < length self.old.items }
+        ensures status { IfOk result (λ s. s ≡ (done_of index.old write.now choice).status) }
+        ensures sent { OnOk result (self.new
+            ≡ ran_item item (outcome_of_run (done_of index.old write.now choice)) self.old) }
+        ensures effect { OnOk result (Effect index.old write.now choice index.new) }
+        ensures names { OnOk result ((k : Document) → names_of (kept_among names.new k)
+            ≡ names_of (kept_among names.old k) ++ (if is_run index.old write.now choice
+                && same_document k (document_of write.now.key) then name ∷ [] else [])) }
+        ensures before { OnOk result ((k : Document) →
+            before_of (length (applied index.new k)) (kept_among names.new k)
+            ≡ before_of (length (applied index.old k)) (kept_among names.old k)) }
+        ensures same_sent { OnErr result (self.new ≡ self.old) }
+        ensures same_index { OnErr result (index.new ≡ index.old) }
+        ensures same_names { OnErr result (names.new ≡ names.old) }
+    {
+        names.run(
+            index,
+            &mut self.items[item.saturating_sub(1) as usize],
+            name,
+            write,
+            choice,
+        )
+    }
 }

@@ -14,7 +14,4 @@ use Rattle.relay_world.proofs.Places.{minus_one}
 use Rattle.relay_world.proofs.parts.Parts.request.Goals as goal
 
 pub returns-else-request-eq0 : goal.returns-else-request-eq0
-returns-else-request-eq0 c =
-    c.get.ensures.lookup ∙ ap (λ xs. slice_get xs (c.args.request - 1)) c.deref.ensures.value
-    ∙ ap (λ (w : World). slice_get w.sent (c.args.request - 1)) c.self.view_is
-    ∙ sym (minus_one c.args.self.now.sent c.args.request c.if-request-eq0.false)
+returns-else-request-eq0 c = c.sent_at.ensures ∙ sym (minus_one c.args.self.now.sent c.args.request c.if-request-eq0.false)

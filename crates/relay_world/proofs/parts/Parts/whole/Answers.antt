@@ -1,7 +1,0 @@
-use Rattle.relay_world.proofs.parts.Parts.whole.Goals as goal
-
-pub invariant_of-self-2 : goal.invariant_of-self-2
-invariant_of-self-2 c = ?
-
-pub returns : goal.returns
-returns c = ?
