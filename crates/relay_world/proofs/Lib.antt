@@ -4,3 +4,5 @@ pub mod Named
 pub mod Ran
 pub mod Holding
 pub mod Starting
+pub mod Running
+pub mod Entries

@@ -76,3 +76,10 @@ on_err_two (Err x) P Q R f p q = f p q
 pub if_ok_two : {A E : Type 0} (r : Result A E) (P Q R : A → Type 0) → ((x : A) → P x → Q x → R x) → IfOk r P → IfOk r Q → IfOk r R
 if_ok_two (Ok x) P Q R f p q = f x p q
 if_ok_two (Err x) P Q R f p q = p
+
+pub numbered_at : {A : Type 0} (xs : List A) (n : ℕ) (x : A) → numbered xs n ≡ Some x → slice_get xs (n - 1) ≡ Some x
+numbered_at xs n x e = by (n == 0) refl
+  where
+    by : (b : Bool) → (n == 0) ≡ b → slice_get xs (n - 1) ≡ Some x
+    by true f = let h = rw f at e in absurd (cc)
+    by false f = rw f at e

@@ -52,6 +52,13 @@ impl Model for Parts {
     ghost invariant = { IsSound };
 }
 
+// The pick at a place, if there is one.
+fn pick_at(picks: &[u64], place: usize) -> Option<u64>
+    ensures { result ≡ slice_get picks.now place }
+{
+    picks.get(place).copied()
+}
+
 // A lane forms its next request, if there is one, and it stands at the end of those that were sent.
 // `AllocError`: there was no memory for it, and nothing changed.
 fn send_from(
@@ -588,7 +595,7 @@ impl Parts {
     {
         let mut outcomes = Vec::with_capacity(self.alloc, items.len())?;
         'items: for place in 0..items.len() {
-            let Some(entry) = self.entry(lane, &items[place], picks.get(place).copied())? else {
+            let Some(entry) = self.entry(lane, &items[place], pick_at(picks, place))? else {
                 return Ok(None);
             };
             outcomes.push(entry)?;

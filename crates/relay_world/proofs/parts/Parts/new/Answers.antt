@@ -10,7 +10,16 @@ use Rattle.relay_world.specs.Memory.{IsOpenAt, IsOpenIn, IsThere, ArePartsOf, Wo
 use Rattle.relay_world.specs.View.{seen}
 use Rattle.relay_world.proofs.Places.{at_index, on_ok, on_err, ok_fact}
 use Rattle.relay_world.proofs.Holding.{at_lane_is, lane_same, at_lane_keeps, parts_result, view_result, same_result, posted_works, took_works, sent_works, answered_works, put_open, close_open, control_open, take_there}
+use Rattle.relay_world.proofs.Starting.{fresh_parts}
 use Rattle.relay_world.proofs.parts.Parts.new.Goals as goal
 
 pub invariant_of-result : goal.invariant_of-result
-invariant_of-result c = ?
+invariant_of-result c =
+    let p = fresh_parts c.args.config c.args.index c.requires in
+    let ds = c.in_ok-fresh_desks.ensures in
+    record {
+      valid = p.valid;
+      lanes = ap length ds ∙ p.lanes;
+      producers = ap length c.in_ok-none_accepted.ensures ∙ p.producers;
+      works = λ l d e. p.works l d (ap (λ xs. slice_get xs l) (sym ds) ∙ e);
+    }
