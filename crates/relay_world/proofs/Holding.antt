@@ -149,7 +149,6 @@ take_there w l n = by (desk_at w l) refl n
 -- ---- an operation is accepted
 
 module _ {A E : Type 0} (r : Result A E) (w : World) (o : Op) (l : ℕ) (d e : Desk) where
-
   pub accepted_parts : (list : List Op) → desk_at w l ≡ Some d → OnOk r (e ≡ posted o.producer (body.Put o) d) → OnErr r (e ≡ d) → ArePartsOf w → ArePartsOf (record w { desks = slice_set w.desks l e; accepted = slice_set w.accepted o.producer list })
   accepted_parts list there ok err p =
       let k = parts_result r w l (posted o.producer (body.Put o)) d e there ok err (posted_works w o.producer (body.Put o)) p in

@@ -6,3 +6,4 @@ pub mod Holding
 pub mod Starting
 pub mod Running
 pub mod Entries
+pub mod Playing

@@ -418,7 +418,12 @@ impl Parts {
         ensures ok { IfOk result (λ b. Forms self.old lane b self.new) }
         ensures unchanged { OnErr result (self.new ≡ self.old) }
     {
-        send_from(&mut self.desks[lane as usize], &mut self.sent, self.alloc, lane)
+        send_from(
+            &mut self.desks[lane as usize],
+            &mut self.sent,
+            self.alloc,
+            lane,
+        )
     }
 
     // How many requests were sent.
@@ -568,11 +573,7 @@ impl Parts {
     }
 
     // The entries of a reply to a request, if the picks are right and each item has the run.
-    fn entries(
-        &self,
-        sent: &SentRequest,
-        picks: &[u64],
-    ) -> Result<Option<Vec<Outcome>>, AllocError>
+    fn entries(&self, sent: &SentRequest, picks: &[u64]) -> Result<Option<Vec<Outcome>>, AllocError>
         ensures { IfOk result
             (λ o. option_map (λ v. v.items) o ≡ entries self.now sent.now picks.now) }
     {

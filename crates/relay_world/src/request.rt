@@ -216,7 +216,7 @@ impl SentRequest {
         ensures effect { OnOk result (Effect index.old write.now choice index.new) }
         ensures names { OnOk result ((k : Document) → names_of (kept_among names.new k)
             ≡ names_of (kept_among names.old k) ++ (if is_run index.old write.now choice
-                && same_document k (document_of write.now.key) then name ∷ [] else [])) }
+            && same_document k (document_of write.now.key) then name ∷ [] else [])) }
         ensures before { OnOk result ((k : Document) →
             before_of (length (applied index.new k)) (kept_among names.new k)
             ≡ before_of (length (applied index.old k)) (kept_among names.old k)) }

@@ -2,7 +2,7 @@
 use relay_action::{Action, DocKey, List};
 use relay_batch::Limits;
 use relay_index::{Choice, Index};
-use relay_lane::{RelayConfig, Settled};
+use relay_lane::{Cause, RelayConfig, Report, Settled};
 use relay_world::{Event, Refusal, StepAnswer, World};
 use std::alloc::{AllocError, Global};
 use std::test::Fail;
@@ -124,4 +124,55 @@ pub fn played(alloc: Global, world: &mut World, rows: &[(Row<'_>, Says)]) -> Res
         }
     }
     Ok(0)
+}
+
+/// A report of lane 0: the number of its operation, and its cause.
+#[derive(Clone, Copy)]
+pub enum Given {
+    Refused(u64, u16),
+    Rejected(u64, u16),
+    Conflict(u64),
+    GaveUp(u64, u32),
+    Spent(u64),
+}
+
+fn is_given(report: &Report, given: Given) -> bool {
+    let number = report.name.number;
+    match (&report.cause, given) {
+        (Cause::Refused { status, .. }, Given::Refused(n, wanted)) => {
+            number == n && *status == wanted
+        }
+        (Cause::Request { status }, Given::Rejected(n, wanted)) => number == n && *status == wanted,
+        (Cause::Conflict, Given::Conflict(n)) => number == n,
+        (Cause::GaveUp { sends }, Given::GaveUp(n, wanted)) => number == n && *sends == wanted,
+        (Cause::Spent, Given::Spent(n)) => number == n,
+        _ => false,
+    }
+}
+
+/// Whether a document has writes of these operations, by their numbers.
+pub fn has_applied(alloc: Global, world: &World, id: &str, numbers: &[u64]) -> Result<bool, Fail> {
+    let key = DocKey::new(alloc, "b", id)?;
+    let names = world.names(&key);
+    let same = names.len() == numbers.len() && names.iter().zip(numbers).all(|(a, b)| a.number == *b);
+    Ok(same && world.applied(&key).len() == numbers.len())
+}
+
+/// Whether a world has these documents with these operations applied, these reports of lane 0, and is finished
+/// or not.
+pub fn ends_with(
+    alloc: Global,
+    world: &World,
+    applied: &[(&str, &[u64])],
+    reports: &[Given],
+    finished: bool,
+) -> Result<bool, Fail> {
+    let mut good = world.finished() == finished && world.reports(0).len() == reports.len();
+    for (id, numbers) in applied {
+        good = good && has_applied(alloc, world, id, numbers)?;
+    }
+    for (report, given) in world.reports(0).iter().zip(reports) {
+        good = good && is_given(report, *given);
+    }
+    Ok(good)
 }
