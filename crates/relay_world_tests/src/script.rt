@@ -154,7 +154,8 @@ fn is_given(report: &Report, given: Given) -> bool {
 pub fn has_applied(alloc: Global, world: &World, id: &str, numbers: &[u64]) -> Result<bool, Fail> {
     let key = DocKey::new(alloc, "b", id)?;
     let names = world.names(&key);
-    let same = names.len() == numbers.len() && names.iter().zip(numbers).all(|(a, b)| a.number == *b);
+    let same = names.len() == numbers.len()
+        && names.iter().zip(numbers).all(|(a, b)| a.number == *b);
     Ok(same && world.applied(&key).len() == numbers.len())
 }
 

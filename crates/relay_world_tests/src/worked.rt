@@ -187,7 +187,16 @@ fn given_up_and_applied(rt: HostRuntime) -> Result<(), Fail> {
         (Row::Run(2, 1), Says::Status(409)),
         (Row::Reply(3, &[]), Says::Counts([1, 0, 0, 0])),
     ];
-    assert!(rt; lasts(rt.alloc(), TWO, &rows, &[("1", &[1, 2])], &[Given::GaveUp(1, 2)], false)?);
+    assert!(rt;
+        lasts(
+            rt.alloc(),
+            TWO,
+            &rows,
+            &[("1", &[1, 2])],
+            &[Given::GaveUp(1, 2)],
+            false
+        )?
+    );
     Ok(())
 }
 
@@ -204,7 +213,15 @@ fn refused_and_rejected(rt: HostRuntime) -> Result<(), Fail> {
     let first = played(rt.alloc(), &mut world, &SENT)?;
     let last = played(rt.alloc(), &mut world, &rows)?;
     assert!(rt; first == 0 && last == 0);
-    assert!(rt; ends_with(rt.alloc(), &world, &[("1", &[])], &[Given::Refused(1, 400)], false)?);
+    assert!(rt;
+        ends_with(
+            rt.alloc(),
+            &world,
+            &[("1", &[])],
+            &[Given::Refused(1, 400)],
+            false
+        )?
+    );
     let wholes: [(u16, [u32; 4], &[Given]); 2] = [
         (401, [0, 0, 1, 0], &[Given::Rejected(1, 401)]),
         (503, [0, 0, 0, 1], &[]),
@@ -212,8 +229,11 @@ fn refused_and_rejected(rt: HostRuntime) -> Result<(), Fail> {
     for (status, counts, reports) in wholes {
         let mut other = world_of(rt.alloc(), THREE)?;
         let sent = played(rt.alloc(), &mut other, &SENT)?;
-        let answered =
-            played(rt.alloc(), &mut other, &[(Row::Whole(1, status), Says::Counts(counts))])?;
+        let answered = played(
+            rt.alloc(),
+            &mut other,
+            &[(Row::Whole(1, status), Says::Counts(counts))],
+        )?;
         let ended = ends_with(rt.alloc(), &other, &[("1", &[])], reports, false)?;
         assert!(rt; sent == 0 && answered == 0 && ended);
     }
@@ -242,6 +262,15 @@ fn the_last_version(rt: HostRuntime) -> Result<(), Fail> {
         (Row::Close(0, 0), Says::Ok),
         (Row::Put(0, "3", ""), Says::No(Refusal::Closed)),
     ];
-    assert!(rt; lasts(rt.alloc(), LAST, &rows, &[("1", &[1]), ("2", &[])], &[Given::Spent(2)], false)?);
+    assert!(rt;
+        lasts(
+            rt.alloc(),
+            LAST,
+            &rows,
+            &[("1", &[1]), ("2", &[])],
+            &[Given::Spent(2)],
+            false
+        )?
+    );
     Ok(())
 }
