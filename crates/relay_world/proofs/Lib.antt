@@ -7,3 +7,5 @@ pub mod Starting
 pub mod Running
 pub mod Entries
 pub mod Playing
+pub mod Delivering
+pub mod Beginning

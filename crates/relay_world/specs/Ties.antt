@@ -1,11 +1,12 @@
 -- How a world is tied to the machines of its lanes, which share one outside: the form in which what is promised of delivery
 -- becomes a promise on the world.
-use Rattle.std.specs.Prelude.{◌≡◌, ℕ, ◌+◌, ◌-◌, List, [], ◌∷◌, ◌++◌, Option, Some, None, slice_get, Bool, map}
+use Rattle.std.specs.Prelude.{◌≡◌, ℕ, ◌+◌, ◌-◌, ◌<◌, List, [], ◌∷◌, ◌++◌, Option, Some, None, slice_get, take, Bool, map}
 use Rattle.relay_action.specs.declared.operation.Op.{Op}
 use Rattle.relay_action.specs.declared.mail.Mail.{Mail}
 use Rattle.relay_lane.specs.declared.config.RelayConfig.{RelayConfig}
 use Rattle.relay_results.specs.Numbers.{from_zero}
 use Rattle.relay_results.specs.Documents.{Document, name_of}
+use Rattle.relay_index.specs.States as index
 use Rattle.relay_index.specs.Runs.{Shows}
 use Rattle.relay_delivery.specs.Machine.{Config, Core}
 use Rattle.relay_delivery.specs.Lane as delivery
@@ -13,8 +14,8 @@ use Rattle.relay_delivery.specs.Together.{Origin, Together, CameAboutTogether, a
 use Rattle.relay_delivery.specs.Together as together
 use Rattle.relay_lane.specs.State.{config_of}
 use Rattle.relay_lane.specs.Ties.{ops_of}
-use Rattle.relay_world.specs.State.{Desk, Sent, World, desk_at, lane_of, accepted_from, applied, names_at, is_closed}
-use Rattle.relay_world.specs.Headline.{request_of, IsLog}
+use Rattle.relay_world.specs.State.{Desk, Sent, World, fresh, desk_at, lane_of, accepted_from, applied, names_at, before_at, is_closed}
+use Rattle.relay_world.specs.Headline.{request_of, IsLog, Delivered}
 
 -- the operations that are queued
 abbrev pub puts_of : List Mail → List Op
@@ -55,9 +56,21 @@ pub record IsTied (w : World) (t : Together) : Type 0 where
   pub origins : t.origins ≡ map origin_of w.sent
   pub runs : IsLog w t.runs
   pub applied : (k : Document) → (together.outside_of (lane_of w) t).applied k ≡ applied w k
+  pub before : (k : Document) → (together.outside_of (lane_of w) t).before k ≡ take (before_at w k) (index.applied w.index k)
   pub shows : Shows (together.outside_of (lane_of w) t) w.index
   pub names : (k : Document) → map name_of (attributed_together (config_of w.config) (lane_of w) t k) ≡ names_at w k
 
 pub record IsWorld (w : World) : Type 0 where
   pub machines : Together
   pub tied : IsTied w machines
+
+-- ---- what is promised, and what keeps it
+
+-- a world that is tied to machines delivers
+abbrev pub WorldsDeliver : Type 0
+WorldsDeliver = (w : World) → IsWorld w → Delivered w
+
+-- a fresh world is tied, where every stored version is below the first one dealt
+abbrev pub FreshIsWorld : Type 0
+FreshIsWorld =
+    (c : RelayConfig) (i : index.State) → ((k : Document) (u : ℕ) → index.stored i k ≡ Some u → u < c.first_version) → IsWorld (fresh c i)

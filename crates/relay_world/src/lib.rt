@@ -9,6 +9,7 @@
 mod accepted;
 mod desk;
 pub mod event;
+pub mod laws;
 mod names;
 mod parts;
 mod request;
