@@ -1,5 +1,5 @@
 //! Each refusal of each event, in its order.
-use crate::script::{Row, Says, THREE, played, world_of};
+use crate::script::{Row, Says, THREE, lasts};
 use relay_lane::RelayConfig;
 use relay_world::Refusal;
 use std::test::Fail;
@@ -37,9 +37,7 @@ fn of_senders(rt: HostRuntime) -> Result<(), Fail> {
         (Row::Take(0), Says::Ok),
         (Row::Close(2, 0), Says::Ok),
     ];
-    let mut world = world_of(rt.alloc(), SMALL)?;
-    assert!(rt; played(rt.alloc(), &mut world, &rows)? == 0);
-    assert!(rt; !world.finished());
+    assert!(rt; lasts(rt.alloc(), SMALL, &rows, &[], &[], false)?);
     Ok(())
 }
 
@@ -68,7 +66,6 @@ fn of_requests(rt: HostRuntime) -> Result<(), Fail> {
         (Row::Reply(1, &[7, 7]), Says::No(Refusal::NotFlying)),
         (Row::Run(1, 1), Says::Status(404)),
     ];
-    let mut world = world_of(rt.alloc(), THREE)?;
-    assert!(rt; played(rt.alloc(), &mut world, &rows)? == 0);
+    assert!(rt; lasts(rt.alloc(), THREE, &rows, &[("1", &[1])], &[], false)?);
     Ok(())
 }

@@ -62,7 +62,7 @@ fn put_of(alloc: Global, producer: u32, id: &str, source: &str) -> Result<Event,
 }
 
 /// The event of a row.
-pub fn event_of(alloc: Global, row: &Row<'_>) -> Result<Event, Fail> {
+fn event_of(alloc: Global, row: &Row<'_>) -> Result<Event, Fail> {
     Ok(match *row {
         Row::Put(producer, id, source) => put_of(alloc, producer, id, source)?,
         Row::Close(sender, lane) => Event::Close(sender, lane),
@@ -91,7 +91,7 @@ fn counts_of(settled: Settled) -> [u32; 4] {
 }
 
 /// Whether an answer is the one that a row says.
-pub fn is_said(answer: StepAnswer, says: Says) -> bool {
+fn is_said(answer: StepAnswer, says: Says) -> bool {
     match (answer, says) {
         (StepAnswer::Refused(refusal), Says::No(wanted)) => refusal == wanted,
         (StepAnswer::Put(name), Says::Named(number)) => name.number == number,
@@ -106,7 +106,7 @@ pub fn is_said(answer: StepAnswer, says: Says) -> bool {
 }
 
 /// A world of a config, which has to be valid, over a fresh index.
-pub fn world_of(alloc: Global, config: RelayConfig) -> Result<World, Fail> {
+fn world_of(alloc: Global, config: RelayConfig) -> Result<World, Fail> {
     if !config.valid() {
         return Err("not valid")?;
     }
@@ -114,7 +114,7 @@ pub fn world_of(alloc: Global, config: RelayConfig) -> Result<World, Fail> {
 }
 
 /// Plays rows; the place of the first row, from 1, that is answered otherwise, or 0.
-pub fn played(alloc: Global, world: &mut World, rows: &[(Row<'_>, Says)]) -> Result<usize, Fail> {
+fn played(alloc: Global, world: &mut World, rows: &[(Row<'_>, Says)]) -> Result<usize, Fail> {
     let mut place: usize = 0;
     for (row, says) in rows {
         place = place.saturating_add(1);
@@ -151,7 +151,7 @@ fn is_given(report: &Report, given: Given) -> bool {
 }
 
 /// Whether a document has writes of these operations, by their numbers.
-pub fn has_applied(alloc: Global, world: &World, id: &str, numbers: &[u64]) -> Result<bool, Fail> {
+fn has_applied(alloc: Global, world: &World, id: &str, numbers: &[u64]) -> Result<bool, Fail> {
     let key = DocKey::new(alloc, "b", id)?;
     let names = world.names(&key);
     let same = names.len() == numbers.len()
@@ -161,7 +161,7 @@ pub fn has_applied(alloc: Global, world: &World, id: &str, numbers: &[u64]) -> R
 
 /// Whether a world has these documents with these operations applied, these reports of lane 0, and is finished
 /// or not.
-pub fn ends_with(
+fn ends_with(
     alloc: Global,
     world: &World,
     applied: &[(&str, &[u64])],
@@ -176,4 +176,53 @@ pub fn ends_with(
         good = good && is_given(report, *given);
     }
     Ok(good)
+}
+
+/// Whether a world of a config answers these rows as they say, and then ends so.
+pub fn lasts(
+    alloc: Global,
+    config: RelayConfig,
+    rows: &[(Row<'_>, Says)],
+    applied: &[(&str, &[u64])],
+    reports: &[Given],
+    finished: bool,
+) -> Result<bool, Fail> {
+    let mut world = world_of(alloc, config)?;
+    if played(alloc, &mut world, rows)? > 0 {
+        return Ok(false);
+    }
+    ends_with(alloc, &world, applied, reports, finished)
+}
+
+/// The same, with one row more at the end, after which it is not finished.
+pub fn lasts_with(
+    alloc: Global,
+    config: RelayConfig,
+    rows: &[(Row<'_>, Says)],
+    last: (Row<'_>, Says),
+    applied: &[(&str, &[u64])],
+    reports: &[Given],
+) -> Result<bool, Fail> {
+    let mut world = world_of(alloc, config)?;
+    if played(alloc, &mut world, rows)? > 0 || played(alloc, &mut world, &[last])? > 0 {
+        return Ok(false);
+    }
+    ends_with(alloc, &world, applied, reports, false)
+}
+
+/// How many events of these rows are accepted in one run, and how many refused.
+pub fn run_of(
+    alloc: Global,
+    config: RelayConfig,
+    rows: &[(Row<'_>, Says)],
+) -> Result<(u64, u64), Fail> {
+    let mut events = Vec::with_capacity(alloc, rows.len())?;
+    for (row, _) in rows {
+        events.push(event_of(alloc, row)?)?;
+    }
+    let mut world = world_of(alloc, config)?;
+    match world.run(events.as_slice()) {
+        Ok(end) => Ok((end.done, end.refused)),
+        Err(_) => Err("out of memory")?,
+    }
 }

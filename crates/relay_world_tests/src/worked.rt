@@ -1,8 +1,7 @@
 //! Worked scripts.
-use crate::script::{Given, Row, Says, THREE, ends_with, event_of, played, world_of};
+use crate::script::{Given, Row, Says, THREE, lasts, lasts_with, run_of};
 use relay_lane::RelayConfig;
-use relay_world::{Event, Refusal};
-use std::alloc::Global;
+use relay_world::Refusal;
 use std::test::Fail;
 
 const TWO: RelayConfig = RelayConfig {
@@ -35,21 +34,6 @@ const THREE_THEN_ONE: [(Row<'static>, Says); 21] = [
     (Row::Take(0), Says::Ok),
 ];
 
-fn lasts(
-    alloc: Global,
-    config: RelayConfig,
-    rows: &[(Row<'_>, Says)],
-    applied: &[(&str, &[u64])],
-    reports: &[Given],
-    finished: bool,
-) -> Result<bool, Fail> {
-    let mut world = world_of(alloc, config)?;
-    if played(alloc, &mut world, rows)? > 0 {
-        return Ok(false);
-    }
-    ends_with(alloc, &world, applied, reports, finished)
-}
-
 #[test]
 fn three_then_one(rt: HostRuntime) -> Result<(), Fail> {
     let ends: [(&str, &[u64]); 3] = [("1", &[1]), ("2", &[2]), ("3", &[3])];
@@ -59,16 +43,7 @@ fn three_then_one(rt: HostRuntime) -> Result<(), Fail> {
 
 #[test]
 fn counts_of_a_run(rt: HostRuntime) -> Result<(), Fail> {
-    let mut events: Vec<Event> = Vec::new(rt.alloc());
-    for (row, _) in &THREE_THEN_ONE {
-        events.push(event_of(rt.alloc(), row)?)?;
-    }
-    let mut world = world_of(rt.alloc(), THREE)?;
-    let end = match world.run(events.as_slice()) {
-        Ok(end) => end,
-        Err(_) => return Err("out of memory")?,
-    };
-    assert!(rt; end.done == 20 && end.refused == 1);
+    assert!(rt; run_of(rt.alloc(), THREE, &THREE_THEN_ONE)? == (20, 1));
     Ok(())
 }
 
@@ -141,29 +116,28 @@ fn one_of_a_document_at_a_time(rt: HostRuntime) -> Result<(), Fail> {
     Ok(())
 }
 
+/// An operation is run twice before its request is answered.
+const RUN_TWICE: [(Row<'static>, Says); 9] = [
+    (Row::Put(0, "1", ""), Says::Named(1)),
+    (Row::Take(0), Says::Ok),
+    (Row::Send(0), Says::Request(1)),
+    (Row::Reply(1, &[]), Says::No(Refusal::NotRun)),
+    (Row::Run(1, 1), Says::Status(404)),
+    (Row::Run(1, 1), Says::Status(409)),
+    (Row::Reply(1, &[3]), Says::No(Refusal::NotRun)),
+    (Row::Reply(1, &[0]), Says::No(Refusal::NotRun)),
+    (Row::Reply(1, &[1, 1]), Says::No(Refusal::NotRun)),
+];
+
 #[test]
 fn picks(rt: HostRuntime) -> Result<(), Fail> {
-    let before = [
-        (Row::Put(0, "1", ""), Says::Named(1)),
-        (Row::Take(0), Says::Ok),
-        (Row::Send(0), Says::Request(1)),
-        (Row::Reply(1, &[]), Says::No(Refusal::NotRun)),
-        (Row::Run(1, 1), Says::Status(404)),
-        (Row::Run(1, 1), Says::Status(409)),
-        (Row::Reply(1, &[3]), Says::No(Refusal::NotRun)),
-        (Row::Reply(1, &[0]), Says::No(Refusal::NotRun)),
-        (Row::Reply(1, &[1, 1]), Says::No(Refusal::NotRun)),
-    ];
     let ends: [(Row<'_>, [u32; 4], &[Given]); 2] = [
         (Row::Reply(1, &[]), [0, 0, 1, 0], &[Given::Conflict(1)]),
         (Row::Reply(1, &[1]), [1, 0, 0, 0], &[]),
     ];
     for (row, counts, reports) in ends {
-        let mut world = world_of(rt.alloc(), THREE)?;
-        let first = played(rt.alloc(), &mut world, &before)?;
-        let last = played(rt.alloc(), &mut world, &[(row, Says::Counts(counts))])?;
-        let ended = ends_with(rt.alloc(), &world, &[("1", &[1])], reports, false)?;
-        assert!(rt; first == 0 && last == 0 && ended);
+        let last = (row, Says::Counts(counts));
+        assert!(rt; lasts_with(rt.alloc(), THREE, &RUN_TWICE, last, &[("1", &[1])], reports)?);
     }
     Ok(())
 }
@@ -202,41 +176,39 @@ fn given_up_and_applied(rt: HostRuntime) -> Result<(), Fail> {
 
 #[test]
 fn refused_and_rejected(rt: HostRuntime) -> Result<(), Fail> {
+    let ends: [(Row<'_>, [u32; 4], &[Given]); 2] = [
+        (Row::Whole(1, 401), [0, 0, 1, 0], &[Given::Rejected(1, 401)]),
+        (Row::Whole(1, 503), [0, 0, 0, 1], &[]),
+    ];
+    for (row, counts, reports) in ends {
+        let last = (row, Says::Counts(counts));
+        assert!(rt; lasts_with(rt.alloc(), THREE, &SENT, last, &[("1", &[])], reports)?);
+    }
+    Ok(())
+}
+
+#[test]
+fn statuses(rt: HostRuntime) -> Result<(), Fail> {
     let rows = [
+        SENT[0],
+        SENT[1],
+        SENT[2],
         (Row::Refuse(1, 1, 409), Says::No(Refusal::BadStatus)),
         (Row::Whole(1, 200), Says::No(Refusal::BadStatus)),
         (Row::Whole(1, 600), Says::No(Refusal::BadStatus)),
         (Row::Refuse(1, 1, 400), Says::Status(400)),
         (Row::Reply(1, &[]), Says::Counts([0, 0, 1, 0])),
     ];
-    let mut world = world_of(rt.alloc(), THREE)?;
-    let first = played(rt.alloc(), &mut world, &SENT)?;
-    let last = played(rt.alloc(), &mut world, &rows)?;
-    assert!(rt; first == 0 && last == 0);
     assert!(rt;
-        ends_with(
+        lasts(
             rt.alloc(),
-            &world,
+            THREE,
+            &rows,
             &[("1", &[])],
             &[Given::Refused(1, 400)],
             false
         )?
     );
-    let wholes: [(u16, [u32; 4], &[Given]); 2] = [
-        (401, [0, 0, 1, 0], &[Given::Rejected(1, 401)]),
-        (503, [0, 0, 0, 1], &[]),
-    ];
-    for (status, counts, reports) in wholes {
-        let mut other = world_of(rt.alloc(), THREE)?;
-        let sent = played(rt.alloc(), &mut other, &SENT)?;
-        let answered = played(
-            rt.alloc(),
-            &mut other,
-            &[(Row::Whole(1, status), Says::Counts(counts))],
-        )?;
-        let ended = ends_with(rt.alloc(), &other, &[("1", &[])], reports, false)?;
-        assert!(rt; sent == 0 && answered == 0 && ended);
-    }
     Ok(())
 }
 
