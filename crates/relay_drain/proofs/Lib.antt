@@ -1,0 +1,10 @@
+pub mod Limits
+pub mod Exchanging
+pub mod Waiting
+pub mod Ticking
+pub mod Sending
+pub mod Carrying
+pub mod Flushing
+pub mod Resting
+pub mod Counting
+pub mod Stepping

@@ -1,0 +1,19 @@
+//! A lane at work on a wire: what it holds is sent, repeated and settled, within a bound. It stands on
+//! `relay_lane`, and takes the way to an index (`Wire`) and the passing of time (`Pace`) from outside.
+//!
+//! It carries this promise: whatever the wire answers or loses, everything that a closed lane holds is
+//! sent and settled by a bounded number of requests; and beside each outside that the wire describes
+//! delivery is sound at each moment, and complete where `drain` answers `Ok`.
+#![tactic(auto)]
+
+pub mod draining;
+mod exchange;
+pub mod laws;
+pub mod pace;
+mod turn;
+pub mod wire;
+
+pub use draining::{drain, make_room, pump};
+pub use pace::Pace;
+pub use relay_lane::{Cause, Lane, NotFlying, RelayConfig, Report, Settled, TakeFault, Totals};
+pub use wire::{Wire, WireFault, WireReply};

@@ -1,0 +1,119 @@
+//! A lane that messages are put into, and a pace that notes its pauses.
+ghost use Rattle.std.specs.Prelude.{◌≡◌, ◌<◌, ℕ, length};
+ghost use Rattle.relay_drain.specs.Rest.{IsAtRest};
+ghost use Rattle.relay_drain.proofs.Resting.{IsAtRest-prop};
+
+use relay_action::{Action, Body, DocKey, Mail, Op};
+use relay_batch::Limits;
+use relay_drain::{Lane, Pace, RelayConfig, TakeFault};
+use std::alloc::Global;
+
+/// One lane and producer, batches of ten documents that go at once, and three attempts.
+pub const CONFIG: RelayConfig = RelayConfig {
+    lanes: 1,
+    producers: 1,
+    capacity: 10,
+    max_held: 10,
+    limits: Limits {
+        count: 10,
+        bytes: 4_096,
+        linger: 0,
+    },
+    attempts: 3,
+    in_flight: 1,
+    first_version: 1,
+};
+
+/// A lane at rest.
+#[derive(Drop)]
+pub struct Desk {
+    pub lane: Lane,
+    ghost rest: { IsAtRest lane } by { IsAtRest-prop lane },
+}
+
+// Takes a message of a known sender. The fault, if it is not taken.
+fn take(lane: &mut Lane, mail: Mail) -> Option<TakeFault>
+    requires known { mail.sender < length lane.old.closed }
+    requires rest { IsAtRest lane.old }
+    ensures rest { IsAtRest lane.new }
+    ensures config { lane.new.config ≡ lane.old.config }
+{
+    if let Err((fault, _)) = lane.take(mail) {
+        return Some(fault);
+    }
+    None
+}
+
+/// A desk with a fresh lane of a config, which has to be valid. `None`: there was no memory for it.
+pub fn desk_of(alloc: Global, config: RelayConfig) -> Option<Desk> {
+    if !config.valid() {
+        return None;
+    }
+    Some(Desk {
+        lane: Lane::new(alloc, config).ok()?,
+    })
+}
+
+/// Takes a message of a sender. Whether it was taken.
+pub fn sends(desk: &mut Desk, sender: u32, body: Body) -> bool {
+    if sender >= desk.lane.senders() {
+        return false;
+    }
+    let mail = Mail {
+        sender,
+        number: 0,
+        body,
+    };
+    take(&mut desk.lane, mail).is_none()
+}
+
+fn op_of(alloc: Global, number: u64, id: &str, source: &str) -> Option<Op> {
+    Some(Op {
+        producer: 0,
+        number,
+        key: DocKey::new(alloc, "b", id).ok()?,
+        action: Action::index(alloc, source).ok()?,
+    })
+}
+
+/// Puts an operation of the first producer that indexes a source. Whether it was taken.
+pub fn puts(alloc: Global, desk: &mut Desk, number: u64, id: &str, source: &str) -> bool {
+    match op_of(alloc, number, id, source) {
+        Some(op) => sends(desk, 0, Body::Put(op)),
+        None => false,
+    }
+}
+
+/// The producer and the control close. Whether the lane is closed.
+pub fn closes(desk: &mut Desk) -> bool {
+    sends(desk, 0, Body::Done) && sends(desk, 1, Body::Done) && desk.lane.closed()
+}
+
+/// A pace that does not wait, and notes its first pauses and all its ticks.
+#[derive(Clone, Copy, Debug, PartialEq, Eq)]
+pub struct Notes {
+    pub pauses: [u64; 8],
+    pub count: usize,
+    pub ticks: u64,
+}
+
+/// A pace that has not paused.
+pub const NO_PAUSES: Notes = Notes {
+    pauses: [0; 8],
+    count: 0,
+    ticks: 0,
+};
+
+impl Pace for Notes {
+    ghost use Rattle.std.specs.Prelude.{Some};
+
+    ghost paused = { λ n. Some n.ticks };
+
+    fn pause(&mut self, ticks: u64) {
+        if self.count < 8 {
+            self.pauses[self.count] = ticks;
+            self.count += 1;
+        }
+        self.ticks = self.ticks.saturating_add(ticks);
+    }
+}

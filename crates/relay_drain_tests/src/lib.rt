@@ -1,0 +1,15 @@
+//! Tests of relay_drain.
+#![tactic(auto)]
+
+#[cfg(test)]
+mod desk;
+#[cfg(test)]
+mod examples;
+#[cfg(test)]
+mod losing;
+#[cfg(test)]
+mod many;
+#[cfg(test)]
+mod telling;
+#[cfg(test)]
+mod wires;

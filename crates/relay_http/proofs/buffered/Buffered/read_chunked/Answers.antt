@@ -1,0 +1,120 @@
+use Rattle.std.proofs.Common.{rules, refl, inr, [], ◌≡◌, ◌∙◌, ◌+◌, ◌-◌, ◌<◌, ◌≤◌, ◌++◌, append_assoc, length-append, ap, sym, subst, arith, length}
+use Rattle.httparse.specs.Ascii.{crlf_bytes}
+use Rattle.relay_http.specs.Forms.{Begins}
+use Rattle.relay_http.proofs.Leading.{Leads}
+use Rattle.relay_http.specs.Steps.{IsLine, IsTrailer, IsDataAfter, IsLastAfter}
+use Rattle.relay_http.specs.Chunked.{IsChunked, IsChunkedAfter, IsLongChunked}
+use Rattle.relay_http.proofs.Stands.{prepend_known-nil}
+use Rattle.relay_http.proofs.Leading.{leads_none, leads_on, fails_behind, took_behind}
+use Rattle.relay_http.proofs.Passing.{stood_behind, refused_here}
+use Rattle.relay_http.proofs.Chunks.{size_leads, chunk_leads, zero_leads, begins_piece, begins_trailer, too_long}
+use Rattle.relay_http.proofs.LongBodies.{long_begins, line_taken, chunk_taken, chunk_there}
+use Rattle.relay_http.proofs.Unique.{fails_found}
+use Rattle.relay_http.proofs.buffered.Buffered.read_chunked.Goals as goal
+
+pub chunks-init : goal.chunks-init
+chunks-init g c =
+    let nothing : c.new-body.result ≡ [] = search rules in
+    record {
+      few = search rules;
+      front = ([], sym (prepend_known-nil _), subst (λ b. Leads (IsChunked c.args.limit) (IsChunkedAfter c.args.limit b) []) (sym nothing) (leads_none (IsChunked c.args.limit)));
+      long = λ s there stands. (s, subst (λ b. IsLongChunked c.args.limit b s) (sym nothing) there, stands);
+      count = refl;
+      written = refl;
+    }
+
+pub returns-in-Err-clause-answer : goal.returns-in-Err-clause-answer
+returns-in-Err-clause-answer g c =
+    let f = c.chunks.invariant.front in
+    fails_behind (IsChunked c.args.limit) IsLine f.0 _ _ _ c.in-Err.fault (λ s b. begins_piece c.args.limit c.chunks.body s (f.2.peel s b).0) f.1 c.in-Err.ensures.answer
+
+pub returns-in-Err-read_piece-clause-answer : goal.returns-in-Err-read_piece-clause-answer
+returns-in-Err-read_piece-clause-answer g c =
+    let f = c.chunks.invariant.front in
+    let t = c.in-Ok.ensures.answer in
+    let none : c.in-Ok.line.size ≡ 0 = search rules in
+    let leads = leads_on (IsChunked c.args.limit) (IsChunkedAfter c.args.limit c.chunks.body) (IsLastAfter c.args.limit c.chunks.body) f.0 t.front f.2 (zero_leads c.args.limit c.chunks.body t.front t.ends c.in-Ok.line.size t.message none) in
+    fails_behind (IsChunked c.args.limit) IsTrailer (f.0 ++ t.front) _ _ _ c.in-Err-read_piece.fault (λ s b. begins_trailer _ c.args.limit c.chunks.body s (leads.peel s b).0) (stood_behind f.0 t.front _ _ _ f.1 t.split) c.in-Err-read_piece.ensures.answer
+
+pub returns-in-Ok-read_piece-clause-answer : goal.returns-in-Ok-read_piece-clause-answer
+returns-in-Ok-read_piece-clause-answer g c =
+    let f = c.chunks.invariant.front in
+    let t = c.in-Ok.ensures.answer in
+    let e = c.in-Ok-read_piece.ensures.answer in
+    let none : c.in-Ok.line.size ≡ 0 = search rules in
+    let leads = leads_on (IsChunked c.args.limit) (IsChunkedAfter c.args.limit c.chunks.body) (IsLastAfter c.args.limit c.chunks.body) f.0 t.front f.2 (zero_leads c.args.limit c.chunks.body t.front t.ends c.in-Ok.line.size t.message none) in
+    rw c.into_vec.ensures (took_behind (IsChunked c.args.limit) (IsLastAfter c.args.limit c.chunks.body) (f.0 ++ t.front) _ _ _ c.chunks.body leads (stood_behind f.0 t.front _ _ _ f.1 t.split)
+    (record { front = e.front; ends = e.ends; message = record { trailer_is = e.message; content_is = refl; size = c.chunks.invariant.few }; split = e.split; last = e.last }))
+
+pub returns-then-size-limit-clause-answer : goal.returns-then-size-limit-clause-answer
+returns-then-size-limit-clause-answer g c =
+    let f = c.chunks.invariant.front in
+    let t = c.in-Ok.ensures.answer in
+    let few = c.chunks.invariant.few in
+    let past : c.args.limit - length c.chunks.body < c.in-Ok.line.size = search rules in
+    refused_here (IsChunked c.args.limit) (f.0 ++ t.front) _ c.read_piece.new.self.window (g.S.ByteStream.left c.read_piece.new.self.stream) (stood_behind f.0 t.front _ _ _ f.1 t.split)
+    (λ s b. too_long c.args.limit c.chunks.body t.front t.ends c.in-Ok.line.size t.message (omega (arith, past)) (omega (arith, past, few)) s (f.2.peel (t.front ++ s) (subst (Begins (IsChunked c.args.limit)) (append_assoc f.0 t.front s) b)).0)
+
+pub returns-in-Err-read_chunk-clause-answer : goal.returns-in-Err-read_chunk-clause-answer
+returns-in-Err-read_chunk-clause-answer g c =
+    let f = c.chunks.invariant.front in
+    let t = c.in-Ok.ensures.answer in
+    let some : 0 < c.in-Ok.line.size = search rules in
+    let leads = leads_on (IsChunked c.args.limit) (IsChunkedAfter c.args.limit c.chunks.body) (IsDataAfter c.args.limit c.chunks.body c.in-Ok.line.size) f.0 t.front f.2 (size_leads c.args.limit c.chunks.body t.front t.ends c.in-Ok.line.size t.message some) in
+    fails_behind (IsChunked c.args.limit) (IsDataAfter c.args.limit c.chunks.body c.in-Ok.line.size) (f.0 ++ t.front) _ _ _ c.in-Err-read_chunk.fault (λ s b. (leads.peel s b).0) (stood_behind f.0 t.front _ _ _ f.1 t.split) c.in-Err-read_chunk.ensures.answer
+
+pub chunks-preserved : goal.chunks-preserved
+chunks-preserved g c =
+    let f = c.chunks.invariant.front in
+    let t = c.in-Ok.ensures.answer in
+    let d = c.in-Ok-read_chunk.ensures.answer in
+    let some : 0 < c.in-Ok.line.size = search rules in
+    let few = c.chunks.invariant.few in
+    let below : c.in-Ok.line.size ≤ c.args.limit - length c.chunks.body = search rules in
+    let total = ap length d.appended ∙ length-append c.chunks.body d.piece in
+    let size = d.length_is in
+    let first = leads_on (IsChunked c.args.limit) (IsChunkedAfter c.args.limit c.chunks.body) (IsDataAfter c.args.limit c.chunks.body c.in-Ok.line.size) f.0 t.front f.2 (size_leads c.args.limit c.chunks.body t.front t.ends c.in-Ok.line.size t.message some) in
+    let second = leads_on (IsChunked c.args.limit) (IsDataAfter c.args.limit c.chunks.body c.in-Ok.line.size) (IsChunkedAfter c.args.limit (c.chunks.body ++ d.piece)) (f.0 ++ t.front) (d.piece ++ crlf_bytes) first (chunk_leads c.args.limit c.chunks.body d.piece c.in-Ok.line.size size) in
+    let front = (f.0 ++ t.front) ++ (d.piece ++ crlf_bytes) in
+    record {
+      few = omega (arith, total, size, few, below);
+      front = (front, stood_behind (f.0 ++ t.front) (d.piece ++ crlf_bytes) _ _ _ (stood_behind f.0 t.front _ _ _ f.1 t.split) d.split, subst (λ b. Leads (IsChunked c.args.limit) (IsChunkedAfter c.args.limit b) front) (sym d.appended) second);
+      long = λ s there stands.
+          let r = c.chunks.invariant.long s there stands in
+          let fits : length c.chunks.body + c.in-Ok.line.size ≤ c.args.limit = omega (arith, few, below) in
+          let q = line_taken c.args.limit c.chunks.body r.0 _ _ c.in-Ok.line.size r.1 r.2 t fits in
+          chunk_taken c.args.limit c.chunks.body _ q.0 _ _ c.in-Ok.line.size q.2 q.1 d;
+      count = search rules;
+      written = search rules;
+    }
+
+pub returns-in-Err-clause-long : goal.returns-in-Err-clause-long
+returns-in-Err-clause-long g c = λ s there stands.
+    let r = c.chunks.invariant.long s there stands in
+    inr (fails_found IsLine _ _ c.in-Err.fault c.in-Err.ensures.answer r.0 (long_begins c.args.limit c.chunks.body r.0 r.1) r.2)
+
+pub returns-in-Err-read_piece-clause-long : goal.returns-in-Err-read_piece-clause-long
+returns-in-Err-read_piece-clause-long g c = λ s there stands.
+    let r = c.chunks.invariant.long s there stands in
+    let few = c.chunks.invariant.few in
+    let none : c.in-Ok.line.size ≡ 0 = search rules in
+    let q = line_taken c.args.limit c.chunks.body r.0 _ _ c.in-Ok.line.size r.1 r.2 c.in-Ok.ensures.answer (omega (arith, few, none)) in
+    let some = q.2.some in
+    absurd (omega (arith, some, none))
+
+pub returns-in-Ok-read_piece-clause-long : goal.returns-in-Ok-read_piece-clause-long
+returns-in-Ok-read_piece-clause-long g c = λ s there stands.
+    let r = c.chunks.invariant.long s there stands in
+    let few = c.chunks.invariant.few in
+    let none : c.in-Ok.line.size ≡ 0 = search rules in
+    let q = line_taken c.args.limit c.chunks.body r.0 _ _ c.in-Ok.line.size r.1 r.2 c.in-Ok.ensures.answer (omega (arith, few, none)) in
+    let some = q.2.some in
+    absurd (omega (arith, some, none))
+
+pub returns-in-Err-read_chunk-clause-long : goal.returns-in-Err-read_chunk-clause-long
+returns-in-Err-read_chunk-clause-long g c = λ s there stands.
+    let r = c.chunks.invariant.long s there stands in
+    let few = c.chunks.invariant.few in
+    let below : c.in-Ok.line.size ≤ c.args.limit - length c.chunks.body = search rules in
+    let q = line_taken c.args.limit c.chunks.body r.0 _ _ c.in-Ok.line.size r.1 r.2 c.in-Ok.ensures.answer (omega (arith, few, below)) in
+    inr (c.in-Err-read_chunk.ensures.whole q.0 (chunk_there c.args.limit c.chunks.body q.0 c.in-Ok.line.size q.2) q.1)

@@ -1,0 +1,73 @@
+use Rattle.std.proofs.Common.{refl, [], sym, subst}
+use Rattle.relay_http.specs.Framing.{request_limit}
+use Rattle.relay_http.specs.Body.{IsBody, IsLongBody}
+use Rattle.relay_http.specs.Request.{IsRequest, IsRequestBody, IsRequestInfo}
+use Rattle.relay_http.proofs.Stands.{prepend_known-nil}
+use Rattle.relay_http.proofs.Leading.{fails_behind, fails_stated, took_behind}
+use Rattle.relay_http.proofs.Messages.{begins_then, then_leads}
+use Rattle.relay_http.proofs.Passing.{refused_here}
+use Rattle.relay_http.proofs.Arrivals.{request_head_unique, request_either, request_stated, begins_request_body, request_never}
+use Rattle.relay_http.proofs.Unique.{stated_outside, stated_fault, stated_framed, framed_fault, framed_same}
+use Rattle.relay_http.proofs.buffered.Buffered.read_whole_request.Goals as goal
+
+pub returns-in-Err-clause-answer : goal.returns-in-Err-clause-answer
+returns-in-Err-clause-answer g c =
+    fails_behind IsRequest IsRequestInfo [] _ _ _ c.in-Err.fault (begins_then IsRequestInfo IsRequestBody) (sym (prepend_known-nil _)) c.in-Err.ensures.answer
+
+pub returns-in-Err-clause-stated : goal.returns-in-Err-clause-stated
+returns-in-Err-clause-stated g c = λ stream f states stands. stated_outside IsRequestInfo _ _ c.in-Err.fault f c.in-Err.ensures.answer stream states.head stands
+
+pub returns-in-Err-framing-clause-answer : goal.returns-in-Err-framing-clause-answer
+returns-in-Err-framing-clause-answer g c =
+    let t = c.in-Ok.ensures.answer in
+    let leads = then_leads IsRequestInfo IsRequestBody request_head_unique t.front c.in-Ok.info (request_either t.front t.ends c.in-Ok.info t.message) in
+    fails_stated IsRequest _ _ c.in-Err-framing.fault (request_stated t.front t.ends c.in-Ok.info t.message c.in-Err-framing.fault c.in-Err-framing.is)
+    (refused_here IsRequest t.front _ c.read_piece.new.self.window (g.S.ByteStream.left c.read_piece.new.self.stream) t.split (λ s b. request_never c.in-Ok.info c.in-Err-framing.fault c.in-Err-framing.is s (leads.peel s b).0))
+
+pub returns-in-Err-framing-clause-stated : goal.returns-in-Err-framing-clause-stated
+returns-in-Err-framing-clause-stated g c = λ stream f states stands.
+    stated_fault IsRequestInfo request_head_unique (λ i. i.framing) _ _ c.in-Ok.info c.in-Ok.ensures.answer stream states.head stands f c.in-Err-framing.fault states.fault_is c.in-Err-framing.is
+
+pub returns-in-Err-read_body-clause-answer : goal.returns-in-Err-read_body-clause-answer
+returns-in-Err-read_body-clause-answer g c =
+    let t = c.in-Ok.ensures.answer in
+    let leads = then_leads IsRequestInfo IsRequestBody request_head_unique t.front c.in-Ok.info (request_either t.front t.ends c.in-Ok.info t.message) in
+    fails_behind IsRequest (IsBody request_limit c.in-Ok-framing.framing) t.front _ _ _ c.in-Err-read_body.fault (λ s b. begins_request_body c.in-Ok.info c.in-Ok-framing.framing c.in-Ok-framing.is s (leads.peel s b).0) t.split c.in-Err-read_body.ensures.answer
+
+pub returns-in-Err-read_body-clause-stated : goal.returns-in-Err-read_body-clause-stated
+returns-in-Err-read_body-clause-stated g c = λ stream f states stands.
+    absurd (stated_framed IsRequestInfo request_head_unique (λ i. i.framing) _ _ c.in-Ok.info c.in-Ok.ensures.answer stream states.head stands f c.in-Ok-framing.framing states.fault_is c.in-Ok-framing.is)
+
+pub returns-clause-answer : goal.returns-clause-answer
+returns-clause-answer g c =
+    let t = c.in-Ok.ensures.answer in
+    let leads = then_leads IsRequestInfo IsRequestBody request_head_unique t.front c.in-Ok.info (request_either t.front t.ends c.in-Ok.info t.message) in
+    let e = c.in-Ok-read_body.ensures.answer in
+    took_behind IsRequest (IsRequestBody c.in-Ok.info) t.front _ _ _ _ leads t.split (record {
+      front = e.front;
+      ends = e.ends;
+      message = record { framing = c.in-Ok-framing.framing; framed = c.in-Ok-framing.is; body = e.message; bulk_is = refl; keep_is = refl };
+      split = e.split;
+      last = e.last;
+    })
+
+pub returns-clause-stated : goal.returns-clause-stated
+returns-clause-stated g c = λ stream f states stands.
+    absurd (stated_framed IsRequestInfo request_head_unique (λ i. i.framing) _ _ c.in-Ok.info c.in-Ok.ensures.answer stream states.head stands f c.in-Ok-framing.framing states.fault_is c.in-Ok-framing.is)
+
+pub returns-in-Err-clause-long : goal.returns-in-Err-clause-long
+returns-in-Err-clause-long g c = λ stream passes stands. stated_outside IsRequestInfo _ _ c.in-Err.fault _ c.in-Err.ensures.answer stream passes.head stands
+
+pub returns-in-Err-framing-clause-long : goal.returns-in-Err-framing-clause-long
+returns-in-Err-framing-clause-long g c = λ stream passes stands.
+    absurd (framed_fault IsRequestInfo request_head_unique (λ i. i.framing) _ _ c.in-Ok.info c.in-Ok.ensures.answer stream passes.head stands c.in-Err-framing.fault passes.framing passes.framed c.in-Err-framing.is)
+
+pub returns-in-Err-read_body-clause-long : goal.returns-in-Err-read_body-clause-long
+returns-in-Err-read_body-clause-long g c = λ stream passes stands.
+    let same = framed_same IsRequestInfo request_head_unique (λ i. i.framing) _ _ c.in-Ok.info c.in-Ok.ensures.answer stream passes.head stands c.in-Ok-framing.framing passes.framing passes.framed c.in-Ok-framing.is in
+    c.in-Err-read_body.ensures.long passes.head.rest (subst (λ f. IsLongBody request_limit f passes.head.rest) same.0 passes.long) same.1
+
+pub returns-clause-long : goal.returns-clause-long
+returns-clause-long g c = λ stream passes stands.
+    let same = framed_same IsRequestInfo request_head_unique (λ i. i.framing) _ _ c.in-Ok.info c.in-Ok.ensures.answer stream passes.head stands c.in-Ok-framing.framing passes.framing passes.framed c.in-Ok-framing.is in
+    c.in-Ok-read_body.ensures.long passes.head.rest (subst (λ f. IsLongBody request_limit f passes.head.rest) same.0 passes.long) same.1

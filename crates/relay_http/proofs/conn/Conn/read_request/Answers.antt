@@ -1,0 +1,12 @@
+use Rattle.std.proofs.Common.{◌∙◌, ap}
+use Rattle.relay_http.specs.Connection.{ahead}
+use Rattle.relay_http.proofs.conn.Conn.read_request.Goals as goal
+
+pub returns-clause-found : goal.returns-clause-found
+returns-clause-found g c = λ stream there whole stands. c.next_request-result.ensures.found stream there (ap ahead c.self.view_is ∙ stands)
+
+pub returns-clause-stated : goal.returns-clause-stated
+returns-clause-stated g c = λ stream f states whole stands. c.next_request-result.ensures.stated stream f states (ap ahead c.self.view_is ∙ stands)
+
+pub returns-clause-long : goal.returns-clause-long
+returns-clause-long g c = λ stream passes whole stands. c.next_request-result.ensures.long stream passes (ap ahead c.self.view_is ∙ stands)

@@ -1,0 +1,17 @@
+use Rattle.std.proofs.Common.{rules, ◌≤◌, arith, inr, refl}
+use Rattle.relay_http.proofs.Heads.{head_at, head_full}
+use Rattle.relay_http.proofs.head.find_head.Goals as goal
+
+pub returns-in-Ok-Complete-clause-found : goal.returns-in-Ok-Complete-clause-found
+returns-in-Ok-Complete-clause-found c =
+    let found = rw c.in-Ok-Complete.field-0-is at c.in-Ok-Complete.ensures.complete in
+    let all = rw c.in-Ok-Complete.field-0-is at c.in-Ok-Complete.ensures.within in
+    let within = all.section in
+    let short : c.in-Ok-Complete.head.len ≤ 16384 = omega (arith, within.len_fits, c.requires) in
+    let few : c.in-Ok-Complete.head.headers ≤ 64 = search (rules, within.count_fits) in
+    (within.len_fits, head_at c.args.buf.now c.parse_response.new.headers c.in-Ok-Complete.head found.0 c.framing.result c.keeps.result found.1 few short c.framing.ensures c.keeps.ensures)
+
+pub returns-in-Ok-Partial-2-clause-found : goal.returns-in-Ok-Partial-2-clause-found
+returns-in-Ok-Partial-2-clause-found c =
+    let none = rw c.in-Ok-Partial.field-0-is at c.in-Ok-Partial.ensures.partial in
+    (inr refl, head_full c.args.buf.now (search rules) none)

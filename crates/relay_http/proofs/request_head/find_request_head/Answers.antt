@@ -1,0 +1,19 @@
+use Rattle.std.proofs.Common.{rules, ◌≤◌, ◌&&◌, ◌∙◌, arith, inr, refl}
+use Rattle.std.specs.Prelude.{codes, bytes_eq}
+use Rattle.relay_http.proofs.Arrivals.{request_at, request_full}
+use Rattle.relay_http.proofs.request_head.find_request_head.Goals as goal
+
+pub returns-in-Ok-Partial-2-clause-found : goal.returns-in-Ok-Partial-2-clause-found
+returns-in-Ok-Partial-2-clause-found c =
+    let none = rw c.in-Ok-Partial.field-0-is at c.in-Ok-Partial.ensures.partial in
+    (inr refl, request_full c.args.buf.now (search rules) none)
+
+pub returns-in-Ok-Complete-clause-found : goal.returns-in-Ok-Complete-clause-found
+returns-in-Ok-Complete-clause-found c =
+    let found = rw c.in-Ok-Complete.field-0-is at c.in-Ok-Complete.ensures.complete in
+    let all = rw c.in-Ok-Complete.field-0-is at c.in-Ok-Complete.ensures.within in
+    let within = all.section in
+    let short : c.in-Ok-Complete.head.len ≤ 16384 = omega (arith, within.len_fits, c.requires) in
+    let few : c.in-Ok-Complete.head.headers ≤ 64 = search (rules, within.count_fits) in
+    let bulk = c.is_bulk.ensures ∙ (λ i. bytes_eq (c.of.ensures i) (codes "POST") && bytes_eq (c.of-in-Ok-Complete.ensures i) (codes "/_bulk")) in
+    (within.len_fits, request_at c.args.buf.now c.parse_request.new.headers c.in-Ok-Complete.head found.0 c.is_bulk.result c.request_framing.result c.keeps.result found.1 few short bulk c.request_framing.ensures c.keeps.ensures)

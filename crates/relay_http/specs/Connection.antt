@@ -1,0 +1,95 @@
+-- A connection, as its callers see it.
+use Rattle.std.specs.Prelude.{ℕ, List, [], Bool, true, false, Option, Some, None, Result, Ok, Err, if◌then◌else◌}
+use Rattle.std.specs.Io.KnownBytes.{prepend_known}
+use Rattle.relay_action.specs.Streams.{one_more}
+use Rattle.relay_http.specs.declared.fault.HttpFault.{HttpFault}
+use Rattle.relay_http.specs.declared.fault.HttpFault.TheVariants as fault
+use Rattle.relay_http.specs.declared.phase.Phase.{Phase}
+use Rattle.relay_http.specs.declared.phase.Phase.TheVariants as phase
+use Rattle.relay_http.specs.declared.reply.HttpReply.{HttpReply}
+use Rattle.relay_http.specs.declared.request.HttpRequest.{HttpRequest}
+
+-- what was read and not used yet; what the stream has left, what it was given, and how many of its calls failed; and
+-- what may still be carried
+pub record Connection : Type 0 where
+  pub held : List ℕ
+  pub left : Option (List ℕ)
+  pub written : Option (List ℕ)
+  pub failed : ℕ
+  pub phase : Phase
+
+-- the bytes that stand: those that were read and not used, and those that the stream has left
+abbrev pub ahead : Connection → Option (List ℕ)
+ahead c = prepend_known c.held c.left
+
+-- before its first call
+abbrev pub fresh : Option (List ℕ) → Option (List ℕ) → ℕ → Connection
+fresh left written failed = record { held = []; left = left; written = written; failed = failed; phase = phase.Open }
+
+abbrev pub is_open : Phase → Bool
+is_open phase.Open = true
+is_open phase.Closing = false
+is_open phase.Broken = false
+
+abbrev pub is_broken : Phase → Bool
+is_broken phase.Open = false
+is_broken phase.Closing = false
+is_broken phase.Broken = true
+
+-- after a message that lets the connection carry a further one, or does not; a request leaves its answer to be written
+abbrev pub phase_of : Bool → Phase
+phase_of keep = if keep then phase.Open else phase.Broken
+
+abbrev pub phase_with : Bool → Phase
+phase_with keep = if keep then phase.Open else phase.Closing
+
+-- after a reply, after a request, and after a message that was written
+abbrev pub after_reply : Result HttpReply HttpFault → Phase
+after_reply (Ok reply) = phase_of reply.keep
+after_reply (Err f) = phase.Broken
+
+abbrev pub after_request : Result (Option HttpRequest) HttpFault → Phase
+after_request (Ok None) = phase.Open
+after_request (Ok (Some request)) = phase_with request.keep
+after_request (Err f) = phase.Broken
+
+abbrev pub after_write : Bool → Result (Unit {0}) HttpFault → Phase
+after_write keep (Ok _) = phase_of keep
+after_write keep (Err f) = phase.Broken
+
+-- whether a read failed
+abbrev pub is_read : {A : Type 0} → Result A HttpFault → Bool
+is_read (Ok a) = false
+is_read (Err fault.Malformed) = false
+is_read (Err fault.HeadLong) = false
+is_read (Err fault.BodyLong) = false
+is_read (Err fault.CodedBody) = false
+is_read (Err fault.BothLengths) = false
+is_read (Err fault.Ended) = false
+is_read (Err fault.Read) = true
+is_read (Err fault.Write) = false
+is_read (Err fault.TooManyInterim) = false
+is_read (Err fault.Memory) = false
+is_read (Err fault.Broken) = false
+
+-- whether a write failed
+abbrev pub is_write : {A : Type 0} → Result A HttpFault → Bool
+is_write (Ok a) = false
+is_write (Err fault.Malformed) = false
+is_write (Err fault.HeadLong) = false
+is_write (Err fault.BodyLong) = false
+is_write (Err fault.CodedBody) = false
+is_write (Err fault.BothLengths) = false
+is_write (Err fault.Ended) = false
+is_write (Err fault.Read) = false
+is_write (Err fault.Write) = true
+is_write (Err fault.TooManyInterim) = false
+is_write (Err fault.Memory) = false
+is_write (Err fault.Broken) = false
+
+-- how many calls have failed after a call that reads, and after one that writes
+abbrev pub failed_reading : {A : Type 0} → Result A HttpFault → ℕ → ℕ
+failed_reading result failed = if is_read result then one_more failed else failed
+
+abbrev pub failed_writing : {A : Type 0} → Result A HttpFault → ℕ → ℕ
+failed_writing result failed = if is_write result then one_more failed else failed

@@ -1,0 +1,110 @@
+-- What the private steps of a connection answer.
+use Rattle.std.specs.Prelude.{◌≡◌, ◌≤◌, ◌⊎◌, ◌^◌, ◌&&◌, ◌==◌, nat_lt, ℕ, List, [], ◌∷◌, ◌++◌, length, take, Bool, false, if◌then◌else◌, Option, Some, None, Result, Ok, Err}
+use Rattle.std.specs.Char.{is_ascii_digit}
+use Rattle.std.specs.Io.KnownBytes.{IsAtEnd, prepend_known}
+use Rattle.std.specs.List.{list_all}
+use Rattle.std.specs.Str.Parse.{digits_value}
+use Rattle.httparse.specs.Ascii.{crlf_bytes}
+use Rattle.relay_http.specs.Chunked.{IsSizeLine, IsTrailerText, IsChunkedAfter}
+use Rattle.relay_http.specs.Forms.{Form, Begins, Took, Fails}
+use Rattle.relay_http.specs.declared.buffered.Buffered.{Buffered}
+use Rattle.relay_http.specs.declared.chunk.SizeLine.{SizeLine}
+use Rattle.relay_http.specs.declared.fault.HttpFault.{HttpFault}
+use Rattle.relay_http.specs.declared.fault.HttpFault.TheVariants as fault
+
+-- the bytes that stand: those of the window, and then those that the stream has left
+abbrev pub pending : {S : Type 0} → (S → Option (List ℕ)) → Buffered S → Option (List ℕ)
+pending left c = prepend_known c.window (left c.stream)
+
+-- so many bytes went from the front of the stream to the end of the window, and none only at the end
+pub record Grown (before after : List ℕ) (old new : Option (List ℕ)) (count : ℕ) : Type 0 where
+  pub bytes : List ℕ
+  pub length_is : length bytes ≡ count
+  pub window : after ≡ before ++ bytes
+  pub stream : old ≡ prepend_known bytes new
+  pub end : count ≡ 0 → IsAtEnd old
+
+-- some bytes went from the front of what stood to the end of a list, and none only at the end of the stream
+pub record Moved (old new left : Option (List ℕ)) (before after : List ℕ) (most n : ℕ) : Type 0 where
+  pub bytes : List ℕ
+  pub length_is : length bytes ≡ n
+  pub bound : n ≤ most
+  pub split : old ≡ prepend_known bytes new
+  pub appended : after ≡ before ++ bytes
+  pub end : n ≡ 0 → (new ≡ left) × IsAtEnd left
+
+-- so many bytes went from the front of what stood to the end of a list
+pub record TookData (size : ℕ) (old new : Option (List ℕ)) (before after : List ℕ) : Type 0 where
+  pub piece : List ℕ
+  pub length_is : length piece ≡ size
+  pub split : old ≡ prepend_known piece new
+  pub appended : after ≡ before ++ piece
+
+-- what a call that looks for a message at the front of a buffer finds: one with its length, none so far, or none whatever follows
+abbrev pub Finds : {A : Type 0} → Form A → List ℕ → Result (Option (A × ℕ)) HttpFault → Type 0
+Finds M bytes (Ok (Some found)) = (found.1 ≤ length bytes) × M (take found.1 bytes) false found.0
+Finds M bytes (Ok None) = ¬ (Begins M bytes)
+Finds M bytes (Err f) = IsOfBytes f × ((more : List ℕ) → ¬ (Begins M (bytes ++ more)))
+  where
+    IsOfBytes : HttpFault → Type 0
+    IsOfBytes f = (f ≡ fault.Malformed) ⊎ (f ≡ fault.HeadLong)
+
+-- what a call that reads a message answers, where old and new stand before and after it, and left is not yet read
+abbrev pub Answers : {A : Type 0} → Form A → Option (List ℕ) → Option (List ℕ) → Option (List ℕ) → Result A HttpFault → Type 0
+Answers M old new left (Ok value) = Took M old new value
+Answers M old new left (Err f) = Fails M old left f
+
+-- a size line, as a search finds it
+abbrev pub IsLine : Form SizeLine
+IsLine bytes ends line = IsSizeLine bytes ends line.size
+
+-- the end of a chunk, whatever the value
+abbrev pub IsCrlf : {A : Type 0} → Form A
+IsCrlf bytes ends value = bytes ≡ crlf_bytes
+
+-- a trailer, whatever the value
+abbrev pub IsTrailer : {A : Type 0} → Form A
+IsTrailer bytes ends value = IsTrailerText bytes
+
+-- so many bytes and CRLF stand there
+pub record IsChunkThere (size : ℕ) (stream : List ℕ) : Type 0 where
+  pub content : List ℕ
+  pub rest : List ℕ
+  pub size_is : length content ≡ size
+  pub split : stream ≡ content ++ (crlf_bytes ++ rest)
+
+-- the content of a chunk and CRLF went from the front of what stood, and the content to the end of a list
+pub record TookChunk (size : ℕ) (old new : Option (List ℕ)) (before after : List ℕ) : Type 0 where
+  pub piece : List ℕ
+  pub length_is : length piece ≡ size
+  pub split : old ≡ prepend_known (piece ++ crlf_bytes) new
+  pub appended : after ≡ before ++ piece
+
+-- what may follow a size line: the content, CRLF and further chunks
+pub record IsDataAfter (limit : ℕ) (before : List ℕ) (size : ℕ) (bytes : List ℕ) (ends : Bool) (content : List ℕ) : Type 0 where
+  pub piece : List ℕ
+  pub more : List ℕ
+  pub size_is : length piece ≡ size
+  pub chunked : IsChunkedAfter limit (before ++ piece) more ends content
+  pub bytes_are : bytes ≡ piece ++ (crlf_bytes ++ more)
+
+-- what may follow the content of a chunk: CRLF and further chunks
+pub record IsEndAfter (limit : ℕ) (before : List ℕ) (bytes : List ℕ) (ends : Bool) (content : List ℕ) : Type 0 where
+  pub more : List ℕ
+  pub chunked : IsChunkedAfter limit before more ends content
+  pub bytes_are : bytes ≡ crlf_bytes ++ more
+
+-- what may follow a line of size 0: the trailer
+pub record IsLastAfter (limit : ℕ) (before : List ℕ) (bytes : List ℕ) (ends : Bool) (content : List ℕ) : Type 0 where
+  pub trailer_is : IsTrailerText bytes
+  pub content_is : content ≡ before
+  pub size : length content ≤ limit
+
+-- the digits from the first that is not 0
+abbrev pub significant : List ℕ → List ℕ
+significant [] = []
+significant (b ∷ bytes) = if b == 48 then significant bytes else b ∷ bytes
+
+-- 1*DIGIT, below 2 ^ 64
+abbrev pub fits_number : List ℕ → Bool
+fits_number text = nat_lt 0 (length text) && (list_all is_ascii_digit text && nat_lt (digits_value 10 text) (2 ^ 64))

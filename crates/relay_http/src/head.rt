@@ -1,0 +1,61 @@
+//! The head of a reply (RFC 9112, sections 4 and 5).
+ghost use Rattle.std.specs.Prelude.{◌≡◌, ◌<◌, ◌≤◌, length, Ok, None};
+ghost use Rattle.relay_http.specs.Steps.{Finds};
+ghost use Rattle.relay_http.specs.Reply.{IsHead, head_limit};
+
+use crate::fault::HttpFault;
+use crate::fields;
+use crate::framing::Framing;
+use crate::piece::Piece;
+use httparse::spans::{EMPTY_HEADER_SPAN, parse_response};
+use httparse::{Error, Status};
+
+/// What the head of a reply says.
+#[derive(Clone, Copy, Debug, PartialEq, Eq)]
+pub struct HeadInfo {
+    /// The status.
+    pub status: u16,
+    /// Where the body ends, or why no reply has this as its final head.
+    pub framing: Result<Framing, HttpFault>,
+    /// Whether the connection may carry a further message.
+    pub lasting: bool,
+}
+
+impl Piece for HeadInfo {
+    ghost form = { IsHead };
+
+    ghost size = { 16384 };
+
+    fn most() -> usize {
+        16384
+    }
+
+    fn find(buf: &[u8]) -> Result<Option<(HeadInfo, usize)>, HttpFault> {
+        find_head(buf)
+    }
+}
+
+/// Looks for a whole head at the front of the bytes, and answers it with its length. The faults:
+/// `Malformed`, and `HeadLong` where it has more than 64 fields or more than 16,384 bytes.
+pub fn find_head(buf: &[u8]) -> Result<Option<(HeadInfo, usize)>, HttpFault>
+    requires { length buf.now ≤ head_limit }
+    ensures found { Finds IsHead buf.now result }
+    ensures none { result ≡ Ok None → length buf.now < 16384 }
+{
+    let mut headers = [EMPTY_HEADER_SPAN; 64];
+    match parse_response(buf, &mut headers) {
+        Ok(Status::Complete(head)) => {
+            let fields = &headers[..head.headers];
+            let info = HeadInfo {
+                status: head.code,
+                framing: fields::framing(head.code, buf, fields),
+                lasting: fields::keeps(head.version, buf, fields),
+            };
+            Ok(Some((info, head.len)))
+        }
+        Ok(Status::Partial) if buf.len() < 16384 => Ok(None),
+        Ok(Status::Partial) => Err(HttpFault::HeadLong),
+        Err(Error::TooManyHeaders) => Err(HttpFault::HeadLong),
+        Err(_) => Err(HttpFault::Malformed),
+    }
+}

@@ -1,0 +1,85 @@
+//! Pieces of a message that are looked for at the front of the window.
+ghost use Rattle.std.specs.Prelude.{◌≡◌, ◌<◌, ◌≤◌, ℕ, List, Bool, length, Ok, None, Err, IfOk, OnOk, OnErr, IsTrue, IsFalse, is_ok, if◌then◌else◌};
+ghost use Rattle.std.specs.Io.KnownBytes.{IsAtEnd};
+ghost use Rattle.relay_action.specs.Streams.{one_more};
+ghost use Rattle.relay_http.specs.Steps.{Finds, Answers, pending};
+ghost use Rattle.relay_http.specs.Connection.{is_read};
+
+use crate::buffered::Buffered;
+use crate::fault::HttpFault;
+use memchr::memchr;
+use relay_action::ByteIn;
+
+/// A piece of a message, which ends in a line feed.
+pub trait Piece: Copy {
+    /// The bytes are this piece.
+    ghost form: { List ℕ → Bool → Self → Type 0 };
+
+    /// The most bytes that it has.
+    ghost size: { ℕ };
+
+    /// The most bytes that it has.
+    fn most() -> usize
+        ensures { (result ≡ Self.size) × (result ≤ 16384) };
+
+    /// Looks for the piece at the front of the bytes, and answers it with its length. `None`: more
+    /// bytes may make one.
+    fn find(buf: &[u8]) -> Result<Option<(Self, usize)>, HttpFault>
+        requires { length buf.now ≤ 16384 }
+        ensures found { Finds Self.form buf.now result }
+        ensures none { result ≡ Ok None → length buf.now < Self.size };
+}
+
+impl<S: ByteIn + Drop> Buffered<S> {
+    // Reads until a line feed came, so many bytes stand in the window, or the stream ended. `false`: it ended.
+    fn fill_line(&mut self, most: usize) -> Result<bool, HttpFault>
+        requires { (length self.old.window < most) × (most ≤ 16384) }
+        ensures stands { OnOk result (pending S.left self.old ≡ pending S.left self.new) }
+        ensures more { IfOk result (λ more. IsTrue more → length self.old.window < length self.new.window) }
+        ensures longer { OnOk result (length self.old.window ≤ length self.new.window) }
+        ensures ended { IfOk result (λ more. IsFalse more → IsAtEnd (S.left self.new.stream)) }
+        ensures err { OnErr result (result ≡ Err HttpFault.Read) }
+        ensures count { S.failed self.new.stream ≡ (if is_ok result then S.failed self.old.stream else one_more (S.failed self.old.stream)) }
+        ensures written { S.written self.new.stream ≡ S.written self.old.stream }
+    {
+        'filling: loop {
+            let before = self.window.as_slice().len();
+            match self.fill() {
+                Err(fault) => return Err(fault),
+                Ok(0) => return Ok(false),
+                Ok(_) => {}
+            }
+            let bytes = self.window.as_slice();
+            if bytes.len() >= most || memchr(b'\n', &bytes[before..]).is_some() {
+                return Ok(true);
+            }
+        }
+    }
+
+    // Reads a piece. The bytes are looked at again only where a line feed came, the limit is reached or
+    // the stream ended, since each piece ends in a line feed.
+    pub(crate) fn read_piece<P: Piece>(&mut self) -> Result<P, HttpFault>
+        ensures answer { Answers P.form (pending S.left self.old) (pending S.left self.new) (S.left self.new.stream) result }
+        ensures count { S.failed self.new.stream ≡ (if is_read result then one_more (S.failed self.old.stream) else S.failed self.old.stream) }
+        ensures written { S.written self.new.stream ≡ S.written self.old.stream }
+    {
+        let mut ended = false;
+        'reading: loop {
+            match P::find(self.window.as_slice()) {
+                Err(fault) => return Err(fault),
+                Ok(Some((piece, len))) => {
+                    self.window.skip(len);
+                    return Ok(piece);
+                }
+                Ok(None) => {}
+            }
+            if ended {
+                return Err(HttpFault::Ended);
+            }
+            match self.fill_line(P::most()) {
+                Err(fault) => return Err(fault),
+                Ok(more) => ended = !more,
+            }
+        }
+    }
+}

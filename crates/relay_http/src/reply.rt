@@ -1,0 +1,94 @@
+//! Replies (RFC 9112, section 4).
+ghost use Rattle.std.specs.Prelude.{◌≡◌, ◌<◌, ◌≤◌, ℕ, List, length, MatchResult, Some, ◌&&◌, not, if◌then◌else◌};
+ghost use Rattle.relay_action.specs.Streams.{one_more};
+ghost use Rattle.relay_http.specs.Forms.{Took, Fails, Begins, IsOutside, IsThatOrOutside};
+ghost use Rattle.relay_http.specs.Steps.{Answers, pending};
+ghost use Rattle.relay_http.specs.Connection.{is_read};
+ghost use Rattle.relay_http.specs.Framing.{is_to_end};
+ghost use Rattle.relay_http.specs.declared.fault.HttpFault.{HttpFault};
+ghost use Rattle.relay_http.specs.Reply.{IsHeads, IsReply, ReplyPasses, ReplyStates, reply_view};
+
+use crate::buffered::Buffered;
+use crate::fault::HttpFault;
+use crate::fields::is_interim;
+use crate::framing::Framing;
+use crate::head::HeadInfo;
+use relay_action::ByteIn;
+use std::alloc::Global;
+
+/// The most interim heads before the final one.
+pub const INTERIM_LIMIT: u8 = 8;
+
+/// The most bytes of a reply's body.
+pub const REPLY_LIMIT: usize = 67_108_864;
+
+/// A reply.
+#[derive(Debug, Drop)]
+pub struct HttpReply {
+    /// The final status, from 200 to 599.
+    pub status: u16,
+    /// The body, at most 67,108,864 bytes.
+    pub body: Vec<u8>,
+    /// Whether the connection may carry a further message. `false` for HTTP/1.0, where the head says
+    /// `close`, and where the body goes to the end of the stream.
+    pub keep: bool,
+}
+
+// Whether a message with this framing lets the connection carry a further one.
+fn keeps(lasting: bool, framing: Framing) -> bool
+    ensures { result ≡ (lasting && not (is_to_end framing)) }
+{
+    match framing {
+        Framing::ToEnd => false,
+        _ => lasting,
+    }
+}
+
+impl<S: ByteIn + Drop> Buffered<S> {
+    // Reads the heads of a reply, and answers what the last of them says.
+    fn read_heads(&mut self) -> Result<HeadInfo, HttpFault>
+        ensures answer { Answers IsHeads (pending S.left self.old) (pending S.left self.new) (S.left self.new.stream) result }
+        ensures count { S.failed self.new.stream ≡ (if is_read result then one_more (S.failed self.old.stream) else S.failed self.old.stream) }
+        ensures written { S.written self.new.stream ≡ S.written self.old.stream }
+    {
+        let mut passed = 0;
+        'heads: loop {
+            let info = match self.read_piece::<HeadInfo>() {
+                Err(fault) => return Err(fault),
+                Ok(info) => info,
+            };
+            if !is_interim(info.status) || passed == INTERIM_LIMIT {
+                return Ok(info);
+            }
+            passed += 1;
+        }
+    }
+
+    // Reads a reply. What stands there is found, and so is a fault that the heads there state.
+    pub(crate) fn next_reply(&mut self, alloc: Global) -> Result<HttpReply, HttpFault>
+        ensures answer { MatchResult result (λ reply. Took IsReply (pending S.left self.old) (pending S.left self.new) (reply_view reply)) (Fails IsReply (pending S.left self.old) (S.left self.new.stream)) }
+        ensures found { (stream : List ℕ) (there : Begins IsReply stream) → pending S.left self.old ≡ Some stream → MatchResult result (λ reply. (reply_view reply ≡ there.value) × (pending S.left self.new ≡ Some there.rest)) IsOutside }
+        ensures stated { (stream : List ℕ) (f : HttpFault) → ReplyStates stream f → pending S.left self.old ≡ Some stream → MatchResult result (λ reply. ⊥) (IsThatOrOutside f) }
+        ensures long { (stream : List ℕ) → ReplyPasses stream → pending S.left self.old ≡ Some stream → MatchResult result (λ reply. ⊥) (IsThatOrOutside HttpFault.BodyLong) }
+        ensures count { S.failed self.new.stream ≡ (if is_read result then one_more (S.failed self.old.stream) else S.failed self.old.stream) }
+        ensures written { S.written self.new.stream ≡ S.written self.old.stream }
+    {
+        let info = match self.read_heads() {
+            Err(fault) => return Err(fault),
+            Ok(info) => info,
+        };
+        let framing = match info.framing {
+            Err(fault) => return Err(fault),
+            Ok(framing) => framing,
+        };
+        let body = match self.read_body(alloc, framing, REPLY_LIMIT) {
+            Err(fault) => return Err(fault),
+            Ok(body) => body,
+        };
+        Ok(HttpReply {
+            status: info.status,
+            body,
+            keep: keeps(info.lasting, framing),
+        })
+    }
+}

@@ -1,0 +1,81 @@
+//! Requests (RFC 9112, section 3).
+ghost use Rattle.std.specs.Prelude.{◌≡◌, ◌<◌, ◌≤◌, ℕ, List, [], length, MatchResult, Some, None, if◌then◌else◌};
+ghost use Rattle.relay_action.specs.Streams.{one_more};
+ghost use Rattle.relay_http.specs.Forms.{Begins, Fails, IsOutside, IsThatOrOutside};
+ghost use Rattle.relay_http.specs.Steps.{pending};
+ghost use Rattle.relay_http.specs.Connection.{is_read};
+ghost use Rattle.relay_http.specs.Request.{IsFound, IsRequest, RequestPasses, RequestStates, TookRequest};
+ghost use Rattle.relay_http.specs.declared.fault.HttpFault.{HttpFault};
+
+use crate::buffered::Buffered;
+use crate::fault::HttpFault;
+use crate::request_head::RequestInfo;
+use relay_action::ByteIn;
+use std::alloc::Global;
+
+/// The most bytes of a request's body.
+pub const REQUEST_LIMIT: usize = 16_777_216;
+
+/// A request.
+#[derive(Debug, Drop)]
+pub struct HttpRequest {
+    /// Whether it is a POST to `/_bulk`.
+    pub bulk: bool,
+    /// The body, at most 16,777,216 bytes.
+    pub body: Vec<u8>,
+    /// Whether the connection may carry a further message. `false` for HTTP/1.0, and where the head
+    /// says `close`.
+    pub keep: bool,
+}
+
+impl<S: ByteIn + Drop> Buffered<S> {
+    // Reads a request, or finds the end of the stream.
+    pub(crate) fn next_request(&mut self, alloc: Global) -> Result<Option<HttpRequest>, HttpFault>
+        ensures answer { MatchResult result (TookRequest (pending S.left self.old) (pending S.left self.new)) (Fails IsRequest (pending S.left self.old) (S.left self.new.stream)) }
+        ensures found { (stream : List ℕ) (there : Begins IsRequest stream) → pending S.left self.old ≡ Some stream → MatchResult result (IsFound there (pending S.left self.new)) IsOutside }
+        ensures stated { (stream : List ℕ) (f : HttpFault) → RequestStates stream f → pending S.left self.old ≡ Some stream → MatchResult result (λ request. ⊥) (IsThatOrOutside f) }
+        ensures long { (stream : List ℕ) → RequestPasses stream → pending S.left self.old ≡ Some stream → MatchResult result (λ request. ⊥) (IsThatOrOutside HttpFault.BodyLong) }
+        ensures none { pending S.left self.old ≡ Some [] → MatchResult result (λ request. request ≡ None) IsOutside }
+        ensures count { S.failed self.new.stream ≡ (if is_read result then one_more (S.failed self.old.stream) else S.failed self.old.stream) }
+        ensures written { S.written self.new.stream ≡ S.written self.old.stream }
+    {
+        match self.ready() {
+            Err(_) => return Err(HttpFault::Read),
+            Ok(()) => {}
+        }
+        if self.window.as_slice().is_empty() {
+            return Ok(None);
+        }
+        match self.read_whole_request(alloc) {
+            Err(fault) => Err(fault),
+            Ok(request) => Ok(Some(request)),
+        }
+    }
+
+    // Reads a request.
+    fn read_whole_request(&mut self, alloc: Global) -> Result<HttpRequest, HttpFault>
+        ensures answer { MatchResult result (λ request. TookRequest (pending S.left self.old) (pending S.left self.new) (Some request)) (Fails IsRequest (pending S.left self.old) (S.left self.new.stream)) }
+        ensures stated { (stream : List ℕ) (f : HttpFault) → RequestStates stream f → pending S.left self.old ≡ Some stream → MatchResult result (λ request. ⊥) (IsThatOrOutside f) }
+        ensures long { (stream : List ℕ) → RequestPasses stream → pending S.left self.old ≡ Some stream → MatchResult result (λ request. ⊥) (IsThatOrOutside HttpFault.BodyLong) }
+        ensures count { S.failed self.new.stream ≡ (if is_read result then one_more (S.failed self.old.stream) else S.failed self.old.stream) }
+        ensures written { S.written self.new.stream ≡ S.written self.old.stream }
+    {
+        let info = match self.read_piece::<RequestInfo>() {
+            Err(fault) => return Err(fault),
+            Ok(info) => info,
+        };
+        let framing = match info.framing {
+            Err(fault) => return Err(fault),
+            Ok(framing) => framing,
+        };
+        let body = match self.read_body(alloc, framing, REQUEST_LIMIT) {
+            Err(fault) => return Err(fault),
+            Ok(body) => body,
+        };
+        Ok(HttpRequest {
+            bulk: info.bulk,
+            body,
+            keep: info.lasting,
+        })
+    }
+}

@@ -1,0 +1,68 @@
+//! The head of a request (RFC 9112, sections 3 and 5).
+ghost use Rattle.std.specs.Prelude.{◌≡◌, ◌<◌, ◌≤◌, length, Ok, None, codes, ◌&&◌, bytes_eq};
+ghost use Rattle.relay_http.specs.Steps.{Finds};
+ghost use Rattle.relay_http.specs.Request.{IsRequestInfo};
+
+use crate::fault::HttpFault;
+use crate::fields;
+use crate::framing::Framing;
+use crate::piece::Piece;
+use httparse::spans::{EMPTY_HEADER_SPAN, parse_request};
+use httparse::{Error, Status};
+
+/// What the head of a request says.
+#[derive(Clone, Copy, Debug, PartialEq, Eq)]
+pub struct RequestInfo {
+    /// Whether it is a POST to `/_bulk`.
+    pub bulk: bool,
+    /// Where the body ends, or why no request has this head.
+    pub framing: Result<Framing, HttpFault>,
+    /// Whether the connection may carry a further message.
+    pub lasting: bool,
+}
+
+impl Piece for RequestInfo {
+    ghost form = { IsRequestInfo };
+
+    ghost size = { 16384 };
+
+    fn most() -> usize {
+        16384
+    }
+
+    fn find(buf: &[u8]) -> Result<Option<(RequestInfo, usize)>, HttpFault> {
+        find_request_head(buf)
+    }
+}
+
+// Whether a request with this method and this target is one for the bulk API.
+fn is_bulk(method: &[u8], target: &[u8]) -> bool
+    ensures { result ≡ (bytes_eq method.now (codes "POST") && bytes_eq target.now (codes "/_bulk")) }
+{
+    method == b"POST".as_slice() && target == b"/_bulk".as_slice()
+}
+
+/// Looks for a whole head at the front of the bytes, and answers it with its length. The faults:
+/// `Malformed`, and `HeadLong` where it has more than 64 fields or more than 16,384 bytes.
+pub fn find_request_head(buf: &[u8]) -> Result<Option<(RequestInfo, usize)>, HttpFault>
+    requires { length buf.now ≤ 16384 }
+    ensures found { Finds IsRequestInfo buf.now result }
+    ensures none { result ≡ Ok None → length buf.now < 16384 }
+{
+    let mut headers = [EMPTY_HEADER_SPAN; 64];
+    match parse_request(buf, &mut headers) {
+        Ok(Status::Complete(head)) => {
+            let fields = &headers[..head.headers];
+            let info = RequestInfo {
+                bulk: is_bulk(head.method.of(buf), head.path.of(buf)),
+                framing: fields::request_framing(buf, fields),
+                lasting: fields::keeps(head.version, buf, fields),
+            };
+            Ok(Some((info, head.len)))
+        }
+        Ok(Status::Partial) if buf.len() < 16384 => Ok(None),
+        Ok(Status::Partial) => Err(HttpFault::HeadLong),
+        Err(Error::TooManyHeaders) => Err(HttpFault::HeadLong),
+        Err(_) => Err(HttpFault::Malformed),
+    }
+}

@@ -1,0 +1,19 @@
+//! Tests of `relay_http`, over its public items: replies and requests by rows, in pieces of several
+//! sizes and cut at each place; messages at their limits; what is written; streams that fail; and what
+//! other programs write.
+#![tactic(auto)]
+
+#[cfg(test)]
+mod failing;
+#[cfg(test)]
+mod limits;
+#[cfg(test)]
+mod peers;
+#[cfg(test)]
+mod reading;
+#[cfg(test)]
+mod replies;
+#[cfg(test)]
+mod requests;
+#[cfg(test)]
+mod written;

@@ -1,0 +1,170 @@
+//! Requests and answers as they are written, and what they leave of the connection.
+ghost use Rattle.std.specs.Prelude.{◌≤◌, length};
+ghost use Rattle.relay_http.specs.WrittenAnswer.{IsAnswerStatus};
+
+use crate::reading::{gives_reply, gives_request, over};
+use relay_action::{Action, DocKey, MemStream, Write};
+use relay_http::{Conn, HttpFault, is_host};
+use relay_ndjson::bulk_len;
+use std::alloc::Global;
+use std::test::Fail;
+
+// A delete with version 2.
+fn one_write(alloc: Global) -> Result<Vec<Write>, Fail> {
+    let mut writes = Vec::new(alloc);
+    writes.push(Write {
+        key: DocKey::new(alloc, "books", "2")?,
+        version: 2,
+        action: Action::delete(),
+    })?;
+    Ok(writes)
+}
+
+// Whether the stream of a connection was given these bytes.
+fn was_written(conn: Conn<MemStream>, wanted: &[u8]) -> bool {
+    conn.into_stream().written() == wanted
+}
+
+#[test]
+fn a_request(rt: HostRuntime) -> Result<(), Fail> {
+    let writes = one_write(rt.alloc())?;
+    assert!(rt; writes.len() == 1 && bulk_len(writes.as_slice()) == 78);
+    let mut conn = over(rt.alloc(), b"", 5)?;
+    assert!(rt;
+        conn.write_request(rt.alloc(), "127.0.0.1:9200", writes.as_slice())
+            .is_ok()
+    );
+    assert!(rt; conn.is_open());
+    assert!(rt;
+        was_written(
+            conn,
+            b"POST /_bulk HTTP/1.1\r\nHost: 127.0.0.1:9200\r\nContent-Type: application/x-ndjson\r\nContent-Length: 78\r\n\r\n{\"delete\":{\"_id\":\"2\",\"_index\":\"books\",\"version\":2,\"version_type\":\"external\"}}\n"
+        )
+    );
+    Ok(())
+}
+
+#[test]
+fn a_request_without_writes(rt: HostRuntime) -> Result<(), Fail> {
+    let mut conn = over(rt.alloc(), b"", 5)?;
+    assert!(rt; conn.write_request(rt.alloc(), "a", &[]).is_ok());
+    assert!(rt;
+        was_written(
+            conn,
+            b"POST /_bulk HTTP/1.1\r\nHost: a\r\nContent-Type: application/x-ndjson\r\nContent-Length: 0\r\n\r\n"
+        )
+    );
+    Ok(())
+}
+
+// Whether this answer is written as these bytes, and leaves the connection open where it keeps it.
+fn is_answer(
+    alloc: Global,
+    status: u16,
+    body: &str,
+    keep: bool,
+    wanted: &[u8],
+) -> Result<bool, Fail>
+    requires status { IsAnswerStatus status }
+    requires size { length body.now ≤ 1000 }
+{
+    let mut conn = over(alloc, b"", 5)?;
+    let done = conn.write_answer(alloc, status, body, keep).is_ok();
+    Ok(done && conn.is_open() == keep && was_written(conn, wanted))
+}
+
+#[test]
+fn answers(rt: HostRuntime) -> Result<(), Fail> {
+    let alloc = rt.alloc();
+    assert!(rt;
+        is_answer(
+            alloc,
+            200,
+            "ok",
+            true,
+            b"HTTP/1.1 200 OK\r\nContent-Type: application/json\r\nContent-Length: 2\r\n\r\nok"
+        )?
+    );
+    assert!(rt;
+        is_answer(
+            alloc,
+            503,
+            "ok",
+            false,
+            b"HTTP/1.1 503 Service Unavailable\r\nContent-Type: application/json\r\nContent-Length: 2\r\nConnection: close\r\n\r\nok"
+        )?
+    );
+    assert!(rt;
+        is_answer(
+            alloc,
+            418,
+            "ok",
+            true,
+            b"HTTP/1.1 418 \r\nContent-Type: application/json\r\nContent-Length: 2\r\n\r\nok"
+        )?
+    );
+    assert!(rt;
+        is_answer(
+            alloc,
+            400,
+            "\u{e9}",
+            true,
+            b"HTTP/1.1 400 Bad Request\r\nContent-Type: application/json\r\nContent-Length: 2\r\n\r\n\xc3\xa9"
+        )?
+    );
+    Ok(())
+}
+
+// What is written where a request was read before it, and what the connection may carry then.
+fn answers_to(alloc: Global, request: &[u8]) -> Result<(bool, bool), Fail> {
+    let mut conn = over(alloc, request, 5)?;
+    let read = conn.read_request(alloc).is_ok();
+    let done = conn.write_answer(alloc, 200, "ok", true).is_ok();
+    let open = conn.is_open();
+    let says_close = was_written(
+        conn,
+        b"HTTP/1.1 200 OK\r\nContent-Type: application/json\r\nContent-Length: 2\r\nConnection: close\r\n\r\nok",
+    );
+    Ok((read && done && says_close, open))
+}
+
+#[test]
+fn an_answer_closes_where_the_request_does(rt: HostRuntime) -> Result<(), Fail> {
+    let alloc = rt.alloc();
+    assert!(rt;
+        answers_to(alloc, b"POST /_bulk HTTP/1.1\r\nConnection: close\r\n\r\n")? == (true, false)
+    );
+    assert!(rt; answers_to(alloc, b"POST /_bulk HTTP/1.0\r\n\r\n")? == (true, false));
+    assert!(rt; answers_to(alloc, b"POST /_bulk HTTP/1.1\r\n\r\n")? == (false, true));
+    Ok(())
+}
+
+#[test]
+fn a_broken_connection_carries_nothing(rt: HostRuntime) -> Result<(), Fail> {
+    let alloc = rt.alloc();
+    let mut conn = over(alloc, b"HTTP/1.1 200 OK\r\n\r\n", 5)?;
+    assert!(rt; conn.write_answer(alloc, 200, "", false).is_ok());
+    assert!(rt; conn.write_answer(alloc, 200, "", true) == Err(HttpFault::Broken));
+    assert!(rt; conn.write_request(alloc, "a", &[]) == Err(HttpFault::Broken));
+    assert!(rt; gives_reply(alloc, &mut conn, Err(HttpFault::Broken)));
+    assert!(rt; gives_request(alloc, &mut conn, Err(HttpFault::Broken)));
+    Ok(())
+}
+
+#[test]
+fn hosts(rt: HostRuntime) -> Result<(), Fail> {
+    let rows = [
+        ("127.0.0.1:9200", true),
+        ("[::1]:9200", true),
+        ("!~", true),
+        ("", false),
+        ("a b", false),
+        ("a\r\nX: y", false),
+        ("\u{e9}", false),
+        ("\u{7f}", false),
+    ];
+    for row in rows {
+        assert!(rt; is_host(row.0) == row.1);
+    }
+    Ok(())
+}

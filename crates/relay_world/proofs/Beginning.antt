@@ -1,0 +1,87 @@
+-- A fresh world is tied to fresh machines.
+use Rattle.std.proofs.Common.{◌≡◌, ℕ, zero, suc, ◌+◌, ◌<◌, List, [], ◌∷◌, ◌++◌, length, take, drop, Option, Some, None, Bool, true, false, refl, sym, ap, ◌∙◌, subst, append-nil}
+use Rattle.std.specs.Prelude.{slice_get, option_map, unwrap_or, replicate, map, ◌||◌}
+use Rattle.std.specs.List.{list_any}
+use Rattle.relay_action.specs.declared.operation.Op.{Op}
+use Rattle.relay_lane.specs.declared.config.RelayConfig.{RelayConfig}
+use Rattle.relay_results.specs.Documents.{Document}
+use Rattle.relay_results.specs.Outside.{Outside}
+use Rattle.relay_index.specs.States as index
+use Rattle.relay_delivery.specs.Machine.{Core}
+use Rattle.relay_delivery.specs.Lane as delivery
+use Rattle.relay_delivery.specs.Together.{Together}
+use Rattle.relay_delivery.proofs.Gathered.{fresh_together}
+use Rattle.relay_lane.specs.State.{config_of}
+use Rattle.relay_world.specs.declared.sender.Sender.{Sender}
+use Rattle.relay_world.specs.State.{Desk, World, fresh, fresh_desk, has_closed, lane_of}
+use Rattle.relay_world.specs.Ties.{queue_of, taken_of, core_of, IsLaneOf, IsTied, IsWorld, FreshIsWorld}
+use Rattle.relay_world.proofs.Starting.{at-all}
+
+-- nothing stands at any place of a list of empty ones
+none_at_all : (n p : ℕ) → unwrap_or (slice_get (replicate n (let e : List Op = [] in e)) p) [] ≡ []
+none_at_all zero p = refl
+none_at_all (suc n) zero = refl
+none_at_all (suc n) (suc p) = none_at_all n p
+
+open_at_all : (n p : ℕ) → unwrap_or (option_map (λ (s : Sender). s.closed) (slice_get (replicate n (record { count = 0; closed = false })) p)) false ≡ false
+open_at_all zero p = refl
+open_at_all (suc n) zero = refl
+open_at_all (suc n) (suc p) = open_at_all n p
+
+none_passes : {A : Type 0} (f : A → Bool) (x : A) (n : ℕ) → f x ≡ false → list_any f (replicate n x) ≡ false
+none_passes f x zero e = refl
+none_passes f x (suc n) e = ap (λ b. b || list_any f (replicate n x)) e ∙ none_passes f x n e
+
+-- what an empty desk shows, at each lane
+at_fresh : {A : Type 0} (g : Option Desk → A) (x : A) (d : Desk) → g None ≡ x → g (Some d) ≡ x → (n l : ℕ) → g (slice_get (replicate n d) l) ≡ x
+at_fresh g x d none some zero l = none
+at_fresh g x d none some (suc n) zero = some
+at_fresh g x d none some (suc n) (suc l) = at_fresh g x d none some n l
+
+take-all : {A : Type 0} (xs : List A) → xs ≡ take (length xs) xs
+take-all [] = refl
+take-all (x ∷ xs) = ap (λ ys. x ∷ ys) (take-all xs)
+
+drop-all : {A : Type 0} (xs : List A) → drop (length xs) xs ≡ []
+drop-all [] = refl
+drop-all (x ∷ xs) = drop-all xs
+
+module _ (c : RelayConfig) (i : index.State) (below : (k : Document) (u : ℕ) → index.stored i k ≡ Some u → u < c.first_version) where
+  abbrev opening : Outside
+  opening = record { requests = []; runs = []; stored = index.stored i; before = index.applied i; applied = λ k. [] }
+
+  abbrev core : Core
+  core = record { taken = []; held = []; reports = []; applied = 0; already = 0; outside = opening }
+
+  abbrev machines : Together
+  machines = record { lanes = record { accepted = λ p. []; closed = λ p. false; queue = λ l. []; lane = λ l. core }; sent = []; origins = []; runs = [] }
+
+  tied : IsTied (fresh c i) machines
+  tied = record {
+    came_about = fresh_together (config_of c) (lane_of (fresh c i)) machines (record {
+      lanes = record { accepted = λ p. refl; queue = λ l. refl; lane = λ l. record { taken = refl; held = refl; reports = refl; applied = refl; already = refl; opening = record { requests = refl; runs = refl; applied = λ k. refl }; below = below } };
+      sent = refl;
+      origins = refl;
+      runs = refl;
+    });
+    accepted = λ p. sym (none_at_all c.producers p);
+    closed = λ p. sym (none_passes (has_closed p) (fresh_desk c) c.lanes (open_at_all (c.producers + 1) p));
+    queue = λ l. sym (at_fresh queue_of [] (fresh_desk c) refl refl c.lanes l);
+    taken = λ l. sym (at_fresh taken_of [] (fresh_desk c) refl refl c.lanes l);
+    lane = λ l. at_core (slice_get (replicate c.lanes (fresh_desk c)) l) (at-all c.lanes l (fresh_desk c));
+    works = λ l d e. subst (IsLaneOf c) (sym (at-all c.lanes l (fresh_desk c) d e)) (record { config = refl; next = refl });
+    sent = refl;
+    origins = refl;
+    runs = λ request place. refl;
+    applied = λ k. sym (drop-all (index.applied i k));
+    before = λ k. take-all (index.applied i k);
+    shows = record { versions = λ k. refl; lists = λ k. append-nil (index.applied i k) };
+    names = λ k. refl;
+  }
+    where
+      at_core : (o : Option Desk) → ((d : Desk) → o ≡ Some d → d ≡ fresh_desk c) → delivery.IsOf (core_of (config_of c) o) core
+      at_core None f = record { taken = refl; held = refl; reports = refl; applied = refl; already = refl; requests = refl; flying = λ x m. absurd m }
+      at_core (Some d) f = subst (λ x. delivery.IsOf (core_of (config_of c) (Some x)) core) (sym (f d refl)) (record { taken = refl; held = refl; reports = refl; applied = refl; already = refl; requests = refl; flying = λ x m. absurd m })
+
+pub fresh_is_world : FreshIsWorld
+fresh_is_world c i below = record { machines = machines c i below; tied = tied c i below }

@@ -1,0 +1,160 @@
+-- What a desk keeps.
+use Rattle.std.proofs.Common.{◌≡◌, ℕ, zero, suc, ◌+◌, ◌<◌, ◌≤◌, List, [], ◌∷◌, ◌++◌, length, Option, Some, None, Bool, true, false, refl, sym, ap, ◌∙◌, subst, arith}
+use Rattle.std.specs.Prelude.{slice_get, slice_set, option_map, unwrap_or, map, filter, not, ◌==◌, OnOk, OnErr, Result, is_some, if◌then◌else◌}
+use Rattle.std.specs.Map.{lookup}
+use Rattle.std.proofs.lemmas.List.{length-map}
+use Rattle.relay_action.specs.Streams.{one_more}
+use Rattle.relay_action.specs.declared.mail.Mail.{Mail}
+use Rattle.relay_action.specs.declared.mail.Body.{Body}
+use Rattle.relay_action.specs.declared.mail.Body.TheVariants as body
+use Rattle.relay_batch.specs.declared.item.BatchItem.{BatchItem}
+use Rattle.relay_flight.specs.Flying as flight
+use Rattle.relay_results.specs.Words.{update}
+use Rattle.relay_results.specs.Outside.{Answer}
+use Rattle.relay_results.proofs.Lists.{equal, equal_test, length-update, filter_sub}
+use Rattle.relay_lane.specs.State as lane
+use Rattle.relay_lane.specs.Rule.{item_of as of_entry}
+use Rattle.relay_lane.proofs.Tying.{chosen_sub}
+use Rattle.relay_lane.proofs.Forming.{items_of_operations as items_are}
+use Rattle.relay_delivery.specs.Lane as delivery
+use Rattle.relay_world.specs.declared.sender.Sender.{Sender}
+use Rattle.relay_world.specs.State.{Desk}
+use Rattle.relay_world.specs.Changes.{after_mail, mail_of, posted, front_taken, took_front, sent_request, answered_desk}
+use Rattle.relay_world.specs.Memory.{AllKnown, AllBelow, IsDesk, IsOpenAt}
+use Rattle.relay_world.proofs.Places.{either, set-update, length-set, length-sub}
+
+known-push : (n : ℕ) (ms : List Mail) (m : Mail) → AllKnown n ms → m.sender < n → AllKnown n (ms ++ m ∷ [])
+known-push n [] m k lt = (lt, tt)
+known-push n (x ∷ ms) m k lt = (k.0, known-push n ms m k.1 lt)
+
+-- a sender that has not closed is one of the senders
+pub open_within : (ss : List Sender) (n : ℕ) → option_map (λ (s : Sender). s.closed) (slice_get ss n) ≡ Some false → n < length ss
+open_within [] n e = absurd (cc)
+open_within (s ∷ ss) zero e = omega arith
+open_within (s ∷ ss) (suc n) e = let lt = open_within ss n e in omega (arith, lt)
+
+pub posted_keeps : (sender : ℕ) (b : Body) (d : Desk) → IsDesk d → IsOpenAt sender d → IsDesk (posted sender b d)
+posted_keeps sender b d i open_there = record {
+  known = known-push (length d.lane.closed) d.queue (mail_of d sender b) i.known (let lt = open_within d.senders sender open_there in let e = i.senders in omega (arith, lt, e));
+  senders = length-update sender (after_mail b) d.senders ∙ i.senders;
+  fresh = i.fresh;
+}
+
+-- ---- takes
+
+took_closed : (s : lane.State) (sender : ℕ) (b : Body) → length (lane.after_take s sender b).closed ≡ length s.closed
+took_closed s sender (body.Put o) = refl
+took_closed s sender body.Tick = refl
+took_closed s sender body.Flush = refl
+took_closed s sender body.Done = length-set s.closed sender true
+
+took_flights : (s : lane.State) (sender : ℕ) (b : Body) → (lane.after_take s sender b).flights ≡ s.flights
+took_flights s sender (body.Put o) = refl
+took_flights s sender body.Tick = refl
+took_flights s sender body.Flush = refl
+took_flights s sender body.Done = refl
+
+pub took_config : (s : lane.State) (sender : ℕ) (b : Body) → (lane.after_take s sender b).config ≡ s.config
+took_config s sender (body.Put o) = refl
+took_config s sender body.Tick = refl
+took_config s sender body.Flush = refl
+took_config s sender body.Done = refl
+
+front_keeps : (q : List Mail) (d : Desk) → d.queue ≡ q → IsDesk d → IsDesk (front_taken q d)
+front_keeps [] d e i = i
+front_keeps (m ∷ ms) d e i =
+    let k = subst (AllKnown (length d.lane.closed)) e i.known in
+    record {
+      known = subst (λ n. AllKnown n ms) (sym (took_closed d.lane m.sender m.body)) k.1;
+      senders = i.senders ∙ sym (took_closed d.lane m.sender m.body);
+      fresh = subst (λ (f : flight.Flying). AllBelow f.next f.batches) (sym (took_flights d.lane m.sender m.body)) i.fresh;
+    }
+
+pub took_keeps : (d : Desk) → IsDesk d → IsDesk (took_front d)
+took_keeps d i = front_keeps d.queue d refl i
+
+-- ---- requests
+
+below-more : (n : ℕ) (bs : List (ℕ × List BatchItem)) (b : List BatchItem) → AllBelow n bs → AllBelow (n + 1) (bs ++ (n, b) ∷ [])
+below-more n [] b a = (omega arith, tt)
+below-more n (x ∷ bs) b a = (let lt = a.0 in omega (arith, lt), below-more n bs b a.1)
+
+-- under a number that is above all others, the last batch is found
+pub found_last : (n : ℕ) (bs : List (ℕ × List BatchItem)) (b : List BatchItem) → AllBelow n bs → lookup (λ k. k == n) (bs ++ (n, b) ∷ []) ≡ Some b
+found_last n [] b a = by (n == n) refl
+  where
+    by : (t : Bool) → (n == n) ≡ t → lookup (λ k. k == n) ((n, b) ∷ []) ≡ Some b
+    by true e = rw e refl
+    by false e = let q = equal_test n n refl in absurd (cc)
+found_last n (x ∷ bs) b a = by (x.0 == n) refl (found_last n bs b a.1)
+  where
+    by : (t : Bool) → (x.0 == n) ≡ t → lookup (λ k. k == n) (bs ++ (n, b) ∷ []) ≡ Some b → lookup (λ k. k == n) (x ∷ (bs ++ (n, b) ∷ [])) ≡ Some b
+    by true e rest = let q = equal x.0 n e in let lt = a.0 in absurd (omega (arith, q, lt))
+    by false e rest = rw e rest
+
+requested_keeps : (d : Desk) (b : Option (List BatchItem)) → IsDesk d → IsDesk (record d { lane = lane.after_request d.lane b })
+requested_keeps d None i = i
+requested_keeps d (Some is) i = record { known = i.known; senders = i.senders; fresh = below-more d.lane.flights.next d.lane.flights.batches is i.fresh }
+
+-- the batch of a request that was formed is found under its number
+pub batch_found : (s t : lane.State) (number : ℕ) (o : Option (List BatchItem)) → lane.next_batch s ≡ o → true ≡ is_some o → AllBelow s.flights.next s.flights.batches
+    → number ≡ s.flights.next → t ≡ lane.after_request s (lane.next_batch s) → flight.batch_at number t.flights ≡ o
+batch_found s t number None e some below same after = absurd (cc)
+batch_found s t number (Some b) e some below same after =
+    ap (λ (x : lane.State). flight.batch_at number x.flights) (after ∙ ap (lane.after_request s) e)
+    ∙ ap (λ n. lookup (λ k. k == n) (s.flights.batches ++ (s.flights.next, b) ∷ [])) same
+    ∙ found_last s.flights.next s.flights.batches b below
+
+-- it has no more items than are held
+pub batch_few : (s : lane.State) (b : List BatchItem) → lane.next_batch s ≡ Some b → length b ≤ length s.core.held
+batch_few s b e =
+    let n = ap length (items_are s b e) in
+    let m = length-map (lane.next_entries s) of_entry in
+    let c = length-sub (lane.next_entries s) (delivery.candidates s.core) (chosen_sub (delivery.candidates s.core) (lane.gathering s)) in
+    let h = length-sub (delivery.candidates s.core) s.core.held (filter_sub (delivery.is_candidate s.core) s.core.held) in
+    omega (arith, n, m, c, h)
+
+pub sent_keeps : (d : Desk) → IsDesk d → IsDesk (sent_request d)
+sent_keeps d i = requested_keeps d (lane.next_batch d.lane) i
+
+-- ---- answers
+
+below-filter : (n number : ℕ) (bs : List (ℕ × List BatchItem)) → AllBelow n bs → AllBelow n (filter (λ e. not (e.0 == number)) bs)
+below-filter n number [] a = tt
+below-filter n number (x ∷ bs) a = by (not (x.0 == number)) refl (below-filter n number bs a.1)
+  where
+    by : (t : Bool) → not (x.0 == number) ≡ t → AllBelow n (filter (λ e. not (e.0 == number)) bs) → AllBelow n (filter (λ e. not (e.0 == number)) (x ∷ bs))
+    by true e rest = rw e (a.0, rest)
+    by false e rest = rw e rest
+
+pub answered_keeps : (number : ℕ) (a : Answer) (d : Desk) → IsDesk d → IsDesk (answered_desk number a d)
+answered_keeps number a d i = record { known = i.known; senders = i.senders; fresh = below-filter d.lane.flights.next number d.lane.flights.batches i.fresh }
+
+-- by whether the lane took the answer
+pub answer_keeps : {A E : Type 0} (r : Result A E) (number : ℕ) (a : Answer) (d : Desk) (l : lane.State) → OnOk r (l ≡ lane.answered d.lane number a) → OnErr r (l ≡ d.lane)
+    → IsDesk d → IsDesk (record d { lane = l })
+answer_keeps r number a d l ok err i =
+    either r (l ≡ lane.answered d.lane number a) (l ≡ d.lane) (IsDesk (record d { lane = l })) ok err
+    (λ e. subst (λ x. IsDesk (record d { lane = x })) (sym e) (answered_keeps number a d i))
+    (λ e. subst (λ x. IsDesk (record d { lane = x })) (sym e) i)
+
+-- ---- in memory
+
+-- the parts of a desk after a message was put there
+pub posted_is : (d : Desk) (sender : ℕ) (b : Body) (s next : Sender) (queue : List Mail) → slice_get d.senders sender ≡ Some s → next ≡ after_mail b s
+    → queue ≡ d.queue ++ record { sender = sender; number = next.count; body = b } ∷ []
+    → record d { queue = queue; senders = slice_set d.senders sender next } ≡ posted sender b d
+posted_is d sender b s next queue there same q =
+    let count : next.count ≡ one_more (unwrap_or (option_map (λ (x : Sender). x.count) (slice_get d.senders sender)) 0) =
+    ap (λ (x : Sender). x.count) same ∙ ap (λ o. one_more (unwrap_or (option_map (λ (x : Sender). x.count) o) 0)) (sym there) in
+    let mails = q ∙ ap (λ n. d.queue ++ record { sender = sender; number = n; body = b } ∷ []) count in
+    let senders = set-update (after_mail b) d.senders sender s next there same in
+    λ i. record d { queue = mails i; senders = senders i }
+
+-- by whether the lane formed a request
+pub request_keeps : {A E : Type 0} (r : Result A E) (d : Desk) (l : lane.State) → OnOk r (l ≡ lane.after_request d.lane (lane.next_batch d.lane)) → OnErr r (l ≡ d.lane)
+    → IsDesk d → IsDesk (record d { lane = l })
+request_keeps r d l ok err i =
+    either r (l ≡ lane.after_request d.lane (lane.next_batch d.lane)) (l ≡ d.lane) (IsDesk (record d { lane = l })) ok err
+    (λ e. subst (λ x. IsDesk (record d { lane = x })) (sym e) (sent_keeps d i))
+    (λ e. subst (λ x. IsDesk (record d { lane = x })) (sym e) i)

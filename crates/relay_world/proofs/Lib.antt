@@ -1,0 +1,11 @@
+pub mod Places
+pub mod Desks
+pub mod Named
+pub mod Ran
+pub mod Holding
+pub mod Starting
+pub mod Running
+pub mod Entries
+pub mod Playing
+pub mod Delivering
+pub mod Beginning

@@ -1,0 +1,32 @@
+use Rattle.std.proofs.Common.{◌≡◌, ℕ, ◌+◌, ◌-◌, ◌∷◌, [], ◌++◌, List, Option, Some, None, true, false, length, refl, sym, ap, ◌∙◌, subst, arith}
+use Rattle.std.specs.Prelude.{slice_get, option_map, is_some, OnOk, OnErr, IfSome, IfOk}
+use Rattle.relay_results.specs.Documents.{Document, document_of}
+use Rattle.relay_results.specs.Words.{update}
+use Rattle.relay_results.proofs.Lists.{at-within, some_same}
+use Rattle.relay_world.specs.State.{Desk, Item, Sent, World, desk_at, lane_of, request_at, item_at, op_with, numbered}
+use Rattle.relay_world.specs.Refusals.{put_refusal, close_refusal, control_refusal, take_refusal}
+use Rattle.relay_world.specs.Changes.{at_lane, posted, took_front, sent_request, answered_desk, after_put, with_answer}
+use Rattle.relay_world.specs.Memory.{IsOpenAt, IsOpenIn, IsThere, ArePartsOf, WorksAs}
+use Rattle.relay_world.specs.View.{seen}
+use Rattle.relay_world.proofs.Places.{at_index, on_ok, on_err, ok_fact}
+use Rattle.relay_world.proofs.Holding.{at_lane_is, lane_same, at_lane_keeps, parts_result, view_result, same_result, posted_works, took_works, sent_works, answered_works, put_open, close_open, control_open, take_there}
+use Rattle.std.specs.Prelude.{slice_set}
+use Rattle.relay_world.specs.declared.event.StepAnswer.TheVariants as answer
+use Rattle.relay_world.specs.Changes.{RunsItem}
+use Rattle.relay_world.specs.Memory.{IsItemOf}
+use Rattle.relay_world.proofs.Places.{numbered_at}
+use Rattle.relay_world.proofs.Running.{ran}
+use Rattle.relay_world.proofs.parts.Parts.run_write.Goals as goal
+
+pub returns-clause-ok : goal.returns-clause-ok
+returns-clause-ok c =
+    let i = c.self.inside in
+    let w = seen i in
+    let f : IsItemOf w c.args.request c.args.item c.args.name c.args.write.now = subst (λ x. IsItemOf x c.args.request c.args.item c.args.name c.args.write.now) (sym c.self.view_is) c.requires.item in
+    let s : c.saturating_sub.result ≡ c.args.request - 1 = omega (arith, c.saturating_sub.ensures) in
+    let lt = at-within i.sent.items (c.args.request - 1) f.sent (numbered_at i.sent.items c.args.request f.sent f.was_sent) in
+    let there = at_index i.sent.items c.saturating_sub.result c.index_mut.result.now (omega (arith, s, lt)) c.index_mut.ensures.value in
+    let new : World = record w { sent = slice_set w.sent c.saturating_sub.result c.run.new.self; index = c.run.new.index; kept = c.run.new.names } in
+    subst (λ x. IfOk c.run.result (λ n. RunsItem x c.args.request c.args.item c.args.choice (answer.Ran n) new)) c.self.view_is
+    (ran c.run.result w c.args.request c.args.item c.args.choice c.args.name c.args.write.now f c.index_mut.result.now c.run.new.self c.saturating_sub.result s there c.run.new.index c.run.new.names
+    c.run.ensures.status c.run.ensures.sent c.run.ensures.effect c.run.ensures.names c.run.ensures.before)

@@ -1,0 +1,171 @@
+-- The world as its callers see it: lanes with their queues over one index, what was accepted, sent, run and answered, and
+-- whose writes the index applied.
+use Rattle.std.specs.Prelude.{ℕ, ◌+◌, ◌-◌, ◌==◌, List, [], ◌∷◌, ◌++◌, Option, Some, None, option_map, option_and_then, option_to_list, unwrap_or, slice_get, Bool, true, false, ◌&&◌, nat_lt, length, drop, map, replicate, if◌then◌else◌}
+use Rattle.std.specs.List.{list_any, list_all}
+use Rattle.std.specs.Map.{lookup}
+use Rattle.relay_action.specs.declared.key.DocKey.{DocKey}
+use Rattle.relay_action.specs.declared.action.Action.{Action}
+use Rattle.relay_action.specs.declared.operation.Op.{Op}
+use Rattle.relay_action.specs.declared.operation.OpName.{OpName}
+use Rattle.relay_action.specs.declared.mail.Mail.{Mail}
+use Rattle.relay_action.specs.declared.write.Write.{Write}
+use Rattle.relay_results.specs.Documents.{Document, document_of, same_document, write_for}
+use Rattle.relay_results.specs.Documents as documents
+use Rattle.relay_results.specs.Outside.{Answer, RunOutcome, Request}
+use Rattle.relay_index.specs.States as index
+use Rattle.relay_delivery.specs.Machine.{Report}
+use Rattle.relay_lane.specs.declared.config.RelayConfig.{RelayConfig}
+use Rattle.relay_lane.specs.State as lane
+use Rattle.relay_world.specs.declared.sender.Sender.{Sender}
+
+-- ---- what it has
+
+-- A lane and what stands before it: the messages that are queued, the first one first, what each sender has done there,
+-- and the operations that the lane took, in order.
+pub record Desk : Type 0 where
+  pub queue : List Mail
+  pub senders : List Sender
+  pub taken : List Op
+  pub lane : lane.State
+
+-- an item of a sent request: the version that its operation was dealt, and the outcomes of its runs, in order
+pub record Item : Type 0 where
+  pub version : ℕ
+  pub runs : List RunOutcome
+
+-- a sent request: the lane that sent it, its number there, from 1, its items, and what was answered
+pub record Sent : Type 0 where
+  pub lane : ℕ
+  pub number : ℕ
+  pub items : List Item
+  pub answer : Answer
+
+-- what is kept of a document: how many writes the index had of it at the start, and the names of the operations whose
+-- writes were applied since
+pub record Named : Type 0 where
+  pub before : ℕ
+  pub names : List OpName
+
+-- The config; each lane with its queue; what was accepted from each producer; all sent requests, in the order in which
+-- they were sent; the index; and what is kept of the documents.
+pub record World : Type 0 where
+  pub config : RelayConfig
+  pub desks : List Desk
+  pub accepted : List (List Op)
+  pub sent : List Sent
+  pub index : index.State
+  pub kept : List (DocKey × Named)
+
+-- ---- at the start
+
+abbrev pub fresh_desk : RelayConfig → Desk
+fresh_desk c = record {
+  queue = [];
+  senders = replicate (c.producers + 1) (record { count = 0; closed = false });
+  taken = [];
+  lane = lane.fresh c;
+}
+
+abbrev pub fresh : RelayConfig → index.State → World
+fresh c i = record {
+  config = c;
+  desks = replicate c.lanes (fresh_desk c);
+  accepted = replicate c.producers [];
+  sent = [];
+  index = i;
+  kept = [];
+}
+
+-- ---- what callers ask
+
+-- the lane of a document
+abbrev pub lane_of : World → Document → ℕ
+lane_of w k = documents.lane_of w.config.lanes k
+
+abbrev pub desk_at : World → ℕ → Option Desk
+desk_at w l = slice_get w.desks l
+
+-- what was accepted from a producer
+abbrev pub accepted_from : World → ℕ → List Op
+accepted_from w p = unwrap_or (slice_get w.accepted p) []
+
+-- what is kept of a document, if something is
+abbrev pub kept_among : List (DocKey × Named) → Document → Option Named
+kept_among es k = lookup (λ key. same_document k (document_of key)) es
+
+abbrev pub names_of : Option Named → List OpName
+names_of None = []
+names_of (Some n) = n.names
+
+-- the names of the operations whose writes were applied to a document since the start
+abbrev pub names_at : World → Document → List OpName
+names_at w k = names_of (kept_among w.kept k)
+
+-- how many writes a document had at the start, where it has so many now
+abbrev pub before_of : ℕ → Option Named → ℕ
+before_of now None = now
+before_of now (Some n) = n.before
+
+abbrev pub before_at : World → Document → ℕ
+before_at w k = before_of (length (index.applied w.index k)) (kept_among w.kept k)
+
+-- the writes that were applied to a document since the start
+abbrev pub applied : World → Document → List Write
+applied w k = drop (before_at w k) (index.applied w.index k)
+
+-- what a lane has reported
+abbrev pub reports_of : Option Desk → List Report
+reports_of None = []
+reports_of (Some d) = d.lane.core.reports
+
+abbrev pub reports : World → ℕ → List Report
+reports w l = reports_of (desk_at w l)
+
+-- the element with a number, from 1
+abbrev pub numbered : {A : Type 0} → List A → ℕ → Option A
+numbered xs number = if number == 0 then None else slice_get xs (number - 1)
+
+-- a sent request, by its number
+abbrev pub request_at : World → ℕ → Option Sent
+request_at w number = numbered w.sent number
+
+-- an item of a sent request, both by their numbers
+abbrev pub item_at : World → ℕ → ℕ → Option Item
+item_at w request item = option_and_then (λ (s : Sent). numbered s.items item) (request_at w request)
+
+-- the operation that a lane dealt a version
+abbrev pub op_with : World → ℕ → ℕ → Option Op
+op_with w l version = option_and_then (λ (d : Desk). slice_get d.taken (version - w.config.first_version)) (desk_at w l)
+
+-- the write of an item: that of its operation, under the version that was dealt
+abbrev pub write_of : World → Sent → Item → Option Write
+write_of w s i = option_map (λ o. write_for o i.version) (op_with w s.lane i.version)
+
+-- the write of an item of a request, both by their numbers
+abbrev pub write_at : World → ℕ → ℕ → Option Write
+write_at w request item = option_and_then (λ s. option_and_then (write_of w s) (numbered s.items item)) (request_at w request)
+
+-- the writes of a request, in order
+abbrev pub writes_from : (Item → Option Write) → List Item → List Write
+writes_from f [] = []
+writes_from f (i ∷ is) = option_to_list (f i) ++ writes_from f is
+
+abbrev pub writes_of : World → Sent → List Write
+writes_of w s = writes_from (write_of w s) s.items
+
+-- a sender has closed at a lane; at any lane; at all
+abbrev pub has_closed : ℕ → Desk → Bool
+has_closed p d = unwrap_or (option_map (λ (s : Sender). s.closed) (slice_get d.senders p)) false
+
+abbrev pub is_closed : World → ℕ → Bool
+is_closed w p = list_any (has_closed p) w.desks
+
+abbrev pub all_closed : Desk → Bool
+all_closed d = list_all (λ (s : Sender). s.closed) d.senders
+
+-- each sender has closed there, nothing is queued, and the lane holds no operation
+abbrev pub is_done : Desk → Bool
+is_done d = all_closed d && ((length d.queue == 0) && (length d.lane.core.held == 0))
+
+abbrev pub is_finished : World → Bool
+is_finished w = list_all is_done w.desks

@@ -1,0 +1,38 @@
+-- One event, and a list of events.
+use Rattle.std.specs.Prelude.{◌≡◌, ℕ, ◌+◌, List, [], ◌∷◌, Option, Some, None}
+use Rattle.relay_world.specs.declared.event.Event.{Event}
+use Rattle.relay_world.specs.declared.event.Refusal.{Refusal}
+use Rattle.relay_world.specs.declared.event.StepAnswer.{StepAnswer}
+use Rattle.relay_world.specs.declared.event.StepAnswer.TheVariants as answer
+use Rattle.relay_world.specs.declared.event.RunEnd.{RunEnd}
+use Rattle.relay_world.specs.State.{World}
+use Rattle.relay_world.specs.Refusals.{refusal}
+use Rattle.relay_world.specs.Changes.{Changes}
+
+-- a refused event says why, and changes nothing
+abbrev pub StepsBy : Option Refusal → World → Event → StepAnswer → World → Type 0
+StepsBy (Some r) w e x new = (x ≡ answer.Refused r) × (new ≡ w)
+StepsBy None w e x new = Changes w e x new
+
+abbrev pub Steps : World → Event → StepAnswer → World → Type 0
+Steps w e x new = StepsBy (refusal w e) w e x new
+
+-- ---- a list of events
+
+abbrev pub none_yet : RunEnd
+none_yet = record { done = 0; refused = 0 }
+
+-- one event more was accepted, or refused
+abbrev pub counted : StepAnswer → RunEnd → RunEnd
+counted (answer.Refused r) n = record n { refused = n.refused + 1 }
+counted (answer.Put name) n = record n { done = n.done + 1 }
+counted (answer.Sent number) n = record n { done = n.done + 1 }
+counted (answer.Ran status) n = record n { done = n.done + 1 }
+counted (answer.Settled counts) n = record n { done = n.done + 1 }
+counted answer.Done n = record n { done = n.done + 1 }
+
+-- The events came one after another, also after a refused one; so many were accepted and so many refused, and the world
+-- ends so. The counts go on from those before.
+abbrev pub Plays : World → RunEnd → List Event → RunEnd → World → Type 0
+Plays w n [] end new = (end ≡ n) × (new ≡ w)
+Plays w n (e ∷ es) end new = (x : StepAnswer) × (next : World) × Steps w e x next × Plays next (counted x n) es end new

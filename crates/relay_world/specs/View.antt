@@ -1,0 +1,17 @@
+-- How the parts of the world are read, and what always holds of them.
+use Rattle.relay_world.specs.declared.parts.Parts.TheInside.{Inside}
+use Rattle.relay_world.specs.State.{World}
+use Rattle.relay_world.specs.Memory.{ArePartsOf}
+
+abbrev pub seen : Inside → World
+seen a = record {
+  config = a.config;
+  desks = a.desks.items;
+  accepted = a.accepted.items;
+  sent = a.sent.items;
+  index = a.index;
+  kept = a.names;
+}
+
+abbrev pub IsSound : Inside → Type 0
+IsSound a = ArePartsOf (seen a)

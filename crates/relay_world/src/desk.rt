@@ -1,0 +1,313 @@
+//! A lane with its queue.
+ghost use Rattle.std.specs.Prelude.{◌≡◌, ℕ, ◌+◌, ◌≤◌, ◌≢◌, [], ◌∷◌, ◌++◌, None, Some, true, IsTrue, OnOk, OnErr, IfOk, IfSome, OnSome, IfNone, map, option_map, is_some, is_ok, length, nat_le, nat_lt, slice_get, vec_capacity};
+ghost use Rattle.std.specs.List.{list_all};
+ghost use Rattle.relay_lane.specs.Limits.{is_valid};
+ghost use Rattle.relay_lane.specs.Walk.{report_of};
+ghost use Rattle.relay_lane.specs.State.{is_flying, after_request, next_batch, writes_of, AreCounts};
+ghost use Rattle.relay_results.specs.Outside.{Items, Whole, Lost};
+ghost use Rattle.relay_results.specs.Matching.{matches};
+ghost use Rattle.relay_world.specs.State.{fresh_desk, has_closed, is_done};
+ghost use Rattle.relay_world.specs.Refusals.{cause_if, front_refusal};
+ghost use Rattle.relay_world.specs.Changes.{after_mail, posted, took_front, sent_request, answered_desk, item_of, items_of};
+ghost use Rattle.relay_world.specs.Memory.{AllBelow, IsOpenAt};
+
+use crate::event::Refusal;
+use crate::request::SentItem;
+use crate::sender::Sender;
+use relay_action::{Body, Mail, Op};
+use relay_batch::BatchItem;
+use relay_lane::{Lane, NotFlying, RelayConfig, Report, Settled};
+use relay_results::Outcome;
+use std::alloc::{AllocError, Global};
+use std::collections::VecDeque;
+use std::marker::Model;
+
+// A lane, its queue, what its senders have done there, and what it took. Contracts see it as these.
+#[derive(Drop)]
+pub(crate) struct Desk {
+    queue: VecDeque<Mail>,
+    senders: Vec<Sender>,
+    taken: Vec<Op>,
+    lane: Lane,
+}
+
+impl Model for Desk {
+    ghost use Rattle.relay_world.specs.State.{Desk};
+    ghost use Rattle.relay_world.specs.Memory.{IsDesk};
+
+    ghost Value = { Desk };
+
+    ghost view = { λ d. record { queue = d.queue.items; senders = d.senders.items; taken = d.taken.items; lane = d.lane } };
+
+    ghost invariant = { λ d. IsDesk (record { queue = d.queue.items; senders = d.senders.items; taken = d.taken.items; lane = d.lane }) };
+}
+
+// A request that a lane has formed: its number there, and its items.
+#[derive(Drop)]
+pub(crate) struct Formed {
+    pub(crate) number: u64,
+    pub(crate) items: Vec<SentItem>,
+}
+
+// The body of a message once more. `AllocError`: there was no memory for it.
+fn copy_of(body: &Body) -> Result<Body, AllocError>
+    ensures { IfOk result (λ b. b ≡ body.now) }
+{
+    match body {
+        Body::Put(op) => Ok(Body::Put(op.copy()?)),
+        Body::Tick => Ok(Body::Tick),
+        Body::Flush => Ok(Body::Flush),
+        Body::Done => Ok(Body::Done),
+    }
+}
+
+// Adds the items of a batch, for which there is room.
+fn add_items(alloc: Global, batch: &[BatchItem], items: &mut Vec<SentItem>)
+    requires none { items.old.items ≡ [] }
+    requires room { length batch.now ≤ vec_capacity items.old }
+    ensures { items.new.items ≡ map item_of batch.now }
+{
+    'batch: for item in batch {
+        items.push_reserved(SentItem::new(alloc, item.version));
+    }
+}
+
+// A lane forms its next request, if there is one. `AllocError`: there was no memory for it, and nothing
+// changed.
+fn form(lane: &mut Lane, alloc: Global) -> Result<Option<Formed>, AllocError>
+    requires { AllBelow lane.old.flights.next lane.old.flights.batches }
+    ensures when { IfOk result (λ o. is_some o ≡ is_some (next_batch lane.old)) }
+    ensures number { IfOk result (λ o. IfSome o (λ f. f.number ≡ lane.old.flights.next)) }
+    ensures items { IfOk result
+        (λ o. IfSome o (λ f. f.items.items ≡ items_of (next_batch lane.old))) }
+    ensures ok { OnOk result (lane.new ≡ after_request lane.old (next_batch lane.old)) }
+    ensures unchanged { OnErr result (lane.new ≡ lane.old) }
+{
+    let mut items = Vec::with_capacity(alloc, lane.held() as usize)?;
+    let Some(number) = lane.request()? else {
+        return Ok(None);
+    };
+    let batch = lane.items(number).unwrap();
+    add_items(alloc, batch, &mut items);
+    Ok(Some(Formed { number, items }))
+}
+
+// Whether each sender has closed.
+fn are_closed(senders: &[Sender]) -> bool
+    ensures { result ≡ list_all (λ s. s.closed) senders.now }
+{
+    senders.iter().all(|sender| sender.closed)
+}
+
+// What a sender has done at a lane with one message more.
+fn next_of(sender: Sender, body: &Body) -> Sender
+    ensures { result ≡ after_mail body.now sender }
+{
+    Sender {
+        count: sender.count.saturating_add(1),
+        closed: sender.closed || matches!(body, Body::Done),
+    }
+}
+
+impl Desk {
+    pub(crate) fn new(alloc: Global, config: RelayConfig) -> Result<Desk, AllocError>
+        requires { is_valid config ≡ true }
+        ensures { IfOk result (λ d. d ≡ fresh_desk config) }
+    {
+        let none = Sender {
+            count: 0,
+            closed: false,
+        };
+        Ok(Desk {
+            queue: VecDeque::new(alloc),
+            senders: vec![in alloc; none; config.producers as usize + 1]?,
+            taken: Vec::new(alloc),
+            lane: Lane::new(alloc, config)?,
+        })
+    }
+
+    // Whether a sender has closed here.
+    pub(crate) fn has_closed(&self, sender: u32) -> bool
+        ensures { result ≡ has_closed sender self.now }
+    {
+        match self.senders.get(sender as usize) {
+            Some(sender) => sender.closed,
+            None => false,
+        }
+    }
+
+    // Whether each sender has closed here, nothing is queued, and the lane holds no operation.
+    pub(crate) fn is_done(&self) -> bool
+        ensures { result ≡ is_done self.now }
+    {
+        are_closed(&self.senders) && (self.queue.len() == 0 && self.lane.held() == 0)
+    }
+
+    // The operation at a place of what the lane took.
+    pub(crate) fn op_at(&self, place: u64) -> Option<&Op>
+        ensures { option_map (λ o. o.now) result ≡ slice_get self.now.taken place }
+    {
+        self.taken.get(place as usize)
+    }
+
+    // What the lane has reported.
+    pub(crate) fn reports(&self) -> &[Report]
+        ensures { map report_of result.now ≡ self.now.lane.core.reports }
+    {
+        self.lane.reports()
+    }
+
+    // Puts a message of a sender at the back of the queue. `AllocError`: there was no memory for it, and
+    // nothing changed.
+    pub(crate) fn post(&mut self, sender: u32, body: Body) -> Result<(), AllocError>
+        requires { IsOpenAt sender self.old }
+        ensures ok { OnOk result (self.new ≡ posted sender body self.old) }
+        ensures unchanged { OnErr result (self.new ≡ self.old) }
+    {
+        self.queue.reserve(1)?;
+        let next = next_of(self.senders[sender as usize], &body);
+        self.senders[sender as usize] = next;
+        self.queue.push_back_reserved(Mail {
+            sender,
+            number: next.count,
+            body,
+        });
+        Ok(())
+    }
+
+    // Why a Close of a sender is refused here, if it is, among so many producers and messages.
+    pub(crate) fn close_refusal(
+        &self,
+        sender: u32,
+        producers: u32,
+        capacity: u32,
+    ) -> Option<Refusal>
+        ensures { result ≡ cause_if (nat_lt producers sender) Refusal.NoSuch
+            (cause_if (has_closed sender self.now) Refusal.Closed
+            (cause_if (nat_le capacity (length self.now.queue)) Refusal.QueueFull None)) }
+    {
+        if sender > producers {
+            return Some(Refusal::NoSuch);
+        }
+        if self.has_closed(sender) {
+            return Some(Refusal::Closed);
+        }
+        self.full_refusal(capacity)
+    }
+
+    // Whether so many messages are queued as may.
+    pub(crate) fn full_refusal(&self, capacity: u32) -> Option<Refusal>
+        ensures { result
+            ≡ cause_if (nat_le capacity (length self.now.queue)) Refusal.QueueFull None }
+    {
+        if self.queue.len() >= capacity as usize {
+            Some(Refusal::QueueFull)
+        } else {
+            None
+        }
+    }
+
+    // Why the lane takes nothing, if it does not.
+    pub(crate) fn front_refusal(&self, max_held: u32) -> Option<Refusal>
+        requires { self.now.lane.config.max_held ≡ max_held }
+        ensures { result ≡ front_refusal self.now.lane self.now.queue }
+    {
+        match self.queue.front() {
+            None => Some(Refusal::NothingQueued),
+            Some(mail) if matches!(&mail.body, Body::Put(_)) && self.lane.held() == max_held => {
+                Some(Refusal::HeldFull)
+            }
+            Some(_) => None,
+        }
+    }
+
+    // The lane takes the front of its queue. `AllocError`: there was no memory for it, and nothing changed.
+    pub(crate) fn take(&mut self) -> Result<(), AllocError>
+        requires { front_refusal self.old.lane self.old.queue ≡ None }
+        ensures ok { OnOk result (self.new ≡ took_front self.old) }
+        ensures unchanged { OnErr result (self.new ≡ self.old) }
+    {
+        let Some(mail) = self.queue.front() else {
+            return Err(AllocError);
+        };
+        let copy = Mail {
+            sender: mail.sender,
+            number: mail.number,
+            body: copy_of(&mail.body)?,
+        };
+        self.taken.reserve(1)?;
+        if self.lane.take(copy).is_err() {
+            return Err(AllocError);
+        }
+        if let Some(
+            Mail {
+                body: Body::Put(op),
+                ..
+            },
+        ) = self.queue.pop_front()
+        {
+            self.taken.push_reserved(op);
+        }
+        Ok(())
+    }
+
+    // The lane forms its next request, if there is one. `AllocError`: there was no memory for it, and
+    // nothing changed.
+    pub(crate) fn request(&mut self, alloc: Global) -> Result<Option<Formed>, AllocError>
+        ensures when { IfOk result (λ o. is_some o ≡ is_some (next_batch self.old.lane)) }
+        ensures number { IfOk result (λ o. IfSome o (λ f. f.number ≡ self.old.lane.flights.next)) }
+        ensures items { IfOk result (λ o. IfSome o (λ f. f.items.items ≡ items_of (next_batch self.old.lane))) }
+        ensures ok { OnOk result (self.new ≡ sent_request self.old) }
+        ensures unchanged { OnErr result (self.new ≡ self.old) }
+    {
+        form(&mut self.lane, alloc)
+    }
+
+    // Whether a request flies.
+    pub(crate) fn is_flying(&self, number: u64) -> bool
+        ensures { result ≡ is_flying number self.now.lane }
+    {
+        self.lane.writes(number).is_some()
+    }
+
+    // The reply to a request was lost.
+    pub(crate) fn lost(&mut self, number: u64) -> Result<Settled, NotFlying>
+        ensures flies { is_ok result ≡ is_flying number self.old.lane }
+        ensures ok { OnOk result (self.new ≡ answered_desk number Lost self.old) }
+        ensures counts { IfOk result (λ c. AreCounts self.old.lane number Lost c) }
+        ensures matched { IfOk result (λ c. c.matched ≡ true) }
+        ensures unchanged { OnErr result (self.new ≡ self.old) }
+    {
+        self.lane.lost(number)
+    }
+
+    // A request as a whole was answered by this status.
+    pub(crate) fn whole(&mut self, number: u64, status: u16) -> Result<Settled, NotFlying>
+        requires { status ≢ 200 }
+        ensures flies { is_ok result ≡ is_flying number self.old.lane }
+        ensures ok { OnOk result (self.new ≡ answered_desk number (Whole status) self.old) }
+        ensures counts { IfOk result (λ c. AreCounts self.old.lane number (Whole status) c) }
+        ensures matched { IfOk result (λ c. c.matched ≡ true) }
+        ensures unchanged { OnErr result (self.new ≡ self.old) }
+    {
+        self.lane.whole(number, status)
+    }
+
+    // A request was answered by these entries.
+    pub(crate) fn reply(
+        &mut self,
+        number: u64,
+        outcomes: Vec<Outcome>,
+    ) -> Result<Settled, NotFlying>
+        ensures flies { is_ok result ≡ is_flying number self.old.lane }
+        ensures ok { OnOk result
+            (self.new ≡ answered_desk number (Items outcomes.items) self.old) }
+        ensures counts { IfOk result
+            (λ c. AreCounts self.old.lane number (Items outcomes.items) c) }
+        ensures matched { IfOk result
+            (λ c. c.matched ≡ matches outcomes.items (writes_of number self.old.lane)) }
+        ensures unchanged { OnErr result (self.new ≡ self.old) }
+    {
+        self.lane.reply(number, outcomes)
+    }
+}

@@ -1,0 +1,744 @@
+//! What the world is made of, and each event of it.
+ghost use Rattle.std.specs.Prelude.{◌≡◌, ◌≢◌, slice_get, is_ok, if◌then◌else◌, ℕ, ◌+◌, ◌-◌, ◌^◌, ◌<◌, ◌≤◌, [], ◌∷◌, ◌++◌, None, Some, true, OnOk, OnErr, IfOk, IfSome, IsSome, map, option_map, is_some, length, replicate};
+ghost use Rattle.relay_results.specs.Words.{update};
+ghost use Rattle.relay_results.specs.Outside.{Items, Whole, Lost};
+ghost use Rattle.relay_lane.specs.State.{next_batch};
+ghost use Rattle.relay_results.specs.Documents.{document_of};
+ghost use Rattle.relay_index.specs.Keys.{AreKeys};
+ghost use Rattle.relay_lane.specs.Limits.{is_valid};
+ghost use Rattle.relay_lane.specs.Walk.{report_of};
+ghost use Rattle.relay_world.specs.declared.event.Event.TheVariants as event;
+ghost use Rattle.relay_world.specs.State.{fresh, fresh_desk, desk_at, lane_of, accepted_from, applied, names_at, reports, request_at, item_at, is_closed, is_finished, op_with, write_at};
+ghost use Rattle.relay_world.specs.Refusals.{entries_from, flies_at, put_refusal, close_refusal, control_refusal, take_refusal, may_choose, is_flying, entry_at, entries};
+ghost use Rattle.relay_world.specs.Changes.{after_put, at_lane, posted, took_front, with_answer, answered_desk, sent_request, request_of, RunsItem};
+ghost use Rattle.relay_world.specs.Steps.{Steps};
+ghost use Rattle.relay_world.specs.Memory.{answer_of, IsItemOf, IsWriteAt, IsThere, IsOpenIn, IsSent, IsSettledAt, Forms, ArePartsOf};
+
+use crate::accepted::Accepted;
+use crate::desk::{Desk, Formed};
+use crate::event::{Refusal, StepAnswer};
+use crate::names::Names;
+use crate::request::{Given, SentItem, SentRequest};
+use relay_action::{Action, Body, DocKey, Op, OpName, Write, lane_of};
+use relay_index::{Choice, Index, may_refuse};
+use relay_lane::{NotFlying, RelayConfig, Report, Settled};
+use relay_results::{ItemDone, Outcome};
+use std::alloc::{AllocError, Global};
+use std::marker::Model;
+
+// The most operations of a producer, 2^40.
+const NUMBER_LIMIT: u64 = 1_099_511_627_776;
+
+// Lanes with their queues, what was accepted and sent, the index, and the names of what it applied.
+#[derive(Drop)]
+pub(crate) struct Parts {
+    alloc: Global,
+    config: RelayConfig,
+    desks: Vec<Desk>,
+    accepted: Vec<Accepted>,
+    sent: Vec<SentRequest>,
+    index: Index,
+    names: Names,
+}
+
+impl Model for Parts {
+    ghost use Rattle.relay_world.specs.State.{World};
+    ghost use Rattle.relay_world.specs.View.{seen, IsSound};
+
+    ghost Value = { World };
+
+    ghost view = { seen };
+
+    ghost invariant = { IsSound };
+}
+
+// The pick at a place, if there is one.
+fn pick_at(picks: &[u64], place: usize) -> Option<u64>
+    ensures { result ≡ slice_get picks.now place }
+{
+    picks.get(place).copied()
+}
+
+// A lane forms its next request, if there is one, and it stands at the end of those that were sent.
+// `AllocError`: there was no memory for it, and nothing changed.
+fn send_from(
+    desk: &mut Desk,
+    sent: &mut Vec<SentRequest>,
+    alloc: Global,
+    lane: u32,
+) -> Result<bool, AllocError>
+    ensures when { IfOk result (λ b. b ≡ is_some (next_batch desk.old.lane)) }
+    ensures desk { OnOk result (desk.new ≡ sent_request desk.old) }
+    ensures sent { IfOk result (λ b. sent.new.items
+        ≡ sent.old.items ++ (if b then request_of lane desk.old ∷ [] else [])) }
+    ensures same_desk { OnErr result (desk.new ≡ desk.old) }
+    ensures same_sent { OnErr result (sent.new.items ≡ sent.old.items) }
+{
+    sent.reserve(1)?;
+    match desk.request(alloc)? {
+        None => Ok(false),
+        Some(Formed { number, items }) => {
+            sent.push_reserved(SentRequest::new(lane, number, items));
+            Ok(true)
+        }
+    }
+}
+
+// So many fresh desks as there are lanes. `AllocError`: there was no memory for them.
+fn fresh_desks(alloc: Global, config: RelayConfig) -> Result<Vec<Desk>, AllocError>
+    requires { is_valid config ≡ true }
+    ensures { IfOk result (λ v. v.items ≡ replicate config.lanes (fresh_desk config)) }
+{
+    let mut desks = Vec::with_capacity(alloc, config.lanes as usize)?;
+    'desks: for _ in 0..config.lanes {
+        desks.push(Desk::new(alloc, config)?)?;
+    }
+    Ok(desks)
+}
+
+// So many empty lists as there are producers. `AllocError`: there was no memory for them.
+fn none_accepted(alloc: Global, producers: u32) -> Result<Vec<Accepted>, AllocError>
+    ensures { IfOk result (λ v. v.items ≡ replicate producers []) }
+{
+    let mut accepted = Vec::with_capacity(alloc, producers as usize)?;
+    'lists: for _ in 0..producers {
+        accepted.push(Accepted::new(alloc))?;
+    }
+    Ok(accepted)
+}
+
+// Whether an index may do so.
+fn may_choose(choice: Choice) -> bool
+    ensures { result ≡ may_choose choice }
+{
+    match choice {
+        Choice::Run => true,
+        Choice::Refuse(status) => may_refuse(status),
+    }
+}
+
+impl Parts {
+    // Where nothing has happened. `AllocError`: there was no memory for the lanes or the lists.
+    pub(crate) fn new(alloc: Global, config: RelayConfig, index: Index) -> Result<Parts, AllocError>
+        requires { is_valid config ≡ true }
+        ensures { IfOk result (λ w. w ≡ fresh config index) }
+    {
+        Ok(Parts {
+            alloc,
+            config,
+            desks: fresh_desks(alloc, config)?,
+            accepted: none_accepted(alloc, config.producers)?,
+            sent: Vec::new(alloc),
+            index,
+            names: Names::new(alloc),
+        })
+    }
+}
+
+// What is asked.
+impl Parts {
+    // How it works.
+    fn config(&self) -> RelayConfig
+        ensures config { result ≡ self.now.config }
+        ensures kept { ArePartsOf self.now }
+    {
+        self.config
+    }
+
+    // A lane with its queue.
+    fn desk(&self, lane: u32) -> Option<&Desk>
+        ensures { option_map (λ d. d.now) result ≡ desk_at self.now lane }
+    {
+        self.desks.get(lane as usize)
+    }
+
+    // What was accepted from a producer; nothing where there is no such producer.
+    pub(crate) fn accepted(&self, producer: u32) -> &[Op]
+        ensures { result.now ≡ accepted_from self.now producer }
+    {
+        match self.accepted.get(producer as usize) {
+            Some(list) => list.as_slice(),
+            None => &[],
+        }
+    }
+
+    // The writes that were applied to a document since the start.
+    pub(crate) fn applied(&self, key: &DocKey) -> &[Write]
+        ensures { result.now ≡ applied self.now (document_of key.now) }
+    {
+        let all = self.index.applied(key);
+        let before = self.names.before(key, all.len());
+        match all.get(before..) {
+            Some(since) => since,
+            None => &[],
+        }
+    }
+
+    // The names of the operations whose writes were applied to a document.
+    pub(crate) fn names(&self, key: &DocKey) -> &[OpName]
+        ensures { result.now ≡ names_at self.now (document_of key.now) }
+    {
+        self.names.names(key)
+    }
+
+    // What a lane has reported.
+    pub(crate) fn reports(&self, lane: u32) -> &[Report]
+        ensures { map report_of result.now ≡ reports self.now lane }
+    {
+        match self.desk(lane) {
+            Some(desk) => desk.reports(),
+            None => &[],
+        }
+    }
+
+    // The documents that a write was applied to.
+    pub(crate) fn keys(&self) -> Result<Vec<DocKey>, AllocError>
+        ensures { IfOk result (λ keys. AreKeys self.now.index keys.items) }
+    {
+        self.index.keys(self.alloc)
+    }
+
+    // A sent request, by its number.
+    fn request(&self, request: u64) -> Option<&SentRequest>
+        ensures { option_map (λ s. s.now) result ≡ request_at self.now request }
+    {
+        if request == 0 {
+            None
+        } else {
+            self.sent_at(request - 1)
+        }
+    }
+
+    // A sent request, by its place from 0.
+    fn sent_at(&self, place: u64) -> Option<&SentRequest>
+        ensures { option_map (λ s. s.now) result ≡ slice_get self.now.sent place }
+    {
+        self.sent.get(place as usize)
+    }
+
+    // The operation that a lane dealt a version.
+    fn op_with(&self, lane: u32, version: u64) -> Option<&Op>
+        ensures { option_map (λ o. o.now) result ≡ op_with self.now lane version }
+    {
+        match self.desk(lane) {
+            Some(desk) => desk.op_at(version.saturating_sub(self.config().first_version)),
+            None => None,
+        }
+    }
+
+    // Whether each sender has closed at each lane, nothing is queued, and no lane holds an operation.
+    pub(crate) fn finished(&self) -> bool
+        ensures { result ≡ is_finished self.now }
+    {
+        self.desks.iter().all(|desk| desk.is_done())
+    }
+
+    // Whether a sender has closed at some lane.
+    fn is_closed(&self, sender: u32) -> bool
+        ensures { result ≡ is_closed self.now sender }
+    {
+        self.desks.iter().any(|desk| desk.has_closed(sender))
+    }
+}
+
+// Messages are put into queues.
+impl Parts {
+    // Why a put of a producer into the queue of a lane is refused, if it is.
+    fn put_refusal(&self, producer: u32, lane: u32) -> Option<Refusal>
+        ensures { result ≡ put_refusal self.now producer lane }
+    {
+        let config = self.config();
+        if producer >= config.producers {
+            return Some(Refusal::NoSuch);
+        }
+        if self.is_closed(producer) {
+            return Some(Refusal::Closed);
+        }
+        if self.accepted(producer).len() as u64 >= NUMBER_LIMIT {
+            return Some(Refusal::NumbersSpent);
+        }
+        match self.desk(lane) {
+            None => Some(Refusal::NoSuch),
+            Some(desk) => desk.full_refusal(config.capacity),
+        }
+    }
+
+    // Accepts an operation, which is not refused.
+    fn accept(&mut self, op: Op, lane: u32) -> Result<(), AllocError>
+        requires lane { lane ≡ lane_of self.old (document_of op.key) }
+        requires fits { put_refusal self.old op.producer lane ≡ None }
+        ensures ok { OnOk result (self.new ≡ after_put self.old op) }
+        ensures unchanged { OnErr result (self.new ≡ self.old) }
+    {
+        self.accepted[op.producer as usize].accept(op, &mut self.desks[lane as usize])
+    }
+
+    // A producer puts an operation.
+    pub(crate) fn put(
+        &mut self,
+        producer: u32,
+        key: &DocKey,
+        action: &Action,
+    ) -> Result<StepAnswer, AllocError>
+        ensures ok { IfOk result
+            (λ x. Steps self.old (event.Put producer key.now action.now) x self.new) }
+        ensures unchanged { OnErr result (self.new ≡ self.old) }
+    {
+        let lane = self.lane_of(key);
+        if let Some(refusal) = self.put_refusal(producer, lane) {
+            return Ok(StepAnswer::Refused(refusal));
+        }
+        let op = Op {
+            producer,
+            number: self.accepted(producer).len() as u64 + 1,
+            key: key.copy()?,
+            action: action.copy()?,
+        };
+        let name = op.name();
+        self.accept(op, lane)?;
+        Ok(StepAnswer::Put(name))
+    }
+
+    // The lane of a document.
+    fn lane_of(&self, key: &DocKey) -> u32
+        ensures { result ≡ lane_of self.now (document_of key.now) }
+    {
+        lane_of(key, self.config.lanes)
+    }
+
+    // Why a Close of a sender at a lane is refused, if it is.
+    fn close_refusal(&self, sender: u32, lane: u32) -> Option<Refusal>
+        ensures value { result ≡ close_refusal self.now sender lane }
+        ensures kept { ArePartsOf self.now }
+    {
+        let config = self.config();
+        match self.desk(lane) {
+            None => Some(Refusal::NoSuch),
+            Some(desk) => desk.close_refusal(sender, config.producers, config.capacity),
+        }
+    }
+
+    // Why a tick or a flush of a lane is refused, if it is.
+    fn control_refusal(&self, lane: u32) -> Option<Refusal>
+        ensures value { result ≡ control_refusal self.now lane }
+        ensures kept { ArePartsOf self.now }
+    {
+        let config = self.config();
+        match self.desk(lane) {
+            None => Some(Refusal::NoSuch),
+            Some(_) if self.is_closed(config.producers) => Some(Refusal::Closed),
+            Some(desk) => desk.full_refusal(config.capacity),
+        }
+    }
+
+    // Puts a message of a sender that has not closed there into the queue of a lane.
+    fn post(&mut self, sender: u32, lane: u32, body: Body) -> Result<(), AllocError>
+        requires { IsOpenIn self.old sender lane }
+        ensures ok { OnOk result (self.new ≡ at_lane lane (posted sender body) self.old) }
+        ensures unchanged { OnErr result (self.new ≡ self.old) }
+    {
+        self.desks[lane as usize].post(sender, body)
+    }
+
+    // A sender closes at a lane.
+    pub(crate) fn close(&mut self, sender: u32, lane: u32) -> Result<StepAnswer, AllocError>
+        ensures ok { IfOk result (λ x. Steps self.old (event.Close sender lane) x self.new) }
+        ensures unchanged { OnErr result (self.new ≡ self.old) }
+    {
+        if let Some(refusal) = self.close_refusal(sender, lane) {
+            return Ok(StepAnswer::Refused(refusal));
+        }
+        self.post(sender, lane, Body::Done)?;
+        Ok(StepAnswer::Done)
+    }
+
+    // The control puts a tick into the queue of a lane.
+    pub(crate) fn tick(&mut self, lane: u32) -> Result<StepAnswer, AllocError>
+        ensures ok { IfOk result (λ x. Steps self.old (event.Tick lane) x self.new) }
+        ensures unchanged { OnErr result (self.new ≡ self.old) }
+    {
+        if let Some(refusal) = self.control_refusal(lane) {
+            return Ok(StepAnswer::Refused(refusal));
+        }
+        let control = self.config().producers;
+        self.post(control, lane, Body::Tick)?;
+        Ok(StepAnswer::Done)
+    }
+
+    // The control puts a flush into the queue of a lane.
+    pub(crate) fn flush(&mut self, lane: u32) -> Result<StepAnswer, AllocError>
+        ensures ok { IfOk result (λ x. Steps self.old (event.Flush lane) x self.new) }
+        ensures unchanged { OnErr result (self.new ≡ self.old) }
+    {
+        if let Some(refusal) = self.control_refusal(lane) {
+            return Ok(StepAnswer::Refused(refusal));
+        }
+        let control = self.config().producers;
+        self.post(control, lane, Body::Flush)?;
+        Ok(StepAnswer::Done)
+    }
+}
+
+// Lanes take and send.
+impl Parts {
+    // Why a lane takes nothing, if it does not.
+    fn take_refusal(&self, lane: u32) -> Option<Refusal>
+        ensures { result ≡ take_refusal self.now lane }
+    {
+        match self.desk(lane) {
+            Some(desk) => desk.front_refusal(self.config().max_held),
+            None => Some(Refusal::NoSuch),
+        }
+    }
+
+    // A lane takes the front of its queue, which is not refused.
+    fn take_front(&mut self, lane: u32) -> Result<(), AllocError>
+        requires { take_refusal self.old lane ≡ None }
+        ensures ok { OnOk result (self.new ≡ at_lane lane took_front self.old) }
+        ensures unchanged { OnErr result (self.new ≡ self.old) }
+    {
+        self.desks[lane as usize].take()
+    }
+
+    // A lane takes the front of its queue.
+    pub(crate) fn take(&mut self, lane: u32) -> Result<StepAnswer, AllocError>
+        ensures ok { IfOk result (λ x. Steps self.old (event.Take lane) x self.new) }
+        ensures unchanged { OnErr result (self.new ≡ self.old) }
+    {
+        if let Some(refusal) = self.take_refusal(lane) {
+            return Ok(StepAnswer::Refused(refusal));
+        }
+        self.take_front(lane)?;
+        Ok(StepAnswer::Done)
+    }
+
+    // A lane forms its next request, if there is one, and it is sent.
+    fn form(&mut self, lane: u32) -> Result<bool, AllocError>
+        requires { IsThere self.old lane }
+        ensures ok { IfOk result (λ b. Forms self.old lane b self.new) }
+        ensures unchanged { OnErr result (self.new ≡ self.old) }
+    {
+        send_from(
+            &mut self.desks[lane as usize],
+            &mut self.sent,
+            self.alloc,
+            lane,
+        )
+    }
+
+    // How many requests were sent.
+    fn requests(&self) -> u64
+        ensures requests { result ≡ length self.now.sent }
+        ensures few { result < 2 ^ 63 }
+    {
+        self.sent.len() as u64
+    }
+
+    // A lane forms its next request, and it is sent.
+    pub(crate) fn send(&mut self, lane: u32) -> Result<StepAnswer, AllocError>
+        ensures ok { IfOk result (λ x. Steps self.old (event.Send lane) x self.new) }
+        ensures unchanged { OnErr result (self.new ≡ self.old) }
+    {
+        if self.desk(lane).is_none() {
+            return Ok(StepAnswer::Refused(Refusal::NoSuch));
+        }
+        let number = self.requests().saturating_add(1);
+        if self.form(lane)? {
+            Ok(StepAnswer::Sent(number))
+        } else {
+            Ok(StepAnswer::Refused(Refusal::NoRequest))
+        }
+    }
+}
+
+// Items are run.
+impl Parts {
+    // The item of a request, both by their numbers.
+    fn item(&self, request: u64, item: u64) -> Option<&SentItem>
+        ensures { option_map (λ i. i.now) result ≡ item_at self.now request item }
+    {
+        match self.request(request) {
+            Some(sent) if item > 0 => sent.items().get((item - 1) as usize),
+            _ => None,
+        }
+    }
+
+    // The name and the write of an item of a request.
+    fn write(&self, request: u64, item: u64) -> Result<Option<(OpName, Write)>, AllocError>
+        ensures found { IfOk result
+            (λ o. is_some o ≡ is_some (write_at self.now request item)) }
+        ensures write { IfOk result
+            (λ o. IfSome o (λ p. IsItemOf self.now request item p.0 p.1)) }
+    {
+        let Some(sent) = self.request(request) else {
+            return Ok(None);
+        };
+        let Some(item) = self.item(request, item) else {
+            return Ok(None);
+        };
+        let Some(op) = self.op_with(sent.lane(), item.version()) else {
+            return Ok(None);
+        };
+        let write = Write {
+            key: op.key.copy()?,
+            version: item.version(),
+            action: op.action.copy()?,
+        };
+        Ok(Some((op.name(), write)))
+    }
+
+    // The index runs an item of a sent request.
+    pub(crate) fn run(
+        &mut self,
+        request: u64,
+        item: u64,
+        choice: Choice,
+    ) -> Result<StepAnswer, AllocError>
+        ensures ok { IfOk result
+            (λ x. Steps self.old (event.Run request item choice) x self.new) }
+        ensures unchanged { OnErr result (self.new ≡ self.old) }
+    {
+        let Some((name, write)) = self.write(request, item)? else {
+            return Ok(StepAnswer::Refused(Refusal::NotSent));
+        };
+        if !may_choose(choice) {
+            return Ok(StepAnswer::Refused(Refusal::BadStatus));
+        }
+        let status = self.run_write(request, item, name, &write, choice)?;
+        Ok(StepAnswer::Ran(status))
+    }
+
+    // The index runs the write of an item.
+    fn run_write(
+        &mut self,
+        request: u64,
+        item: u64,
+        name: OpName,
+        write: &Write,
+        choice: Choice,
+    ) -> Result<u16, AllocError>
+        requires item { IsItemOf self.old request item name write.now }
+        requires choice { may_choose choice ≡ true }
+        ensures ok { IfOk result
+            (λ s. RunsItem self.old request item choice (StepAnswer.Ran s) self.new) }
+        ensures unchanged { OnErr result (self.new ≡ self.old) }
+    {
+        self.sent[request.saturating_sub(1) as usize].run(
+            item,
+            &mut self.names,
+            &mut self.index,
+            name,
+            write,
+            choice,
+        )
+    }
+}
+
+// Requests are answered.
+impl Parts {
+    // Whether a request flies in its lane.
+    fn is_flying(&self, sent: &SentRequest) -> bool
+        ensures { result ≡ is_flying self.now sent.now }
+    {
+        match self.desk(sent.lane()) {
+            Some(desk) => desk.is_flying(sent.number()),
+            None => false,
+        }
+    }
+
+    // The entry of an item of a request that a lane sent, for the run that is picked, if it has that run.
+    fn entry(
+        &self,
+        lane: u32,
+        item: &SentItem,
+        pick: Option<u64>,
+    ) -> Result<Option<Outcome>, AllocError>
+        ensures { IfOk result (λ o. o ≡ entry_at self.now lane pick item.now) }
+    {
+        let Some(op) = self.op_with(lane, item.version()) else {
+            return Ok(None);
+        };
+        let Some(run) = item.run_by(pick) else {
+            return Ok(None);
+        };
+        let done = ItemDone {
+            key: op.key.copy()?,
+            kind: op.action.kind(),
+            status: run.status,
+            result: run.result,
+            version: 0,
+            seq: 0,
+        };
+        Ok(Some(done.outcome(self.alloc)?))
+    }
+
+    // The entries of a reply to a request, if the picks are right and each item has the run.
+    fn entries(&self, sent: &SentRequest, picks: &[u64]) -> Result<Option<Vec<Outcome>>, AllocError>
+        ensures { IfOk result
+            (λ o. option_map (λ v. v.items) o ≡ entries self.now sent.now picks.now) }
+    {
+        if picks.is_empty() || picks.len() == sent.items().len() {
+            self.entries_for(sent.lane(), sent.items(), picks)
+        } else {
+            Ok(None)
+        }
+    }
+
+    // The entries of these items, where each has the run.
+    fn entries_for(
+        &self,
+        lane: u32,
+        items: &[SentItem],
+        picks: &[u64],
+    ) -> Result<Option<Vec<Outcome>>, AllocError>
+        ensures { IfOk result (λ o. option_map (λ v. v.items) o
+            ≡ entries_from self.now lane picks.now 0 items.now) }
+    {
+        let mut outcomes = Vec::with_capacity(self.alloc, items.len())?;
+        'items: for place in 0..items.len() {
+            let Some(entry) = self.entry(lane, &items[place], pick_at(picks, place))? else {
+                return Ok(None);
+            };
+            outcomes.push(entry)?;
+        }
+        Ok(Some(outcomes))
+    }
+
+    // Notes what a request was answered.
+    fn note(&mut self, request: u64, given: Given)
+        requires { IsSent self.old request }
+        ensures { self.new ≡ record self.old {
+          sent = update (request - 1) (with_answer (answer_of given)) self.old.sent;
+        } }
+    {
+        self.sent[request.saturating_sub(1) as usize].note(given);
+    }
+
+    // A request of a lane was lost.
+    fn lose(&mut self, lane: u32, number: u64) -> Result<Settled, NotFlying>
+        requires { IsThere self.old lane }
+        ensures flies { is_ok result ≡ flies_at number (desk_at self.old lane) }
+        ensures ok { OnOk result (self.new ≡ at_lane lane (answered_desk number Lost) self.old) }
+        ensures counts { IfOk result (λ c. IsSettledAt self.old lane number Lost c) }
+        ensures unchanged { OnErr result (self.new ≡ self.old) }
+    {
+        self.desks[lane as usize].lost(number)
+    }
+
+    // A request of a lane was answered as a whole.
+    fn reject(&mut self, lane: u32, number: u64, status: u16) -> Result<Settled, NotFlying>
+        requires there { IsThere self.old lane }
+        requires status { status ≢ 200 }
+        ensures flies { is_ok result ≡ flies_at number (desk_at self.old lane) }
+        ensures ok { OnOk result
+            (self.new ≡ at_lane lane (answered_desk number (Whole status)) self.old) }
+        ensures counts { IfOk result (λ c. IsSettledAt self.old lane number (Whole status) c) }
+        ensures unchanged { OnErr result (self.new ≡ self.old) }
+    {
+        self.desks[lane as usize].whole(number, status)
+    }
+
+    // A request of a lane was answered by entries.
+    fn settle(
+        &mut self,
+        lane: u32,
+        number: u64,
+        entries: Vec<Outcome>,
+    ) -> Result<Settled, NotFlying>
+        requires { IsThere self.old lane }
+        ensures flies { is_ok result ≡ flies_at number (desk_at self.old lane) }
+        ensures ok { OnOk result
+            (self.new ≡ at_lane lane (answered_desk number (Items entries.items)) self.old) }
+        ensures counts { IfOk result
+            (λ c. IsSettledAt self.old lane number (Items entries.items) c) }
+        ensures unchanged { OnErr result (self.new ≡ self.old) }
+    {
+        self.desks[lane as usize].reply(number, entries)
+    }
+
+    // A request is answered by the outcomes of its items' runs.
+    pub(crate) fn reply(&mut self, request: u64, picks: &[u64]) -> Result<StepAnswer, AllocError>
+        ensures ok { IfOk result
+            (λ x. Steps self.old (event.Reply request picks.now) x self.new) }
+        ensures unchanged { OnErr result (self.new ≡ self.old) }
+    {
+        let Some(sent) = self.request(request) else {
+            return Ok(StepAnswer::Refused(Refusal::NotSent));
+        };
+        if !self.is_flying(sent) {
+            return Ok(StepAnswer::Refused(Refusal::NotFlying));
+        }
+        let lane = sent.lane();
+        let number = sent.number();
+        let Some(kept) = self.entries(sent, picks)? else {
+            return Ok(StepAnswer::Refused(Refusal::NotRun));
+        };
+        let Some(given) = self.entries(sent, picks)? else {
+            return Ok(StepAnswer::Refused(Refusal::NotRun));
+        };
+        match self.settle(lane, number, given) {
+            Err(_) => Ok(StepAnswer::Refused(Refusal::NotFlying)),
+            Ok(counts) => {
+                self.note(request, Given::Entries(kept));
+                Ok(StepAnswer::Settled(counts))
+            }
+        }
+    }
+
+    // A request as a whole is answered by a status.
+    pub(crate) fn whole(&mut self, request: u64, status: u16) -> StepAnswer
+        ensures { Steps self.old (event.Whole request status) result self.new }
+    {
+        let Some(sent) = self.request(request) else {
+            return StepAnswer::Refused(Refusal::NotSent);
+        };
+        if !self.is_flying(sent) {
+            return StepAnswer::Refused(Refusal::NotFlying);
+        }
+        if status <= 200 || status > 599 {
+            return StepAnswer::Refused(Refusal::BadStatus);
+        }
+        let lane = sent.lane();
+        let number = sent.number();
+        match self.reject(lane, number, status) {
+            Err(_) => StepAnswer::Refused(Refusal::NotFlying),
+            Ok(counts) => {
+                self.note(request, Given::Status(status));
+                StepAnswer::Settled(counts)
+            }
+        }
+    }
+
+    // The reply to a request is lost.
+    pub(crate) fn lost(&mut self, request: u64) -> StepAnswer
+        ensures { Steps self.old (event.Lost request) result self.new }
+    {
+        let Some(sent) = self.request(request) else {
+            return StepAnswer::Refused(Refusal::NotSent);
+        };
+        if !self.is_flying(sent) {
+            return StepAnswer::Refused(Refusal::NotFlying);
+        }
+        let lane = sent.lane();
+        let number = sent.number();
+        match self.lose(lane, number) {
+            Err(_) => StepAnswer::Refused(Refusal::NotFlying),
+            Ok(counts) => {
+                self.note(request, Given::Loss);
+                StepAnswer::Settled(counts)
+            }
+        }
+    }
+
+    // The document and the version of an item of a sent request.
+    pub(crate) fn sent(&self, request: u64, item: u64) -> Option<(&DocKey, u64)>
+        ensures found { is_some result ≡ is_some (write_at self.now request item) }
+        ensures write { IfSome result
+            (λ p. IsWriteAt self.now request item p.0.now p.1) }
+    {
+        let sent = self.request(request)?;
+        let item = self.item(request, item)?;
+        let op = self.op_with(sent.lane(), item.version())?;
+        Some((&op.key, item.version()))
+    }
+}

@@ -1,0 +1,235 @@
+//! Sent requests.
+ghost use Rattle.std.specs.Prelude.{◌≡◌, ℕ, ◌-◌, ◌<◌, [], ◌∷◌, ◌++◌, ◌&&◌, option_map, OnOk, OnErr, IfOk, length, if◌then◌else◌};
+ghost use Rattle.relay_results.specs.Documents.{Document, document_of, same_document};
+ghost use Rattle.relay_results.specs.Outside.{Unanswered};
+ghost use Rattle.relay_index.specs.Choices.{MayChoose};
+ghost use Rattle.relay_index.specs.States.{applied};
+ghost use Rattle.relay_index.specs.Runs.{is_run, done_of, outcome_of_run, Effect};
+ghost use Rattle.relay_world.specs.State.{kept_among, names_of, before_of};
+ghost use Rattle.relay_world.specs.Refusals.{run_by};
+ghost use Rattle.relay_world.specs.Changes.{with_outcome, ran_item, with_answer as sent_answer};
+ghost use Rattle.relay_world.specs.Memory.{run_outcome, answer_of};
+
+use crate::names::Names;
+use relay_action::{OpName, Write};
+use relay_index::{Choice, Index};
+use relay_results::{DoneResult, Outcome};
+use std::alloc::{AllocError, Global};
+use std::marker::Model;
+
+/// What a run of an item came to.
+#[derive(Clone, Copy, Debug, PartialEq, Eq)]
+pub struct RunDone {
+    /// The status of the item.
+    pub status: u16,
+    /// What became of the write.
+    pub result: DoneResult,
+}
+
+/// What was answered to a request.
+#[derive(Drop)]
+pub enum Given {
+    /// Nothing yet.
+    Nothing,
+    /// The entries of a reply.
+    Entries(Vec<Outcome>),
+    /// A status of the whole request.
+    Status(u16),
+    /// The reply was lost.
+    Loss,
+}
+
+// Whether the index applies a write.
+fn applies(index: &Index, write: &Write, choice: Choice) -> bool
+    ensures { result ≡ is_run index.now write.now choice }
+{
+    match choice {
+        Choice::Refuse(_) => false,
+        Choice::Run => index
+            .version(&write.key)
+            .is_none_or(|stored| stored < write.version),
+    }
+}
+
+// An item of a sent request. Contracts see it as the version of its operation and the outcomes of its runs.
+#[derive(Drop)]
+pub(crate) struct SentItem {
+    version: u64,
+    runs: Vec<RunDone>,
+}
+
+impl Model for SentItem {
+    ghost use Rattle.std.specs.Prelude.{map};
+    ghost use Rattle.relay_world.specs.State.{Item};
+    ghost use Rattle.relay_world.specs.Memory.{run_outcome};
+
+    ghost Value = { Item };
+
+    ghost view = { λ i. record { version = i.version; runs = map run_outcome i.runs.items } };
+}
+
+impl SentItem {
+    // An item that was not run yet. It takes no memory.
+    pub(crate) fn new(alloc: Global, version: u64) -> SentItem
+        ensures { result ≡ record { version = version; runs = [] } }
+    {
+        SentItem {
+            version,
+            runs: Vec::new(alloc),
+        }
+    }
+
+    // The version that its operation was dealt.
+    pub(crate) fn version(&self) -> u64
+        ensures { result ≡ self.now.version }
+    {
+        self.version
+    }
+
+    // Its last run, or the one with a number, from 1.
+    pub(crate) fn run_by(&self, pick: Option<u64>) -> Option<RunDone>
+        ensures { option_map run_outcome result ≡ run_by self.now.runs pick }
+    {
+        let run = match pick {
+            None => self.runs.last(),
+            Some(0) => None,
+            Some(number) => self.runs.get((number - 1) as usize),
+        };
+        run.copied()
+    }
+
+    // The index runs the write of this item, and its name is noted where that was applied. `AllocError`:
+    // there was no memory for it, and nothing changed.
+    pub(crate) fn run(
+        &mut self,
+        index: &mut Index,
+        names: &mut Vec<OpName>,
+        name: OpName,
+        write: &Write,
+        choice: Choice,
+    ) -> Result<u16, AllocError>
+        requires { MayChoose choice }
+        ensures status { IfOk result (λ s. s ≡ (done_of index.old write.now choice).status) }
+        ensures item { OnOk result
+            (self.new ≡ with_outcome (outcome_of_run (done_of index.old write.now choice)) self.old) }
+        ensures effect { OnOk result (Effect index.old write.now choice index.new) }
+        ensures names { OnOk result (names.new.items ≡ names.old.items ++ (if is_run index.old write.now choice then name ∷ [] else [])) }
+        ensures same_item { OnErr result (self.new ≡ self.old) }
+        ensures same_index { OnErr result (index.new ≡ index.old) }
+        ensures same_names { OnErr result (names.new.items ≡ names.old.items) }
+    {
+        self.runs.reserve(1)?;
+        names.reserve(1)?;
+        let applied = applies(index, write, choice);
+        let done = index.run(write, choice)?;
+        self.runs.push_reserved(RunDone {
+            status: done.status,
+            result: done.result,
+        });
+        if applied {
+            names.push_reserved(name);
+        }
+        Ok(done.status)
+    }
+}
+
+// A sent request. Contracts see it as its lane, its number there, its items and its answer.
+#[derive(Drop)]
+pub(crate) struct SentRequest {
+    lane: u32,
+    number: u64,
+    items: Vec<SentItem>,
+    given: Given,
+}
+
+impl Model for SentRequest {
+    ghost use Rattle.relay_world.specs.State.{Sent};
+    ghost use Rattle.relay_world.specs.Memory.{answer_of};
+
+    ghost Value = { Sent };
+
+    ghost view = { λ s. record { lane = s.lane; number = s.number; items = s.items.items; answer = answer_of s.given } };
+}
+
+impl SentRequest {
+    // A request that was not answered yet.
+    pub(crate) fn new(lane: u32, number: u64, items: Vec<SentItem>) -> SentRequest
+        ensures { result ≡ record {
+          lane = lane;
+          number = number;
+          items = items.items;
+          answer = Unanswered;
+        } }
+    {
+        SentRequest {
+            lane,
+            number,
+            items,
+            given: Given::Nothing,
+        }
+    }
+
+    // The lane that sent it.
+    pub(crate) fn lane(&self) -> u32
+        ensures { result ≡ self.now.lane }
+    {
+        self.lane
+    }
+
+    // Its number there.
+    pub(crate) fn number(&self) -> u64
+        ensures { result ≡ self.now.number }
+    {
+        self.number
+    }
+
+    // Its items.
+    pub(crate) fn items(&self) -> &[SentItem]
+        ensures { result.now ≡ self.now.items }
+    {
+        self.items.as_slice()
+    }
+
+    // Notes what was answered.
+    pub(crate) fn note(&mut self, given: Given)
+        ensures { self.new ≡ sent_answer (answer_of given) self.old }
+    {
+        self.given = given;
+    }
+
+    // The index runs an item, and its name is noted where the write was applied. `AllocError`: there was no
+    // memory for it, and nothing changed.
+    pub(crate) fn run(
+        &mut self,
+        item: u64,
+        names: &mut Names,
+        index: &mut Index,
+        name: OpName,
+        write: &Write,
+        choice: Choice,
+    ) -> Result<u16, AllocError>
+        requires choice { MayChoose choice }
+        requires item { item - 1 < length self.old.items }
+        ensures status { IfOk result (λ s. s ≡ (done_of index.old write.now choice).status) }
+        ensures sent { OnOk result (self.new
+            ≡ ran_item item (outcome_of_run (done_of index.old write.now choice)) self.old) }
+        ensures effect { OnOk result (Effect index.old write.now choice index.new) }
+        ensures names { OnOk result ((k : Document) → names_of (kept_among names.new k)
+            ≡ names_of (kept_among names.old k) ++ (if is_run index.old write.now choice
+            && same_document k (document_of write.now.key) then name ∷ [] else [])) }
+        ensures before { OnOk result ((k : Document) →
+            before_of (length (applied index.new k)) (kept_among names.new k)
+            ≡ before_of (length (applied index.old k)) (kept_among names.old k)) }
+        ensures same_sent { OnErr result (self.new ≡ self.old) }
+        ensures same_index { OnErr result (index.new ≡ index.old) }
+        ensures same_names { OnErr result (names.new ≡ names.old) }
+    {
+        names.run(
+            index,
+            &mut self.items[item.saturating_sub(1) as usize],
+            name,
+            write,
+            choice,
+        )
+    }
+}

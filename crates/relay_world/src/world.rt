@@ -1,0 +1,159 @@
+//! The world.
+ghost use Rattle.std.specs.Prelude.{◌≡◌, ℕ, ◌+◌, ◌^◌, ◌<◌, [], true, map, take, is_some, length, IfOk, IfErr, IfSome, OnOk, OnErr};
+ghost use Rattle.relay_results.specs.Documents.{document_of};
+ghost use Rattle.relay_index.specs.Keys.{AreKeys};
+ghost use Rattle.relay_lane.specs.Limits.{is_valid};
+ghost use Rattle.relay_lane.specs.Walk.{report_of};
+ghost use Rattle.relay_world.specs.State.{fresh, accepted_from, applied, names_at, reports, write_at, is_finished};
+ghost use Rattle.relay_world.specs.Memory.{IsWriteAt};
+ghost use Rattle.relay_world.specs.Steps.{Steps, Plays, none_yet, counted};
+
+use crate::event::{Event, RunEnd, StepAnswer};
+use crate::parts::Parts;
+use relay_action::{DocKey, Op, OpName, Write};
+use relay_index::Index;
+use relay_lane::{RelayConfig, Report};
+use std::alloc::{AllocError, Global};
+use std::marker::Model;
+
+/// Lanes with their queues over one index, on which events are played. Contracts see it as a `World`
+/// of `specs/State.antt`: what is queued, taken and held at each lane, what was accepted, sent, run and
+/// answered, and whose writes the index applied.
+#[derive(Drop)]
+pub struct World {
+    parts: Parts,
+}
+
+impl Model for World {
+    ghost use Rattle.relay_world.specs.State.{World};
+
+    ghost Value = { World };
+
+    ghost view = { λ w. w.parts };
+}
+
+// One event more was accepted, or refused.
+fn counted(answer: StepAnswer, end: RunEnd) -> RunEnd
+    requires { end.done + end.refused < 2 ^ 63 }
+    ensures { result ≡ counted answer end }
+{
+    let mut now = end;
+    match answer {
+        StepAnswer::Refused(_) => now.refused += 1,
+        _ => now.done += 1,
+    }
+    now
+}
+
+// Events are played.
+impl World {
+    /// A world in which nothing has happened, over an index that may have versions from before. The config
+    /// has to be valid. `AllocError`: there was no memory for the lanes or the lists.
+    pub fn new(alloc: Global, config: RelayConfig, index: Index) -> Result<World, AllocError>
+        requires { is_valid config ≡ true }
+        ensures { IfOk result (λ w. w ≡ fresh config index) }
+    {
+        Ok(World {
+            parts: Parts::new(alloc, config, index)?,
+        })
+    }
+
+    /// One event. It is refused exactly where its causes say, the first that holds, and changes nothing
+    /// then; else it changes what its rule says, and nothing else. `AllocError`: there was no memory for
+    /// it, and nothing changed.
+    pub fn step(&mut self, event: &Event) -> Result<StepAnswer, AllocError>
+        ensures ok { IfOk result (λ x. Steps self.old event.now x self.new) }
+        ensures unchanged { OnErr result (self.new ≡ self.old) }
+    {
+        match event {
+            Event::Put(producer, key, action) => self.parts.put(*producer, key, action),
+            Event::Close(sender, lane) => self.parts.close(*sender, *lane),
+            Event::Tick(lane) => self.parts.tick(*lane),
+            Event::Flush(lane) => self.parts.flush(*lane),
+            Event::Take(lane) => self.parts.take(*lane),
+            Event::Send(lane) => self.parts.send(*lane),
+            Event::Run(request, item, choice) => self.parts.run(*request, *item, *choice),
+            Event::Reply(request, picks) => self.parts.reply(*request, picks.as_slice()),
+            Event::Whole(request, status) => Ok(self.parts.whole(*request, *status)),
+            Event::Lost(request) => Ok(self.parts.lost(*request)),
+        }
+    }
+
+    /// Events one after another, also after a refused one; how many were accepted, and how many refused.
+    /// `AllocError`: there was no memory for an event; so many were finished before it, and it changed
+    /// nothing.
+    pub fn run(&mut self, events: &[Event]) -> Result<RunEnd, (u64, AllocError)>
+        ensures ok { IfOk result (λ end. Plays self.old none_yet events.now end self.new) }
+        ensures err { IfErr result (λ e. (end : RunEnd) × (end.done + end.refused ≡ e.0)
+            × Plays self.old none_yet (take e.0 events.now) end self.new) }
+    {
+        let mut end = RunEnd {
+            done: 0,
+            refused: 0,
+        };
+        'events: for event in events {
+            match self.step(event) {
+                Ok(answer) => end = counted(answer, end),
+                Err(fault) => return Err((end.done + end.refused, fault)),
+            }
+        }
+        Ok(end)
+    }
+}
+
+// What callers ask.
+impl World {
+    /// What was accepted from a producer, in the order in which it was put; nothing where there is no such
+    /// producer.
+    pub fn accepted(&self, producer: u32) -> &[Op]
+        ensures { result.now ≡ accepted_from self.now producer }
+    {
+        self.parts.accepted(producer)
+    }
+
+    /// The writes that the index applied to a document since the start, in order.
+    pub fn applied(&self, key: &DocKey) -> &[Write]
+        ensures { result.now ≡ applied self.now (document_of key.now) }
+    {
+        self.parts.applied(key)
+    }
+
+    /// The names of the operations whose writes the index applied to a document since the start: the
+    /// attribution of these writes.
+    pub fn names(&self, key: &DocKey) -> &[OpName]
+        ensures { result.now ≡ names_at self.now (document_of key.now) }
+    {
+        self.parts.names(key)
+    }
+
+    /// The document and the version of an item of a sent request, both numbered from 1. `None`: there is no
+    /// such request or item.
+    pub fn sent(&self, request: u64, item: u64) -> Option<(&DocKey, u64)>
+        ensures found { is_some result ≡ is_some (write_at self.now request item) }
+        ensures write { IfSome result (λ p. IsWriteAt self.now request item p.0.now p.1) }
+    {
+        self.parts.sent(request, item)
+    }
+
+    /// What a lane has reported, in order; nothing where there is no such lane.
+    pub fn reports(&self, lane: u32) -> &[Report]
+        ensures { map report_of result.now ≡ reports self.now lane }
+    {
+        self.parts.reports(lane)
+    }
+
+    /// The documents of the index, also those from before the start, in byte order of their index names and
+    /// then of their ids. `AllocError`: there was no memory for them.
+    pub fn keys(&self) -> Result<Vec<DocKey>, AllocError>
+        ensures { IfOk result (λ keys. AreKeys self.now.index keys.items) }
+    {
+        self.parts.keys()
+    }
+
+    /// Whether each sender has closed at each lane, nothing is queued, and no lane holds an operation.
+    pub fn finished(&self) -> bool
+        ensures { result ≡ is_finished self.now }
+    {
+        self.parts.finished()
+    }
+}

@@ -1,0 +1,9 @@
+//! Tests of relay_world.
+#![tactic(auto)]
+
+#[cfg(test)]
+mod refusals;
+#[cfg(test)]
+mod script;
+#[cfg(test)]
+mod worked;

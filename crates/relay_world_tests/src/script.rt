@@ -1,0 +1,228 @@
+//! Event lists with what each event answers, as rows, and the world that they are played on.
+use relay_action::{Action, DocKey, List};
+use relay_batch::Limits;
+use relay_index::{Choice, Index};
+use relay_lane::{Cause, RelayConfig, Report, Settled};
+use relay_world::{Event, Refusal, StepAnswer, World};
+use std::alloc::{AllocError, Global};
+use std::test::Fail;
+
+/// One lane and producer, queues of ten, batches of ten documents and 4,096 bytes that go at once, and three
+/// attempts.
+pub const THREE: RelayConfig = RelayConfig {
+    lanes: 1,
+    producers: 1,
+    capacity: 10,
+    max_held: 10,
+    limits: Limits {
+        count: 10,
+        bytes: 4_096,
+        linger: 0,
+    },
+    attempts: 3,
+    in_flight: 1,
+    first_version: 1,
+};
+
+/// An event; documents are of the index `b`, and no source deletes.
+#[derive(Clone, Copy)]
+pub enum Row<'a> {
+    Put(u32, &'a str, &'a str),
+    Close(u32, u32),
+    Tick(u32),
+    Flush(u32),
+    Take(u32),
+    Send(u32),
+    Run(u64, u64),
+    Refuse(u64, u64, u16),
+    Reply(u64, &'a [u64]),
+    Whole(u64, u16),
+    Lost(u64),
+}
+
+/// What an event answers. A put answers its number, a settled request applied, already, reported and retried.
+#[derive(Clone, Copy)]
+pub enum Says {
+    No(Refusal),
+    Named(u64),
+    Request(u64),
+    Status(u16),
+    Counts([u32; 4]),
+    Ok,
+}
+
+fn put_of(alloc: Global, producer: u32, id: &str, source: &str) -> Result<Event, Fail> {
+    let key = DocKey::new(alloc, "b", id)?;
+    let action = if source.is_empty() {
+        Action::delete()
+    } else {
+        Action::index(alloc, source)?
+    };
+    Ok(Event::Put(producer, key, action))
+}
+
+/// The event of a row.
+fn event_of(alloc: Global, row: &Row<'_>) -> Result<Event, Fail> {
+    Ok(match *row {
+        Row::Put(producer, id, source) => put_of(alloc, producer, id, source)?,
+        Row::Close(sender, lane) => Event::Close(sender, lane),
+        Row::Tick(lane) => Event::Tick(lane),
+        Row::Flush(lane) => Event::Flush(lane),
+        Row::Take(lane) => Event::Take(lane),
+        Row::Send(lane) => Event::Send(lane),
+        Row::Run(request, item) => Event::Run(request, item, Choice::Run),
+        Row::Refuse(request, item, status) => Event::Run(request, item, Choice::Refuse(status)),
+        Row::Reply(request, picks) => Event::Reply(
+            request,
+            List::of(Vec::from_slice(alloc, picks)?),
+        ),
+        Row::Whole(request, status) => Event::Whole(request, status),
+        Row::Lost(request) => Event::Lost(request),
+    })
+}
+
+fn counts_of(settled: Settled) -> [u32; 4] {
+    [
+        settled.applied,
+        settled.already,
+        settled.reported,
+        settled.retried,
+    ]
+}
+
+/// Whether an answer is the one that a row says.
+fn is_said(answer: StepAnswer, says: Says) -> bool {
+    match (answer, says) {
+        (StepAnswer::Refused(refusal), Says::No(wanted)) => refusal == wanted,
+        (StepAnswer::Put(name), Says::Named(number)) => name.number == number,
+        (StepAnswer::Sent(request), Says::Request(number)) => request == number,
+        (StepAnswer::Ran(status), Says::Status(wanted)) => status == wanted,
+        (StepAnswer::Settled(settled), Says::Counts(counts)) => {
+            settled.matched && counts_of(settled) == counts
+        }
+        (StepAnswer::Done, Says::Ok) => true,
+        _ => false,
+    }
+}
+
+/// A world of a config, which has to be valid, over a fresh index.
+fn world_of(alloc: Global, config: RelayConfig) -> Result<World, Fail> {
+    if !config.valid() {
+        return Err("not valid")?;
+    }
+    Ok(World::new(alloc, config, Index::new(alloc))?)
+}
+
+/// Plays rows; the place of the first row, from 1, that is answered otherwise, or 0.
+fn played(alloc: Global, world: &mut World, rows: &[(Row<'_>, Says)]) -> Result<usize, Fail> {
+    let mut place: usize = 0;
+    for (row, says) in rows {
+        place = place.saturating_add(1);
+        let event = event_of(alloc, row)?;
+        if !is_said(world.step(&event)?, *says) {
+            return Ok(place);
+        }
+    }
+    Ok(0)
+}
+
+/// A report of lane 0: the number of its operation, and its cause.
+#[derive(Clone, Copy)]
+pub enum Given {
+    Refused(u64, u16),
+    Rejected(u64, u16),
+    Conflict(u64),
+    GaveUp(u64, u32),
+    Spent(u64),
+}
+
+fn is_given(report: &Report, given: Given) -> bool {
+    let number = report.name.number;
+    match (&report.cause, given) {
+        (Cause::Refused { status, .. }, Given::Refused(n, wanted)) => {
+            number == n && *status == wanted
+        }
+        (Cause::Request { status }, Given::Rejected(n, wanted)) => number == n && *status == wanted,
+        (Cause::Conflict, Given::Conflict(n)) => number == n,
+        (Cause::GaveUp { sends }, Given::GaveUp(n, wanted)) => number == n && *sends == wanted,
+        (Cause::Spent, Given::Spent(n)) => number == n,
+        _ => false,
+    }
+}
+
+/// Whether a document has writes of these operations, by their numbers.
+fn has_applied(alloc: Global, world: &World, id: &str, numbers: &[u64]) -> Result<bool, Fail> {
+    let key = DocKey::new(alloc, "b", id)?;
+    let names = world.names(&key);
+    let same = names.len() == numbers.len()
+        && names.iter().zip(numbers).all(|(a, b)| a.number == *b);
+    Ok(same && world.applied(&key).len() == numbers.len())
+}
+
+/// Whether a world has these documents with these operations applied, these reports of lane 0, and is finished
+/// or not.
+fn ends_with(
+    alloc: Global,
+    world: &World,
+    applied: &[(&str, &[u64])],
+    reports: &[Given],
+    finished: bool,
+) -> Result<bool, Fail> {
+    let mut good = world.finished() == finished && world.reports(0).len() == reports.len();
+    for (id, numbers) in applied {
+        good = good && has_applied(alloc, world, id, numbers)?;
+    }
+    for (report, given) in world.reports(0).iter().zip(reports) {
+        good = good && is_given(report, *given);
+    }
+    Ok(good)
+}
+
+/// Whether a world of a config answers these rows as they say, and then ends so.
+pub fn lasts(
+    alloc: Global,
+    config: RelayConfig,
+    rows: &[(Row<'_>, Says)],
+    applied: &[(&str, &[u64])],
+    reports: &[Given],
+    finished: bool,
+) -> Result<bool, Fail> {
+    let mut world = world_of(alloc, config)?;
+    if played(alloc, &mut world, rows)? > 0 {
+        return Ok(false);
+    }
+    ends_with(alloc, &world, applied, reports, finished)
+}
+
+/// The same, with one row more at the end, after which it is not finished.
+pub fn lasts_with(
+    alloc: Global,
+    config: RelayConfig,
+    rows: &[(Row<'_>, Says)],
+    last: (Row<'_>, Says),
+    applied: &[(&str, &[u64])],
+    reports: &[Given],
+) -> Result<bool, Fail> {
+    let mut world = world_of(alloc, config)?;
+    if played(alloc, &mut world, rows)? > 0 || played(alloc, &mut world, &[last])? > 0 {
+        return Ok(false);
+    }
+    ends_with(alloc, &world, applied, reports, false)
+}
+
+/// How many events of these rows are accepted in one run, and how many refused.
+pub fn run_of(
+    alloc: Global,
+    config: RelayConfig,
+    rows: &[(Row<'_>, Says)],
+) -> Result<(u64, u64), Fail> {
+    let mut events = Vec::with_capacity(alloc, rows.len())?;
+    for (row, _) in rows {
+        events.push(event_of(alloc, row)?)?;
+    }
+    let mut world = world_of(alloc, config)?;
+    match world.run(events.as_slice()) {
+        Ok(end) => Ok((end.done, end.refused)),
+        Err(_) => Err("out of memory")?,
+    }
+}

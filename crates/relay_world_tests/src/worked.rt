@@ -1,0 +1,248 @@
+//! Worked scripts.
+use crate::script::{Given, Row, Says, THREE, lasts, lasts_with, run_of};
+use relay_lane::RelayConfig;
+use relay_world::Refusal;
+use std::test::Fail;
+
+const TWO: RelayConfig = RelayConfig {
+    attempts: 2,
+    ..THREE
+};
+
+/// Three operations in one request, of which the second is refused, and sent once more.
+const THREE_THEN_ONE: [(Row<'static>, Says); 21] = [
+    (Row::Put(0, "1", "{\"a\":1}"), Says::Named(1)),
+    (Row::Put(0, "2", "{\"a\":2}"), Says::Named(2)),
+    (Row::Put(0, "3", ""), Says::Named(3)),
+    (Row::Take(0), Says::Ok),
+    (Row::Take(0), Says::Ok),
+    (Row::Take(0), Says::Ok),
+    (Row::Send(0), Says::Request(1)),
+    (Row::Run(1, 1), Says::Status(201)),
+    (Row::Refuse(1, 2, 429), Says::Status(429)),
+    (Row::Run(1, 3), Says::Status(404)),
+    (Row::Reply(1, &[]), Says::Counts([2, 0, 0, 1])),
+    (Row::Send(0), Says::No(Refusal::NoRequest)),
+    (Row::Tick(0), Says::Ok),
+    (Row::Take(0), Says::Ok),
+    (Row::Send(0), Says::Request(2)),
+    (Row::Run(2, 1), Says::Status(201)),
+    (Row::Reply(2, &[]), Says::Counts([1, 0, 0, 0])),
+    (Row::Close(0, 0), Says::Ok),
+    (Row::Close(1, 0), Says::Ok),
+    (Row::Take(0), Says::Ok),
+    (Row::Take(0), Says::Ok),
+];
+
+#[test]
+fn three_then_one(rt: HostRuntime) -> Result<(), Fail> {
+    let ends: [(&str, &[u64]); 3] = [("1", &[1]), ("2", &[2]), ("3", &[3])];
+    assert!(rt; lasts(rt.alloc(), THREE, &THREE_THEN_ONE, &ends, &[], true)?);
+    Ok(())
+}
+
+#[test]
+fn counts_of_a_run(rt: HostRuntime) -> Result<(), Fail> {
+    assert!(rt; run_of(rt.alloc(), THREE, &THREE_THEN_ONE)? == (20, 1));
+    Ok(())
+}
+
+/// One operation is put, taken and sent.
+const SENT: [(Row<'static>, Says); 3] = [
+    (Row::Put(0, "1", "{\"a\":1}"), Says::Named(1)),
+    (Row::Take(0), Says::Ok),
+    (Row::Send(0), Says::Request(1)),
+];
+
+#[test]
+fn lost_then_already(rt: HostRuntime) -> Result<(), Fail> {
+    let rows = [
+        SENT[0],
+        SENT[1],
+        SENT[2],
+        (Row::Run(1, 1), Says::Status(201)),
+        (Row::Lost(1), Says::Counts([0, 0, 0, 1])),
+        (Row::Tick(0), Says::Ok),
+        (Row::Take(0), Says::Ok),
+        (Row::Send(0), Says::Request(2)),
+        (Row::Run(2, 1), Says::Status(409)),
+        (Row::Reply(2, &[]), Says::Counts([0, 1, 0, 0])),
+    ];
+    assert!(rt; lasts(rt.alloc(), THREE, &rows, &[("1", &[1])], &[], false)?);
+    Ok(())
+}
+
+#[test]
+fn late_after_its_repeat(rt: HostRuntime) -> Result<(), Fail> {
+    let rows = [
+        SENT[0],
+        SENT[1],
+        SENT[2],
+        (Row::Lost(1), Says::Counts([0, 0, 0, 1])),
+        (Row::Tick(0), Says::Ok),
+        (Row::Take(0), Says::Ok),
+        (Row::Send(0), Says::Request(2)),
+        (Row::Run(2, 1), Says::Status(201)),
+        (Row::Run(1, 1), Says::Status(409)),
+        (Row::Reply(2, &[]), Says::Counts([1, 0, 0, 0])),
+        (Row::Reply(2, &[]), Says::No(Refusal::NotFlying)),
+    ];
+    assert!(rt; lasts(rt.alloc(), THREE, &rows, &[("1", &[1])], &[], false)?);
+    Ok(())
+}
+
+#[test]
+fn one_of_a_document_at_a_time(rt: HostRuntime) -> Result<(), Fail> {
+    let rows = [
+        (Row::Put(0, "1", "{\"a\":1}"), Says::Named(1)),
+        (Row::Put(0, "1", "{\"a\":2}"), Says::Named(2)),
+        (Row::Take(0), Says::Ok),
+        (Row::Take(0), Says::Ok),
+        (Row::Send(0), Says::Request(1)),
+        (Row::Send(0), Says::No(Refusal::NoRequest)),
+        (Row::Refuse(1, 1, 429), Says::Status(429)),
+        (Row::Reply(1, &[]), Says::Counts([0, 0, 0, 1])),
+        (Row::Send(0), Says::No(Refusal::NoRequest)),
+        (Row::Tick(0), Says::Ok),
+        (Row::Take(0), Says::Ok),
+        (Row::Send(0), Says::Request(2)),
+        (Row::Run(2, 1), Says::Status(201)),
+        (Row::Reply(2, &[]), Says::Counts([1, 0, 0, 0])),
+        (Row::Send(0), Says::Request(3)),
+        (Row::Run(3, 1), Says::Status(200)),
+        (Row::Reply(3, &[]), Says::Counts([1, 0, 0, 0])),
+    ];
+    assert!(rt; lasts(rt.alloc(), THREE, &rows, &[("1", &[1, 2])], &[], false)?);
+    Ok(())
+}
+
+/// An operation is run twice before its request is answered.
+const RUN_TWICE: [(Row<'static>, Says); 9] = [
+    (Row::Put(0, "1", ""), Says::Named(1)),
+    (Row::Take(0), Says::Ok),
+    (Row::Send(0), Says::Request(1)),
+    (Row::Reply(1, &[]), Says::No(Refusal::NotRun)),
+    (Row::Run(1, 1), Says::Status(404)),
+    (Row::Run(1, 1), Says::Status(409)),
+    (Row::Reply(1, &[3]), Says::No(Refusal::NotRun)),
+    (Row::Reply(1, &[0]), Says::No(Refusal::NotRun)),
+    (Row::Reply(1, &[1, 1]), Says::No(Refusal::NotRun)),
+];
+
+#[test]
+fn picks(rt: HostRuntime) -> Result<(), Fail> {
+    let ends: [(Row<'_>, [u32; 4], &[Given]); 2] = [
+        (Row::Reply(1, &[]), [0, 0, 1, 0], &[Given::Conflict(1)]),
+        (Row::Reply(1, &[1]), [1, 0, 0, 0], &[]),
+    ];
+    for (row, counts, reports) in ends {
+        let last = (row, Says::Counts(counts));
+        assert!(rt; lasts_with(rt.alloc(), THREE, &RUN_TWICE, last, &[("1", &[1])], reports)?);
+    }
+    Ok(())
+}
+
+#[test]
+fn given_up_and_applied(rt: HostRuntime) -> Result<(), Fail> {
+    let rows = [
+        SENT[0],
+        SENT[1],
+        SENT[2],
+        (Row::Lost(1), Says::Counts([0, 0, 0, 1])),
+        (Row::Tick(0), Says::Ok),
+        (Row::Take(0), Says::Ok),
+        (Row::Send(0), Says::Request(2)),
+        (Row::Lost(2), Says::Counts([0, 0, 1, 0])),
+        (Row::Put(0, "1", ""), Says::Named(2)),
+        (Row::Take(0), Says::Ok),
+        (Row::Run(1, 1), Says::Status(201)),
+        (Row::Send(0), Says::Request(3)),
+        (Row::Run(3, 1), Says::Status(200)),
+        (Row::Run(2, 1), Says::Status(409)),
+        (Row::Reply(3, &[]), Says::Counts([1, 0, 0, 0])),
+    ];
+    assert!(rt;
+        lasts(
+            rt.alloc(),
+            TWO,
+            &rows,
+            &[("1", &[1, 2])],
+            &[Given::GaveUp(1, 2)],
+            false
+        )?
+    );
+    Ok(())
+}
+
+#[test]
+fn refused_and_rejected(rt: HostRuntime) -> Result<(), Fail> {
+    let ends: [(Row<'_>, [u32; 4], &[Given]); 2] = [
+        (Row::Whole(1, 401), [0, 0, 1, 0], &[Given::Rejected(1, 401)]),
+        (Row::Whole(1, 503), [0, 0, 0, 1], &[]),
+    ];
+    for (row, counts, reports) in ends {
+        let last = (row, Says::Counts(counts));
+        assert!(rt; lasts_with(rt.alloc(), THREE, &SENT, last, &[("1", &[])], reports)?);
+    }
+    Ok(())
+}
+
+#[test]
+fn statuses(rt: HostRuntime) -> Result<(), Fail> {
+    let rows = [
+        SENT[0],
+        SENT[1],
+        SENT[2],
+        (Row::Refuse(1, 1, 409), Says::No(Refusal::BadStatus)),
+        (Row::Whole(1, 200), Says::No(Refusal::BadStatus)),
+        (Row::Whole(1, 600), Says::No(Refusal::BadStatus)),
+        (Row::Refuse(1, 1, 400), Says::Status(400)),
+        (Row::Reply(1, &[]), Says::Counts([0, 0, 1, 0])),
+    ];
+    assert!(rt;
+        lasts(
+            rt.alloc(),
+            THREE,
+            &rows,
+            &[("1", &[])],
+            &[Given::Refused(1, 400)],
+            false
+        )?
+    );
+    Ok(())
+}
+
+const LAST: RelayConfig = RelayConfig {
+    capacity: 1,
+    max_held: 1,
+    first_version: 9_000_000_000_000_000_000,
+    ..THREE
+};
+
+#[test]
+fn the_last_version(rt: HostRuntime) -> Result<(), Fail> {
+    let rows = [
+        (Row::Put(0, "1", ""), Says::Named(1)),
+        (Row::Put(0, "2", ""), Says::No(Refusal::QueueFull)),
+        (Row::Take(0), Says::Ok),
+        (Row::Put(0, "2", ""), Says::Named(2)),
+        (Row::Take(0), Says::No(Refusal::HeldFull)),
+        (Row::Send(0), Says::Request(1)),
+        (Row::Run(1, 1), Says::Status(404)),
+        (Row::Reply(1, &[]), Says::Counts([1, 0, 0, 0])),
+        (Row::Take(0), Says::Ok),
+        (Row::Close(0, 0), Says::Ok),
+        (Row::Put(0, "3", ""), Says::No(Refusal::Closed)),
+    ];
+    assert!(rt;
+        lasts(
+            rt.alloc(),
+            LAST,
+            &rows,
+            &[("1", &[1]), ("2", &[])],
+            &[Given::Spent(2)],
+            false
+        )?
+    );
+    Ok(())
+}
