@@ -1,9 +1,9 @@
 //! All interleavings: lanes with their queues over one index, which any list of events is played on. It
 //! stands on `relay_lane`, which decides, and `relay_index`, which does the writes.
 //!
-//! It carries this promise: whatever events come in whatever order, the writes that the index applied are
-//! those of distinct accepted operations, each producer's in its order; each report has a true cause; and
-//! where the world is finished, each accepted operation was applied or is reported.
+//! It carries this promise: each event is refused exactly where its causes say and changes nothing then, and
+//! an accepted one changes what its rule says and nothing else. A world that is tied to the machines of
+//! delivery has delivered (`laws`); that each event keeps a world tied is still to be proved.
 #![tactic(auto)]
 
 mod accepted;
