@@ -13,4 +13,5 @@ pub mod Settling
 pub mod Keeping
 pub mod Invariant
 pub mod Taken
+pub mod Weighed
 pub mod Weighing

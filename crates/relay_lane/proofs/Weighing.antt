@@ -6,7 +6,6 @@ use Rattle.std.proofs.lemmas.List.Elements.{All-push}
 use Rattle.std.proofs.lemmas.List.Kept.{AllPairs-cons}
 use Rattle.std.proofs.lemmas.List.Sums.{sum_by_push, sum_by-cons}
 use borrow.Author.Tests.{ltb-false, leb-false, lt-ltb}
-use Rattle.relay_action.specs.declared.write.Write.{Write}
 use Rattle.relay_ndjson.specs.Bulk.{write_text, text_of}
 use Rattle.relay_batch.specs.declared.item.BatchItem.{BatchItem}
 use Rattle.relay_batch.specs.declared.item.Limits.{Limits}
@@ -15,18 +14,14 @@ use Rattle.relay_batch.specs.declared.offer.Offer.TheVariants.{Busy, Closed, Add
 use Rattle.relay_batch.specs.Batches.{HasDistinctDocuments, IsBatch, bytes_of}
 use Rattle.relay_batch.specs.Gathering.{Gathering, answer_to, holds_document, is_count_reached, passes_bytes}
 use Rattle.relay_results.specs.Words.{Mem}
-use Rattle.relay_results.proofs.Lists.{equal_test, Mem-map}
+use Rattle.relay_results.proofs.Lists.{equal_test}
 use Rattle.relay_delivery.specs.Machine.{write_of}
 use Rattle.relay_delivery.specs.Lane.{Entry, candidates, writes_of_all}
-use Rattle.relay_lane.specs.declared.kept.Kept.{Kept}
-use Rattle.relay_lane.specs.declared.kept.Spot.{Spot}
 use Rattle.relay_lane.specs.Rule.{by_answer, with_item, offered, item_of}
-use Rattle.relay_lane.specs.State.{State, IsLane, AreWeighed, gathering, next_entries, next_batch}
+use Rattle.relay_lane.specs.State.{State, IsLane, gathering, next_entries, next_batch}
 use Rattle.relay_lane.specs.Flights.{KeepsLimits, RequestsKeepLimits}
-use Rattle.relay_lane.specs.Memory.{place_at, write_found, action_or, entry_of, entries, held_seen, IsKept, AllKept}
 use Rattle.relay_lane.proofs.Flights.{earlier_ones_settled}
 use Rattle.relay_lane.proofs.Forming.{items_of_operations, batch_offered}
-use Rattle.relay_lane.proofs.Launching.{Home, home_of}
 
 -- ---- the limits
 
@@ -87,30 +82,6 @@ nothing_gathered : (limits : Limits) → IsBatch limits []
 nothing_gathered limits = record { distinct = λ i j d lt within. absurd (omega (arith, within)); counted = omega arith; weighed = λ more. absurd (omega (arith, more)) }
 
 -- ---- the bytes
-
-none_of : (o : Option Spot) → option_map place_at o ≡ None → o ≡ None
-none_of None e = refl
-none_of (Some p) e = absurd (cc)
-
-kept_at : (max next : ℕ) (h : Kept) (hs : List Kept) → AllKept max next hs → Mem h hs → IsKept max next h
-kept_at max next h [] a m = absurd m
-kept_at max next h (x ∷ hs) a (inl e) = subst (IsKept max next) (sym e) a.0
-kept_at max next h (x ∷ hs) a (inr m) = kept_at max next h hs a.1 m
-
--- the write that stands in memory is that of the operation that is seen
-home_write : (max : ℕ) (f : ℕ → List Write) (h : Kept) → (k : Home max h) → k.write ≡ write_of (held_seen f h)
-home_write max f h k = λ i. record { key = k.matches.key i; version = k.matches.version i; action = action_or (write_found (sym k.found i) h.flies f) }
-
-one_weighed : (max next : ℕ) (f : ℕ → List Write) (h : Kept) → IsKept max next h → option_map place_at h.flies ≡ None → h.bytes ≡ length (write_text (write_of (held_seen f h)))
-one_weighed max next f h kept waits =
-    let k = home_of max next h h.write h.flies refl kept.home (none_of h.flies waits) in
-    k.matches.bytes ∙ ap (λ w. length (write_text w)) (home_write max f h k)
-
-pub weighed_seen : (max next : ℕ) (f : ℕ → List Write) (hs : List Kept) → AllKept max next hs → AreWeighed (entries hs f)
-weighed_seen max next f hs a e m waits =
-    let there = Mem-map (entry_of f) e hs m in
-    subst (λ (x : Entry). x.held.flies ≡ None → x.bytes ≡ length (write_text (write_of x.held))) (sym there.2)
-    (λ none. one_weighed max next f there.0 (kept_at max next there.0 hs a there.1) none) waits
 
 bytes_are : (es : List Entry) → ((e : Entry) → Mem e es → e.bytes ≡ length (write_text (write_of e.held))) → bytes_of (map item_of es) ≡ length (text_of (writes_of_all es))
 bytes_are [] h = refl

@@ -4,7 +4,7 @@ use Rattle.relay_lane.specs.State.{State, IsLane}
 use Rattle.relay_lane.specs.Memory.{writes_in}
 use Rattle.relay_lane.specs.View.{seen}
 use Rattle.relay_lane.proofs.Taken.{entries_length}
-use Rattle.relay_lane.proofs.Weighing.{weighed_seen}
+use Rattle.relay_lane.proofs.Weighed.{weighed_seen}
 use Rattle.relay_lane.proofs.lane.Lane.totals.Goals as goal
 
 pub returns-clause-lane : goal.returns-clause-lane
