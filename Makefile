@@ -24,6 +24,8 @@ test:
 	@echo "the gate; this takes a good while, and a line a minute says what it is at"
 	python3 tests/gate.py
 	@$(MAKE) --no-print-directory build
+	@echo "handing what relay_http writes to the HTTP client and server of Python"
+	@python3 tests/http_fixtures.py > /dev/null
 	@echo "running the built program from the outside"
 	python3 tests/run.py crates/relay/out/relay
 
