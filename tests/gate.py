@@ -7,6 +7,7 @@ last of them. The budget of a crate is 15 processor minutes, and 20 for the larg
 What `rt ci` says is passed on as it comes. Where it fails, what it said of each failure stands once more at the end,
 below the table, where whoever sees the end of a log alone will find it.
 """
+import collections
 import os
 import re
 import subprocess
@@ -124,13 +125,14 @@ def tell(table, total):
 
 
 def pass_on(said):
-    """Prints each line as it comes, and answers those that tell of a failure."""
-    failures = []
+    """Prints each line as it comes, and answers those that tell of a failure, or the last ones where none does."""
+    failures, last = [], collections.deque(maxlen=10)
     for line in said:
         print(line, end="", flush=True)
+        last.append(line.rstrip("\n"))
         if FAILURE.search(line) and not EXPECTED.search(line):
             failures.append(line.rstrip("\n"))
-    return failures
+    return failures or list(last)
 
 
 def main():
