@@ -15,7 +15,7 @@ use Rattle.relay_results.specs.Fates.{Fate, Flies, Applied, Already, Retried, Re
 use Rattle.relay_results.proofs.Same.{same_document-self}
 use Rattle.relay_results.proofs.Steps.{step_runs_item}
 use Rattle.relay_delivery.specs.Machine.{Config, Core, Held, Place, Step, Takes, Sends, Runs, Answers, held_if, spent_if, launched, fate_of, kept_one, kept, reported, how_many, is_applied_fate, is_already_fate, writes_or, step, IsEligible, MaySend, MayStep, CameAbout}
-use Rattle.relay_delivery.specs.Lane.{Entry, Flying, State, held_of, entry_if, taken_op, waits, is_candidate, candidates, launched_entry, writes_of_all, sent, kept_entry, kept_entries, is_other, settled, IsOf, writes_at, Fits, FreshFits, ClockFits, TakeFits, SendFits, RunFits, AnswerFits, SoundWhereItFits, CompleteWhereItFits, TotalWhereItFits, WritesWhereItFits, EarliestWhereItFits, OneFliesWhereItFits, tries_of, SendTakesTry, AnswerGivesNoTry}
+use Rattle.relay_delivery.specs.Lane.{Entry, Flying, State, held_of, entry_if, taken_op, waits, is_candidate, candidates, launched_entry, writes_of_all, sent, kept_entry, kept_entries, is_other, settled, IsOf, writes_at, is_flying, answered, Fits, FreshFits, ClockFits, TakeFits, SendFits, RunFits, AnswerFits, SoundWhereItFits, CompleteWhereItFits, TotalWhereItFits, WritesWhereItFits, EarliestWhereItFits, OneFliesWhereItFits, tries_of, SendTakesTry, AnswerGivesNoTry}
 use Rattle.relay_delivery.specs.Delivery.{attributed, IsSound, IsComplete, IsDealtWrite}
 use Rattle.relay_delivery.specs.Bound.{tries_left}
 use Rattle.relay_delivery.proofs.Bounded.{within_tries_left, left-kept}
@@ -43,24 +43,22 @@ held_new : (b : Bool) (s : State) (o : Op) (bytes : ℕ) → held_of (entry_if b
 held_new true s o bytes = refl
 held_new false s o bytes = refl
 
+pub take_is_of : (s : State) (c : Core) (o : Op) (bytes : ℕ) → IsOf s c → IsOf (taken_op s o bytes) (step s.config (Takes o) c)
+take_is_of s c o bytes is = record {
+  taken = ap (λ n. n + 1) is.taken ∙ sym (length-append c.taken (o ∷ []));
+  held = map-append (λ (e : Entry). e.held) s.held (entry_if (nat_lt s.taken s.config.deals) s o bytes)
+      ∙ ap (λ xs. held_of s.held ++ xs) (held_new (nat_lt s.taken s.config.deals) s o bytes)
+      ∙ (λ i. is.held i ++ held_if (nat_lt (is.taken i) s.config.deals) s.config (is.taken i) o);
+  reports = λ i. is.reports i ++ spent_if (nat_lt (is.taken i) s.config.deals) o;
+  applied = is.applied;
+  already = is.already;
+  requests = is.requests;
+  flying = is.flying;
+}
+
 pub take_fits : TakeFits
 take_fits s o bytes taken out f =
-    let c = f.core in
-    let is = f.is_of in
-    next s (taken_op s o bytes) taken (taken ++ o ∷ []) out out f (Takes o) refl tt
-    (record {
-      taken = ap (λ n. n + 1) is.taken ∙ sym (length-append c.taken (o ∷ []));
-      held = map-append (λ (e : Entry). e.held) s.held (entry_if (nat_lt s.taken s.config.deals) s o bytes)
-          ∙ ap (λ xs. held_of s.held ++ xs) (held_new (nat_lt s.taken s.config.deals) s o bytes)
-          ∙ (λ i. is.held i ++ held_if (nat_lt (is.taken i) s.config.deals) s.config (is.taken i) o);
-      reports = λ i. is.reports i ++ spent_if (nat_lt (is.taken i) s.config.deals) o;
-      applied = is.applied;
-      already = is.already;
-      requests = is.requests;
-      flying = is.flying;
-    })
-    (ap (λ os. os ++ o ∷ []) f.took)
-    f.outside
+    next s (taken_op s o bytes) taken (taken ++ o ∷ []) out out f (Takes o) refl tt (take_is_of s f.core o bytes f.is_of) (ap (λ os. os ++ o ∷ []) f.took) f.outside
 
 -- ---- request
 
@@ -75,33 +73,22 @@ distinct_versions (h ∷ hs) r = (
   distinct_versions hs r.1,
 )
 
-module _ (s : State) (chosen : List Entry) (taken : List Op) (out : Outside) (part : IsSubsequence chosen (candidates s)) (f : Fits s taken out) where
-  core : Core
-  core = f.core
-
-  facts : CoreFacts s.config none_past core
-  unfolding core
-  facts = facts_of s.config f.core f.came_about
-
-  held_is : held_of s.held ≡ core.held
-  unfolding core
-  held_is = f.is_of.held
-
-  among : IsSubsequence (held_of chosen) core.held
-  among = subst (λ hs. IsSubsequence (held_of chosen) hs) held_is
+module _ (s : State) (c : Core) (chosen : List Entry) (part : IsSubsequence chosen (candidates s)) (is : IsOf s c) (facts : CoreFacts s.config none_past c) where
+  among : IsSubsequence (held_of chosen) c.held
+  among = subst (λ hs. IsSubsequence (held_of chosen) hs) is.held
       (sub-map (λ (e : Entry). e.held) chosen s.held (sub_joined chosen (candidates s) s.held part (filter_sub (is_candidate s) s.held)))
 
-  eligible : (h : Held) → Mem h (held_of chosen) → IsEligible core.held h
+  eligible : (h : Held) → Mem h (held_of chosen) → IsEligible c.held h
   eligible h m =
       let e = Mem-map (λ (x : Entry). x.held) h chosen m in
       let t = (Mem-filter (is_candidate s) e.0 s.held (Mem-sub e.0 chosen (candidates s) part e.1)).1 in
       let w = and_left _ _ t in
       let n = not_true _ (and_right (nat_le e.0.due s.clock) _ (and_right (waits e.0.held.flies) _ t)) in
       record {
-        is_held = Mem-sub h (held_of chosen) core.held among m;
+        is_held = Mem-sub h (held_of chosen) c.held among m;
         waits = ap (λ (x : Held). x.flies) e.2 ∙ waits_none e.0.held.flies w;
         first = λ j mj doc.
-            let no = any_false (λ (x : Held). same_document (document_of x.op.key) (document_of e.0.held.op.key) && nat_lt x.version e.0.held.version) j (held_of s.held) n (subst (λ hs. Mem j hs) (sym held_is) mj) in
+            let no = any_false (λ (x : Held). same_document (document_of x.op.key) (document_of e.0.held.op.key) && nat_lt x.version e.0.held.version) j (held_of s.held) n (subst (λ hs. Mem j hs) (sym is.held) mj) in
             let doc' : document_of j.op.key ≡ document_of e.0.held.op.key = doc ∙ ap (λ (x : Held). document_of x.op.key) e.2 in
             let d : same_document (document_of j.op.key) (document_of e.0.held.op.key) ≡ true = ap (same_document (document_of j.op.key)) (sym doc') ∙ same_document-self (document_of j.op.key) in
             let v = ap (λ (x : Held). x.version) e.2 in
@@ -111,53 +98,50 @@ module _ (s : State) (chosen : List Entry) (taken : List Op) (out : Outside) (pa
             (true_or_false (nat_lt j.version e.0.held.version));
       }
 
-  may_send : MaySend core (held_of chosen)
+  pub may_send : MaySend c (held_of chosen)
   may_send = record {
     eligible = eligible;
-    distinct = AllDistinct-sub (map (λ (h : Held). h.version) (held_of chosen)) (map (λ (h : Held). h.version) core.held) (distinct_versions core.held facts.in_rise)
-        (sub-map (λ (h : Held). h.version) (held_of chosen) core.held among);
+    distinct = AllDistinct-sub (map (λ (h : Held). h.version) (held_of chosen)) (map (λ (h : Held). h.version) c.held) (distinct_versions c.held facts.in_rise)
+        (sub-map (λ (h : Held). h.version) (held_of chosen) c.held among);
   }
 
 held_launched : (n : ℕ) (hs : List Held) (es : List Entry) → held_of (map (launched_entry n hs) es) ≡ map (launched n hs) (held_of es)
 held_launched n hs [] = refl
 held_launched n hs (e ∷ es) = ap (λ xs. launched n hs e.held ∷ xs) (held_launched n hs es)
 
-pub send_fits : SendFits
-unfolding core
-send_fits s chosen taken out part f =
-    let c = f.core in
-    let is = f.is_of in
-    next s (sent s chosen) taken taken out (after (outside.Sends (writes_of_all chosen)) out) f (Sends (held_of chosen)) refl (may_send s chosen taken out part f)
-    (record {
+pub send_is_of : (s : State) (c : Core) (chosen : List Entry) → IsOf s c → IsOf (sent s chosen) (step s.config (Sends (held_of chosen)) c)
+send_is_of s c chosen is =
+    let new : Request = record { writes = writes_of_all chosen; answer = Unanswered } in
+    record {
       taken = is.taken;
       held = held_launched s.requests (held_of chosen) s.held ∙ (λ i. map (launched (is.requests i) (held_of chosen)) (is.held i));
       reports = is.reports;
       applied = is.applied;
       already = is.already;
-      requests = ap (λ n. n + 1) is.requests ∙ sym (length-append c.outside.requests (record { writes = writes_of_all chosen; answer = Unanswered } ∷ []));
+      requests = ap (λ n. n + 1) is.requests ∙ sym (length-append c.outside.requests (new ∷ []));
       flying = λ x m. ⊎_elim
-          (λ old. at-left c.outside.requests (record { writes = writes_of_all chosen; answer = Unanswered } ∷ []) x.request (record { writes = x.writes; answer = Unanswered }) (is.flying x old))
-          (λ new.
-          let e = Mem-one x (record { request = s.requests; writes = writes_of_all chosen }) new in
+          (λ old. at-left c.outside.requests (new ∷ []) x.request (record { writes = x.writes; answer = Unanswered }) (is.flying x old))
+          (λ one.
+          let e = Mem-one x (record { request = s.requests; writes = writes_of_all chosen }) one in
           let n : x.request ≡ length c.outside.requests = ap (λ (z : Flying). z.request) e ∙ is.requests in
-          ap (slice_get (c.outside.requests ++ record { writes = writes_of_all chosen; answer = Unanswered } ∷ [])) n
-          ∙ at-last c.outside.requests (record { writes = writes_of_all chosen; answer = Unanswered })
+          ap (slice_get (c.outside.requests ++ new ∷ [])) n
+          ∙ at-last c.outside.requests new
           ∙ ap (λ (z : Flying). Some (record { writes = z.writes; answer = Unanswered })) (sym e))
           (Mem-cases x s.flying (record { request = s.requests; writes = writes_of_all chosen } ∷ []) m);
-    })
-    f.took
+    }
+
+pub send_fits : SendFits
+send_fits s chosen taken out part f =
+    next s (sent s chosen) taken taken out (after (outside.Sends (writes_of_all chosen)) out) f (Sends (held_of chosen)) refl
+    (may_send s f.core chosen part f.is_of (facts_of s.config f.core f.came_about)) (send_is_of s f.core chosen f.is_of) f.took
     (ap (after (outside.Sends (writes_of_all chosen))) f.outside)
 
 -- ---- runs
 
-pub run_fits : RunFits
-run_fits s r taken out may f =
-    let c = f.core in
-    let is = f.is_of in
-    let may' : MayRun c.outside r = subst (λ o. MayRun o r) (sym f.outside) may in
-    let same : (after (outside.Runs r) c.outside).requests ≡ c.outside.requests = (step_runs_item c.outside (after (outside.Runs r) c.outside) (record { run = r; may = may'; reached = refl })).requests in
-    next s s taken taken out (after (outside.Runs r) out) f (Runs r) refl may'
-    (record {
+pub run_is_of : (s : State) (c : Core) (r : Ran) → MayRun c.outside r → IsOf s c → IsOf s (step s.config (Runs r) c)
+run_is_of s c r may is =
+    let same : (after (outside.Runs r) c.outside).requests ≡ c.outside.requests = (step_runs_item c.outside (after (outside.Runs r) c.outside) (record { run = r; may = may; reached = refl })).requests in
+    record {
       taken = is.taken;
       held = is.held;
       reports = is.reports;
@@ -165,9 +149,12 @@ run_fits s r taken out may f =
       already = is.already;
       requests = is.requests ∙ ap length (sym same);
       flying = λ x m. ap (λ rs. slice_get rs x.request) same ∙ is.flying x m;
-    })
-    f.took
-    (ap (after (outside.Runs r)) f.outside)
+    }
+
+pub run_fits : RunFits
+run_fits s r taken out may f =
+    let may' : MayRun f.core.outside r = subst (λ o. MayRun o r) (sym f.outside) may in
+    next s s taken taken out (after (outside.Runs r) out) f (Runs r) refl may' (run_is_of s f.core r may' f.is_of) f.took (ap (after (outside.Runs r)) f.outside)
 
 -- ---- reply, whole, lost
 
@@ -185,15 +172,10 @@ held_kept g clock number ws a (e ∷ es) =
     ∙ (λ i. held_kept_one clock (fate_of g number ws a e.held e.held.flies) e i ++ held_kept g clock number ws a es i)
 
 -- an answer to a request in flight, counted from 0, that carried these writes
-pub settle_fits : (s : State) (number : ℕ) (ws : List Write) (a : Answer) (taken : List Op) (out : Outside) → Mem (record { request = number; writes = ws }) s.flying → MayAnswer out number a → Fits s taken out
-    → Fits (settled s number ws a) taken (after (outside.Answers number a) out)
-settle_fits s number ws a taken out flies may f =
-    let c = f.core in
-    let is = f.is_of in
-    let may' : MayAnswer c.outside number a = subst (λ o. MayAnswer o number a) (sym f.outside) may in
+settle_is_of : (s : State) (c : Core) (number : ℕ) (ws : List Write) (a : Answer) → Mem (record { request = number; writes = ws }) s.flying → IsOf s c → IsOf (settled s number ws a) (step s.config (Answers number a) c)
+settle_is_of s c number ws a flies is =
     let here : ws ≡ writes_or (slice_get c.outside.requests number) = sym (ap writes_or (is.flying (record { request = number; writes = ws }) flies)) in
-    next s (settled s number ws a) taken taken out (after (outside.Answers number a) out) f (Answers number a) refl may'
-    (record {
+    record {
       taken = is.taken;
       held = held_kept s.config s.clock number ws a s.held ∙ (λ i. kept s.config number (here i) a (is.held i));
       reports = λ i. is.reports i ++ reported s.config number (here i) a (is.held i);
@@ -204,9 +186,7 @@ settle_fits s number ws a taken out flies may f =
           let y = Mem-filter (is_other number) x s.flying m in
           let ne : x.request ≢ number = λ e. cc (equal_test x.request number e, not_true (x.request == number) y.1) in
           at-update_other number (with_answer a) c.outside.requests x.request ne ∙ is.flying x y.0;
-    })
-    f.took
-    (ap (after (outside.Answers number a)) f.outside)
+    }
 
 -- what flies has its writes
 flies_at : (xs : List Flying) (n : ℕ) → list_any (λ (x : Flying). x.request + 1 == n) xs ≡ true → Mem (record { request = n - 1; writes = writes_at (n - 1) xs }) xs
@@ -219,8 +199,19 @@ flies_at (x ∷ xs) n t = ⊎_elim {C = Mem (record { request = n - 1; writes = 
     inr (subst (λ ws. Mem (record { request = n - 1; writes = ws }) xs) (sym (ap (λ b. if b then x.writes else writes_at (n - 1) xs) u)) (flies_at xs n rest)))
     (true_or_false (x.request == n - 1))
 
+-- a request in flight was not answered
+pub flies_unanswered : (s : State) (c : Core) (number : ℕ) → is_flying number s ≡ true → IsOf s c
+    → slice_get c.outside.requests (from_zero number) ≡ Some (record { writes = writes_at (from_zero number) s.flying; answer = Unanswered })
+flies_unanswered s c number flies is = is.flying (record { request = from_zero number; writes = writes_at (from_zero number) s.flying }) (flies_at s.flying number flies)
+
+pub answer_is_of : (s : State) (c : Core) (number : ℕ) (a : Answer) → is_flying number s ≡ true → IsOf s c → IsOf (answered s number a) (step s.config (Answers (from_zero number) a) c)
+answer_is_of s c number a flies is = settle_is_of s c (from_zero number) (writes_at (from_zero number) s.flying) a (flies_at s.flying number flies) is
+
 pub answer_fits : AnswerFits
-answer_fits s number a taken out flies may f = settle_fits s (from_zero number) (writes_at (from_zero number) s.flying) a taken out (flies_at s.flying number flies) may f
+answer_fits s number a taken out flies may f =
+    let may' : MayAnswer f.core.outside (from_zero number) a = subst (λ o. MayAnswer o (from_zero number) a) (sym f.outside) may in
+    next s (answered s number a) taken taken out (after (outside.Answers (from_zero number) a) out) f (Answers (from_zero number) a) refl may'
+    (answer_is_of s f.core number a flies f.is_of) f.took (ap (after (outside.Answers (from_zero number) a)) f.outside)
 
 -- ---- at the start, and what is promised
 
@@ -304,10 +295,9 @@ some_chosen [] some e = some refl
 some_chosen (e ∷ es) some q = let n = ap length q in absurd (omega (arith, n))
 
 pub send_takes_try : SendTakesTry
-unfolding core
 send_takes_try s chosen taken out some ne part f =
     let is = f.is_of in
-    let n = within_tries_left s.config f.core (Sends (held_of chosen) ∷ []) some f.came_about (may_send s chosen taken out part f, tt) (some_chosen chosen ne, tt) in
+    let n = within_tries_left s.config f.core (Sends (held_of chosen) ∷ []) some f.came_about (may_send s f.core chosen part is (facts_of s.config f.core f.came_about), tt) (some_chosen chosen ne, tt) in
     let longer = length-append f.core.outside.requests (record { writes = writes_of_all chosen; answer = Unanswered } ∷ []) in
     let new : List Request = record { writes = writes_of_all chosen; answer = Unanswered } ∷ [] in
     let one : length new ≡ 1 = refl in

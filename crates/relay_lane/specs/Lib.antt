@@ -1,8 +1,6 @@
-pub mod Limits
-pub mod Rule
-pub mod State
-pub mod Walk
-pub mod Memory
-pub mod View
-pub mod Ties
-pub mod Flights
+pub mod Wires
+pub mod Rest
+pub mod Turns
+pub mod Steps
+pub mod Delivers
+pub mod Laws

@@ -1,22 +1,28 @@
-//! How a lane's calls are steps of delivery. These functions do nothing; their contracts are the laws.
-ghost use Rattle.relay_lane.specs.Ties.{FreshFits, TakeFits, RequestFits, RunFits, AnswerFits};
-ghost use Rattle.relay_lane.specs.Flights.{EarlierOnesSettled, ItemsAreOfOperations, RequestsKeepLimits};
+//! What follows from the definitions. These functions do nothing; their contracts are the laws.
+ghost use Rattle.relay_core.specs.Ties.{FreshFits, TakeFits};
+ghost use Rattle.relay_lane.specs.Laws.{FreshRests, TakeRests, TurnsKeep, WorksOn, LeftAtMost, LeftIsTries};
 
-/// A fresh lane fits an opening, and each call takes a lane that fits an outside to one that fits the
-/// outside after it.
-pub fn calls_keep_fitting()
-    ensures fresh { FreshFits }
-    ensures take { TakeFits }
-    ensures request { RequestFits }
-    ensures run { RunFits }
-    ensures answer { AnswerFits }
+/// A fresh lane is at rest and fits every opening, in which nothing was sent and every stored version is
+/// below the first one dealt; and whatever it takes, it stays at rest and fits. So the conditions of
+/// [`crate::pump`], [`crate::make_room`] and [`crate::drain`] are met, and what they promise holds, of
+/// each lane that only took messages and worked by these calls.
+pub fn lanes_begin()
+    ensures fresh { FreshRests }
+    ensures opening { FreshFits }
+    ensures take { TakeRests }
+    ensures fits { TakeFits }
 {}
 
-/// Which operations the next request carries: each is held, waits and is due, and no operation of its
-/// document that was taken before it is held any more; its items are theirs, in the order of its writes;
-/// and it keeps the limits of a batch, in bytes of the text that is sent.
-pub fn requests_are_formed()
-    ensures earlier { EarlierOnesSettled }
-    ensures items { ItemsAreOfOperations }
-    ensures limits { RequestsKeepLimits }
+/// What turns add up to: the requests and the ticks that they are, within what the lane might send; and a
+/// call that is made again after want of memory goes on from where the first one stopped.
+pub fn turns_add_up()
+    ensures keep { TurnsKeep }
+    ensures on { WorksOn }
+{}
+
+/// How many requests a lane may still send: at most as many as it holds operations, times the attempts;
+/// and where each has attempts left, exactly these.
+pub fn requests_are_bounded()
+    ensures most { LeftAtMost }
+    ensures tries { LeftIsTries }
 {}

@@ -1,26 +1,19 @@
-//! The core of a lane: without a clock, a thread or a socket it decides which of the operations that it
-//! holds go into the next request, and what becomes of each when its answer comes. Batches are gathered
-//! by `relay_batch` and fly in `relay_flight`; what is promised of delivery stands in `relay_delivery`.
+//! A lane at work on a wire: what it holds is sent, repeated and settled, within a bound. It stands on
+//! `relay_core`, and takes the way to an index (`Wire`) and the passing of time (`Pace`) from outside.
 //!
-//! It carries this promise: each call changes the lane exactly as its rule says and is a step of delivery,
-//! so that a lane and an outside which came about by the same sends and answers are sound and complete.
+//! It carries this promise: whatever the wire answers or loses, everything that a closed lane holds is
+//! sent and settled by a bounded number of requests; and beside each outside that the wire describes
+//! delivery is sound at each moment, and complete where `drain` answers `Ok`.
 #![tactic(auto)]
 
-pub mod config;
-mod fates;
-mod flown;
-mod gather;
-mod kept;
-pub mod lane;
-mod launch;
+pub mod draining;
+mod exchange;
 pub mod laws;
-pub mod report;
-mod settle;
-pub mod settled;
-mod taking;
+pub mod pace;
+mod turn;
+pub mod wire;
 
-pub use config::RelayConfig;
-pub use lane::Lane;
-pub use relay_results::Cause;
-pub use report::Report;
-pub use settled::{NotFlying, Settled, TakeFault, Totals};
+pub use draining::{drain, make_room, pump};
+pub use pace::Pace;
+pub use relay_core::{Cause, Lane, NotFlying, RelayConfig, Report, Settled, TakeFault, Totals};
+pub use wire::{Wire, WireFault, WireReply};

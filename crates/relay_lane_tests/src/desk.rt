@@ -1,12 +1,14 @@
-//! A lane that a schedule is played on, step by step.
-use relay_action::{Action, ActionKind, Body, DocKey, Mail, Op, Text};
-use relay_batch::Limits;
-use relay_lane::{Cause, Lane, NotFlying, RelayConfig, Settled, TakeFault};
-use relay_results::Outcome;
-use std::alloc::{AllocError, Global};
-use std::test::Fail;
+//! A lane that messages are put into, and a pace that notes its pauses.
+ghost use Rattle.std.specs.Prelude.{◌≡◌, ◌<◌, ℕ, length};
+ghost use Rattle.relay_lane.specs.Rest.{IsAtRest};
+ghost use Rattle.relay_lane.proofs.Resting.{IsAtRest-prop};
 
-/// One lane and producer, and batches of ten documents and 4,096 bytes that go at once.
+use relay_action::{Action, Body, DocKey, Mail, Op};
+use relay_batch::Limits;
+use relay_lane::{Lane, Pace, RelayConfig, TakeFault};
+use std::alloc::Global;
+
+/// One lane and producer, batches of ten documents that go at once, and three attempts.
 pub const CONFIG: RelayConfig = RelayConfig {
     lanes: 1,
     producers: 1,
@@ -22,268 +24,96 @@ pub const CONFIG: RelayConfig = RelayConfig {
     first_version: 1,
 };
 
-/// The kind, id, status and error of an entry; no text is no error.
-#[derive(Clone, Copy)]
-pub struct Entry<'a> {
-    pub kind: ActionKind,
-    pub id: &'a str,
-    pub status: u16,
-    pub error: &'a str,
-}
-
-/// A step of a schedule, and what comes of it. Counts are applied, already, reported and retried.
-#[derive(Clone, Copy)]
-pub enum Step<'a> {
-    /// The next operation, of this id; no source deletes.
-    Put(&'a str, &'a str),
-    /// The same, and it is not taken.
-    NotTaken(TakeFault),
-    /// So many ticks.
-    Ticks(u32),
-    /// A tick that comes as a message.
-    Tick,
-    Flush,
-    /// A sender closes.
-    Close(u32),
-    /// The next request, by ids and versions.
-    Sends(&'a [(&'a str, u64)]),
-    SendsNone,
-    /// The request last sent is answered by these entries, which match.
-    Items(&'a [Entry<'a>], [u32; 4]),
-    /// They do not match.
-    NoMatch(&'a [Entry<'a>], [u32; 4]),
-    Whole(u16, [u32; 4]),
-    Lost([u32; 4]),
-    /// No request of the last number flies.
-    NotFlying,
-    /// How many ticks until one is due; 99 where none is eligible.
-    DueIn(u64),
-    /// How many are held.
-    Held(u32),
-    Finished(bool),
-}
-
-/// A lane, how many operations were put, and the request last sent.
+/// A lane at rest.
 #[derive(Drop)]
 pub struct Desk {
     pub lane: Lane,
-    pub puts: u64,
-    pub last: u64,
+    ghost rest: { IsAtRest lane } by { IsAtRest-prop lane },
 }
 
-/// A lane of a config, which has to be valid.
-pub fn lane_of(alloc: Global, config: RelayConfig) -> Result<Lane, Fail> {
-    if !config.valid() {
-        return Err("not valid")?;
+// Takes a message of a known sender. The fault, if it is not taken.
+fn take(lane: &mut Lane, mail: Mail) -> Option<TakeFault>
+    requires known { mail.sender < length lane.old.closed }
+    requires rest { IsAtRest lane.old }
+    ensures rest { IsAtRest lane.new }
+    ensures config { lane.new.config ≡ lane.old.config }
+{
+    if let Err((fault, _)) = lane.take(mail) {
+        return Some(fault);
     }
-    Ok(Lane::new(alloc, config)?)
+    None
 }
 
-fn op_of(alloc: Global, number: u64, id: &str, source: &str) -> Result<Op, Fail> {
-    let key = DocKey::new(alloc, "b", id)?;
-    let action = if source.is_empty() {
-        Action::delete()
-    } else {
-        Action::index(alloc, source)?
+/// A desk with a fresh lane of a config, which has to be valid. `None`: there was no memory for it.
+pub fn desk_of(alloc: Global, config: RelayConfig) -> Option<Desk> {
+    if !config.valid() {
+        return None;
+    }
+    Some(Desk {
+        lane: Lane::new(alloc, config).ok()?,
+    })
+}
+
+/// Takes a message of a sender. Whether it was taken.
+pub fn sends(desk: &mut Desk, sender: u32, body: Body) -> bool {
+    if sender >= desk.lane.senders() {
+        return false;
+    }
+    let mail = Mail {
+        sender,
+        number: 0,
+        body,
     };
-    Ok(Op {
+    take(&mut desk.lane, mail).is_none()
+}
+
+fn op_of(alloc: Global, number: u64, id: &str, source: &str) -> Option<Op> {
+    Some(Op {
         producer: 0,
         number,
-        key,
-        action,
+        key: DocKey::new(alloc, "b", id).ok()?,
+        action: Action::index(alloc, source).ok()?,
     })
 }
 
-/// Takes a message of a sender. The fault, if it is not taken.
-pub fn take(
-    lane: &mut Lane,
-    sender: u32,
-    number: u64,
-    body: Body,
-) -> Result<Option<TakeFault>, Fail> {
-    if sender >= lane.senders() {
-        return Err("no such sender")?;
-    }
-    match lane.take(Mail {
-        sender,
-        number,
-        body,
-    }) {
-        Ok(()) => Ok(None),
-        Err((fault, _)) => Ok(Some(fault)),
+/// Puts an operation of the first producer that indexes a source. Whether it was taken.
+pub fn puts(alloc: Global, desk: &mut Desk, number: u64, id: &str, source: &str) -> bool {
+    match op_of(alloc, number, id, source) {
+        Some(op) => sends(desk, 0, Body::Put(op)),
+        None => false,
     }
 }
 
-/// Puts an operation of the first producer.
-pub fn put(
-    alloc: Global,
-    lane: &mut Lane,
-    number: u64,
-    id: &str,
-    source: &str,
-) -> Result<Option<TakeFault>, Fail> {
-    let op = op_of(alloc, number, id, source)?;
-    take(lane, 0, number, Body::Put(op))
+/// The producer and the control close. Whether the lane is closed.
+pub fn closes(desk: &mut Desk) -> bool {
+    sends(desk, 0, Body::Done) && sends(desk, 1, Body::Done) && desk.lane.closed()
 }
 
-fn outcome_of(alloc: Global, entry: &Entry<'_>) -> Result<Outcome, AllocError> {
-    let id = Text::new(alloc, entry.id)?;
-    let error = if entry.error.is_empty() {
-        None
-    } else {
-        Some(Text::new(alloc, entry.error)?)
-    };
-    Ok(Outcome {
-        kind: entry.kind,
-        id,
-        status: entry.status,
-        error,
-    })
+/// A pace that does not wait, and notes its first pauses and all its ticks.
+#[derive(Clone, Copy, Debug, PartialEq, Eq)]
+pub struct Notes {
+    pub pauses: [u64; 8],
+    pub count: usize,
+    pub ticks: u64,
 }
 
-fn outcomes_of(alloc: Global, entries: &[Entry<'_>]) -> Result<Vec<Outcome>, Fail> {
-    let mut outcomes = Vec::with_capacity(alloc, entries.len())?;
-    for entry in entries {
-        outcomes.push(outcome_of(alloc, entry)?)?;
-    }
-    Ok(outcomes)
-}
+/// A pace that has not paused.
+pub const NO_PAUSES: Notes = Notes {
+    pauses: [0; 8],
+    count: 0,
+    ticks: 0,
+};
 
-/// Whether a request in flight has these ids and versions, in its writes and in its items.
-pub fn carries(lane: &Lane, number: u64, wanted: &[(&str, u64)]) -> bool {
-    let Some(writes) = lane.writes(number) else {
-        return false;
-    };
-    let Some(items) = lane.items(number) else {
-        return false;
-    };
-    writes.len() == wanted.len()
-        && items.len() == wanted.len()
-        && writes.iter().zip(wanted).all(|(write, row)| write.key.id() == row.0
-            && write.version == row.1)
-        && items
-            .iter()
-            .zip(wanted)
-            .all(|(item, row)| item.version == row.1)
-}
+impl Pace for Notes {
+    ghost use Rattle.std.specs.Prelude.{Some};
 
-fn are_counts(answer: Result<Settled, NotFlying>, counts: &[u32; 4], matched: bool) -> bool {
-    match answer {
-        Ok(found) => {
-            found
-                == Settled {
-                    applied: counts[0],
-                    already: counts[1],
-                    reported: counts[2],
-                    retried: counts[3],
-                    matched,
-                }
+    ghost paused = { λ n. Some n.ticks };
+
+    fn pause(&mut self, ticks: u64) {
+        if self.count < 8 {
+            self.pauses[self.count] = ticks;
+            self.count += 1;
         }
-        Err(NotFlying) => false,
-    }
-}
-
-// The next request goes as it should.
-fn sends(desk: &mut Desk, wanted: &[(&str, u64)]) -> Result<bool, Fail> {
-    match desk.lane.request()? {
-        Some(number) => {
-            let next = desk.last.saturating_add(1);
-            desk.last = number;
-            Ok(number == next && carries(&desk.lane, number, wanted))
-        }
-        None => Ok(false),
-    }
-}
-
-fn looks(desk: &mut Desk, step: &Step<'_>) -> Result<bool, Fail> {
-    match step {
-        Step::Sends(wanted) => sends(desk, *wanted),
-        Step::SendsNone => Ok(desk.lane.request()?.is_none()),
-        Step::DueIn(ticks) => Ok(desk.lane.due_in().unwrap_or(99) == *ticks),
-        Step::Held(count) => Ok(desk.lane.held() == *count),
-        Step::Finished(wanted) => Ok(desk.lane.finished() == *wanted),
-        _ => Ok(false),
-    }
-}
-
-fn answers(alloc: Global, desk: &mut Desk, step: &Step<'_>) -> Result<bool, Fail> {
-    let last = desk.last;
-    match step {
-        Step::Items(entries, counts) => {
-            let outcomes = outcomes_of(alloc, *entries)?;
-            Ok(are_counts(desk.lane.reply(last, outcomes), counts, true))
-        }
-        Step::NoMatch(entries, counts) => {
-            let outcomes = outcomes_of(alloc, *entries)?;
-            Ok(are_counts(desk.lane.reply(last, outcomes), counts, false))
-        }
-        Step::Whole(status, counts) if *status != 200 => Ok(are_counts(
-            desk.lane.whole(last, *status),
-            counts,
-            true,
-        )),
-        Step::Lost(counts) => Ok(are_counts(desk.lane.lost(last), counts, true)),
-        Step::NotFlying => Ok(
-            desk.lane.lost(last).is_err()
-                && desk.lane.whole(last, 503).is_err()
-                && desk.lane.reply(last, Vec::new(alloc)).is_err()
-                && desk.lane.writes(last).is_none()
-                && desk.lane.items(last).is_none(),
-        ),
-        _ => looks(desk, step),
-    }
-}
-
-fn plays(alloc: Global, desk: &mut Desk, step: &Step<'_>) -> Result<bool, Fail> {
-    match step {
-        Step::Put(id, source) => {
-            desk.puts = desk.puts.saturating_add(1);
-            Ok(put(alloc, &mut desk.lane, desk.puts, *id, *source)?.is_none())
-        }
-        Step::NotTaken(fault) => Ok(put(alloc, &mut desk.lane, 0, "x", "")? == Some(*fault)),
-        Step::Ticks(count) => {
-            for _ in 0..*count {
-                desk.lane.tick();
-            }
-            Ok(true)
-        }
-        Step::Tick => Ok(take(&mut desk.lane, 0, 0, Body::Tick)?.is_none()),
-        Step::Flush => Ok(take(&mut desk.lane, 0, 0, Body::Flush)?.is_none()),
-        Step::Close(sender) => Ok(take(&mut desk.lane, *sender, 0, Body::Done)?.is_none()),
-        _ => answers(alloc, desk, step),
-    }
-}
-
-/// The place of the first step that does not go as it says, and else their number.
-pub fn played(alloc: Global, desk: &mut Desk, steps: &[Step<'_>]) -> Result<usize, Fail> {
-    for i in 0..steps.len() {
-        if !plays(alloc, desk, &steps[i])? {
-            return Ok(i);
-        }
-    }
-    Ok(steps.len())
-}
-
-/// A desk with a fresh lane.
-pub fn desk_of(alloc: Global, config: RelayConfig) -> Result<Desk, Fail> {
-    Ok(Desk {
-        lane: lane_of(alloc, config)?,
-        puts: 0,
-        last: 0,
-    })
-}
-
-/// A report as numbers: its operation, the place of its cause in the list of causes, and the status or
-/// the sends that it tells.
-pub fn reported(lane: &Lane, place: usize) -> (u64, u8, u32) {
-    match lane.reports().get(place) {
-        Some(report) => match &report.cause {
-            Cause::Refused { status, .. } => (report.name.number, 1, *status as u32),
-            Cause::Request { status } => (report.name.number, 2, *status as u32),
-            Cause::Conflict => (report.name.number, 3, 0),
-            Cause::GaveUp { sends } => (report.name.number, 4, *sends),
-            Cause::Spent => (report.name.number, 5, 0),
-        },
-        None => (0, 0, 0),
+        self.ticks = self.ticks.saturating_add(ticks);
     }
 }

@@ -4,8 +4,12 @@
 #[cfg(test)]
 mod desk;
 #[cfg(test)]
-mod limits;
+mod examples;
+#[cfg(test)]
+mod losing;
 #[cfg(test)]
 mod many;
 #[cfg(test)]
-mod schedules;
+mod telling;
+#[cfg(test)]
+mod wires;

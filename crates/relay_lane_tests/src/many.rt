@@ -1,106 +1,112 @@
-//! As many operations as a lane may hold.
-use crate::desk::{CONFIG, lane_of, put};
-use relay_action::{Action, Body, DocKey, Mail, Op};
+//! Ten thousand operations of a hundred documents over a wire that fails by a seed.
+ghost use Rattle.std.specs.Prelude.{◌≡◌, ◌<◌, None};
+
+use crate::desk::{CONFIG, Desk, NO_PAUSES, Notes, closes, desk_of, puts};
+use crate::wires::{IndexWire, Way, count_applied, wire_of};
+use relay_action::{Action, DocKey, Write};
 use relay_batch::Limits;
-use relay_lane::{Lane, RelayConfig, TakeFault};
-use std::alloc::{AllocError, Global};
+use relay_lane::{RelayConfig, drain, make_room, pump};
+use relay_index::Index;
+use std::alloc::Global;
 use std::test::Fail;
 
-const FULL: RelayConfig = RelayConfig {
-    max_held: 65_536,
+const OPERATIONS: u64 = 10_000;
+
+const MANY: RelayConfig = RelayConfig {
+    max_held: 64,
     limits: Limits {
-        count: 10,
-        bytes: 4_096,
-        linger: 65_535,
+        count: 16,
+        bytes: 1_024,
+        linger: 3,
     },
+    attempts: 32,
     ..CONFIG
 };
 
-// Takes 65,536 operations, of one document or of as many, and one more. What became of that one, how many
-// are held, and how many the next request carries.
-fn filled(alloc: Global, distinct: bool) -> Result<(Option<TakeFault>, u32, usize), Fail> {
-    let mut lane = lane_of(alloc, FULL)?;
-    for number in 0..65_536u64 {
-        let document = if distinct { number } else { 0 };
+// The document of an operation.
+fn document_of(number: u64) -> u64
+    ensures { result < 100 }
+{
+    (number.wrapping_mul(2_654_435_761) >> 7) % 100
+}
+
+// Takes an operation, after room was made for it where there was none, and sends what is ready.
+fn step(
+    alloc: Global,
+    desk: &mut Desk,
+    wire: &mut IndexWire,
+    pace: &mut Notes,
+    number: u64,
+) -> Result<bool, Fail>
+    requires { wire.old.flying ≡ None }
+    ensures { wire.new.flying ≡ None }
+{
+    if desk.lane.held() == desk.lane.max_held() {
+        make_room(&mut desk.lane, wire, pace)?;
+    }
+    let id = format!(in alloc; "{}", document_of(number))?;
+    let source = format!(in alloc; "{number}")?;
+    let taken = puts(alloc, desk, number, id.as_str(), source.as_str());
+    pump(&mut desk.lane, wire)?;
+    Ok(taken)
+}
+
+// All of them are taken, and the lane is drained.
+fn played(alloc: Global, desk: &mut Desk, wire: &mut IndexWire) -> Result<bool, Fail>
+    requires { wire.old.flying ≡ None }
+{
+    let mut pace = NO_PAUSES;
+    for number in 1..OPERATIONS + 1 {
+        if !step(alloc, desk, wire, &mut pace, number)? {
+            return Ok(false);
+        }
+    }
+    closes(desk);
+    if !desk.lane.closed() {
+        return Ok(false);
+    }
+    drain(&mut desk.lane, wire, &mut pace)?;
+    Ok(desk.lane.finished())
+}
+
+fn has_source(write: &Write, source: &str) -> bool {
+    match &write.action {
+        Action::Index(found) => found.text() == source,
+        Action::Delete => false,
+    }
+}
+
+// The index applied to each document its operations, in their order, each once.
+fn is_as_put(alloc: Global, index: &Index) -> Result<bool, Fail> {
+    let mut places = [0usize; 100];
+    for number in 1..OPERATIONS + 1 {
+        let document = document_of(number);
         let id = format!(in alloc; "{document}")?;
-        if put(alloc, &mut lane, number, id.as_str(), "")?.is_some() {
-            return Err("not taken")?;
+        let source = format!(in alloc; "{number}")?;
+        let key = DocKey::new(alloc, "b", id.as_str())?;
+        let place = places[document as usize];
+        match index.applied(&key).get(place) {
+            Some(write) if write.version == number && has_source(write, source.as_str()) => {
+                places[document as usize] = place.saturating_add(1);
+            }
+            _ => return Ok(false),
         }
     }
-    let more = put(alloc, &mut lane, 65_536, "more", "")?;
-    lane.flush();
-    let carried = match lane.request()? {
-        Some(number) => match lane.writes(number) {
-            Some(writes) => writes.len(),
-            None => 0,
-        },
-        None => 0,
-    };
-    Ok((more, lane.held(), carried))
+    Ok(count_applied(alloc, index)? == OPERATIONS as usize)
 }
 
+// All ended as applied, some by an earlier request, and none is reported.
 #[test]
-fn of_one_document(rt: HostRuntime) -> Result<(), Fail> {
-    let wanted = (Some(TakeFault::HeldFull), 65_536, 1);
-    assert!(rt; filled(rt.alloc(), false)? == wanted);
-    Ok(())
-}
-
-#[test]
-fn of_as_many_documents(rt: HostRuntime) -> Result<(), Fail> {
-    let wanted = (Some(TakeFault::HeldFull), 65_536, 10);
-    assert!(rt; filled(rt.alloc(), true)? == wanted);
-    Ok(())
-}
-
-// A lane, and an operation for it; a refused allocation is made again.
-fn begun(alloc: Global) -> Result<(Lane, Mail), Fail> {
-    if !CONFIG.valid() {
-        return Err("not valid")?;
-    }
-    let lane = match Lane::new(alloc, CONFIG) {
-        Ok(lane) => lane,
-        Err(AllocError) => Lane::new(alloc, CONFIG)?,
-    };
-    let key = match DocKey::new(alloc, "b", "1") {
-        Ok(key) => key,
-        Err(_) => DocKey::new(alloc, "b", "1")?,
-    };
-    let op = Op {
-        producer: 0,
-        number: 1,
-        key,
-        action: Action::delete(),
-    };
-    let mail = Mail {
-        sender: 0,
-        number: 1,
-        body: Body::Put(op),
-    };
-    Ok((lane, mail))
-}
-
-// Whichever allocation is refused, a call that answers so has changed nothing, and goes the next time.
-#[test]
-fn refusals(rt: HostRuntime) -> Result<(), Fail> {
-    let (mut lane, mail) = begun(rt.alloc())?;
-    if mail.sender >= lane.senders() {
-        return Err("no such sender")?;
-    }
-    if let Err((fault, back)) = lane.take(mail) {
-        assert!(rt; fault == TakeFault::Memory && lane.held() == 0 && lane.totals().taken == 0);
-        if back.sender >= lane.senders() {
-            return Err("no such sender")?;
-        }
-        assert!(rt; lane.take(back).is_ok());
-    }
-    match lane.request() {
-        Ok(number) => assert!(rt; number == Some(1)),
-        Err(AllocError) => {
-            assert!(rt; lane.totals().requests == 0 && lane.due_in() == Some(0));
-            assert!(rt; lane.request()? == Some(1));
-        }
-    }
-    assert!(rt; lane.held() == 1 && lane.due_in().is_none());
+fn ten_thousand(rt: HostRuntime) -> Result<(), Fail> {
+    let mut desk = desk_of(rt.alloc(), MANY).ok_or("not valid")?;
+    let mut wire = wire_of(rt.alloc(), Way::Seeded);
+    assert!(rt; played(rt.alloc(), &mut desk, &mut wire)?);
+    let totals = desk.lane.totals();
+    assert!(rt; totals.taken == OPERATIONS && desk.lane.reports().is_empty());
+    assert!(rt;
+        totals.already > 0 && totals.applied.saturating_add(totals.already) == OPERATIONS,
+        "{totals:?}"
+    );
+    assert!(rt; is_as_put(rt.alloc(), &wire.index)?);
     Ok(())
 }

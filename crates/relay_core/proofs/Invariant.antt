@@ -1,0 +1,276 @@
+-- The invariant after an answer.
+use Rattle.std.proofs.Common.{◌≡◌, ◌≢◌, ℕ, zero, suc, ◌+◌, ◌-◌, ◌<◌, ◌≤◌, List, [], ◌∷◌, ◌++◌, length, Option, Some, None, Bool, true, false, ◌==◌, ◌&&◌, ◌||◌, refl, sym, ap, ◌∙◌, subst, ⊎_elim, inl, inr, arith, drop, length-append}
+use Rattle.std.specs.Prelude.{◌⊎◌, if◌then◌else◌, not, nat_lt, nat_le, map, slice_get, option_map, filter, is_some}
+use borrow.Author.Tests.{ltb-true}
+use Rattle.relay_action.specs.declared.write.Write.{Write}
+use Rattle.relay_action.specs.declared.action.ActionKind.{ActionKind}
+use Rattle.relay_batch.specs.declared.item.BatchItem.{BatchItem}
+use Rattle.relay_results.specs.declared.outcome.Outcome.{Outcome}
+use Rattle.relay_results.specs.declared.decide.ItemVerdict.{ItemVerdict}
+use Rattle.relay_results.specs.declared.decide.ItemVerdict.TheVariants as verdict
+use Rattle.relay_results.specs.Fates.{Fate, Flies, Applied, Already, Retried, Reported, Tries, tried_again, fate_of_entry, fate_of_verdict}
+use Rattle.relay_results.specs.Documents.{is_delete}
+use Rattle.relay_results.specs.Verdicts.{verdict_of}
+use Rattle.relay_delivery.specs.Lane.{backoff}
+use Rattle.relay_results.proofs.Lists.{true_or_false, equal, equal_test, and_right}
+use Rattle.relay_core.specs.declared.kept.Kept.{Kept}
+use Rattle.relay_core.specs.declared.kept.Sent.{Sent}
+use Rattle.relay_core.specs.declared.kept.Spot.{Spot}
+use Rattle.relay_core.specs.Walk.{flies_here, fate_or, fate_met, met_one, met_list, met_maybe, stays, kept_walk}
+use Rattle.relay_core.specs.Memory.{has_number, writes_in, without, Given, further, rest_if, IsMet, IsWriteOf, IsKept, AllKept, IsReadable, Carries, tries_left, AllAbove, AllUnder, Rises, NoneTwice, SameNumbers}
+use Rattle.relay_core.proofs.Settling.{rest_drop, met_ends, settles}
+use Rattle.relay_core.proofs.Keeping.{or_false, without_other, carries_past}
+
+-- ---- versions
+
+above_met : (clock v : ℕ) (x : Fate) (h : Kept) (w : Option Write) (rest : List Kept) → v < h.version → AllAbove v rest → AllAbove v (met_maybe clock x w (h ∷ []) ++ rest)
+above_met clock v x h None rest lt a = a
+above_met clock v Flies h (Some w) rest lt a = (lt, a)
+above_met clock v Applied h (Some w) rest lt a = a
+above_met clock v Already h (Some w) rest lt a = a
+above_met clock v Retried h (Some w) rest lt a = (lt, a)
+above_met clock v (Reported c) h (Some w) rest lt a = a
+
+under_met : (clock v : ℕ) (x : Fate) (h : Kept) (w : Option Write) (rest : List Kept) → h.version < v → AllUnder v rest → AllUnder v (met_maybe clock x w (h ∷ []) ++ rest)
+under_met clock v x h None rest lt a = a
+under_met clock v Flies h (Some w) rest lt a = (lt, a)
+under_met clock v Applied h (Some w) rest lt a = a
+under_met clock v Already h (Some w) rest lt a = a
+under_met clock v Retried h (Some w) rest lt a = (lt, a)
+under_met clock v (Reported c) h (Some w) rest lt a = a
+
+rises_met : (clock : ℕ) (x : Fate) (h : Kept) (w : Option Write) (rest : List Kept) → AllAbove h.version rest → Rises rest → Rises (met_maybe clock x w (h ∷ []) ++ rest)
+rises_met clock x h None rest a r = r
+rises_met clock Flies h (Some w) rest a r = (a, r)
+rises_met clock Applied h (Some w) rest a r = r
+rises_met clock Already h (Some w) rest a r = r
+rises_met clock Retried h (Some w) rest a r = (a, r)
+rises_met clock (Reported c) h (Some w) rest a r = r
+
+module _ (max clock n : ℕ) (whole : Option ℕ) where
+  step : Kept → List Kept → List Write → List Outcome → Bool → List Kept
+  step h hs ws os b = if b then met_maybe clock (fate_met max whole h os) (slice_get ws 0) (h ∷ []) ++ kept_walk hs max clock n whole (drop 1 ws) (drop 1 os) else h ∷ kept_walk hs max clock n whole ws os
+
+  pub above_walk : (v : ℕ) (hs : List Kept) (ws : List Write) (os : List Outcome) → AllAbove v hs → AllAbove v (kept_walk hs max clock n whole ws os)
+  unfolding step
+  above_walk v [] ws os a = tt
+  above_walk v (h ∷ hs) ws os a = ⊎_elim {C = AllAbove v (kept_walk (h ∷ hs) max clock n whole ws os)}
+      (λ t. subst (λ b. AllAbove v (step h hs ws os b)) (sym t) (above_met clock v (fate_met max whole h os) h (slice_get ws 0) _ a.0 (above_walk v hs (drop 1 ws) (drop 1 os) a.1)))
+      (λ t. subst (λ b. AllAbove v (step h hs ws os b)) (sym t) (a.0, above_walk v hs ws os a.1))
+      (true_or_false (flies_here n h.flies))
+
+  pub under_walk : (v : ℕ) (hs : List Kept) (ws : List Write) (os : List Outcome) → AllUnder v hs → AllUnder v (kept_walk hs max clock n whole ws os)
+  unfolding step
+  under_walk v [] ws os a = tt
+  under_walk v (h ∷ hs) ws os a = ⊎_elim {C = AllUnder v (kept_walk (h ∷ hs) max clock n whole ws os)}
+      (λ t. subst (λ b. AllUnder v (step h hs ws os b)) (sym t) (under_met clock v (fate_met max whole h os) h (slice_get ws 0) _ a.0 (under_walk v hs (drop 1 ws) (drop 1 os) a.1)))
+      (λ t. subst (λ b. AllUnder v (step h hs ws os b)) (sym t) (a.0, under_walk v hs ws os a.1))
+      (true_or_false (flies_here n h.flies))
+
+  pub rises_walk : (hs : List Kept) (ws : List Write) (os : List Outcome) → Rises hs → Rises (kept_walk hs max clock n whole ws os)
+  unfolding step
+  rises_walk [] ws os r = tt
+  rises_walk (h ∷ hs) ws os r = ⊎_elim {C = Rises (kept_walk (h ∷ hs) max clock n whole ws os)}
+      (λ t. subst (λ b. Rises (step h hs ws os b)) (sym t) (rises_met clock (fate_met max whole h os) h (slice_get ws 0) _ (above_walk h.version hs (drop 1 ws) (drop 1 os) r.0) (rises_walk hs (drop 1 ws) (drop 1 os) r.1)))
+      (λ t. subst (λ b. Rises (step h hs ws os b)) (sym t) (above_walk h.version hs ws os r.0, rises_walk hs ws os r.1))
+      (true_or_false (flies_here n h.flies))
+
+-- ---- tries
+
+left_met : (clock max : ℕ) (x : Fate) (h : Kept) (w : Option Write) (rest : List Kept) → tries_left max (met_maybe clock x w (h ∷ []) ++ rest) ≤ (max - h.attempts) + tries_left max rest
+left_met clock max x h None rest = omega arith
+left_met clock max Flies h (Some w) rest = omega arith
+left_met clock max Applied h (Some w) rest = omega arith
+left_met clock max Already h (Some w) rest = omega arith
+left_met clock max Retried h (Some w) rest = omega arith
+left_met clock max (Reported c) h (Some w) rest = omega arith
+
+-- an answer leaves no more tries
+pub left_walk : (max clock n : ℕ) (whole : Option ℕ) (hs : List Kept) (ws : List Write) (os : List Outcome) → tries_left max (kept_walk hs max clock n whole ws os) ≤ tries_left max hs
+left_walk max clock n whole [] ws os = omega arith
+left_walk max clock n whole (h ∷ hs) ws os = ⊎_elim {C = tries_left max (kept_walk (h ∷ hs) max clock n whole ws os) ≤ tries_left max (h ∷ hs)}
+    (λ t. let e = ap (λ b. tries_left max (if b then met_maybe clock (fate_met max whole h os) (slice_get ws 0) (h ∷ []) ++ kept_walk hs max clock n whole (drop 1 ws) (drop 1 os) else h ∷ kept_walk hs max clock n whole ws os)) t in
+    let m = left_met clock max (fate_met max whole h os) h (slice_get ws 0) (kept_walk hs max clock n whole (drop 1 ws) (drop 1 os)) in
+    let ih = left_walk max clock n whole hs (drop 1 ws) (drop 1 os) in omega (arith, e, m, ih))
+    (λ t. let e = ap (λ b. tries_left max (if b then met_maybe clock (fate_met max whole h os) (slice_get ws 0) (h ∷ []) ++ kept_walk hs max clock n whole (drop 1 ws) (drop 1 os) else h ∷ kept_walk hs max clock n whole ws os)) t in
+    let ih = left_walk max clock n whole hs ws os in omega (arith, e, ih))
+    (true_or_false (flies_here n h.flies))
+
+verdict_retry : (a b c d e f : Bool) → (if a then verdict.Applied else if b then verdict.Applied else if c then verdict.Already else if d then verdict.Conflict else if e then verdict.Retry else if f then verdict.GaveUp else verdict.Refused) ≡ verdict.Retry → e ≡ true
+verdict_retry true b c d e f h = absurd (cc)
+verdict_retry false true c d e f h = absurd (cc)
+verdict_retry false false true d e f h = absurd (cc)
+verdict_retry false false false true e f h = absurd (cc)
+verdict_retry false false false false true f h = refl
+verdict_retry false false false false false true h = absurd (cc)
+verdict_retry false false false false false false h = absurd (cc)
+
+of_retry : (t : Tries) (o : Outcome) (v : ItemVerdict) → fate_of_verdict t o v ≡ Retried → v ≡ verdict.Retry
+of_retry t o verdict.Applied e = absurd (cc)
+of_retry t o verdict.Already e = absurd (cc)
+of_retry t o verdict.Conflict e = absurd (cc)
+of_retry t o verdict.Retry e = refl
+of_retry t o verdict.GaveUp e = absurd (cc)
+of_retry t o verdict.Refused e = absurd (cc)
+
+again_tries : (t : Tries) (b : Bool) → (if b then Retried else Reported (Rattle.relay_results.specs.declared.cause.Cause.TheVariants.GaveUp t.sends)) ≡ Retried → b ≡ true
+again_tries t true e = refl
+again_tries t false e = absurd (cc)
+
+pub retried_tries : (t : Tries) (kind : ActionKind) (whole : Option ℕ) (o : Option Outcome) → fate_or whole (fate_of_entry t kind o) ≡ Retried → t.attempts < t.max
+retried_tries t kind (Some status) o e = absurd (cc)
+retried_tries t kind None None e = ltb-true _ _ (again_tries t (nat_lt t.attempts t.max) e)
+retried_tries t kind None (Some o) e = ltb-true _ _ (and_right (o.status == 429 || o.status == 503) (nat_lt t.attempts t.max) (verdict_retry
+    (not (is_some o.error) && (nat_le 200 o.status && nat_lt o.status 300))
+    (not (is_some o.error) && (is_delete kind && o.status == 404))
+    (o.status == 409 && nat_le 2 t.sends)
+    (o.status == 409)
+    ((o.status == 429 || o.status == 503) && nat_lt t.attempts t.max)
+    (o.status == 429 || o.status == 503)
+    (of_retry t o (verdict_of kind o.status (is_some o.error) t.sends t.attempts t.max) e)))
+
+-- ---- requests in flight
+
+has_without : (xs : List Sent) (r m : ℕ) → has_number m xs ≡ false → has_number m (without xs r) ≡ false
+has_without [] r m e = refl
+has_without (x ∷ xs) r m e = ⊎_elim {C = has_number m (without (x ∷ xs) r) ≡ false}
+    (λ t. absurd (let k : (true || has_number m xs) ≡ false = ap (λ b. b || has_number m xs) (sym t) ∙ e in cc))
+    (λ t.
+    let rest : has_number m xs ≡ false = ap (λ b. b || has_number m xs) (sym t) ∙ e in
+    ⊎_elim {C = has_number m (without (x ∷ xs) r) ≡ false}
+    (λ u. ap (λ b. has_number m (if b then xs else x ∷ without xs r)) u ∙ rest)
+    (λ u. ap (λ b. has_number m (if b then xs else x ∷ without xs r)) u ∙ ap (λ b. b || has_number m (without xs r)) t ∙ has_without xs r m rest)
+    (true_or_false (x.number == r)))
+    (true_or_false (x.number == m))
+
+pub once_without : (xs : List Sent) (r : ℕ) → NoneTwice xs → NoneTwice (without xs r)
+once_without [] r o = tt
+once_without (x ∷ xs) r o = ⊎_elim {C = NoneTwice (without (x ∷ xs) r)}
+    (λ t. subst (λ b. NoneTwice (if b then xs else x ∷ without xs r)) (sym t) o.1)
+    (λ t. subst (λ b. NoneTwice (if b then xs else x ∷ without xs r)) (sym t) (has_without xs r x.number o.0, once_without xs r o.1))
+    (true_or_false (x.number == r))
+
+pub writes_absent : (xs : List Sent) (r : ℕ) → has_number r xs ≡ false → writes_in xs r ≡ []
+writes_absent [] r e = refl
+writes_absent (x ∷ xs) r e = ⊎_elim {C = writes_in (x ∷ xs) r ≡ []}
+    (λ t. absurd (let k : (true || has_number r xs) ≡ false = ap (λ b. b || has_number r xs) (sym t) ∙ e in cc))
+    (λ t. ap (λ b. if b then x.writes.items else writes_in xs r) t ∙ writes_absent xs r (ap (λ b. b || has_number r xs) (sym t) ∙ e))
+    (true_or_false (x.number == r))
+
+pub gone_without : (xs : List Sent) (r : ℕ) → NoneTwice xs → has_number r (without xs r) ≡ false
+gone_without [] r o = refl
+gone_without (x ∷ xs) r o = ⊎_elim {C = has_number r (without (x ∷ xs) r) ≡ false}
+    (λ t. ap (λ b. has_number r (if b then xs else x ∷ without xs r)) t ∙ subst (λ k. has_number k xs ≡ false) (equal x.number r t) o.0)
+    (λ t. ap (λ b. has_number r (if b then xs else x ∷ without xs r)) t ∙ ap (λ b. b || has_number r (without xs r)) t ∙ gone_without xs r o.1)
+    (true_or_false (x.number == r))
+
+-- ---- the whole
+
+-- it is due by the clock's end
+due_most : (clock attempts : ℕ) → backoff clock attempts ≤ 18446744073709551615
+due_most clock attempts = omega arith
+
+met_kept : (max next clock : ℕ) (x : Fate) (h : Kept) (w : Write) (rest : List Kept) → IsKept max next h → IsWriteOf h w → (x ≡ Retried → h.attempts < max) → AllKept max next rest → AllKept max next (met_maybe clock x (Some w) (h ∷ []) ++ rest)
+met_kept max next clock Flies h w rest k i t r = (k, r)
+met_kept max next clock Applied h w rest k i t r = r
+met_kept max next clock Already h w rest k i t r = r
+met_kept max next clock Retried h w rest k i t r = (record { home = (record { key = i.key; version = i.version; kind = i.kind; bytes = i.bytes }, t refl); sends = k.sends; due = due_most clock h.attempts }, r)
+met_kept max next clock (Reported c) h w rest k i t r = r
+
+pub all_kept_walk : (max clock n next : ℕ) (whole : Option ℕ) (hs : List Kept) (p : ℕ) (ws : List Write) (os : List Outcome) → Carries n p hs ws → AllKept max next hs → AllKept max next (kept_walk hs max clock n whole ws os)
+all_kept_walk max clock n next whole [] p ws os c k = tt
+all_kept_walk max clock n next whole (h ∷ hs) p ws os c k = ⊎_elim {C = AllKept max next (kept_walk (h ∷ hs) max clock n whole ws os)}
+    (λ t.
+    let m : IsMet n p h ws = subst (λ b. Given b (IsMet n p h ws)) t c.0 in
+    let more : Carries n (p + 1) hs (drop 1 ws) = subst (λ vs. Carries n (p + 1) hs vs) (rest_drop ws) (subst (λ b. Carries n (further b p) hs (rest_if b ws)) t c.1) in
+    let x = fate_met max whole h os in
+    let rest = kept_walk hs max clock n whole (drop 1 ws) (drop 1 os) in
+    subst (λ b. AllKept max next (if b then met_maybe clock x (slice_get ws 0) (h ∷ []) ++ rest else h ∷ kept_walk hs max clock n whole ws os)) (sym t)
+    (subst (λ o. AllKept max next (met_maybe clock x o (h ∷ []) ++ rest)) (sym (ap (λ xs. slice_get xs 0) m.found))
+    (met_kept max next clock x h m.write rest k.0 m.matches (retried_tries (record { sends = h.sends; attempts = h.attempts; max = max }) h.kind whole (slice_get os 0)) (all_kept_walk max clock n next whole hs (p + 1) (drop 1 ws) (drop 1 os) more k.1))))
+    (λ t.
+    let more : Carries n p hs ws = subst (λ b. Carries n (further b p) hs (rest_if b ws)) t c.1 in
+    subst (λ b. AllKept max next (if b then met_maybe clock (fate_met max whole h os) (slice_get ws 0) (h ∷ []) ++ kept_walk hs max clock n whole (drop 1 ws) (drop 1 os) else h ∷ kept_walk hs max clock n whole ws os)) (sym t)
+    (k.0, all_kept_walk max clock n next whole hs p ws os more k.1))
+    (true_or_false (flies_here n h.flies))
+
+none_met : (n p clock : ℕ) (x : Fate) (h : Kept) (w : Option Write) (rest : List Kept) → settles x ≡ true → Carries n p rest [] → Carries n p (met_maybe clock x w (h ∷ []) ++ rest) []
+none_met n p clock x h None rest t c = c
+none_met n p clock Flies h (Some w) rest t c = absurd (cc)
+none_met n p clock Applied h (Some w) rest t c = c
+none_met n p clock Already h (Some w) rest t c = c
+none_met n p clock Retried h (Some w) rest t c = (tt, c)
+none_met n p clock (Reported cause) h (Some w) rest t c = c
+
+pub carries_none : (max clock n : ℕ) (whole : Option ℕ) (hs : List Kept) (p : ℕ) (ws : List Write) (os : List Outcome) → Carries n p (kept_walk hs max clock n whole ws os) []
+carries_none max clock n whole [] p ws os = refl
+carries_none max clock n whole (h ∷ hs) p ws os = ⊎_elim {C = Carries n p (kept_walk (h ∷ hs) max clock n whole ws os) []}
+    (λ t.
+    subst (λ b. Carries n p (if b then met_maybe clock (fate_met max whole h os) (slice_get ws 0) (h ∷ []) ++ kept_walk hs max clock n whole (drop 1 ws) (drop 1 os) else h ∷ kept_walk hs max clock n whole ws os) []) (sym t)
+    (none_met n p clock (fate_met max whole h os) h (slice_get ws 0) _ (met_ends max whole h os) (carries_none max clock n whole hs p (drop 1 ws) (drop 1 os))))
+    (λ t.
+    subst (λ b. Carries n p (if b then met_maybe clock (fate_met max whole h os) (slice_get ws 0) (h ∷ []) ++ kept_walk hs max clock n whole (drop 1 ws) (drop 1 os) else h ∷ kept_walk hs max clock n whole ws os) []) (sym t)
+    (subst (λ b. Given b (IsMet n p h []) × Carries n (further b p) (kept_walk hs max clock n whole ws os) (rest_if b [])) (sym t) (tt, carries_none max clock n whole hs p ws os)))
+    (true_or_false (flies_here n h.flies))
+
+pub carries_after : (max clock n : ℕ) (whole : Option ℕ) (hs : List Kept) (ws : List Write) (os : List Outcome) (fs : List Sent) → NoneTwice fs → ((m : ℕ) → Carries m 0 hs (writes_in fs m)) → (m : ℕ) → Carries m 0 (kept_walk hs max clock n whole ws os) (writes_in (without fs n) m)
+carries_after max clock n whole hs ws os fs once all m = ⊎_elim {C = Carries m 0 (kept_walk hs max clock n whole ws os) (writes_in (without fs n) m)}
+    (λ t.
+    let e : m ≡ n = equal m n t in
+    subst (λ k. Carries k 0 (kept_walk hs max clock n whole ws os) (writes_in (without fs n) k)) (sym e)
+    (subst (λ vs. Carries n 0 (kept_walk hs max clock n whole ws os) vs) (sym (writes_absent (without fs n) n (gone_without fs n once))) (carries_none max clock n whole hs 0 ws os)))
+    (λ t. subst (λ vs. Carries m 0 (kept_walk hs max clock n whole ws os) vs) (sym (without_other fs n m t)) (carries_past max clock n m whole t hs 0 ws os (writes_in fs m) (all m)))
+    (true_or_false (m == n))
+
+pub readable_after : (max clock n next : ℕ) (whole : Option ℕ) (os : List Outcome) (hs hs' : List Kept) (fs fs' : List Sent) → hs' ≡ kept_walk hs max clock n whole (writes_in fs n) os → fs' ≡ without fs n → IsReadable max next hs fs → IsReadable max next hs' fs'
+readable_after max clock n next whole os hs hs' fs fs' e d r =
+    subst (λ xs. IsReadable max next xs fs') (sym e) (subst (λ ys. IsReadable max next (kept_walk hs max clock n whole (writes_in fs n) os) ys) (sym d) (record {
+      kept = all_kept_walk max clock n next whole hs 0 (writes_in fs n) os (r.carries n) r.kept;
+      rises = rises_walk max clock n whole hs (writes_in fs n) os r.rises;
+      once = once_without fs n r.once;
+      carries = carries_after max clock n whole hs (writes_in fs n) os fs r.once r.carries;
+    }))
+
+-- ---- beside the batches
+
+beside_absent : (xs : List Sent) (bs : List (ℕ × List BatchItem)) (b : ℕ) → 1 ≤ b → SameNumbers xs bs → has_number (b - 1) xs ≡ false → filter (λ (e : ℕ × List BatchItem). not (e.0 == b)) bs ≡ bs
+beside_absent [] [] b le s e = refl
+beside_absent [] (y ∷ bs) b le s e = absurd s
+beside_absent (x ∷ xs) [] b le s e = absurd s
+beside_absent (x ∷ xs) (y ∷ bs) b le s e =
+    let o = or_false _ _ e in
+    let apart : (x.number == b - 1) ≡ false = o.0 in
+    let beside : x.number + 1 ≡ y.0 = s.0 in
+    let ne : (y.0 == b) ≡ false = ⊎_elim {C = (y.0 == b) ≡ false} (λ v. let q : y.0 ≡ b = equal y.0 b v in let k : (x.number == b - 1) ≡ true = equal_test x.number (b - 1) (omega (arith, q, beside)) in absurd (cc (k, apart))) (λ v. v) (true_or_false (y.0 == b)) in
+    ap (λ t. if not t then y ∷ filter (λ (e : ℕ × List BatchItem). not (e.0 == b)) bs else filter (λ (e : ℕ × List BatchItem). not (e.0 == b)) bs) ne
+    ∙ ap (λ ys. y ∷ ys) (beside_absent xs bs b le s.1 o.1)
+
+pub beside_without : (xs : List Sent) (bs : List (ℕ × List BatchItem)) (b : ℕ) → 1 ≤ b → NoneTwice xs → SameNumbers xs bs → SameNumbers (without xs (b - 1)) (filter (λ (e : ℕ × List BatchItem). not (e.0 == b)) bs)
+beside_without [] [] b le o s = tt
+beside_without [] (y ∷ bs) b le o s = absurd s
+beside_without (x ∷ xs) [] b le o s = absurd s
+beside_without (x ∷ xs) (y ∷ bs) b le o s = ⊎_elim {C = SameNumbers (without (x ∷ xs) (b - 1)) (filter (λ (e : ℕ × List BatchItem). not (e.0 == b)) (y ∷ bs))}
+    (λ t.
+    let q = equal x.number (b - 1) t in
+    let z = s.0 in
+    let here : (y.0 == b) ≡ true = equal_test y.0 b (omega (arith, q, z, le)) in
+    let gone : has_number (b - 1) xs ≡ false = subst (λ k. has_number k xs ≡ false) q o.0 in
+    subst (λ v. SameNumbers (if v then xs else x ∷ without xs (b - 1)) (filter (λ (e : ℕ × List BatchItem). not (e.0 == b)) (y ∷ bs))) (sym t)
+    (subst (λ v. SameNumbers xs (if not v then y ∷ filter (λ (e : ℕ × List BatchItem). not (e.0 == b)) bs else filter (λ (e : ℕ × List BatchItem). not (e.0 == b)) bs)) (sym here)
+    (subst (λ ys. SameNumbers xs ys) (sym (beside_absent xs bs b le s.1 gone)) s.1)))
+    (λ t.
+    let z = s.0 in
+    let other : (y.0 == b) ≡ false = ⊎_elim {C = (y.0 == b) ≡ false} (λ v. let q = equal y.0 b v in let k = equal_test x.number (b - 1) (omega (arith, q, z)) in absurd (cc)) (λ v. v) (true_or_false (y.0 == b)) in
+    subst (λ v. SameNumbers (if v then xs else x ∷ without xs (b - 1)) (filter (λ (e : ℕ × List BatchItem). not (e.0 == b)) (y ∷ bs))) (sym t)
+    (subst (λ v. SameNumbers (x ∷ without xs (b - 1)) (if not v then y ∷ filter (λ (e : ℕ × List BatchItem). not (e.0 == b)) bs else filter (λ (e : ℕ × List BatchItem). not (e.0 == b)) bs)) (sym other)
+    (s.0, beside_without xs bs b le o.1 s.1)))
+    (true_or_false (x.number == b - 1))
+
+pub readable_by : (max next next' : ℕ) (hs : List Kept) (fs : List Sent) → next ≡ next' → IsReadable max next hs fs → IsReadable max next' hs fs
+readable_by max next next' hs fs e r = subst (λ k. IsReadable max k hs fs) e r
+
+pub readable_same : (max next : ℕ) (hs hs' : List Kept) (fs fs' : List Sent) → hs' ≡ hs → fs' ≡ fs → IsReadable max next hs fs → IsReadable max next hs' fs'
+readable_same max next hs hs' fs fs' e d r = subst (λ xs. IsReadable max next xs fs') (sym e) (subst (λ ys. IsReadable max next hs ys) (sym d) r)
+
+pub beside_after : (b : ℕ) (xs xs' : List Sent) (bs bs' : List (ℕ × List BatchItem)) → 1 ≤ b → NoneTwice xs → SameNumbers xs bs → xs' ≡ without xs (b - 1) → bs' ≡ filter (λ (e : ℕ × List BatchItem). not (e.0 == b)) bs → SameNumbers xs' bs'
+beside_after b xs xs' bs bs' le o s e d = subst (λ ys. SameNumbers ys bs') (sym e) (subst (λ cs. SameNumbers (without xs (b - 1)) cs) (sym d) (beside_without xs bs b le o s))

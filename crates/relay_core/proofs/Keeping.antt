@@ -1,0 +1,77 @@
+-- What an answer keeps of the invariant.
+use Rattle.std.proofs.Common.{◌≡◌, ◌≢◌, ℕ, zero, suc, ◌+◌, ◌-◌, ◌<◌, ◌≤◌, List, [], ◌∷◌, ◌++◌, length, Option, Some, None, Bool, true, false, ◌==◌, ◌&&◌, ◌||◌, refl, sym, ap, ◌∙◌, subst, ⊎_elim, inl, inr, arith, drop}
+use Rattle.std.specs.Prelude.{◌⊎◌, if◌then◌else◌, not, nat_lt, nat_le, map, slice_get, option_map, filter}
+use Rattle.relay_action.specs.declared.write.Write.{Write}
+use Rattle.relay_results.specs.declared.outcome.Outcome.{Outcome}
+use Rattle.relay_results.specs.Fates.{Fate, Flies, Applied, Already, Retried, Reported}
+use Rattle.relay_delivery.specs.Lane.{Flying, is_other}
+use Rattle.relay_results.proofs.Lists.{true_or_false, equal, equal_test}
+use Rattle.relay_core.specs.declared.kept.Kept.{Kept}
+use Rattle.relay_core.specs.declared.kept.Sent.{Sent}
+use Rattle.relay_core.specs.declared.kept.Spot.{Spot}
+use Rattle.relay_core.specs.Walk.{flies_here, fate_met, met_one, met_list, met_maybe, stays, kept_walk}
+use Rattle.relay_core.specs.Memory.{has_number, writes_in, without, flying_of, Given, further, rest_if, IsMet, Carries, NoneTwice}
+
+-- the writes of the other requests stay
+pub without_other : (xs : List Sent) (n m : ℕ) → (m == n) ≡ false → writes_in (without xs n) m ≡ writes_in xs m
+without_other [] n m t = refl
+without_other (x ∷ xs) n m t = ⊎_elim {C = writes_in (without (x ∷ xs) n) m ≡ writes_in (x ∷ xs) m}
+    (λ u.
+    let ne : (x.number == m) ≡ false = ⊎_elim {C = (x.number == m) ≡ false} (λ v. let k = equal_test m n (sym (equal x.number m v) ∙ equal x.number n u) in absurd (cc)) (λ v. v) (true_or_false (x.number == m)) in
+    ap (λ b. writes_in (if b then xs else x ∷ without xs n) m) u ∙ sym (ap (λ b. if b then x.writes.items else writes_in xs m) ne))
+    (λ u. ap (λ b. writes_in (if b then xs else x ∷ without xs n) m) u ∙ ap (λ ws. if x.number == m then x.writes.items else ws) (without_other xs n m t))
+    (true_or_false (x.number == n))
+
+elsewhere : (p : Option Spot) (n m : ℕ) → flies_here n p ≡ true → (m == n) ≡ false → flies_here m p ≡ false
+elsewhere None n m t ne = refl
+elsewhere (Some s) n m t ne = ⊎_elim {C = (s.request == m) ≡ false} (λ v. let k = equal_test m n (sym (equal s.request m v) ∙ equal s.request n t) in absurd (cc)) (λ v. v) (true_or_false (s.request == m))
+
+-- a request that flies elsewhere carries what it carried
+met_past : (max clock n m p : ℕ) (x : Fate) (h : Kept) (w : Option Write) (rest : List Kept) (vs : List Write) → (m == n) ≡ false → flies_here n h.flies ≡ true → Carries m p rest vs
+    → Carries m p (met_maybe clock x w (h ∷ []) ++ rest) vs
+met_past max clock n m p x h None rest vs ne t c = c
+met_past max clock n m p Flies h (Some w) rest vs ne t c =
+    let other : flies_here m h.flies ≡ false = elsewhere h.flies n m t ne in
+    subst (λ b. Given b (IsMet m p h vs) × Carries m (further b p) rest (rest_if b vs)) (sym other) (tt, c)
+met_past max clock n m p Applied h (Some w) rest vs ne t c = c
+met_past max clock n m p Already h (Some w) rest vs ne t c = c
+met_past max clock n m p Retried h (Some w) rest vs ne t c = (tt, c)
+met_past max clock n m p (Reported cause) h (Some w) rest vs ne t c = c
+
+pub carries_past : (max clock n m : ℕ) (whole : Option ℕ) → (m == n) ≡ false → (hs : List Kept) (p : ℕ) (ws : List Write) (os : List Outcome) (vs : List Write) → Carries m p hs vs
+    → Carries m p (kept_walk hs max clock n whole ws os) vs
+carries_past max clock n m whole ne [] p ws os vs c = c
+carries_past max clock n m whole ne (h ∷ hs) p ws os vs c = ⊎_elim {C = Carries m p (kept_walk (h ∷ hs) max clock n whole ws os) vs}
+    (λ t.
+    let other : flies_here m h.flies ≡ false = elsewhere h.flies n m t ne in
+    let c1 : Carries m p hs vs = subst (λ b. Carries m (further b p) hs (rest_if b vs)) other c.1 in
+    subst (λ b. Carries m p (if b then met_maybe clock (fate_met max whole h os) (slice_get ws 0) (h ∷ []) ++ kept_walk hs max clock n whole (drop 1 ws) (drop 1 os) else h ∷ kept_walk hs max clock n whole ws os) vs) (sym t)
+    (met_past max clock n m p (fate_met max whole h os) h (slice_get ws 0) _ vs ne t (carries_past max clock n m whole ne hs p (drop 1 ws) (drop 1 os) vs c1)))
+    (λ t.
+    subst (λ b. Carries m p (if b then met_maybe clock (fate_met max whole h os) (slice_get ws 0) (h ∷ []) ++ kept_walk hs max clock n whole (drop 1 ws) (drop 1 os) else h ∷ kept_walk hs max clock n whole ws os) vs) (sym t)
+    (c.0, carries_past max clock n m whole ne hs (further (flies_here m h.flies) p) ws os (rest_if (flies_here m h.flies) vs) c.1))
+    (true_or_false (flies_here n h.flies))
+
+pub or_false : (a b : Bool) → (a || b) ≡ false → (a ≡ false) × (b ≡ false)
+or_false true b e = absurd (cc)
+or_false false b e = (refl, e)
+
+filter_absent : (xs : List Sent) (n : ℕ) → has_number n xs ≡ false → filter (is_other n) (map flying_of xs) ≡ map flying_of xs
+filter_absent [] n e = refl
+filter_absent (x ∷ xs) n e =
+    let b = or_false _ _ e in
+    ap (λ t. if not t then flying_of x ∷ filter (is_other n) (map flying_of xs) else filter (is_other n) (map flying_of xs)) b.0
+    ∙ ap (λ ys. flying_of x ∷ ys) (filter_absent xs n b.1)
+
+-- without one number, as the state has it
+pub without_seen : (xs : List Sent) (n : ℕ) → NoneTwice xs → map flying_of (without xs n) ≡ filter (is_other n) (map flying_of xs)
+without_seen [] n o = refl
+without_seen (x ∷ xs) n o = ⊎_elim {C = map flying_of (without (x ∷ xs) n) ≡ filter (is_other n) (map flying_of (x ∷ xs))}
+    (λ u.
+    let gone : has_number n xs ≡ false = subst (λ k. has_number k xs ≡ false) (equal x.number n u) o.0 in
+    ap (λ b. map flying_of (if b then xs else x ∷ without xs n)) u ∙ sym (filter_absent xs n gone)
+    ∙ sym (ap (λ b. if not b then flying_of x ∷ filter (is_other n) (map flying_of xs) else filter (is_other n) (map flying_of xs)) u))
+    (λ u.
+    ap (λ b. map flying_of (if b then xs else x ∷ without xs n)) u ∙ ap (λ ys. flying_of x ∷ ys) (without_seen xs n o.1)
+    ∙ sym (ap (λ b. if not b then flying_of x ∷ filter (is_other n) (map flying_of xs) else filter (is_other n) (map flying_of xs)) u))
+    (true_or_false (x.number == n))

@@ -1,0 +1,154 @@
+-- A batch is sent: the held list as it is read afterwards, and what is kept.
+use Rattle.std.proofs.Common.{◌≡◌, ◌≢◌, ℕ, zero, suc, ◌+◌, ◌-◌, ◌<◌, ◌≤◌, List, [], ◌∷◌, ◌++◌, length, Option, Some, None, Bool, true, false, ◌==◌, ◌&&◌, ◌||◌, refl, sym, ap, ◌∙◌, subst, ⊎_elim, inl, inr, arith, drop, append_assoc, length-append}
+use Rattle.std.specs.Prelude.{◌⊎◌, if◌then◌else◌, not, nat_lt, nat_le, map, slice_get, option_map, option_to_list}
+use Rattle.std.proofs.lemmas.Bool.{lt-ltb}
+use Rattle.relay_action.specs.declared.write.Write.{Write}
+use Rattle.relay_batch.specs.declared.item.BatchItem.{BatchItem}
+use Rattle.relay_results.specs.Words.{IsSubsequence}
+use Rattle.relay_results.proofs.Lists.{true_or_false, equal, equal_test, and_left, and_right}
+use Rattle.relay_delivery.specs.Machine.{Held, Place, place_of, launched, launched_at}
+use Rattle.relay_delivery.specs.Lane.{Entry, held_of, launched_entry}
+use Rattle.relay_core.specs.declared.kept.Kept.{Kept}
+use Rattle.relay_core.specs.declared.kept.Sent.{Sent}
+use Rattle.relay_core.specs.declared.kept.Spot.{Spot}
+use Rattle.relay_core.specs.Walk.{waits_here, flies_here, item_of_kept, more, is_next, launch_one, launched_kept, freight}
+use Rattle.relay_core.specs.Memory.{has_number, writes_in, write_found, action_or, held_seen, entry_of, entries, place_at, IsWriteOf, IsHome, IsKept, AllKept, AllAbove, AllUnder, Rises, NoneTwice, SameNumbers, Given, further, rest_if, IsMet, Carries, tries_left}
+use Rattle.relay_core.proofs.Launching.{AllWait, loads, Home, home_of, above_sub, waits_none, is_its, is_later_one}
+
+-- ---- versions
+
+pub above_launched : (n : ℕ) (v : ℕ) (hs : List Kept) (p : ℕ) (is : List BatchItem) → AllAbove v hs → AllAbove v (launched_kept hs n p is)
+above_launched n v [] p is a = tt
+above_launched n v (h ∷ hs) p is a = ⊎_elim {C = AllAbove v (launched_kept (h ∷ hs) n p is)}
+    (λ t. subst (λ b. AllAbove v (if b then launch_one n p h ∷ launched_kept hs n (p + 1) (drop 1 is) else h ∷ launched_kept hs n p is)) (sym t) (a.0, above_launched n v hs (p + 1) (drop 1 is) a.1))
+    (λ t. subst (λ b. AllAbove v (if b then launch_one n p h ∷ launched_kept hs n (p + 1) (drop 1 is) else h ∷ launched_kept hs n p is)) (sym t) (a.0, above_launched n v hs p is a.1))
+    (true_or_false (is_next is h))
+
+pub under_launched : (n : ℕ) (v : ℕ) (hs : List Kept) (p : ℕ) (is : List BatchItem) → AllUnder v hs → AllUnder v (launched_kept hs n p is)
+under_launched n v [] p is a = tt
+under_launched n v (h ∷ hs) p is a = ⊎_elim {C = AllUnder v (launched_kept (h ∷ hs) n p is)}
+    (λ t. subst (λ b. AllUnder v (if b then launch_one n p h ∷ launched_kept hs n (p + 1) (drop 1 is) else h ∷ launched_kept hs n p is)) (sym t) (a.0, under_launched n v hs (p + 1) (drop 1 is) a.1))
+    (λ t. subst (λ b. AllUnder v (if b then launch_one n p h ∷ launched_kept hs n (p + 1) (drop 1 is) else h ∷ launched_kept hs n p is)) (sym t) (a.0, under_launched n v hs p is a.1))
+    (true_or_false (is_next is h))
+
+pub rises_launched : (n : ℕ) (hs : List Kept) (p : ℕ) (is : List BatchItem) → Rises hs → Rises (launched_kept hs n p is)
+rises_launched n [] p is r = tt
+rises_launched n (h ∷ hs) p is r = ⊎_elim {C = Rises (launched_kept (h ∷ hs) n p is)}
+    (λ t. subst (λ b. Rises (if b then launch_one n p h ∷ launched_kept hs n (p + 1) (drop 1 is) else h ∷ launched_kept hs n p is)) (sym t) (above_launched n h.version hs (p + 1) (drop 1 is) r.0, rises_launched n hs (p + 1) (drop 1 is) r.1))
+    (λ t. subst (λ b. Rises (if b then launch_one n p h ∷ launched_kept hs n (p + 1) (drop 1 is) else h ∷ launched_kept hs n p is)) (sym t) (above_launched n h.version hs p is r.0, rises_launched n hs p is r.1))
+    (true_or_false (is_next is h))
+
+-- ---- each has what it needs
+
+-- the next item is of one that waits
+next_waits : (is : List BatchItem) (h : Kept) → is_next is h ≡ true → h.flies ≡ None
+next_waits [] h t = absurd (cc)
+next_waits (i ∷ is) h t = waits_none h.flies (and_right (h.version == i.version) _ t)
+
+home_later : (max n : ℕ) (h : Kept) (w : Option Write) (s : Option Spot) → IsHome max n h w s → IsHome max (n + 1) h w s
+home_later max n h (Some w) None k = k
+home_later max n h (Some w) (Some s) k = k
+home_later max n h None None k = k
+home_later max n h None (Some s) k = (omega (arith, k.0), k.1)
+
+kept_later : (max n : ℕ) (h : Kept) → IsKept max n h → IsKept max (n + 1) h
+kept_later max n h k = record { home = home_later max n h h.write h.flies k.home; sends = k.sends; due = k.due }
+
+pub more_is : (k : ℕ) → k < 4294967295 → more k ≡ k + 1
+more_is k lt = ap (λ b. if b then k + 1 else k) (lt-ltb k 4294967295 lt)
+
+kept_launched : (max n p : ℕ) (h : Kept) → max ≤ 32 → IsKept max n h → Home max h → IsKept max (n + 1) (launch_one n p h)
+kept_launched max n p h le k o =
+    let a = more_is h.attempts (omega (arith, o.tries, le)) in
+    let s = more_is h.sends (omega (arith, o.tries, le, k.sends)) in
+    record { home = (omega arith, omega (arith, a, o.tries)); sends = omega (arith, a, s, k.sends); due = k.due }
+
+pub all_launched : (max n : ℕ) (hs : List Kept) (p : ℕ) (is : List BatchItem) → max ≤ 32 → AllKept max n hs → AllKept max (n + 1) (launched_kept hs n p is)
+all_launched max n [] p is le a = tt
+all_launched max n (h ∷ hs) p is le a = ⊎_elim {C = AllKept max (n + 1) (launched_kept (h ∷ hs) n p is)}
+    (λ t. subst (λ b. AllKept max (n + 1) (if b then launch_one n p h ∷ launched_kept hs n (p + 1) (drop 1 is) else h ∷ launched_kept hs n p is)) (sym t)
+    (kept_launched max n p h le a.0 (home_of max n h h.write h.flies refl a.0.home (next_waits is h t)), all_launched max n hs (p + 1) (drop 1 is) le a.1))
+    (λ t. subst (λ b. AllKept max (n + 1) (if b then launch_one n p h ∷ launched_kept hs n (p + 1) (drop 1 is) else h ∷ launched_kept hs n p is)) (sym t)
+    (kept_later max n h a.0, all_launched max n hs p is le a.1))
+    (true_or_false (is_next is h))
+
+-- ---- tries
+
+left_launched : (max n : ℕ) (hs : List Kept) (p : ℕ) (is : List BatchItem) → max ≤ 32 → AllKept max n hs → tries_left max (launched_kept hs n p is) ≤ tries_left max hs
+left_launched max n [] p is le a = omega arith
+left_launched max n (h ∷ hs) p is le a = ⊎_elim {C = tries_left max (launched_kept (h ∷ hs) n p is) ≤ tries_left max (h ∷ hs)}
+    (λ t. let e = ap (λ b. tries_left max (if b then launch_one n p h ∷ launched_kept hs n (p + 1) (drop 1 is) else h ∷ launched_kept hs n p is)) t in
+    let o = home_of max n h h.write h.flies refl a.0.home (next_waits is h t) in
+    let m = more_is h.attempts (omega (arith, o.tries, le)) in
+    let ih = left_launched max n hs (p + 1) (drop 1 is) le a.1 in omega (arith, e, m, ih))
+    (λ t. let e = ap (λ b. tries_left max (if b then launch_one n p h ∷ launched_kept hs n (p + 1) (drop 1 is) else h ∷ launched_kept hs n p is)) t in
+    let ih = left_launched max n hs p is le a.1 in omega (arith, e, ih))
+    (true_or_false (is_next is h))
+
+-- a request takes one of them at least
+pub fewer_left : (max n : ℕ) (hs : List Kept) (p : ℕ) (one : Kept) (ps : List Kept) → max ≤ 32 → AllKept max n hs → Rises hs → IsSubsequence (one ∷ ps) hs → AllWait (one ∷ ps)
+    → tries_left max (launched_kept hs n p (map item_of_kept (one ∷ ps))) + 1 ≤ tries_left max hs
+fewer_left max n [] p one ps le a r s w = absurd s
+fewer_left max n (h ∷ hs) p one ps le a r (inl s) w =
+    subst (λ (x : Kept). (x.flies ≡ None) → tries_left max (launched_kept (h ∷ hs) n p (item_of_kept x ∷ map item_of_kept ps)) + 1 ≤ tries_left max (h ∷ hs)) (sym s.0)
+    (λ none.
+    let t = is_its h (map item_of_kept ps) none in
+    let e = ap (λ b. tries_left max (if b then launch_one n p h ∷ launched_kept hs n (p + 1) (map item_of_kept ps) else h ∷ launched_kept hs n p (item_of_kept h ∷ map item_of_kept ps))) t in
+    let o = home_of max n h h.write h.flies refl a.0.home none in
+    let m = more_is h.attempts (omega (arith, o.tries, le)) in
+    let ih = left_launched max n hs (p + 1) (map item_of_kept ps) le a.1 in
+    let lt = o.tries in omega (arith, e, m, ih, lt))
+    w.0
+fewer_left max n (h ∷ hs) p one ps le a r (inr s) w =
+    let t = is_later_one one h (map item_of_kept ps) (above_sub h.version (one ∷ ps) hs s r.0).0 in
+    let e = ap (λ b. tries_left max (if b then launch_one n p h ∷ launched_kept hs n (p + 1) (map item_of_kept ps) else h ∷ launched_kept hs n p (item_of_kept one ∷ map item_of_kept ps))) t in
+    let ih = fewer_left max n hs p one ps le a.1 r.1 s w in omega (arith, e, ih)
+
+-- ---- what is carried
+
+-- none flies in a request that is still to come
+not_yet : (max n : ℕ) (h : Kept) (w : Option Write) (s : Option Spot) → IsHome max n h w s → flies_here n s ≡ false
+not_yet max n h (Some w) None k = refl
+not_yet max n h (Some w) (Some s) k = absurd k
+not_yet max n h None None k = refl
+not_yet max n h None (Some s) k = ⊎_elim {C = (s.request == n) ≡ false} (λ t. let e = equal s.request n t in absurd (omega (arith, e, k.0))) (λ f. f) (true_or_false (s.request == n))
+
+step_carries : (n p : ℕ) (h : Kept) (hs : List Kept) (ws : List Write) → flies_here n h.flies ≡ false → Carries n p hs ws → Carries n p (h ∷ hs) ws
+step_carries n p h hs ws t c = subst (λ b. Given b (IsMet n p h ws) × Carries n (further b p) hs (rest_if b ws)) (sym t) (tt, c)
+
+-- the new request carries the writes that went
+pub carries_new : (max n : ℕ) (hs : List Kept) (p : ℕ) (is : List BatchItem) → AllKept max n hs → Carries n p (launched_kept hs n p is) (freight hs is)
+carries_new max n [] p is a = refl
+carries_new max n (h ∷ hs) p is a = ⊎_elim {C = Carries n p (launched_kept (h ∷ hs) n p is) (freight (h ∷ hs) is)}
+    (λ t.
+    let o = home_of max n h h.write h.flies refl a.0.home (next_waits is h t) in
+    subst (λ b. Carries n p (if b then launch_one n p h ∷ launched_kept hs n (p + 1) (drop 1 is) else h ∷ launched_kept hs n p is) (if b then option_to_list h.write ++ freight hs (drop 1 is) else freight hs is)) (sym t)
+    (subst (λ w. Carries n p (launch_one n p h ∷ launched_kept hs n (p + 1) (drop 1 is)) (option_to_list w ++ freight hs (drop 1 is))) (sym o.found)
+    (subst (λ b. Given b (IsMet n p (launch_one n p h) (o.write ∷ freight hs (drop 1 is))) × Carries n (further b p) (launched_kept hs n (p + 1) (drop 1 is)) (rest_if b (o.write ∷ freight hs (drop 1 is)))) (sym (equal_test n n refl))
+    (record { write = o.write; found = refl; spot = refl; matches = record { key = o.matches.key; version = o.matches.version; kind = o.matches.kind; bytes = o.matches.bytes } }, carries_new max n hs (p + 1) (drop 1 is) a.1))))
+    (λ t.
+    subst (λ b. Carries n p (if b then launch_one n p h ∷ launched_kept hs n (p + 1) (drop 1 is) else h ∷ launched_kept hs n p is) (if b then option_to_list h.write ++ freight hs (drop 1 is) else freight hs is)) (sym t)
+    (step_carries n p h (launched_kept hs n p is) (freight hs is) (not_yet max n h h.write h.flies a.0.home) (carries_new max n hs p is a.1)))
+    (true_or_false (is_next is h))
+
+other_number : (n m : ℕ) → (m == n) ≡ false → (n == m) ≡ false
+other_number n m ne = ⊎_elim {C = (n == m) ≡ false} (λ t. let k = equal_test m n (sym (equal n m t)) in absurd (cc)) (λ f. f) (true_or_false (n == m))
+
+-- the others carry what they carried
+pub carries_other : (max n m : ℕ) (hs : List Kept) (p : ℕ) (is : List BatchItem) (q : ℕ) (ws : List Write) → (m == n) ≡ false → Carries m q hs ws → Carries m q (launched_kept hs n p is) ws
+carries_other max n m [] p is q ws ne c = c
+carries_other max n m (h ∷ hs) p is q ws ne c = ⊎_elim {C = Carries m q (launched_kept (h ∷ hs) n p is) ws}
+    (λ t.
+    let none : flies_here m h.flies ≡ false = ap (flies_here m) (next_waits is h t) in
+    let c1 : Carries m q hs ws = subst (λ b. Carries m (further b q) hs (rest_if b ws)) none c.1 in
+    subst (λ b. Carries m q (if b then launch_one n p h ∷ launched_kept hs n (p + 1) (drop 1 is) else h ∷ launched_kept hs n p is) ws) (sym t)
+    (step_carries m q (launch_one n p h) (launched_kept hs n (p + 1) (drop 1 is)) ws (other_number n m ne) (carries_other max n m hs (p + 1) (drop 1 is) q ws ne c1)))
+    (λ t.
+    subst (λ b. Carries m q (if b then launch_one n p h ∷ launched_kept hs n (p + 1) (drop 1 is) else h ∷ launched_kept hs n p is) ws) (sym t)
+    (c.0, carries_other max n m hs p is (further (flies_here m h.flies) q) (rest_if (flies_here m h.flies) ws) ne c.1))
+    (true_or_false (is_next is h))
+
+pub left_more : (max n : ℕ) (hs ps : List Kept) → max ≤ 32 → AllKept max n hs → Rises hs → IsSubsequence ps hs → AllWait ps → 0 < length (map item_of_kept ps)
+    → tries_left max (launched_kept hs n 0 (map item_of_kept ps)) + 1 ≤ tries_left max hs
+left_more max n hs [] le a r s w lt = absurd (omega (arith, lt))
+left_more max n hs (p ∷ ps) le a r s w lt = fewer_left max n hs 0 p ps le a r s w

@@ -1,0 +1,17 @@
+pub mod Tying
+pub mod Flights
+pub mod Launching
+pub mod Launched
+pub mod Sending
+pub mod Forming
+pub mod Steps
+pub mod Saying
+pub mod Valid
+pub mod Swaps
+pub mod Reading
+pub mod Settling
+pub mod Keeping
+pub mod Invariant
+pub mod Taken
+pub mod Weighed
+pub mod Weighing

@@ -1,0 +1,129 @@
+-- What is read of the held list, and who is a candidate.
+use Rattle.std.proofs.Common.{◌≡◌, ℕ, zero, suc, ◌+◌, ◌-◌, ◌<◌, ◌≤◌, List, [], ◌∷◌, ◌++◌, length, Option, Some, None, Bool, true, false, ◌==◌, ◌&&◌, ◌||◌, refl, sym, ap, ◌∙◌, subst, ⊎_elim, inl, inr, arith, drop}
+use Rattle.std.specs.Prelude.{◌⊎◌, if◌then◌else◌, not, nat_lt, nat_le, map, filter, slice_get, option_map, Result, Ok, Err, IfOk, OnErr, IfSome, is_some}
+use Rattle.std.specs.List.{list_any}
+use Rattle.relay_action.specs.declared.write.Write.{Write}
+use Rattle.relay_batch.specs.declared.item.BatchItem.{BatchItem}
+use Rattle.relay_results.specs.Documents.{Document, document_of, same_document}
+use Rattle.relay_delivery.specs.Machine.{Held}
+use Rattle.relay_core.specs.State.{State, is_eligible, first_due, sooner, due_in}
+use Rattle.relay_delivery.specs.Lane as delivery
+use Rattle.relay_delivery.specs.Lane.{Entry, Flying, writes_at, held_of, waits, is_later, is_candidate, candidates}
+use Rattle.relay_results.proofs.Lists.{true_or_false, equal, equal_test}
+use Rattle.relay_core.specs.declared.kept.Kept.{Kept}
+use Rattle.relay_core.specs.declared.kept.Spot.{Spot}
+use Rattle.relay_core.specs.declared.kept.Sent.{Sent}
+use Rattle.relay_core.specs.Rule.{item_of}
+use Rattle.relay_core.specs.Walk.{waits_here, is_later_kept, is_eligible_kept, first_due_kept, is_candidate_kept, item_of_kept, items_of_kept}
+use Rattle.relay_core.specs.Memory.{without, has_number, writes_in, flying_of, place_at, held_seen, entry_of, entries}
+
+waits_seen : (p : Option Spot) → waits (option_map place_at p) ≡ waits_here p
+waits_seen None = refl
+waits_seen (Some s) = refl
+
+behind_seen : (f : ℕ → List Write) (hs : List Kept) (h : Kept) → is_later (held_of (entries hs f)) (held_seen f h) ≡ is_later_kept hs (document_of h.key) h.version
+behind_seen f [] h = refl
+behind_seen f (j ∷ hs) h = ap (λ b. (same_document (document_of j.key) (document_of h.key) && nat_lt j.version h.version) || b) (behind_seen f hs h)
+
+pub candidate_seen : (s : delivery.State) (f : ℕ → List Write) (hs : List Kept) (h : Kept) → s.held ≡ entries hs f → is_candidate s (entry_of f h) ≡ is_candidate_kept hs s.clock h
+candidate_seen s f hs h e =
+    (λ i. waits_seen h.flies i && (nat_le h.due s.clock && not (is_later (held_of (e i)) (held_seen f h))))
+    ∙ ap (λ b. waits_here h.flies && (nat_le h.due s.clock && not b)) (behind_seen f hs h)
+
+filter_seen : (s : delivery.State) (f : ℕ → List Write) (hs rest : List Kept) → s.held ≡ entries hs f → filter (is_candidate s) (entries rest f) ≡ entries (filter (is_candidate_kept hs s.clock) rest) f
+filter_seen s f hs [] e = refl
+filter_seen s f hs (h ∷ rest) e =
+    let c = candidate_seen s f hs h e in
+    ap (λ b. if b then entry_of f h ∷ filter (is_candidate s) (entries rest f) else filter (is_candidate s) (entries rest f)) c
+    ∙ ⊎_elim {C = (if is_candidate_kept hs s.clock h then entry_of f h ∷ filter (is_candidate s) (entries rest f) else filter (is_candidate s) (entries rest f)) ≡ entries (filter (is_candidate_kept hs s.clock) (h ∷ rest)) f}
+    (λ t. rw t (ap (λ xs. entry_of f h ∷ xs) (filter_seen s f hs rest e)))
+    (λ t. rw t (filter_seen s f hs rest e))
+    (true_or_false (is_candidate_kept hs s.clock h))
+
+pub candidates_seen : (s : delivery.State) (f : ℕ → List Write) (hs : List Kept) → s.held ≡ entries hs f → candidates s ≡ entries (filter (is_candidate_kept hs s.clock) hs) f
+candidates_seen s f hs e = ap (filter (is_candidate s)) e ∙ filter_seen s f hs hs e
+
+pub items_seen : (f : ℕ → List Write) (hs : List Kept) → map item_of (entries hs f) ≡ map item_of_kept hs
+items_seen f [] = refl
+items_seen f (h ∷ hs) = ap (λ is. item_of_kept h ∷ is) (items_seen f hs)
+
+pub offers_seen : (s : delivery.State) (f : ℕ → List Write) (hs : List Kept) → s.held ≡ entries hs f → map item_of (candidates s) ≡ items_of_kept hs s.clock hs
+offers_seen s f hs e = ap (map item_of) (candidates_seen s f hs e) ∙ items_seen f (filter (is_candidate_kept hs s.clock) hs)
+
+-- ---- results
+
+pub on_err_map : {A E : Type 0} (r : Result A E) (P Q : Type 0) → (P → Q) → OnErr r P → OnErr r Q
+on_err_map (Ok x) P Q f h = tt
+on_err_map (Err e) P Q f h = f h
+
+pub if_ok_map : {A E : Type 0} (r : Result A E) (P Q : A → Type 0) → ((x : A) → P x → Q x) → IfOk r P → IfOk r Q
+if_ok_map (Ok x) P Q f h = f x h
+if_ok_map (Err e) P Q f h = tt
+
+pub if_some_map : {A : Type 0} (o : Option A) (P Q : A → Type 0) → ((x : A) → P x → Q x) → IfSome o P → IfSome o Q
+if_some_map None P Q f h = tt
+if_some_map (Some x) P Q f h = f x h
+
+-- ---- requests in flight
+
+pub writes_seen : (xs : List Sent) (n : ℕ) → writes_at n (map flying_of xs) ≡ writes_in xs n
+writes_seen [] n = refl
+writes_seen (x ∷ xs) n = ap (λ ws. if x.number == n then x.writes.items else ws) (writes_seen xs n)
+
+one_off : (a b : ℕ) → 1 ≤ b → (a + 1 == b) ≡ (a == b - 1)
+one_off a b le = ⊎_elim {C = (a + 1 == b) ≡ (a == b - 1)}
+    (λ t. let e = equal a (b - 1) t in equal_test (a + 1) b (omega (arith, e, le)) ∙ sym t)
+    (λ t. ⊎_elim {C = (a + 1 == b) ≡ (a == b - 1)} (λ u. let e = equal (a + 1) b u in let k = equal_test a (b - 1) (omega (arith, e, le)) in absurd (cc)) (λ u. u ∙ sym t) (true_or_false (a + 1 == b)))
+    (true_or_false (a == b - 1))
+
+pub number_seen : (xs : List Sent) (b : ℕ) → 1 ≤ b → has_number (b - 1) xs ≡ list_any (λ (x : Flying). x.request + 1 == b) (map flying_of xs)
+number_seen [] b le = refl
+number_seen (x ∷ xs) b le = λ i. sym (one_off x.number b le) i || number_seen xs b le i
+
+pub number_zero : (xs : List Flying) (b : ℕ) → b ≡ 0 → false ≡ list_any (λ (x : Flying). x.request + 1 == b) xs
+number_zero [] b e = refl
+number_zero (x ∷ xs) b e = ⊎_elim {C = false ≡ list_any (λ (y : Flying). y.request + 1 == b) (x ∷ xs)}
+    (λ t. let k = equal (x.request + 1) b t in absurd (omega (arith, k, e)))
+    (λ t. number_zero xs b e ∙ sym (ap (λ v. v || list_any (λ (y : Flying). y.request + 1 == b) xs) t))
+    (true_or_false (x.request + 1 == b))
+
+pub without_none : (xs : List Sent) (n : ℕ) → has_number n xs ≡ false → without xs n ≡ xs
+without_none [] n e = refl
+without_none (x ∷ xs) n e = ⊎_elim {C = without (x ∷ xs) n ≡ x ∷ xs}
+    (λ t. absurd (let k : (true || has_number n xs) ≡ false = ap (λ b. b || has_number n xs) (sym t) ∙ e in cc))
+    (λ t. ap (λ b. if b then xs else x ∷ without xs n) t ∙ ap (λ ys. x ∷ ys) (without_none xs n (ap (λ b. b || has_number n xs) (sym t) ∙ e)))
+    (true_or_false (x.number == n))
+
+zero_or : (b : ℕ) → (b ≡ 0) ⊎ (1 ≤ b)
+zero_or zero = inl refl
+zero_or (suc b) = inr (omega arith)
+
+-- numbers are from 1
+pub flying_positive : (xs : List Flying) (b : ℕ) → list_any (λ (x : Flying). x.request + 1 == b) xs ≡ true → 1 ≤ b
+flying_positive xs b t = ⊎_elim {C = 1 ≤ b} (λ e. let n = number_zero xs b e in absurd (cc)) (λ le. le) (zero_or b)
+
+-- ---- who is due first
+
+eligible_seen : (s : State) (f : ℕ → List Write) (hs : List Kept) (h : Kept) → s.core.held ≡ entries hs f → is_eligible s (entry_of f h) ≡ is_eligible_kept hs h
+eligible_seen s f hs h e =
+    (λ i. waits_seen h.flies i && not (is_later (held_of (e i)) (held_seen f h)))
+    ∙ ap (λ b. waits_here h.flies && not b) (behind_seen f hs h)
+
+eligibles_seen : (s : State) (f : ℕ → List Write) (hs rest : List Kept) → s.core.held ≡ entries hs f → filter (is_eligible s) (entries rest f) ≡ entries (filter (is_eligible_kept hs) rest) f
+eligibles_seen s f hs [] e = refl
+eligibles_seen s f hs (h ∷ rest) e =
+    ap (λ b. if b then entry_of f h ∷ filter (is_eligible s) (entries rest f) else filter (is_eligible s) (entries rest f)) (eligible_seen s f hs h e)
+    ∙ ⊎_elim {C = (if is_eligible_kept hs h then entry_of f h ∷ filter (is_eligible s) (entries rest f) else filter (is_eligible s) (entries rest f)) ≡ entries (filter (is_eligible_kept hs) (h ∷ rest)) f}
+    (λ t. rw t (ap (λ xs. entry_of f h ∷ xs) (eligibles_seen s f hs rest e)))
+    (λ t. rw t (eligibles_seen s f hs rest e))
+    (true_or_false (is_eligible_kept hs h))
+
+dues_seen : (f : ℕ → List Write) (hs : List Kept) → first_due (entries hs f) ≡ first_due_kept hs
+dues_seen f [] = refl
+dues_seen f (h ∷ hs) = ap (sooner h.due) (dues_seen f hs)
+
+pub first_due_seen : (s : State) (f : ℕ → List Write) (hs : List Kept) → s.core.held ≡ entries hs f → first_due (filter (is_eligible s) s.core.held) ≡ first_due_kept (filter (is_eligible_kept hs) hs)
+first_due_seen s f hs e = ap (λ es. first_due (filter (is_eligible s) es)) e ∙ ap first_due (eligibles_seen s f hs hs e) ∙ dues_seen f (filter (is_eligible_kept hs) hs)
+
+pub due_in_seen : (s : State) (f : ℕ → List Write) (hs : List Kept) → s.core.held ≡ entries hs f → due_in s ≡ option_map (λ due. due - s.core.clock) (first_due_kept (filter (is_eligible_kept hs) hs))
+due_in_seen s f hs e = ap (option_map (λ due. due - s.core.clock)) (first_due_seen s f hs e)

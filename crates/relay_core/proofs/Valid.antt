@@ -1,0 +1,34 @@
+-- What a valid config has.
+use Rattle.std.proofs.Common.{◌≡◌, ℕ, ◌+◌, ◌≤◌, Bool, true, false, ◌&&◌, arith}
+use Rattle.std.specs.Prelude.{nat_le}
+use borrow.Author.Tests.{leb-true}
+use Rattle.relay_results.proofs.Lists.{and_left, and_right}
+use Rattle.relay_core.specs.declared.config.RelayConfig.{RelayConfig}
+use Rattle.relay_core.specs.Limits.{is_from_to, are_valid_limits, is_valid}
+
+pub record Facts (c : RelayConfig) : Type 0 where
+  pub producers : c.producers ≤ 16
+  pub held : c.max_held ≤ 65536
+  pub tries : (1 ≤ c.attempts) × (c.attempts ≤ 32)
+  pub first : 1 ≤ c.first_version
+  pub last : c.first_version ≤ 9000000000000000000
+
+within : (least most n : ℕ) → is_from_to least most n ≡ true → (least ≤ n) × (n ≤ most)
+within least most n t = (leb-true _ _ (and_left _ _ t), leb-true _ _ (and_right (nat_le least n) _ t))
+
+pub valid_facts : (c : RelayConfig) → is_valid c ≡ true → Facts c
+valid_facts c t =
+    let t2 = and_right (is_from_to 1 8 c.lanes) _ t in
+    let t3 = and_right (is_from_to 1 16 c.producers) _ t2 in
+    let t4 = and_right (is_from_to 1 65536 c.capacity) _ t3 in
+    let t5 = and_right (is_from_to 1 65536 c.max_held) _ t4 in
+    let t6 = and_right (are_valid_limits c.limits) _ t5 in
+    let t7 = and_right (is_from_to 1 32 c.attempts) _ t6 in
+    let t8 = and_right (is_from_to 1 1 c.in_flight) _ t7 in
+    record {
+      producers = (within 1 16 c.producers (and_left _ _ t2)).1;
+      held = (within 1 65536 c.max_held (and_left _ _ t4)).1;
+      tries = within 1 32 c.attempts (and_left _ _ t6);
+      first = (within 1 9000000000000000000 c.first_version t8).0;
+      last = (within 1 9000000000000000000 c.first_version t8).1;
+    }

@@ -1,0 +1,99 @@
+-- What is gathered keeps the limits of a batch, and its bytes are those of the text that is sent.
+use Rattle.std.proofs.Common.{◌≡◌, ◌≢◌, ℕ, zero, suc, ◌+◌, ◌<◌, ◌≤◌, List, [], ◌∷◌, ◌++◌, length, Option, Some, None, Bool, true, false, refl, sym, ap, ◌∙◌, subst, inl, inr, ⊎_elim, arith, length-append}
+use Rattle.std.specs.Prelude.{◌||◌, ◌&&◌, ◌==◌, All, AllPairs, map, nat_lt, nat_le, sum_by, option_map, if◌then◌else◌}
+use Rattle.std.specs.List.{list_any}
+use Rattle.std.proofs.lemmas.List.Elements.{All-push}
+use Rattle.std.proofs.lemmas.List.Kept.{AllPairs-cons}
+use Rattle.std.proofs.lemmas.List.Sums.{sum_by_push, sum_by-cons}
+use borrow.Author.Tests.{ltb-false, leb-false, lt-ltb}
+use Rattle.relay_ndjson.specs.Bulk.{write_text, text_of}
+use Rattle.relay_batch.specs.declared.item.BatchItem.{BatchItem}
+use Rattle.relay_batch.specs.declared.item.Limits.{Limits}
+use Rattle.relay_batch.specs.declared.offer.Offer.{Offer}
+use Rattle.relay_batch.specs.declared.offer.Offer.TheVariants.{Busy, Closed, Added}
+use Rattle.relay_batch.specs.Batches.{HasDistinctDocuments, IsBatch, bytes_of}
+use Rattle.relay_batch.specs.Gathering.{Gathering, answer_to, holds_document, is_count_reached, passes_bytes}
+use Rattle.relay_results.specs.Words.{Mem}
+use Rattle.relay_results.proofs.Lists.{equal_test}
+use Rattle.relay_delivery.specs.Machine.{write_of}
+use Rattle.relay_delivery.specs.Lane.{Entry, candidates, writes_of_all}
+use Rattle.relay_core.specs.Rule.{by_answer, with_item, offered, item_of}
+use Rattle.relay_core.specs.State.{State, IsLane, gathering, next_entries, next_batch}
+use Rattle.relay_core.specs.Flights.{KeepsLimits, RequestsKeepLimits}
+use Rattle.relay_core.proofs.Flights.{earlier_ones_settled}
+use Rattle.relay_core.proofs.Forming.{items_of_operations, batch_offered}
+
+-- ---- the limits
+
+one_apart : (x y : BatchItem) → (x.doc == y.doc) ≡ false → x.doc ≢ y.doc
+one_apart x y f e = let t = equal_test x.doc y.doc e in absurd (cc)
+
+or_none : (a b : Bool) → (a || b) ≡ false → (a ≡ false) × (b ≡ false)
+or_none true b e = absurd (cc)
+or_none false b e = (refl, e)
+
+push_apart : (xs : List BatchItem) (y : BatchItem) → HasDistinctDocuments xs → holds_document y.doc xs ≡ false → HasDistinctDocuments (xs ++ y ∷ [])
+push_apart [] y h absent = λ i j d lt within. absurd (omega (arith, lt, within))
+push_apart (x ∷ xs) y h absent =
+    let n = or_none (x.doc == y.doc) (holds_document y.doc xs) absent in
+    AllPairs-cons (λ (a b : BatchItem). a.doc ≢ b.doc) x (xs ++ y ∷ [])
+    (All-push (λ (b : BatchItem). x.doc ≢ b.doc) xs y (λ j d within. h 0 (suc j) d (omega arith) (omega (arith, within))) (one_apart x y n.0))
+    (push_apart xs y (λ i j d lt within. h (suc i) (suc j) d (omega (arith, lt)) (omega (arith, within))) n.1)
+
+-- what an offer that was Added says
+was_added : (a b : Bool) → (if a then Busy else if b then Closed else Added) ≡ Added → (a ≡ false) × (b ≡ false)
+was_added true b e = absurd (cc)
+was_added false true e = absurd (cc)
+was_added false false e = (refl, refl)
+
+and_none : (a b : Bool) → (a && b) ≡ false → a ≡ true → b ≡ false
+and_none true b e t = e
+and_none false b e t = absurd (cc)
+
+weighed_more : (g : Gathering) (i : BatchItem) → passes_bytes g i.bytes ≡ false → 1 < length (g.items ++ i ∷ []) → bytes_of (g.items ++ i ∷ []) ≤ g.limits.bytes
+weighed_more g i fits more =
+    let n = length-append g.items (i ∷ []) in
+    let sum = sum_by_push (λ (x : BatchItem). x.bytes) g.items i in
+    let some : nat_lt 0 (length g.items) ≡ true = lt-ltb 0 (length g.items) (omega (arith, n, more)) in
+    let le = ltb-false _ _ (and_none (nat_lt 0 (length g.items)) (nat_lt g.limits.bytes (bytes_of g.items + i.bytes)) fits some) in
+    omega (arith, le, sum)
+
+item_added : (g : Gathering) (i : BatchItem) → answer_to i g ≡ Added → IsBatch g.limits g.items → IsBatch g.limits (g.items ++ i ∷ [])
+item_added g i e b =
+    let a = was_added (holds_document i.doc g.items) (is_count_reached g || passes_bytes g i.bytes) e in
+    let c = or_none (is_count_reached g) (passes_bytes g i.bytes) a.1 in
+    record {
+      distinct = push_apart g.items i b.distinct a.0;
+      counted = (let n = length-append g.items (i ∷ []) in let f = leb-false g.limits.count (length g.items) c.0 in omega (arith, n, f));
+      weighed = weighed_more g i c.1;
+    }
+
+by_keep : (limits : Limits) (x : Offer) (busy closed added : Gathering) → IsBatch limits busy.items → IsBatch limits closed.items → (x ≡ Added → IsBatch limits added.items) → IsBatch limits (by_answer x busy closed added).items
+by_keep limits Busy busy closed added b c a = b
+by_keep limits Closed busy closed added b c a = c
+by_keep limits Added busy closed added b c a = a refl
+
+offered_keep : (is : List BatchItem) (g : Gathering) → IsBatch g.limits g.items → IsBatch g.limits (offered is g).items
+offered_keep [] g b = b
+offered_keep (i ∷ is) g b =
+    by_keep g.limits (answer_to i g) (offered is g) g (offered is (with_item i g)) (offered_keep is g b) b (λ e. offered_keep is (with_item i g) (item_added g i e b))
+
+nothing_gathered : (limits : Limits) → IsBatch limits []
+nothing_gathered limits = record { distinct = λ i j d lt within. absurd (omega (arith, within)); counted = omega arith; weighed = λ more. absurd (omega (arith, more)) }
+
+-- ---- the bytes
+
+bytes_are : (es : List Entry) → ((e : Entry) → Mem e es → e.bytes ≡ length (write_text (write_of e.held))) → bytes_of (map item_of es) ≡ length (text_of (writes_of_all es))
+bytes_are [] h = refl
+bytes_are (e ∷ es) h =
+    let first = h e (inl refl) in
+    let rest = bytes_are es (λ x m. h x (inr m)) in
+    let sum = sum_by-cons (λ (x : BatchItem). x.bytes) (item_of e) (map item_of es) in
+    let n = length-append (write_text (write_of e.held)) (text_of (writes_of_all es)) in
+    omega (arith, first, rest, sum, n)
+
+pub requests_keep_limits : RequestsKeepLimits
+requests_keep_limits s items lane e = record {
+  batch = subst (IsBatch s.config.limits) (batch_offered s items e) (offered_keep (map item_of (candidates s.core)) (gathering s) (nothing_gathered s.config.limits));
+  bytes = ap bytes_of (items_of_operations s items e) ∙ bytes_are (next_entries s) (λ x m. let may = earlier_ones_settled s x m in lane.weighed x may.held may.waits);
+}

@@ -1,0 +1,24 @@
+use Rattle.std.proofs.Common.{◌≡◌, ◌-◌, ◌+◌, ◌*◌, ◌^◌, ◌≤◌, ℕ, length, subst, sym, ap, ◌∙◌, arith, rules}
+use Rattle.std.specs.Prelude.{min}
+use Rattle.relay_core.specs.State.{State, IsLane}
+use Rattle.relay_core.specs.Memory.{writes_in}
+use Rattle.relay_core.specs.View.{seen}
+use Rattle.relay_core.proofs.Taken.{entries_length}
+use Rattle.relay_core.proofs.Weighed.{weighed_seen}
+use Rattle.relay_core.proofs.lane.Lane.totals.Goals as goal
+
+pub returns-clause-lane : goal.returns-clause-lane
+returns-clause-lane c =
+    let i = c.self.inside in
+    let v = c.self.invariant in
+    let begun = v.flight.begun in
+    subst IsLane c.self.view_is (record {
+      valid = v.config;
+      config = λ j. record { first = i.config.first_version; deals = v.deals j; max = i.config.attempts };
+      senders = (let n = v.senders in omega arith);
+      held = (let n = entries_length i.held.items (writes_in i.flown.items) in let f = v.few in omega arith);
+      weighed = weighed_seen i.config.attempts (i.flight.next - 1) (writes_in i.flown.items) i.held.items v.readable.kept;
+      flying = (let w = v.flight.within in let m = v.most in omega arith);
+      next = omega (arith, begun);
+      numbers = (let l = v.left in let d = v.dealt in omega (arith, l, d, begun));
+    })

@@ -1,0 +1,24 @@
+-- Within which limits a relay works.
+use Rattle.std.specs.Prelude.{ℕ, Bool, ◌&&◌, nat_le}
+use Rattle.relay_batch.specs.declared.item.Limits.{Limits}
+use Rattle.relay_action.specs.Limits.{last_version}
+use Rattle.relay_core.specs.declared.config.RelayConfig.{RelayConfig}
+
+abbrev pub is_from_to : ℕ → ℕ → ℕ → Bool
+is_from_to least most n = nat_le least n && nat_le n most
+
+-- of a batch: the most items, the most bytes, and the ticks for which it waits to be filled
+abbrev pub are_valid_limits : Limits → Bool
+are_valid_limits l = is_from_to 1 10000 l.count && (is_from_to 1024 16777216 l.bytes && nat_le l.linger 65535)
+
+-- each number is within its limits; more than one request in flight is not valid yet
+abbrev pub is_valid : RelayConfig → Bool
+is_valid c =
+    is_from_to 1 8 c.lanes
+    && (is_from_to 1 16 c.producers
+    && (is_from_to 1 65536 c.capacity
+    && (is_from_to 1 65536 c.max_held
+    && (are_valid_limits c.limits
+    && (is_from_to 1 32 c.attempts
+    && (is_from_to 1 1 c.in_flight
+    && is_from_to 1 last_version c.first_version))))))

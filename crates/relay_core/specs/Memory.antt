@@ -1,0 +1,167 @@
+-- What stands in a lane's memory: how it is read, and what always holds of it.
+use Rattle.std.specs.Prelude.{◌≡◌, ℕ, ◌+◌, ◌-◌, ◌<◌, ◌≤◌, List, [], ◌∷◌, ◌++◌, Option, Some, None, option_map, Bool, true, false, ◌==◌, ◌||◌, map, length, slice_get, if◌then◌else◌}
+use Rattle.relay_action.specs.Actions.{kind_of}
+use Rattle.relay_action.specs.declared.write.Write.{Write}
+use Rattle.relay_action.specs.declared.action.Action.{Action}
+use Rattle.relay_action.specs.declared.action.Action.TheVariants.{Delete}
+use Rattle.relay_action.specs.declared.action.ActionKind.{ActionKind}
+use Rattle.relay_action.specs.declared.operation.Op.{Op}
+use Rattle.relay_ndjson.specs.Bulk.{write_text}
+use Rattle.relay_batch.specs.declared.item.BatchItem.{BatchItem}
+use Rattle.relay_results.specs.Outside.{Answer}
+use Rattle.relay_results.specs.declared.outcome.Outcome.{Outcome}
+use Rattle.relay_results.specs.Fates.{Tries, fate, fate_of_entry}
+use Rattle.relay_delivery.specs.Machine.{Place, Held}
+use Rattle.relay_delivery.specs.Lane.{Entry, Flying}
+use Rattle.relay_core.specs.declared.kept.Kept.{Kept}
+use Rattle.relay_core.specs.declared.kept.Spot.{Spot}
+use Rattle.relay_core.specs.declared.kept.Sent.{Sent}
+use Rattle.relay_core.specs.Walk.{flies_here, fate_or}
+
+-- ---- read
+
+abbrev pub place_at : Spot → Place
+place_at s = record { request = s.request; place = s.place }
+
+-- the writes of a request in flight
+abbrev pub writes_in : List Sent → ℕ → List Write
+writes_in [] n = []
+writes_in (x ∷ xs) n = if x.number == n then x.writes.items else writes_in xs n
+
+abbrev pub has_number : ℕ → List Sent → Bool
+has_number n [] = false
+has_number n (x ∷ xs) = (x.number == n) || has_number n xs
+
+abbrev pub without : List Sent → ℕ → List Sent
+without [] n = []
+without (x ∷ xs) n = if x.number == n then xs else x ∷ without xs n
+
+abbrev pub write_found : Option Write → Option Spot → (ℕ → List Write) → Option Write
+write_found (Some w) fl f = Some w
+write_found None None f = None
+write_found None (Some p) f = slice_get (f p.request) p.place
+
+abbrev pub action_or : Option Write → Action
+action_or None = Delete
+action_or (Some w) = w.action
+
+abbrev pub op_of : Kept → (ℕ → List Write) → Op
+op_of h f = record { producer = h.name.producer; number = h.name.number; key = h.key; action = action_or (write_found h.write h.flies f) }
+
+abbrev pub held_seen : (ℕ → List Write) → Kept → Held
+held_seen f h = record { op = op_of h f; version = h.version; sends = h.sends; attempts = h.attempts; flies = option_map place_at h.flies }
+
+abbrev pub entry_of : (ℕ → List Write) → Kept → Entry
+entry_of f h = record { held = held_seen f h; bytes = h.bytes; taken_at = h.taken_at; due = h.due }
+
+abbrev pub entries : List Kept → (ℕ → List Write) → List Entry
+entries hs f = map (entry_of f) hs
+
+abbrev pub flying_of : Sent → Flying
+flying_of x = record { request = x.number; writes = x.writes.items }
+
+-- ---- what must hold of it
+
+pub record IsWriteOf (h : Kept) (w : Write) : Type 0 where
+  pub key : w.key ≡ h.key
+  pub version : w.version ≡ h.version
+  pub kind : kind_of w.action ≡ h.kind
+  pub bytes : h.bytes ≡ length (write_text w)
+
+abbrev pub Given : Bool → Type 0 → Type 0
+Given true X = X
+Given false X = Unit {0}
+
+abbrev pub further : Bool → ℕ → ℕ
+further true p = p + 1
+further false p = p
+
+abbrev pub rest_if : Bool → List Write → List Write
+rest_if true [] = []
+rest_if true (w ∷ ws) = ws
+rest_if false ws = ws
+
+pub record IsMet (number place : ℕ) (h : Kept) (ws : List Write) : Type 0 where
+  pub write : Write
+  pub found : ws ≡ write ∷ rest_if true ws
+  pub spot : h.flies ≡ Some (record { request = number; place = place })
+  pub matches : IsWriteOf h write
+
+-- those that fly in a request have its writes, in their order
+abbrev pub Carries : ℕ → ℕ → List Kept → List Write → Type 0
+Carries number place [] ws = ws ≡ []
+Carries number place (h ∷ hs) ws =
+    Given (flies_here number h.flies) (IsMet number place h ws)
+    × Carries number (further (flies_here number h.flies) place) hs (rest_if (flies_here number h.flies) ws)
+
+-- what waits has its write, and tries left; what flies has it in its request
+abbrev pub IsHome : ℕ → ℕ → Kept → Option Write → Option Spot → Type 0
+IsHome max next h (Some w) None = IsWriteOf h w × (h.attempts < max)
+IsHome max next h (Some w) (Some s) = ⊥
+IsHome max next h None None = ⊥
+IsHome max next h None (Some s) = (s.request < next) × (h.attempts ≤ max)
+
+pub record IsKept (max next : ℕ) (h : Kept) : Type 0 where
+  pub home : IsHome max next h h.write h.flies
+  pub sends : h.sends ≤ h.attempts + 14
+  pub due : h.due ≤ 18446744073709551615
+
+abbrev pub AllKept : ℕ → ℕ → List Kept → Type 0
+AllKept max next [] = Unit {0}
+AllKept max next (h ∷ hs) = IsKept max next h × AllKept max next hs
+
+abbrev pub AllAbove : ℕ → List Kept → Type 0
+AllAbove v [] = Unit {0}
+AllAbove v (h ∷ hs) = (v < h.version) × AllAbove v hs
+
+abbrev pub Rises : List Kept → Type 0
+Rises [] = Unit {0}
+Rises (h ∷ hs) = AllAbove h.version hs × Rises hs
+
+abbrev pub AllUnder : ℕ → List Kept → Type 0
+AllUnder v [] = Unit {0}
+AllUnder v (h ∷ hs) = (h.version < v) × AllUnder v hs
+
+-- the requests in flight stand beside the batches in flight, one number off
+abbrev pub SameNumbers : List Sent → List (ℕ × List BatchItem) → Type 0
+SameNumbers [] [] = Unit {0}
+SameNumbers [] (b ∷ bs) = ⊥
+SameNumbers (x ∷ xs) [] = ⊥
+SameNumbers (x ∷ xs) (b ∷ bs) = (x.number + 1 ≡ b.0) × SameNumbers xs bs
+
+abbrev pub NoneTwice : List Sent → Type 0
+NoneTwice [] = Unit {0}
+NoneTwice (x ∷ xs) = (has_number x.number xs ≡ false) × NoneTwice xs
+
+pub record IsReadable (max next : ℕ) (held : List Kept) (flown : List Sent) : Type 0 where
+  pub kept : AllKept max next held
+  pub rises : Rises held
+  pub once : NoneTwice flown
+  pub carries : (n : ℕ) → Carries n 0 held (writes_in flown n)
+
+-- the tries that held operations have left
+abbrev pub tries_left : ℕ → List Kept → ℕ
+tries_left max [] = 0
+tries_left max (h ∷ hs) = (max - h.attempts) + tries_left max hs
+
+-- ---- one by one
+
+-- by the status of the whole or the entries, an answer makes the same of each operation
+abbrev pub SaysAs : Answer → List Write → Option ℕ → List Outcome → Type 0
+SaysAs a ws whole os = (t : Tries) (p : ℕ) (kind : ActionKind) → fate t ws p kind a ≡ fate_or whole (fate_of_entry t kind (slice_get os p))
+
+-- an operation as it is held when it is taken
+abbrev pub kept_new : Op → ℕ → ℕ → ℕ → Kept
+kept_new o version bytes clock = record {
+  name = record { producer = o.producer; number = o.number };
+  key = o.key;
+  kind = kind_of o.action;
+  version = version;
+  bytes = bytes;
+  taken_at = clock;
+  due = clock;
+  sends = 0;
+  attempts = 0;
+  flies = None;
+  write = Some (record { key = o.key; version = version; action = o.action });
+}

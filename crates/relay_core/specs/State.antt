@@ -1,0 +1,202 @@
+-- A lane as its callers see it, and what each call makes of it.
+use Rattle.std.specs.Prelude.{◌≡◌, ℕ, ◌+◌, ◌-◌, ◌^◌, ◌≤◌, List, [], ◌∷◌, ◌++◌, Option, Some, None, option_map, Bool, not, true, false, ◌==◌, ◌&&◌, nat_lt, min, map, filter, length, replicate, slice_set, slice_index_or, if◌then◌else◌}
+use Rattle.std.specs.List.{list_all}
+use Rattle.relay_action.specs.declared.write.Write.{Write}
+use Rattle.relay_action.specs.declared.operation.Op.{Op}
+use Rattle.relay_action.specs.declared.mail.Mail.{Mail}
+use Rattle.relay_action.specs.declared.mail.Body.{Body}
+use Rattle.relay_action.specs.declared.mail.Body.TheVariants as body
+use Rattle.relay_ndjson.specs.Bulk.{write_text}
+use Rattle.relay_batch.specs.declared.item.BatchItem.{BatchItem}
+use Rattle.relay_batch.specs.Gathering.{Gathering}
+use Rattle.relay_flight.specs.Flying as flight
+use Rattle.relay_results.specs.Words.{Mem}
+use Rattle.relay_results.specs.Documents.{write_for}
+use Rattle.relay_results.specs.Numbers.{from_zero}
+use Rattle.relay_results.specs.Outside.{Answer, Items}
+use Rattle.relay_results.specs.Matching.{matches}
+use Rattle.relay_results.specs.Fates as fates
+use Rattle.relay_delivery.specs.Causes.{deals_from}
+use Rattle.relay_delivery.specs.Machine.{Config, Held, version_at, write_of, how_many, is_applied_fate, is_already_fate}
+use Rattle.relay_delivery.specs.Lane as delivery
+use Rattle.relay_core.specs.declared.config.RelayConfig.{RelayConfig}
+use Rattle.relay_core.specs.declared.settled.TakeFault.{TakeFault}
+use Rattle.relay_core.specs.declared.settled.TakeFault.TheVariants.{AfterClose, HeldFull}
+use Rattle.relay_core.specs.declared.settled.Settled.{Settled}
+use Rattle.relay_core.specs.Limits.{is_valid}
+use Rattle.relay_core.specs.Rule.{item_of, chosen, batch_of}
+
+-- How it works; its clock, what it took, holds, sent and reported, in the words of delivery; the flush mark, the highest
+-- version that is to be sent, full batch or not; which senders have closed; and the batches in flight.
+pub record State : Type 0 where
+  pub config : RelayConfig
+  pub core : delivery.State
+  pub mark : ℕ
+  pub closed : List Bool
+  pub flights : flight.Flying
+
+abbrev pub config_of : RelayConfig → Config
+config_of c = record { first = c.first_version; deals = deals_from c.first_version; max = c.attempts }
+
+-- so many senders, none of which has closed
+abbrev pub none_closed : ℕ → List Bool
+none_closed n = replicate n false
+
+-- before its first call
+abbrev pub fresh : RelayConfig → State
+fresh c = record {
+  config = c;
+  core = delivery.fresh_state (config_of c);
+  mark = 0;
+  closed = none_closed (c.producers + 1);
+  flights = record { max = c.in_flight; next = 1; batches = [] };
+}
+
+-- ---- take
+
+abbrev pub all_closed : State → Bool
+all_closed s = list_all (λ (b : Bool). b) s.closed
+
+-- the clock stays at its end
+abbrev pub later : ℕ → ℕ
+later clock = if nat_lt clock 18446744073709551615 then clock + 1 else clock
+
+abbrev pub ticked : State → State
+ticked s = record s { core = record s.core { clock = later s.core.clock } }
+
+-- the last version dealt; the mark stays where none was dealt
+abbrev pub mark_of : State → ℕ
+mark_of s = if s.core.taken == 0 then s.mark else s.core.config.first + min s.core.taken s.core.config.deals - 1
+
+abbrev pub flushed : State → State
+flushed s = record s { mark = mark_of s }
+
+-- how many bytes the lines of an operation have, under the version that it is dealt
+abbrev pub bytes_of : State → Op → ℕ
+bytes_of s o = length (write_text (write_for o (version_at s.core.config s.core.taken)))
+
+abbrev pub taken : State → Op → State
+taken s o = record s { core = delivery.taken_op s.core o (bytes_of s o) }
+
+abbrev pub after_take : State → ℕ → Body → State
+after_take s sender (body.Put o) = taken s o
+after_take s sender body.Tick = ticked s
+after_take s sender body.Flush = flushed s
+after_take s sender body.Done = record s { closed = slice_set s.closed sender true }
+
+abbrev pub is_full : State → Body → Bool
+is_full s (body.Put o) = length s.core.held == s.config.max_held
+is_full s body.Tick = false
+is_full s body.Flush = false
+is_full s body.Done = false
+
+-- only an operation needs memory, and may be refused where there is none
+abbrev pub is_put : Body → Bool
+is_put (body.Put o) = true
+is_put body.Tick = false
+is_put body.Flush = false
+is_put body.Done = false
+
+-- why a message is not taken, the first that holds
+abbrev pub take_fault : State → ℕ → Body → Option TakeFault
+take_fault s sender b =
+    if slice_index_or s.closed sender false then Some AfterClose
+    else if is_full s b then Some HeldFull
+    else None
+
+-- ---- request
+
+abbrev pub gathering : State → Gathering
+gathering s = record { limits = s.config.limits; items = [] }
+
+-- the operations of the next request
+abbrev pub next_entries : State → List delivery.Entry
+next_entries s = chosen (delivery.candidates s.core) (gathering s)
+
+-- the batch that is sent now, if one is
+abbrev pub next_batch : State → Option (List BatchItem)
+next_batch s =
+    if nat_lt (length s.flights.batches) s.config.in_flight
+    then batch_of s.core.clock s.mark (all_closed s) s.config.limits (map item_of (delivery.candidates s.core))
+    else None
+
+abbrev pub after_request : State → Option (List BatchItem) → State
+after_request s None = s
+after_request s (Some items) = record s { core = delivery.sent s.core (next_entries s); flights = flight.entered items s.flights }
+
+-- ---- reply, whole, lost
+
+abbrev pub is_flying : ℕ → State → Bool
+is_flying number s = delivery.is_flying number s.core
+
+-- the writes of a request in flight
+abbrev pub writes_of : ℕ → State → List Write
+writes_of number s = delivery.writes_at (from_zero number) s.core.flying
+
+abbrev pub answered : State → ℕ → Answer → State
+answered s number a = record s { core = delivery.answered s.core number a; flights = flight.settled number s.flights }
+
+abbrev pub is_reported_fate : fates.Fate → Bool
+is_reported_fate fates.Flies = false
+is_reported_fate fates.Applied = false
+is_reported_fate fates.Already = false
+is_reported_fate fates.Retried = false
+is_reported_fate (fates.Reported cause) = true
+
+abbrev pub is_retried_fate : fates.Fate → Bool
+is_retried_fate fates.Flies = false
+is_retried_fate fates.Applied = false
+is_retried_fate fates.Already = false
+is_retried_fate fates.Retried = true
+is_retried_fate (fates.Reported cause) = false
+
+-- how many operations an answer makes this of
+abbrev pub counted : (fates.Fate → Bool) → State → ℕ → Answer → ℕ
+counted test s number a = how_many test s.core.config (from_zero number) (writes_of number s) a (delivery.held_of s.core.held)
+
+-- the counts are those of the operations that so ended
+pub record AreCounts (s : State) (number : ℕ) (a : Answer) (c : Settled) : Type 0 where
+  pub applied : c.applied ≡ counted is_applied_fate s number a
+  pub already : c.already ≡ counted is_already_fate s number a
+  pub reported : c.reported ≡ counted is_reported_fate s number a
+  pub retried : c.retried ≡ counted is_retried_fate s number a
+
+-- ---- looks
+
+-- it waits, and no held operation of its document is older
+abbrev pub is_eligible : State → delivery.Entry → Bool
+is_eligible s e = delivery.waits e.held.flies && not (delivery.is_later (delivery.held_of s.core.held) e.held)
+
+-- the least due tick of these
+abbrev pub sooner : ℕ → Option ℕ → Option ℕ
+sooner due None = Some due
+sooner due (Some other) = Some (min due other)
+
+abbrev pub first_due : List delivery.Entry → Option ℕ
+first_due [] = None
+first_due (e ∷ es) = sooner e.due (first_due es)
+
+-- the ticks until the first eligible operation is due
+abbrev pub due_in : State → Option ℕ
+due_in s = option_map (λ due. due - s.core.clock) (first_due (filter (is_eligible s) s.core.held))
+
+abbrev pub is_finished : State → Bool
+is_finished s = all_closed s && (length s.core.held == 0)
+
+-- ---- what always holds
+
+-- the bytes of what waits are those of its lines
+abbrev pub AreWeighed : List delivery.Entry → Type 0
+AreWeighed es = (e : delivery.Entry) → Mem e es → e.held.flies ≡ None → e.bytes ≡ length (write_text (write_of e.held))
+
+-- It works within its limits, has all its senders, and holds and sends no more than it may; requests are numbered one
+-- after another, far below 2^63.
+pub record IsLane (s : State) : Type 0 where
+  pub valid : is_valid s.config ≡ true
+  pub config : s.core.config ≡ config_of s.config
+  pub senders : length s.closed ≡ s.config.producers + 1
+  pub held : length s.core.held ≤ s.config.max_held
+  pub weighed : AreWeighed s.core.held
+  pub flying : length s.flights.batches ≤ s.config.in_flight
+  pub next : s.flights.next ≡ s.core.requests + 1
+  pub numbers : s.core.requests ≤ 2 ^ 61

@@ -1,0 +1,107 @@
+//! What an answer makes of one operation.
+ghost use Rattle.std.specs.Prelude.{◌≡◌, [], unwrap_or};
+ghost use Rattle.relay_results.specs.Fates.{fate_of_item, fate_of_entry};
+ghost use Rattle.relay_core.specs.Walk.{said, fate_or};
+
+use crate::kept::Kept;
+use relay_action::{ActionKind, Text};
+use relay_results::{Cause, ItemVerdict, Outcome, verdict};
+use std::alloc::Global;
+
+/// What becomes of an operation when the answer of its request comes.
+#[derive(Debug, Drop)]
+pub enum Fate {
+    /// It ends as applied.
+    Applied,
+    /// It ends as applied by an earlier request.
+    Already,
+    /// It waits to be sent again.
+    Retried,
+    /// It ends with a report.
+    Reported(Cause),
+}
+
+// The type of an error, or no text where there is none.
+fn error_type(alloc: Global, error: Option<Text>) -> Text
+    ensures { result ≡ unwrap_or error [] }
+{
+    match error {
+        Some(text) => text,
+        None => Text::empty(alloc),
+    }
+}
+
+// What an entry makes of the operation that it is for.
+fn fate_by(
+    alloc: Global,
+    kind: ActionKind,
+    outcome: Outcome,
+    sends: u32,
+    attempts: u32,
+    max: u32,
+) -> Fate
+    ensures { said result
+        ≡ fate_of_item (record { sends = sends; attempts = attempts; max = max }) kind outcome }
+{
+    match verdict(
+        kind,
+        outcome.status,
+        outcome.error.is_some(),
+        sends,
+        attempts,
+        max,
+    ) {
+        ItemVerdict::Applied => Fate::Applied,
+        ItemVerdict::Already => Fate::Already,
+        ItemVerdict::Conflict => Fate::Reported(Cause::Conflict),
+        ItemVerdict::Retry => Fate::Retried,
+        ItemVerdict::GaveUp => Fate::Reported(Cause::GaveUp { sends }),
+        ItemVerdict::Refused => Fate::Reported(Cause::Refused {
+            status: outcome.status,
+            kind: error_type(alloc, outcome.error),
+        }),
+    }
+}
+
+// What the entry at its place makes of it, if there is one.
+fn fate_next(
+    alloc: Global,
+    kind: ActionKind,
+    entry: Option<Outcome>,
+    sends: u32,
+    attempts: u32,
+    max: u32,
+) -> Fate
+    ensures { said result
+        ≡ fate_of_entry (record { sends = sends; attempts = attempts; max = max }) kind entry }
+{
+    match entry {
+        Some(outcome) => fate_by(alloc, kind, outcome, sends, attempts, max),
+        None => {
+            if attempts < max {
+                Fate::Retried
+            } else {
+                Fate::Reported(Cause::GaveUp { sends })
+            }
+        }
+    }
+}
+
+/// What an answer makes of a held operation: the status of the whole request, where it is reported; else
+/// its entry, and where it has none it is tried again. It takes no memory.
+pub(crate) fn fate_in(
+    alloc: Global,
+    one: &Kept,
+    whole: Option<u16>,
+    entry: Option<Outcome>,
+    max: u32,
+) -> Fate
+    ensures { said result
+        ≡ fate_or whole
+        (fate_of_entry (record { sends = one.now.sends; attempts = one.now.attempts; max = max }) one.now.kind entry) }
+{
+    match whole {
+        Some(status) => Fate::Reported(Cause::Request { status }),
+        None => fate_next(alloc, one.kind, entry, one.sends, one.attempts, max),
+    }
+}

@@ -1,0 +1,473 @@
+//! The lane.
+ghost use Rattle.std.specs.Prelude.{◌≡◌, ◌≢◌, unwrap_or, ◌≤◌, ◌<◌, ◌+◌, ◌-◌, ◌++◌, ◌∷◌, [], true, Some, None, IfOk, OnOk, OnErr, IfErr, IfSome, OnSome, IfNone, map, option_map, is_some, is_ok, if◌then◌else◌, length, vec_len, vec_capacity};
+ghost use Rattle.std.specs.List.{list_all};
+ghost use Rattle.relay_results.specs.Numbers.{from_zero};
+ghost use Rattle.relay_results.specs.Outside.{Answer, Lost, Whole, Items};
+ghost use Rattle.relay_results.specs.Matching.{matches};
+ghost use Rattle.relay_results.specs.Verdicts.{is_retried_whole};
+ghost use Rattle.relay_flight.specs.Flying.{batch_at};
+ghost use Rattle.relay_delivery.specs.Lane.{candidates};
+ghost use Rattle.relay_core.specs.Limits.{is_valid};
+ghost use Rattle.relay_core.specs.Walk.{report_of};
+ghost use Rattle.relay_core.specs.Memory.{SaysAs};
+ghost use Rattle.relay_core.specs.State.{fresh, taken, after_take, take_fault, is_put, all_closed, later, ticked, flushed, is_flying, writes_of, answered, AreCounts, next_batch, after_request, due_in, is_finished, IsLane};
+
+use crate::config::{RelayConfig, deals};
+use crate::flown::{find_writes, settle_flown};
+use crate::gather::{due_batch, first_due};
+use crate::kept::{Kept, Sent};
+use crate::launch::launch;
+use crate::report::Report;
+use crate::settled::{NotFlying, Settled, TakeFault, Totals};
+use crate::taking::{NoRoom, kept_of, make_room, refused};
+use relay_action::{Body, Mail, Op, Write};
+use relay_batch::{Batch, BatchItem};
+use relay_flight::Flight;
+use relay_results::{Cause, Outcome, matches};
+use std::alloc::{AllocError, Global};
+use std::marker::Model;
+
+/// A lane: what it holds, what flies, and what it reports. Contracts see it as a `State`.
+#[derive(Debug, Drop)]
+pub struct Lane {
+    alloc: Global,
+    config: RelayConfig,
+    deals: u64,
+    clock: u64,
+    mark: u64,
+    taken: u64,
+    applied: u64,
+    already: u64,
+    closed: Vec<bool>,
+    held: Vec<Kept>,
+    flight: Flight,
+    flown: Vec<Sent>,
+    reports: Vec<Report>,
+}
+
+impl Model for Lane {
+    ghost use Rattle.relay_core.specs.State.{State};
+    ghost use Rattle.relay_core.specs.View.{seen, IsSound};
+
+    ghost Value = { State };
+
+    ghost view = { seen };
+
+    ghost invariant = { IsSound };
+}
+
+fn are_closed(closed: &[bool]) -> bool
+    ensures { result ≡ list_all (λ b. b) closed.now }
+{
+    closed.iter().all(|x| *x)
+}
+
+fn one_later(n: u64) -> u64
+    ensures { result ≡ later n }
+{
+    if n < u64::MAX { n + 1 } else { n }
+}
+
+// The status that is reported, unless the whole is tried again.
+fn reported_status(status: u16) -> Option<u16>
+    ensures { result ≡ (if is_retried_whole status then None else Some status) }
+{
+    match status {
+        429 | 502 | 503 | 504 => None,
+        _ => Some(status),
+    }
+}
+
+impl Lane {
+    /// A lane that holds nothing, of a config that is valid. Its senders are the producers, numbered from
+    /// 0, and the control, numbered one past the last of them. `AllocError`: there was no memory for the
+    /// places in flight or for the senders.
+    pub fn new(alloc: Global, config: RelayConfig) -> Result<Lane, AllocError>
+        requires { is_valid config ≡ true }
+        ensures { IfOk result (λ l. l ≡ fresh config) }
+    {
+        Ok(Lane {
+            alloc,
+            config,
+            deals: deals(config.first_version),
+            clock: 0,
+            mark: 0,
+            taken: 0,
+            applied: 0,
+            already: 0,
+            closed: vec![in alloc; false; config.producers as usize + 1]?,
+            held: Vec::new(alloc),
+            flight: Flight::new(alloc, config.in_flight)?,
+            flown: Vec::with_capacity(alloc, config.in_flight as usize)?,
+            reports: Vec::new(alloc),
+        })
+    }
+
+    /// A tick of the clock passes. The clock stays at 2^64 - 1.
+    pub fn tick(&mut self)
+        ensures { self.new ≡ ticked self.old }
+    {
+        self.clock = one_later(self.clock);
+    }
+
+    /// Sets the flush mark to the last version dealt: what was taken until now is to be sent, full batch
+    /// or not. Where none was dealt it does nothing.
+    pub fn flush(&mut self)
+        ensures { self.new ≡ flushed self.old }
+    {
+        if self.taken > 0 {
+            self.mark = self.config.first_version + self.taken.min(self.deals) - 1;
+        }
+    }
+
+    /// Whether each sender's Done was taken.
+    pub fn closed(&self) -> bool
+        ensures { result ≡ all_closed self.now }
+    {
+        are_closed(&self.closed)
+    }
+
+    /// How many senders it has: the producers and the control.
+    pub fn senders(&self) -> u32
+        ensures { result ≡ length self.now.closed }
+    {
+        self.closed.len() as u32
+    }
+
+    /// How many operations it holds at most.
+    pub fn max_held(&self) -> u32
+        ensures { result ≡ self.now.config.max_held }
+    {
+        self.config.max_held
+    }
+
+    /// How many operations are held.
+    pub fn held(&self) -> u32
+        ensures { result ≡ length self.now.core.held }
+    {
+        self.held.len() as u32
+    }
+
+    /// The reports, in the order in which they arose.
+    pub fn reports(&self) -> &[Report]
+        ensures { map report_of result.now ≡ self.now.core.reports }
+    {
+        self.reports.as_slice()
+    }
+
+    /// The reports, where the lane itself is not needed any more.
+    pub fn into_reports(self) -> Vec<Report>
+        ensures { map report_of result.items ≡ self.core.reports }
+    {
+        let Lane { reports, .. } = self;
+        reports
+    }
+
+    /// What was taken, applied and sent since the lane was made.
+    pub fn totals(&self) -> Totals
+        ensures lane { IsLane self.now }
+        ensures totals { result ≡ record {
+          taken = self.now.core.taken;
+          applied = self.now.core.applied;
+          already = self.now.core.already;
+          requests = self.now.core.requests;
+        } }
+    {
+        Totals {
+            taken: self.taken,
+            applied: self.applied,
+            already: self.already,
+            requests: self.flight.next() - 1,
+        }
+    }
+
+    /// How many ticks have to pass until the first eligible operation is due: one that waits, and that has
+    /// no older one of its document before it. 0 where one is due, `None` where none is eligible.
+    pub fn due_in(&self) -> Option<u64>
+        ensures { result ≡ due_in self.now }
+    {
+        match first_due(&self.held) {
+            Some(due) => Some(due.saturating_sub(self.clock)),
+            None => None,
+        }
+    }
+
+    /// Whether each sender has closed and nothing is held.
+    pub fn finished(&self) -> bool
+        ensures { result ≡ is_finished self.now }
+    {
+        self.closed() && self.held() == 0
+    }
+}
+
+// Messages are taken.
+impl Lane {
+    // Takes an operation that there is a place for.
+    fn take_put(&mut self, op: Op) -> Result<(), NoRoom>
+        requires { length self.old.core.held < self.old.config.max_held }
+        ensures ok { OnOk result (self.new ≡ taken self.old op) }
+        ensures unchanged { OnErr result (self.new ≡ self.old) }
+        ensures back { IfErr result (λ e. e.op ≡ op) }
+    {
+        if make_room(&mut self.held, &mut self.reports).is_err() {
+            return Err(NoRoom { op });
+        }
+        if self.taken >= self.deals {
+            let name = op.name();
+            self.reports.push_reserved(Report {
+                name,
+                key: op.key,
+                cause: Cause::Spent,
+            });
+            self.taken += 1;
+            return Ok(());
+        }
+        let Ok(key) = op.key.copy() else {
+            return Err(NoRoom { op });
+        };
+        let version = self.config.first_version + self.taken;
+        self.held
+            .push_reserved(kept_of(op, key, version, self.clock));
+        self.taken += 1;
+        Ok(())
+    }
+
+    /// Takes a message of a known sender. An operation is dealt the next version and held, or reported as
+    /// Spent where none is left; a Tick is a [`Lane::tick`], a Flush a [`Lane::flush`], and a Done closes
+    /// its sender. The room for the operation's later report is made too. The faults are those of
+    /// [`TakeFault`], the first that holds, `Memory` of an operation alone; the message comes back then,
+    /// and the lane is as before.
+    pub fn take(&mut self, mail: Mail) -> Result<(), (TakeFault, Mail)>
+        requires { mail.sender < length self.old.closed }
+        ensures ok { OnOk result (self.new ≡ after_take self.old mail.sender mail.body) }
+        ensures unchanged { OnErr result (self.new ≡ self.old) }
+        ensures back { IfErr result (λ e. e.1 ≡ mail) }
+        ensures accepted { OnOk result (take_fault self.old mail.sender mail.body ≡ None) }
+        ensures refused { IfErr result (λ e. e.0
+            ≡ unwrap_or (take_fault self.old mail.sender mail.body) TakeFault.Memory) }
+        ensures room { IfErr result (λ e. e.0 ≡ TakeFault.Memory → is_put mail.body ≡ true) }
+    {
+        let Mail {
+            sender,
+            number,
+            body,
+        } = mail;
+        if self.closed[sender as usize] {
+            return Err(refused(TakeFault::AfterClose, sender, number, body));
+        }
+        match body {
+            Body::Put(op) => {
+                if self.held.len() == self.config.max_held as usize {
+                    return Err(refused(TakeFault::HeldFull, sender, number, Body::Put(op)));
+                }
+                match self.take_put(op) {
+                    Ok(()) => Ok(()),
+                    Err(NoRoom { op }) => Err(refused(
+                        TakeFault::Memory,
+                        sender,
+                        number,
+                        Body::Put(op),
+                    )),
+                }
+            }
+            Body::Tick => {
+                self.tick();
+                Ok(())
+            }
+            Body::Flush => {
+                self.flush();
+                Ok(())
+            }
+            Body::Done => {
+                self.closed[sender as usize] = true;
+                Ok(())
+            }
+        }
+    }
+}
+
+// Requests are formed.
+impl Lane {
+    // The batch that is to be sent now, if one is.
+    fn next_batch(&self) -> Result<Option<Batch>, AllocError>
+        ensures batch { IfOk result (λ b. b ≡ next_batch self.now) }
+        ensures place { OnErr result (length self.now.flights.batches < self.now.config.in_flight) }
+        ensures candidates { OnErr result (0 < length (candidates self.now.core)) }
+        ensures free { IfOk result (λ b. IfSome b (λ x. length self.now.flights.batches < self.now.config.in_flight)) }
+    {
+        if self.flight.flying() >= self.config.in_flight {
+            return Ok(None);
+        }
+        due_batch(
+            self.alloc,
+            &self.held,
+            self.clock,
+            self.mark,
+            self.closed(),
+            self.config.limits,
+        )
+    }
+
+    // Lets a batch fly: its operations are sent, and their writes go into the request.
+    fn enter(&mut self, batch: Batch, writes: Vec<Write>) -> u64
+        requires next { next_batch self.old ≡ Some batch }
+        requires none { writes.items ≡ [] }
+        requires room { vec_len writes + length batch ≤ vec_capacity writes }
+        ensures number { result ≡ self.old.flights.next }
+        ensures after { self.new ≡ after_request self.old (Some batch) }
+    {
+        let mut writes = writes;
+        let number = self.flight.next();
+        launch(&mut self.held, number - 1, batch.items(), &mut writes);
+        let _ = self.flight.enter(batch);
+        self.flown.push_reserved(Sent {
+            number: number - 1,
+            writes,
+        });
+        number
+    }
+
+    /// Forms the next request and gives its number, 1 for the first and one more each time. `None` where
+    /// as many fly as may, or where no batch is to be sent: the operations that wait, are due, and have
+    /// no older one of their document before them are gathered in rising version until the batch is
+    /// closed, and they go where the batch is full, ready or flushed, or where the lane is closed. Each
+    /// of them has one send and one attempt more. `AllocError`: there was no memory for the batch or for
+    /// its writes, and the lane is as before; a place was free then, and some operation may be sent.
+    pub fn request(&mut self) -> Result<Option<u64>, AllocError>
+        ensures when { IfOk result (λ o. is_some o ≡ is_some (next_batch self.old)) }
+        ensures number { IfOk result (λ o. IfSome o (λ n. n ≡ self.old.flights.next)) }
+        ensures after { OnOk result (self.new ≡ after_request self.old (next_batch self.old)) }
+        ensures unchanged { OnErr result (self.new ≡ self.old) }
+        ensures place { OnErr result (length self.old.flights.batches < self.old.config.in_flight) }
+        ensures candidates { OnErr result (0 < length (candidates self.old.core)) }
+    {
+        let Some(batch) = self.next_batch()? else {
+            return Ok(None);
+        };
+        let writes = Vec::with_capacity(self.alloc, batch.items().len())?;
+        Ok(Some(self.enter(batch, writes)))
+    }
+
+    /// The writes of a request in flight, in the order of its batch. Requests are numbered from 1.
+    pub fn writes(&self, number: u64) -> Option<&[Write]>
+        ensures flies { is_some result ≡ is_flying number self.now }
+        ensures writes { IfSome result (λ ws. ws.now ≡ writes_of number self.now) }
+    {
+        if number == 0 {
+            return None;
+        }
+        find_writes(&self.flown, number - 1)
+    }
+
+    /// The batch of a request in flight, if one flies under the number.
+    pub fn items(&self, number: u64) -> Option<&[BatchItem]>
+        ensures { option_map (λ b. b.now) result ≡ batch_at number self.now.flights }
+    {
+        match self.flight.batch(number) {
+            Some(batch) => Some(batch.items()),
+            None => None,
+        }
+    }
+}
+
+// Requests are answered.
+impl Lane {
+    // What the answer of a request makes of the lane, where it flies.
+    fn settle(&mut self, number: u64, whole: Option<u16>, outcomes: Vec<Outcome>) -> Option<Settled>
+        requires { 1 ≤ number }
+        ensures flies { is_some result ≡ is_flying number self.old }
+        ensures settled { OnSome result ((a : Answer)
+            → SaysAs a (writes_of number self.old) whole outcomes.items
+            → self.new ≡ answered self.old number a) }
+        ensures counts { IfSome result (λ c. (a : Answer)
+            → SaysAs a (writes_of number self.old) whole outcomes.items
+            → AreCounts self.old number a c) }
+        ensures matched { IfSome result (λ c. c.matched ≡ true) }
+        ensures unchanged { IfNone result (self.new ≡ self.old) }
+    {
+        match settle_flown(
+            self.alloc,
+            &mut self.held,
+            &mut self.flown,
+            &mut self.reports,
+            self.config.attempts,
+            self.clock,
+            number - 1,
+            whole,
+            outcomes,
+        ) {
+            Some(found) => {
+                let _ = self.flight.settle(number);
+                self.applied += found.applied as u64;
+                self.already += found.already as u64;
+                Some(found)
+            }
+            None => None,
+        }
+    }
+
+    /// The reply to a request was lost, could not be read, or the request could not be sent: each of its
+    /// operations waits to be sent again, or is given up where its attempts are used up. [`NotFlying`]:
+    /// no request flies under the number, and the lane is as before. It takes no memory.
+    pub fn lost(&mut self, number: u64) -> Result<Settled, NotFlying>
+        ensures flies { is_ok result ≡ is_flying number self.old }
+        ensures ok { OnOk result (self.new ≡ answered self.old number Lost) }
+        ensures counts { IfOk result (λ c. AreCounts self.old number Lost c) }
+        ensures matched { IfOk result (λ c. c.matched ≡ true) }
+        ensures unchanged { OnErr result (self.new ≡ self.old) }
+    {
+        if number == 0 {
+            return Err(NotFlying);
+        }
+        match self.settle(number, None, Vec::new(self.alloc)) {
+            Some(found) => Ok(found),
+            None => Err(NotFlying),
+        }
+    }
+
+    /// A request as a whole was answered by a status other than 200. After 429, 502, 503 and 504 it is as
+    /// [`Lane::lost`]; after any other each of its operations is reported with the status. [`NotFlying`]:
+    /// no request flies under the number, and the lane is as before. It takes no memory.
+    pub fn whole(&mut self, number: u64, status: u16) -> Result<Settled, NotFlying>
+        requires { status ≢ 200 }
+        ensures flies { is_ok result ≡ is_flying number self.old }
+        ensures ok { OnOk result (self.new ≡ answered self.old number (Whole status)) }
+        ensures counts { IfOk result (λ c. AreCounts self.old number (Whole status) c) }
+        ensures matched { IfOk result (λ c. c.matched ≡ true) }
+        ensures unchanged { OnErr result (self.new ≡ self.old) }
+    {
+        if number == 0 {
+            return Err(NotFlying);
+        }
+        match self.settle(number, reported_status(status), Vec::new(self.alloc)) {
+            Some(found) => Ok(found),
+            None => Err(NotFlying),
+        }
+    }
+
+    /// A request was answered by status 200 and these outcomes. Where they match it, each operation ends
+    /// by the verdict on its outcome; else it is as [`Lane::lost`]. [`NotFlying`]: no request flies under
+    /// the number, and the lane is as before. It takes no memory.
+    pub fn reply(&mut self, number: u64, outcomes: Vec<Outcome>) -> Result<Settled, NotFlying>
+        ensures flies { is_ok result ≡ is_flying number self.old }
+        ensures ok { OnOk result (self.new ≡ answered self.old number (Items outcomes.items)) }
+        ensures counts { IfOk result (λ c. AreCounts self.old number (Items outcomes.items) c) }
+        ensures matched { IfOk result
+            (λ c. c.matched ≡ matches outcomes.items (writes_of number self.old)) }
+        ensures unchanged { OnErr result (self.new ≡ self.old) }
+    {
+        let Some(writes) = self.writes(number) else {
+            return Err(NotFlying);
+        };
+        let matched = matches(&outcomes, writes);
+        let given = if matched {
+            outcomes
+        } else {
+            Vec::new(self.alloc)
+        };
+        match self.settle(number, None, given) {
+            Some(found) => Ok(Settled { matched, ..found }),
+            None => Err(NotFlying),
+        }
+    }
+}

@@ -1,0 +1,26 @@
+//! The core of a lane: without a clock, a thread or a socket it decides which of the operations that it
+//! holds go into the next request, and what becomes of each when its answer comes. Batches are gathered
+//! by `relay_batch` and fly in `relay_flight`; what is promised of delivery stands in `relay_delivery`.
+//!
+//! It carries this promise: each call changes the lane exactly as its rule says and is a step of delivery,
+//! so that a lane and an outside which came about by the same sends and answers are sound and complete.
+#![tactic(auto)]
+
+pub mod config;
+mod fates;
+mod flown;
+mod gather;
+mod kept;
+pub mod lane;
+mod launch;
+pub mod laws;
+pub mod report;
+mod settle;
+pub mod settled;
+mod taking;
+
+pub use config::RelayConfig;
+pub use lane::Lane;
+pub use relay_results::Cause;
+pub use report::Report;
+pub use settled::{NotFlying, Settled, TakeFault, Totals};

@@ -1,0 +1,76 @@
+//! An operation is taken.
+ghost use Rattle.std.specs.Prelude.{◌≡◌, ◌+◌, ◌^◌, ◌≤◌, ◌<◌, OnOk, length, vec_len, vec_capacity};
+ghost use Rattle.relay_ndjson.specs.Bulk.{write_text};
+ghost use Rattle.relay_results.specs.Documents.{write_for};
+ghost use Rattle.relay_core.specs.Memory.{kept_new};
+
+use crate::kept::Kept;
+use crate::report::Report;
+use crate::settled::TakeFault;
+use relay_action::{Body, DocKey, Mail, Op, Write};
+use relay_ndjson::write_len;
+use std::alloc::AllocError;
+
+/// An operation that was not taken.
+#[derive(Debug, Drop)]
+pub struct NoRoom {
+    /// The operation.
+    pub op: Op,
+}
+
+/// Room for one more operation and for its later report.
+pub(crate) fn make_room(held: &mut Vec<Kept>, reports: &mut Vec<Report>) -> Result<(), AllocError>
+    requires { vec_len held.old + 1 < 2 ^ 32 }
+    ensures held { held.new.items ≡ held.old.items }
+    ensures held_len { vec_len held.new ≡ vec_len held.old }
+    ensures reports { reports.new.items ≡ reports.old.items }
+    ensures reports_len { vec_len reports.new ≡ vec_len reports.old }
+    ensures capacity { vec_capacity reports.old ≤ vec_capacity reports.new }
+    ensures held_room { OnOk result (vec_len held.new < vec_capacity held.new) }
+    ensures reports_room { OnOk result (vec_len reports.new + vec_len held.new + 1 ≤ vec_capacity reports.new) }
+{
+    reports.reserve(held.len() + 1)?;
+    held.reserve(1)?;
+    Ok(())
+}
+
+/// An operation as it is held, beside a copy of its document.
+pub(crate) fn kept_of(op: Op, key: DocKey, version: u64, clock: u64) -> Kept
+    requires { key ≡ op.key }
+    ensures { result ≡ kept_new op version (length (write_text (write_for op version))) clock }
+{
+    let kind = op.action.kind();
+    let name = op.name();
+    let write = Write {
+        key: op.key,
+        version,
+        action: op.action,
+    };
+    Kept {
+        name,
+        key,
+        kind,
+        version,
+        bytes: write_len(&write),
+        taken_at: clock,
+        due: clock,
+        sends: 0,
+        attempts: 0,
+        flies: None,
+        write: Some(write),
+    }
+}
+
+/// A message that is handed back.
+pub(crate) fn refused(fault: TakeFault, sender: u32, number: u64, body: Body) -> (TakeFault, Mail)
+    ensures { result ≡ (fault, record { sender = sender; number = number; body = body }) }
+{
+    (
+        fault,
+        Mail {
+            sender,
+            number,
+            body,
+        },
+    )
+}

@@ -1,8 +1,0 @@
-use Rattle.relay_drain.proofs.Counting.{turns_keep, works_on}
-use Rattle.relay_drain.proofs.laws.turns_add_up.Goals as goal
-
-pub returns-clause-keep : goal.returns-clause-keep
-returns-clause-keep c = turns_keep
-
-pub returns-clause-on : goal.returns-clause-on
-returns-clause-on c = works_on

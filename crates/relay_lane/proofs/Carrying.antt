@@ -1,0 +1,100 @@
+-- What a lane and an outside have in common stays so over requests.
+use Rattle.std.proofs.Common.{◌≡◌, ℕ, ◌+◌, List, [], ◌∷◌, Some, Bool, true, IsTrue, sym, ap, ◌∙◌, subst}
+use Rattle.relay_action.specs.declared.operation.Op.{Op}
+use Rattle.relay_action.specs.declared.write.Write.{Write}
+use Rattle.relay_batch.specs.declared.item.BatchItem.{BatchItem}
+use Rattle.relay_results.specs.Numbers.{from_zero}
+use Rattle.relay_results.specs.Outside.{Answer, Outside, Event, Sends, Runs, Answers, MayHappen, Continues, after, after_all, AllMayHappen}
+use Rattle.relay_results.proofs.Steps.{continues_itself, continues_on, event_continues}
+use Rattle.relay_delivery.specs.Lane.{writes_of_all}
+use Rattle.relay_delivery.proofs.Fitting.{sound_where, complete_where, total_where}
+use Rattle.relay_core.specs.State.{State, next_batch, next_entries, after_request, answered, is_flying, IsLane}
+use Rattle.relay_core.specs.Ties.{Fits}
+use Rattle.relay_core.proofs.Tying.{request_fits, run_fits, answer_fits}
+use Rattle.relay_lane.specs.Wires.{IsRun, AreRuns, RunsOn, SendsOn, AnswersOn, ExchangesOn, IsNext, ShowsNext}
+use Rattle.relay_lane.specs.Delivers.{IsDelivered, GoesOn, Delivers}
+
+-- ---- what is promised of each lane and outside that fit
+
+pub delivered : (s : State) (taken : List Op) (o : Outside) → Fits s taken o → IsDelivered s taken o
+delivered s taken o f = record {
+  sound = sound_where s.core taken o f;
+  complete = λ none distinct. complete_where s.core taken o f distinct none;
+}
+
+pub goes_on : {S : Type 0} (fits : S → Outside → Type 0) (w : S) (s : State) (taken : List Op) (o p : Outside) → fits w p → Continues o p → Fits s taken p → GoesOn fits w s taken o
+goes_on fits w s taken o p fitting continues f = record { outside = p; fitting = fitting; continues = continues; lane = f; delivered = delivered s taken p f }
+
+-- ---- nothing changed, and one after another
+
+pub delivers_itself : {S : Type 0} (d : Bool) (fits : S → Outside → Type 0) (v w : S) (s t : State) → w ≡ v → t ≡ s → Delivers d fits v w s t
+delivers_itself d fits v w s t same_wire same d_true taken o f l =
+    goes_on fits w t taken o o (subst (λ x. fits x o) (sym same_wire) f) (continues_itself o) (subst (λ x. Fits x taken o) (sym same) l)
+
+pub delivers_on : {S : Type 0} (d e : Bool) (fits : S → Outside → Type 0) (u v w : S) (r s t : State) → e ≡ d → Delivers d fits u v r s → Delivers e fits v w s t → Delivers d fits u w r t
+delivers_on d e fits u v w r s t same a b d_true taken o f l =
+    let x = a d_true taken o f l in
+    let y = b (subst IsTrue (sym same) d_true) taken x.outside x.fitting x.lane in
+    record {
+      outside = y.outside;
+      fitting = y.fitting;
+      continues = continues_on o x.outside y.outside x.continues y.continues;
+      lane = y.lane;
+      delivered = y.delivered;
+    }
+
+-- ---- one request
+
+run_one : (e : Event) (s : State) (taken : List Op) (o : Outside) → IsRun e → MayHappen e o → Fits s taken o → Fits s taken (after e o)
+run_one (Sends ws) s taken o r may f = absurd r
+run_one (Runs x) s taken o r may f = run_fits s x taken o may f
+run_one (Answers n a) s taken o r may f = absurd r
+
+runs_fit : (es : List Event) (s : State) (taken : List Op) (o : Outside) → AreRuns es → AllMayHappen es o → Fits s taken o → Fits s taken (after_all es o)
+runs_fit [] s taken o r may f = f
+runs_fit (e ∷ es) s taken o r may f = runs_fit es s taken (after e o) r.1 may.1 (run_one e s taken o r.0 may.0 f)
+
+runs_on : (s : State) (taken : List Op) (o p : Outside) → RunsOn o p → Fits s taken o → Fits s taken p
+runs_on s taken o p r f = subst (Fits s taken) (sym r.reached) (runs_fit r.events s taken o r.runs r.may f)
+
+runs_continue : (o p : Outside) → RunsOn o p → Continues o p
+runs_continue o p r = record { events = r.events; may = r.may; reached = r.reached }
+
+sends_continue : (ws : List Write) (o p : Outside) → SendsOn ws o p → Continues o p
+sends_continue ws o p s = continues_on o (after (Sends ws) o) p (event_continues (Sends ws) o tt) (runs_continue (after (Sends ws) o) p s.runs)
+
+answers_continue : (number : ℕ) (a : Answer) (o p : Outside) → AnswersOn number a o p → Continues o p
+answers_continue number a o p r =
+    subst (Continues o) (sym r.reached)
+    (continues_on o r.before (after (Answers (from_zero number) a) r.before) (runs_continue o r.before r.runs) (event_continues (Answers (from_zero number) a) r.before r.may))
+
+pub exchange_continues : (number : ℕ) (ws : List Write) (a : Answer) (o p : Outside) → ExchangesOn number ws a o p → Continues o p
+exchange_continues number ws a o p x =
+    continues_on o x.between p (sends_continue ws o x.between x.sends) (answers_continue number a x.between p x.answers)
+
+-- a lane that fits before a request fits after its answer settled it
+pub exchange_fits : (s : State) (items : List BatchItem) (number : ℕ) (a : Answer) (taken : List Op) (o p : Outside) → next_batch s ≡ Some items
+    → is_flying number (after_request s (next_batch s)) ≡ true
+    → ExchangesOn number (writes_of_all (next_entries s)) a o p → Fits s taken o
+    → Fits (answered (after_request s (next_batch s)) number a) taken p
+exchange_fits s items number a taken o p some flies x f =
+    let t = after_request s (next_batch s) in
+    let ws = writes_of_all (next_entries s) in
+    let sent = runs_on t taken (after (Sends ws) o) x.between x.sends.runs (request_fits s items taken o some f) in
+    let ran = runs_on t taken x.between x.answers.before x.answers.runs sent in
+    subst (Fits (answered t number a) taken) (sym x.answers.reached) (answer_fits t number a taken x.answers.before flies x.answers.may ran)
+
+-- the request of a lane is the next one outside
+pub number_is_next : (s : State) (taken : List Op) (o : Outside) → IsLane s → Fits s taken o → IsNext s.flights.next o
+number_is_next s taken o l f = l.next ∙ ap (λ n. n + 1) (total_where s.core taken o f).1
+
+pub delivers_exchange : {S : Type 0} (d : Bool) (fits : S → Outside → Type 0) (v w : S) (s : State) (items : List BatchItem) (number : ℕ) (ws : List Write) (a : Answer)
+    → IsLane s → next_batch s ≡ Some items → number ≡ s.flights.next → ws ≡ writes_of_all (next_entries s)
+    → is_flying number (after_request s (next_batch s)) ≡ true
+    → ShowsNext d fits v w number (ExchangesOn number ws a)
+    → Delivers d fits v w s (answered (after_request s (next_batch s)) number a)
+delivers_exchange d fits v w s items number ws a l some is_number are_writes flies shows d_true taken o f fit =
+    let x = shows d_true o f (is_number ∙ number_is_next s taken o l fit) in
+    let e = subst (λ us. ExchangesOn number us a o x.0) are_writes x.2 in
+    goes_on fits w (answered (after_request s (next_batch s)) number a) taken o x.0 x.1 (exchange_continues number ws a o x.0 x.2)
+    (exchange_fits s items number a taken o x.0 some flies e fit)

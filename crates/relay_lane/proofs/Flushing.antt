@@ -1,0 +1,55 @@
+-- A lane that was flushed, and how far its config goes.
+use Rattle.std.proofs.Common.{◌≡◌, ℕ, ◌+◌, ◌-◌, ◌<◌, List, [], ◌∷◌, Option, Some, None, Bool, true, refl, sym, ap, ◌∙◌, subst, ⊎_elim, inr, arith}
+use Rattle.std.specs.Prelude.{◌==◌, min, if◌then◌else◌}
+use Rattle.relay_batch.specs.declared.item.BatchItem.{BatchItem}
+use Rattle.relay_results.proofs.Lists.{true_or_false, equal}
+use Rattle.relay_core.specs.declared.config.RelayConfig.{RelayConfig}
+use Rattle.relay_core.specs.State.{State, next_batch, after_request, flushed, mark_of}
+use Rattle.relay_lane.specs.Rest.{IsAtRest}
+use Rattle.relay_lane.specs.Turns.{Turn, Exchanges, Pauses, after_turn, after_turns, AllMayTurn, Worked, holds, is_full}
+use Rattle.relay_lane.specs.Steps.{IsPressed}
+
+pub flushed_rests : (s : State) → IsAtRest s → IsAtRest (flushed s)
+flushed_rests s r = record { batches = r.batches; flying = r.flying; clock = r.clock; held = r.held }
+
+mark_is : (s : State) → 0 < s.core.taken → mark_of s ≡ s.core.config.first + min s.core.taken s.core.config.deals - 1
+mark_is s some = ⊎_elim {C = mark_of s ≡ s.core.config.first + min s.core.taken s.core.config.deals - 1}
+    (λ t. let e = equal s.core.taken 0 t in absurd (omega (arith, e, some)))
+    (λ t. ap (λ b. if b then s.mark else s.core.config.first + min s.core.taken s.core.config.deals - 1) t)
+    (true_or_false (s.core.taken == 0))
+
+pub flushed_pressed : (s : State) → IsAtRest s → IsPressed (flushed s)
+flushed_pressed s r e m =
+    let w = r.held e m in
+    let v = w.first in
+    let d = w.dealt in
+    let k = mark_is s (omega (arith, v, d)) in
+    inr (omega (arith, d, k))
+
+-- ---- the config stays
+
+asked_config : (s : State) (b : Option (List BatchItem)) → (after_request s b).config ≡ s.config
+asked_config s None = refl
+asked_config s (Some items) = refl
+
+turn_config : (t : Turn) (s : State) → (after_turn t s).config ≡ s.config
+turn_config (Exchanges a) s = asked_config s (next_batch s)
+turn_config (Pauses n) s = refl
+
+turns_config : (ts : List Turn) (s : State) → (after_turns ts s).config ≡ s.config
+turns_config [] s = refl
+turns_config (t ∷ ts) s = turns_config ts (after_turn t s) ∙ turn_config t s
+
+pub worked_config : (going : State → Bool) (s t : State) → Worked going s t → t.config ≡ s.config
+worked_config going s t w = ap (λ (x : State). x.config) w.reached ∙ turns_config w.turns s
+
+all_full : (n : ℕ) (ts : List Turn) (s : State) → n ≡ s.config.max_held → AllMayTurn (holds n) ts s → AllMayTurn is_full ts s
+all_full n [] s e may = tt
+all_full n (t ∷ ts) s e may = (
+  subst (λ k. holds k s ≡ true) e may.0,
+  may.1,
+  all_full n ts (after_turn t s) (e ∙ sym (ap (λ (c : RelayConfig). c.max_held) (turn_config t s))) may.2,
+)
+
+pub worked_full : (n : ℕ) (s t : State) → n ≡ s.config.max_held → Worked (holds n) s t → Worked is_full s t
+worked_full n s t e w = record { turns = w.turns; may = all_full n w.turns s e w.may; reached = w.reached }

@@ -1,0 +1,27 @@
+-- What is promised of a lane that works on a wire which describes what stands outside.
+use Rattle.std.specs.Prelude.{◌≡◌, List, [], Bool, IsTrue}
+use Rattle.relay_action.specs.declared.operation.Op.{Op}
+use Rattle.relay_results.specs.Outside.{Outside, Continues}
+use Rattle.relay_delivery.specs.Delivery.{HasDistinctNames, IsSound, IsComplete, attributed}
+use Rattle.relay_core.specs.State.{State}
+use Rattle.relay_core.specs.Ties.{Fits}
+
+-- delivery is sound, and where nothing is held it is complete, by the same attribution, if no two operations that the lane
+-- took have one name
+pub record IsDelivered (s : State) (taken : List Op) (o : Outside) : Type 0 where
+  pub sound : HasDistinctNames taken → IsSound s.core.config taken s.core.reports o (attributed s.core.config taken o)
+  pub complete : s.core.held ≡ [] → HasDistinctNames taken → IsComplete taken s.core.reports (attributed s.core.config taken o)
+
+-- there is an outside that fits the wire now and continues the one before; the lane and it came about by the same steps,
+-- and delivery is as promised
+pub record GoesOn {S : Type 0} (fits : S → Outside → Type 0) (wire : S) (s : State) (taken : List Op) (before : Outside) : Type 0 where
+  pub outside : Outside
+  pub fitting : fits wire outside
+  pub continues : Continues before outside
+  pub lane : Fits s taken outside
+  pub delivered : IsDelivered s taken outside
+
+-- so it is for each outside that fitted the wire and the lane before, where the wire describes it
+abbrev pub Delivers : {S : Type 0} → Bool → (S → Outside → Type 0) → S → S → State → State → Type 0
+Delivers describes fits old new s t =
+    IsTrue describes → (taken : List Op) (o : Outside) → fits old o → Fits s taken o → GoesOn fits new t taken o

@@ -1,0 +1,129 @@
+//! A lane sends, repeats and settles over a wire.
+ghost use Rattle.std.specs.Prelude.{◌≡◌, ◌+◌, ◌*◌, ◌-◌, ◌<◌, ◌≤◌, [], None, true, length, IfOk, OnOk, OnErr};
+ghost use Rattle.relay_core.specs.State.{next_batch, all_closed, flushed};
+ghost use Rattle.relay_lane.specs.Rest.{IsAtRest};
+ghost use Rattle.relay_lane.specs.Turns.{Worked, Stays, always, holds, holds_some, is_full, Paused, sends_left};
+ghost use Rattle.relay_lane.specs.Steps.{IsPressed};
+ghost use Rattle.relay_lane.specs.Delivers.{Delivers};
+
+use crate::pace::Pace;
+use crate::turn::{send_next, wait};
+use crate::wire::Wire;
+use relay_core::Lane;
+use std::alloc::AllocError;
+
+/// Sends and settles every request that is ready, and gives their number. No tick passes. `AllocError`:
+/// there was no memory for a request; the lane is as the last settled request left it, and the call may
+/// be made again.
+pub fn pump<W: Wire>(lane: &mut Lane, wire: &mut W) -> Result<u64, AllocError>
+    requires rest { IsAtRest lane.old }
+    requires out { W.out wire.old ≡ [] }
+    ensures requests { IfOk result (λ n. lane.new.core.requests ≡ lane.old.core.requests + n) }
+    ensures done { OnOk result (next_batch lane.new ≡ None) }
+    ensures memory { OnErr result (0 < length lane.new.core.held) }
+    ensures worked { Worked always lane.old lane.new }
+    ensures clock { lane.new.core.clock ≡ lane.old.core.clock }
+    ensures bound { lane.new.core.requests + sends_left lane.new
+        ≤ lane.old.core.requests + sends_left lane.old }
+    ensures stays { Stays lane.old lane.new }
+    ensures rest { IsAtRest lane.new }
+    ensures out { W.out wire.new ≡ [] }
+    ensures describes { W.describes wire.new ≡ W.describes wire.old }
+    ensures delivers { Delivers (W.describes wire.old) W.fits wire.old wire.new lane.old lane.new }
+{
+    let _ = lane.totals();
+    let mut sent: u64 = 0;
+    'requests: while send_next(lane, wire)? {
+        sent += 1;
+    }
+    Ok(sent)
+}
+
+// Sends, repeats and settles until fewer than so many operations are held.
+fn work<W: Wire, P: Pace>(
+    lane: &mut Lane,
+    wire: &mut W,
+    pace: &mut P,
+    least: u32,
+) -> Result<(), AllocError>
+    requires some { 1 ≤ least }
+    requires rest { IsAtRest lane.old }
+    requires pressed { IsPressed lane.old }
+    requires out { W.out wire.old ≡ [] }
+    ensures done { OnOk result (length lane.new.core.held < least) }
+    ensures memory { OnErr result (least ≤ length lane.new.core.held) }
+    ensures worked { Worked (holds least) lane.old lane.new }
+    ensures bound { lane.new.core.requests + sends_left lane.new
+        ≤ lane.old.core.requests + sends_left lane.old }
+    ensures paused { Paused (lane.new.core.clock - lane.old.core.clock) (P.paused pace.old) (P.paused pace.new) }
+    ensures stays { Stays lane.old lane.new }
+    ensures rest { IsAtRest lane.new }
+    ensures out { W.out wire.new ≡ [] }
+    ensures describes { W.describes wire.new ≡ W.describes wire.old }
+    ensures delivers { Delivers (W.describes wire.old) W.fits wire.old wire.new lane.old lane.new }
+{
+    'turns: while lane.held() >= least {
+        if !send_next(lane, wire)? {
+            wait(lane, pace);
+        }
+    }
+    Ok(())
+}
+
+/// Flushes, and then sends, repeats and settles until fewer than `max_held` operations are held; where nothing is ready it pauses and ticks as [`drain`] does. So a lane that has
+/// room is flushed and no more. `AllocError`: there was no memory for a request; the lane is as the last
+/// settled request left it, and the call may be made again.
+pub fn make_room<W: Wire, P: Pace>(
+    lane: &mut Lane,
+    wire: &mut W,
+    pace: &mut P,
+) -> Result<(), AllocError>
+    requires rest { IsAtRest lane.old }
+    requires out { W.out wire.old ≡ [] }
+    ensures done { OnOk result (length lane.new.core.held < lane.new.config.max_held) }
+    ensures memory { OnErr result (lane.new.config.max_held ≤ length lane.new.core.held) }
+    ensures worked { Worked is_full (flushed lane.old) lane.new }
+    ensures bound { lane.new.core.requests + sends_left lane.new
+        ≤ lane.old.core.requests + sends_left lane.old }
+    ensures paused { Paused (lane.new.core.clock - lane.old.core.clock) (P.paused pace.old) (P.paused pace.new) }
+    ensures stays { Stays lane.old lane.new }
+    ensures rest { IsAtRest lane.new }
+    ensures out { W.out wire.new ≡ [] }
+    ensures describes { W.describes wire.new ≡ W.describes wire.old }
+    ensures delivers { Delivers (W.describes wire.old) W.fits wire.old wire.new lane.old lane.new }
+{
+    let _ = lane.totals();
+    let most = lane.max_held();
+    lane.flush();
+    work(lane, wire, pace, most)
+}
+
+/// Sends, repeats and settles until a closed lane holds nothing: by at most as many requests as the
+/// operations that it holds have attempts. Where nothing is ready it pauses until the first operation
+/// that may be sent is due, and ticks so often. `AllocError`: there was no memory for a request; the lane
+/// is as the last settled request left it, and the call may be made again.
+pub fn drain<W: Wire, P: Pace>(
+    lane: &mut Lane,
+    wire: &mut W,
+    pace: &mut P,
+) -> Result<(), AllocError>
+    requires closed { all_closed lane.old ≡ true }
+    requires rest { IsAtRest lane.old }
+    requires out { W.out wire.old ≡ [] }
+    ensures done { OnOk result (lane.new.core.held ≡ []) }
+    ensures memory { OnErr result (0 < length lane.new.core.held) }
+    ensures worked { Worked holds_some lane.old lane.new }
+    ensures bound { lane.new.core.requests + sends_left lane.new
+        ≤ lane.old.core.requests + sends_left lane.old }
+    ensures most { lane.new.core.requests
+        ≤ lane.old.core.requests + length lane.old.core.held * lane.old.config.attempts }
+    ensures paused { Paused (lane.new.core.clock - lane.old.core.clock) (P.paused pace.old) (P.paused pace.new) }
+    ensures stays { Stays lane.old lane.new }
+    ensures rest { IsAtRest lane.new }
+    ensures out { W.out wire.new ≡ [] }
+    ensures describes { W.describes wire.new ≡ W.describes wire.old }
+    ensures delivers { Delivers (W.describes wire.old) W.fits wire.old wire.new lane.old lane.new }
+{
+    let _ = lane.totals();
+    work(lane, wire, pace, 1)
+}

@@ -1,0 +1,53 @@
+//! One turn of a lane at work: a request over the wire, or a pause.
+ghost use Rattle.std.specs.Prelude.{◌≡◌, ◌<◌, [], is_some, length, IfOk, OnErr, IfSome};
+ghost use Rattle.relay_core.specs.State.{next_batch, due_in, IsLane};
+ghost use Rattle.relay_lane.specs.Rest.{IsAtRest};
+ghost use Rattle.relay_lane.specs.Turns.{after_ticks, Paused};
+ghost use Rattle.relay_lane.specs.Steps.{Exchanged, IsDueLater};
+ghost use Rattle.relay_lane.specs.Delivers.{Delivers};
+
+use crate::exchange::{exchange, settle};
+use crate::pace::Pace;
+use crate::wire::Wire;
+use relay_core::Lane;
+use std::alloc::AllocError;
+
+/// Sends the lane's next request and settles it, where there is one. Whether there was one.
+pub(crate) fn send_next<W: Wire>(lane: &mut Lane, wire: &mut W) -> Result<bool, AllocError>
+    requires rest { IsAtRest lane.old }
+    requires out { W.out wire.old ≡ [] }
+    ensures lane { IsLane lane.old }
+    ensures some { IfOk result (λ sent. sent ≡ is_some (next_batch lane.old)) }
+    ensures turn { IfOk result (λ sent. Exchanged sent lane.old lane.new) }
+    ensures unchanged { OnErr result (lane.new ≡ lane.old) }
+    ensures held { OnErr result (0 < length lane.old.core.held) }
+    ensures out { W.out wire.new ≡ [] }
+    ensures describes { W.describes wire.new ≡ W.describes wire.old }
+    ensures delivers { Delivers (W.describes wire.old) W.fits wire.old wire.new lane.old lane.new }
+{
+    let _ = lane.totals();
+    let Some(number) = lane.request()? else {
+        return Ok(false);
+    };
+    let answer = match lane.writes(number) {
+        Some(writes) => exchange(wire, number, writes),
+        None => unreachable!(),
+    };
+    settle(lane, number, answer);
+    Ok(true)
+}
+
+/// Pauses until the first operation that may be sent is due, and ticks so often.
+pub(crate) fn wait<P: Pace>(lane: &mut Lane, pace: &mut P)
+    requires { IsDueLater lane.old }
+    ensures lane { IfSome (due_in lane.old) (λ n. lane.new ≡ after_ticks n lane.old) }
+    ensures paused { IfSome (due_in lane.old)
+        (λ n. Paused n (P.paused pace.old) (P.paused pace.new)) }
+{
+    if let Some(ticks) = lane.due_in() {
+        pace.pause(ticks);
+        for _tick in 0..ticks {
+            lane.tick();
+        }
+    }
+}

@@ -1,0 +1,79 @@
+//! The way from a lane to an index.
+ghost use Rattle.std.specs.Prelude.{◌≡◌, ◌≤◌, ◌∷◌, ℕ, List, Bool, length, MatchResult};
+ghost use Rattle.relay_ndjson.specs.Bodies.{AreDealt};
+ghost use Rattle.relay_ndjson.specs.Bulk.{text_of};
+ghost use Rattle.relay_results.specs.Outside.{Outside, Lost};
+ghost use Rattle.relay_results.specs.Words.{Mem};
+ghost use Rattle.relay_lane.specs.Wires.{answer_of, IsReply, SendsOn, AnswersOn, ExchangesOn, Shows, ShowsNext, without};
+
+use relay_action::Write;
+use relay_results::Outcome;
+use thiserror::Error;
+
+/// What a wire answers to a request.
+#[derive(Debug, Drop)]
+pub enum WireReply {
+    /// The entries of a readable reply of status 200. They need not match the request.
+    Items(Vec<Outcome>),
+    /// A status of the request as a whole, other than 200.
+    Whole(u16),
+}
+
+/// Why a request has no reply. For the lane each of them is a lost reply: whether the index had the
+/// request, or ran it, is not known.
+#[derive(Clone, Copy, Debug, PartialEq, Eq, Error)]
+pub enum WireFault {
+    /// The request could not be sent, or not all of it.
+    #[error("Send")]
+    Send,
+    /// It was sent, and no whole reply came.
+    #[error("Lost")]
+    Lost,
+    /// A reply of status 200 came that could not be read.
+    #[error("Unreadable")]
+    Unreadable,
+    /// There was no memory for the request or for its reply.
+    #[error("Memory")]
+    Memory,
+}
+
+/// The way from a lane to an index. Requests go by number, from 1; a number is out from a `send` that
+/// answers `Ok` until its `receive`.
+///
+/// A wire may describe what stands outside: then, for each outside that fits it before a call, one fits it
+/// after the call to which the call led. A wire that does not says so by `describes`, and nothing is
+/// asked of its `fits`.
+pub trait Wire {
+    /// The numbers that are out.
+    ghost out: { Self → List ℕ };
+
+    /// Whether it describes what stands outside.
+    ghost describes: { Self → Bool };
+
+    /// What may stand outside.
+    ghost fits: { Self → Outside → Type 0 };
+
+    /// Sends the writes as the request of this number: at most 10,000 of them, whose versions were dealt,
+    /// and whose bulk text has at most 16,777,216 bytes. After a fault the number is not out, and the
+    /// request counts as sent and lost.
+    fn send(&mut self, number: u64, writes: &[Write]) -> Result<(), WireFault>
+        requires fresh { Mem number (out self.old) → ⊥ }
+        requires few { length writes.now ≤ 10000 }
+        requires dealt { AreDealt writes.now }
+        requires bytes { length (text_of writes.now) ≤ 16777216 }
+        ensures out { MatchResult result
+            (λ _. out self.new ≡ number ∷ out self.old)
+            (λ _. out self.new ≡ out self.old) }
+        ensures describes { describes self.new ≡ describes self.old }
+        ensures outside { MatchResult result
+            (λ _. ShowsNext (describes self.old) fits self.old self.new number (SendsOn writes.now))
+            (λ _. ShowsNext (describes self.old) fits self.old self.new number (ExchangesOn number writes.now Lost)) };
+
+    /// Waits for what is answered to the request of this number, which is not out any more then.
+    fn receive(&mut self, number: u64) -> Result<WireReply, WireFault>
+        requires { Mem number (out self.old) }
+        ensures out { out self.new ≡ without number (out self.old) }
+        ensures describes { describes self.new ≡ describes self.old }
+        ensures reply { IsReply result }
+        ensures outside { Shows (describes self.old) fits self.old self.new (AnswersOn number (answer_of result)) };
+}

@@ -1,0 +1,52 @@
+-- Requests that are sent and lost.
+use Rattle.std.proofs.Common.{◌≡◌, ◌≢◌, ℕ, List, [], ◌∷◌, ◌++◌, length, Option, Some, None, refl, ap, ◌∙◌, arith}
+use Rattle.std.specs.Prelude.{slice_get}
+use Rattle.relay_action.specs.declared.write.Write.{Write}
+use Rattle.relay_results.specs.Numbers.{from_zero}
+use Rattle.relay_results.specs.Outside.{Request, Unanswered, Lost, Outside, Sends, Answers, MayAnswer, after, writes_of}
+use Rattle.relay_results.proofs.Lists.{at-left, at-last, at-within, at-update_other}
+use Rattle.relay_lane.specs.Wires.{RunsOn, SendsOn, AnswersOn, ExchangesOn, IsNext}
+use Rattle.relay_lane_tests.specs.Shown.{IsOut}
+
+pub no_runs : (o : Outside) → RunsOn o o
+no_runs o = record { events = []; runs = tt; may = tt; reached = refl }
+
+pub sent_out : (o : Outside) (number : ℕ) (ws : List Write) → IsNext number o → MayAnswer (after (Sends ws) o) (from_zero number) Lost
+sent_out o number ws next =
+    let same : from_zero number ≡ length o.requests = omega (arith, next) in
+    record {
+      request = record { writes = ws; answer = Unanswered };
+      sent = ap (slice_get (o.requests ++ record { writes = ws; answer = Unanswered } ∷ [])) same ∙ at-last o.requests (record { writes = ws; answer = Unanswered });
+      open_yet = refl;
+      honest = tt;
+    }
+
+pub sends_on : (o : Outside) (ws : List Write) → SendsOn ws o (after (Sends ws) o)
+sends_on o ws = record { runs = no_runs (after (Sends ws) o) }
+
+pub lost_on : (o : Outside) (number : ℕ) → MayAnswer o (from_zero number) Lost → AnswersOn number Lost o (after (Answers (from_zero number) Lost) o)
+lost_on o number may = record { before = o; runs = no_runs o; may = may; reached = refl }
+
+unfoldable pub unsent : Outside → ℕ → List Write → Outside
+unsent o number ws = after (Answers (from_zero number) Lost) (after (Sends ws) o)
+
+pub unsent_on : (o : Outside) (number : ℕ) (ws : List Write) → IsNext number o → ExchangesOn number ws Lost o (unsent o number ws)
+unfolding unsent
+unsent_on o number ws next = record { between = after (Sends ws) o; sends = sends_on o ws; answers = lost_on (after (Sends ws) o) number (sent_out o number ws next) }
+
+still_out : (o : Outside) (number k : ℕ) (ws : List Write) → IsNext number o → MayAnswer o k Lost → MayAnswer (unsent o number ws) k Lost
+unfolding unsent
+still_out o number k ws next may =
+    let below = at-within o.requests k may.request may.sent in
+    let ne : k ≢ from_zero number = λ e. omega (arith, below, e, next) in
+    record {
+      request = may.request;
+      sent = at-update_other (from_zero number) (λ (q : Request). record { writes = writes_of q; answer = Lost }) (o.requests ++ record { writes = ws; answer = Unanswered } ∷ []) k ne
+          ∙ at-left o.requests (record { writes = ws; answer = Unanswered } ∷ []) k may.request may.sent;
+      open_yet = may.open_yet;
+      honest = tt;
+    }
+
+pub other_out : (x : Option ℕ) (o : Outside) (number : ℕ) (ws : List Write) → IsNext number o → IsOut x o → IsOut x (unsent o number ws)
+other_out None o number ws next out = tt
+other_out (Some k) o number ws next out = still_out o number (from_zero k) ws next out

@@ -1,0 +1,52 @@
+//! A wire that loses every request, and describes what stands outside: that it was sent, and lost.
+use crate::desk::{CONFIG, NO_PAUSES, closes, desk_of, puts};
+use relay_action::Write;
+use relay_lane::{Cause, Wire, WireFault, WireReply, drain};
+use std::test::Fail;
+
+#[derive(Drop)]
+struct Losing {
+    flying: Option<u64>,
+}
+
+impl Wire for Losing {
+    ghost use Rattle.std.specs.Prelude.{true};
+    ghost use Rattle.std.specs.Option.{option_to_list};
+    ghost use Rattle.relay_lane_tests.specs.Shown.{IsOut};
+
+    ghost out = { λ w. option_to_list w.flying };
+
+    ghost describes = { λ w. true };
+
+    ghost fits = { λ w o. IsOut w.flying o };
+
+    fn send(&mut self, number: u64, _writes: &[Write]) -> Result<(), WireFault> {
+        if self.flying.is_some() {
+            return Err(WireFault::Send);
+        }
+        self.flying = Some(number);
+        Ok(())
+    }
+
+    fn receive(&mut self, _number: u64) -> Result<WireReply, WireFault> {
+        self.flying = None;
+        Err(WireFault::Lost)
+    }
+}
+
+// It loses each request, and so reports each operation.
+#[test]
+fn loses(rt: HostRuntime) -> Result<(), Fail> {
+    let mut desk = desk_of(rt.alloc(), CONFIG).ok_or("not valid")?;
+    let mut wire = Losing { flying: None };
+    let mut pace = NO_PAUSES;
+    assert!(rt; puts(rt.alloc(), &mut desk, 1, "1", "{}") && closes(&mut desk));
+    if desk.lane.closed() {
+        drain(&mut desk.lane, &mut wire, &mut pace)?;
+    }
+    assert!(rt; desk.lane.finished() && desk.lane.totals().requests == 3);
+    for report in desk.lane.reports() {
+        assert!(rt; matches!(&report.cause, Cause::GaveUp { sends: 3 }));
+    }
+    Ok(())
+}

@@ -1,0 +1,119 @@
+//! A wire round an index that describes what stands outside: the index runs each request once, and some of
+//! the replies are lost.
+ghost use Rattle.std.specs.Prelude.{◌≡◌, ℕ, Some, None};
+ghost use Rattle.relay_results.specs.Outside.{Outside, write_at};
+ghost use Rattle.relay_index.specs.Runs.{Shows};
+ghost use Rattle.relay_lane_tests.specs.Telling.{IsSent, RanOne, entry_of, entries_of};
+
+use crate::desk::{CONFIG, Desk, NO_PAUSES, closes, desk_of, puts};
+use crate::wires::count_applied;
+use relay_action::Write;
+use relay_lane::{Wire, WireFault, WireReply, drain};
+use relay_index::{Choice, Index};
+use relay_results::Outcome;
+use std::alloc::{AllocError, Global};
+use std::mem;
+use std::test::Fail;
+
+#[derive(Drop)]
+struct Telling {
+    alloc: Global,
+    index: Index,
+    flying: Option<u64>,
+    reply: Vec<Outcome>,
+    sends: u64,
+}
+
+// Runs an item of a request.
+fn run_one(alloc: Global, index: &mut Index, write: &Write) -> Result<Outcome, AllocError>
+    ensures { (o : Outside) (number place : ℕ) → Shows o index.old
+        → write_at o.requests number place ≡ Some write.now
+        → RanOne number place index.new o (entry_of result) }
+{
+    let done = index.run(write, Choice::Run)?;
+    done.outcome(alloc)
+}
+
+// Runs the items of a request, in their order.
+fn run_all(alloc: Global, index: &mut Index, writes: &[Write]) -> Result<Vec<Outcome>, AllocError>
+    ensures { (o : Outside) (number : ℕ) → Shows o index.old
+        → IsSent number writes.now o
+        → RanOne number 0 index.new o (entries_of result) }
+{
+    let mut entries = Vec::new(alloc);
+    for write in writes {
+        entries.reserve(1)?;
+        let entry = run_one(alloc, index, write)?;
+        entries.push_reserved(entry);
+    }
+    Ok(entries)
+}
+
+impl Wire for Telling {
+    ghost use Rattle.std.specs.Prelude.{true};
+    ghost use Rattle.std.specs.Option.{option_to_list};
+    ghost use Rattle.relay_index.specs.Runs.{Shows};
+    ghost use Rattle.relay_lane_tests.specs.Telling.{IsOutWith};
+
+    ghost out = { λ w. option_to_list w.flying };
+
+    ghost describes = { λ w. true };
+
+    ghost fits = { λ w o. Shows o w.index × IsOutWith w.flying w.reply.items o };
+
+    fn send(&mut self, number: u64, writes: &[Write]) -> Result<(), WireFault> {
+        if self.flying.is_some() {
+            return Err(WireFault::Send);
+        }
+        self.sends = self.sends.saturating_add(1);
+        match run_all(self.alloc, &mut self.index, writes) {
+            Ok(entries) => {
+                self.reply = entries;
+                self.flying = Some(number);
+                Ok(())
+            }
+            Err(_) => Err(WireFault::Memory),
+        }
+    }
+
+    fn receive(&mut self, _number: u64) -> Result<WireReply, WireFault> {
+        self.flying = None;
+        let entries = mem::replace(&mut self.reply, Vec::new(self.alloc));
+        if self.sends % 2 == 0 {
+            return Err(WireFault::Lost);
+        }
+        Ok(WireReply::Items(entries))
+    }
+}
+
+// Drains a lane that is closed. Whether it had memory enough.
+fn drains(desk: &mut Desk, wire: &mut Telling) -> bool
+    requires { wire.old.flying ≡ None }
+{
+    let mut pace = NO_PAUSES;
+    if !desk.lane.closed() {
+        return false;
+    }
+    drain(&mut desk.lane, wire, &mut pace).is_ok()
+}
+
+// Every other reply is lost, and all is applied once.
+#[test]
+fn tells(rt: HostRuntime) -> Result<(), Fail> {
+    let mut desk = desk_of(rt.alloc(), CONFIG).ok_or("not valid")?;
+    let mut wire = Telling {
+        alloc: rt.alloc(),
+        index: Index::new(rt.alloc()),
+        flying: None,
+        reply: Vec::new(rt.alloc()),
+        sends: 0,
+    };
+    for number in 1..4u64 {
+        assert!(rt; puts(rt.alloc(), &mut desk, number, "1", "{}"));
+    }
+    closes(&mut desk);
+    assert!(rt; drains(&mut desk, &mut wire));
+    assert!(rt; desk.lane.finished() && desk.lane.totals().requests == 5);
+    assert!(rt; count_applied(rt.alloc(), &wire.index)? == 3);
+    Ok(())
+}

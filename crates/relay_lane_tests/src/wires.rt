@@ -1,0 +1,189 @@
+//! A wire round an index that fails as it is told, and describes nothing.
+ghost use Rattle.std.specs.Prelude.{◌≡◌, None};
+ghost use Rattle.relay_lane.specs.Wires.{IsReply};
+
+use relay_action::{ActionKind, Text, Write};
+use relay_lane::{Wire, WireFault, WireReply};
+use relay_index::{Choice, Index};
+use relay_results::Outcome;
+use std::alloc::{AllocError, Global};
+use std::mem;
+
+/// What becomes of requests.
+#[derive(Clone, Copy, Debug, PartialEq, Eq)]
+pub enum Way {
+    /// Each is run and answered.
+    Runs,
+    /// Each is run, and every so-manieth reply is lost.
+    LosesEach(u64),
+    /// The one with this count is not sent; the others are run and answered.
+    FailsSend(u64, WireFault),
+    /// Each is run, and the reply to the one with this count is a fault.
+    FailsReply(u64, WireFault),
+    /// Each is run, and answered by one entry fewer than it has writes.
+    TooFew,
+    /// Each is run, and answered by one entry more.
+    TooMany,
+    /// Each is run, and answered for another document.
+    Another,
+    /// None is run, and each is answered as a whole.
+    Whole(u16),
+    /// None is run, and every reply is lost.
+    Loses,
+    /// By numbers that a seed gives: not sent, lost after it ran, refused as a whole, answered by too few
+    /// entries, or run and answered.
+    Seeded,
+}
+
+/// A wire that runs requests when they are sent, one at a time.
+#[derive(Drop)]
+pub struct IndexWire {
+    alloc: Global,
+    pub index: Index,
+    way: Way,
+    now: Way,
+    pub flying: Option<u64>,
+    reply: Vec<Outcome>,
+    /// How many requests were to be sent.
+    pub sends: u64,
+    seed: u64,
+}
+
+/// A wire with an empty index.
+pub fn wire_of(alloc: Global, way: Way) -> IndexWire
+    ensures { result.flying ≡ None }
+{
+    IndexWire {
+        alloc,
+        index: Index::new(alloc),
+        way,
+        now: way,
+        flying: None,
+        reply: Vec::new(alloc),
+        sends: 0,
+        seed: 1,
+    }
+}
+
+// Runs each write once, in order. `AllocError`: some of them were run.
+fn run_all(alloc: Global, index: &mut Index, writes: &[Write]) -> Result<Vec<Outcome>, AllocError> {
+    let mut outcomes = Vec::with_capacity(alloc, writes.len())?;
+    for write in writes {
+        outcomes.push(index.run(write, Choice::Run)?.outcome(alloc)?)?;
+    }
+    Ok(outcomes)
+}
+
+// What becomes of the request with this count.
+fn way_at(way: Way, sends: u64, seed: u64) -> Way {
+    match way {
+        Way::LosesEach(every) if every > 0 && sends % every == 0 => {
+            Way::FailsReply(sends, WireFault::Lost)
+        }
+        Way::FailsSend(at, _) | Way::FailsReply(at, _) if at != sends => Way::Runs,
+        Way::Seeded => match seed >> 33 & 15 {
+            0 => Way::FailsSend(sends, WireFault::Send),
+            1 | 2 => Way::FailsReply(sends, WireFault::Lost),
+            3 => Way::Whole(503),
+            4 => Way::TooFew,
+            _ => Way::Runs,
+        },
+        _ => way,
+    }
+}
+
+// The entry of an index action on another document.
+fn another(alloc: Global) -> Result<Outcome, AllocError> {
+    let Ok(id) = Text::new(alloc, "another") else {
+        return Err(AllocError);
+    };
+    Ok(Outcome {
+        kind: ActionKind::Index,
+        id,
+        status: 201,
+        error: None,
+    })
+}
+
+// The entries without the last, and with one for another document if so wanted.
+fn changed(
+    alloc: Global,
+    entries: Vec<Outcome>,
+    drops: bool,
+    adds: bool,
+) -> Result<Vec<Outcome>, AllocError> {
+    let mut entries = entries;
+    if drops {
+        let _ = entries.pop();
+    }
+    if adds {
+        entries.push(another(alloc)?)?;
+    }
+    Ok(entries)
+}
+
+fn answered(alloc: Global, way: Way, entries: Vec<Outcome>) -> Result<WireReply, WireFault>
+    ensures { IsReply result }
+{
+    let (drops, adds) = match way {
+        Way::Loses => return Err(WireFault::Lost),
+        Way::FailsReply(_, fault) => return Err(fault),
+        Way::Whole(status) if status != 200 => return Ok(WireReply::Whole(status)),
+        Way::TooFew => (true, false),
+        Way::TooMany => (false, true),
+        Way::Another => (true, true),
+        _ => (false, false),
+    };
+    match changed(alloc, entries, drops, adds) {
+        Ok(entries) => Ok(WireReply::Items(entries)),
+        Err(_) => Err(WireFault::Memory),
+    }
+}
+
+impl Wire for IndexWire {
+    ghost use Rattle.std.specs.Prelude.{false};
+    ghost use Rattle.std.specs.Option.{option_to_list};
+
+    ghost out = { λ w. option_to_list w.flying };
+
+    ghost describes = { λ w. false };
+
+    ghost fits = { λ w o. ⊥ };
+
+    fn send(&mut self, number: u64, writes: &[Write]) -> Result<(), WireFault> {
+        if self.flying.is_some() {
+            return Err(WireFault::Send);
+        }
+        self.sends = self.sends.saturating_add(1);
+        self.seed = self
+            .seed
+            .wrapping_mul(6_364_136_223_846_793_005)
+            .wrapping_add(1);
+        self.now = way_at(self.way, self.sends, self.seed);
+        match self.now {
+            Way::FailsSend(_, fault) => return Err(fault),
+            Way::Whole(_) | Way::Loses => {}
+            _ => match run_all(self.alloc, &mut self.index, writes) {
+                Ok(entries) => self.reply = entries,
+                Err(_) => return Err(WireFault::Memory),
+            },
+        }
+        self.flying = Some(number);
+        Ok(())
+    }
+
+    fn receive(&mut self, _number: u64) -> Result<WireReply, WireFault> {
+        self.flying = None;
+        let entries = mem::replace(&mut self.reply, Vec::new(self.alloc));
+        answered(self.alloc, self.now, entries)
+    }
+}
+
+/// How many writes an index applied.
+pub fn count_applied(alloc: Global, index: &Index) -> Result<usize, AllocError> {
+    let mut count = 0usize;
+    for key in &index.keys(alloc)? {
+        count = count.saturating_add(index.applied(key).len());
+    }
+    Ok(count)
+}
