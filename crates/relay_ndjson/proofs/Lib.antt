@@ -11,6 +11,7 @@ pub mod Fronts
 pub mod Exclusion
 pub mod Totality
 pub mod TwoLines
+mod LineEnds
 pub mod Versioning
 pub mod Bodies
 pub mod SameWrites

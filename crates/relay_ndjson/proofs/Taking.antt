@@ -12,7 +12,8 @@ use Rattle.relay_ndjson.specs.Metadata.{Says, line_fault}
 use Rattle.relay_ndjson.specs.Lines.{TakesText, IsLong, TakesBlank}
 use Rattle.relay_ndjson.proofs.Deciding.{key_none}
 use Rattle.relay_ndjson.specs.Operations.{blank_limit, counted, TakesOperation, BreaksAt, IsFault, line_count}
-use Rattle.relay_ndjson.specs.Steps.{TakesNext, SkipsBlank, TakesSource}
+use Rattle.relay_ndjson.specs.LineReading.{TakesNext}
+use Rattle.relay_ndjson.specs.Steps.{SkipsBlank, TakesSource}
 
 pub blank_more : (n : ℕ) (old mid new : Option (List ℕ)) → TakesBlank n old mid → TakesText mid new [] → TakesBlank (suc n) old new
 blank_more zero old mid new t s = (new, subst (λ (o : Option (List ℕ)). TakesText o new []) t s, refl)

@@ -3,6 +3,7 @@ pub mod Bulk
 pub mod Sends
 pub mod Escapes
 pub mod Lines
+pub mod LineReading
 pub mod Metadata
 pub mod Operations
 pub mod Reading

@@ -55,13 +55,7 @@ abbrev pub failed_by : {T : Type 0} → Result T LineKind → ℕ → ℕ
 failed_by (Ok x) n = n
 failed_by (Err k) n = if is_read k then one_more n else n
 
--- ---- an operation: whether there is a line, or an action line
-
-abbrev pub TakesNext : Option (List ℕ) → Option (List ℕ) → ℕ → ℕ → List ℕ → Result Bool InputFault → Type 0
-TakesNext old new count after text (Ok true) = TakesText old new text × (after ≡ one_more count)
-TakesNext old new count after text (Ok false) = IsAtEnd old × (new ≡ old) × (after ≡ count)
-TakesNext old new count after text (Err e) =
-    (e.line ≡ one_more count) × ((e.kind ≡ kind.Read) ⊎ (e.kind ≡ kind.Memory) ⊎ ((e.kind ≡ kind.LineLong) × IsLong old))
+-- ---- an operation: whether there is an action line
 
 abbrev pub SkipsBlank : Option (List ℕ) → Option (List ℕ) → ℕ → ℕ → List ℕ → Result Bool InputFault → Type 0
 SkipsBlank old new count after text (Ok true) =

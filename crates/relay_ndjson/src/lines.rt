@@ -56,7 +56,8 @@ pub struct Lines {
 impl Lines {
     ghost use Rattle.relay_ndjson.specs.Metadata.{shown};
     ghost use Rattle.relay_ndjson.specs.Operations.{Stops, failed_after};
-    ghost use Rattle.relay_ndjson.specs.Steps.{TakesNext, SkipsBlank, TakesSource, Reads, StopsInSource};
+    ghost use Rattle.relay_ndjson.specs.LineReading.{TakesNext};
+    ghost use Rattle.relay_ndjson.specs.Steps.{SkipsBlank, TakesSource, Reads, StopsInSource};
 
     /// Lines of which none was taken.
     pub fn new(alloc: Global) -> Lines
@@ -123,8 +124,8 @@ impl Lines {
         }
     }
 
-    // Takes a line, if there is one.
-    fn take_line<R: ByteIn>(&mut self, reader: &mut R) -> Result<bool, InputFault>
+    /// Takes a line, if there is one.
+    pub fn take_line<R: ByteIn>(&mut self, reader: &mut R) -> Result<bool, InputFault>
         ensures line { TakesNext (prepend_known self.old.piece (R.left reader.old))
             (prepend_known self.new.piece (R.left reader.new)) self.old.count self.new.count self.new.text.items result }
         ensures stop { IfErr result (λ e. StopsInLine (prepend_known self.old.piece (R.left reader.old))

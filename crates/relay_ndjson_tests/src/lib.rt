@@ -9,4 +9,6 @@ mod faults;
 #[cfg(test)]
 mod inputs;
 #[cfg(test)]
+mod lines;
+#[cfg(test)]
 mod written;

@@ -1,0 +1,25 @@
+-- A reader of lines, and what it takes of its stream.
+use Rattle.std.specs.Prelude.{◌≡◌, ℕ, ◌⊎◌, List, Bool, true, false, Option, Result, Ok, Err, ◌==◌}
+use Rattle.std.specs.List.{list_any}
+use Rattle.std.specs.Io.KnownBytes.{IsAtEnd}
+use Rattle.relay_action.specs.Streams.{one_more}
+use Rattle.relay_ndjson.specs.declared.kind.InputFault.{InputFault}
+use Rattle.relay_ndjson.specs.declared.kind.LineKind.TheVariants as kind
+use Rattle.relay_ndjson.specs.Lines.{IsLong, TakesText}
+
+-- a reader of lines: what was read and not used yet, the line that was taken last, and how many were taken
+pub record LineReading : Type 0 where
+  pub held : List ℕ
+  pub text : List ℕ
+  pub count : ℕ
+
+-- the end of a line stands among the bytes
+abbrev pub holds_end : List ℕ → Bool
+holds_end bytes = list_any (λ b. b == 10) bytes
+
+-- a line with this text was taken, and counted; or none was left; or why none was taken, with its number
+abbrev pub TakesNext : Option (List ℕ) → Option (List ℕ) → ℕ → ℕ → List ℕ → Result Bool InputFault → Type 0
+TakesNext old new count after text (Ok true) = TakesText old new text × (after ≡ one_more count)
+TakesNext old new count after text (Ok false) = IsAtEnd old × (new ≡ old) × (after ≡ count)
+TakesNext old new count after text (Err e) =
+    (e.line ≡ one_more count) × ((e.kind ≡ kind.Read) ⊎ (e.kind ≡ kind.Memory) ⊎ ((e.kind ≡ kind.LineLong) × IsLong old))
