@@ -1,20 +1,20 @@
 -- A fresh world is tied to fresh machines.
-use Rattle.std.proofs.Common.{◌≡◌, ℕ, zero, suc, ◌+◌, ◌<◌, List, [], ◌∷◌, ◌++◌, length, take, drop, Option, Some, None, Bool, true, false, refl, sym, ap, ◌∙◌, subst, append-nil}
-use Rattle.std.specs.Prelude.{slice_get, option_map, unwrap_or, replicate, map, ◌||◌}
+use Rattle.std.proofs.Common.{◌≡◌, ℕ, zero, suc, ◌+◌, List, [], ◌∷◌, length, take, drop, Option, Some, None, Bool, false, refl, sym, ap, ◌∙◌, subst, append-nil, arith}
+use Rattle.std.specs.Prelude.{slice_get, option_map, unwrap_or, replicate, ◌||◌}
 use Rattle.std.specs.List.{list_any}
+use borrow.Author.Tests.{ltb-true}
 use Rattle.relay_action.specs.declared.operation.Op.{Op}
-use Rattle.relay_lane.specs.declared.config.RelayConfig.{RelayConfig}
-use Rattle.relay_results.specs.Documents.{Document}
+use Rattle.relay_core.specs.declared.config.RelayConfig.{RelayConfig}
 use Rattle.relay_results.specs.Outside.{Outside}
 use Rattle.relay_index.specs.States as index
 use Rattle.relay_delivery.specs.Machine.{Core}
 use Rattle.relay_delivery.specs.Lane as delivery
 use Rattle.relay_delivery.specs.Together.{Together}
 use Rattle.relay_delivery.proofs.Gathered.{fresh_together}
-use Rattle.relay_lane.specs.State.{config_of}
+use Rattle.relay_core.specs.State.{config_of}
 use Rattle.relay_world.specs.declared.sender.Sender.{Sender}
-use Rattle.relay_world.specs.State.{Desk, World, fresh, fresh_desk, has_closed, lane_of}
-use Rattle.relay_world.specs.Ties.{queue_of, taken_of, core_of, IsLaneOf, IsTied, IsWorld, FreshIsWorld}
+use Rattle.relay_world.specs.State.{Desk, fresh, fresh_desk, has_closed, lane_of, IsBelow}
+use Rattle.relay_world.specs.Ties.{queue_of, taken_of, core_of, IsLaneOf, IsTied, FreshIsBelow, HighestIsBelow, FreshIsWorld}
 use Rattle.relay_world.proofs.Starting.{at-all}
 
 -- nothing stands at any place of a list of empty ones
@@ -46,7 +46,25 @@ drop-all : {A : Type 0} (xs : List A) → drop (length xs) xs ≡ []
 drop-all [] = refl
 drop-all (x ∷ xs) = drop-all xs
 
-module _ (c : RelayConfig) (i : index.State) (below : (k : Document) (u : ℕ) → index.stored i k ≡ Some u → u < c.first_version) where
+length-same : {A : Type 0} (n : ℕ) (x : A) → length (replicate n x) ≡ n
+length-same zero x = refl
+length-same (suc n) x = ap suc (length-same n x)
+
+-- ---- an index that is below a version
+
+pub fresh_is_below : FreshIsBelow
+fresh_is_below first k u e = absurd (cc)
+
+pub highest_is_below : HighestIsBelow
+highest_is_below first i None h above k u e = let none = h k in absurd (cc)
+highest_is_below first i (Some v) h above k u e =
+    let le = h.1 k u e in
+    let lt = ltb-true v first above in
+    omega (arith, le, lt)
+
+-- ---- the fresh world
+
+module _ (c : RelayConfig) (i : index.State) (below : IsBelow c.first_version i) where
   abbrev opening : Outside
   opening = record { requests = []; runs = []; stored = index.stored i; before = index.applied i; applied = λ k. [] }
 
@@ -64,19 +82,23 @@ module _ (c : RelayConfig) (i : index.State) (below : (k : Document) (u : ℕ) �
       origins = refl;
       runs = refl;
     });
-    accepted = λ p. sym (none_at_all c.producers p);
-    closed = λ p. sym (none_passes (has_closed p) (fresh_desk c) c.lanes (open_at_all (c.producers + 1) p));
-    queue = λ l. sym (at_fresh queue_of [] (fresh_desk c) refl refl c.lanes l);
-    taken = λ l. sym (at_fresh taken_of [] (fresh_desk c) refl refl c.lanes l);
-    lane = λ l. at_core (slice_get (replicate c.lanes (fresh_desk c)) l) (at-all c.lanes l (fresh_desk c));
-    works = λ l d e. subst (IsLaneOf c) (sym (at-all c.lanes l (fresh_desk c) d e)) (record { config = refl; next = refl });
-    sent = refl;
-    origins = refl;
-    runs = λ request place. refl;
-    applied = λ k. sym (drop-all (index.applied i k));
-    before = λ k. take-all (index.applied i k);
-    shows = record { versions = λ k. refl; lists = λ k. append-nil (index.applied i k) };
-    names = λ k. refl;
+    lanes = record {
+      producers = length-same c.producers [];
+      accepted = λ p. sym (none_at_all c.producers p);
+      closed = λ p. sym (none_passes (has_closed p) (fresh_desk c) c.lanes (open_at_all (c.producers + 1) p));
+      queue = λ l. sym (at_fresh queue_of [] (fresh_desk c) refl refl c.lanes l);
+      taken = λ l. sym (at_fresh taken_of [] (fresh_desk c) refl refl c.lanes l);
+      lane = λ l. at_core (slice_get (replicate c.lanes (fresh_desk c)) l) (at-all c.lanes l (fresh_desk c));
+      works = λ l d e. subst (IsLaneOf c) (sym (at-all c.lanes l (fresh_desk c) d e)) (record { config = refl; senders = length-same (c.producers + 1) (record { count = 0; closed = false }); next = refl });
+    };
+    requests = record { sent = refl; origins = refl; runs = λ request place. refl; found = λ s m. absurd m };
+    index = record {
+      applied = λ k. sym (drop-all (index.applied i k));
+      before = λ k. take-all (index.applied i k);
+      within = λ k. omega arith;
+      shows = record { versions = λ k. refl; lists = λ k. append-nil (index.applied i k) };
+      names = λ k. refl;
+    };
   }
     where
       at_core : (o : Option Desk) → ((d : Desk) → o ≡ Some d → d ≡ fresh_desk c) → delivery.IsOf (core_of (config_of c) o) core

@@ -1,6 +1,6 @@
 -- What a desk keeps.
 use Rattle.std.proofs.Common.{◌≡◌, ℕ, zero, suc, ◌+◌, ◌<◌, ◌≤◌, List, [], ◌∷◌, ◌++◌, length, Option, Some, None, Bool, true, false, refl, sym, ap, ◌∙◌, subst, arith}
-use Rattle.std.specs.Prelude.{slice_get, slice_set, option_map, unwrap_or, map, filter, not, ◌==◌, OnOk, OnErr, Result, is_some, if◌then◌else◌}
+use Rattle.std.specs.Prelude.{slice_get, slice_set, option_map, unwrap_or, filter, not, ◌==◌, OnOk, OnErr, Result, is_some}
 use Rattle.std.specs.Map.{lookup}
 use Rattle.std.proofs.lemmas.List.{length-map}
 use Rattle.relay_action.specs.Streams.{one_more}
@@ -9,13 +9,12 @@ use Rattle.relay_action.specs.declared.mail.Body.{Body}
 use Rattle.relay_action.specs.declared.mail.Body.TheVariants as body
 use Rattle.relay_batch.specs.declared.item.BatchItem.{BatchItem}
 use Rattle.relay_flight.specs.Flying as flight
-use Rattle.relay_results.specs.Words.{update}
 use Rattle.relay_results.specs.Outside.{Answer}
 use Rattle.relay_results.proofs.Lists.{equal, equal_test, length-update, filter_sub}
-use Rattle.relay_lane.specs.State as lane
-use Rattle.relay_lane.specs.Rule.{item_of as of_entry}
-use Rattle.relay_lane.proofs.Tying.{chosen_sub}
-use Rattle.relay_lane.proofs.Forming.{items_of_operations as items_are}
+use Rattle.relay_core.specs.State as lane
+use Rattle.relay_core.specs.Rule.{item_of as of_entry}
+use Rattle.relay_core.proofs.Tying.{chosen_sub}
+use Rattle.relay_core.proofs.Forming.{items_of_operations as items_are}
 use Rattle.relay_delivery.specs.Lane as delivery
 use Rattle.relay_world.specs.declared.sender.Sender.{Sender}
 use Rattle.relay_world.specs.State.{Desk}

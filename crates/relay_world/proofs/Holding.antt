@@ -1,24 +1,23 @@
 -- What the parts of the world keep.
-use Rattle.std.proofs.Common.{◌≡◌, ◌≢◌, ℕ, zero, suc, ◌+◌, ◌<◌, ◌≤◌, List, [], ◌∷◌, ◌++◌, length, Option, Some, None, Bool, true, false, refl, sym, ap, ◌∙◌, subst, ⊎_elim, arith, append-nil}
+use Rattle.std.proofs.Common.{◌≡◌, ℕ, zero, suc, ◌<◌, ◌≤◌, List, [], ◌∷◌, ◌++◌, length, Option, Some, None, Bool, true, false, refl, sym, ap, ◌∙◌, subst, ⊎_elim, arith, append-nil}
 use Rattle.std.specs.Prelude.{slice_get, slice_set, option_map, unwrap_or, nat_lt, nat_le, is_some, OnOk, OnErr, IfOk, Ok, Err, Result, if◌then◌else◌}
 use Rattle.relay_action.specs.declared.mail.Mail.{Mail}
 use Rattle.relay_action.specs.declared.mail.Body.{Body}
 use Rattle.relay_action.specs.declared.operation.Op.{Op}
 use Rattle.relay_action.specs.declared.mail.Body.TheVariants as body
 use Rattle.relay_batch.specs.declared.item.BatchItem.{BatchItem}
-use Rattle.relay_lane.specs.declared.config.RelayConfig.{RelayConfig}
 use Rattle.relay_results.specs.Words.{update}
 use Rattle.relay_results.specs.Documents.{document_of}
 use Rattle.relay_results.specs.Outside.{Answer}
-use Rattle.relay_results.proofs.Lists.{at-Mem, at-update-cases, at-within, any_false, length-update, some_same}
-use Rattle.relay_lane.specs.State as lane
+use Rattle.relay_results.proofs.Lists.{at-Mem, at-update-cases, any_false, length-update}
+use Rattle.relay_core.specs.State as lane
 use Rattle.relay_world.specs.declared.sender.Sender.{Sender}
 use Rattle.relay_world.specs.declared.event.Refusal.{Refusal}
 use Rattle.relay_world.specs.declared.event.Refusal.TheVariants as no
 use borrow.Author.Tests.{ltb-false, leb-false}
 use Rattle.relay_world.specs.State.{Desk, Sent, World, desk_at, lane_of, has_closed, is_closed}
-use Rattle.relay_world.specs.Refusals.{cause_if, at_desk, front_refusal, put_refusal, close_refusal, control_refusal, take_refusal, is_spent, is_full}
-use Rattle.relay_world.specs.Changes.{at_lane, posted, front_taken, took_front, sent_request, answered_desk, after_mail, after_put, after_send, request_of, sent_by, with_answer}
+use Rattle.relay_world.specs.Refusals.{cause_if, at_desk, front_refusal, put_refusal, close_refusal, control_refusal, take_refusal, is_full}
+use Rattle.relay_world.specs.Changes.{at_lane, posted, front_taken, took_front, sent_request, answered_desk, after_mail, after_put, request_of, sent_by}
 use Rattle.relay_world.specs.Memory.{WorksAs, ArePartsOf, IsOpenAt, IsOpenIn, IsThere, Forms, FormsBy, batch_at}
 use Rattle.relay_world.proofs.Places.{either, on_ok, on_ok_two, on_err, on_err_two, set-update, set-same, length-set}
 use Rattle.relay_world.proofs.Desks.{took_config}

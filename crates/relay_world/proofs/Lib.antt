@@ -9,3 +9,16 @@ pub mod Entries
 pub mod Playing
 pub mod Delivering
 pub mod Beginning
+pub mod Carried
+pub mod Logged
+pub mod Indexed
+pub mod Alike
+pub mod Posting
+pub mod Fetching
+pub mod Requesting
+pub mod Answering
+pub mod Outcomes
+pub mod Events
+pub mod Closing
+pub mod Kept
+pub mod Written

@@ -1,15 +1,16 @@
 -- What is kept of each document after one of them was run.
-use Rattle.std.proofs.Common.{◌≡◌, ◌∙◌, ℕ, List, [], ◌∷◌, ◌++◌, length, Option, Some, None, Bool, true, false, refl, ap, sym, subst, append-nil}
+use Rattle.std.proofs.Common.{◌≡◌, ◌∙◌, ℕ, List, [], ◌∷◌, ◌++◌, Option, Some, None, Bool, true, false, refl, ap, sym, append-nil}
 use Rattle.std.specs.Prelude.{◌&&◌, if◌then◌else◌}
 use Rattle.std.specs.Map.{lookup, set_value}
 use Rattle.indexmap.specs.IndexMap.{insert_entry}
 use Rattle.relay_action.specs.declared.key.DocKey.{DocKey}
 use Rattle.relay_action.specs.declared.operation.OpName.{OpName}
 use Rattle.relay_results.specs.Documents.{Document, document_of, same_document}
-use Rattle.relay_results.proofs.Same.{same_document-true, same_document-self}
+use Rattle.relay_results.proofs.Same.{same_document-true}
 use Rattle.relay_index.specs.Keys.{same_key}
 use Rattle.relay_index.proofs.Appended.{same_document-sym, same_document-at}
 use Rattle.relay_world.specs.State.{Named, kept_among, names_of, before_of}
+use Rattle.relay_world.proofs.Ran.{and_false}
 
 -- a document's entry is that of its key
 kept-own : (es : List (DocKey × Named)) (key : DocKey) (k : Document) → same_document k (document_of key) ≡ true → kept_among es k ≡ lookup (same_key key) es
@@ -66,10 +67,6 @@ name_if b n = if b then n ∷ [] else []
 and_true : (b : Bool) → (b && true) ≡ b
 and_true true = refl
 and_true false = refl
-
-and_false : (b : Bool) → (b && false) ≡ false
-and_false true = refl
-and_false false = refl
 
 -- by whether the document is the one that was run
 names-by : (found : Option Named) (v : Named) (s b : Bool) (n : OpName) (old new : Option Named) → new ≡ (if s then Some v else old) → (s ≡ true → old ≡ found)

@@ -1,9 +1,13 @@
 -- Elements at places of lists.
-use Rattle.std.proofs.Common.{◌≡◌, ◌≢◌, ℕ, zero, suc, ◌+◌, ◌-◌, ◌<◌, ◌≤◌, List, [], ◌∷◌, ◌++◌, length, get_or, Option, Some, None, Bool, true, false, refl, sym, ap, ◌∙◌, subst, inl, inr, arith, rules}
-use Rattle.std.specs.Prelude.{◌==◌, slice_get, slice_set, map, OnOk, OnErr, Ok, Err, Result, option_map, is_some, IsSome, IsOk, IfOk}
+use Rattle.std.proofs.Common.{◌≡◌, ℕ, zero, suc, ◌-◌, ◌<◌, ◌≤◌, List, [], ◌∷◌, length, get_or, Option, Some, None, Bool, true, false, refl, sym, ap, ◌∙◌, inl, inr, arith, rules, ◌≢◌, ⊎_elim}
+use Rattle.std.specs.Prelude.{◌==◌, slice_get, slice_set, OnOk, OnErr, Ok, Err, Result, option_map, is_some, IsSome, IsOk, IfOk}
 use Rattle.relay_results.specs.Words.{IsSubsequence, update}
-use Rattle.relay_results.proofs.Lists.{equal}
+use Rattle.relay_results.proofs.Lists.{equal, true_or_false}
 use Rattle.relay_world.specs.State.{numbered}
+
+-- numbers that differ test false
+pub not_equal : (m n : ℕ) → m ≢ n → (m == n) ≡ false
+not_equal m n ne = ⊎_elim (λ t. absurd (ne (equal m n t))) (λ f. f) (true_or_false (m == n))
 
 -- what follows from each of two outcomes follows
 pub either : {A E : Type 0} (r : Result A E) (P Q C : Type 0) → OnOk r P → OnErr r Q → (P → C) → (Q → C) → C

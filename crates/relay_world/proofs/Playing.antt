@@ -1,10 +1,10 @@
 -- Events one after another.
-use Rattle.std.proofs.Common.{◌≡◌, ℕ, ◌+◌, List, [], ◌∷◌, ◌++◌, refl, arith}
+use Rattle.std.proofs.Common.{◌≡◌, ◌+◌, List, [], ◌∷◌, ◌++◌, refl, arith}
 use Rattle.relay_world.specs.declared.event.Event.{Event}
 use Rattle.relay_world.specs.declared.event.StepAnswer.{StepAnswer}
 use Rattle.relay_world.specs.declared.event.StepAnswer.TheVariants as answer
 use Rattle.relay_world.specs.declared.event.RunEnd.{RunEnd}
-use Rattle.std.proofs.Common.{sym, subst, ◌∙◌, ap}
+use Rattle.std.proofs.Common.{sym, subst, ap}
 use Rattle.relay_world.specs.State.{World}
 use Rattle.relay_world.specs.Steps.{Steps, Plays, counted}
 

@@ -1,5 +1,5 @@
 -- An item was run.
-use Rattle.std.proofs.Common.{◌≡◌, ℕ, ◌-◌, List, [], ◌∷◌, ◌++◌, length, Option, Some, Bool, refl, sym, ap, ◌∙◌, subst}
+use Rattle.std.proofs.Common.{◌≡◌, ℕ, ◌-◌, List, [], ◌∷◌, ◌++◌, length, Some, ap, ◌∙◌, subst}
 use Rattle.std.specs.Prelude.{slice_get, slice_set, OnOk, IfOk, Ok, Err, Result, ◌&&◌, if◌then◌else◌}
 use Rattle.relay_action.specs.declared.key.DocKey.{DocKey}
 use Rattle.relay_action.specs.declared.operation.OpName.{OpName}

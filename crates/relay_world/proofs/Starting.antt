@@ -1,10 +1,10 @@
 -- What holds at the start.
-use Rattle.std.proofs.Common.{◌≡◌, ℕ, zero, suc, ◌+◌, List, [], ◌∷◌, length, Option, Some, None, true, false, refl, sym, ap, ◌∙◌, subst, arith}
+use Rattle.std.proofs.Common.{◌≡◌, ℕ, zero, suc, ◌+◌, [], length, Some, true, false, refl, sym, subst, arith}
 use Rattle.std.specs.Prelude.{slice_get, replicate}
-use Rattle.relay_lane.specs.declared.config.RelayConfig.{RelayConfig}
-use Rattle.relay_lane.specs.Limits.{is_valid}
+use Rattle.relay_core.specs.declared.config.RelayConfig.{RelayConfig}
+use Rattle.relay_core.specs.Limits.{is_valid}
 use Rattle.relay_index.specs.States as index
-use Rattle.relay_world.specs.State.{Desk, World, fresh, fresh_desk}
+use Rattle.relay_world.specs.State.{fresh, fresh_desk}
 use Rattle.relay_world.specs.Memory.{WorksAs, ArePartsOf}
 
 pub length-all : {A : Type 0} (n : ℕ) (x : A) → length (replicate n x) ≡ n

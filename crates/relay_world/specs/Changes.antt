@@ -4,7 +4,6 @@ use Rattle.relay_action.specs.Streams.{one_more}
 use Rattle.relay_action.specs.declared.key.DocKey.{DocKey}
 use Rattle.relay_action.specs.declared.action.Action.{Action}
 use Rattle.relay_action.specs.declared.operation.Op.{Op}
-use Rattle.relay_action.specs.declared.operation.OpName.{OpName}
 use Rattle.relay_action.specs.declared.mail.Mail.{Mail}
 use Rattle.relay_action.specs.declared.mail.Body.{Body}
 use Rattle.relay_action.specs.declared.mail.Body.TheVariants as body
@@ -18,9 +17,9 @@ use Rattle.relay_results.specs.Matching.{matches}
 use Rattle.relay_index.specs.States as index
 use Rattle.relay_index.specs.Runs.{is_run, done_of, outcome_of_run, Effect}
 use Rattle.relay_index.specs.declared.choice.Choice.{Choice}
-use Rattle.relay_lane.specs.State as lane
-use Rattle.relay_lane.specs.Ties.{ops_of}
-use Rattle.relay_lane.specs.declared.settled.Settled.{Settled}
+use Rattle.relay_core.specs.State as lane
+use Rattle.relay_core.specs.Ties.{ops_of}
+use Rattle.relay_core.specs.declared.settled.Settled.{Settled}
 use Rattle.relay_world.specs.declared.event.Event.{Event}
 use Rattle.relay_world.specs.declared.event.Event.TheVariants as event
 use Rattle.relay_world.specs.declared.event.StepAnswer.{StepAnswer}

@@ -1,5 +1,5 @@
 -- What is promised of the world after every list of events: exactly accounted delivery.
-use Rattle.std.specs.Prelude.{◌≡◌, ◌⊎◌, ℕ, List, [], ◌∷◌, ◌++◌, Option, Some, None, option_and_then, unwrap_or, option_map, slice_get, take, length, Bool, true, ◌==◌, ◌&&◌, map, if◌then◌else◌}
+use Rattle.std.specs.Prelude.{◌≡◌, ◌⊎◌, ℕ, List, [], ◌∷◌, ◌++◌, Option, Some, None, option_and_then, slice_get, take, length, true, ◌==◌, ◌&&◌, map, if◌then◌else◌}
 use Rattle.relay_action.specs.declared.operation.Op.{Op}
 use Rattle.relay_results.specs.Words.{Mem, AllDistinct}
 use Rattle.relay_results.specs.Documents.{Document, document_of, name_of}
@@ -9,7 +9,7 @@ use Rattle.relay_delivery.specs.Attribution.{IsAttribution, IsInProducerOrder}
 use Rattle.relay_delivery.specs.Causes.{Terms, IsAssignment, IsTrueCause, deals_from}
 use Rattle.relay_delivery.specs.Machine.{Report}
 use Rattle.relay_delivery.specs.Delivery.{names_of}
-use Rattle.relay_world.specs.State.{Desk, Item, Sent, World, desk_at, lane_of, accepted_from, applied, names_at, before_at, reports, writes_of, is_finished}
+use Rattle.relay_world.specs.State.{Desk, Item, Sent, World, desk_at, lane_of, accepted_from, applied, names_at, before_at, reports, writes_of, is_closed, is_finished}
 
 -- ---- what stands outside the lanes
 
@@ -84,3 +84,8 @@ pub record Delivered (w : World) : Type 0 where
   pub in_one_lane : (l m : ℕ) (r q : Report) → Mem r (reports w l) → Mem q (reports w m) → r.name ≡ q.name → l ≡ m
   pub complete : is_finished w ≡ true → (p : ℕ) (o : Op) → Mem o (accepted_from w p)
       → Mem o (ops (document_of o.key)) ⊎ Mem (name_of o) (names_of (reports w (lane_of w (document_of o.key))))
+
+-- of the producers that had closed, nothing more was accepted, and they stay closed
+abbrev pub StaysClosed : World → World → Type 0
+StaysClosed old new =
+    (p : ℕ) → is_closed old p ≡ true → (accepted_from new p ≡ accepted_from old p) × (is_closed new p ≡ true)

@@ -1,19 +1,17 @@
 -- The world as it stands in memory, and what always holds of it.
-use Rattle.std.specs.Prelude.{◌≡◌, ℕ, ◌+◌, ◌<◌, ◌≤◌, List, [], ◌∷◌, ◌++◌, Option, Some, None, option_map, unwrap_or, slice_get, slice_set, Bool, true, false, map, length}
+use Rattle.std.specs.Prelude.{◌≡◌, ℕ, ◌+◌, ◌<◌, List, [], ◌∷◌, Option, Some, None, option_map, slice_get, Bool, true, false, length}
 use Rattle.relay_action.specs.declared.operation.Op.{Op}
 use Rattle.relay_action.specs.declared.operation.OpName.{OpName}
 use Rattle.relay_action.specs.declared.write.Write.{Write}
 use Rattle.relay_action.specs.declared.mail.Mail.{Mail}
-use Rattle.relay_action.specs.declared.mail.Body.{Body}
 use Rattle.relay_batch.specs.declared.item.BatchItem.{BatchItem}
-use Rattle.relay_lane.specs.declared.config.RelayConfig.{RelayConfig}
-use Rattle.relay_results.specs.Documents.{Document, document_of, same_document, name_of, write_for}
+use Rattle.relay_core.specs.declared.config.RelayConfig.{RelayConfig}
+use Rattle.relay_results.specs.Documents.{name_of, write_for}
 use Rattle.relay_results.specs.Outside.{Answer, Unanswered, Items, Whole, Lost, RunOutcome}
 use Rattle.relay_results.specs.Done.{failure}
-use Rattle.relay_index.specs.States as index
-use Rattle.relay_lane.specs.Limits.{is_valid}
-use Rattle.relay_lane.specs.State as lane
-use Rattle.relay_lane.specs.declared.settled.Settled.{Settled}
+use Rattle.relay_core.specs.Limits.{is_valid}
+use Rattle.relay_core.specs.State as lane
+use Rattle.relay_core.specs.declared.settled.Settled.{Settled}
 use Rattle.relay_action.specs.declared.key.DocKey.{DocKey}
 use Rattle.relay_world.specs.declared.request.RunDone.{RunDone}
 use Rattle.relay_world.specs.declared.request.Given.{Given}

@@ -8,12 +8,11 @@ use Rattle.relay_results.specs.Documents.{document_of, write_for}
 use Rattle.relay_results.specs.Outside.{RunOutcome}
 use Rattle.relay_index.specs.declared.choice.Choice.{Choice}
 use Rattle.relay_index.specs.declared.choice.Choice.TheVariants as choice
-use Rattle.relay_lane.specs.State as lane
+use Rattle.relay_core.specs.State as lane
 use Rattle.relay_world.specs.declared.event.Event.{Event}
 use Rattle.relay_world.specs.declared.event.Event.TheVariants as event
 use Rattle.relay_world.specs.declared.event.Refusal.{Refusal}
 use Rattle.relay_world.specs.declared.event.Refusal.TheVariants as no
-use Rattle.relay_world.specs.declared.sender.Sender.{Sender}
 use Rattle.relay_world.specs.State.{Desk, Item, Sent, World, desk_at, lane_of, accepted_from, request_at, op_with, write_at, has_closed, is_closed}
 
 -- a cause, where the test holds, and else the next

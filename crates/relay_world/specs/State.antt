@@ -1,21 +1,22 @@
 -- The world as its callers see it: lanes with their queues over one index, what was accepted, sent, run and answered, and
 -- whose writes the index applied.
-use Rattle.std.specs.Prelude.{ℕ, ◌+◌, ◌-◌, ◌==◌, List, [], ◌∷◌, ◌++◌, Option, Some, None, option_map, option_and_then, option_to_list, unwrap_or, slice_get, Bool, true, false, ◌&&◌, nat_lt, length, drop, map, replicate, if◌then◌else◌}
+use Rattle.std.specs.Prelude.{◌≡◌, ◌<◌, ℕ, ◌+◌, ◌-◌, ◌==◌, List, [], ◌∷◌, ◌++◌, Option, Some, None, option_map, option_and_then, option_to_list, unwrap_or, slice_get, Bool, false, ◌&&◌, length, drop, replicate, not, if◌then◌else◌}
 use Rattle.std.specs.List.{list_any, list_all}
+use Rattle.std.specs.List.Sorted.{IsStrictlySortedBy}
 use Rattle.std.specs.Map.{lookup}
 use Rattle.relay_action.specs.declared.key.DocKey.{DocKey}
-use Rattle.relay_action.specs.declared.action.Action.{Action}
 use Rattle.relay_action.specs.declared.operation.Op.{Op}
 use Rattle.relay_action.specs.declared.operation.OpName.{OpName}
 use Rattle.relay_action.specs.declared.mail.Mail.{Mail}
 use Rattle.relay_action.specs.declared.write.Write.{Write}
 use Rattle.relay_results.specs.Documents.{Document, document_of, same_document, write_for}
 use Rattle.relay_results.specs.Documents as documents
-use Rattle.relay_results.specs.Outside.{Answer, RunOutcome, Request}
+use Rattle.relay_results.specs.Outside.{Answer, RunOutcome}
 use Rattle.relay_index.specs.States as index
+use Rattle.relay_index.specs.Keys.{key_order, is_among}
 use Rattle.relay_delivery.specs.Machine.{Report}
-use Rattle.relay_lane.specs.declared.config.RelayConfig.{RelayConfig}
-use Rattle.relay_lane.specs.State as lane
+use Rattle.relay_core.specs.declared.config.RelayConfig.{RelayConfig}
+use Rattle.relay_core.specs.State as lane
 use Rattle.relay_world.specs.declared.sender.Sender.{Sender}
 
 -- ---- what it has
@@ -76,6 +77,10 @@ fresh c i = record {
   kept = [];
 }
 
+-- every version that the index has is below this one
+abbrev pub IsBelow : ℕ → index.State → Type 0
+IsBelow first i = (k : Document) (u : ℕ) → index.stored i k ≡ Some u → u < first
+
 -- ---- what callers ask
 
 -- the lane of a document
@@ -112,6 +117,16 @@ before_at w k = before_of (length (index.applied w.index k)) (kept_among w.kept 
 -- the writes that were applied to a document since the start
 abbrev pub applied : World → Document → List Write
 applied w k = drop (before_at w k) (index.applied w.index k)
+
+-- a write was applied to the document since the start
+abbrev pub is_written : World → Document → Bool
+is_written w k = not (length (applied w k) == 0)
+
+-- The keys are those of the documents that a write was applied to since the start, deleted ones too: each of these, no
+-- other, none twice, and in their order.
+pub record AreKeysOf (w : World) (keys : List DocKey) : Type 0 where
+  pub rising : IsStrictlySortedBy key_order keys
+  pub written : (k : Document) → is_among k keys ≡ is_written w k
 
 -- what a lane has reported
 abbrev pub reports_of : Option Desk → List Report

@@ -1,5 +1,5 @@
 -- One event, and a list of events.
-use Rattle.std.specs.Prelude.{◌≡◌, ℕ, ◌+◌, List, [], ◌∷◌, Option, Some, None}
+use Rattle.std.specs.Prelude.{◌≡◌, ◌+◌, List, [], ◌∷◌, Option, Some, None}
 use Rattle.relay_world.specs.declared.event.Event.{Event}
 use Rattle.relay_world.specs.declared.event.Refusal.{Refusal}
 use Rattle.relay_world.specs.declared.event.StepAnswer.{StepAnswer}

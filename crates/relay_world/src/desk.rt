@@ -1,9 +1,9 @@
 //! A lane with its queue.
 ghost use Rattle.std.specs.Prelude.{◌≡◌, ℕ, ◌+◌, ◌≤◌, ◌≢◌, [], ◌∷◌, ◌++◌, None, Some, true, IsTrue, OnOk, OnErr, IfOk, IfSome, OnSome, IfNone, map, option_map, is_some, is_ok, length, nat_le, nat_lt, slice_get, vec_capacity};
 ghost use Rattle.std.specs.List.{list_all};
-ghost use Rattle.relay_lane.specs.Limits.{is_valid};
-ghost use Rattle.relay_lane.specs.Walk.{report_of};
-ghost use Rattle.relay_lane.specs.State.{is_flying, after_request, next_batch, writes_of, AreCounts};
+ghost use Rattle.relay_core.specs.Limits.{is_valid};
+ghost use Rattle.relay_core.specs.Walk.{report_of};
+ghost use Rattle.relay_core.specs.State.{is_flying, after_request, next_batch, writes_of, AreCounts};
 ghost use Rattle.relay_results.specs.Outside.{Items, Whole, Lost};
 ghost use Rattle.relay_results.specs.Matching.{matches};
 ghost use Rattle.relay_world.specs.State.{fresh_desk, has_closed, is_done};
@@ -16,7 +16,7 @@ use crate::request::SentItem;
 use crate::sender::Sender;
 use relay_action::{Body, Mail, Op};
 use relay_batch::BatchItem;
-use relay_lane::{Lane, NotFlying, RelayConfig, Report, Settled};
+use relay_core::{Lane, NotFlying, RelayConfig, Report, Settled};
 use relay_results::Outcome;
 use std::alloc::{AllocError, Global};
 use std::collections::VecDeque;

@@ -1,7 +1,7 @@
 //! Events of the world, and what they answer.
 use relay_action::{Action, DocKey, List, OpName};
+use relay_core::Settled;
 use relay_index::Choice;
-use relay_lane::Settled;
 use thiserror::Error;
 
 /// What may happen in the world. Lanes and producers are counted from 0; the control is a sender

@@ -1,10 +1,18 @@
 //! What is promised of worlds that are tied to the machines of delivery. These functions do nothing;
 //! their contracts are the laws.
-ghost use Rattle.relay_world.specs.Ties.{FreshIsWorld, WorldsDeliver};
+ghost use Rattle.relay_world.specs.Ties.{FreshIsWorld, StepsKeepTied, WorldsDeliver, FreshIsBelow, HighestIsBelow};
 
-/// A world that is tied to machines of delivery which share one outside delivers; and a fresh world is
-/// tied, where every version that the index has is below the first one dealt.
+/// A fresh world is tied to machines of delivery which share one outside, where every version that the
+/// index has is below the first one dealt; each event keeps a world tied; and a tied world delivers.
 pub fn tied_worlds_deliver()
     ensures fresh { FreshIsWorld }
+    ensures steps { StepsKeepTied }
     ensures deliver { WorldsDeliver }
+{}
+
+/// An index to which nothing was applied is below every version, and so is one whose highest version is:
+/// what `World::new` asks of its index.
+pub fn indexes_are_below()
+    ensures fresh { FreshIsBelow }
+    ensures highest { HighestIsBelow }
 {}

@@ -1,9 +1,10 @@
 //! All interleavings: lanes with their queues over one index, which any list of events is played on. It
-//! stands on `relay_lane`, which decides, and `relay_index`, which does the writes.
+//! stands on `relay_core`, which decides, and `relay_index`, which does the writes.
 //!
-//! It carries this promise: each event is refused exactly where its causes say and changes nothing then, and
-//! an accepted one changes what its rule says and nothing else. A world that is tied to the machines of
-//! delivery has delivered (`laws`); that each event keeps a world tied is still to be proved.
+//! It carries the promise of the whole: each event is refused exactly where its causes say and changes
+//! nothing then, and an accepted one changes what its rule says and nothing else; and after every list of
+//! events all that was accepted is exactly accounted for (`Delivered`), since each event keeps the world
+//! tied to the machines of delivery (`laws`).
 #![tactic(auto)]
 
 mod accepted;

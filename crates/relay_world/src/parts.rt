@@ -2,13 +2,12 @@
 ghost use Rattle.std.specs.Prelude.{◌≡◌, ◌≢◌, slice_get, is_ok, if◌then◌else◌, ℕ, ◌+◌, ◌-◌, ◌^◌, ◌<◌, ◌≤◌, [], ◌∷◌, ◌++◌, None, Some, true, OnOk, OnErr, IfOk, IfSome, IsSome, map, option_map, is_some, length, replicate};
 ghost use Rattle.relay_results.specs.Words.{update};
 ghost use Rattle.relay_results.specs.Outside.{Items, Whole, Lost};
-ghost use Rattle.relay_lane.specs.State.{next_batch};
+ghost use Rattle.relay_core.specs.State.{next_batch};
 ghost use Rattle.relay_results.specs.Documents.{document_of};
-ghost use Rattle.relay_index.specs.Keys.{AreKeys};
-ghost use Rattle.relay_lane.specs.Limits.{is_valid};
-ghost use Rattle.relay_lane.specs.Walk.{report_of};
+ghost use Rattle.relay_core.specs.Limits.{is_valid};
+ghost use Rattle.relay_core.specs.Walk.{report_of};
 ghost use Rattle.relay_world.specs.declared.event.Event.TheVariants as event;
-ghost use Rattle.relay_world.specs.State.{fresh, fresh_desk, desk_at, lane_of, accepted_from, applied, names_at, reports, request_at, item_at, is_closed, is_finished, op_with, write_at};
+ghost use Rattle.relay_world.specs.State.{fresh, fresh_desk, desk_at, lane_of, accepted_from, applied, names_at, reports, request_at, item_at, is_closed, is_finished, is_written, AreKeysOf, op_with, write_at};
 ghost use Rattle.relay_world.specs.Refusals.{entries_from, flies_at, put_refusal, close_refusal, control_refusal, take_refusal, may_choose, is_flying, entry_at, entries};
 ghost use Rattle.relay_world.specs.Changes.{after_put, at_lane, posted, took_front, with_answer, answered_desk, sent_request, request_of, RunsItem};
 ghost use Rattle.relay_world.specs.Steps.{Steps};
@@ -20,8 +19,8 @@ use crate::event::{Refusal, StepAnswer};
 use crate::names::Names;
 use crate::request::{Given, SentItem, SentRequest};
 use relay_action::{Action, Body, DocKey, Op, OpName, Write, lane_of};
+use relay_core::{NotFlying, RelayConfig, Report, Settled};
 use relay_index::{Choice, Index, may_refuse};
-use relay_lane::{NotFlying, RelayConfig, Report, Settled};
 use relay_results::{ItemDone, Outcome};
 use std::alloc::{AllocError, Global};
 use std::marker::Model;
@@ -191,11 +190,20 @@ impl Parts {
         }
     }
 
-    // The documents that a write was applied to.
-    pub(crate) fn keys(&self) -> Result<Vec<DocKey>, AllocError>
-        ensures { IfOk result (λ keys. AreKeys self.now.index keys.items) }
+    // Whether a write was applied to a document since the start.
+    fn is_written(&self, key: &DocKey) -> bool
+        ensures { result ≡ is_written self.now (document_of key.now) }
     {
-        self.index.keys(self.alloc)
+        !self.applied(key).is_empty()
+    }
+
+    // The documents that a write was applied to since the start.
+    pub(crate) fn keys(&self) -> Result<Vec<DocKey>, AllocError>
+        ensures { IfOk result (λ keys. AreKeysOf self.now keys.items) }
+    {
+        let mut keys = self.index.keys(self.alloc)?;
+        keys.retain(|key| self.is_written(key));
+        Ok(keys)
     }
 
     // A sent request, by its number.

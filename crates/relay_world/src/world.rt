@@ -1,18 +1,18 @@
 //! The world.
 ghost use Rattle.std.specs.Prelude.{◌≡◌, ℕ, ◌+◌, ◌^◌, ◌<◌, [], true, map, take, is_some, length, IfOk, IfErr, IfSome, OnOk, OnErr};
 ghost use Rattle.relay_results.specs.Documents.{document_of};
-ghost use Rattle.relay_index.specs.Keys.{AreKeys};
-ghost use Rattle.relay_lane.specs.Limits.{is_valid};
-ghost use Rattle.relay_lane.specs.Walk.{report_of};
-ghost use Rattle.relay_world.specs.State.{fresh, accepted_from, applied, names_at, reports, write_at, is_finished};
+ghost use Rattle.relay_core.specs.Limits.{is_valid};
+ghost use Rattle.relay_core.specs.Walk.{report_of};
+ghost use Rattle.relay_world.specs.State.{fresh, accepted_from, applied, names_at, reports, write_at, is_finished, AreKeysOf, IsBelow};
+ghost use Rattle.relay_world.specs.Headline.{Delivered, StaysClosed};
 ghost use Rattle.relay_world.specs.Memory.{IsWriteAt};
 ghost use Rattle.relay_world.specs.Steps.{Steps, Plays, none_yet, counted};
 
 use crate::event::{Event, RunEnd, StepAnswer};
 use crate::parts::Parts;
 use relay_action::{DocKey, Op, OpName, Write};
+use relay_core::{RelayConfig, Report};
 use relay_index::Index;
-use relay_lane::{RelayConfig, Report};
 use std::alloc::{AllocError, Global};
 use std::marker::Model;
 
@@ -26,10 +26,13 @@ pub struct World {
 
 impl Model for World {
     ghost use Rattle.relay_world.specs.State.{World};
+    ghost use Rattle.relay_world.specs.Ties.{IsWorld};
 
     ghost Value = { World };
 
     ghost view = { λ w. w.parts };
+
+    ghost invariant = { λ w. IsWorld w.parts };
 }
 
 // One event more was accepted, or refused.
@@ -45,12 +48,53 @@ fn counted(answer: StepAnswer, end: RunEnd) -> RunEnd
     now
 }
 
+// One event, on the parts of a world.
+fn play(parts: &mut Parts, event: &Event) -> Result<StepAnswer, AllocError>
+    ensures ok { IfOk result (λ x. Steps parts.old event.now x parts.new) }
+    ensures unchanged { OnErr result (parts.new ≡ parts.old) }
+{
+    match event {
+        Event::Put(producer, key, action) => parts.put(*producer, key, action),
+        Event::Close(sender, lane) => parts.close(*sender, *lane),
+        Event::Tick(lane) => parts.tick(*lane),
+        Event::Flush(lane) => parts.flush(*lane),
+        Event::Take(lane) => parts.take(*lane),
+        Event::Send(lane) => parts.send(*lane),
+        Event::Run(request, item, choice) => parts.run(*request, *item, *choice),
+        Event::Reply(request, picks) => parts.reply(*request, picks.as_slice()),
+        Event::Whole(request, status) => Ok(parts.whole(*request, *status)),
+        Event::Lost(request) => Ok(parts.lost(*request)),
+    }
+}
+
+// Events one after another, on the parts of a world.
+fn play_all(parts: &mut Parts, events: &[Event]) -> Result<RunEnd, (u64, AllocError)>
+    ensures ok { IfOk result (λ end. Plays parts.old none_yet events.now end parts.new) }
+    ensures err { IfErr result (λ e. (end : RunEnd) × (end.done + end.refused ≡ e.0)
+        × Plays parts.old none_yet (take e.0 events.now) end parts.new) }
+    ensures unfinished { IfErr result (λ e. e.0 < length events.now) }
+{
+    let mut end = RunEnd {
+        done: 0,
+        refused: 0,
+    };
+    'events: for event in events {
+        match play(parts, event) {
+            Ok(answer) => end = counted(answer, end),
+            Err(fault) => return Err((end.done + end.refused, fault)),
+        }
+    }
+    Ok(end)
+}
+
 // Events are played.
 impl World {
-    /// A world in which nothing has happened, over an index that may have versions from before. The config
-    /// has to be valid. `AllocError`: there was no memory for the lanes or the lists.
+    /// A world in which nothing has happened, over an index that may have versions from before: each has to
+    /// be below the first one that the lanes deal, as `Index::highest` tells. The config has to be valid.
+    /// `AllocError`: there was no memory for the lanes or the lists.
     pub fn new(alloc: Global, config: RelayConfig, index: Index) -> Result<World, AllocError>
-        requires { is_valid config ≡ true }
+        requires valid { is_valid config ≡ true }
+        requires below { IsBelow config.first_version index }
         ensures { IfOk result (λ w. w ≡ fresh config index) }
     {
         Ok(World {
@@ -60,44 +104,29 @@ impl World {
 
     /// One event. It is refused exactly where its causes say, the first that holds, and changes nothing
     /// then; else it changes what its rule says, and nothing else. `AllocError`: there was no memory for
-    /// it, and nothing changed.
+    /// it, and nothing changed. Afterwards, as before, all that was accepted is exactly accounted for.
     pub fn step(&mut self, event: &Event) -> Result<StepAnswer, AllocError>
         ensures ok { IfOk result (λ x. Steps self.old event.now x self.new) }
         ensures unchanged { OnErr result (self.new ≡ self.old) }
+        ensures delivered { Delivered self.new }
+        ensures closed { StaysClosed self.old self.new }
     {
-        match event {
-            Event::Put(producer, key, action) => self.parts.put(*producer, key, action),
-            Event::Close(sender, lane) => self.parts.close(*sender, *lane),
-            Event::Tick(lane) => self.parts.tick(*lane),
-            Event::Flush(lane) => self.parts.flush(*lane),
-            Event::Take(lane) => self.parts.take(*lane),
-            Event::Send(lane) => self.parts.send(*lane),
-            Event::Run(request, item, choice) => self.parts.run(*request, *item, *choice),
-            Event::Reply(request, picks) => self.parts.reply(*request, picks.as_slice()),
-            Event::Whole(request, status) => Ok(self.parts.whole(*request, *status)),
-            Event::Lost(request) => Ok(self.parts.lost(*request)),
-        }
+        play(&mut self.parts, event)
     }
 
     /// Events one after another, also after a refused one; how many were accepted, and how many refused.
     /// `AllocError`: there was no memory for an event; so many were finished before it, and it changed
-    /// nothing.
+    /// nothing. Whatever the events and their order, all that was accepted is exactly accounted for
+    /// afterwards, and nothing more was accepted from a producer that had closed.
     pub fn run(&mut self, events: &[Event]) -> Result<RunEnd, (u64, AllocError)>
         ensures ok { IfOk result (λ end. Plays self.old none_yet events.now end self.new) }
         ensures err { IfErr result (λ e. (end : RunEnd) × (end.done + end.refused ≡ e.0)
             × Plays self.old none_yet (take e.0 events.now) end self.new) }
+        ensures unfinished { IfErr result (λ e. e.0 < length events.now) }
+        ensures delivered { Delivered self.new }
+        ensures closed { StaysClosed self.old self.new }
     {
-        let mut end = RunEnd {
-            done: 0,
-            refused: 0,
-        };
-        'events: for event in events {
-            match self.step(event) {
-                Ok(answer) => end = counted(answer, end),
-                Err(fault) => return Err((end.done + end.refused, fault)),
-            }
-        }
-        Ok(end)
+        play_all(&mut self.parts, events)
     }
 }
 
@@ -142,17 +171,19 @@ impl World {
         self.parts.reports(lane)
     }
 
-    /// The documents of the index, also those from before the start, in byte order of their index names and
-    /// then of their ids. `AllocError`: there was no memory for them.
+    /// The documents that the index applied a write to since the start, deleted ones too, in byte order of
+    /// their index names and then of their ids. `AllocError`: there was no memory for them.
     pub fn keys(&self) -> Result<Vec<DocKey>, AllocError>
-        ensures { IfOk result (λ keys. AreKeys self.now.index keys.items) }
+        ensures { IfOk result (λ keys. AreKeysOf self.now keys.items) }
     {
         self.parts.keys()
     }
 
     /// Whether each sender has closed at each lane, nothing is queued, and no lane holds an operation.
+    /// Where it is so, each accepted operation was applied or is reported (`complete` of `Delivered`).
     pub fn finished(&self) -> bool
-        ensures { result ≡ is_finished self.now }
+        ensures answer { result ≡ is_finished self.now }
+        ensures delivered { Delivered self.now }
     {
         self.parts.finished()
     }

@@ -2,6 +2,10 @@
 #![tactic(auto)]
 
 #[cfg(test)]
+mod before;
+#[cfg(test)]
+mod many;
+#[cfg(test)]
 mod refusals;
 #[cfg(test)]
 mod script;

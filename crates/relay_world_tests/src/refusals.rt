@@ -1,6 +1,6 @@
 //! Each refusal of each event, in its order.
 use crate::script::{Row, Says, THREE, lasts};
-use relay_lane::RelayConfig;
+use relay_core::RelayConfig;
 use relay_world::Refusal;
 use std::test::Fail;
 

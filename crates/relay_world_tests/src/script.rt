@@ -1,8 +1,8 @@
 //! Event lists with what each event answers, as rows, and the world that they are played on.
 use relay_action::{Action, DocKey, List};
 use relay_batch::Limits;
+use relay_core::{Cause, RelayConfig, Report, Settled};
 use relay_index::{Choice, Index};
-use relay_lane::{Cause, RelayConfig, Report, Settled};
 use relay_world::{Event, Refusal, StepAnswer, World};
 use std::alloc::{AllocError, Global};
 use std::test::Fail;
@@ -124,6 +124,15 @@ fn played(alloc: Global, world: &mut World, rows: &[(Row<'_>, Says)]) -> Result<
         }
     }
     Ok(0)
+}
+
+/// Whether an event was accepted.
+pub fn accepts(world: &mut World, event: &Event) -> bool {
+    match world.step(event) {
+        Ok(StepAnswer::Refused(_)) => false,
+        Ok(_) => true,
+        Err(_) => false,
+    }
 }
 
 /// A report of lane 0: the number of its operation, and its cause.

@@ -1,6 +1,6 @@
 //! Worked scripts.
 use crate::script::{Given, Row, Says, THREE, lasts, lasts_with, run_of};
-use relay_lane::RelayConfig;
+use relay_core::RelayConfig;
 use relay_world::Refusal;
 use std::test::Fail;
 

@@ -1,9 +1,9 @@
-use Rattle.std.proofs.Common.{◌≡◌, ◌≤◌, ◌∷◌, [], refl, sym, ap, ◌∙◌, subst, true, Some, arith, length}
+use Rattle.std.proofs.Common.{◌≡◌, refl, sym, ap, ◌∙◌, subst, true, arith}
 use Rattle.std.specs.Prelude.{is_some, IfSome, option_map}
 use Rattle.relay_world.specs.Changes.{items_of}
 use Rattle.relay_world.proofs.Places.{some_of}
 use Rattle.relay_world.proofs.Desks.{batch_found, batch_few}
-use Rattle.relay_lane.specs.State.{next_batch}
+use Rattle.relay_core.specs.State.{next_batch}
 use Rattle.relay_world.proofs.desk.form.Goals as goal
 
 pub unwrap-batch-requires : goal.unwrap-batch-requires

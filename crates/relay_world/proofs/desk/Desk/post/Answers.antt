@@ -1,10 +1,6 @@
-use Rattle.std.proofs.Common.{◌≡◌, ◌∷◌, [], ◌++◌, refl, sym, ap, ◌∙◌, subst}
-use Rattle.std.specs.Prelude.{slice_get, slice_set, Option, Some, option_map, unwrap_or}
-use Rattle.relay_action.specs.Streams.{one_more}
-use Rattle.relay_action.specs.declared.mail.Mail.{Mail}
-use Rattle.relay_world.specs.declared.sender.Sender.{Sender}
+use Rattle.std.proofs.Common.{◌∷◌, [], ◌++◌, sym, ap, ◌∙◌, subst}
 use Rattle.relay_world.specs.State.{Desk}
-use Rattle.relay_world.specs.Changes.{after_mail, posted}
+use Rattle.relay_world.specs.Changes.{posted}
 use Rattle.relay_world.specs.Memory.{IsDesk, IsOpenAt}
 use Rattle.relay_world.proofs.Places.{at_index}
 use Rattle.relay_world.proofs.Desks.{open_within, posted_keeps, posted_is}

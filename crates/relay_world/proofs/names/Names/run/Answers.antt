@@ -1,13 +1,13 @@
-use Rattle.std.proofs.Common.{◌≡◌, ℕ, List, [], ◌∷◌, ◌++◌, length, Some, None, true, false, refl, sym, ap, ◌∙◌, append-nil, arith}
+use Rattle.std.proofs.Common.{◌≡◌, [], ◌∷◌, ◌++◌, length, Some, None, refl, sym, ap, ◌∙◌, arith}
 use Rattle.std.specs.Prelude.{if◌then◌else◌, ◌&&◌}
-use Rattle.relay_results.specs.Documents.{Document, document_of, same_document}
+use Rattle.relay_results.specs.Documents.{document_of, same_document}
 use Rattle.relay_results.proofs.Same.{same_document-true}
 use Rattle.std.specs.Map.{lookup, set_value}
 use Rattle.indexmap.specs.IndexMap.{insert_entry}
 use Rattle.relay_index.specs.Keys.{same_key}
 use Rattle.relay_world.specs.State.{Named}
 use Rattle.relay_index.specs.States.{applied}
-use Rattle.relay_index.specs.Runs.{is_run, Effect}
+use Rattle.relay_index.specs.Runs.{is_run}
 use Rattle.relay_world.specs.State.{kept_among, names_of, before_of}
 use Rattle.relay_world.proofs.Places.{ok_fact, on_ok, on_ok_two, on_err}
 use Rattle.relay_world.proofs.Named.{set_value-same, names-set, before-set, names-insert, before-insert}

@@ -1,16 +1,10 @@
-use Rattle.std.proofs.Common.{◌≡◌, ℕ, ◌+◌, ◌-◌, ◌∷◌, [], ◌++◌, List, Option, Some, None, true, false, length, refl, sym, ap, ◌∙◌, subst, arith}
-use Rattle.std.specs.Prelude.{slice_get, option_map, is_some, OnOk, OnErr, IfSome, IfOk}
-use Rattle.relay_results.specs.Documents.{Document, document_of}
+use Rattle.std.proofs.Common.{◌≡◌, ◌-◌, sym, ap, ◌∙◌, subst, arith}
 use Rattle.relay_results.specs.Words.{update}
-use Rattle.relay_results.proofs.Lists.{at-within, some_same}
-use Rattle.relay_world.specs.State.{Desk, Item, Sent, World, desk_at, lane_of, request_at, item_at, op_with, numbered}
-use Rattle.relay_world.specs.Refusals.{put_refusal, close_refusal, control_refusal, take_refusal}
-use Rattle.relay_world.specs.Changes.{at_lane, posted, took_front, sent_request, answered_desk, after_put, with_answer}
-use Rattle.relay_world.specs.Memory.{IsOpenAt, IsOpenIn, IsThere, ArePartsOf, WorksAs}
+use Rattle.relay_results.proofs.Lists.{at-within}
+use Rattle.relay_world.specs.State.{World}
+use Rattle.relay_world.specs.Changes.{with_answer}
 use Rattle.relay_world.specs.View.{seen}
-use Rattle.relay_world.proofs.Places.{at_index, on_ok, on_err, ok_fact}
-use Rattle.relay_world.proofs.Holding.{at_lane_is, lane_same, at_lane_keeps, parts_result, view_result, same_result, posted_works, took_works, sent_works, answered_works, put_open, close_open, control_open, take_there}
-use Rattle.std.specs.Prelude.{slice_set}
+use Rattle.relay_world.proofs.Places.{at_index}
 use Rattle.relay_world.specs.Memory.{answer_of, IsSent}
 use Rattle.relay_world.proofs.Places.{numbered_at, set-update}
 use Rattle.relay_world.proofs.parts.Parts.note.Goals as goal

@@ -1,4 +1,4 @@
-use Rattle.std.proofs.Common.{◌≡◌, ◌-◌, ◌<◌, length, refl, sym, ap, ◌∙◌, subst, arith}
+use Rattle.std.proofs.Common.{◌≡◌, ◌-◌, ◌<◌, length, sym, ap, ◌∙◌, subst, arith}
 use Rattle.relay_index.specs.Runs.{done_of, outcome_of_run}
 use Rattle.relay_results.specs.Words.{update}
 use Rattle.relay_world.specs.State.{Sent}

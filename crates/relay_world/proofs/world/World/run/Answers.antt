@@ -1,15 +1,14 @@
-use Rattle.std.proofs.Common.{take, ◌∙◌, ◌++◌, ◌∷◌, [], ap, sym, subst, arith}
-use Rattle.std.proofs.lemmas.List.{take_more}
-use Rattle.relay_world.specs.Steps.{Plays, Steps, none_yet, counted}
-use Rattle.relay_world.proofs.Playing.{plays-push, counts-one}
+use Rattle.std.proofs.Common.{subst}
+use Rattle.relay_world.specs.Headline.{StaysClosed}
+use Rattle.relay_world.proofs.Delivering.{worlds_deliver}
+use Rattle.relay_world.proofs.Kept.{run_world, run_stays_closed}
 use Rattle.relay_world.proofs.world.World.run.Goals as goal
 
-pub events-preserved : goal.events-preserved
-events-preserved c =
-    let event = c.event-item.result in
-    let es = c.args.events.now in
-    let more = take_more es c.events.event-index event (omega arith) ∙ ap (λ e. take c.events.event-index es ++ e ∷ []) (sym c.event-item.is) in
-    record {
-      plays = rw (more, c.counted-end.ensures) (plays-push c.args.self.now none_yet (take c.events.event-index es) c.events.end c.events.self event c.in-Ok.answer c.step.new.self c.events.invariant.plays c.in-Ok.ensures.ok);
-      counts = (let n = counts-one c.in-Ok.answer c.events.end in let i = c.events.invariant.counts in rw c.counted-end.ensures (omega (arith, n, i)));
-    }
+pub invariant_of-self : goal.invariant_of-self
+invariant_of-self c = run_world c.play_all.result c.self.inside.parts c.play_all.new.parts c.args.events.now c.play_all.ensures.ok c.play_all.ensures.err c.self.invariant
+
+pub returns-clause-delivered : goal.returns-clause-delivered
+returns-clause-delivered c = worlds_deliver c.play_all.new.parts (invariant_of-self c)
+
+pub returns-clause-closed : goal.returns-clause-closed
+returns-clause-closed c = subst (λ w. StaysClosed w c.play_all.new.parts) c.self.view_is (run_stays_closed c.play_all.result c.self.inside.parts c.play_all.new.parts c.args.events.now c.play_all.ensures.ok c.play_all.ensures.err)

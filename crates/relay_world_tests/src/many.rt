@@ -1,0 +1,144 @@
+//! Sixteen producers and eight lanes, all at once, and a world over an index that has writes from before.
+use crate::script::{THREE, accepts};
+use relay_action::{Action, DocKey, List};
+use relay_batch::Limits;
+use relay_core::RelayConfig;
+use relay_index::{Choice, Index};
+use relay_world::{Event, World};
+use std::alloc::Global;
+use std::test::Fail;
+
+const PRODUCERS: u32 = 16;
+
+const LANES: u32 = 8;
+
+const IDS: [&str; 8] = ["0", "1", "2", "3", "4", "5", "6", "7"];
+
+/// As many lanes and producers as may be, and batches that close by their count.
+const MOST: RelayConfig = RelayConfig {
+    lanes: LANES,
+    producers: PRODUCERS,
+    capacity: 100,
+    max_held: 100,
+    limits: Limits {
+        count: 2,
+        bytes: 4_096,
+        linger: 0,
+    },
+    ..THREE
+};
+
+fn delete_of(alloc: Global, producer: u32, id: &str) -> Result<Event, Fail> {
+    Ok(Event::Put(producer, DocKey::new(alloc, "books", id)?, Action::delete()))
+}
+
+/// Each producer puts a delete of each document.
+fn puts_all(alloc: Global, world: &mut World) -> Result<bool, Fail> {
+    let mut good = true;
+    for producer in 0..PRODUCERS {
+        for id in IDS {
+            let put = delete_of(alloc, producer, id)?;
+            good = accepts(world, &put) && good;
+        }
+    }
+    Ok(good)
+}
+
+/// Each sender closes at each lane.
+fn closes_all(world: &mut World) -> bool {
+    let mut good = true;
+    for lane in 0..LANES {
+        for sender in 0..17u32 {
+            good = accepts(world, &Event::Close(sender, lane)) && good;
+        }
+    }
+    good
+}
+
+/// Each lane takes what is queued for it.
+fn takes_all(world: &mut World) {
+    for lane in 0..LANES {
+        for _ in 0..100u32 {
+            let _ = accepts(world, &Event::Take(lane));
+        }
+    }
+}
+
+/// The items of a request are run, the first one's reply is lost, and each other one's comes.
+fn answer(alloc: Global, world: &mut World, number: u64) -> bool {
+    for item in 1..3u64 {
+        let _ = accepts(world, &Event::Run(number, item, Choice::Run));
+    }
+    let event = if number == 1 {
+        Event::Lost(number)
+    } else {
+        Event::Reply(number, List::of(Vec::new(alloc)))
+    };
+    accepts(world, &event)
+}
+
+/// Each lane sends what it may, until none has anything to send; how many requests there were by then.
+fn works(alloc: Global, world: &mut World, before: u64) -> u64 {
+    let mut number = before;
+    for _ in 0..200u32 {
+        for lane in 0..LANES {
+            if accepts(world, &Event::Send(lane)) {
+                number = number.saturating_add(1);
+                let _ = answer(alloc, world, number);
+            }
+        }
+    }
+    number
+}
+
+/// How many operations were accepted from all producers, and how many writes of all documents were applied.
+fn counted(alloc: Global, world: &World) -> Result<(usize, usize), Fail> {
+    let mut accepted: usize = 0;
+    for producer in 0..PRODUCERS {
+        accepted = accepted.saturating_add(world.accepted(producer).len());
+    }
+    let mut applied: usize = 0;
+    for id in IDS {
+        let key = DocKey::new(alloc, "books", id)?;
+        applied = applied.saturating_add(world.names(&key).len());
+    }
+    Ok((accepted, applied))
+}
+
+/// A world of a config, which has to be valid, over a fresh index.
+fn world_of(alloc: Global, config: RelayConfig) -> Result<World, Fail> {
+    if !config.valid() {
+        return Err("not valid")?;
+    }
+    Ok(World::new(alloc, config, Index::new(alloc))?)
+}
+
+/// The control ticks at each lane.
+fn ticks_all(world: &mut World) -> bool {
+    let mut good = true;
+    for lane in 0..LANES {
+        good = accepts(world, &Event::Tick(lane)) && good;
+    }
+    good
+}
+
+/// All is put, taken and sent; the reply of request 1 is lost, so its operations are sent once more, a tick
+/// later. Whether all went so.
+fn works_off(alloc: Global, world: &mut World) -> Result<bool, Fail> {
+    let put = puts_all(alloc, world)?;
+    takes_all(world);
+    let requests = works(alloc, world, 0);
+    let ticked = ticks_all(world);
+    takes_all(world);
+    Ok(put && ticked && works(alloc, world, requests) > requests)
+}
+
+#[test]
+fn eight_lanes(rt: HostRuntime) -> Result<(), Fail> {
+    let mut world = world_of(rt.alloc(), MOST)?;
+    assert!(rt; works_off(rt.alloc(), &mut world)?);
+    assert!(rt; closes_all(&mut world) && !world.finished());
+    takes_all(&mut world);
+    assert!(rt; world.finished() && counted(rt.alloc(), &world)? == (128, 128));
+    Ok(())
+}
