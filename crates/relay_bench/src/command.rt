@@ -3,7 +3,7 @@ ghost use Rattle.std.specs.Prelude.{◌<◌, ◌≤◌, IfSome};
 
 use crate::fault::BenchFault;
 use crate::rate::tenths_each;
-use crate::{lane, queue, replies};
+use crate::{http, lane, queue, replies};
 use std::rt::Env;
 use std::sync::Wait;
 use std::thread::Threads;
@@ -31,6 +31,26 @@ pub(crate) enum Task {
     Queue(QueueTask),
     Replies(u64),
     Lane(HeldTask),
+    HttpRead(ReadTask),
+    HttpWrite(WriteTask),
+}
+
+// How many bytes of a reply come at a time, and how often it is read.
+#[derive(Clone, Copy)]
+pub(crate) struct ReadTask {
+    piece: usize,
+    turns: u64,
+    ghost piece_in_range: { 0 < piece },
+    ghost turns_in_range: { 0 < turns },
+}
+
+// How many writes a request has, the bytes of each source, and how often it is written.
+#[derive(Clone, Copy)]
+pub(crate) struct WriteTask {
+    count: u32,
+    size: usize,
+    turns: u64,
+    ghost turns_in_range: { 0 < turns },
 }
 
 // How many operations the lane that is measured holds.
@@ -62,6 +82,21 @@ fn queue_task(senders: &str, capacity: &str, count: &str) -> Option<Task> {
     }))
 }
 
+// The readings that two words name.
+fn read_task(piece: &str, turns: &str) -> Option<Task> {
+    let piece = number_of(piece, MOST)? as usize;
+    let turns = number_of(turns, MOST)?;
+    Some(Task::HttpRead(ReadTask { piece, turns }))
+}
+
+// The requests that three words name.
+fn write_task(count: &str, size: &str, turns: &str) -> Option<Task> {
+    let count = number_of(count, 10_000)? as u32;
+    let size = number_of(size, 1_048_576)? as usize;
+    let turns = number_of(turns, MOST)?;
+    Some(Task::HttpWrite(WriteTask { count, size, turns }))
+}
+
 // What the words of a command line ask for, the program's name among them.
 pub(crate) fn task_of(words: &[String]) -> Option<Task> {
     match words {
@@ -72,6 +107,12 @@ pub(crate) fn task_of(words: &[String]) -> Option<Task> {
         [_, name, held] if name.as_str() == "lane" => Some(Task::Lane(HeldTask {
             held: number_of(held.as_str(), 65_536)? as u32,
         })),
+        [_, name, piece, turns] if name.as_str() == "http-read" => {
+            read_task(piece.as_str(), turns.as_str())
+        }
+        [_, name, count, size, turns] if name.as_str() == "http-write" => {
+            write_task(count.as_str(), size.as_str(), turns.as_str())
+        }
         [_, name, senders, capacity, count] if name.as_str() == "queue" => {
             queue_task(senders.as_str(), capacity.as_str(), count.as_str())
         }
@@ -146,6 +187,41 @@ fn run_lane<R: Clock + Print + AllocGlobal>(rt: &R, task: HeldTask) -> Result<()
     Ok(())
 }
 
+// Measures the readings of the reply of HTTP on standard input, and prints how long each took.
+fn run_http_read<R: Clock + Input + Print + AllocGlobal>(
+    rt: &R,
+    task: ReadTask,
+) -> Result<(), BenchFault> {
+    let ReadTask { piece, turns } = task;
+    let bytes = io::read_to_string(rt.alloc(), rt.reader())?;
+    let read = http::measure_read(rt, rt.alloc(), bytes.as_bytes(), piece, turns)?;
+    let tenths = tenths_each(read.nanoseconds, turns);
+    println!(rt;
+        "status {}, {} bytes, {}.{} ns a reading",
+        read.status,
+        read.bytes,
+        tenths / 10,
+        tenths % 10
+    )?;
+    Ok(())
+}
+
+// Measures a request that is written, and prints how long each took.
+fn run_http_write<R: Clock + Print + AllocGlobal>(
+    rt: &R,
+    task: WriteTask,
+) -> Result<(), BenchFault> {
+    let WriteTask { count, size, turns } = task;
+    let (bytes, nanoseconds) = http::measure_write(rt, rt.alloc(), count, size, turns)?;
+    let tenths = tenths_each(nanoseconds, turns);
+    println!(rt;
+        "{count} writes, {bytes} bytes, {}.{} ns a request",
+        tenths / 10,
+        tenths % 10
+    )?;
+    Ok(())
+}
+
 /// Does what the process's command line says.
 pub fn run<R>(rt: R) -> Result<(), BenchFault>
 where
@@ -157,6 +233,8 @@ where
         Some(Task::Queue(task)) => run_queue(rt, task),
         Some(Task::Replies(turns)) => run_replies(&rt, turns),
         Some(Task::Lane(task)) => run_lane(&rt, task),
+        Some(Task::HttpRead(task)) => run_http_read(&rt, task),
+        Some(Task::HttpWrite(task)) => run_http_write(&rt, task),
         None => Err(BenchFault::Usage),
     }
 }

@@ -1,4 +1,5 @@
 //! Why nothing was measured.
+use relay_http::HttpFault;
 use relay_results::ReplyFault;
 use std::alloc::AllocError;
 use std::io;
@@ -8,7 +9,7 @@ use thiserror::Error;
 #[derive(Clone, Copy, Debug, PartialEq, Eq, Error)]
 pub enum BenchFault {
     /// The command line is not one of the program's.
-    #[error("usage: relay_bench queue SENDERS CAPACITY COUNT | relay_bench replies TURNS < BODY | relay_bench lane HELD")]
+    #[error("usage: relay_bench queue SENDERS CAPACITY COUNT | relay_bench replies TURNS < BODY | relay_bench lane HELD | relay_bench http-read PIECE TURNS < REPLY | relay_bench http-write WRITES BYTES TURNS")]
     Usage,
     /// A message came out of its sender's order, or not all came.
     #[error("not all messages came in order")]
@@ -19,6 +20,9 @@ pub enum BenchFault {
     /// The input is a reply without items, of which no time for each can be told.
     #[error("the reply has no items")]
     NoItems,
+    /// The input is no reply of HTTP, or a request could not be written.
+    #[error("no message of HTTP: {0}")]
+    Http(HttpFault),
     /// A lane did not take, send or apply what it was given.
     #[error("the lane did not do what it was given")]
     Lane,

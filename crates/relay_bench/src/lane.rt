@@ -5,7 +5,7 @@ use crate::fault::BenchFault;
 use crate::rate::nanoseconds_since;
 use relay_action::{Action, Body, DocKey, Mail, Op, Text, Write};
 use relay_batch::Limits;
-use relay_lane::{Lane, RelayConfig};
+use relay_core::{Lane, RelayConfig};
 use relay_results::Outcome;
 use std::alloc::Global;
 use std::time::{Clock, Instant};

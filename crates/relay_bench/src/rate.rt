@@ -15,6 +15,13 @@ pub fn nanoseconds_since<R: Clock>(rt: &R, start: Instant) -> Result<u64, BenchF
     Ok(u64::try_from(nanoseconds).unwrap_or(LONGEST).min(LONGEST))
 }
 
+/// So many nanoseconds, but at most 10^18.
+pub fn capped(nanoseconds: u64) -> u64
+    ensures { result ≤ 10 ^ 18 }
+{
+    nanoseconds.min(LONGEST)
+}
+
 /// The tenths of a nanosecond that each of `count` things took which took so many nanoseconds together,
 /// rounded down.
 pub fn tenths_each(nanoseconds: u64, count: u64) -> u64

@@ -2,7 +2,7 @@
 use crate::command::{Task, task_of};
 use crate::fault::BenchFault;
 use crate::rate::tenths_each;
-use crate::{lane, queue, replies};
+use crate::{http, lane, queue, replies};
 use relay_results::ReplyFault;
 use std::test::Fail;
 
@@ -71,4 +71,18 @@ fn readings(rt: HostRuntime) {
     assert_eq!(rt; readings.statuses, 610);
     let refused = replies::measure(&rt, rt.alloc(), b"[]", 1);
     assert_eq!(rt; refused, Err(BenchFault::Reply(ReplyFault::NoItems)));
+}
+
+// One write has an action line of 77 bytes, and its source.
+#[test]
+fn messages(rt: HostRuntime) {
+    let reply = b"HTTP/1.1 200 OK\r\nContent-Length: 5\r\n\r\nhello";
+    let Ok(read) = http::measure_read(&rt, rt.alloc(), reply, 1, 3) else {
+        panic!(rt; "not read");
+    };
+    assert!(rt; read.status == 200 && read.bytes == 5);
+    let Ok((bytes, _)) = http::measure_write(&rt, rt.alloc(), 2, 10, 3) else {
+        panic!(rt; "not written");
+    };
+    assert!(rt; bytes == 2 * (77 + 10 + 1));
 }

@@ -1,0 +1,5 @@
+pub mod Carried
+pub mod Numbers
+pub mod Opened
+pub mod Running
+pub mod Standing

@@ -1,0 +1,39 @@
+use Rattle.std.proofs.Common.{◌≡◌, length, sym, ap, subst, ◌∙◌, arith}
+use Rattle.relay_wires.specs.Numbered.{besides}
+use Rattle.relay_wires.specs.Carriers.{Carrier, AllOutOpen}
+use Rattle.relay_wires.proofs.Numbers.{found-Mem, numbers-besides, length-besides}
+use Rattle.relay_wires.proofs.Opened.{open_found, open_besides}
+use Rattle.relay_wires.proofs.http_wire.HttpWireWire.receive.Goals as goal
+
+pub bring-requires-clause-lasts : goal.bring-requires-clause-lasts
+bring-requires-clause-lasts g c =
+    open_found c.args.number c.self.inside.out.items c.in-Some.conn c.self.invariant.out (sym c.take.ensures.found ∙ c.in-Some.is)
+
+pub bring-requires-clause-room : goal.bring-requires-clause-room
+bring-requires-clause-room g c =
+    let fewer = length-besides c.args.number c.self.inside.out.items c.in-Some.conn (sym c.take.ensures.found ∙ c.in-Some.is) in
+    omega arith
+
+pub invariant_of-self : goal.invariant_of-self
+invariant_of-self g c =
+    let fewer = length-besides c.args.number c.self.inside.out.items c.in-Some.conn (sym c.take.ensures.found ∙ c.in-Some.is) in
+    let now : length c.take.new.out.items ≡ length (besides c.args.number c.self.inside.out.items) = ap length c.take.ensures.besides in
+    record {
+      host = c.self.invariant.host;
+      out = subst AllOutOpen (sym c.take.ensures.besides) (open_besides c.args.number c.self.inside.out.items c.self.invariant.out);
+      free = c.bring.ensures.open_left;
+      few = omega (arith, fewer, now, c.bring.ensures.grows, c.self.invariant.few);
+      places = rw c.take.ensures.capacity c.self.invariant.places;
+      spare = rw c.bring.ensures.capacity c.self.invariant.spare;
+    }
+
+pub unreachable-requires : goal.unreachable-requires
+unreachable-requires g c =
+    let x = found-Mem c.args.number c.args.self.now.out c.requires in
+    let out = ap (λ (w : Carrier). w.out) c.self.view_is in
+    let there = x.1 in
+    let asked = c.take.ensures.found in
+    let none = c.in-None.is in cc
+
+pub returns-clause-out : goal.returns-clause-out
+returns-clause-out g c = rw (c.take.ensures.besides, ← c.self.view_is) (numbers-besides c.args.number c.self.inside.out.items)

@@ -1,0 +1,158 @@
+-- A wire over connections of HTTP.
+use Rattle.std.specs.Prelude.{◌≡◌, ◌⊎◌, ℕ, ◌+◌, ◌≤◌, List, [], ◌∷◌, ◌++◌, length, Option, Some, IsTrue, Result, Ok, Err, MatchResult, if◌then◌else◌}
+use Rattle.std.specs.Io.KnownBytes.{append_known}
+use Rattle.relay_action.specs.Streams.{one_more}
+use Rattle.relay_action.specs.declared.write.Write.{Write}
+use Rattle.relay_ndjson.specs.Bulk.{text_of}
+use Rattle.relay_http.specs.Connection.{Connection, ahead, fresh, is_open, after_reply, failed_reading}
+use Rattle.relay_http.specs.Forms.{Begins, Took, Fails, IsOutside, IsThatOrOutside}
+use Rattle.relay_http.specs.Reply.{IsReply, ReplyStates, ReplyPasses, reply_view}
+use Rattle.relay_http.specs.WrittenRequest.{is_host, request}
+use Rattle.relay_http.specs.declared.fault.HttpFault.{HttpFault}
+use Rattle.relay_http.specs.declared.fault.HttpFault.TheVariants as http
+use Rattle.relay_http.specs.declared.reply.HttpReply.{HttpReply}
+use Rattle.relay_results.specs.Outside.{Outside}
+use Rattle.relay_lane.specs.declared.wire.WireReply.{WireReply}
+use Rattle.relay_lane.specs.declared.wire.WireFault.{WireFault}
+use Rattle.relay_lane.specs.declared.wire.WireFault.TheVariants as fault
+use Rattle.relay_wires.specs.Numbered.{found, besides}
+use Rattle.relay_wires.specs.Told.{Tells}
+
+-- ---- the wire
+
+-- The host that requests name, and how many requests may be out at most; the connections that requests are out on, with
+-- the newest first; those that are free, with the one freed last at the end; and how many dials failed.
+pub record Carrier : Type 0 where
+  pub host : List ℕ
+  pub most : ℕ
+  pub out : List (ℕ × Connection)
+  pub free : List Connection
+  pub failed : ℕ
+
+-- no request is out and no connection is free
+abbrev pub idle : List ℕ → ℕ → ℕ → Carrier
+idle host most failed = record { host = host; most = most; out = []; free = []; failed = failed }
+
+abbrev pub AllOpen : List Connection → Type 0
+AllOpen [] = Unit {0}
+AllOpen (c ∷ cs) = IsTrue (is_open c.phase) × AllOpen cs
+
+abbrev pub AllOutOpen : List (ℕ × Connection) → Type 0
+AllOutOpen [] = Unit {0}
+AllOutOpen (e ∷ es) = IsTrue (is_open e.1.phase) × AllOutOpen es
+
+-- what always holds of a wire that has room for so many requests that are out, and for so many free connections
+pub record IsCarrier (c : Carrier) (for_out for_free : ℕ) : Type 0 where
+  pub host : IsTrue (is_host c.host)
+  pub out : AllOutOpen c.out
+  pub free : AllOpen c.free
+  pub few : length c.out + length c.free ≤ c.most
+  pub places : c.most ≤ for_out
+  pub spare : c.most ≤ for_free
+
+-- ---- a request is sent
+
+-- the connection freed last is taken, or, where none is free, a fresh one
+abbrev pub TakesFree : List Connection → List Connection → Connection → Type 0
+TakesFree old new c = old ≡ new ++ c ∷ []
+
+abbrev pub IsFresh : Connection → Type 0
+IsFresh c = (left : Option (List ℕ)) × (written : Option (List ℕ)) × (failed : ℕ) × (c ≡ fresh left written failed)
+
+abbrev pub Picks : List Connection → List Connection → Connection → Type 0
+Picks old new c = TakesFree old new c ⊎ ((old ≡ []) × (new ≡ []) × IsFresh c)
+
+-- the connection after this was written on it
+abbrev pub with_written : Connection → List ℕ → Connection
+with_written c text = record c { written = append_known c.written text }
+
+-- What sending a request with these writes does. Sent: the request was written on a connection, which it is out on now.
+-- Else nothing more is out, and at most one free connection is dropped; it was not sent since as many are out as may be,
+-- since the dial failed, or since a connection could not carry it.
+abbrev pub Carries : ℕ → List Write → Carrier → Carrier → Result (Unit {0}) WireFault → Type 0
+Carries number ws old new (Ok u) =
+    (c : Connection) × Picks old.free new.free c × IsTrue (is_open c.phase) × (new.failed ≡ old.failed)
+    × (new.out ≡ (number, with_written c (request old.host (text_of ws))) ∷ old.out)
+Carries number ws old new (Err fault.Send) =
+    ((old.most ≤ length old.out) × (new ≡ old))
+    ⊎ ((old.free ≡ []) × (new ≡ record old { failed = one_more old.failed }))
+    ⊎ ((c : Connection) × Picks old.free new.free c × (new ≡ record old { free = new.free }))
+Carries number ws old new (Err fault.Lost) = ⊥
+Carries number ws old new (Err fault.Unreadable) = ⊥
+Carries number ws old new (Err fault.Memory) = (c : Connection) × Picks old.free new.free c × (new ≡ record old { free = new.free })
+
+-- ---- a reply is received
+
+-- what reading a reply from a connection answers and leaves
+pub record Reads (c d : Connection) (r : Result HttpReply HttpFault) : Type 0 where
+  pub lasts : IsTrue (is_open c.phase)
+  pub answer : MatchResult r (λ reply. Took IsReply (ahead c) (ahead d) (reply_view reply)) (Fails IsReply (ahead c) d.left)
+  pub found : (stream : List ℕ) (there : Begins IsReply stream) → ahead c ≡ Some stream
+      → MatchResult r (λ reply. (reply_view reply ≡ there.value) × (ahead d ≡ Some there.rest)) IsOutside
+  pub stated : (stream : List ℕ) (f : HttpFault) → ReplyStates stream f → ahead c ≡ Some stream → MatchResult r (λ reply. ⊥) (IsThatOrOutside f)
+  pub long : (stream : List ℕ) → ReplyPasses stream → ahead c ≡ Some stream → MatchResult r (λ reply. ⊥) (IsThatOrOutside http.BodyLong)
+  pub phase : d.phase ≡ after_reply r
+  pub failed : d.failed ≡ failed_reading r c.failed
+  pub written : d.written ≡ c.written
+
+-- a fault of a connection that reads is a lost reply, but for want of memory
+abbrev pub fault_received : HttpFault → WireFault
+fault_received http.Malformed = fault.Lost
+fault_received http.HeadLong = fault.Lost
+fault_received http.BodyLong = fault.Lost
+fault_received http.CodedBody = fault.Lost
+fault_received http.BothLengths = fault.Lost
+fault_received http.Ended = fault.Lost
+fault_received http.Read = fault.Lost
+fault_received http.Write = fault.Lost
+fault_received http.TooManyInterim = fault.Lost
+fault_received http.Memory = fault.Memory
+fault_received http.Broken = fault.Lost
+
+-- what the lane is told of what was read
+abbrev pub IsTold : Result HttpReply HttpFault → Result WireReply WireFault → Type 0
+IsTold (Ok reply) result = Tells (reply_view reply) result
+IsTold (Err f) result = result ≡ Err (fault_received f)
+
+-- a connection that may carry further messages is free then
+abbrev pub freed : Result HttpReply HttpFault → Connection → List Connection → List Connection
+freed (Ok reply) d free = if reply.keep then free ++ d ∷ [] else free
+freed (Err f) d free = free
+
+-- What receiving the reply to a number does: it is read from the connection that the request is out on, and told by the
+-- table of statuses.
+pub record Brings (number : ℕ) (old new : Carrier) (result : Result WireReply WireFault) : Type 0 where
+  pub connection : Connection
+  pub out_on : found number old.out ≡ Some connection
+  pub left : Connection
+  pub read : Result HttpReply HttpFault
+  pub reads : Reads connection left read
+  pub told : IsTold read result
+  pub after : new ≡ record old { out = besides number old.out; free = freed read left old.free }
+
+-- no outside fits: it describes none
+abbrev pub FitsNone : Carrier → Outside → Type 0
+FitsNone w o = ⊥
+
+-- ---- what private steps answer
+
+-- a connection is picked, unless the dial failed or there was no memory for a fresh one's window
+abbrev pub PicksOne : List Connection → List Connection → ℕ → ℕ → Result Connection WireFault → Type 0
+PicksOne old new failed later (Ok c) = Picks old new c × IsTrue (is_open c.phase) × (later ≡ failed)
+PicksOne old new failed later (Err fault.Send) = (old ≡ []) × (new ≡ []) × (later ≡ one_more failed)
+PicksOne old new failed later (Err fault.Lost) = ⊥
+PicksOne old new failed later (Err fault.Unreadable) = ⊥
+PicksOne old new failed later (Err fault.Memory) = (old ≡ []) × (new ≡ []) × (later ≡ failed)
+
+-- a request was written, or its connection could not carry it
+abbrev pub IsWritten : Connection → Connection → List ℕ → Result (Unit {0}) WireFault → Type 0
+IsWritten c d text (Ok u) = d ≡ with_written c text
+IsWritten c d text (Err e) = (e ≡ fault.Send) ⊎ (e ≡ fault.Memory)
+
+-- a reply was read from a connection, which is free then if it may be
+pub record BringsFrom (connection : Connection) (old new : List Connection) (result : Result WireReply WireFault) : Type 0 where
+  pub left : Connection
+  pub read : Result HttpReply HttpFault
+  pub reads : Reads connection left read
+  pub told : IsTold read result
+  pub free : new ≡ freed read left old

@@ -1,0 +1,4 @@
+pub mod Numbered
+pub mod Told
+pub mod Loops
+pub mod Carriers

@@ -1,0 +1,140 @@
+-- A wire round the stand-in index, within one process.
+use Rattle.std.specs.Prelude.{◌≡◌, ◌⊎◌, ℕ, ◌<◌, ◌≤◌, List, [], ◌∷◌, codes, length, slice_get, Some, Bool, true, false, ◌==◌, Result, Ok, Err}
+use Rattle.std.specs.List.{list_any}
+use Rattle.relay_action.specs.declared.write.Write.{Write}
+use Rattle.relay_ndjson.specs.Bodies.{AreDealt}
+use Rattle.relay_ndjson.specs.Bulk.{text_of}
+use Rattle.relay_results.specs.declared.done.ItemDone.{ItemDone}
+use Rattle.relay_results.specs.declared.outcome.Outcome.{Outcome}
+use Rattle.relay_results.specs.Done.{outcomes_of, reply_text}
+use Rattle.relay_results.specs.Numbers.{from_zero}
+use Rattle.relay_results.specs.Outside.{Outside, Unanswered, IsOpening}
+use Rattle.relay_index.specs.States.{State}
+use Rattle.relay_index.specs.Runs.{Shows}
+use Rattle.relay_index.specs.Plans.{Plan}
+use Rattle.relay_index.specs.Serving.{Server, under, RunsAll, RunsFirst, Replies}
+use Rattle.relay_http.specs.Framing.{reply_limit, request_limit}
+use Rattle.relay_http.specs.WrittenAnswer.{IsAnswerStatus, answer}
+use Rattle.relay_http.specs.WrittenRequest.{request}
+use Rattle.relay_http.specs.declared.reply.HttpReply.{HttpReply}
+use Rattle.relay_lane.specs.declared.wire.WireReply.{WireReply}
+use Rattle.relay_lane.specs.declared.wire.WireReply.TheVariants as reply
+use Rattle.relay_lane.specs.declared.wire.WireFault.{WireFault}
+use Rattle.relay_lane.specs.declared.wire.WireFault.TheVariants as fault
+use Rattle.relay_wires.specs.Numbered.{numbers, besides}
+
+-- ---- the wire
+
+-- The index and the script that it runs items under; the numbers whose replies are dropped; and the requests that are
+-- out, as bytes that wait to be read, with the newest first.
+pub record Loop : Type 0 where
+  pub index : State
+  pub script : Plan
+  pub lost : List ℕ
+  pub out : List (ℕ × List ℕ)
+
+-- nothing is out, and nothing is to be lost
+abbrev pub begun : State → Plan → Loop
+begun index script = record { index = index; script = script; lost = []; out = [] }
+
+-- the host that its requests name
+abbrev pub loop_host : List ℕ
+loop_host = codes "loop"
+
+-- the bytes of the request with these writes
+abbrev pub bytes_of : List Write → List ℕ
+bytes_of ws = request loop_host (text_of ws)
+
+-- writes that a request may carry
+pub record MayGo (ws : List Write) : Type 0 where
+  pub dealt : AreDealt ws
+  pub size : length (text_of ws) ≤ request_limit
+
+-- ---- what is received
+
+abbrev pub server : Loop → Server
+server w = under w.index w.script
+
+-- the reply to this number is to be dropped
+abbrev pub is_lost : ℕ → Loop → Bool
+is_lost number w = list_any (λ n. n == number) w.lost
+
+-- What becomes of a request with these writes. Its entries, or the loss of its reply: all items were run, once each and in
+-- their order; the reply is lost where that was asked for, or where it is too long. Want of memory: the first items were
+-- run so, and no more. Nothing else is answered.
+abbrev pub Exchanged : Bool → List Write → Server → Server → Result WireReply WireFault → Type 0
+Exchanged lost ws old new (Ok (reply.Items outcomes)) =
+    (items : List ItemDone) × RunsAll old ws items new × (outcomes.items ≡ outcomes_of items)
+    × (lost ≡ false) × (length (reply_text 0 items) ≤ reply_limit)
+Exchanged lost ws old new (Ok (reply.Whole status)) = ⊥
+Exchanged lost ws old new (Err fault.Send) = ⊥
+Exchanged lost ws old new (Err fault.Lost) =
+    (items : List ItemDone) × RunsAll old ws items new × ((lost ≡ true) ⊎ (reply_limit < length (reply_text 0 items)))
+Exchanged lost ws old new (Err fault.Unreadable) = ⊥
+Exchanged lost ws old new (Err fault.Memory) = (ran : ℕ) × RunsFirst ran old ws new
+
+-- so it is of the request that was out under this number
+abbrev pub Receives : ℕ → List Write → Loop → Loop → Result WireReply WireFault → Type 0
+Receives number ws old new result = Exchanged (is_lost number old) ws (server old) (server new) result
+
+-- only these are out now, and the same replies are to be lost
+pub record TakesIn (number : ℕ) (old new : Loop) : Type 0 where
+  pub out : new.out ≡ besides number old.out
+  pub lost : new.lost ≡ old.lost
+
+-- ---- what stands outside
+
+-- the request with this number was sent with writes that may go, and not answered; these are its bytes
+pub record IsOut (number : ℕ) (bytes : List ℕ) (o : Outside) : Type 0 where
+  pub writes : List Write
+  pub sent : slice_get o.requests (from_zero number) ≡ Some (record { writes = writes; answer = Unanswered })
+  pub may : MayGo writes
+  pub bytes_are : bytes ≡ bytes_of writes
+
+-- each of these was sent before the request at this place
+abbrev pub AllBefore : ℕ → List ℕ → Type 0
+AllBefore place [] = Unit {0}
+AllBefore place (n ∷ ns) = (from_zero n < place) × AllBefore place ns
+
+-- each of these is out, the newest first
+abbrev pub AreOut : List (ℕ × List ℕ) → Outside → Type 0
+AreOut [] o = Unit {0}
+AreOut (e ∷ es) o = IsOut e.0 e.1 o × AllBefore (from_zero e.0) (numbers es) × AreOut es o
+
+-- an outside that fits the wire has the versions and the lists of its index, and what is out was sent there
+pub record Fits (w : Loop) (o : Outside) : Type 0 where
+  pub shows : Shows o w.index
+  pub out : AreOut w.out o
+
+-- there is an outside with nothing sent that fits, and each does that has the versions and the lists of the index
+pub record Opens (w : Loop) : Type 0 where
+  pub opening : Outside
+  pub opens : IsOpening opening
+  pub fits : Fits w opening
+  pub each : (o : Outside) → IsOpening o → Shows o w.index → Fits w o
+
+-- ---- what private steps answer
+
+-- a reply that says these outcomes was read, unless memory ran out
+abbrev pub Reads : List Outcome → Result WireReply WireFault → Type 0
+Reads os (Ok (reply.Items outcomes)) = outcomes.items ≡ os
+Reads os (Ok (reply.Whole status)) = ⊥
+Reads os (Err fault.Send) = ⊥
+Reads os (Err fault.Lost) = ⊥
+Reads os (Err fault.Unreadable) = ⊥
+Reads os (Err fault.Memory) = Unit {0}
+
+-- all writes were run, and this is what is answered
+pub record Serves (ws : List Write) (old new : Server) (status : ℕ) (text : List ℕ) : Type 0 where
+  pub success : status ≡ 200
+  pub replies : Replies old ws text new
+
+-- the first writes were run, and no more
+abbrev pub Stops : List Write → Server → Server → Type 0
+Stops ws old new = (ran : ℕ) × RunsFirst ran old ws new
+
+-- where the bytes are an answer, this is the reply that it is
+abbrev pub IsAnswered : List ℕ → HttpReply → Type 0
+IsAnswered bytes r =
+    (status : ℕ) (body : List ℕ) → IsAnswerStatus status → length body ≤ reply_limit → bytes ≡ answer status body true
+    → (r.status ≡ status) × (r.body.items ≡ body)

@@ -1,0 +1,20 @@
+-- What a reply of HTTP tells a lane.
+use Rattle.std.specs.Prelude.{◌≡◌, ◌≢◌, Result, Ok, Err}
+use Rattle.relay_lane.specs.declared.wire.WireReply.{WireReply}
+use Rattle.relay_lane.specs.declared.wire.WireReply.TheVariants as reply
+use Rattle.relay_lane.specs.declared.wire.WireFault.{WireFault}
+use Rattle.relay_lane.specs.declared.wire.WireFault.TheVariants as fault
+use Rattle.relay_http.specs.Reply.{Reply}
+use Rattle.relay_results.specs.declared.reading.ReplyFault.{ReplyFault}
+use Rattle.relay_results.specs.declared.reading.ReplyFault.TheVariants as unread
+use Rattle.relay_results.specs.Replies.{IsReply, IsFaultOf}
+
+-- The table of statuses: 200 with a readable body tells its entries, 200 with another body that it could not be read, and
+-- any other status itself. Memory is taken to read a body alone.
+abbrev pub Tells : Reply → Result WireReply WireFault → Type 0
+Tells r (Ok (reply.Items outcomes)) = (r.status ≡ 200) × IsReply r.body outcomes.items
+Tells r (Ok (reply.Whole status)) = (r.status ≢ 200) × (status ≡ r.status)
+Tells r (Err fault.Send) = ⊥
+Tells r (Err fault.Lost) = ⊥
+Tells r (Err fault.Unreadable) = (r.status ≡ 200) × ((f : ReplyFault) × (f ≢ unread.Memory) × IsFaultOf r.body f)
+Tells r (Err fault.Memory) = r.status ≡ 200

@@ -1,0 +1,20 @@
+//! Where streams come from.
+ghost use Rattle.std.specs.Prelude.{◌≡◌, ℕ, is_ok, if◌then◌else◌};
+ghost use Rattle.relay_action.specs.Streams.{one_more};
+
+use thiserror::Error;
+
+/// No stream could be had. The call is not repeated.
+#[derive(Clone, Copy, Debug, PartialEq, Eq, Error)]
+#[error("dial failed")]
+pub struct DialFault;
+
+/// What makes a stream to the index for each connection.
+pub trait Dial<S> {
+    /// How many of its calls failed. At 2^64 - 1 the count stays.
+    ghost failed: { Self → ℕ };
+
+    /// A fresh stream. After [`DialFault`] there is none.
+    fn dial(&mut self) -> Result<S, DialFault>
+        ensures { failed self.new ≡ (if is_ok result then failed self.old else one_more (failed self.old)) };
+}

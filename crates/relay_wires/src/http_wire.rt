@@ -1,0 +1,128 @@
+//! A wire over connections of HTTP.
+ghost use Rattle.std.specs.Prelude.{◌≡◌, string_bytes, IfOk, IsTrue};
+ghost use Rattle.relay_http.specs.WrittenRequest.{is_host};
+ghost use Rattle.relay_wires.specs.Carriers.{idle};
+
+use crate::carrying::{bring, carry, pick};
+use crate::dial::Dial;
+use crate::numbered::take;
+use relay_action::{ByteIn, ByteOut, ByteStream, Write};
+use relay_http::Conn;
+use relay_lane::{Wire, WireFault, WireReply};
+use std::alloc::{AllocError, Global};
+use std::collections::VecDeque;
+use std::marker::Model;
+
+/// A wire to an index that is reached by HTTP. Each request is out on a connection of its own; a
+/// connection whose reply lets it carry a further message is free then, and is used again before another
+/// is dialled. A fault drops the connection.
+///
+/// It describes nothing: what stands outside is the affair of its streams.
+#[derive(Drop)]
+pub struct HttpWire<S: ByteStream, D: Dial<S>> {
+    alloc: Global,
+    dial: D,
+    host: String,
+    most: u32,
+    out: VecDeque<(u64, Conn<S>)>,
+    free: Vec<Conn<S>>,
+}
+
+impl<S: ByteStream, D: Dial<S>> Model for HttpWire<S, D> {
+    ghost use Rattle.std.specs.Prelude.{string_bytes, vec_capacity};
+    ghost use Rattle.std.specs.VecDeque.{deque_capacity};
+    ghost use Rattle.relay_wires.specs.Carriers.{Carrier, IsCarrier};
+
+    ghost Value = { Carrier };
+
+    ghost view = { λ w. record {
+      host = string_bytes w.host;
+      most = w.most;
+      out = w.out.items;
+      free = w.free.items;
+      failed = D.failed w.dial;
+    } };
+
+    ghost invariant = { λ w. IsCarrier
+        (record { host = string_bytes w.host; most = w.most; out = w.out.items; free = w.free.items; failed = D.failed w.dial })
+        (deque_capacity w.out) (vec_capacity w.free) };
+}
+
+impl<S: ByteStream + Drop, D: Dial<S> + Drop> HttpWire<S, D> {
+    /// A wire whose requests name this host, 1 to 255 visible ASCII characters, and of which at most
+    /// `max` are out at a time. It reserves a place for each of them. `AllocError`: there was no memory
+    /// for the places.
+    pub fn new(alloc: Global, dial: D, host: String, max: u32) -> Result<HttpWire<S, D>, AllocError>
+        requires { IsTrue (is_host (string_bytes host)) }
+        ensures { IfOk result (λ w. w ≡ idle (string_bytes host) max (D.failed dial)) }
+    {
+        let out = VecDeque::with_capacity(alloc, max as usize)?;
+        let free = Vec::with_capacity(alloc, max as usize)?;
+        Ok(HttpWire {
+            alloc,
+            dial,
+            host,
+            most: max,
+            out,
+            free,
+        })
+    }
+}
+
+impl<S: ByteIn + ByteOut + Drop, D: Dial<S> + Drop> Wire for HttpWire<S, D> {
+    ghost use Rattle.std.specs.Prelude.{false, ℕ, ◌∷◌, ◌≤◌, length, MatchResult};
+    ghost use Rattle.relay_ndjson.specs.Bodies.{AreDealt};
+    ghost use Rattle.relay_ndjson.specs.Bulk.{text_of};
+    ghost use Rattle.relay_results.specs.Words.{Mem};
+    ghost use Rattle.relay_lane.specs.Wires.{IsReply, without};
+    ghost use Rattle.relay_wires.specs.Numbered.{numbers};
+    ghost use Rattle.relay_wires.specs.Carriers.{Carries, Brings, FitsNone};
+
+    ghost out = { λ w. numbers w.out };
+
+    ghost describes = { λ w. false };
+
+    ghost fits = { FitsNone };
+
+    /// Writes a request on a free connection, or on one that is dialled. `Send`: as many requests are
+    /// out as may be, the dial failed, or the connection did. `Memory`: there was no memory for the
+    /// request or for a fresh connection's window. A connection that a fault came on is dropped.
+    fn send(&mut self, number: u64, writes: &[Write]) -> Result<(), WireFault>
+        requires fresh { Mem number (numbers self.old.out) → ⊥ }
+        requires few { length writes.now ≤ 10000 }
+        requires dealt { AreDealt writes.now }
+        requires bytes { length (text_of writes.now) ≤ 16777216 }
+        ensures out { MatchResult result
+            (λ _. numbers self.new.out ≡ number ∷ numbers self.old.out)
+            (λ _. numbers self.new.out ≡ numbers self.old.out) }
+        // What goes out is the request of what was given.
+        ensures carries { Carries number writes.now self.old self.new result }
+    {
+        if self.out.len() >= self.most as usize {
+            return Err(WireFault::Send);
+        }
+        let mut conn = match pick(self.alloc, &mut self.free, &mut self.dial) {
+            Ok(conn) => conn,
+            Err(fault) => return Err(fault),
+        };
+        carry(self.alloc, &mut conn, &self.host, writes)?;
+        self.out.push_front_reserved((number, conn));
+        Ok(())
+    }
+
+    /// Reads the reply to a request from the connection that it is out on. Status 200 gives its entries,
+    /// or `Unreadable` where its body is no reply; any other status is the answer to the request as a
+    /// whole. `Memory`: there was no memory for the reply. `Lost`: any other fault of the connection.
+    fn receive(&mut self, number: u64) -> Result<WireReply, WireFault>
+        requires { Mem number (numbers self.old.out) }
+        ensures out { numbers self.new.out ≡ without number (numbers self.old.out) }
+        ensures reply { IsReply result }
+        // What is answered is the reply that was read there, by the table of statuses.
+        ensures brings { Brings number self.old self.new result }
+    {
+        match take(&mut self.out, number) {
+            Some(conn) => bring(self.alloc, conn, &mut self.free),
+            None => unreachable!(),
+        }
+    }
+}

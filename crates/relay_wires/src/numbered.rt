@@ -1,0 +1,25 @@
+//! What is out, each under its number.
+ghost use Rattle.std.specs.Prelude.{◌≡◌, ◌==◌};
+ghost use Rattle.std.specs.List.{position};
+ghost use Rattle.std.specs.VecDeque.{deque_capacity};
+ghost use Rattle.relay_wires.specs.Numbered.{found, besides};
+
+use std::collections::VecDeque;
+
+// The place of a number.
+fn place_of<T>(out: &VecDeque<(u64, T)>, number: u64) -> Option<usize>
+    ensures { result ≡ position (λ e. e.0 == number) out.now.items }
+{
+    out.iter().position(|entry| entry.0 == number)
+}
+
+// Takes what is out under this number, where something is.
+pub(crate) fn take<T>(out: &mut VecDeque<(u64, T)>, number: u64) -> Option<T>
+    ensures found { result ≡ found number out.old.items }
+    ensures besides { out.new.items ≡ besides number out.old.items }
+    ensures capacity { deque_capacity out.new ≡ deque_capacity out.old }
+{
+    let place = place_of(out, number)?;
+    let (_, value) = out.remove(place)?;
+    Some(value)
+}

@@ -1,0 +1,25 @@
+//! What a reply of HTTP tells a lane.
+ghost use Rattle.relay_http.specs.Reply.{reply_view};
+ghost use Rattle.relay_wires.specs.Told.{Tells};
+
+use relay_http::HttpReply;
+use relay_lane::{WireFault, WireReply};
+use relay_results::{ReplyFault, read_reply};
+use std::alloc::Global;
+
+// The status of a reply whose body has entries.
+const OK: u16 = 200;
+
+// What a reply tells a lane, by its status.
+pub(crate) fn tell(alloc: Global, reply: &HttpReply) -> Result<WireReply, WireFault>
+    ensures { Tells (reply_view reply.now) result }
+{
+    if reply.status != OK {
+        return Ok(WireReply::Whole(reply.status));
+    }
+    match read_reply(alloc, reply.body.as_slice()) {
+        Ok(outcomes) => Ok(WireReply::Items(outcomes)),
+        Err(ReplyFault::Memory) => Err(WireFault::Memory),
+        Err(_) => Err(WireFault::Unreadable),
+    }
+}

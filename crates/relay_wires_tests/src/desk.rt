@@ -1,0 +1,121 @@
+//! A lane that deletes are put into, and a pace that notes its pauses.
+ghost use Rattle.std.specs.Prelude.{◌≡◌, ◌<◌, ℕ, length};
+ghost use Rattle.relay_lane.specs.Rest.{IsAtRest};
+ghost use Rattle.relay_lane.proofs.Resting.{IsAtRest-prop};
+
+use relay_action::{Action, Body, DocKey, Mail, Op};
+use relay_batch::Limits;
+use relay_lane::{Lane, Pace, RelayConfig, TakeFault};
+use std::alloc::Global;
+
+/// One lane and producer, batches of many documents that go at once, and three attempts.
+pub const CONFIG: RelayConfig = RelayConfig {
+    lanes: 1,
+    producers: 1,
+    capacity: 10,
+    max_held: 2_000,
+    limits: Limits {
+        count: 2_000,
+        bytes: 1_048_576,
+        linger: 0,
+    },
+    attempts: 3,
+    in_flight: 1,
+    first_version: 1,
+};
+
+/// A lane at rest.
+#[derive(Drop)]
+pub struct Desk {
+    pub lane: Lane,
+    ghost rest: { IsAtRest lane } by { IsAtRest-prop lane },
+}
+
+// Takes a message of a known sender. The fault, if it is not taken.
+fn take(lane: &mut Lane, mail: Mail) -> Option<TakeFault>
+    requires known { mail.sender < length lane.old.closed }
+    requires rest { IsAtRest lane.old }
+    ensures rest { IsAtRest lane.new }
+    ensures config { lane.new.config ≡ lane.old.config }
+{
+    if let Err((fault, _)) = lane.take(mail) {
+        return Some(fault);
+    }
+    None
+}
+
+// Takes a message of a sender. Whether it was taken.
+fn sends(desk: &mut Desk, sender: u32, body: Body) -> bool {
+    if sender >= desk.lane.senders() {
+        return false;
+    }
+    let mail = Mail {
+        sender,
+        number: 0,
+        body,
+    };
+    take(&mut desk.lane, mail).is_none()
+}
+
+// Puts a delete of a document. Whether it was taken.
+fn puts(alloc: Global, desk: &mut Desk, number: u64, id: &str) -> bool {
+    match DocKey::new(alloc, "b", id) {
+        Ok(key) => sends(
+            desk,
+            0,
+            Body::Put(Op {
+                producer: 0,
+                number,
+                key,
+                action: Action::delete(),
+            }),
+        ),
+        Err(_) => false,
+    }
+}
+
+// The producer and the control close. Whether the lane is closed.
+fn closes(desk: &mut Desk) -> bool {
+    sends(desk, 0, Body::Done) && sends(desk, 1, Body::Done) && desk.lane.closed()
+}
+
+/// A closed lane that took deletes of so many documents, with the ids `1`, `2` and so on.
+pub fn filled(alloc: Global, count: u64) -> Option<Desk> {
+    if !CONFIG.valid() {
+        return None;
+    }
+    let mut desk = Desk {
+        lane: Lane::new(alloc, CONFIG).ok()?,
+    };
+    for number in 1..=count {
+        let id = format!(in alloc; "{number}").ok()?;
+        if !puts(alloc, &mut desk, number, id.as_str()) {
+            return None;
+        }
+    }
+    if closes(&mut desk) { Some(desk) } else { None }
+}
+
+/// A pace that does not wait, and notes how often and for how many ticks it paused.
+#[derive(Clone, Copy, Debug, PartialEq, Eq)]
+pub struct Notes {
+    pub pauses: u64,
+    pub ticks: u64,
+}
+
+/// A pace that has not paused.
+pub const NO_PAUSES: Notes = Notes {
+    pauses: 0,
+    ticks: 0,
+};
+
+impl Pace for Notes {
+    ghost use Rattle.std.specs.Prelude.{Some};
+
+    ghost paused = { λ n. Some n.ticks };
+
+    fn pause(&mut self, ticks: u64) {
+        self.pauses = self.pauses.saturating_add(1);
+        self.ticks = self.ticks.saturating_add(ticks);
+    }
+}

@@ -1,0 +1,112 @@
+//! Lanes that are drained over wires.
+ghost use Rattle.std.specs.Prelude.{◌≡◌, [], IfSome};
+ghost use Rattle.relay_wires.specs.Numbered.{numbers};
+
+use crate::desk::{Desk, NO_PAUSES, filled};
+use crate::streams::wired;
+use relay_index::{Index, Script};
+use relay_lane::{Wire, drain};
+use relay_wires::LoopWire;
+use std::alloc::{AllocError, Global};
+
+// What a drain came to.
+#[derive(Clone, Copy, Debug, PartialEq, Eq)]
+struct Came {
+    requests: u64,
+    pauses: u64,
+    ticks: u64,
+    applied: u64,
+    already: u64,
+    reports: usize,
+}
+
+// Drains a closed lane over a wire. `None`: there was no memory, or it is not closed.
+fn drained<W: Wire>(desk: &mut Desk, wire: &mut W) -> Option<Came>
+    requires { W.out wire.old ≡ [] }
+{
+    let mut pace = NO_PAUSES;
+    if !desk.lane.closed() || drain(&mut desk.lane, wire, &mut pace).is_err() {
+        return None;
+    }
+    let totals = desk.lane.totals();
+    Some(Came {
+        requests: totals.requests,
+        pauses: pace.pauses,
+        ticks: pace.ticks,
+        applied: totals.applied,
+        already: totals.already,
+        reports: desk.lane.reports().len(),
+    })
+}
+
+// How many writes an index applied.
+fn count_applied(alloc: Global, index: &Index) -> Result<usize, AllocError> {
+    let mut count = 0usize;
+    for key in &index.keys(alloc)? {
+        count = count.saturating_add(index.applied(key).len());
+    }
+    Ok(count)
+}
+
+// A wire round an empty index, of which the reply to one number is lost.
+fn looped(alloc: Global, lost: u64) -> Option<LoopWire>
+    ensures { IfSome result (λ w. w.out ≡ []) }
+{
+    let mut wire = LoopWire::new(alloc, Index::new(alloc), Script::new(alloc)).ok()?;
+    wire.lose(lost).ok()?;
+    Some(wire)
+}
+
+// What deletes of so many documents come to, where the reply to one number is lost, and how many writes the index
+// applied.
+fn in_memory(alloc: Global, count: u64, lost: u64) -> Option<(Came, usize)> {
+    let mut wire = looped(alloc, lost)?;
+    let mut desk = filled(alloc, count)?;
+    let came = drained(&mut desk, &mut wire)?;
+    Some((came, count_applied(alloc, wire.index()).ok()?))
+}
+
+// What deletes of three documents come to over streams with these bytes.
+fn over_http(alloc: Global, inputs: &[&[u8]]) -> Option<Came> {
+    let mut wire = wired(alloc, inputs, 1000, 0, 1)?;
+    let mut desk = filled(alloc, 3)?;
+    drained(&mut desk, &mut wire)
+}
+
+// Three deletes on three documents, of whose first request the reply is lost: all three were applied by it.
+const LOST_ONCE: Came = Came {
+    requests: 2,
+    pauses: 1,
+    ticks: 1,
+    applied: 0,
+    already: 3,
+    reports: 0,
+};
+
+// Two thousand items in one request, whose bytes and whose reply's are many pieces of a stream.
+const ALL_AT_ONCE: Came = Came {
+    requests: 1,
+    pauses: 0,
+    ticks: 0,
+    applied: 2000,
+    already: 0,
+    reports: 0,
+};
+
+#[test]
+fn a_lost_reply_in_memory(rt: HostRuntime) {
+    assert!(rt; in_memory(rt.alloc(), 3, 1) == Some((LOST_ONCE, 3)));
+}
+
+#[test]
+fn two_thousand_items(rt: HostRuntime) {
+    assert!(rt; in_memory(rt.alloc(), 2000, 0) == Some((ALL_AT_ONCE, 2000)));
+}
+
+const CONFLICTS: &[u8] =
+    b"HTTP/1.1 200 OK\r\nContent-Type: application/json\r\nContent-Length: 250\r\n\r\n{\"errors\":true,\"items\":[{\"delete\":{\"_id\":\"1\",\"error\":{\"type\":\"version_conflict\"},\"status\":409}},{\"delete\":{\"_id\":\"2\",\"error\":{\"type\":\"version_conflict\"},\"status\":409}},{\"delete\":{\"_id\":\"3\",\"error\":{\"type\":\"version_conflict\"},\"status\":409}}],\"took\":0}";
+
+#[test]
+fn a_lost_reply_over_http(rt: HostRuntime) {
+    assert!(rt; over_http(rt.alloc(), &[b"", CONFLICTS]) == Some(LOST_ONCE));
+}

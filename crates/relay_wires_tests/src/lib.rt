@@ -1,0 +1,21 @@
+//! Tests of `relay_wires`, over its public items: lanes that are drained over wires, one request at a
+//! time and several, statuses and bodies of replies, connections that are used again or not, dials and
+//! streams that fail, and requests and replies of many items.
+#![tactic(auto)]
+
+#[cfg(test)]
+mod asking;
+#[cfg(test)]
+mod connections;
+#[cfg(test)]
+mod desk;
+#[cfg(test)]
+mod drains;
+#[cfg(test)]
+mod loops;
+#[cfg(test)]
+mod places;
+#[cfg(test)]
+mod replies;
+#[cfg(test)]
+mod streams;

@@ -1,0 +1,48 @@
+//! Requests over a wire in memory, one after another and several at a time.
+ghost use Rattle.std.specs.Prelude.{◌≡◌, [], IfSome};
+ghost use Rattle.relay_wires.specs.Numbered.{numbers};
+
+use crate::asking::{Told, asks};
+use relay_action::DocKey;
+use relay_index::{Index, Script};
+use relay_lane::WireFault;
+use relay_wires::LoopWire;
+use std::alloc::Global;
+
+// A wire round an empty index that refuses item 1, of which the second reply is lost.
+fn scripted(alloc: Global) -> Option<LoopWire>
+    ensures { IfSome result (λ w. w.out ≡ []) }
+{
+    let mut script = Script::new(alloc);
+    script.refuse(1, 429).ok()?;
+    let mut wire = LoopWire::new(alloc, Index::new(alloc), script).ok()?;
+    wire.lose(2).ok()?;
+    Some(wire)
+}
+
+// How many writes the index applied to the document that is deleted.
+fn applied(alloc: Global, index: &Index) -> usize {
+    match DocKey::new(alloc, "books", "2") {
+        Ok(key) => index.applied(&key).len(),
+        Err(_) => 0,
+    }
+}
+
+// What the same delete is told three times, and how many writes the index applied then.
+fn three_times(alloc: Global) -> Option<([Told; 3], usize)> {
+    let mut wire = scripted(alloc)?;
+    let first = asks(alloc, &mut wire, 1);
+    let second = asks(alloc, &mut wire, 2);
+    let third = asks(alloc, &mut wire, 3);
+    Some(([first, second, third], applied(alloc, wire.index())))
+}
+
+#[test]
+fn refused_lost_and_conflict(rt: HostRuntime) {
+    let told = [
+        Told::Entries(1, 429),
+        Told::Fault(WireFault::Lost),
+        Told::Entries(1, 409),
+    ];
+    assert!(rt; three_times(rt.alloc()) == Some((told, 1)));
+}

@@ -1,0 +1,69 @@
+//! As many requests out as may be.
+ghost use Rattle.std.specs.Prelude.{◌≡◌, ◌∷◌, ◌≤◌, [], length, MatchResult};
+ghost use Rattle.relay_results.specs.Words.{Mem};
+ghost use Rattle.relay_wires.specs.Numbered.{numbers};
+
+use crate::streams::{Wired, wired};
+use relay_index::{Index, Script};
+use relay_lane::{Wire, WireFault};
+use relay_wires::LoopWire;
+use std::alloc::Global;
+use std::test::Fail;
+
+const BUSY: &[u8] = b"HTTP/1.1 503 Busy\r\nContent-Length: 0\r\n\r\n";
+
+// Sends a request without writes.
+fn sends(wire: &mut Wired, number: u64) -> Result<(), WireFault>
+    requires { Mem number (numbers wire.old.out) → ⊥ }
+    ensures { MatchResult result
+        (λ _. numbers wire.new.out ≡ number ∷ numbers wire.old.out)
+        (λ _. numbers wire.new.out ≡ numbers wire.old.out) }
+{
+    wire.send(number, &[])
+}
+
+// What becomes of two requests that are sent before a reply is received, where so many may be out.
+fn two_out(alloc: Global, most: u32) -> Option<[Result<(), WireFault>; 2]> {
+    let inputs = [BUSY, BUSY];
+    let mut wire = wired(alloc, &inputs, 1000, 0, most)?;
+    if let Err(fault) = sends(&mut wire, 1) {
+        return Some([Err(fault), Err(fault)]);
+    }
+    Some([Ok(()), sends(&mut wire, 2)])
+}
+
+// Whether two requests that are out are both answered, the later one first.
+fn answers_both<W: Wire>(wire: &mut W) -> bool
+    requires { W.out wire.old ≡ [] }
+{
+    if let Err(_) = wire.send(1, &[]) {
+        return false;
+    }
+    if let Err(_) = wire.send(2, &[]) {
+        return false;
+    }
+    let later = wire.receive(2).is_ok();
+    wire.receive(1).is_ok() && later
+}
+
+#[test]
+fn the_later_one_first(rt: HostRuntime) -> Result<(), Fail> {
+    let inputs = [BUSY, BUSY];
+    let mut over_http = wired(rt.alloc(), &inputs, 1000, 0, 2).ok_or("no wire")?;
+    assert!(rt; answers_both(&mut over_http));
+    let mut in_memory = LoopWire::new(rt.alloc(), Index::new(rt.alloc()), Script::new(rt.alloc()))?;
+    assert!(rt; answers_both(&mut in_memory));
+    Ok(())
+}
+
+#[test]
+fn as_many_as_may_be(rt: HostRuntime) {
+    let rows = [
+        (0, [Err(WireFault::Send), Err(WireFault::Send)]),
+        (1, [Ok(()), Err(WireFault::Send)]),
+        (2, [Ok(()), Ok(())]),
+    ];
+    for (most, wanted) in rows {
+        assert!(rt; two_out(rt.alloc(), most) == Some(wanted));
+    }
+}

@@ -1,0 +1,89 @@
+//! What replies tell, by their statuses and their bodies.
+
+use crate::asking::{Told, asks};
+use crate::streams::wired;
+use relay_lane::WireFault;
+use std::alloc::Global;
+use std::test::Fail;
+
+// What a delete is told by these bytes.
+fn told_by(alloc: Global, bytes: &[u8]) -> Told {
+    let inputs = [bytes];
+    match wired(alloc, &inputs, 1000, 0, 1) {
+        Some(mut wire) => asks(alloc, &mut wire, 1),
+        None => Told::NotAsked,
+    }
+}
+
+#[test]
+fn replies(rt: HostRuntime) -> Result<(), Fail> {
+    let rows: [(&[u8], Told); 18] = [
+        (
+            b"HTTP/1.1 200 OK\r\nContent-Length: 47\r\n\r\n{\"items\":[{\"delete\":{\"_id\":\"2\",\"status\":404}}]}",
+            Told::Entries(1, 404),
+        ),
+        (
+            b"HTTP/1.1 100 Continue\r\n\r\nHTTP/1.1 200 OK\r\nTransfer-Encoding: chunked\r\n\r\n5\r\n{\"ite\r\n7\r\nms\":[]}\r\n0\r\n\r\n",
+            Told::Entries(0, 0),
+        ),
+        (
+            b"HTTP/1.0 200 OK\r\n\r\n{\"items\":[]}",
+            Told::Entries(0, 0),
+        ),
+        (
+            b"HTTP/1.1 200 OK\r\nContent-Length: 0\r\n\r\n",
+            Told::Fault(WireFault::Unreadable),
+        ),
+        (
+            b"HTTP/1.1 200 OK\r\nContent-Length: 11\r\n\r\n{\"items\":3}",
+            Told::Fault(WireFault::Unreadable),
+        ),
+        (
+            b"HTTP/1.1 200 OK\r\nContent-Length: 44\r\n\r\n{\"items\":[{\"index\":{\"_id\":5,\"status\":201}}]}",
+            Told::Fault(WireFault::Unreadable),
+        ),
+        (
+            b"HTTP/1.1 201 Created\r\nContent-Length: 12\r\n\r\n{\"items\":[]}",
+            Told::Whole(201),
+        ),
+        (b"HTTP/1.1 204 No Content\r\n\r\n", Told::Whole(204)),
+        (
+            b"HTTP/1.1 401 Unauthorized\r\nContent-Length: 0\r\n\r\n",
+            Told::Whole(401),
+        ),
+        (
+            b"HTTP/1.1 429 Too Many Requests\r\nContent-Length: 3\r\n\r\nlow",
+            Told::Whole(429),
+        ),
+        (
+            b"HTTP/1.1 503 Service Unavailable\r\n\r\n",
+            Told::Whole(503),
+        ),
+        (b"", Told::Fault(WireFault::Lost)),
+        (
+            b"HTTP/1.1 200 OK\r\nContent-Length: 12\r\n\r\n{\"items\":[]",
+            Told::Fault(WireFault::Lost),
+        ),
+        (
+            b"HTTP/1.1 101 Switching Protocols\r\n\r\n",
+            Told::Fault(WireFault::Lost),
+        ),
+        (
+            b"HTTP/1.1 200 OK\r\nContent-Length: 67108865\r\n\r\n",
+            Told::Fault(WireFault::Lost),
+        ),
+        (
+            b"HTTP/1.1 200 OK\r\nContent-Encoding: gzip\r\nContent-Length: 0\r\n\r\n",
+            Told::Fault(WireFault::Lost),
+        ),
+        (
+            b"HTTP/1.1 200 OK\r\nTransfer-Encoding: chunked\r\nContent-Length: 0\r\n\r\n",
+            Told::Fault(WireFault::Lost),
+        ),
+        (b"HTTP/1.1 600 None\r\n\r\n", Told::Fault(WireFault::Lost)),
+    ];
+    for (bytes, wanted) in rows {
+        assert!(rt; told_by(rt.alloc(), bytes) == wanted, "{wanted:?}");
+    }
+    Ok(())
+}
