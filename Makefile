@@ -16,6 +16,10 @@ demo: build
 	@crates/relay/out/relay lines < examples/broken.ndjson || echo "status $$?"
 	@echo "--- relay lines < examples/books.ndjson | relay apply --refuse 2:429"
 	@crates/relay/out/relay lines < examples/books.ndjson | crates/relay/out/relay apply --refuse 2:429
+	@echo "--- examples/lost_reply.script"
+	@cat examples/lost_reply.script
+	@echo "--- relay world < examples/lost_reply.script"
+	@crates/relay/out/relay world < examples/lost_reply.script
 
 # The gate, with the processor minutes of each crate, and then the built program from the outside.
 test:

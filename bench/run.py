@@ -1,17 +1,19 @@
 """Measures the project's programs beside others, all in one run. Only the ratios count.
 
 `python3 bench/run.py` measures all parts; words after it name those to be measured: lines, apply, queue,
-replies, lane.
+replies, lane, http, world.
 """
 import os
 import sys
 import tempfile
 
 import apply_bench
+import http_bench
 import lane_bench
 import lines_bench
 import queue_bench
 import replies_bench
+import world_bench
 
 TOP = os.path.dirname(os.path.dirname(os.path.abspath(__file__)))
 RELAY = os.path.join(TOP, "crates/relay/out/relay")
@@ -24,6 +26,8 @@ PARTS = [
     ("queue", RELAY_BENCH, "`rt run` in crates/relay_bench", queue_bench.measure),
     ("replies", RELAY_BENCH, "`rt run` in crates/relay_bench", replies_bench.measure),
     ("lane", RELAY_BENCH, "`rt run` in crates/relay_bench", lane_bench.measure),
+    ("http", RELAY_BENCH, "`rt run` in crates/relay_bench", http_bench.measure),
+    ("world", RELAY, "`make build`", world_bench.measure),
 ]
 
 

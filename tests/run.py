@@ -7,18 +7,22 @@ import sys
 
 import apply_cases
 import lines_cases
+import world_cases
 from program import RESULTS, check, run
 
 
 def command_line():
     version = run(["--version"])
     check("the version", (version.stdout, version.stderr, version.returncode) == (b"relay 0.1.0\n", b"", 0), version)
-    for args in (["--help"], ["help"], ["lines", "--help"], ["help", "lines"], ["apply", "--help"], ["help", "apply"]):
+    for args in (["--help"], ["help"], ["lines", "--help"], ["help", "lines"], ["apply", "--help"], ["help", "apply"], ["world", "--help"], ["help", "world"]):
         done = run(args)
         check("help: %s" % args, done.returncode == 0 and b"Usage: relay" in done.stdout and done.stderr == b"", done)
     kinds = run(["help", "lines"]).stdout
     for kind in (b"LineLong", b"NotJson", b"UnsupportedField", b"SourceNewline", b"VersionsSpent", b"relay lines --index"):
         check("help lines names %s" % kind, kind in kinds)
+    script = run(["help", "world"]).stdout
+    for word in (b"world LANES", b"put P INDEX ID index SOURCE", b"reply R N ..", b"NumbersSpent", b"BadLine", b"finished yes"):
+        check("help world names %s" % word, word in script)
     for args, said in (
         ([], b"subcommand"),
         (["bogus"], b"bogus"),
@@ -29,6 +33,8 @@ def command_line():
         (["apply", "--refuse"], b"--refuse"),
         (["apply", "--refuse", "1:429", "--refuse", "2:429"], b"--refuse"),
         (["apply", "--index", "b"], b"--index"),
+        (["world", "--bogus"], b"--bogus"),
+        (["world", "x"], b"'x'"),
         (["lines", "--first"], b"--first"),
         (["lines", "--first", "0"], b"'0'"),
         (["lines", "--first", "9000000000000000001"], b"9000000000000000001"),
@@ -42,7 +48,7 @@ def command_line():
 
 
 def main():
-    for group in (*lines_cases.GROUPS, *apply_cases.GROUPS, command_line):
+    for group in (*lines_cases.GROUPS, *apply_cases.GROUPS, *world_cases.GROUPS, command_line):
         group()
     print("%d passed, %d failed" % (RESULTS["passed"], RESULTS["failed"]))
     sys.exit(RESULTS["failed"] != 0)

@@ -11,7 +11,8 @@ use std::{env, io};
 const ABOUT: &str = "Takes write operations from producers to an OpenSearch index.
 
 Today it numbers the operations of one producer with external versions, as the lines of a bulk
-request, and serves a bulk request with a stand-in index.";
+request, serves a bulk request with a stand-in index, and plays scripts of what may happen between
+producers, lanes and an index.";
 
 /// Does what the process's command line says.
 pub fn run<R: Input + Print + Eprint + Env + AllocGlobal>(rt: &R) -> Exit {

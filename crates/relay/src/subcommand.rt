@@ -1,6 +1,7 @@
 //! The subcommands: each has a file with its help, its options and what it runs.
 pub mod apply;
 pub mod lines;
+pub mod world;
 
 use clap::{ArgMatches, Command};
 use relay_commands::exit::Exit;
@@ -13,17 +14,20 @@ pub enum Subcommand {
     Lines,
     /// `relay apply`.
     Apply,
+    /// `relay world`.
+    World,
 }
 
 impl Subcommand {
     /// All of them, in the order of the help.
-    pub const ALL: [Subcommand; 2] = [Subcommand::Lines, Subcommand::Apply];
+    pub const ALL: [Subcommand; 3] = [Subcommand::Lines, Subcommand::Apply, Subcommand::World];
 
     /// Its word on the command line.
     pub fn name(self) -> &'static str {
         match self {
             Subcommand::Lines => "lines",
             Subcommand::Apply => "apply",
+            Subcommand::World => "world",
         }
     }
 
@@ -42,6 +46,7 @@ impl Subcommand {
         match self {
             Subcommand::Lines => lines::command(alloc, self.name()),
             Subcommand::Apply => apply::command(alloc, self.name()),
+            Subcommand::World => world::command(alloc, self.name()),
         }
     }
 
@@ -54,6 +59,7 @@ impl Subcommand {
         match self {
             Subcommand::Lines => lines::run(rt, matches),
             Subcommand::Apply => apply::run(rt, matches),
+            Subcommand::World => world::run(rt, matches),
         }
     }
 }

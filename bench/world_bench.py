@@ -1,0 +1,53 @@
+"""How many events a second `relay world` plays, at 10,000 and at 1,000,000 lines."""
+import os
+import statistics
+import subprocess
+import time
+
+TURNS = 5
+
+
+def script(lines):
+    """Rounds of ten events on eight lanes: a put, its take, its request, a run, and its reply, and what is refused. Each
+    document is written again and again."""
+    yield "world 8 16 100 100 10 4096 0 3 1 1"
+    count, requests, number = 1, 0, 0
+    while True:
+        number += 1
+        requests += 1
+        lane, identity = LANES[number % len(LANES)]
+        for line in (
+            'put %d books %s index {"n":%d}' % (number % 16, identity, number),
+            "take %d" % lane,
+            "send %d" % lane,
+            "send %d" % lane,
+            "run %d 1" % requests,
+            "run %d 1 429" % requests,
+            "run %d 1" % requests,
+            "reply %d 1" % requests,
+            "lost %d" % requests,
+            "take %d" % lane,
+        ):
+            count += 1
+            yield line
+            if count == lines:
+                return
+
+
+# documents of the index `books`, and their lanes of eight
+LANES = list(zip((6, 1, 0, 3, 2, 5, 4, 7), "01234567"))
+
+
+def measure(folder, relay):
+    print("relay world, events a second (medians of %d turns)" % TURNS)
+    for lines in (10_000, 1_000_000):
+        path = os.path.join(folder, "script")
+        with open(path, "w", encoding="utf-8") as file:
+            file.writelines(line + "\n" for line in script(lines))
+        times = []
+        for _ in range(TURNS):
+            with open(path, "rb") as file, open(os.devnull, "wb") as null:
+                started = time.monotonic()
+                subprocess.run([relay, "world"], stdin=file, stdout=null, check=True, timeout=600)
+                times.append(time.monotonic() - started)
+        print("  %9d lines: %9.0f events a second" % (lines, (lines - 1) / statistics.median(times)))

@@ -1,0 +1,96 @@
+//! `relay world`.
+use clap::{ArgMatches, Command};
+use relay_action::StdStream;
+use relay_commands::exit::Exit;
+use relay_script::exit::exit_of_script;
+use relay_script::script::{ScriptFault, world_script};
+use std::alloc::{AllocError, Global};
+use std::io;
+
+const ABOUT: &str = "Plays a script of events on lanes, queues and an index";
+
+const LONG_ABOUT: &str = "Plays a script of events on lanes, queues and an index.
+
+Whatever happens, in whatever order, the index is to have each operation once and in its producer's
+order, and what was not applied is to be reported with its true cause. A script says what happens:
+its lines are read from standard input and played one after another on a world without clocks,
+threads or sockets, and each is answered by a line on standard output. At the end stands what the
+world has come to.
+
+The first line says how the relay works, in ten numbers:
+
+    world LANES PRODUCERS CAPACITY HELD COUNT BYTES LINGER ATTEMPTS FLYING FIRST
+
+with 1 to 8 lanes, 1 to 16 producers, 1 to 65536 messages in a lane's queue and as many operations
+that a lane holds, batches of 1 to 10000 operations and 1024 to 16777216 bytes that wait for at most
+65535 ticks to be filled, 1 to 32 attempts, 1 request of a lane in flight, and the first version from
+1 to 9000000000000000000. Each further line is an event:
+
+    put P INDEX ID index SOURCE  producer P puts a document; SOURCE is the rest of the line
+    put P INDEX ID delete        or a deletion; a document belongs to one lane
+    close P L                    sender P closes at lane L; the first close of a producer ends its puts
+    tick L, flush L              the control puts a tick, or a flush, into the queue of lane L
+    take L                       lane L takes the front of its queue
+    send L                       lane L forms its next request, and it is sent
+    run R I                      the index runs item I of request R, as often as this comes
+    run R I STATUS               or refuses it, with 400 to 599 but 404 and 409
+    reply R                      request R is answered by what the last run of each item gave
+    reply R N ..                 or by its N-th run, with one number for each item
+    whole R STATUS               or as a whole, by a status from 201 to 599
+    lost R                       or its reply is lost
+
+Producers and lanes are counted from 0; the control, which closes too, is the sender after the last
+producer. Requests are counted from 1 over all lanes, items and runs from 1. One space stands between
+two words, so INDEX and ID have none; numbers are decimal digits. The last line may lack its end.
+
+Answers are `ok P:N` for a put, with the name of the operation, `ok R INDEX/ID@VERSION ..` for a
+request that was sent, `ok STATUS` for a run, `ok APPLIED ALREADY REPORTED RETRIED` for a request that
+was answered, and else `ok`. An event that may not be is answered `no NAME` and changes nothing; the
+first of these that holds:
+
+    put           NoSuch (producer), Closed, NumbersSpent (2^40 puts), QueueFull
+    close         NoSuch (lane, sender), Closed (at this lane), QueueFull
+    tick, flush   NoSuch (lane), Closed (the control), QueueFull
+    take          NoSuch (lane), NothingQueued, HeldFull (and a put stands at the front)
+    send          NoSuch (lane), NoRequest
+    run           NotSent, BadStatus
+    reply         NotSent, NotFlying, NotRun
+    whole         NotSent, NotFlying, BadStatus
+    lost          NotSent, NotFlying
+
+At the end stand `accepted P COUNT` for each producer, `applied INDEX/ID VERSION P:N` for each write
+that the index applied, by document, `report LANE P:N INDEX/ID CAUSE` for each operation that was given
+up, with Refused STATUS TYPE, Request STATUS, Conflict, GaveUp SENDS or Spent, and `finished yes` where
+all senders have closed at all lanes and nothing is queued or held, else `finished no`. As an example:
+
+    printf '%s\\n' 'world 1 1 10 10 10 4096 0 3 1 1' 'put 0 b 1 index {\"a\":1}' \\
+        'take 0' 'send 0' 'run 1 1' 'lost 1' 'tick 0' 'take 0' 'send 0' 'run 2 1' 'reply 2' | relay world
+
+A script has at most 1000000 lines. A line of another form ends it with `line N: BadLine` on standard
+error and status 2; the answers before it were written. A read or write that fails ends it with status
+3, out of memory with 4.";
+
+/// Its help. It has no options.
+pub fn command<'a>(alloc: Global, name: &'static str) -> Result<Command<'a>, AllocError> {
+    Ok(
+        Command::new(alloc, name)
+            .about(ABOUT)
+            .long_about(LONG_ABOUT),
+    )
+}
+
+/// Runs it over standard input and output.
+pub fn run<R: Input + Print + Eprint + AllocGlobal>(rt: &R, _: &ArgMatches<'_>) -> Exit {
+    let mut reader = StdStream::new(rt.reader());
+    let mut writer = StdStream::new(io::writer(rt));
+    match world_script(rt.alloc(), &mut reader, &mut writer) {
+        Ok(()) => Exit::Done,
+        Err(fault) => report(rt, fault),
+    }
+}
+
+// Says what stopped it. That the text may not be printed changes nothing.
+fn report<R: Eprint>(rt: &R, fault: ScriptFault) -> Exit {
+    let _ = rt.eprintln(fault);
+    exit_of_script(fault)
+}

@@ -1,0 +1,6 @@
+mod Cutting
+mod Counting
+mod Refusing
+mod Items
+mod Underway
+mod Whole

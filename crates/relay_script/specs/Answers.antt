@@ -1,0 +1,69 @@
+-- The lines that answer events.
+use Rattle.std.specs.Prelude.{◌≡◌, ℕ, ◌+◌, List, [], ◌∷◌, ◌++◌, codes, decimal, None}
+use Rattle.std.specs.List.{flat_map}
+use Rattle.relay_action.specs.declared.key.DocKey.{DocKey}
+use Rattle.relay_action.specs.declared.operation.OpName.{OpName}
+use Rattle.relay_ndjson.specs.Bulk.{line_end}
+use Rattle.relay_core.specs.declared.settled.Settled.{Settled}
+use Rattle.relay_world.specs.declared.event.Refusal.{Refusal}
+use Rattle.relay_world.specs.declared.event.Refusal.TheVariants as no
+use Rattle.relay_world.specs.declared.event.StepAnswer.{StepAnswer}
+use Rattle.relay_world.specs.declared.event.StepAnswer.TheVariants as answer
+use Rattle.relay_world.specs.State.{World, write_at}
+use Rattle.relay_world.specs.Memory.{IsWriteAt}
+
+-- a space and a number
+abbrev pub spaced : ℕ → List ℕ
+spaced n = codes " " ++ decimal n
+
+-- the name of an operation, `P:N`
+abbrev pub name_text : OpName → List ℕ
+name_text name = decimal name.producer ++ codes ":" ++ decimal name.number
+
+-- a document, `INDEX/ID`
+abbrev pub document_text : DocKey → List ℕ
+document_text key = key.index ++ codes "/" ++ key.id
+
+abbrev pub refusal_name : Refusal → List ℕ
+refusal_name no.Closed = codes "Closed"
+refusal_name no.QueueFull = codes "QueueFull"
+refusal_name no.NothingQueued = codes "NothingQueued"
+refusal_name no.HeldFull = codes "HeldFull"
+refusal_name no.NoRequest = codes "NoRequest"
+refusal_name no.NotSent = codes "NotSent"
+refusal_name no.NotFlying = codes "NotFlying"
+refusal_name no.NotRun = codes "NotRun"
+refusal_name no.BadStatus = codes "BadStatus"
+refusal_name no.NoSuch = codes "NoSuch"
+refusal_name no.NumbersSpent = codes "NumbersSpent"
+
+-- how the operations of a request ended: applied by it, applied already, reported, to be sent again
+abbrev pub counts_text : Settled → List ℕ
+counts_text counts = spaced counts.applied ++ spaced counts.already ++ spaced counts.reported ++ spaced counts.retried
+
+-- the document and the version of an item, ` INDEX/ID@VERSION`
+abbrev pub item_text : DocKey × ℕ → List ℕ
+item_text i = codes " " ++ document_text i.0 ++ codes "@" ++ decimal i.1
+
+-- these are the documents and versions of the items of a request from a number on, and after them there is none
+abbrev pub AreItems : World → ℕ → ℕ → List (DocKey × ℕ) → Type 0
+AreItems w request item [] = write_at w request item ≡ None
+AreItems w request item (i ∷ is) = IsWriteAt w request item i.0 i.1 × AreItems w request (item + 1) is
+
+-- what answers an event, where the world after it is this
+abbrev pub IsAnswer : World → StepAnswer → List ℕ → Type 0
+IsAnswer w (answer.Refused refusal) text = text ≡ codes "no " ++ refusal_name refusal
+IsAnswer w (answer.Put name) text = text ≡ codes "ok " ++ name_text name
+IsAnswer w (answer.Sent request) text =
+    (items : List (DocKey × ℕ)) × AreItems w request 1 items × (text ≡ codes "ok" ++ spaced request ++ flat_map item_text items)
+IsAnswer w (answer.Ran status) text = text ≡ codes "ok" ++ spaced status
+IsAnswer w (answer.Settled counts) text = text ≡ codes "ok" ++ counts_text counts
+IsAnswer w answer.Done text = text ≡ codes "ok"
+
+-- the same with the end of its line
+abbrev pub IsAnswerLine : World → StepAnswer → List ℕ → Type 0
+IsAnswerLine w x line = (text : List ℕ) × IsAnswer w x text × (line ≡ text ++ line_end)
+
+-- the items of a request were added to a text
+abbrev pub AddsItems : World → ℕ → List ℕ → List ℕ → Type 0
+AddsItems w request before after = (items : List (DocKey × ℕ)) × AreItems w request 1 items × (after ≡ before ++ flat_map item_text items)

@@ -1,0 +1,282 @@
+-- A script: what is taken of its lines, what is played, and what is written.
+use Rattle.std.specs.Prelude.{◌≡◌, ◌≢◌, ◌⊎◌, ℕ, ◌+◌, ◌<◌, ◌≤◌, List, [], ◌∷◌, ◌++◌, length, Bool, true, false, Option, None, Some, Result, Ok, Err}
+use Rattle.std.specs.Io.KnownBytes.{append_known, prepend_known, IsAtEnd}
+use Rattle.relay_action.specs.Streams.{one_more}
+use Rattle.relay_ndjson.specs.Lines.{IsLong, IsOfOneLine, TakesText, line_limit, piece_limit}
+use Rattle.relay_ndjson.specs.declared.kind.InputFault.{InputFault}
+use Rattle.relay_ndjson.specs.declared.kind.LineKind.{LineKind}
+use Rattle.relay_ndjson.specs.declared.kind.LineKind.TheVariants as kind
+use Rattle.relay_index.specs.States as index
+use Rattle.relay_core.specs.declared.config.RelayConfig.{RelayConfig}
+use Rattle.relay_core.specs.Limits.{is_valid}
+use Rattle.relay_commands.specs.Calls.{NoneFails, OneAtMost, OneFails}
+use Rattle.relay_world.specs.declared.event.Event.{Event}
+use Rattle.relay_world.specs.declared.event.StepAnswer.{StepAnswer}
+use Rattle.relay_world.specs.State.{World, fresh}
+use Rattle.relay_world.specs.Steps.{Steps}
+use Rattle.relay_script.specs.Config.{IsConfigLine}
+use Rattle.relay_script.specs.Events.{IsEventLine}
+use Rattle.relay_script.specs.Answers.{IsAnswerLine}
+use Rattle.relay_script.specs.Flows.{Breaks, Flows, IsCut, IsFront}
+use Rattle.relay_script.specs.declared.event_line.LineFault.{LineFault}
+use Rattle.relay_script.specs.declared.event_line.LineFault.TheVariants as bad
+use Rattle.relay_script.specs.declared.playing.Next.{Next}
+use Rattle.relay_script.specs.declared.playing.Next.TheVariants.{Played, Ended}
+use Rattle.relay_script.specs.declared.script.TheConstants.{LINE_COUNT}
+use Rattle.relay_script.specs.declared.script.ScriptFault.{ScriptFault}
+use Rattle.relay_script.specs.declared.script.ScriptFault.TheVariants as fault
+
+-- the most lines of a script
+abbrev pub line_count : ℕ
+line_count = LINE_COUNT
+
+-- ---- lines
+
+-- events were taken from the front of a stream, each from the line at the front
+abbrev pub TakesEvents : Option (List ℕ) → Option (List ℕ) → List Event → Type 0
+TakesEvents old new [] = new ≡ old
+TakesEvents old new (e ∷ es) =
+    (mid : Option (List ℕ)) × (text : List ℕ) × TakesText old mid text × IsEventLine text e × TakesEvents mid new es
+
+-- the line at the front, after so many lines, is longer than a line may be, or one more than a script may have
+abbrev pub IsNoLine : ℕ → Option (List ℕ) → Type 0
+IsNoLine count front =
+    IsLong front ⊎ ((text : List ℕ) × (rest : Option (List ℕ)) × TakesText front rest text × (line_count ≤ count))
+
+-- the same, or no event has it
+abbrev pub IsNoEvent : ℕ → Option (List ℕ) → Type 0
+IsNoEvent count front =
+    IsNoLine count front
+    ⊎ ((text : List ℕ) × (rest : Option (List ℕ)) × TakesText front rest text × ((e : Event) → IsEventLine text e → ⊥))
+
+-- there is no first line, or it is longer than a line may be, or no config has it
+abbrev pub IsNoConfig : Option (List ℕ) → Type 0
+IsNoConfig front =
+    IsAtEnd front ⊎ IsNoLine 0 front
+    ⊎ ((text : List ℕ) × (rest : Option (List ℕ)) × TakesText front rest text × ((c : RelayConfig) → IsConfigLine text c → ⊥))
+
+-- no more than one line was used of what stands in front
+pub record UsesOneLine (old new : Option (List ℕ)) : Type 0 where
+  pub used : List ℕ
+  pub rest : old ≡ prepend_known used new
+  pub part : IsOfOneLine used
+  pub short : length used ≤ line_limit + 2
+
+-- The same, where the reader has this left: besides, one piece at most was read of what stands behind.
+pub record ReadsOn (front left : Option (List ℕ)) : Type 0 where
+  pub held : List ℕ
+  pub one_piece : length held ≤ piece_limit
+  pub uses : UsesOneLine front (prepend_known held left)
+
+-- ---- playing
+
+-- events were played one after another, and these lines answer them
+abbrev pub Answers : World → List Event → World → List ℕ → Type 0
+Answers w [] new out = (new ≡ w) × (out ≡ [])
+Answers w (e ∷ es) new out =
+    (x : StepAnswer) × (next : World) × (line : List ℕ) × (rest : List ℕ) × Steps w e x next × IsAnswerLine next x line
+    × Answers next es new rest × (out ≡ line ++ rest)
+
+-- ---- the whole
+
+-- Why no more events were played after so many, where this is in front of the stream. Of a failed read or write, and of
+-- out of memory, the counts of the failed calls tell.
+abbrev pub Stops : ℕ → Option (List ℕ) → Result Unit ScriptFault → Type 0
+Stops events front (Ok x) = IsAtEnd front
+Stops events front (Err (fault.BadLine line)) = (line ≡ events + 2) × IsNoEvent (events + 1) front
+Stops events front (Err other) = Unit {0}
+
+-- the lines of an ending come where no line is left, and else there are none
+abbrev pub MayEnd : Option (List ℕ) → List ℕ → Type 0
+MayEnd rest ending = IsAtEnd rest ⊎ (ending ≡ [])
+
+-- What was written, where these lines answer the events and this is in front of the stream: all of them; at the end the lines of how it ended too; after a
+-- failed write some first bytes of these and not all, after out of memory some.
+abbrev pub Writes : Option (List ℕ) → Option (List ℕ) → Option (List ℕ) → List ℕ → Result Unit ScriptFault → Type 0
+Writes rest before after out (Ok x) = (ending : List ℕ) × (after ≡ append_known before (out ++ ending))
+Writes rest before after out (Err (fault.BadLine line)) = after ≡ append_known before out
+Writes rest before after out (Err fault.Read) = after ≡ append_known before out
+Writes rest before after out (Err fault.Write) = (ending : List ℕ) × MayEnd rest ending × IsCut before after (out ++ ending)
+Writes rest before after out (Err fault.Memory) = (ending : List ℕ) × MayEnd rest ending × IsFront before after (out ++ ending)
+
+-- The first line is that of a config, and events follow it, each on a line of its own. They are played on a fresh world, and
+-- these lines answer them; that is why there were no more, and that was written.
+pub record Runs (front left before after : Option (List ℕ)) (result : Result Unit ScriptFault) : Type 0 where
+  pub text : List ℕ
+  pub first : Option (List ℕ)
+  pub config : RelayConfig
+  pub taken : TakesText front first text
+  pub is_config : IsConfigLine text config
+  pub events : List Event
+  pub rest : Option (List ℕ)
+  pub takes : TakesEvents first rest events
+  pub world : World
+  pub out : List ℕ
+  pub played : Answers (fresh config index.fresh) events world out
+  pub stops : Stops (length events) rest result
+  pub reads : ReadsOn rest left
+  pub writes : Writes rest before after out result
+
+-- No world was made, and nothing was written: the first line is at fault, or it could not be read, or memory ran out.
+abbrev pub HasNoWorld : Option (List ℕ) → Option (List ℕ) → Option (List ℕ) → Result Unit ScriptFault → Type 0
+HasNoWorld front before after (Err (fault.BadLine line)) = (line ≡ 1) × IsNoConfig front × (after ≡ before)
+HasNoWorld front before after (Err fault.Read) = after ≡ before
+HasNoWorld front before after (Err fault.Memory) = after ≡ before
+HasNoWorld front before after other = ⊥
+
+abbrev pub IsScript : Option (List ℕ) → Option (List ℕ) → Option (List ℕ) → Option (List ℕ) → Result Unit ScriptFault → Type 0
+IsScript front left before after result =
+    Runs front left before after result ⊎ (HasNoWorld front before after result × ReadsOn front left)
+
+-- Which calls failed: of the reader one where the answer is a failed read, of the writer one where it is a failed write;
+-- a failed write may follow a failed read or want of memory.
+abbrev pub FailsOnce : ℕ → ℕ → ℕ → ℕ → Result Unit ScriptFault → Type 0
+FailsOnce old new before after (Err fault.Read) = OneFails old new × NoneFails before after
+FailsOnce old new before after (Err fault.Write) = OneAtMost old new × OneFails before after
+FailsOnce old new before after (Err fault.Memory) = NoneFails old new × OneAtMost before after
+FailsOnce old new before after other = NoneFails old new × NoneFails before after
+
+-- ---- for the steps
+
+-- how many calls of a reader have failed after an answer
+abbrev pub failed_by : {T : Type 0} → Result T ScriptFault → ℕ → ℕ
+failed_by (Err fault.Read) n = one_more n
+failed_by other n = n
+
+-- a fault of a line
+abbrev pub line_fault_by : InputFault → LineKind → ScriptFault
+line_fault_by e kind.Read = fault.Read
+line_fault_by e kind.Memory = fault.Memory
+line_fault_by e other = fault.BadLine e.line
+
+abbrev pub line_fault : InputFault → ScriptFault
+line_fault e = line_fault_by e e.kind
+
+-- the next line was taken, after so many; or there is none; or why not
+abbrev pub TakesLine : Option (List ℕ) → Option (List ℕ) → ℕ → ℕ → List ℕ → Result Bool ScriptFault → Type 0
+TakesLine old new count after text (Ok true) = TakesText old new text × (after ≡ count + 1) × (after ≤ line_count)
+TakesLine old new count after text (Ok false) = IsAtEnd old × (new ≡ old) × (after ≡ count)
+TakesLine old new count after text (Err (fault.BadLine line)) = (line ≡ count + 1) × IsNoLine count old
+TakesLine old new count after text (Err fault.Write) = ⊥
+TakesLine old new count after text (Err other) = Unit {0}
+
+-- the config of the first line was taken; or why not
+abbrev pub TakesConfig : Option (List ℕ) → Option (List ℕ) → ℕ → Result RelayConfig ScriptFault → Type 0
+TakesConfig old new after (Ok config) =
+    (text : List ℕ) × TakesText old new text × IsConfigLine text config × (after ≡ 1)
+TakesConfig old new after (Err (fault.BadLine line)) = (line ≡ 1) × IsNoConfig old
+TakesConfig old new after (Err fault.Write) = ⊥
+TakesConfig old new after (Err other) = Unit {0}
+
+-- why there is no event
+abbrev pub HasNoEvent : Option (List ℕ) → ℕ → ScriptFault → Type 0
+HasNoEvent old count (fault.BadLine line) = (line ≡ count + 1) × IsNoEvent count old
+HasNoEvent old count fault.Write = ⊥
+HasNoEvent old count other = Unit {0}
+
+-- the event of the next line was taken; or there is no line; or why not
+abbrev pub TakesEvent : Option (List ℕ) → Option (List ℕ) → ℕ → ℕ → Result (Option Event) ScriptFault → Type 0
+TakesEvent old new count after (Ok (Some e)) =
+    (text : List ℕ) × TakesText old new text × IsEventLine text e × (after ≡ count + 1) × (after ≤ line_count)
+TakesEvent old new count after (Ok None) = IsAtEnd old × (new ≡ old) × (after ≡ count)
+TakesEvent old new count after (Err e) = HasNoEvent old count e
+
+-- an event was played, and this line answers it
+pub record PlaysOne (w : World) (e : Event) (new : World) (line : List ℕ) : Type 0 where
+  pub answer : StepAnswer
+  pub steps : Steps w e answer new
+  pub says : IsAnswerLine new answer line
+
+-- an event was played, and its answer was added to a text; or memory ran out
+abbrev pub PlaysEvent : World → Event → World → List ℕ → List ℕ → Result Unit ScriptFault → Type 0
+PlaysEvent w e next text longer (Ok x) = (line : List ℕ) × PlaysOne w e next line × (longer ≡ text ++ line)
+PlaysEvent w e next text longer (Err f) = (f ≡ fault.Memory) × (longer ≡ text)
+
+-- the fault of a line
+abbrev pub fault_at : LineFault → ℕ → ScriptFault
+fault_at bad.Bad line = fault.BadLine line
+fault_at bad.Memory line = fault.Memory
+
+-- the event of the next line was taken and played, and its answer was added to a text; or there is none; or why not
+abbrev pub PlaysNext : Option (List ℕ) → Option (List ℕ) → ℕ → ℕ → World → World → List ℕ → List ℕ → Result Next ScriptFault → Type 0
+PlaysNext old new count after w next text longer (Ok Played) =
+    (e : Event) × (line : List ℕ) × TakesEvent old new count after (Ok (Some e)) × PlaysOne w e next line × (longer ≡ text ++ line)
+PlaysNext old new count after w next text longer (Ok Ended) =
+    TakesEvent old new count after (Ok None) × (next ≡ w) × (longer ≡ text)
+PlaysNext old new count after w next text longer (Err e) = HasNoEvent old count e × (longer ≡ text)
+
+-- what has become of the lines that were taken, of the world, and of what was to be written
+pub record Underway (first now : Option (List ℕ)) (start world : World) (count : ℕ) (before : Option (List ℕ)) (text : List ℕ) (written : Option (List ℕ)) : Type 0 where
+  pub events : List Event
+  pub out : List ℕ
+  pub takes : TakesEvents first now events
+  pub played : Answers start events world out
+  pub counted : count ≡ length events + 1
+  pub flows : Flows out [] before text written
+
+-- what is left of the answers, by how it ended
+abbrev pub Leaves : Option (List ℕ) → Option (List ℕ) → List ℕ → Option (List ℕ) → List ℕ → Result Unit ScriptFault → Type 0
+Leaves rest before text written out (Ok x) = (ending : List ℕ) × Flows (out ++ ending) [] before text written
+Leaves rest before text written out (Err fault.Write) = (ending : List ℕ) × MayEnd rest ending × IsCut before written (out ++ ending)
+Leaves rest before text written out (Err fault.Memory) = (ending : List ℕ) × MayEnd rest ending × Flows (out ++ ending) [] before text written
+Leaves rest before text written out (Err other) = Flows out [] before text written
+
+-- how many calls of a writer have failed after an answer
+abbrev pub unwritten_by : {T : Type 0} → Result T ScriptFault → ℕ → ℕ
+unwritten_by (Err fault.Write) n = one_more n
+unwritten_by other n = n
+
+-- what became of a text, and of more that came to it, by how it ended
+abbrev pub Passes : List ℕ → Option (List ℕ) → List ℕ → Option (List ℕ) → Result Unit ScriptFault → Type 0
+Passes text written rest after (Ok x) = (more : List ℕ) × Flows more text written rest after
+Passes text written rest after (Err fault.Write) = Breaks text written after
+Passes text written rest after (Err fault.Memory) = (more : List ℕ) × Flows more text written rest after
+Passes text written rest after (Err other) = ⊥
+
+-- events were taken and played until this answer: what is left of their answers is still to be written, but after a failed
+-- write nothing is
+pub record Halts (first last : Option (List ℕ)) (start : World) (before : Option (List ℕ)) (text : List ℕ) (written : Option (List ℕ)) (result : Result Unit ScriptFault) : Type 0 where
+  pub events : List Event
+  pub rest : Option (List ℕ)
+  pub takes : TakesEvents first rest events
+  pub world : World
+  pub out : List ℕ
+  pub played : Answers start events world out
+  pub stops : Stops (length events) rest result
+  pub uses : UsesOneLine rest last
+  pub leaves : Leaves rest before text written out result
+
+-- no config was taken
+abbrev pub HasNoConfig : Option (List ℕ) → Result Unit ScriptFault → Type 0
+HasNoConfig front (Err (fault.BadLine line)) = (line ≡ 1) × IsNoConfig front
+HasNoConfig front (Err fault.Read) = Unit {0}
+HasNoConfig front (Err fault.Memory) = Unit {0}
+HasNoConfig front other = ⊥
+
+-- a config was taken, and then events were played on a fresh world of it
+pub record Begins (front last before : Option (List ℕ)) (text : List ℕ) (written : Option (List ℕ)) (result : Result Unit ScriptFault) : Type 0 where
+  pub line : List ℕ
+  pub first : Option (List ℕ)
+  pub config : RelayConfig
+  pub taken : TakesText front first line
+  pub is_config : IsConfigLine line config
+  pub halts : Halts first last (fresh config index.fresh) before text written result
+
+-- the same, or no config was taken and nothing is to be written
+abbrev pub PlaysScript : Option (List ℕ) → Option (List ℕ) → Option (List ℕ) → List ℕ → Option (List ℕ) → Result Unit ScriptFault → Type 0
+PlaysScript front last before text written result =
+    Begins front last before text written result
+    ⊎ (HasNoConfig front result × UsesOneLine front last × (text ≡ []) × (written ≡ before))
+
+-- the text that was left was written, or a write failed
+abbrev pub ClosesOr : Result Unit ScriptFault → Result Unit ScriptFault → List ℕ → Option (List ℕ) → ℕ → Option (List ℕ) → ℕ → Result Unit ScriptFault → Type 0
+ClosesOr answer broken text written failed after count result =
+    ((result ≡ answer) × (after ≡ append_known written text) × NoneFails failed count)
+    ⊎ ((result ≡ broken) × IsCut written after text × OneFails failed count)
+
+-- What becomes of an answer where text is still to be written: after a failed write nothing more is written; out of memory
+-- stays the answer, also where a write fails.
+abbrev pub Closes : Result Unit ScriptFault → List ℕ → Option (List ℕ) → ℕ → Option (List ℕ) → ℕ → Result Unit ScriptFault → Type 0
+Closes (Err fault.Write) text written failed after count result = (result ≡ Err fault.Write) × (after ≡ written) × NoneFails failed count
+Closes (Err fault.Memory) text written failed after count result = ClosesOr (Err fault.Memory) (Err fault.Memory) text written failed after count result
+Closes answer text written failed after count result = ClosesOr answer (Err fault.Write) text written failed after count result

@@ -1,0 +1,243 @@
+//! How a script ended, as lines.
+ghost use Rattle.std.specs.Prelude.{◌≡◌};
+ghost use Rattle.relay_script.specs.Scripts.{Passes, unwritten_by};
+
+use crate::document::{add_document, add_name, add_number, add_spaced};
+use crate::outgoing::Outgoing;
+use crate::script::ScriptFault;
+use relay_action::{ByteOut, DocKey, OpName, Write};
+use relay_core::{RelayConfig, Report};
+use relay_results::Cause;
+use relay_world::World;
+use std::alloc::AllocError;
+
+/// Gathers the lines that say how a script ended, and writes them where much was gathered: what was accepted
+/// from each producer, the writes that were applied, the reports, and whether all is finished.
+pub fn write_ending<W: ByteOut>(
+    world: &World,
+    config: RelayConfig,
+    line: &mut Vec<u8>,
+    outgoing: &mut Outgoing,
+    writer: &mut W,
+) -> Result<(), ScriptFault>
+    ensures text { Passes outgoing.old.text.items (W.written writer.old) outgoing.new.text.items (W.written writer.new) result }
+    ensures writes { W.failed writer.new ≡ unwritten_by result (W.failed writer.old) }
+{
+    if let Err(fault) = write_all_accepted(world, config.producers, line, outgoing, writer) {
+        return Err(fault);
+    }
+    if let Err(fault) = write_all_applied(world, line, outgoing, writer) {
+        return Err(fault);
+    }
+    if let Err(fault) = write_all_reports(world, config.lanes, line, outgoing, writer) {
+        return Err(fault);
+    }
+    let made = make_finished(line, world.finished());
+    pass_on(made, line, outgoing, writer)
+}
+
+// Passes a line on, if there was memory for it.
+fn pass_on<W: ByteOut>(
+    made: Result<(), AllocError>,
+    line: &Vec<u8>,
+    outgoing: &mut Outgoing,
+    writer: &mut W,
+) -> Result<(), ScriptFault>
+    ensures text { Passes outgoing.old.text.items (W.written writer.old) outgoing.new.text.items (W.written writer.new) result }
+    ensures writes { W.failed writer.new ≡ unwritten_by result (W.failed writer.old) }
+{
+    if made.is_err() {
+        return Err(ScriptFault::Memory);
+    }
+    if let Err(_) = outgoing.add(line.as_slice()) {
+        return Err(ScriptFault::Memory);
+    }
+    match outgoing.make_way(writer, false) {
+        Ok(()) => Ok(()),
+        Err(_) => Err(ScriptFault::Write),
+    }
+}
+
+// The lines of what was accepted.
+fn write_all_accepted<W: ByteOut>(
+    world: &World,
+    producers: u32,
+    line: &mut Vec<u8>,
+    outgoing: &mut Outgoing,
+    writer: &mut W,
+) -> Result<(), ScriptFault>
+    ensures text { Passes outgoing.old.text.items (W.written writer.old) outgoing.new.text.items (W.written writer.new) result }
+    ensures writes { W.failed writer.new ≡ unwritten_by result (W.failed writer.old) }
+{
+    'producers: for producer in 0..producers {
+        let made = make_accepted(line, producer, world.accepted(producer).len() as u64);
+        if let Err(fault) = pass_on(made, line, outgoing, writer) {
+            return Err(fault);
+        }
+    }
+    Ok(())
+}
+
+// The lines of the writes that were applied.
+fn write_all_applied<W: ByteOut>(
+    world: &World,
+    line: &mut Vec<u8>,
+    outgoing: &mut Outgoing,
+    writer: &mut W,
+) -> Result<(), ScriptFault>
+    ensures text { Passes outgoing.old.text.items (W.written writer.old) outgoing.new.text.items (W.written writer.new) result }
+    ensures writes { W.failed writer.new ≡ unwritten_by result (W.failed writer.old) }
+{
+    let keys = match world.keys() {
+        Ok(keys) => keys,
+        Err(_) => return Err(ScriptFault::Memory),
+    };
+    write_of_all(world, keys.as_slice(), line, outgoing, writer)
+}
+
+// The lines of the writes that were applied to these documents.
+fn write_of_all<W: ByteOut>(
+    world: &World,
+    keys: &[DocKey],
+    line: &mut Vec<u8>,
+    outgoing: &mut Outgoing,
+    writer: &mut W,
+) -> Result<(), ScriptFault>
+    ensures text { Passes outgoing.old.text.items (W.written writer.old) outgoing.new.text.items (W.written writer.new) result }
+    ensures writes { W.failed writer.new ≡ unwritten_by result (W.failed writer.old) }
+{
+    'keys: for key in keys {
+        let applied = world.applied(key);
+        let names = world.names(key);
+        if let Err(fault) = write_applied(applied, names, line, outgoing, writer) {
+            return Err(fault);
+        }
+    }
+    Ok(())
+}
+
+// The lines of the writes that were applied to a document.
+fn write_applied<W: ByteOut>(
+    applied: &[Write],
+    names: &[OpName],
+    line: &mut Vec<u8>,
+    outgoing: &mut Outgoing,
+    writer: &mut W,
+) -> Result<(), ScriptFault>
+    ensures text { Passes outgoing.old.text.items (W.written writer.old) outgoing.new.text.items (W.written writer.new) result }
+    ensures writes { W.failed writer.new ≡ unwritten_by result (W.failed writer.old) }
+{
+    'writes: for (write, name) in applied.iter().zip(names) {
+        let made = make_applied(line, write, *name);
+        if let Err(fault) = pass_on(made, line, outgoing, writer) {
+            return Err(fault);
+        }
+    }
+    Ok(())
+}
+
+// The lines of all reports.
+fn write_all_reports<W: ByteOut>(
+    world: &World,
+    lanes: u32,
+    line: &mut Vec<u8>,
+    outgoing: &mut Outgoing,
+    writer: &mut W,
+) -> Result<(), ScriptFault>
+    ensures text { Passes outgoing.old.text.items (W.written writer.old) outgoing.new.text.items (W.written writer.new) result }
+    ensures writes { W.failed writer.new ≡ unwritten_by result (W.failed writer.old) }
+{
+    'lanes: for lane in 0..lanes {
+        let reports = world.reports(lane);
+        if let Err(fault) = write_reports(lane, reports, line, outgoing, writer) {
+            return Err(fault);
+        }
+    }
+    Ok(())
+}
+
+// The lines of what a lane reported.
+fn write_reports<W: ByteOut>(
+    lane: u32,
+    reports: &[Report],
+    line: &mut Vec<u8>,
+    outgoing: &mut Outgoing,
+    writer: &mut W,
+) -> Result<(), ScriptFault>
+    ensures text { Passes outgoing.old.text.items (W.written writer.old) outgoing.new.text.items (W.written writer.new) result }
+    ensures writes { W.failed writer.new ≡ unwritten_by result (W.failed writer.old) }
+{
+    'reports: for report in reports {
+        let made = make_report(line, lane, report);
+        if let Err(fault) = pass_on(made, line, outgoing, writer) {
+            return Err(fault);
+        }
+    }
+    Ok(())
+}
+
+// Makes the line that says how many operations of a producer were accepted.
+fn make_accepted(line: &mut Vec<u8>, producer: u32, count: u64) -> Result<(), AllocError> {
+    line.clear();
+    line.extend_from_slice(b"accepted")?;
+    add_spaced(line, producer as u64)?;
+    add_spaced(line, count)?;
+    line.extend_from_slice(b"\n")
+}
+
+// Makes the line of a write that was applied, with the name of its operation.
+fn make_applied(line: &mut Vec<u8>, write: &Write, name: OpName) -> Result<(), AllocError> {
+    line.clear();
+    line.extend_from_slice(b"applied ")?;
+    add_document(line, &write.key)?;
+    add_spaced(line, write.version)?;
+    line.extend_from_slice(b" ")?;
+    add_name(line, name)?;
+    line.extend_from_slice(b"\n")
+}
+
+// Makes the line of a report of a lane.
+fn make_report(line: &mut Vec<u8>, lane: u32, report: &Report) -> Result<(), AllocError> {
+    line.clear();
+    line.extend_from_slice(b"report ")?;
+    add_number(line, lane as u64)?;
+    line.extend_from_slice(b" ")?;
+    add_name(line, report.name)?;
+    line.extend_from_slice(b" ")?;
+    add_document(line, &report.key)?;
+    line.extend_from_slice(b" ")?;
+    add_cause(line, &report.cause)?;
+    line.extend_from_slice(b"\n")
+}
+
+// Adds the cause of a report.
+fn add_cause(line: &mut Vec<u8>, cause: &Cause) -> Result<(), AllocError> {
+    match cause {
+        Cause::Refused { status, kind } => {
+            line.extend_from_slice(b"Refused")?;
+            add_spaced(line, *status as u64)?;
+            line.extend_from_slice(b" ")?;
+            line.extend_from_slice(kind.as_str().as_bytes())
+        }
+        Cause::Request { status } => {
+            line.extend_from_slice(b"Request")?;
+            add_spaced(line, *status as u64)
+        }
+        Cause::Conflict => line.extend_from_slice(b"Conflict"),
+        Cause::GaveUp { sends } => {
+            line.extend_from_slice(b"GaveUp")?;
+            add_spaced(line, *sends as u64)
+        }
+        Cause::Spent => line.extend_from_slice(b"Spent"),
+    }
+}
+
+// Makes the line that says whether all is finished.
+fn make_finished(line: &mut Vec<u8>, finished: bool) -> Result<(), AllocError> {
+    line.clear();
+    if finished {
+        line.extend_from_slice(b"finished yes\n")
+    } else {
+        line.extend_from_slice(b"finished no\n")
+    }
+}

@@ -1,0 +1,61 @@
+//! Numbers of a line.
+ghost use Rattle.std.specs.Prelude.{◌≡◌, ℕ, List, [], ◌∷◌, ◌++◌, IfSome, IfNone, IfOk, IfErr, OnOk};
+ghost use Rattle.relay_script.specs.Numbers.{AreNumbers, IsNumber, IsNumbersFault, IsWordFault};
+
+use crate::event_line::LineFault;
+use crate::words::cut;
+use std::alloc::Global;
+
+/// The number that decimal digits are, without a sign. `None`: the word is no such number of 64 bits.
+pub fn number_of(word: &str) -> Option<u64>
+    ensures some { IfSome result (IsNumber word.now) }
+    ensures none { IfNone result ((n : ℕ) → IsNumber word.now n → ⊥) }
+{
+    if word.as_bytes().first() == Some(&b'+') {
+        return None;
+    }
+    word.parse::<u64>().ok()
+}
+
+// Puts the number that a word is at the end of a list.
+fn push_number(numbers: &mut Vec<u64>, word: &str) -> Result<(), LineFault>
+    ensures ok { OnOk result ((n : ℕ) × IsNumber word.now n × (numbers.new.items ≡ numbers.old.items ++ n ∷ [])) }
+    ensures err { IfErr result (IsWordFault word.now) }
+{
+    let Some(number) = number_of(word) else {
+        return Err(LineFault::Bad);
+    };
+    match numbers.push(number) {
+        Ok(()) => Ok(()),
+        Err(_) => Err(LineFault::Memory),
+    }
+}
+
+/// The numbers of a text, one or more, with a space between each two. `Bad`: it has another form. `Memory`:
+/// there was no memory for them.
+pub fn numbers_of(alloc: Global, text: &str) -> Result<Vec<u64>, LineFault>
+    ensures ok { IfOk result (λ v. AreNumbers text.now v.items) }
+    ensures err { IfErr result (IsNumbersFault text.now) }
+{
+    let mut numbers = Vec::new(alloc);
+    match push_numbers(&mut numbers, text) {
+        Ok(()) => Ok(numbers),
+        Err(fault) => Err(fault),
+    }
+}
+
+// Puts the numbers of a text into an empty list.
+fn push_numbers(numbers: &mut Vec<u64>, text: &str) -> Result<(), LineFault>
+    requires { numbers.old.items ≡ [] }
+    ensures ok { OnOk result (AreNumbers text.now numbers.new.items) }
+    ensures err { IfErr result (IsNumbersFault text.now) }
+{
+    let mut rest = text;
+    'words: while let Some((word, later)) = cut(rest) {
+        if let Err(fault) = push_number(numbers, word) {
+            return Err(fault);
+        }
+        rest = later;
+    }
+    push_number(numbers, rest)
+}

@@ -1,0 +1,7 @@
+//! Tests of relay_script.
+#![tactic(auto)]
+
+#[cfg(test)]
+mod lines;
+#[cfg(test)]
+mod scripts;

@@ -1,0 +1,387 @@
+"""Random scripts for `relay world`: `python3 tests/world_scripts.py PROGRAM COUNT [SEED]`.
+
+A seed gives a config, and then events, each of which is chosen with a view to what the answers before it said. What was
+answered and what stands at the end is judged by what came of it alone: which puts were accepted, which items were sent
+and run, and what was answered. Nothing here knows how a lane works.
+"""
+import random
+import subprocess
+import sys
+import time
+
+LAST = 9000000000000000000
+
+
+def lane_of(index, identity, lanes):
+    """FNV-1a with 64 bits."""
+    state = 14695981039346656037
+    for byte in index.encode() + b"\xff" + identity.encode():
+        state = (state ^ byte) * 1099511628211 % 2**64
+    return state % lanes
+
+
+class Wrong(Exception):
+    pass
+
+
+def expect(right, *what):
+    if not right:
+        raise Wrong(*what)
+
+
+class Script:
+    """A script at work: the program beside it, and what its answers have told."""
+
+    def __init__(self, relay, seed):
+        self.random = random.Random(seed)
+        pick = self.random.choice
+        self.lanes, self.producers = pick((1, 1, 2, 3, 8)), pick((1, 2, 3, 16))
+        self.capacity, self.held = pick((1, 2, 5, 100, 65536)), pick((1, 2, 5, 100, 65536))
+        self.attempts, self.first = pick((1, 2, 3, 3, 32)), pick((1, 1, 1, 77, 2**56, LAST, LAST - 2, LAST - 5))
+        self.config = [self.lanes, self.producers, self.capacity, self.held, pick((1, 2, 3, 10000)), pick((1024, 1100, 16777216)), pick((0, 0, 1, 3, 65535)), self.attempts, 1, self.first]
+        names = ["a", "b-2", "\u00fc"][: pick((1, 1, 3))]
+        self.documents = [(pick(names), str(n)) for n in range(pick((1, 2, 4, 30)))]
+        self.faults = pick((0, 0.1, 0.5))
+        self.text, self.said = [], []
+        self.process = subprocess.Popen([relay, "world"], stdin=subprocess.PIPE, stdout=subprocess.PIPE, stderr=subprocess.PIPE)
+        self.write("world " + " ".join(map(str, self.config)))
+        self.accepted = [[] for _ in range(self.producers)]  # the document and the action of each put
+        self.queues = [[] for _ in range(self.lanes)]  # `put`, `tick`, `flush` or `done`
+        self.closed = set()  # pairs of a sender and a lane
+        self.requests = []  # of each its lane, its items, the runs of each, and whether it was answered
+        self.taken, self.settled = [0] * self.lanes, [0] * self.lanes  # of each lane how many puts it took, and how many of them ended
+        self.whole = []  # a request and the status that it was answered with
+        self.index, self.applied = {}, {}  # by document: the version that is stored, and the versions and statuses that were applied
+
+    def write(self, line):
+        self.text.append(line)
+        self.process.stdin.write(line.encode() + b"\n")
+
+    def ask(self, line):
+        """The words of the answer to an event."""
+        self.write(line)
+        self.process.stdin.flush()
+        answer = self.process.stdout.readline().decode()
+        self.said.append(answer)
+        return answer.split()
+
+    # Events, each with what follows from its answer.
+
+    def put(self):
+        producer, document = self.random.randrange(self.producers), self.random.choice(self.documents)
+        action = self.random.choice(("delete", "index {\"n\": %d}" % len(self.text)))
+        words = self.ask("put %d %s %s %s" % (producer, *document, action))
+        lane = lane_of(*document, self.lanes)
+        if any((producer, other) in self.closed for other in range(self.lanes)):
+            expect(words == ["no", "Closed"], words)
+        elif len(self.queues[lane]) >= self.capacity:
+            expect(words == ["no", "QueueFull"], words)
+        else:
+            self.accepted[producer].append((document, action))
+            expect(words == ["ok", "%d:%d" % (producer, len(self.accepted[producer]))], words)
+            self.queues[lane].append("put")
+
+    def post(self, line, lane, kind, sender):
+        words = self.ask(line)
+        closed = (sender, lane) in self.closed if kind == "done" else any((sender, other) in self.closed for other in range(self.lanes))
+        if closed:
+            expect(words == ["no", "Closed"], words)
+        elif len(self.queues[lane]) >= self.capacity:
+            expect(words == ["no", "QueueFull"], words)
+        else:
+            expect(words == ["ok"], words)
+            self.queues[lane].append(kind)
+            if kind == "done":
+                self.closed.add((sender, lane))
+        return words == ["ok"]
+
+    def close(self, sender, lane):
+        return self.post("close %d %d" % (sender, lane), lane, "done", sender)
+
+    def control(self, kind, lane):
+        return self.post("%s %d" % (kind, lane), lane, kind, self.producers)
+
+    def take(self, lane):
+        words = self.ask("take %d" % lane)
+        if not self.queues[lane]:
+            expect(words == ["no", "NothingQueued"], words)
+        elif words == ["ok"]:
+            if self.queues[lane].pop(0) == "put":
+                self.taken[lane] += 1
+                if self.first + self.taken[lane] - 1 > LAST:
+                    self.settled[lane] += 1
+        else:
+            expect(words == ["no", "HeldFull"] and self.queues[lane][0] == "put" and self.holds(lane) == self.held, words)
+        return words == ["ok"]
+
+    def holds(self, lane):
+        return self.taken[lane] - self.settled[lane]
+
+    def send(self, lane):
+        words = self.ask("send %d" % lane)
+        if words[0] == "no":
+            expect(words == ["no", "NoRequest"], words)
+            return None
+        expect(words[:2] == ["ok", str(len(self.requests) + 1)] and len(words) > 2, words)
+        items = [tuple(word.rsplit("@", 1)) for word in words[2:]]
+        documents = [document for document, _ in items]
+        expect(len(set(documents)) == len(items), "a document twice", words)
+        for document in documents:
+            expect(lane_of(*document.split("/"), self.lanes) == lane, "another lane's document", words)
+        expect(all(request["answered"] for request in self.requests if request["lane"] == lane), "two in flight", words)
+        self.requests.append({"lane": lane, "items": [(document, int(version)) for document, version in items], "runs": [[] for _ in items], "answered": False})
+        return len(self.requests)
+
+    def run(self, request, item, status=None):
+        words = self.ask("run %d %d%s" % (request, item, "" if status is None else " %d" % status))
+        if not (1 <= request <= len(self.requests) and 1 <= item <= len(self.requests[request - 1]["items"])):
+            expect(words == ["no", "NotSent"], words)
+            return
+        if status is not None and not (400 <= status <= 599 and status not in (404, 409)):
+            expect(words == ["no", "BadStatus"], words)
+            return
+        if status is None:
+            status = self.ran(*self.requests[request - 1]["items"][item - 1])
+        expect(words[0] == "ok" and int(words[1]) in (status if isinstance(status, tuple) else (status,)), words, status)
+        self.requests[request - 1]["runs"][item - 1].append(int(words[1]))
+        if int(words[1]) in (200, 201, 404):
+            document, version = self.requests[request - 1]["items"][item - 1]
+            self.index[document] = version
+            self.applied.setdefault(document, []).append((version, int(words[1])))
+
+    def ran(self, document, version):
+        """The statuses that a run may have, by what is stored of its document."""
+        if self.index.get(document, -1) >= version:
+            return 409
+        return (200, 201, 404)
+
+    def answer(self, line, request, settled, whole=None):
+        words = self.ask(line)
+        if not 1 <= request <= len(self.requests):
+            expect(words == ["no", "NotSent"], words)
+        elif self.requests[request - 1]["answered"]:
+            expect(words == ["no", "NotFlying"], words)
+        elif settled is not None:
+            expect(words == ["no", settled], words)
+        else:
+            expect(words[0] == "ok" and len(words) == 5, words)
+            counts = list(map(int, words[1:]))
+            entry = self.requests[request - 1]
+            expect(sum(counts) == len(entry["items"]), "counts", words)
+            expect(whole is None or counts[:2] == [0, 0], "applied without an entry", words)
+            entry["answered"] = True
+            self.settled[entry["lane"]] += sum(counts[:3])
+            if whole:
+                self.whole.append((request, whole))
+
+    def reply(self, request, picks=()):
+        runs = self.requests[request - 1]["runs"] if 1 <= request <= len(self.requests) else []
+        right = (not picks and all(runs)) or (len(picks) == len(runs) and all(1 <= pick <= len(run) for pick, run in zip(picks, runs)))
+        self.answer("reply %d%s" % (request, "".join(" %d" % pick for pick in picks)), request, None if right else "NotRun")
+
+    def answered_whole(self, request, status):
+        self.answer("whole %d %d" % (request, status), request, None if 201 <= status <= 599 else "BadStatus", status)
+
+    def lost(self, request):
+        self.answer("lost %d" % request, request, None, 0)
+
+    # Which events come.
+
+    def any_request(self):
+        """The number of a request, often of one in flight, seldom of none."""
+        flying = [number for number, request in enumerate(self.requests, 1) if not request["answered"]]
+        roll = self.random.random()
+        if flying and roll < 0.6:
+            return self.random.choice(flying)
+        return max(0, len(self.requests) - int(self.random.expovariate(0.5))) if roll < 0.98 else self.random.choice((0, len(self.requests) + 1, 2**64 - 1))
+
+    def any_event(self):
+        roll, lane = self.random.random(), self.random.randrange(self.lanes)
+        if roll < 0.2:
+            self.put()
+        elif roll < 0.4:
+            self.take(lane)
+        elif roll < 0.55:
+            self.send(lane)
+        elif roll < 0.75:
+            request = self.any_request()
+            items = len(self.requests[request - 1]["items"]) if 1 <= request <= len(self.requests) else 1
+            item = self.random.randint(1, items) if self.random.random() < 0.95 else self.random.choice((0, items + 1))
+            self.run(request, item, None if self.random.random() < 0.7 else self.random.choice((429, 429, 503, 400, 400, 500, 599, 399, 404, 409, 600)))
+        elif roll < 0.85:
+            self.reply_some()
+        elif roll < 0.88:
+            self.lost(self.any_request())
+        elif roll < 0.91:
+            self.answered_whole(self.any_request(), self.random.choice((503, 429, 502, 504, 401, 413, 201, 599, 200, 600, 403, 500)))
+        elif roll < 0.97:
+            self.control("tick", lane)
+        elif roll < 0.985:
+            self.control("flush", lane)
+        elif roll < 0.99:
+            self.close(self.random.randrange(self.producers + 1), lane)
+
+    def reply_some(self):
+        request = self.any_request()
+        if not 1 <= request <= len(self.requests):
+            return self.reply(request)
+        for item, runs in enumerate(self.requests[request - 1]["runs"], 1):
+            if not runs and self.random.random() < 0.9:
+                self.run(request, item, None if self.random.random() < 0.8 else self.random.choice((429, 503, 400)))
+        runs = self.requests[request - 1]["runs"]
+        if self.random.random() < 0.3:
+            return self.reply(request, [self.random.randint(1, max(1, len(run))) for run in runs])
+        self.reply(request)
+
+    def finish(self):
+        """Works until nothing is held, and closes all that is still open. The control closes last, since an operation that
+        was not settled may have to wait for ticks. A lane that is full before a full queue stands still, since no tick
+        comes through."""
+        for lane in range(self.lanes):
+            for _ in range(300):
+                self.work(lane)
+                if not self.queues[lane] and not self.holds(lane):
+                    break
+                if not self.control("flush" if self.random.random() < 0.2 else "tick", lane) and self.holds(lane) == self.held:
+                    break
+        for lane in range(self.lanes):
+            for sender in range(self.producers + 1):
+                if (sender, lane) not in self.closed and not self.close(sender, lane):
+                    self.work(lane)
+                    self.close(sender, lane)
+            self.work(lane)
+
+    def work(self, lane):
+        """A lane takes what it can, and sends, runs and is answered, mostly without a fault."""
+        while self.queues[lane] and self.take(lane):
+            pass
+        flying = [number for number, request in enumerate(self.requests, 1) if request["lane"] == lane and not request["answered"]]
+        for request in flying + [self.send(lane)]:
+            if request:
+                for item in range(1, len(self.requests[request - 1]["items"]) + 1):
+                    self.run(request, item, 429 if self.random.random() < self.faults else None)
+                if self.random.random() < self.faults:
+                    self.lost(request)
+                else:
+                    self.reply(request)
+
+    def play(self):
+        for _ in range(self.random.choice((5, 30, 60, 120))):
+            self.any_event()
+        if self.random.random() < 0.6:
+            self.finish()
+        self.process.stdin.close()
+        self.end = self.process.stdout.read().decode()
+        error = self.process.stderr.read()
+        expect((self.process.wait(), error) == (0, b""), self.process.returncode, error)
+        self.process.stdout.close()
+        self.process.stderr.close()
+        self.judge([line.split(" ") for line in self.end.splitlines()])
+
+    # What stands at the end.
+
+    def judge(self, lines):
+        expect([words for words in lines if words[0] == "accepted"] == [["accepted", str(p), str(len(ops))] for p, ops in enumerate(self.accepted)], "accepted", lines)
+        named = self.attribution([words[1:] for words in lines if words[0] == "applied"])
+        reported = self.reported([words[1:] for words in lines if words[0] == "report"])
+        expect(len(lines) == self.producers + sum(map(len, self.applied.values())) + len(reported) + 1, "lines", lines)
+        closed = len(self.closed) == self.lanes * (self.producers + 1)
+        done = closed and not any(self.queues) and not any(map(self.holds, range(self.lanes)))
+        expect(lines[-1] == ["finished", "yes" if done else "no"], "finished", lines[-1])
+        if done:
+            for producer, ops in enumerate(self.accepted):
+                for number in range(1, len(ops) + 1):
+                    expect((producer, number) in named or (producer, number) in reported, "neither applied nor reported", producer, number)
+
+    def operation(self, name, document):
+        """An operation that was accepted, by its name, and its action."""
+        producer, number = map(int, name.split(":"))
+        expect(producer < self.producers and 1 <= number <= len(self.accepted[producer]), "not accepted", name)
+        of, action = self.accepted[producer][number - 1]
+        expect("/".join(of) == document, "of another document", name)
+        return (producer, number), action
+
+    def attribution(self, lines):
+        """The names are those of distinct operations, one for each write that was applied, with its action, in producer order."""
+        named, last, versions, live = set(), {}, {}, set()
+        expect([words[0] for words in lines] == sorted((words[0] for words in lines), key=lambda d: [part.encode() for part in d.split("/")]), "order of documents")
+        for document, version, name in lines:
+            operation, action = self.operation(name, document)
+            expect(operation not in named, "named twice", name)
+            named.add(operation)
+            expect(last.get((document, operation[0]), 0) < operation[1], "not in producer order", name)
+            last[document, operation[0]] = operation[1]
+            place = versions.setdefault(document, [])
+            place.append(int(version))
+            expect(len(place) <= len(self.applied.get(document, [])), "applied and never run", document)
+            status = (201 if document not in live else 200) if action != "delete" else (200 if document in live else 404)
+            expect(self.applied[document][len(place) - 1] == (int(version), status), "not what was run", document, version, status)
+            live.add(document) if action != "delete" else live.discard(document)
+        expect({d: len(v) for d, v in self.applied.items()} == {d: len(v) for d, v in versions.items()}, "run and not applied")
+        return named
+
+    def reported(self, lines):
+        """Each report is on an accepted operation, none on one twice, and something that happened is its cause."""
+        reported, order = set(), [int(words[0]) for words in lines]
+        expect(order == sorted(order), "order of lanes")
+        for lane, name, document, cause, *more in lines:
+            operation, _ = self.operation(name, document)
+            expect(operation not in reported, "reported twice", name)
+            reported.add(operation)
+            expect(lane_of(*document.split("/"), self.lanes) == int(lane), "another lane's report", name)
+            sent = [(number, place) for number, request in enumerate(self.requests, 1) for place, item in enumerate(request["items"]) if item[0] == document]
+            runs = [status for number, place in sent for status in self.requests[number - 1]["runs"][place]]
+            expect(
+                {
+                    "Refused": lambda: len(more) == 2 and int(more[0]) in runs and more[1] == "scripted_refusal",
+                    "Request": lambda: len(more) == 1 and any((number, int(more[0])) in self.whole for number, _ in sent),
+                    "Conflict": lambda: not more and 409 in runs,
+                    "GaveUp": lambda: len(more) == 1 and self.attempts <= int(more[0]) <= len(sent),
+                    "Spent": lambda: not more and self.taken[int(lane)] > LAST - self.first + 1,
+                }[cause](),
+                "cause",
+                name,
+                cause,
+                more,
+            )
+        return reported
+
+
+def play(relay, seed):
+    script = Script(relay, seed)
+    try:
+        script.play()
+        if seed % 10 == 0:
+            text = "\n".join(script.text).encode()
+            again = subprocess.run([relay, "world"], input=text, capture_output=True, timeout=60)
+            expect(again.stdout.decode() == "".join(script.said) + script.end and again.returncode == 0, "another answer to the whole text at once")
+        return len(script.text)
+    except Exception as wrong:
+        script.process.kill()
+        script.process.wait()
+        raise Wrong("seed %d, line %d" % (seed, len(script.text)), script.text[-1], *wrong.args) from wrong
+
+
+def play_all(relay, count, first=0):
+    """Plays so many scripts; how many events they had, and what was wrong with them."""
+    events, failures = 0, []
+    for seed in range(first, first + count):
+        try:
+            events += play(relay, seed)
+        except Wrong as wrong:
+            failures.append(wrong)
+    return events, failures
+
+
+def main():
+    started = time.monotonic()
+    count, first = int(sys.argv[2]), int(sys.argv[3]) if len(sys.argv) > 3 else 0
+    events, failures = play_all(sys.argv[1], count, first)
+    for failure in failures[:20]:
+        print("FAILED:", failure)
+    print("%d scripts, %d lines, %d failed, %.1f s" % (count, events, len(failures), time.monotonic() - started))
+    sys.exit(bool(failures))
+
+
+if __name__ == "__main__":
+    main()
