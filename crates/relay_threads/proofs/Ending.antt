@@ -1,0 +1,44 @@
+-- How a lane ends.
+use Rattle.std.proofs.Common.{◌≡◌, ◌≢◌, ℕ, ◌+◌, ◌<◌, List, [], ◌++◌, Bool, true, sym, ap, ◌∙◌, subst, arith, length}
+use Rattle.std.specs.List.{list_all}
+use Rattle.relay_action.specs.declared.mail.Mail.{Mail}
+use Rattle.relay_results.specs.Outside.{Outside}
+use Rattle.relay_queue.specs.Sent.{mail_of, HasDone}
+use Rattle.relay_core.specs.declared.config.RelayConfig.{RelayConfig}
+use Rattle.relay_core.specs.State.{State, all_closed}
+use Rattle.relay_threads.specs.declared.lane_end.LaneEndKind.{LaneEndKind}
+use Rattle.relay_threads.specs.declared.lane_end.LaneEndKind.TheVariants.{Finished}
+use Rattle.relay_threads.specs.Course.{Heard, Course, EndsAs}
+use Rattle.relay_threads.specs.Steps.{KeepsOn}
+use Rattle.relay_threads.proofs.Hearing.{heard_all, all_done, done_more}
+use Rattle.relay_threads.proofs.Keeping.{course_on}
+
+module _ {S : Type 0} (d : Bool) (fits : S → Outside → Type 0) where
+  -- it stopped early
+  pub ends_early : (start w : S) (c : RelayConfig) (taken : List Mail) (kind : LaneEndKind) (s : State) → kind ≢ Finished → ((heard : List Mail) × Heard kind taken heard × Course d fits start w c heard s) → EndsAs d fits start w c taken kind s
+  ends_early start w c taken kind s early x = record {
+    messages = x.0;
+    heard = x.1;
+    course = x.2;
+    closed = λ f. absurd (early f);
+    none_held = λ f. absurd (early f);
+  }
+
+  -- it drained
+  pub ends_drained : (start v w : S) (c : RelayConfig) (taken : List Mail) (kind : LaneEndKind) (s t : State) (e : Bool) → e ≡ d → Course d fits start v c taken s → KeepsOn e fits v w s t taken taken
+      → all_closed s ≡ true → t.closed ≡ s.closed → (kind ≡ Finished → t.core.held ≡ []) → EndsAs d fits start w c taken kind t
+  ends_drained start v w c taken kind s t e same k x closed stays none = record {
+    messages = taken;
+    heard = heard_all kind taken;
+    course = course_on d e fits start v w c s t taken taken same k x;
+    closed = λ f. ap (list_all (λ (b : Bool). b)) stays ∙ closed;
+    none_held = none;
+  }
+
+  -- where it finished, it took each sender's Done
+  pub all_closed_there : (start w : S) (c : RelayConfig) (taken : List Mail) (kind : LaneEndKind) (s : State) (senders : ℕ) → EndsAs d fits start w c taken kind s → senders ≡ c.producers + 1 → kind ≡ Finished
+      → (sender : ℕ) → sender < senders → HasDone (mail_of sender taken)
+  all_closed_there start w c taken kind s senders x count f sender lt =
+      let k = x.course.senders in
+      let within : sender < length s.closed = omega (arith, count, lt, k) in
+      subst (λ l. HasDone (mail_of sender l)) (sym x.heard.all) (done_more sender x.messages x.heard.missed (all_done s.closed x.messages sender x.course.closed within (x.closed f)))

@@ -1,0 +1,117 @@
+-- The course of a lane goes on while it works and takes.
+use Rattle.std.proofs.Common.{◌≡◌, ℕ, ◌+◌, List, [], ◌∷◌, ◌++◌, Bool, true, IsTrue, Result, Ok, Err, OnOk, OnErr, refl, sym, ap, ◌∙◌, subst, arith, length, length-append}
+use Rattle.std.proofs.lemmas.List.{length-replicate}
+use Rattle.relay_action.specs.declared.mail.Mail.{Mail}
+use Rattle.relay_results.specs.Outside.{Outside}
+use Rattle.relay_results.proofs.Steps.{continues_itself, continues_on}
+use Rattle.relay_core.specs.declared.config.RelayConfig.{RelayConfig}
+use Rattle.relay_core.specs.State.{State, fresh, flushed, after_take}
+use Rattle.relay_core.specs.Ties.{Fits, ops_of}
+use Rattle.relay_core.proofs.Tying.{fresh_fits, take_fits}
+use Rattle.relay_lane.specs.Rest.{IsAtRest}
+use Rattle.relay_lane.specs.Turns.{Worked, Stays}
+use Rattle.relay_lane.specs.Delivers.{GoesOn, Delivers}
+use Rattle.relay_lane.proofs.Carrying.{goes_on}
+use Rattle.relay_lane.proofs.Resting.{fresh_rests, take_rests}
+use Rattle.relay_threads.specs.Course.{puts_of, KnowsClosed, DeliversFrom, Course}
+use Rattle.relay_threads.specs.Steps.{Takes, KeepsOn}
+use Rattle.relay_threads.proofs.Totals.{worked_totals, take_totals, take_counts}
+use Rattle.relay_threads.proofs.Hearing.{puts_push, knows_take, none_known, take_senders, take_config}
+
+module _ {S : Type 0} (d : Bool) (fits : S → Outside → Type 0) where
+  -- ---- at the start
+
+  pub begins : (w : S) (c : RelayConfig) → Course d fits w w c [] (fresh c)
+  begins w c = record {
+    config = refl;
+    taken = refl;
+    senders = length-replicate (c.producers + 1) _;
+    closed = none_known (c.producers + 1) [];
+    rest = fresh_rests c;
+    totals = refl;
+    delivers = λ is o f opening below. goes_on fits w (fresh c) [] o o f (continues_itself o) (fresh_fits c o opening below);
+  }
+
+  pub begins_as : (w : S) (c : RelayConfig) (heard : List Mail) (s : State) → heard ≡ [] → s ≡ fresh c → Course d fits w w c heard s
+  begins_as w c heard s none is = subst (λ (z : List Mail × State). Course d fits w w c z.0 z.1) (λ i. (sym none i, sym is i)) (begins w c)
+
+  -- ---- nothing happens
+
+  pub stays_put : (w : S) (s : State) (heard : List Mail) → KeepsOn d fits w w s s heard heard
+  stays_put w s heard start c k = k
+
+  pub stays_as : (v w : S) (s t : State) (heard : List Mail) → w ≡ v → t ≡ s → KeepsOn d fits v w s t heard heard
+  stays_as v w s t heard same is start c k = subst (λ (z : S × State). Course d fits start z.0 c heard z.1) (λ i. (sym same i, sym is i)) k
+
+  -- ---- it works
+
+  -- what was delivered until now goes on over requests
+  further : (start v w : S) (s t : State) (c : RelayConfig) (heard : List Mail) → Delivers d fits v w s t → DeliversFrom d fits start v c heard s → DeliversFrom d fits start w c heard t
+  further start v w s t c heard new old is o f opening below =
+      let x = old is o f opening below in
+      let y = new is (puts_of heard) x.outside x.fitting x.lane in
+      goes_on fits w t (puts_of heard) o y.outside y.fitting (continues_on o x.outside y.outside x.continues y.continues) y.lane
+
+  pub works : (going : State → Bool) (v w : S) (s t : State) (heard : List Mail) → Worked going s t → Stays s t → IsAtRest t → Delivers d fits v w s t → KeepsOn d fits v w s t heard heard
+  works going v w s t heard worked stays rest delivers start c k = record {
+    config = stays.config ∙ k.config;
+    taken = stays.taken ∙ k.taken;
+    senders = ap length stays.closed ∙ k.senders;
+    closed = subst (λ l. KnowsClosed l heard) (sym stays.closed) k.closed;
+    rest = rest;
+    totals = worked_totals going s t worked k.totals;
+    delivers = further start v w s t c heard delivers k.delivers;
+  }
+
+  -- the same after a flush
+  pub works_flushed : (going : State → Bool) (v w : S) (s t : State) (heard : List Mail) → Worked going (flushed s) t → Stays s t → IsAtRest t → Delivers d fits v w s t → KeepsOn d fits v w s t heard heard
+  works_flushed going v w s t heard worked stays rest delivers start c k = record {
+    config = stays.config ∙ k.config;
+    taken = stays.taken ∙ k.taken;
+    senders = ap length stays.closed ∙ k.senders;
+    closed = subst (λ l. KnowsClosed l heard) (sym stays.closed) k.closed;
+    rest = rest;
+    totals = worked_totals going (flushed s) t worked k.totals;
+    delivers = further start v w s t c heard delivers k.delivers;
+  }
+
+  -- ---- it takes
+
+  heard_more : (start w : S) (s : State) (c : RelayConfig) (heard : List Mail) (m : Mail) → DeliversFrom d fits start w c heard s → DeliversFrom d fits start w c (heard ++ m ∷ []) (after_take s m.sender m.body)
+  heard_more start w s c heard m old is o f opening below =
+      let x = old is o f opening below in
+      let t = after_take s m.sender m.body in
+      let lane : Fits t (puts_of (heard ++ m ∷ [])) x.outside = subst (λ l. Fits t l x.outside) (sym (puts_push heard m)) (take_fits s m.sender m.body (puts_of heard) x.outside x.lane) in
+      goes_on fits w t (puts_of (heard ++ m ∷ [])) o x.outside x.fitting x.continues lane
+
+  hears : (start w : S) (s : State) (c : RelayConfig) (heard : List Mail) (m : Mail) → Course d fits start w c heard s → Course d fits start w c (heard ++ m ∷ []) (after_take s m.sender m.body)
+  hears start w s c heard m k =
+      let n = take_counts s m.sender m.body in
+      let p = ap length (puts_push heard m) in
+      let a = length-append (puts_of heard) (ops_of m.body) in
+      let t = k.taken in
+      record {
+        config = take_config s m.sender m.body ∙ k.config;
+        taken = omega (arith, n, p, a, t);
+        senders = take_senders s m.sender m.body ∙ k.senders;
+        closed = knows_take s heard m k.closed;
+        rest = take_rests s m.sender m.body k.rest;
+        totals = take_totals s m.sender m.body k.totals;
+        delivers = heard_more start w s c heard m k.delivers;
+      }
+
+  pub takes : (w : S) (s t : State) (old new : List Mail) → Takes s t old new → KeepsOn d fits w w s t old new
+  takes w s t old new x start c k = subst (λ (z : List Mail × State). Course d fits start w c z.0 z.1) (λ i. (sym x.taken i, sym x.reached i)) (hears start w s c old x.mail k)
+
+-- one after another
+pub keeps_on : {S : Type 0} (d e : Bool) (fits : S → Outside → Type 0) (u v w : S) (r s t : State) (a b c : List Mail) → e ≡ d → KeepsOn d fits u v r s a b → KeepsOn e fits v w s t b c → KeepsOn d fits u w r t a c
+keeps_on d e fits u v w r s t a b c same x y start g k =
+    subst (λ z. Course z fits start w g c t) same (y start g (subst (λ z. Course z fits start v g b s) (sym same) (x start g k)))
+
+-- a message that was taken, or refused, leaves a lane at rest
+pub rests_after : {A E : Type 0} (r : Result A E) (s t : State) (m : Mail) → OnOk r (t ≡ after_take s m.sender m.body) → OnErr r (t ≡ s) → IsAtRest s → IsAtRest t
+rests_after (Ok x) s t m ok err r = subst IsAtRest (sym ok) (take_rests s m.sender m.body r)
+rests_after (Err x) s t m ok err r = subst IsAtRest (sym err) r
+
+pub course_on : {S : Type 0} (d e : Bool) (fits : S → Outside → Type 0) (start v w : S) (g : RelayConfig) (s t : State) (a b : List Mail) → e ≡ d → Course d fits start v g a s → KeepsOn e fits v w s t a b → Course d fits start w g b t
+course_on d e fits start v w g s t a b same k x = subst (λ z. Course z fits start w g b t) same (x start g (subst (λ z. Course z fits start v g a s) (sym same) k))

@@ -1,0 +1,4 @@
+pub mod Totals
+pub mod Hearing
+pub mod Keeping
+pub mod Ending

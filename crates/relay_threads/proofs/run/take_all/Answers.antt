@@ -1,0 +1,34 @@
+use Rattle.std.proofs.Common.{refl, ◌∙◌}
+use Rattle.relay_threads.proofs.Keeping.{begins_as, course_on}
+use Rattle.relay_threads.proofs.run.take_all.Goals as goal
+
+pub messages-init : goal.messages-init
+messages-init g c = record {
+  queue = refl;
+  senders = refl;
+  out = c.requires.out;
+  describes = refl;
+  course = begins_as (g.W.Wire.describes c.args.wire.now) g.W.Wire.fits c.args.wire.now c.args.lane.now.config c.args.take.now.taken c.args.lane.now c.requires.none_taken c.requires.fresh;
+}
+
+pub messages-preserved : goal.messages-preserved
+messages-preserved g c =
+    let i = c.messages.invariant in
+    record {
+      queue = c.take_next.ensures.same.0 ∙ i.queue;
+      senders = c.take_next.ensures.same.1 ∙ i.senders;
+      out = c.take_next.ensures.out;
+      describes = c.take_next.ensures.describes ∙ i.describes;
+      course =
+          course_on (g.W.Wire.describes c.args.wire.now) (g.W.Wire.describes c.messages.wire) g.W.Wire.fits c.args.wire.now c.messages.wire c.take_next.new.wire c.args.lane.now.config c.messages.lane c.take_next.new.lane
+          c.messages.take.taken c.take_next.new.take.taken i.describes i.course c.in-Ok.ensures.ok;
+    }
+
+pub returns-in-Err-clause-stopped : goal.returns-in-Err-clause-stopped
+returns-in-Err-clause-stopped g c =
+    let i = c.messages.invariant in
+    let x = c.in-Err.ensures.stopped in (
+      x.0,
+      x.1,
+      course_on (g.W.Wire.describes c.args.wire.now) (g.W.Wire.describes c.messages.wire) g.W.Wire.fits c.args.wire.now c.messages.wire c.take_next.new.wire c.args.lane.now.config c.messages.lane c.take_next.new.lane c.messages.take.taken x.0 i.describes i.course x.2,
+    )

@@ -1,0 +1,50 @@
+use Rattle.relay_threads.specs.declared.lane_end.LaneEndKind.TheVariants.{Memory}
+use Rattle.relay_lane.specs.Turns.{always}
+use Rattle.relay_threads.proofs.Hearing.{heard_all}
+use Rattle.relay_threads.proofs.Keeping.{keeps_on, takes, works, stays_as}
+use Rattle.relay_threads.proofs.run.take_next.Goals as goal
+
+pub returns-then-is_err-clause-stopped : goal.returns-then-is_err-clause-stopped
+returns-then-is_err-clause-stopped g c = (c.args.take.now.taken, heard_all Memory c.args.take.now.taken, c.make_place.ensures.keeps c.args.take.now.taken)
+
+pub returns-in-Err-clause-stopped : goal.returns-in-Err-clause-stopped
+returns-in-Err-clause-stopped g c =
+    let d = g.W.Wire.describes in
+    let fits = g.W.Wire.fits in
+    let a = c.args.take.now.taken in
+    let v = c.make_place.new.wire in
+    let s = c.make_place.new.lane in (
+      a,
+      c.in-Err.ensures.heard,
+      keeps_on (d c.args.wire.now) (d v) fits c.args.wire.now v v c.args.lane.now s c.take_message.new.lane a a a c.make_place.ensures.describes (c.make_place.ensures.keeps a)
+          (stays_as (d v) fits v v s c.take_message.new.lane a (λ i. v) c.in-Err.ensures.unchanged),
+    )
+
+pub returns-in-Ok-pump-clause-ok : goal.returns-in-Ok-pump-clause-ok
+returns-in-Ok-pump-clause-ok g c =
+    let d = g.W.Wire.describes in
+    let fits = g.W.Wire.fits in
+    let a = c.args.take.now.taken in
+    let b = c.take_message.new.take.taken in
+    let v = c.make_place.new.wire in
+    let s = c.make_place.new.lane in
+    let t = c.take_message.new.lane in
+    keeps_on (d c.args.wire.now) (d v) fits c.args.wire.now v c.pump.new.wire c.args.lane.now t c.pump.new.lane a b b c.make_place.ensures.describes
+    (keeps_on (d c.args.wire.now) (d v) fits c.args.wire.now v v c.args.lane.now s t a a b c.make_place.ensures.describes (c.make_place.ensures.keeps a) (takes (d v) fits v s t a b c.in-Ok.ensures.takes))
+    (works (d v) fits always v c.pump.new.wire t c.pump.new.lane b c.pump.ensures.worked c.pump.ensures.stays c.pump.ensures.rest c.pump.ensures.delivers)
+
+pub returns-in-Err-pump-clause-stopped : goal.returns-in-Err-pump-clause-stopped
+returns-in-Err-pump-clause-stopped g c =
+    let d = g.W.Wire.describes in
+    let fits = g.W.Wire.fits in
+    let a = c.args.take.now.taken in
+    let b = c.take_message.new.take.taken in
+    let v = c.make_place.new.wire in
+    let s = c.make_place.new.lane in
+    let t = c.take_message.new.lane in (
+      b,
+      heard_all Memory b,
+      keeps_on (d c.args.wire.now) (d v) fits c.args.wire.now v c.pump.new.wire c.args.lane.now t c.pump.new.lane a b b c.make_place.ensures.describes
+          (keeps_on (d c.args.wire.now) (d v) fits c.args.wire.now v v c.args.lane.now s t a a b c.make_place.ensures.describes (c.make_place.ensures.keeps a) (takes (d v) fits v s t a b c.in-Ok.ensures.takes))
+          (works (d v) fits always v c.pump.new.wire t c.pump.new.lane b c.pump.ensures.worked c.pump.ensures.stays c.pump.ensures.rest c.pump.ensures.delivers),
+    )

@@ -1,0 +1,64 @@
+-- What a lane made of the messages of its queue.
+use Rattle.std.specs.Prelude.{◌≡◌, ◌≢◌, ◌+◌, ◌<◌, ◌≤◌, ℕ, List, [], ◌∷◌, ◌++◌, Bool, true, false, IsTrue, Some, length, slice_index_or}
+use Rattle.relay_action.specs.declared.operation.Op.{Op}
+use Rattle.relay_action.specs.declared.mail.Mail.{Mail}
+use Rattle.relay_results.specs.Words.{Mem}
+use Rattle.relay_results.specs.Documents.{Document}
+use Rattle.relay_results.specs.Outside.{Outside, IsOpening}
+use Rattle.relay_queue.specs.Sent.{mail_of, HasDone}
+use Rattle.relay_core.specs.declared.config.RelayConfig.{RelayConfig}
+use Rattle.relay_core.specs.State.{State, all_closed, is_put}
+use Rattle.relay_core.specs.Ties.{ops_of}
+use Rattle.relay_lane.specs.Rest.{IsAtRest}
+use Rattle.relay_lane.specs.Delivers.{GoesOn}
+use Rattle.relay_threads.specs.declared.lane_end.LaneEndKind.{LaneEndKind}
+use Rattle.relay_threads.specs.declared.lane_end.LaneEndKind.TheVariants.{Finished, Memory}
+
+-- the operations of messages, in their order
+abbrev pub puts_of : List Mail → List Op
+puts_of [] = []
+puts_of (m ∷ ms) = ops_of m.body ++ puts_of ms
+
+-- a sender that the lane knows to have closed sent its Done
+abbrev pub KnowsClosed : List Bool → List Mail → Type 0
+KnowsClosed closed heard = (sender : ℕ) → slice_index_or closed sender false ≡ true → HasDone (mail_of sender heard)
+
+-- Of the messages that were taken from the queue the lane heard all, but for want of memory maybe the last one, an operation.
+pub record Heard (kind : LaneEndKind) (taken heard : List Mail) : Type 0 where
+  pub missed : List Mail
+  pub all : taken ≡ heard ++ missed
+  pub most : length missed ≤ 1
+  pub puts : (m : Mail) → Mem m missed → is_put m.body ≡ true
+  pub memory : kind ≢ Memory → missed ≡ []
+
+-- each operation that was taken is held, was applied or is reported
+abbrev pub HasTotals : State → Type 0
+HasTotals s = length s.core.held + (s.core.applied + s.core.already) + length s.core.reports ≡ s.core.taken
+
+-- each version that was stored at the start is below the first one that is dealt
+abbrev pub IsBelow : ℕ → Outside → Type 0
+IsBelow first o = (k : Document) (u : ℕ) → o.stored k ≡ Some u → u < first
+
+-- from each opening that fitted the wire at the start an outside came that fits it now, and beside it delivery of what was
+-- heard is as promised, where the wire describes it
+abbrev pub DeliversFrom : {S : Type 0} → Bool → (S → Outside → Type 0) → S → S → RelayConfig → List Mail → State → Type 0
+DeliversFrom describes fits start now c heard s =
+    IsTrue describes → (o : Outside) → fits start o → IsOpening o → IsBelow c.first_version o → GoesOn fits now s (puts_of heard) o
+
+-- a lane of this config that began fresh has heard these messages, and worked on its wire
+pub record Course {S : Type 0} (describes : Bool) (fits : S → Outside → Type 0) (start now : S) (c : RelayConfig) (heard : List Mail) (s : State) : Type 0 where
+  pub config : s.config ≡ c
+  pub taken : s.core.taken ≡ length (puts_of heard)
+  pub senders : length s.closed ≡ c.producers + 1
+  pub closed : KnowsClosed s.closed heard
+  pub rest : IsAtRest s
+  pub totals : HasTotals s
+  pub delivers : DeliversFrom describes fits start now c heard s
+
+-- how it ended: what it heard of what was taken, and where it finished each sender closed and nothing is held
+pub record EndsAs {S : Type 0} (describes : Bool) (fits : S → Outside → Type 0) (start now : S) (c : RelayConfig) (taken : List Mail) (kind : LaneEndKind) (s : State) : Type 0 where
+  pub messages : List Mail
+  pub heard : Heard kind taken messages
+  pub course : Course describes fits start now c messages s
+  pub closed : kind ≡ Finished → all_closed s ≡ true
+  pub none_held : kind ≡ Finished → s.core.held ≡ []

@@ -1,0 +1,29 @@
+//! How a lane ends.
+use relay_lane::Lane;
+use relay_queue::Taken;
+
+/// How a lane ended.
+#[derive(Clone, Copy, Debug, PartialEq, Eq)]
+pub enum LaneEndKind {
+    /// Each sender's Done was taken, and nothing is held.
+    Finished,
+    /// There was no memory for an operation that was taken, which the lane does not hold then, or for a
+    /// request. What the lane holds is neither sent nor reported.
+    Memory,
+    /// The ends of all senders were dropped, and not each of them had closed. When this comes is not
+    /// promised.
+    Gone,
+}
+
+/// What a lane ended with.
+#[derive(Drop)]
+pub struct LaneEnd<W> {
+    /// How it ended.
+    pub kind: LaneEndKind,
+    /// What it took from its queue.
+    pub taken: Taken,
+    /// The lane, with what it reports and counts.
+    pub lane: Lane,
+    /// Its wire, on which no number is out.
+    pub wire: W,
+}

@@ -1,0 +1,8 @@
+//! The tests of `relay_threads`: lanes that run beside the threads of their senders, over a wire in
+//! memory that loses its first reply.
+#![tactic(auto)]
+
+#[cfg(test)]
+mod memory;
+#[cfg(test)]
+mod tests;

@@ -1,0 +1,137 @@
+//! A wire round an index in memory, which loses its first reply.
+ghost use Rattle.std.specs.Prelude.{◌≡◌, None};
+
+use relay_action::{Action, DocKey, Write};
+use relay_index::{Choice, Index};
+use relay_lane::{Pace, Wire, WireFault, WireReply};
+use relay_results::Outcome;
+use std::alloc::{AllocError, Global};
+use std::mem;
+use std::test::Fail;
+
+/// A wire that runs a request when it is sent, and loses the reply to the first one. It describes
+/// nothing.
+#[derive(Drop)]
+pub struct MemoryWire {
+    alloc: Global,
+    pub index: Index,
+    pub flying: Option<u64>,
+    reply: Vec<Outcome>,
+    /// How many requests were sent.
+    pub sends: u64,
+}
+
+/// A wire with an empty index.
+pub fn wire_of(alloc: Global) -> MemoryWire
+    ensures { result.flying ≡ None }
+{
+    MemoryWire {
+        alloc,
+        index: Index::new(alloc),
+        flying: None,
+        reply: Vec::new(alloc),
+        sends: 0,
+    }
+}
+
+// Runs each write once, in order. `AllocError`: some of them were run.
+fn run_all(alloc: Global, index: &mut Index, writes: &[Write]) -> Result<Vec<Outcome>, AllocError> {
+    let mut outcomes = Vec::with_capacity(alloc, writes.len())?;
+    for write in writes {
+        outcomes.push(index.run(write, Choice::Run)?.outcome(alloc)?)?;
+    }
+    Ok(outcomes)
+}
+
+impl Wire for MemoryWire {
+    ghost use Rattle.std.specs.Prelude.{false};
+    ghost use Rattle.std.specs.Option.{option_to_list};
+
+    ghost out = { λ w. option_to_list w.flying };
+
+    ghost describes = { λ w. false };
+
+    ghost fits = { λ w o. ⊥ };
+
+    fn send(&mut self, number: u64, writes: &[Write]) -> Result<(), WireFault> {
+        if self.flying.is_some() {
+            return Err(WireFault::Send);
+        }
+        self.sends = self.sends.saturating_add(1);
+        match run_all(self.alloc, &mut self.index, writes) {
+            Ok(entries) => self.reply = entries,
+            Err(_) => return Err(WireFault::Memory),
+        }
+        self.flying = Some(number);
+        Ok(())
+    }
+
+    fn receive(&mut self, _number: u64) -> Result<WireReply, WireFault> {
+        self.flying = None;
+        let entries = mem::replace(&mut self.reply, Vec::new(self.alloc));
+        if self.sends == 1 {
+            return Err(WireFault::Lost);
+        }
+        Ok(WireReply::Items(entries))
+    }
+}
+
+/// A pace that does not wait.
+#[derive(Clone, Copy, Drop)]
+pub struct AtOnce;
+
+impl Pace for AtOnce {
+    ghost use Rattle.std.specs.Prelude.{None};
+
+    ghost paused = { λ n. None };
+
+    fn pause(&mut self, _ticks: u64) {}
+}
+
+/// How many documents each producer writes to.
+pub const DOCUMENTS: u64 = 10;
+
+/// The document of an operation: one of the producer's own.
+pub fn key_of(alloc: Global, producer: u32, number: u64) -> Option<DocKey> {
+    let id = format!(in alloc; "{producer}-{}", number % DOCUMENTS).ok()?;
+    DocKey::new(alloc, "books", id.as_str()).ok()
+}
+
+/// What an operation does: it stores its own number.
+pub fn action_of(alloc: Global, number: u64) -> Option<Action> {
+    let source = format!(in alloc; "{number}").ok()?;
+    Action::index(alloc, source.as_str()).ok()
+}
+
+fn is_number(write: &Write, source: &str) -> bool {
+    match &write.action {
+        Action::Index(found) => found.text() == source,
+        Action::Delete => false,
+    }
+}
+
+/// Whether the index applied to each document of a producer its operations, each once and in order.
+pub fn is_as_put(alloc: Global, index: &Index, producer: u32, count: u64) -> Result<bool, Fail> {
+    let mut places = [0usize; 10];
+    for number in 1..count.saturating_add(1) {
+        let key = key_of(alloc, producer, number).ok_or("no memory")?;
+        let source = format!(in alloc; "{number}")?;
+        let place = places[(number % DOCUMENTS) as usize];
+        match index.applied(&key).get(place) {
+            Some(write) if is_number(write, source.as_str()) => {
+                places[(number % DOCUMENTS) as usize] = place.saturating_add(1);
+            }
+            _ => return Ok(false),
+        }
+    }
+    Ok(true)
+}
+
+/// How many writes an index applied.
+pub fn count_applied(alloc: Global, index: &Index) -> Result<usize, AllocError> {
+    let mut count = 0usize;
+    for key in &index.keys(alloc)? {
+        count = count.saturating_add(index.applied(key).len());
+    }
+    Ok(count)
+}

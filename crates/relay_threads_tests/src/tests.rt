@@ -1,0 +1,121 @@
+//! A lane's thread beside the threads of its senders.
+ghost use Rattle.std.specs.Prelude.{◌≡◌, ◌≢◌, ◌+◌, ◌<◌, ◌≤◌, [], None, true, IfSome};
+ghost use Rattle.relay_core.specs.Limits.{is_valid};
+
+use crate::memory::{AtOnce, MemoryWire, action_of, count_applied, is_as_put, key_of, wire_of};
+use relay_action::{Body, Op};
+use relay_batch::Limits;
+use relay_lane::{Lane, RelayConfig};
+use relay_queue::{LanePut, lane_queue};
+use relay_threads::{LaneEnd, LaneEndKind, run_lane};
+use std::alloc::{AllocError, Global};
+use std::sync::Wait;
+use std::test::Fail;
+use std::thread;
+use std::thread::Threads;
+
+/// Two producers, a queue of one place, a lane that holds four operations, and three attempts.
+const CONFIG: RelayConfig = RelayConfig {
+    lanes: 1,
+    producers: 2,
+    capacity: 1,
+    max_held: 4,
+    limits: Limits {
+        count: 10,
+        bytes: 4_096,
+        linger: 3,
+    },
+    attempts: 3,
+    in_flight: 1,
+    first_version: 1,
+};
+
+// An operation as a message.
+fn body_of(alloc: Global, producer: u32, number: u64) -> Option<Body>
+    ensures { IfSome result (λ b. b ≢ Body.Done) }
+{
+    Some(Body::Put(Op {
+        producer,
+        number,
+        key: key_of(alloc, producer, number)?,
+        action: action_of(alloc, number)?,
+    }))
+}
+
+// Puts so many operations, and closes where this is wanted. Whether all went well.
+fn send_all<R: Wait>(
+    rt: &R,
+    alloc: Global,
+    mut put: LanePut,
+    sender: u32,
+    count: u64,
+    closes: bool,
+) -> bool {
+    for sent in 0..count {
+        let Some(body) = body_of(alloc, sender, sent.saturating_add(1)) else {
+            return false;
+        };
+        if put.put(rt, body).is_err() {
+            return false;
+        }
+    }
+    !closes || put.close(rt).is_ok()
+}
+
+// A thread for each sender: the producers put so many operations each, and the control none.
+fn start_senders<R: Threads + Wait + Copy + Send + 'static>(
+    rt: R,
+    alloc: Global,
+    mut puts: Vec<LanePut>,
+    count: u64,
+    close: bool,
+) -> Result<(), AllocError> {
+    while let Some(put) = puts.pop() {
+        let sender = u32::try_from(puts.len()).unwrap_or(0);
+        let own = if sender < CONFIG.producers { count } else { 0 };
+        let _ = thread::spawn(&rt, move || send_all(&rt, alloc, put, sender, own, close))?;
+    }
+    Ok(())
+}
+
+// A lane beside its senders' threads.
+fn run<R: Threads + Wait + Copy + Send + 'static>(
+    rt: R,
+    alloc: Global,
+    count: u64,
+    close: bool,
+) -> Result<LaneEnd<MemoryWire>, AllocError> {
+    let (take, puts) = lane_queue(alloc, CONFIG.capacity, CONFIG.producers + 1)?;
+    let lane = Lane::new(alloc, CONFIG)?;
+    start_senders(rt, alloc, puts, count, close)?;
+    Ok(run_lane(&rt, take, lane, wire_of(alloc), AtOnce))
+}
+
+#[test]
+fn all_are_delivered(rt: HostRuntime) -> Result<(), Fail> {
+    let end = run(rt, rt.alloc(), 100, true)?;
+    assert!(rt; end.kind == LaneEndKind::Finished);
+    let totals = end.lane.totals();
+    assert!(rt;
+        totals.taken == 200 && end.lane.reports().is_empty(),
+        "{totals:?}"
+    );
+    assert!(rt;
+        totals.already > 0 && totals.applied.saturating_add(totals.already) == 200,
+        "{totals:?}"
+    );
+    assert!(rt; totals.requests == end.wire.sends);
+    assert!(rt; count_applied(rt.alloc(), &end.wire.index)? == 200);
+    for producer in 0..2u32 {
+        assert!(rt; is_as_put(rt.alloc(), &end.wire.index, producer, 100)?);
+    }
+    Ok(())
+}
+
+#[test]
+fn senders_that_do_not_close(rt: HostRuntime) -> Result<(), Fail> {
+    let end = run(rt, rt.alloc(), 3, false)?;
+    assert!(rt; end.kind == LaneEndKind::Gone);
+    assert!(rt; end.lane.totals().taken == 6);
+    Ok(())
+}
