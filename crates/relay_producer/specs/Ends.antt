@@ -66,9 +66,12 @@ open_puts ends = map (λ e. e.put) ends
 abbrev pub closed_puts : List ClosedEnd → List SenderEnd
 closed_puts ends = map end_of ends
 
--- which queue each end is of, and under which sender's number
+-- which queue an end is of, and under which sender's number
+abbrev pub identity : SenderEnd → Queue × ℕ
+identity put = (put.queue, put.sender)
+
 abbrev pub identities : List SenderEnd → List (Queue × ℕ)
-identities puts = map (λ p. (p.queue, p.sender)) puts
+identities puts = map identity puts
 
 -- the ends with the one of this lane changed so
 abbrev pub change_at : ℕ → (OpenEnd → OpenEnd) → List OpenEnd → List OpenEnd

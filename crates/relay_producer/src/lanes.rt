@@ -77,7 +77,13 @@ pub(crate) fn count_gone(ends: &[OpenEnd]) -> u32
     requires { length ends.now ≤ 8 }
     ensures { result ≡ count_by (λ e. e.gone) ends.now }
 {
-    ends.iter().filter(|end| end.gone).count() as u32
+    let mut gone = 0u32;
+    for end in ends {
+        if end.gone {
+            gone += 1;
+        }
+    }
+    gone
 }
 
 // How many lanes were found gone by a sender that has closed.
@@ -85,7 +91,12 @@ pub(crate) fn count_closed_gone(ends: &[ClosedEnd]) -> u32
     requires { length ends.now ≤ 8 }
     ensures { result ≡ count_by is_gone ends.now }
 {
-    ends.iter()
-        .filter(|end| matches!(end, ClosedEnd::Gone(_)))
-        .count() as u32
+    let mut gone = 0u32;
+    for end in ends {
+        match end {
+            ClosedEnd::Closed(_) => {}
+            ClosedEnd::Gone(_) => gone += 1,
+        }
+    }
+    gone
 }

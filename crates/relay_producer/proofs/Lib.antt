@@ -1,0 +1,5 @@
+pub mod Closing
+pub mod Counting
+pub mod Opening
+pub mod Putting
+pub mod Sending
