@@ -1,0 +1,4 @@
+//! Files of operations through a relay: the function behind `relay run`.
+#![tactic(auto)]
+
+pub mod outcome;

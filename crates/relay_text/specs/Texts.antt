@@ -1,0 +1,26 @@
+-- Names, documents and causes as a person reads them.
+use Rattle.std.specs.Prelude.{ℕ, List, ◌++◌, codes, decimal}
+use Rattle.relay_action.specs.declared.key.DocKey.{DocKey}
+use Rattle.relay_action.specs.declared.operation.OpName.{OpName}
+use Rattle.relay_results.specs.declared.cause.Cause.{Cause}
+use Rattle.relay_results.specs.declared.cause.Cause.TheVariants as cause
+
+-- a space and a number
+abbrev pub spaced : ℕ → List ℕ
+spaced n = codes " " ++ decimal n
+
+-- the name of an operation, `P:N`
+abbrev pub name_text : OpName → List ℕ
+name_text name = decimal name.producer ++ codes ":" ++ decimal name.number
+
+-- a document, `INDEX/ID`
+abbrev pub document_text : DocKey → List ℕ
+document_text key = key.index ++ codes "/" ++ key.id
+
+-- the cause of a report: its name, and what it tells
+abbrev pub cause_text : Cause → List ℕ
+cause_text (cause.Refused status kind) = codes "Refused" ++ spaced status ++ codes " " ++ kind
+cause_text (cause.Request status) = codes "Request" ++ spaced status
+cause_text cause.Conflict = codes "Conflict"
+cause_text (cause.GaveUp sends) = codes "GaveUp" ++ spaced sends
+cause_text cause.Spent = codes "Spent"
