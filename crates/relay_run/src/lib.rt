@@ -1,4 +1,5 @@
 //! Files of operations through a relay: the function behind `relay run`.
 #![tactic(auto)]
 
+pub mod feed;
 pub mod outcome;

@@ -2,27 +2,15 @@
 use Rattle.std.specs.Prelude.{◌≡◌, ℕ, ◌+◌, List, [], ◌∷◌, ◌++◌, codes, decimal, None}
 use Rattle.std.specs.List.{flat_map}
 use Rattle.relay_action.specs.declared.key.DocKey.{DocKey}
-use Rattle.relay_action.specs.declared.operation.OpName.{OpName}
 use Rattle.relay_ndjson.specs.Bulk.{line_end}
 use Rattle.relay_core.specs.declared.settled.Settled.{Settled}
+use Rattle.relay_text.specs.Texts.{spaced, name_text, document_text}
 use Rattle.relay_world.specs.declared.event.Refusal.{Refusal}
 use Rattle.relay_world.specs.declared.event.Refusal.TheVariants as no
 use Rattle.relay_world.specs.declared.event.StepAnswer.{StepAnswer}
 use Rattle.relay_world.specs.declared.event.StepAnswer.TheVariants as answer
 use Rattle.relay_world.specs.State.{World, write_at}
 use Rattle.relay_world.specs.Memory.{IsWriteAt}
-
--- a space and a number
-abbrev pub spaced : ℕ → List ℕ
-spaced n = codes " " ++ decimal n
-
--- the name of an operation, `P:N`
-abbrev pub name_text : OpName → List ℕ
-name_text name = decimal name.producer ++ codes ":" ++ decimal name.number
-
--- a document, `INDEX/ID`
-abbrev pub document_text : DocKey → List ℕ
-document_text key = key.index ++ codes "/" ++ key.id
 
 abbrev pub refusal_name : Refusal → List ℕ
 refusal_name no.Closed = codes "Closed"

@@ -2,12 +2,11 @@
 ghost use Rattle.std.specs.Prelude.{◌≡◌};
 ghost use Rattle.relay_script.specs.Scripts.{Passes, unwritten_by};
 
-use crate::document::{add_document, add_name, add_number, add_spaced};
 use crate::outgoing::Outgoing;
 use crate::script::ScriptFault;
 use relay_action::{ByteOut, DocKey, OpName, Write};
 use relay_core::{RelayConfig, Report};
-use relay_results::Cause;
+use relay_text::{add_cause, add_document, add_name, add_number, add_spaced};
 use relay_world::World;
 use std::alloc::AllocError;
 
@@ -208,28 +207,6 @@ fn make_report(line: &mut Vec<u8>, lane: u32, report: &Report) -> Result<(), All
     line.extend_from_slice(b" ")?;
     add_cause(line, &report.cause)?;
     line.extend_from_slice(b"\n")
-}
-
-// Adds the cause of a report.
-fn add_cause(line: &mut Vec<u8>, cause: &Cause) -> Result<(), AllocError> {
-    match cause {
-        Cause::Refused { status, kind } => {
-            line.extend_from_slice(b"Refused")?;
-            add_spaced(line, *status as u64)?;
-            line.extend_from_slice(b" ")?;
-            line.extend_from_slice(kind.as_str().as_bytes())
-        }
-        Cause::Request { status } => {
-            line.extend_from_slice(b"Request")?;
-            add_spaced(line, *status as u64)
-        }
-        Cause::Conflict => line.extend_from_slice(b"Conflict"),
-        Cause::GaveUp { sends } => {
-            line.extend_from_slice(b"GaveUp")?;
-            add_spaced(line, *sends as u64)
-        }
-        Cause::Spent => line.extend_from_slice(b"Spent"),
-    }
 }
 
 // Makes the line that says whether all is finished.

@@ -7,7 +7,6 @@
 
 mod answer;
 pub mod config_line;
-mod document;
 mod ending;
 pub mod event_line;
 pub mod exit;

@@ -1,0 +1,52 @@
+-- How a producer is fed the operations of an input.
+use Rattle.std.specs.Prelude.{◌≡◌, ℕ, ◌+◌, ◌^◌, List, [], ◌∷◌, ◌++◌, Result, Ok, Err}
+use Rattle.relay_action.specs.declared.operation.Op.{Op}
+use Rattle.relay_ndjson.specs.Operations.{Operation, failed_after}
+use Rattle.relay_ndjson.specs.Reading.{Reading, Takes, Ends, Fails}
+use Rattle.relay_commands.specs.Lines.{TakesAll}
+use Rattle.relay_producer.specs.Ends.{open_puts}
+use Rattle.relay_producer.specs.Puts.{HasPut}
+use Rattle.relay_producer.specs.States.{ProducerState, after_put, after_gone}
+use Rattle.relay_run.specs.declared.feed.Next.{Next}
+use Rattle.relay_run.specs.declared.feed.Next.TheVariants as next
+use Rattle.relay_run.specs.declared.feed.FeedFault.{FeedFault}
+use Rattle.relay_run.specs.declared.feed.FeedFault.TheVariants as fault
+
+-- a producer that put these operations, one after another
+abbrev pub after_puts : ProducerState → List Operation → ProducerState
+after_puts s [] = s
+after_puts s (op ∷ ops) = after_puts (after_put op.0 op.1 s) ops
+
+-- operations under the names of this producer, numbered from here
+abbrev pub named : ℕ → ℕ → List Operation → List Op
+named producer number [] = []
+named producer number (op ∷ ops) = record { producer = producer; number = number; key = op.0; action = op.1 } ∷ named producer (number + 1) ops
+
+-- Why no more was put: blank lines alone were left; or what follows is at fault, or a read failed, or there was no memory
+-- to read it; or one more operation stands there, for which there is no number, or whose lane is gone.
+abbrev pub Stops : Reading → Reading → ProducerState → ProducerState → Result Unit FeedFault → Type 0
+Stops rest new fed after (Ok u) = Ends rest new × (after ≡ fed)
+Stops rest new fed after (Err (fault.Input e)) = Fails rest new e × (after ≡ fed)
+Stops rest new fed after (Err fault.NumbersSpent) =
+    (n : ℕ) × (op : Operation) × Takes rest new n op × (fed.put ≡ 2 ^ 40) × (after ≡ fed)
+Stops rest new fed after (Err fault.LaneGone) =
+    (n : ℕ) × (op : Operation) × Takes rest new n op × (after ≡ after_gone op.0 fed)
+
+-- what one step does
+abbrev pub FeedsNext : Reading → Reading → ProducerState → ProducerState → Result Next FeedFault → Type 0
+FeedsNext old new before after (Ok next.Put) = (n : ℕ) × (op : Operation) × Takes old new n op × (after ≡ after_put op.0 op.1 before)
+FeedsNext old new before after (Ok next.Ended) = Stops old new before after (Ok unit)
+FeedsNext old new before after (Err e) = Stops old new before after (Err e)
+
+-- There are operations that were taken from the front of the input, and that the producer put, one after another and in
+-- that order; and that is why there were no more.
+pub record Feeds (old new : Reading) (before after : ProducerState) (result : Result Unit FeedFault) : Type 0 where
+  pub ops : List Operation
+  pub rest : Reading
+  pub taken : TakesAll old rest ops
+  pub stops : Stops rest new (after_puts before ops) after result
+
+-- how many calls of the reader have failed after an answer
+abbrev pub failed_by : {T : Type 0} → Result T FeedFault → ℕ → ℕ
+failed_by (Err (fault.Input e)) n = failed_after {T = Unit} (Err e) n
+failed_by other n = n

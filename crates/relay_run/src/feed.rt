@@ -1,0 +1,78 @@
+//! A producer that is fed the operations of an input.
+ghost use Rattle.std.specs.Prelude.{◌≡◌, ◌<◌, ◌^◌, OnOk};
+ghost use Rattle.relay_ndjson.specs.declared.parser.Phase.TheVariants as phase;
+ghost use Rattle.relay_producer.specs.Ends.{identities, open_puts};
+ghost use Rattle.relay_run.specs.Feeding.{Feeds, FeedsNext, failed_by};
+
+use relay_action::ByteIn;
+use relay_ndjson::{Input, InputFault};
+use relay_producer::{Producer, PutFaultKind};
+use std::sync::Wait;
+
+/// Why a producer was not fed all of an input.
+#[derive(Clone, Copy, Debug, PartialEq, Eq)]
+pub enum FeedFault {
+    /// A line breaks the producer grammar, a read failed, or there was no memory for a line. All operations
+    /// before it were put.
+    Input(InputFault),
+    /// The producer has put 2^40 operations. The next one was read, and is not put.
+    NumbersSpent,
+    /// The lane of the next operation is gone. It was read, and is not put.
+    LaneGone,
+}
+
+/// Puts the operations of an input, in their order, until there are no more or something is at fault. The
+/// producer is not closed. It waits for the input, and while the lane of an operation takes no more.
+pub fn feed<R: Wait, S: ByteIn>(
+    rt: &R,
+    input: &mut Input<'_, S>,
+    producer: &mut Producer,
+) -> Result<(), FeedFault>
+    requires { input.old.phase ≡ phase.Open }
+    ensures feeds { Feeds input.old input.new producer.old producer.new result }
+    ensures failed { input.new.failed ≡ failed_by result input.old.failed }
+    ensures same { identities (open_puts producer.new.ends) ≡ identities (open_puts producer.old.ends) }
+    ensures producer { producer.new.producer ≡ producer.old.producer }
+{
+    'operations: loop {
+        match feed_next(rt, input, producer) {
+            Ok(Next::Put) => {}
+            Ok(Next::Ended) => return Ok(()),
+            Err(fault) => return Err(fault),
+        }
+    }
+}
+
+// What came next.
+#[derive(Clone, Copy, Debug, PartialEq, Eq)]
+enum Next {
+    // An operation, which was put.
+    Put,
+    // The end of the input.
+    Ended,
+}
+
+// Puts the next operation.
+fn feed_next<R: Wait, S: ByteIn>(
+    rt: &R,
+    input: &mut Input<'_, S>,
+    producer: &mut Producer,
+) -> Result<Next, FeedFault>
+    requires { input.old.phase ≡ phase.Open }
+    ensures next { FeedsNext input.old input.new producer.old producer.new result }
+    ensures failed { input.new.failed ≡ failed_by result input.old.failed }
+    ensures same { identities (open_puts producer.new.ends) ≡ identities (open_puts producer.old.ends) }
+    ensures limit { OnOk result (producer.old.put < 2 ^ 40) }
+{
+    match input.next() {
+        Ok(Some((key, action))) => match producer.put(rt, key, action) {
+            Ok(_) => Ok(Next::Put),
+            Err(fault) => match fault.kind {
+                PutFaultKind::LaneGone => Err(FeedFault::LaneGone),
+                PutFaultKind::NumbersSpent => Err(FeedFault::NumbersSpent),
+            },
+        },
+        Ok(None) => Ok(Next::Ended),
+        Err(fault) => Err(FeedFault::Input(fault)),
+    }
+}
