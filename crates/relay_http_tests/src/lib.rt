@@ -6,6 +6,8 @@
 #[cfg(test)]
 mod failing;
 #[cfg(test)]
+mod growth;
+#[cfg(test)]
 mod limits;
 #[cfg(test)]
 mod peers;

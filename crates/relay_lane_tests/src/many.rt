@@ -5,8 +5,8 @@ use crate::desk::{CONFIG, Desk, NO_PAUSES, Notes, closes, desk_of, puts};
 use crate::wires::{IndexWire, Way, count_applied, wire_of};
 use relay_action::{Action, DocKey, Write};
 use relay_batch::Limits;
-use relay_lane::{RelayConfig, drain, make_room, pump};
 use relay_index::Index;
+use relay_lane::{RelayConfig, drain, make_room, pump};
 use std::alloc::Global;
 use std::test::Fail;
 

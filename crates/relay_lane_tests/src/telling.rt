@@ -8,8 +8,8 @@ ghost use Rattle.relay_lane_tests.specs.Telling.{IsSent, RanOne, entry_of, entri
 use crate::desk::{CONFIG, Desk, NO_PAUSES, closes, desk_of, puts};
 use crate::wires::count_applied;
 use relay_action::Write;
-use relay_lane::{Wire, WireFault, WireReply, drain};
 use relay_index::{Choice, Index};
+use relay_lane::{Wire, WireFault, WireReply, drain};
 use relay_results::Outcome;
 use std::alloc::{AllocError, Global};
 use std::mem;

@@ -3,8 +3,8 @@ ghost use Rattle.std.specs.Prelude.{◌≡◌, None};
 ghost use Rattle.relay_lane.specs.Wires.{IsReply};
 
 use relay_action::{ActionKind, Text, Write};
-use relay_lane::{Wire, WireFault, WireReply};
 use relay_index::{Choice, Index};
+use relay_lane::{Wire, WireFault, WireReply};
 use relay_results::Outcome;
 use std::alloc::{AllocError, Global};
 use std::mem;

@@ -1,5 +1,5 @@
 -- What is no line of a script.
-use Rattle.std.proofs.Common.{◌≡◌, ◌≢◌, ◌⊎◌, ℕ, ◌<◌, ◌^◌, List, [], ◌∷◌, ◌++◌, Option, None, Some, Result, Ok, Err, IfErr, codes, true, false, not, refl, ap, sym, ◌∙◌, subst, arith, inl, inr, unwrap_or, IsUtf8, bytes_eq}
+use Rattle.std.proofs.Common.{◌≡◌, ◌≢◌, ℕ, ◌<◌, ◌^◌, List, None, Some, Result, Ok, Err, IfErr, codes, true, false, not, refl, ap, sym, ◌∙◌, subst, arith, inl, inr, unwrap_or, bytes_eq}
 use Rattle.relay_action.specs.Faults.{key_fault, source_fault}
 use Rattle.relay_action.specs.declared.fault.ActionFault.{ActionFault}
 use Rattle.relay_action.specs.declared.fault.ActionFault.TheVariants as action
@@ -14,13 +14,13 @@ use Rattle.relay_core.specs.declared.config.RelayConfig.{RelayConfig}
 use Rattle.relay_ndjson.proofs.Deciding.{key_none}
 use Rattle.relay_results.proofs.Same.{bytes_eq-self}
 use Rattle.relay_script.specs.Words.{Begins, IsWord}
-use Rattle.relay_script.specs.Numbers.{AreNumbers, IsNumber, IsNumbersFault}
+use Rattle.relay_script.specs.Numbers.{AreNumbers, IsNumber}
 use Rattle.relay_script.specs.Config.{IsConfigLine, config_of}
-use Rattle.relay_script.specs.Events.{AsksFor, IsActionFault, IsEventLine, IsKey, IsKeyFault, IsLineFault, IsNumberedFault, IsPut, IsPutFault, Puts, event_of, fault_of}
+use Rattle.relay_script.specs.Events.{AsksFor, IsActionFault, IsKey, IsKeyFault, IsLineFault, IsNumberedFault, IsPut, IsPutFault, Puts, event_of, fault_of}
 use Rattle.relay_script.specs.declared.event_line.LineFault.{LineFault}
 use Rattle.relay_script.specs.declared.event_line.LineFault.TheVariants as fault
 use Rattle.relay_script.proofs.Cutting.{same_cut, uncut}
-use Rattle.relay_script.proofs.Counting.{one_number, same_numbers}
+use Rattle.relay_script.proofs.Counting.{same_numbers}
 
 -- two texts that a test tells apart
 pub differ : (a b : List ℕ) → false ≡ bytes_eq a b → a ≢ b

@@ -1,7 +1,6 @@
 -- From the lines of a script and what is left to write to what the command says.
-use Rattle.std.proofs.Common.{◌≡◌, ◌⊎◌, ℕ, ◌+◌, ◌≤◌, List, [], ◌∷◌, ◌++◌, length, Option, None, Some, Result, Ok, Err, refl, ap, sym, subst, ◌∙◌, inl, inr, append_assoc, append-nil}
+use Rattle.std.proofs.Common.{◌≡◌, ℕ, ◌≤◌, List, [], ◌++◌, length, Option, None, Some, Result, Ok, Err, refl, ap, sym, subst, ◌∙◌, inl, inr, append-nil}
 use Rattle.std.specs.Io.KnownBytes.{append_known, prepend_known, IsAtEnd}
-use Rattle.relay_action.proofs.Shown.{append_known-append}
 use Rattle.relay_index.specs.States as index
 use Rattle.relay_core.specs.declared.config.RelayConfig.{RelayConfig}
 use Rattle.relay_world.specs.State.{World, fresh}
@@ -10,7 +9,7 @@ use Rattle.relay_script.specs.Config.{IsConfigFault}
 use Rattle.relay_script.specs.declared.event_line.LineFault.{LineFault}
 use Rattle.relay_script.specs.declared.event_line.LineFault.TheVariants as bad
 use Rattle.relay_commands.specs.Calls.{NoneFails, OneAtMost, OneFails}
-use Rattle.relay_script.specs.Flows.{Breaks, Flows, IsCut, IsFront}
+use Rattle.relay_script.specs.Flows.{Flows, IsCut}
 use Rattle.relay_script.specs.Scripts.{Begins, Closes, ClosesOr, FailsOnce, Halts, HasNoConfig, HasNoWorld, IsScript, Leaves, MayEnd, Passes, PlaysScript, Runs, Stops, TakesConfig, Underway, UsesOneLine, Writes, failed_by, fault_at, unwritten_by}
 use Rattle.relay_script.specs.declared.script.ScriptFault.{ScriptFault}
 use Rattle.relay_script.specs.declared.script.ScriptFault.TheVariants as fault

@@ -1,4 +1,3 @@
-use Rattle.relay_world.specs.State.{write_at}
 use Rattle.relay_script.proofs.Items.{adding_more, added_all, is_none}
 use Rattle.relay_script.proofs.answer.add_items.Goals as goal
 

@@ -1,5 +1,4 @@
 use Rattle.std.proofs.Common.{sym}
-use Rattle.relay_script.specs.Config.{config_of}
 use Rattle.relay_script.proofs.Refusing.{differ_not, no_config, no_world}
 use Rattle.relay_script.proofs.config_line.read_config.Goals as goal
 

@@ -1,6 +1,7 @@
-use Rattle.std.proofs.Common.{rules, subst, sym, ◌≡◌, List, ℕ}
-use Rattle.relay_script.specs.Numbers.{AreNumbers}
-use Rattle.relay_script.proofs.Counting.{parted_none, parted_more, parted_last, parted_fault, parted_none_last, Parted}
+use Rattle.std.proofs.Common.{rules, subst, sym, List, ℕ}
+use Rattle.std.proofs.lemmas.Result.{IfErr-weaker}
+use Rattle.relay_script.specs.Numbers.{IsNumbersFault, IsWordFault}
+use Rattle.relay_script.proofs.Counting.{parted_more, parted_fault, parted_none_last, Parted}
 use Rattle.relay_script.proofs.numbers.push_numbers.Goals as goal
 
 pub returns-in-Err-clause-err : goal.returns-in-Err-clause-err
@@ -13,10 +14,6 @@ words-preserved c = (
   search rules,
 )
 
-pub returns-in-Ok-clause-ok : goal.returns-in-Ok-clause-ok
-returns-in-Ok-clause-ok c =
-    let a = c.in-Ok.ensures.ok in
-    subst (λ (xs : List ℕ). AreNumbers c.args.text.now xs) (sym a.2) (parted_last _ _ _ a.0 c.words.invariant.0 a.1)
-
-pub returns-in-Err-push_number-clause-err : goal.returns-in-Err-push_number-clause-err
-returns-in-Err-push_number-clause-err c = parted_none_last _ _ _ c.in-Err-push_number.fault c.words.invariant.0 c.in_default.ensures c.in-Err-push_number.ensures.err
+pub returns-clause-err : goal.returns-clause-err
+returns-clause-err c = IfErr-weaker c.push_number-2.result (IsWordFault c.words.rest.now) (IsNumbersFault c.args.text.now)
+    (λ e. parted_none_last _ _ _ e c.words.invariant.0 c.in_default.ensures) c.push_number-2.ensures.err

@@ -1,5 +1,4 @@
-use Rattle.std.proofs.Common.{rules, ◌≡◌, ◌<◌, ◌==◌, length, MatchOption}
-use Rattle.std.specs.List.{before_first, after_first, position_or_len}
+use Rattle.std.proofs.Common.{rules}
 use Rattle.relay_script.proofs.Cutting.{cut_begins}
 use Rattle.relay_script.proofs.words.cut.Goals as goal
 
