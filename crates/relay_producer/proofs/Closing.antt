@@ -62,6 +62,12 @@ closed_at (x ∷ xs) (y ∷ ys) (suc lane) put h at =
     let r = closed_at xs ys lane put h.1 at in
     record { end = r.end; at = r.at; sender = r.sender; sent = r.sent }
 
+pub zip_push : (old : List OpenEnd) (new : List ClosedEnd) (x : OpenEnd) (y : ClosedEnd) → AllZip Closes old new → Closes x y → AllZip Closes (old ++ x ∷ []) (new ++ y ∷ [])
+zip_push [] [] x y h c = (c, tt)
+zip_push [] (b ∷ bs) x y h c = absurd h
+zip_push (a ∷ as') [] x y h c = absurd h
+zip_push (a ∷ as') (b ∷ bs) x y h c = (h.0, zip_push as' bs x y h.1 c)
+
 count_kept : (old : List OpenEnd) (new : List ClosedEnd) → AllZip Closes old new → length new ≡ length old
 count_kept [] [] h = refl
 count_kept [] (y ∷ ys) h = absurd h

@@ -9,9 +9,9 @@ ghost use Rattle.relay_producer.specs.States.{AreFresh, HasLanes, lane_for, next
 
 use crate::ends::{ClosedEnd, OpenEnd};
 use crate::fault::{PutFault, PutFaultKind};
-use crate::lanes::{close_all, count_closed_gone, count_gone, open_all};
-use relay_action::{Action, Body, DocKey, Op, OpName, lane_of};
-use relay_queue::{LanePut, PUT_LIMIT, PutRefusal};
+use crate::lanes::{close_all, count_closed_gone, count_gone, open_all, send_op};
+use relay_action::{Action, DocKey, Op, OpName, lane_of};
+use relay_queue::{LanePut, PUT_LIMIT};
 use std::alloc::{AllocError, Global};
 use std::marker::Model;
 use std::sync::Wait;
@@ -113,15 +113,15 @@ impl Producer {
             });
         }
         let lane = lane_of(&key, self.ends.len() as u32);
-        let number = self.count + 1;
         let producer = self.producer;
-        let body = Body::Put(Op {
+        let number = self.count + 1;
+        let op = Op {
             producer,
             number,
             key,
             action,
-        });
-        match self.ends[lane as usize].send(rt, body) {
+        };
+        match send_op(rt, &mut self.ends, lane as usize, op) {
             Ok(()) => {
                 self.count = number;
                 Ok(Receipt {
@@ -129,8 +129,11 @@ impl Producer {
                     lane,
                 })
             }
-            Err((PutRefusal::Gone, Body::Put(op))) => Err(gone_with(op)),
-            Err(_) => unreachable!(),
+            Err(op) => Err(PutFault {
+                kind: PutFaultKind::LaneGone,
+                key: op.key,
+                action: op.action,
+            }),
         }
     }
 
@@ -163,17 +166,6 @@ impl Producer {
         ensures shown { (ops : List Op) × HasPut self.now.producer self.now.put (open_puts self.now.ends) ops }
     {
         count_gone(&self.ends)
-    }
-}
-
-// A refusal since the lane is gone, with what the operation was made of.
-fn gone_with(op: Op) -> PutFault
-    ensures { (result.kind ≡ PutFaultKind.LaneGone) × (result.key ≡ op.key) × (result.action ≡ op.action) }
-{
-    PutFault {
-        kind: PutFaultKind::LaneGone,
-        key: op.key,
-        action: op.action,
     }
 }
 
