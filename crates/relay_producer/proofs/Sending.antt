@@ -1,5 +1,5 @@
 -- A signal goes to one lane after another.
-use Rattle.std.proofs.Common.{◌≡◌, ◌≢◌, ℕ, zero, suc, ◌+◌, ◌<◌, ◌≤◌, Bool, true, false, eqb, List, [], ◌∷◌, ◌++◌, length, set, get_or, sym, refl, ap, ◌∙◌, subst, ⊎_elim, inl, inr, arith, length-set, get_or-set_other, get_or-set_same, length-append, ◌⊎◌}
+use Rattle.std.proofs.Common.{◌≡◌, ◌≢◌, ℕ, zero, suc, ◌+◌, ◌<◌, ◌≤◌, Bool, true, false, eqb, List, [], ◌∷◌, ◌++◌, length, set, get_or, sym, refl, ap, ◌∙◌, subst, ⊎_elim, inl, inr, arith, length-set, get_or-set_other, get_or-set_same, ◌⊎◌}
 use Rattle.std.specs.Prelude.{◌^◌}
 use Rattle.std.proofs.lemmas.Bool.Decides.{eqb_tells}
 use Rattle.std.proofs.lemmas.List.{get_or_read}
@@ -46,21 +46,13 @@ goes_on body lane taken more old now x y h lt at sent grown most =
     record {
       lanes = length-set now lane y ∙ h.lanes;
       done = λ k d below.
-      ⊎_elim (λ (t : (eqb k lane ≡ true) × (k ≡ lane)). subst (λ j. IsSent body (get_or old j d) (get_or (set now lane y) j d)) (sym t.1) (here d))
-      (λ (t : (eqb k lane ≡ false) × (k ≢ lane)). let n = t.1 in before k d n (omega arith)) (eqb_tells k lane);
+          ⊎_elim (λ (t : (eqb k lane ≡ true) × (k ≡ lane)). subst (λ j. IsSent body (get_or old j d) (get_or (set now lane y) j d)) (sym t.1) (here d))
+          (λ (t : (eqb k lane ≡ false) × (k ≢ lane)). let n = t.1 in before k d n (omega arith)) (eqb_tells k lane);
       left = λ k d le. let n : k ≢ lane = omega arith in get_or-set_other now lane k y d n ∙ h.left k d (omega arith);
       count = omega arith;
       same = set_identity lane now x y lt at (sent_identity body x y sent) ∙ h.same;
       most = omega arith;
     }
-
--- the queue took the message
-pub took : (body : Body) (x y : OpenEnd) → Takes body x y → length y.put.sent ≡ length x.put.sent + 1
-took body x y t = ap (λ (e : OpenEnd). length e.put.sent) t.sent ∙ omega (arith, length-append {A = Rattle.relay_action.specs.declared.mail.Mail.Mail})
-
--- it did not
-pub missed : (body : Body) (x y : OpenEnd) → ((y ≡ marked x) ⊎ (y ≡ x)) → length y.put.sent ≡ length x.put.sent + 0
-missed body x y m = ⊎_elim (λ e. ap (λ (z : OpenEnd). length z.put.sent) e ∙ omega arith) (λ e. ap (λ (z : OpenEnd). length z.put.sent) e ∙ omega arith) m
 
 pub all_sent : (body : Body) (lane taken : ℕ) (old now : List OpenEnd) → Sending body lane taken old now → length old ≤ lane → IsSentToAll body old now
 all_sent body lane taken old now h le = record { lanes = h.lanes; each = λ k d lt. h.done k d (omega arith) }

@@ -74,7 +74,7 @@ pub(crate) fn send_to_all<R: Wait>(rt: &R, ends: &mut Vec<OpenEnd>, signal: Sign
 {
     let mut taken = 0u32;
     for lane in 0..ends.len() {
-        if ends[lane].send(rt, signal_body(signal)).is_ok() {
+        if ends[lane].signal(rt, signal_body(signal)) {
             taken += 1;
         }
     }

@@ -79,12 +79,7 @@ impl Producer {
     /// Both refusals hand key and action back, use no number and send nothing. `NumbersSpent` comes first,
     /// exactly where this producer has put 2^40 operations. `LaneGone` comes where the lane is marked, and
     /// where its queue answers that the lane is gone, which marks it; when that comes is not promised.
-    pub fn put<R: Wait>(
-        &mut self,
-        rt: &R,
-        key: DocKey,
-        action: Action,
-    ) -> Result<Receipt, PutFault>
+    pub fn put<R: Wait>(&mut self, rt: &R, key: DocKey, action: Action) -> Result<Receipt, PutFault>
         ensures name { IfOk result
             (λ r. r.name ≡ record { producer = self.old.producer; number = self.old.put + 1 }) }
         ensures lane { IfOk result (λ r. r.lane ≡ lane_for key self.old) }
@@ -102,7 +97,7 @@ impl Producer {
         ensures put { OnOk result ((ops : List Op)
             → HasPut self.old.producer self.old.put (open_puts self.old.ends) ops
             → HasPut self.new.producer self.new.put (open_puts self.new.ends)
-                (ops ++ next_op key action self.old ∷ [])) }
+            (ops ++ next_op key action self.old ∷ [])) }
         ensures refused { OnErr result (open_puts self.new.ends ≡ open_puts self.old.ends) }
     {
         if self.count >= PUT_LIMIT {
