@@ -1,18 +1,17 @@
 -- An operation joins what a producer put.
-use Rattle.std.proofs.Common.{◌≡◌, ◌≢◌, ℕ, zero, suc, ◌+◌, ◌<◌, ◌≤◌, Bool, true, false, eqb, eq-eqb, ne_eqb, List, [], ◌∷◌, ◌++◌, length, length-append, map, set, get_or, sym, refl, ap, ◌∙◌, subst, ⊎_elim, inl, inr, arith, append-nil, ◌⊎◌}
-use Rattle.std.specs.Prelude.{Some, ◌==◌, if◌then◌else◌, ◌^◌}
+use Rattle.std.proofs.Common.{◌≡◌, ◌≢◌, ℕ, zero, suc, ◌+◌, ◌<◌, ◌≤◌, true, false, eqb, eq-eqb, ne_eqb, List, [], ◌∷◌, ◌++◌, length, set, get_or, sym, refl, ap, ◌∙◌, subst, ⊎_elim, inl, inr, arith, append-nil, ◌⊎◌}
+use Rattle.std.specs.Prelude.{Some, ◌^◌}
 use Rattle.std.specs.List.{All, slice_get}
 use Rattle.std.proofs.lemmas.List.{length-map, length_push}
 use Rattle.std.proofs.lemmas.Bool.Decides.{eqb_tells}
 use Rattle.std.proofs.lemmas.List.Elements.{All-nil, All-cons, All-head, All-tail}
 use Rattle.relay_action.specs.declared.key.DocKey.{DocKey}
 use Rattle.relay_action.specs.declared.operation.Op.{Op}
-use Rattle.relay_action.specs.declared.mail.Mail.{Mail}
 use Rattle.relay_action.specs.declared.mail.Body.{Body}
 use Rattle.relay_action.specs.declared.mail.Body.TheVariants.{Put}
 use Rattle.relay_action.specs.Lanes.{lane_of_document}
 use Rattle.relay_queue.specs.Sent.{message}
-use Rattle.relay_queue.specs.Ends.{Queue, SenderEnd}
+use Rattle.relay_queue.specs.Ends.{SenderEnd}
 use Rattle.relay_producer.specs.declared.ends.OpenEnd.{OpenEnd}
 use Rattle.relay_producer.specs.Ends.{with_sent, one_more, marked, open_puts, identity, identities, change_at}
 use Rattle.relay_producer.specs.Puts.{puts_of, ops_for, AreNumberedBy, HasPut}

@@ -1,12 +1,12 @@
 -- A signal goes to one lane after another.
-use Rattle.std.proofs.Common.{◌≡◌, ◌≢◌, ℕ, zero, suc, ◌+◌, ◌<◌, ◌≤◌, Bool, true, false, eqb, List, [], ◌∷◌, ◌++◌, length, set, get_or, sym, refl, ap, ◌∙◌, subst, ⊎_elim, inl, inr, arith, length-set, get_or-set_other, get_or-set_same, ◌⊎◌}
+use Rattle.std.proofs.Common.{◌≡◌, ◌≢◌, ℕ, zero, suc, ◌+◌, ◌<◌, ◌≤◌, true, false, eqb, List, [], ◌∷◌, length, set, get_or, sym, refl, ap, ◌∙◌, subst, ⊎_elim, arith, length-set, get_or-set_other, get_or-set_same}
 use Rattle.std.specs.Prelude.{◌^◌}
 use Rattle.std.proofs.lemmas.Bool.Decides.{eqb_tells}
 use Rattle.std.proofs.lemmas.List.{get_or_read}
 use Rattle.std.proofs.lemmas.List.Sums.{sum_by-set}
 use Rattle.relay_action.specs.declared.mail.Body.{Body}
 use Rattle.relay_producer.specs.declared.ends.OpenEnd.{OpenEnd}
-use Rattle.relay_producer.specs.Ends.{Takes, IsSent, marked, with_sent, count_sent, open_puts, identity, identities, IsSentToAll}
+use Rattle.relay_producer.specs.Ends.{Takes, IsSent, marked, count_sent, open_puts, identity, identities, IsSentToAll}
 
 -- the first lanes were sent the message, which so many took, and the others are as before
 pub record Sending (body : Body) (lane taken : ℕ) (old now : List OpenEnd) : Type 0 where

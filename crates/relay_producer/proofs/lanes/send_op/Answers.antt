@@ -1,4 +1,4 @@
-use Rattle.std.proofs.Common.{arith, ap, subst, set, length, false, refl, ◌≡◌, ◌<◌, ◌∙◌}
+use Rattle.std.proofs.Common.{arith, ap, subst, set, length, false, ◌≡◌, ◌<◌, ◌∙◌}
 use Rattle.std.proofs.lemmas.Option.{get_or_from_slice_get}
 use Rattle.relay_action.specs.declared.mail.Body.TheVariants.{Put}
 use Rattle.relay_producer.specs.declared.ends.OpenEnd.{OpenEnd}

@@ -1,4 +1,4 @@
-use Rattle.std.proofs.Common.{arith, sym, subst, ap, ◌∙◌, ◌+◌, ◌≡◌, ◌<◌, ℕ, length, set, Bool}
+use Rattle.std.proofs.Common.{arith, sym, subst, ap, ◌∙◌, ◌+◌, ◌<◌, ℕ, length, set, Bool}
 use Rattle.std.specs.Prelude.{if◌then◌else◌}
 use Rattle.relay_action.specs.declared.mail.Body.{Body}
 use Rattle.relay_producer.specs.Ends.{IsSent}

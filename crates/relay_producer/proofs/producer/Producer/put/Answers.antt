@@ -1,10 +1,10 @@
-use Rattle.std.proofs.Common.{arith, sym, ap, subst, refl, length, List, [], ◌∷◌, ◌++◌, ◌+◌, ◌<◌, ◌≡◌, ◌∙◌}
+use Rattle.std.proofs.Common.{arith, sym, ap, subst, refl, length, List, [], ◌∷◌, ◌++◌, ◌+◌, ◌<◌, ◌∙◌}
 use Rattle.std.specs.Prelude.{◌^◌}
 use Rattle.relay_action.specs.declared.operation.Op.{Op}
 use Rattle.relay_action.specs.declared.mail.Body.TheVariants.{Put}
 use Rattle.relay_action.specs.Lanes.{lane_of_document}
 use Rattle.relay_producer.specs.declared.ends.OpenEnd.{OpenEnd}
-use Rattle.relay_producer.specs.Ends.{with_sent, marked, change_at, open_puts, identities}
+use Rattle.relay_producer.specs.Ends.{with_sent, marked, open_puts, identities}
 use Rattle.relay_producer.specs.Puts.{HasPut}
 use Rattle.relay_producer.specs.States.{ProducerState, IsProducer, next_op}
 use Rattle.relay_producer.proofs.Putting.{at_lane, length-change_at, put_more, producer_puts, producer_marks, same_identities, same_marked}
