@@ -1,5 +1,5 @@
 -- The close of each lane's end keeps what was put.
-use Rattle.std.proofs.Common.{◌≡◌, ℕ, zero, suc, ◌+◌, ◌<◌, ◌≤◌, Bool, true, false, List, [], ◌∷◌, ◌++◌, length, length-append, map, sym, refl, ap, ◌∙◌, subst, arith, append-nil, append_assoc}
+use Rattle.std.proofs.Common.{◌≡◌, ℕ, zero, suc, ◌+◌, List, [], ◌∷◌, ◌++◌, length, sym, refl, ap, ◌∙◌, arith, append-nil, append_assoc}
 use Rattle.std.specs.Prelude.{Some}
 use Rattle.std.proofs.lemmas.List.{length-map}
 use Rattle.std.specs.List.{All, AllZip, slice_get}
@@ -12,9 +12,9 @@ use Rattle.relay_queue.specs.Ends.{Queue, SenderEnd}
 use Rattle.relay_producer.specs.declared.ends.OpenEnd.{OpenEnd}
 use Rattle.relay_producer.specs.declared.ends.ClosedEnd.{ClosedEnd}
 use Rattle.relay_producer.specs.declared.ends.ClosedEnd.TheVariants.{Closed, Gone}
-use Rattle.relay_producer.specs.Ends.{Closes, end_of, one_more, open_puts, closed_puts, identity, identities, IsClosedBy}
+use Rattle.relay_producer.specs.Ends.{Closes, end_of, open_puts, closed_puts, identity, identities, IsClosedBy}
 use Rattle.relay_producer.specs.Puts.{puts_in, puts_of, ops_for, HasPut}
-use Rattle.relay_producer.specs.States.{AreEndsOf, HasLanes, ProducerState, IsProducer, IsClosedProducer, ControlState, IsControl, IsClosedControl}
+use Rattle.relay_producer.specs.States.{HasLanes, IsProducer, IsClosedProducer, IsControl, IsClosedControl}
 
 pub puts_of-append : (a b : List Mail) → puts_of (a ++ b) ≡ puts_of a ++ puts_of b
 puts_of-append [] b = refl
@@ -61,6 +61,12 @@ closed_at (x ∷ xs) (y ∷ ys) zero put h at =
 closed_at (x ∷ xs) (y ∷ ys) (suc lane) put h at =
     let r = closed_at xs ys lane put h.1 at in
     record { end = r.end; at = r.at; sender = r.sender; sent = r.sent }
+
+pub zip_push : (old : List OpenEnd) (new : List ClosedEnd) (x : OpenEnd) (y : ClosedEnd) → AllZip Closes old new → Closes x y → AllZip Closes (old ++ x ∷ []) (new ++ y ∷ [])
+zip_push [] [] x y h c = (c, tt)
+zip_push [] (b ∷ bs) x y h c = absurd h
+zip_push (a ∷ as') [] x y h c = absurd h
+zip_push (a ∷ as') (b ∷ bs) x y h c = (h.0, zip_push as' bs x y h.1 c)
 
 count_kept : (old : List OpenEnd) (new : List ClosedEnd) → AllZip Closes old new → length new ≡ length old
 count_kept [] [] h = refl

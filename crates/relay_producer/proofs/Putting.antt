@@ -1,17 +1,17 @@
 -- An operation joins what a producer put.
-use Rattle.std.proofs.Common.{◌≡◌, ◌≢◌, ℕ, zero, suc, ◌+◌, ◌<◌, ◌≤◌, Bool, true, false, eqb, eq-eqb, ne_eqb, List, [], ◌∷◌, ◌++◌, length, length-append, map, set, get_or, sym, refl, ap, ◌∙◌, subst, ⊎_elim, inl, inr, arith, append-nil, ◌⊎◌}
-use Rattle.std.specs.Prelude.{Some, ◌==◌, if◌then◌else◌, ◌^◌}
+use Rattle.std.proofs.Common.{◌≡◌, ◌≢◌, ℕ, zero, suc, ◌+◌, ◌<◌, ◌≤◌, true, false, eqb, eq-eqb, ne_eqb, List, [], ◌∷◌, ◌++◌, length, set, get_or, sym, refl, ap, ◌∙◌, subst, ⊎_elim, inl, inr, arith, append-nil, ◌⊎◌}
+use Rattle.std.specs.Prelude.{Some, ◌^◌}
 use Rattle.std.specs.List.{All, slice_get}
 use Rattle.std.proofs.lemmas.List.{length-map, length_push}
 use Rattle.std.proofs.lemmas.Bool.Decides.{eqb_tells}
 use Rattle.std.proofs.lemmas.List.Elements.{All-nil, All-cons, All-head, All-tail}
+use Rattle.relay_action.specs.declared.key.DocKey.{DocKey}
 use Rattle.relay_action.specs.declared.operation.Op.{Op}
-use Rattle.relay_action.specs.declared.mail.Mail.{Mail}
 use Rattle.relay_action.specs.declared.mail.Body.{Body}
 use Rattle.relay_action.specs.declared.mail.Body.TheVariants.{Put}
 use Rattle.relay_action.specs.Lanes.{lane_of_document}
 use Rattle.relay_queue.specs.Sent.{message}
-use Rattle.relay_queue.specs.Ends.{Queue, SenderEnd}
+use Rattle.relay_queue.specs.Ends.{SenderEnd}
 use Rattle.relay_producer.specs.declared.ends.OpenEnd.{OpenEnd}
 use Rattle.relay_producer.specs.Ends.{with_sent, one_more, marked, open_puts, identity, identities, change_at}
 use Rattle.relay_producer.specs.Puts.{puts_of, ops_for, AreNumberedBy, HasPut}
@@ -25,7 +25,7 @@ set_change lane f [] x lt at = absurd (omega arith)
 set_change zero f (y ∷ ys) x lt at = ap (λ z. f z ∷ ys) at
 set_change (suc lane) f (y ∷ ys) x lt at = ap (λ l. y ∷ l) (set_change lane f ys x (omega arith) at)
 
-length-change_at : (lane : ℕ) (f : OpenEnd → OpenEnd) (xs : List OpenEnd) → length (change_at lane f xs) ≡ length xs
+pub length-change_at : (lane : ℕ) (f : OpenEnd → OpenEnd) (xs : List OpenEnd) → length (change_at lane f xs) ≡ length xs
 length-change_at lane f [] = refl
 length-change_at zero f (y ∷ ys) = refl
 length-change_at (suc lane) f (y ∷ ys) = ap suc (length-change_at lane f ys)
@@ -95,17 +95,17 @@ put_more producer count ends ops op named number h =
       counted = length_push ops op ∙ omega arith;
       numbered = numbered_push producer 1 ops op h.numbered named (omega arith);
       senders = λ lane put at.
-      ⊎_elim (λ (t : (lane ≢ k) × (slice_get (open_puts ends) lane ≡ Some put)). h.senders lane put t.1)
-      (λ (t : (lane ≡ k) × Changed f ends lane put). ap (λ (p : SenderEnd). p.sender) t.1.now ∙ h.senders lane t.1.end.put t.1.at) (changed_at k f ends lane put at);
+          ⊎_elim (λ (t : (lane ≢ k) × (slice_get (open_puts ends) lane ≡ Some put)). h.senders lane put t.1)
+          (λ (t : (lane ≡ k) × Changed f ends lane put). ap (λ (p : SenderEnd). p.sender) t.1.now ∙ h.senders lane t.1.end.put t.1.at) (changed_at k f ends lane put at);
       sent = λ lane put at.
-      ⊎_elim
-      (λ (t : (lane ≢ k) × (slice_get (open_puts ends) lane ≡ Some put)).
-      let n = t.0 in
-      h.sent lane put t.1 ∙ ap (λ j. ops_for j lane ops) old_len ∙ sym (ops_for-other (length ends) lane ops op (λ e. n (sym e))) ∙ ap (λ j. ops_for j lane (ops ++ op ∷ [])) (sym len))
-      (λ (t : (lane ≡ k) × Changed f ends lane put).
-      ap (λ (p : SenderEnd). puts_of p.sent) t.1.now ∙ puts_more op t.1.end.put
-      ∙ ap (λ l. l ++ op ∷ []) (h.sent lane t.1.end.put t.1.at ∙ ap (λ j. ops_for j lane ops) old_len)
-      ∙ sym (ops_for-own (length ends) lane ops op (sym t.0)) ∙ ap (λ j. ops_for j lane (ops ++ op ∷ [])) (sym len)) (changed_at k f ends lane put at);
+          ⊎_elim
+          (λ (t : (lane ≢ k) × (slice_get (open_puts ends) lane ≡ Some put)).
+          let n = t.0 in
+          h.sent lane put t.1 ∙ ap (λ j. ops_for j lane ops) old_len ∙ sym (ops_for-other (length ends) lane ops op (λ e. n (sym e))) ∙ ap (λ j. ops_for j lane (ops ++ op ∷ [])) (sym len))
+          (λ (t : (lane ≡ k) × Changed f ends lane put).
+          ap (λ (p : SenderEnd). puts_of p.sent) t.1.now ∙ puts_more op t.1.end.put
+          ∙ ap (λ l. l ++ op ∷ []) (h.sent lane t.1.end.put t.1.at ∙ ap (λ j. ops_for j lane ops) old_len)
+          ∙ sym (ops_for-own (length ends) lane ops op (sym t.0)) ∙ ap (λ j. ops_for j lane (ops ++ op ∷ [])) (sym len)) (changed_at k f ends lane put at);
     }
 
 -- ---- the producer afterwards
@@ -145,3 +145,7 @@ producer_marks producer count k ends p = record {
   own = own_marked producer count k ends p.own;
   shown = (p.shown.0, subst (λ (ps : List SenderEnd). HasPut producer count ps p.shown.0) (sym (same_marked k ends)) p.shown.1);
 }
+
+-- the lane of the document, among as many lanes as there are ends
+pub at_lane : (key : DocKey) (f : OpenEnd → OpenEnd) (ends new : List OpenEnd) (lane count : ℕ) → new ≡ change_at lane f ends → lane ≡ lane_of_document key count → count ≡ length ends → new ≡ change_at (lane_of_document key (length ends)) f ends
+at_lane key f ends new lane count e at len = e ∙ ap (λ k. change_at k f ends) (at ∙ ap (lane_of_document key) len)

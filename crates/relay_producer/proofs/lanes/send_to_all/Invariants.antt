@@ -1,4 +1,3 @@
-use Rattle.std.proofs.Common.{◌≡◌}
 use Rattle.relay_producer.specs.Signals.{body_of}
 use Rattle.relay_producer.proofs.Sending.{Sending}
 use Rattle.relay_producer.proofs.lanes.send_to_all.Given as goal
