@@ -84,6 +84,7 @@ impl Producer {
             (λ r. r.name ≡ record { producer = self.old.producer; number = self.old.put + 1 }) }
         ensures lane { IfOk result (λ r. r.lane ≡ lane_for key self.old) }
         ensures added { OnOk result (self.new ≡ after_put key action self.old) }
+        ensures limit { OnOk result (self.old.put < 2 ^ 40) }
         ensures reached { OnOk result ((e : OpenEnd)
             → slice_get self.old.ends (lane_for key self.old) ≡ Some e → e.gone ≡ false) }
         ensures back { IfErr result (λ e. (e.key ≡ key) × (e.action ≡ action)) }

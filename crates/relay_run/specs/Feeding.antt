@@ -1,11 +1,13 @@
 -- How a producer is fed the operations of an input.
-use Rattle.std.specs.Prelude.{◌≡◌, ℕ, ◌+◌, ◌^◌, List, [], ◌∷◌, ◌++◌, Result, Ok, Err}
+use Rattle.std.specs.Prelude.{◌≡◌, ℕ, ◌+◌, ◌<◌, ◌^◌, List, [], ◌∷◌, ◌++◌, Result, Ok, Err}
+use Rattle.relay_action.specs.declared.action.Action.{Action}
+use Rattle.relay_action.specs.declared.key.DocKey.{DocKey}
 use Rattle.relay_action.specs.declared.operation.Op.{Op}
 use Rattle.relay_ndjson.specs.Operations.{Operation, failed_after}
 use Rattle.relay_ndjson.specs.Reading.{Reading, Takes, Ends, Fails}
 use Rattle.relay_commands.specs.Lines.{TakesAll}
-use Rattle.relay_producer.specs.Ends.{open_puts}
-use Rattle.relay_producer.specs.Puts.{HasPut}
+use Rattle.relay_producer.specs.declared.fault.PutFaultKind.{PutFaultKind}
+use Rattle.relay_producer.specs.declared.fault.PutFaultKind.TheVariants as refusal
 use Rattle.relay_producer.specs.States.{ProducerState, after_put, after_gone}
 use Rattle.relay_run.specs.declared.feed.Next.{Next}
 use Rattle.relay_run.specs.declared.feed.Next.TheVariants as next
@@ -17,11 +19,6 @@ abbrev pub after_puts : ProducerState → List Operation → ProducerState
 after_puts s [] = s
 after_puts s (op ∷ ops) = after_puts (after_put op.0 op.1 s) ops
 
--- operations under the names of this producer, numbered from here
-abbrev pub named : ℕ → ℕ → List Operation → List Op
-named producer number [] = []
-named producer number (op ∷ ops) = record { producer = producer; number = number; key = op.0; action = op.1 } ∷ named producer (number + 1) ops
-
 -- Why no more was put: blank lines alone were left; or what follows is at fault, or a read failed, or there was no memory
 -- to read it; or one more operation stands there, for which there is no number, or whose lane is gone.
 abbrev pub Stops : Reading → Reading → ProducerState → ProducerState → Result Unit FeedFault → Type 0
@@ -32,10 +29,23 @@ Stops rest new fed after (Err fault.NumbersSpent) =
 Stops rest new fed after (Err fault.LaneGone) =
     (n : ℕ) × (op : Operation) × Takes rest new n op × (after ≡ after_gone op.0 fed)
 
+-- the fault that a refusal of a put is
+abbrev pub fault_of : PutFaultKind → FeedFault
+fault_of refusal.LaneGone = fault.LaneGone
+fault_of refusal.NumbersSpent = fault.NumbersSpent
+
+-- what a put does
+abbrev pub Puts : DocKey → Action → ProducerState → ProducerState → Result Unit FeedFault → Type 0
+Puts key action old new (Ok u) = (old.put < 2 ^ 40) × (new ≡ after_put key action old)
+Puts key action old new (Err (fault.Input e)) = ⊥
+Puts key action old new (Err fault.NumbersSpent) = (old.put ≡ 2 ^ 40) × (new ≡ old)
+Puts key action old new (Err fault.LaneGone) = new ≡ after_gone key old
+
 -- what one step does
 abbrev pub FeedsNext : Reading → Reading → ProducerState → ProducerState → Result Next FeedFault → Type 0
-FeedsNext old new before after (Ok next.Put) = (n : ℕ) × (op : Operation) × Takes old new n op × (after ≡ after_put op.0 op.1 before)
-FeedsNext old new before after (Ok next.Ended) = Stops old new before after (Ok unit)
+FeedsNext old new before after (Ok next.Put) =
+    (n : ℕ) × (op : Operation) × Takes old new n op × (before.put < 2 ^ 40) × (after ≡ after_put op.0 op.1 before)
+FeedsNext old new before after (Ok next.Ended) = Ends old new × (after ≡ before)
 FeedsNext old new before after (Err e) = Stops old new before after (Err e)
 
 -- There are operations that were taken from the front of the input, and that the producer put, one after another and in

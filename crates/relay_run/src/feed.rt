@@ -1,10 +1,10 @@
 //! A producer that is fed the operations of an input.
-ghost use Rattle.std.specs.Prelude.{◌≡◌, ◌<◌, ◌^◌, OnOk};
+ghost use Rattle.std.specs.Prelude.{◌≡◌};
 ghost use Rattle.relay_ndjson.specs.declared.parser.Phase.TheVariants as phase;
 ghost use Rattle.relay_producer.specs.Ends.{identities, open_puts};
-ghost use Rattle.relay_run.specs.Feeding.{Feeds, FeedsNext, failed_by};
+ghost use Rattle.relay_run.specs.Feeding.{Feeds, FeedsNext, Puts, failed_by, fault_of};
 
-use relay_action::ByteIn;
+use relay_action::{Action, ByteIn, DocKey};
 use relay_ndjson::{Input, InputFault};
 use relay_producer::{Producer, PutFaultKind};
 use std::sync::Wait;
@@ -62,17 +62,39 @@ fn feed_next<R: Wait, S: ByteIn>(
     ensures next { FeedsNext input.old input.new producer.old producer.new result }
     ensures failed { input.new.failed ≡ failed_by result input.old.failed }
     ensures same { identities (open_puts producer.new.ends) ≡ identities (open_puts producer.old.ends) }
-    ensures limit { OnOk result (producer.old.put < 2 ^ 40) }
 {
     match input.next() {
-        Ok(Some((key, action))) => match producer.put(rt, key, action) {
-            Ok(_) => Ok(Next::Put),
-            Err(fault) => match fault.kind {
-                PutFaultKind::LaneGone => Err(FeedFault::LaneGone),
-                PutFaultKind::NumbersSpent => Err(FeedFault::NumbersSpent),
-            },
+        Ok(Some((key, action))) => match put(rt, producer, key, action) {
+            Ok(()) => Ok(Next::Put),
+            Err(fault) => Err(fault),
         },
         Ok(None) => Ok(Next::Ended),
         Err(fault) => Err(FeedFault::Input(fault)),
+    }
+}
+
+// Puts an operation.
+fn put<R: Wait>(
+    rt: &R,
+    producer: &mut Producer,
+    key: DocKey,
+    action: Action,
+) -> Result<(), FeedFault>
+    ensures puts { Puts key action producer.old producer.new result }
+    ensures same { identities (open_puts producer.new.ends) ≡ identities (open_puts producer.old.ends) }
+{
+    match producer.put(rt, key, action) {
+        Ok(_) => Ok(()),
+        Err(fault) => Err(fault_of(fault.kind)),
+    }
+}
+
+// The fault that a refusal of a put is.
+fn fault_of(kind: PutFaultKind) -> FeedFault
+    ensures { result ≡ fault_of kind }
+{
+    match kind {
+        PutFaultKind::LaneGone => FeedFault::LaneGone,
+        PutFaultKind::NumbersSpent => FeedFault::NumbersSpent,
     }
 }
