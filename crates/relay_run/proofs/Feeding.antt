@@ -1,13 +1,11 @@
 -- What was put is what was taken.
-use Rattle.std.proofs.Common.{◌≡◌, ℕ, ◌+◌, ◌<◌, ◌^◌, List, [], ◌∷◌, ◌++◌, Result, Err, refl, sym, subst, ap, ◌∙◌, arith}
-use Rattle.relay_action.specs.declared.action.Action.{Action}
-use Rattle.relay_action.specs.declared.key.DocKey.{DocKey}
+use Rattle.std.proofs.Common.{◌≡◌, ℕ, List, [], ◌∷◌, ◌++◌, Result, Err, refl, sym, subst, ap, ◌∙◌}
 use Rattle.relay_ndjson.specs.declared.parser.Phase.TheVariants as phase
 use Rattle.relay_ndjson.specs.Operations.{Operation}
 use Rattle.relay_ndjson.specs.Reading.{Reading, Takes}
 use Rattle.relay_commands.specs.Lines.{TakesAll}
 use Rattle.relay_commands.proofs.Taken.{takes_more}
-use Rattle.relay_producer.specs.States.{ProducerState, IsProducer, after_put}
+use Rattle.relay_producer.specs.States.{ProducerState, after_put}
 use Rattle.relay_run.specs.declared.feed.FeedFault.{FeedFault}
 use Rattle.relay_run.specs.declared.feed.FeedFault.TheVariants as fault
 use Rattle.relay_run.specs.Feeding.{after_puts, Puts, Stops, Feeds}
@@ -37,10 +35,6 @@ fed_more old now next p q r n op h t e = record {
 pub fed_stops : (old now new : Reading) (p q after : ProducerState) (result : Result Unit FeedFault) → Fed old now p q → Stops now new q after result → Feeds old new p after result
 fed_stops old now new p q after result h s =
     record { ops = h.ops; rest = now; taken = h.taken; stops = subst (λ (x : ProducerState). Stops now new x after result) h.fed s }
-
--- a producer that put one more had not put all that it may
-pub put_below : (key : DocKey) (action : Action) (old new : ProducerState) → IsProducer new → new ≡ after_put key action old → old.put < 2 ^ 40
-put_below key action old new is e = let limit = is.limit in let more : new.put ≡ old.put + 1 = ap (λ (s : ProducerState). s.put) e in omega (arith, limit, more)
 
 -- a put that is refused stops the feeding
 pub refused_stops : (old new : Reading) (p q : ProducerState) (n : ℕ) (op : Operation) (e : FeedFault) → Takes old new n op → Puts op.0 op.1 p q (Err e) → Stops old new p q (Err e)

@@ -1,8 +1,7 @@
 -- How a producer is fed the operations of an input.
-use Rattle.std.specs.Prelude.{◌≡◌, ℕ, ◌+◌, ◌<◌, ◌^◌, List, [], ◌∷◌, ◌++◌, Result, Ok, Err}
+use Rattle.std.specs.Prelude.{◌≡◌, ℕ, ◌<◌, ◌^◌, List, [], ◌∷◌, Result, Ok, Err}
 use Rattle.relay_action.specs.declared.action.Action.{Action}
 use Rattle.relay_action.specs.declared.key.DocKey.{DocKey}
-use Rattle.relay_action.specs.declared.operation.Op.{Op}
 use Rattle.relay_ndjson.specs.Operations.{Operation, failed_after}
 use Rattle.relay_ndjson.specs.Reading.{Reading, Takes, Ends, Fails}
 use Rattle.relay_commands.specs.Lines.{TakesAll}
