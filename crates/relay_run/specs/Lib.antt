@@ -1,2 +1,4 @@
 pub mod Outcomes
 pub mod Feeding
+pub mod Identities
+pub mod Handles

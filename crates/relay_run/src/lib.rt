@@ -1,6 +1,7 @@
 //! Files of operations through a relay: the function behind `relay run`.
 #![tactic(auto)]
 
+pub mod fault;
 pub mod feed;
 pub mod outcome;
 pub mod producing;
