@@ -5,3 +5,4 @@ pub mod fault;
 pub mod feed;
 pub mod outcome;
 pub mod producing;
+pub mod ticking;
