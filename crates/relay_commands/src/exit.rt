@@ -1,6 +1,6 @@
 //! How the program ends.
 ghost use Rattle.std.specs.Prelude.{◌≡◌};
-ghost use Rattle.relay_commands.specs.Exits.{exit_of, exit_of_apply, status_of};
+ghost use Rattle.relay_commands.specs.Exits.{exit_of, exit_of_apply, exit_of_kind, status_of};
 
 use crate::apply::ApplyFault;
 use crate::lines::LinesFault;
@@ -19,6 +19,8 @@ pub enum Exit {
     Device,
     /// There was no memory.
     Memory,
+    /// Operations could not be settled, and were reported.
+    Reported,
 }
 
 impl Exit {
@@ -32,7 +34,19 @@ impl Exit {
             Exit::Input => 2,
             Exit::Device => 3,
             Exit::Memory => 4,
+            Exit::Reported => 5,
         }
+    }
+}
+
+/// How the program ends after a fault of a producer's input.
+pub fn exit_of_kind(kind: LineKind) -> Exit
+    ensures { result ≡ exit_of_kind kind }
+{
+    match kind {
+        LineKind::Read => Exit::Device,
+        LineKind::Memory => Exit::Memory,
+        _ => Exit::Input,
     }
 }
 
@@ -41,11 +55,7 @@ pub fn exit_of(fault: LinesFault) -> Exit
     ensures { result ≡ exit_of fault }
 {
     match fault {
-        LinesFault::Input(fault) => match fault.kind {
-            LineKind::Read => Exit::Device,
-            LineKind::Memory => Exit::Memory,
-            _ => Exit::Input,
-        },
+        LinesFault::Input(fault) => exit_of_kind(fault.kind),
         LinesFault::VersionsSpent { .. } => Exit::Input,
         LinesFault::Write { .. } => Exit::Device,
         LinesFault::Memory => Exit::Memory,

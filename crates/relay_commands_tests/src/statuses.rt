@@ -12,6 +12,7 @@ fn statuses(rt: HostRuntime) {
         (Exit::Input, 2),
         (Exit::Device, 3),
         (Exit::Memory, 4),
+        (Exit::Reported, 5),
     ];
     for (exit, status) in rows {
         assert!(rt; exit.status() == status);

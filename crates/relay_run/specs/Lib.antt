@@ -1,4 +1,5 @@
 pub mod Outcomes
+pub mod Faults
 pub mod Feeding
 pub mod Identities
 pub mod Handles

@@ -2,6 +2,7 @@
 #![tactic(auto)]
 
 pub mod fault;
+pub mod faults;
 pub mod feed;
 pub mod outcome;
 pub mod producing;

@@ -1,0 +1,45 @@
+-- What is said of a file that was not put whole, and how the program ends then.
+use Rattle.std.specs.Prelude.{ℕ, ◌<◌, Bool, List, [], ◌++◌, codes, decimal, if◌then◌else◌, nat_lt}
+use Rattle.relay_ndjson.specs.declared.kind.InputFault.{InputFault}
+use Rattle.relay_ndjson.specs.declared.kind.LineKind.TheVariants as kind
+use Rattle.relay_ndjson.specs.declared.kind.LineKind.{LineKind}
+use Rattle.relay_ndjson.specs.Kinds.{name_of}
+use Rattle.relay_commands.specs.declared.exit.Exit.{Exit}
+use Rattle.relay_commands.specs.declared.exit.Exit.TheVariants as exit
+use Rattle.relay_commands.specs.Exits.{exit_of_kind}
+use Rattle.relay_run.specs.declared.feed.FeedFault.{FeedFault}
+use Rattle.relay_run.specs.declared.feed.FeedFault.TheVariants as feed
+use Rattle.relay_run.specs.declared.faults.FileFault.{FileFault}
+use Rattle.relay_run.specs.declared.faults.FileFault.TheVariants as fault
+
+-- what stands behind the name of the file
+abbrev pub line_fault_text : ℕ → LineKind → List ℕ
+line_fault_text line kind.Read = codes "read failed"
+line_fault_text line kind.Memory = codes "out of memory"
+line_fault_text line other = codes "line " ++ decimal line ++ codes ": " ++ name_of other
+
+-- the line of a file; a lane that is gone is said by the run, and not by the file
+abbrev pub file_fault_line : List ℕ → FileFault → List ℕ
+file_fault_line file fault.Open = file ++ codes ": open failed\n"
+file_fault_line file (fault.Feed (feed.Input e)) = file ++ codes ": " ++ line_fault_text e.line e.kind ++ codes "\n"
+file_fault_line file (fault.Feed feed.NumbersSpent) = file ++ codes ": NumbersSpent\n"
+file_fault_line file (fault.Feed feed.LaneGone) = []
+
+-- a file that cannot be opened or read is a device's fault
+abbrev pub exit_of_file : FileFault → Exit
+exit_of_file fault.Open = exit.Device
+exit_of_file (fault.Feed (feed.Input e)) = exit_of_kind e.kind
+exit_of_file (fault.Feed feed.NumbersSpent) = exit.Input
+exit_of_file (fault.Feed feed.LaneGone) = exit.Done
+
+-- of several the one with the highest rank is the program's: out of memory, a device, an input, operations reported
+abbrev pub rank : Exit → ℕ
+rank exit.Done = 0
+rank exit.Reported = 1
+rank exit.Usage = 2
+rank exit.Input = 3
+rank exit.Device = 4
+rank exit.Memory = 5
+
+abbrev pub worse : Exit → Exit → Exit
+worse a b = if nat_lt (rank a) (rank b) then b else a
