@@ -1,13 +1,13 @@
-// A library with one function.
+//! Sockets of TCP behind the traits of the relay: `TcpDial` makes a connection to an index for each
+//! stream that a wire over HTTP asks for, and `TcpListen` hands out the connections that come to a
+//! server. It stands on `relay_wires` for dials and on `relay_stub` for listeners.
+//!
+//! What a socket gives or takes, and when it waits, no contract says. What is promised is that a failed
+//! call is answered as one, and counted.
 #![tactic(auto)]
 
-ghost use Rattle.std.specs.Prelude.{◌≡◌};
-ghost use Rattle.relay_net.specs.Echo.{echo_of};
+pub mod dial;
+pub mod listen;
 
-// The `ensures` clause is the contract: what `echo` returns is `echo_of` of its argument, a definition
-// in `specs/Echo.antt`, which a caller's clause can cite too.
-pub fn echo(x: usize) -> usize
-    ensures { result ≡ echo_of x }
-{
-    x
-}
+pub use dial::TcpDial;
+pub use listen::TcpListen;

@@ -1,5 +1,5 @@
 -- What a listener shows: the connections that it hands out, and those that it takes back.
-use Rattle.std.specs.Prelude.{◌≡◌, ℕ, List, [], ◌∷◌, ◌++◌, Option, option_map}
+use Rattle.std.specs.Prelude.{◌≡◌, ℕ, List, [], ◌∷◌, ◌++◌, Option, None, option_map}
 use Rattle.relay_action.specs.Streams.{one_more}
 
 -- what a stream shows: the bytes that reads will give, those that writes gave it, and how many of its calls failed
@@ -41,3 +41,7 @@ refused l = record l { failed = one_more l.failed }
 -- this connection was taken back
 abbrev pub with_done : Listening → Shown → Listening
 with_done l s = record l { done = append_shown l.done s }
+
+-- a listener that shows no connections, with these counts
+abbrev pub unseen : ℕ → ℕ → Listening
+unseen accepted failed = record { coming = None; done = None; accepted = accepted; failed = failed }
