@@ -5,7 +5,7 @@ use relay_action::StdStream;
 use relay_stub::{AcceptFailed, Listen};
 use std::io;
 use std::marker::Model;
-use std::net::{Net, OpenListener, OpenStream, TcpListener};
+use std::net::{Net, OpenListener, OpenStream, SocketAddr, TcpListener};
 
 /// Takes the connections that come to one address over TCP. Contracts see how many it took and how many
 /// calls failed, and of the bytes of a connection nothing; at 2^64 - 1 a count stays.
@@ -38,6 +38,12 @@ impl<R: Net> TcpListen<R> {
             accepted: 0,
             failed: 0,
         })
+    }
+
+    /// Where it listens, with the port that the system chose where none was asked for. An error is the
+    /// system's.
+    pub fn local_addr(&self) -> Result<SocketAddr, io::Error> {
+        self.listener.local_addr()
     }
 }
 

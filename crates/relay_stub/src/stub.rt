@@ -1,5 +1,6 @@
 //! One connection after another.
-ghost use Rattle.std.specs.Prelude.{◌≡◌};
+ghost use Rattle.std.specs.Prelude.{◌≡◌, ◌+◌, ◌≤◌, OnOk};
+ghost use Rattle.relay_action.specs.Streams.{most};
 ghost use Rattle.relay_index.specs.Serving.{under};
 ghost use Rattle.relay_stub.specs.Visits.{Serves, ServesNext};
 
@@ -37,8 +38,11 @@ pub fn stub_serve<S: ByteIn + ByteOut + Drop, L: Listen<S>>(
     index: &mut Index,
     script: &mut Script,
 ) -> Result<(), ServeError>
-    ensures { Serves requests (L.shows listener.old) (under index.old script.old)
+    ensures served { Serves requests (L.shows listener.old) (under index.old script.old)
         (L.shows listener.new) (under index.new script.new) result }
+    // So many connections were accepted, and no more.
+    ensures accepted { OnOk result ((L.shows listener.old).accepted + requests ≤ most
+        → (L.shows listener.new).accepted ≡ (L.shows listener.old).accepted + requests) }
 {
     let mut served = 0;
     while served < requests {
