@@ -1,13 +1,10 @@
-// A library with one function.
+//! Tests of `relay_stub`, over its public items and streams in memory: requests that are bulk, other ones
+//! and broken ones, refusals by places, streams and listeners that fail, and what the command writes.
 #![tactic(auto)]
 
-ghost use Rattle.std.specs.Prelude.{◌≡◌};
-ghost use Rattle.relay_stub_tests.specs.Echo.{echo_of};
-
-// The `ensures` clause is the contract: what `echo` returns is `echo_of` of its argument, a definition
-// in `specs/Echo.antt`, which a caller's clause can cite too.
-pub fn echo(x: usize) -> usize
-    ensures { result ≡ echo_of x }
-{
-    x
-}
+#[cfg(test)]
+mod desk;
+#[cfg(test)]
+mod ends;
+#[cfg(test)]
+mod visits;
