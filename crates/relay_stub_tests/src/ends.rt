@@ -44,7 +44,10 @@ fn lists_or_fails(rt: HostRuntime) -> Result<(), Fail> {
         (2, 1000, b"", Err(StubFault::Accept)),
     ];
     for (requests, room, wanted, answer) in rows {
-        assert!(rt; ends(rt.alloc(), requests, room, wanted) == Some((answer, true)), "{answer:?}");
+        assert!(rt;
+            ends(rt.alloc(), requests, room, wanted) == Some((answer, true)),
+            "{answer:?}"
+        );
     }
     Ok(())
 }
@@ -58,7 +61,10 @@ fn statuses(rt: HostRuntime) -> Result<(), Fail> {
     ];
     for (fault, exit, said) in rows {
         let text = format!(in rt.alloc(); "{fault}")?;
-        assert!(rt; exit_of_stub(fault) == exit && text.as_str() == said, "{said}");
+        assert!(rt;
+            exit_of_stub(fault) == exit && text.as_str() == said,
+            "{said}"
+        );
     }
     Ok(())
 }

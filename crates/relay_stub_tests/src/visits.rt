@@ -43,12 +43,10 @@ const NOT_JSON: &[u8] =
     b"HTTP/1.1 400 Bad Request\r\nContent-Type: application/json\r\nContent-Length: 50\r\nConnection: close\r\n\r\n{\"error\":{\"line\":1,\"type\":\"NotJson\"},\"status\":400}";
 
 // A bulk request whose body is no bulk body.
-const BROKEN_BODY: &[u8] =
-    b"POST /_bulk HTTP/1.1\r\nHost: h\r\nContent-Length: 2\r\n\r\n{\n";
+const BROKEN_BODY: &[u8] = b"POST /_bulk HTTP/1.1\r\nHost: h\r\nContent-Length: 2\r\n\r\n{\n";
 
 // A request that is no POST to /_bulk.
-const GET: &[u8] =
-    b"GET /_bulk HTTP/1.1\r\nHost: h\r\n\r\n";
+const GET: &[u8] = b"GET /_bulk HTTP/1.1\r\nHost: h\r\n\r\n";
 
 // One with a body that is bulk.
 const ELSEWHERE: &[u8] =
@@ -136,11 +134,18 @@ fn single_requests(rt: HostRuntime) -> Result<(), Fail> {
         // No request.
         (b"", b"", ""),
         (b"garbage\r\n\r\n", b"", ""),
-        (b"POST /_bulk HTTP/1.1\r\nContent-Length: 5\r\n\r\n{}\n", b"", ""),
+        (
+            b"POST /_bulk HTTP/1.1\r\nContent-Length: 5\r\n\r\n{}\n",
+            b"",
+            "",
+        ),
         (GZIP, b"", ""),
     ];
     for (input, wanted, lines) in rows {
-        assert!(rt; leaves(rt.alloc(), &[visit(input, wanted)], 1, &[], Ok(()), lines), "{lines}");
+        assert!(rt;
+            leaves(rt.alloc(), &[visit(input, wanted)], 1, &[], Ok(()), lines),
+            "{lines}"
+        );
     }
     Ok(())
 }
@@ -200,7 +205,14 @@ fn answers_cut_short(rt: HostRuntime) -> Result<(), Fail> {
             wanted: &NOT_FOUND[..room],
         };
         assert!(rt;
-            leaves(rt.alloc(), &[cut, visit(DELETE, CONFLICT)], 2, &[], Ok(()), ONE),
+            leaves(
+                rt.alloc(),
+                &[cut, visit(DELETE, CONFLICT)],
+                2,
+                &[],
+                Ok(()),
+                ONE
+            ),
             "{room}"
         );
     }
