@@ -55,7 +55,10 @@ fn relay_command<'a>(alloc: Global) -> Result<Command<'a>, AllocError> {
 }
 
 // Runs the subcommand that was found. One that is not known runs nothing.
-fn run_matches<R: Input + Print + Eprint + Net + AllocGlobal>(rt: &R, matches: &ArgMatches<'_>) -> Exit {
+fn run_matches<R: Input + Print + Eprint + Net + AllocGlobal>(
+    rt: &R,
+    matches: &ArgMatches<'_>,
+) -> Exit {
     let Some((name, matches)) = matches.subcommand() else {
         return Exit::Usage;
     };

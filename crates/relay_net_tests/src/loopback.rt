@@ -94,7 +94,14 @@ fn with_and_without_a_listener(rt: HostRuntime) -> Result<(), Fail> {
 
 #[test]
 fn no_addresses(rt: HostRuntime) -> Result<(), Fail> {
-    for address in ["", ":", "127.0.0.1", "127.0.0.1:", "127.0.0.1:65536", "no host:1"] {
+    for address in [
+        "",
+        ":",
+        "127.0.0.1",
+        "127.0.0.1:",
+        "127.0.0.1:65536",
+        "no host:1",
+    ] {
         assert!(rt; dials(rt.alloc(), &rt, address) == Some(false), "{address}");
         assert!(rt; TcpListen::bind(&rt, address).is_err(), "{address}");
     }

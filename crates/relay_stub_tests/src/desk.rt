@@ -1,4 +1,5 @@
 //! A listener in memory, which compares what was written on each connection.
+ghost use Rattle.std.specs.Prelude.{◌≡◌};
 ghost use Rattle.relay_stub.specs.Listening.{unseen};
 
 use relay_action::MemStream;
