@@ -1,65 +1,48 @@
 //! Sockets of the loopback.
-ghost use Rattle.std.specs.Prelude.{◌≡◌, ◌∷◌, ◌≤◌, [], length, OnOk};
-ghost use Rattle.relay_ndjson.specs.Bodies.{AreDealt};
-ghost use Rattle.relay_ndjson.specs.Bulk.{text_of};
+ghost use Rattle.std.specs.Prelude.{◌≡◌, []};
 
-use relay_action::{Action, DocKey, Write};
-use relay_http::is_host;
+use crate::asking::{address_of, sends, status_of, wired};
 use relay_index::{Index, Script};
-use relay_ndjson::bulk_len;
 use relay_net::{TcpDial, TcpListen};
 use relay_stub::stub_serve;
-use relay_wires::{Dial, HttpWire, Wire, WireFault, WireReply};
+use relay_wires::{Dial, Wire};
 use std::alloc::Global;
 use std::net::Net;
 use std::test::Fail;
 
-// Sends a request where none is out.
-fn send<W: Wire>(wire: &mut W, writes: &[Write]) -> Result<(), WireFault>
-    requires out { W.out wire.old ≡ [] }
-    requires few { length writes.now ≤ 10000 }
-    requires dealt { AreDealt writes.now }
-    requires bytes { length (text_of writes.now) ≤ 16777216 }
-    ensures { OnOk result (W.out wire.new ≡ 1 ∷ []) }
-{
-    wire.send(1, writes)
-}
-
-// The status of the first of the entries that came, if there is one.
-fn status_of(answer: Result<WireReply, WireFault>) -> Option<u16> {
-    match answer {
-        Ok(WireReply::Items(outcomes)) => Some(outcomes.first()?.status),
-        _ => None,
-    }
-}
-
-// The status of a delete of document `2` of `books` that goes over a socket to a stand-in server. The
-// request is small enough to wait in the socket until the server takes the connection.
-fn asks<R: Net>(alloc: Global, net: &R) -> Option<u16> {
-    let mut listener = TcpListen::bind(net, "127.0.0.1:0").ok()?;
-    let address = format!(in alloc; "{}", listener.local_addr().ok()?).ok()?;
-    let host = address.clone().ok()?;
-    if !is_host(host.as_str()) {
-        return None;
-    }
-    let mut wire = HttpWire::new(alloc, TcpDial::new(net, address), host, 1).ok()?;
-    let writes = [Write {
-        key: DocKey::new(alloc, "books", "2").ok()?,
-        version: 2,
-        action: Action::delete(),
-    }];
-    if bulk_len(&writes) > 16_777_216 || send(&mut wire, &writes).is_err() {
-        return None;
-    }
+// Serves one connection with a fresh index. Whether it was served.
+fn serves<R: Net>(alloc: Global, listener: &mut TcpListen<R>) -> bool {
     let mut index = Index::new(alloc);
     let mut script = Script::new(alloc);
-    stub_serve(alloc, &mut listener, 1, &mut index, &mut script).ok()?;
+    stub_serve(alloc, listener, 1, &mut index, &mut script).is_ok()
+}
+
+// The status of a delete over a wire to a listener. The request is small enough to wait in the socket until
+// the connection is taken.
+fn exchange<R: Net, W: Wire>(
+    alloc: Global,
+    listener: &mut TcpListen<R>,
+    wire: &mut W,
+) -> Option<u16>
+    requires { W.out wire.old ≡ [] }
+{
+    if !sends(alloc, wire, 2) || !serves(alloc, listener) {
+        return None;
+    }
     status_of(wire.receive(1))
+}
+
+// The same over sockets.
+fn asks<R: Net + Copy>(alloc: Global, net: R) -> Option<u16> {
+    let mut listener = TcpListen::bind(&net, "127.0.0.1:0").ok()?;
+    let address = address_of(alloc, &listener)?;
+    let mut wire = wired(alloc, net, address)?;
+    exchange(alloc, &mut listener, &mut wire)
 }
 
 #[test]
 fn a_request_over_a_socket(rt: HostRuntime) -> Result<(), Fail> {
-    assert!(rt; asks(rt.alloc(), &rt) == Some(404));
+    assert!(rt; asks(rt.alloc(), rt) == Some(404));
     Ok(())
 }
 
@@ -69,26 +52,34 @@ fn dials<R: Net>(alloc: Global, net: &R, address: &str) -> Option<bool> {
     Some(dial.dial().is_ok())
 }
 
-// Whether the address of a listener is dialled while it listens, and listened at by another; and both when
-// it is gone.
-fn around<R: Net>(alloc: Global, net: &R) -> Option<(bool, bool, bool, bool)> {
+// Whether an address is dialled, and listened at.
+fn around<R: Net>(alloc: Global, net: &R, address: &str) -> (Option<bool>, bool) {
+    let dialled = dials(alloc, net, address);
+    (dialled, TcpListen::bind(net, address).is_ok())
+}
+
+// That of the address of a listener while it listens.
+fn around_listener<R: Net>(alloc: Global, net: &R) -> Option<(String, (Option<bool>, bool))> {
     let listener = TcpListen::bind(net, "localhost:0").ok()?;
-    let address = format!(in alloc; "{}", listener.local_addr().ok()?).ok()?;
-    let dialled = dials(alloc, net, address.as_str())?;
-    let taken = TcpListen::bind(net, address.as_str()).is_err();
-    drop(listener);
-    let alone = dials(alloc, net, address.as_str())?;
-    Some((
-        dialled,
-        taken,
-        alone,
-        TcpListen::bind(net, address.as_str()).is_ok(),
-    ))
+    let address = address_of(alloc, &listener)?;
+    let found = around(alloc, net, address.as_str());
+    Some((address, found))
+}
+
+// Whether it is dialled while it listens and not listened at, and the other way round when it is gone.
+fn with_and_without<R: Net>(alloc: Global, net: &R) -> bool {
+    match around_listener(alloc, net) {
+        Some((address, found)) => {
+            found == (Some(true), false)
+                && around(alloc, net, address.as_str()) == (Some(false), true)
+        }
+        None => false,
+    }
 }
 
 #[test]
 fn with_and_without_a_listener(rt: HostRuntime) -> Result<(), Fail> {
-    assert!(rt; around(rt.alloc(), &rt) == Some((true, true, false, true)));
+    assert!(rt; with_and_without(rt.alloc(), &rt));
     Ok(())
 }
 
