@@ -5,17 +5,18 @@ use clap::error::ErrorKind;
 use clap::{ArgMatches, Command, Error};
 use relay_commands::exit::Exit;
 use std::alloc::{AllocError, Global};
+use std::net::Net;
 use std::rt::Env;
 use std::{env, io};
 
 const ABOUT: &str = "Takes write operations from producers to an OpenSearch index.
 
 Today it numbers the operations of one producer with external versions, as the lines of a bulk
-request, serves a bulk request with a stand-in index, and plays scripts of what may happen between
-producers, lanes and an index.";
+request, serves bulk requests with a stand-in index, also over HTTP, and plays scripts of what may
+happen between producers, lanes and an index.";
 
 /// Does what the process's command line says.
-pub fn run<R: Input + Print + Eprint + Env + AllocGlobal>(rt: &R) -> Exit {
+pub fn run<R: Input + Print + Eprint + Net + Env + AllocGlobal>(rt: &R) -> Exit {
     match words(rt) {
         Ok(words) => run_words(rt, words.as_slice()),
         Err(error) if error.kind() == io::ErrorKind::OutOfMemory => out_of_memory(rt),
@@ -30,7 +31,7 @@ fn words<R: Env + AllocGlobal>(rt: &R) -> Result<Vec<String>, io::Error> {
 }
 
 // Does what a command line says.
-fn run_words<R: Input + Print + Eprint + AllocGlobal>(rt: &R, words: &[String]) -> Exit {
+fn run_words<R: Input + Print + Eprint + Net + AllocGlobal>(rt: &R, words: &[String]) -> Exit {
     let command = match relay_command(rt.alloc()) {
         Ok(command) => command,
         Err(error) => return explain(rt, &Error::from(error)),
@@ -54,7 +55,10 @@ fn relay_command<'a>(alloc: Global) -> Result<Command<'a>, AllocError> {
 }
 
 // Runs the subcommand that was found. One that is not known runs nothing.
-fn run_matches<R: Input + Print + Eprint + AllocGlobal>(rt: &R, matches: &ArgMatches<'_>) -> Exit {
+fn run_matches<R: Input + Print + Eprint + Net + AllocGlobal>(
+    rt: &R,
+    matches: &ArgMatches<'_>,
+) -> Exit {
     let Some((name, matches)) = matches.subcommand() else {
         return Exit::Usage;
     };

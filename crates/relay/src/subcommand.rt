@@ -1,11 +1,13 @@
 //! The subcommands: each has a file with its help, its options and what it runs.
 pub mod apply;
 pub mod lines;
+pub mod stub;
 pub mod world;
 
 use clap::{ArgMatches, Command};
 use relay_commands::exit::Exit;
 use std::alloc::{AllocError, Global};
+use std::net::Net;
 
 /// What the program can be told to do.
 #[derive(Clone, Copy, Debug, PartialEq, Eq)]
@@ -14,19 +16,27 @@ pub enum Subcommand {
     Lines,
     /// `relay apply`.
     Apply,
+    /// `relay stub`.
+    Stub,
     /// `relay world`.
     World,
 }
 
 impl Subcommand {
     /// All of them, in the order of the help.
-    pub const ALL: [Subcommand; 3] = [Subcommand::Lines, Subcommand::Apply, Subcommand::World];
+    pub const ALL: [Subcommand; 4] = [
+        Subcommand::Lines,
+        Subcommand::Apply,
+        Subcommand::Stub,
+        Subcommand::World,
+    ];
 
     /// Its word on the command line.
     pub fn name(self) -> &'static str {
         match self {
             Subcommand::Lines => "lines",
             Subcommand::Apply => "apply",
+            Subcommand::Stub => "stub",
             Subcommand::World => "world",
         }
     }
@@ -46,12 +56,13 @@ impl Subcommand {
         match self {
             Subcommand::Lines => lines::command(alloc, self.name()),
             Subcommand::Apply => apply::command(alloc, self.name()),
+            Subcommand::Stub => stub::command(alloc, self.name()),
             Subcommand::World => world::command(alloc, self.name()),
         }
     }
 
-    /// Runs it over standard input and output.
-    pub fn run<R: Input + Print + Eprint + AllocGlobal>(
+    /// Runs it over standard input and output, and over sockets.
+    pub fn run<R: Input + Print + Eprint + Net + AllocGlobal>(
         self,
         rt: &R,
         matches: &ArgMatches<'_>,
@@ -59,6 +70,7 @@ impl Subcommand {
         match self {
             Subcommand::Lines => lines::run(rt, matches),
             Subcommand::Apply => apply::run(rt, matches),
+            Subcommand::Stub => stub::run(rt, matches),
             Subcommand::World => world::run(rt, matches),
         }
     }

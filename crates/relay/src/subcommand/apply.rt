@@ -1,11 +1,9 @@
 //! `relay apply`.
-use crate::report::{out_of_memory, usage};
+use crate::refusals::script_of;
 use clap::{Arg, ArgAction, ArgMatches, Command};
 use relay_action::StdStream;
 use relay_commands::apply::{ApplyFault, apply};
 use relay_commands::exit::{Exit, exit_of_apply};
-use relay_commands::refuse_list::{ListFault, refuse_list};
-use relay_index::Script;
 use std::alloc::{AllocError, Global};
 use std::io;
 
@@ -40,32 +38,15 @@ pub fn command<'a>(alloc: Global, name: &'static str) -> Result<Command<'a>, All
 
 /// Runs it over standard input and output.
 pub fn run<R: Input + Print + Eprint + AllocGlobal>(rt: &R, matches: &ArgMatches<'_>) -> Exit {
-    let script = match script_of(rt.alloc(), matches) {
+    let script = match script_of(rt, matches) {
         Ok(script) => script,
-        Err(ListFault::BadList { before }) => return bad_pair(rt, before.saturating_add(1)),
-        Err(ListFault::Memory) => return out_of_memory(rt),
+        Err(exit) => return exit,
     };
     let mut reader = StdStream::new(rt.reader());
     let mut writer = StdStream::new(io::writer(rt));
     match apply(rt.alloc(), &mut reader, &mut writer, script) {
         Ok(()) => Exit::Done,
         Err(fault) => report(rt, fault),
-    }
-}
-
-// Says which pair of a list of refusals is none.
-fn bad_pair<R: Eprint>(rt: &R, pair: u64) -> Exit {
-    let _ = eprintln!(rt;
-        "error: pair {pair} of the value of '--refuse' is no place and status as 2:429, with places from 1 and statuses from 400 to 599 other than 404 and 409"
-    );
-    Exit::Usage
-}
-
-// The script that the command line asks for.
-fn script_of(alloc: Global, matches: &ArgMatches<'_>) -> Result<Script, ListFault> {
-    match matches.get_str("refuse") {
-        Some(list) => refuse_list(alloc, list),
-        None => Ok(Script::new(alloc)),
     }
 }
 

@@ -1,0 +1,30 @@
+//! The refusals that a command line asks for.
+use crate::report::out_of_memory;
+use clap::ArgMatches;
+use relay_commands::exit::Exit;
+use relay_commands::refuse_list::{ListFault, refuse_list};
+use relay_index::Script;
+
+/// The script of the option `--refuse`, or how the program ends where its value is no list, which was said
+/// then.
+pub fn script_of<R: Eprint + AllocGlobal>(
+    rt: &R,
+    matches: &ArgMatches<'_>,
+) -> Result<Script, Exit> {
+    let Some(list) = matches.get_str("refuse") else {
+        return Ok(Script::new(rt.alloc()));
+    };
+    match refuse_list(rt.alloc(), list) {
+        Ok(script) => Ok(script),
+        Err(ListFault::BadList { before }) => Err(bad_pair(rt, before.saturating_add(1))),
+        Err(ListFault::Memory) => Err(out_of_memory(rt)),
+    }
+}
+
+// Says which pair of a list of refusals is none.
+fn bad_pair<R: Eprint>(rt: &R, pair: u64) -> Exit {
+    let _ = eprintln!(rt;
+        "error: pair {pair} of the value of '--refuse' is no place and status as 2:429, with places from 1 and statuses from 400 to 599 other than 404 and 409"
+    );
+    Exit::Usage
+}

@@ -1,0 +1,99 @@
+//! `relay stub`.
+use crate::refusals::script_of;
+use clap::builder::ValueParser;
+use clap::{Arg, ArgAction, ArgMatches, Command};
+use relay_action::StdStream;
+use relay_commands::exit::Exit;
+use relay_net::TcpListen;
+use relay_stub::command::{StubFault, exit_of_stub, stub};
+use std::alloc::{AllocError, Global};
+use std::io;
+use std::net::Net;
+
+const ABOUT: &str = "Serves bulk requests over HTTP with a fresh stand-in index";
+
+const LONG_ABOUT: &str = "Serves bulk requests over HTTP with a fresh stand-in index.
+
+It listens at ADDR and serves N connections, one after the other, with one request on each. A request
+POST /_bulk with a body of at most 16777216 bytes is answered as `relay apply` answers that body: 200 and
+the reply, or 400 and the first line that is at fault. The index is the same for all of them: what one
+request wrote is there for the next. Any other request is answered 400 and
+{\"error\":{\"type\":\"NotBulk\"},\"status\":400}. Each answer says `Connection: close`. A connection that
+ends early or carries no request of HTTP/1 is dropped, and counts as one of the N. It waits for each
+connection and its request as long as that takes.
+
+    relay stub --listen 127.0.0.1:9200 --requests 2 &
+    relay lines --index books < ops.ndjson > bulk.ndjson
+    curl --data-binary @bulk.ndjson http://127.0.0.1:9200/_bulk
+
+At the end standard output gets a line for each write that the index applied,
+
+    applied INDEX/ID VERSION index       or `delete` in place of `index`
+
+in byte order of INDEX and then of ID, and for each document in the order in which they were applied.
+With `--requests 0` it listens, accepts nothing and prints nothing.
+
+It ends with status 0, with 1 where the command line is at fault, with 3 where it cannot listen
+(`listen failed`), accept (`accept failed`) or print (`write failed`), and with 4 and nothing printed
+where it runs out of memory.";
+
+const LISTEN_HELP: &str =
+    "Where to listen, as HOST:PORT: an address of this machine or its name, as 127.0.0.1:9200 or [::1]:9200, and a port";
+
+const REQUESTS_HELP: &str = "How many connections to serve, from 0 to 18446744073709551615";
+
+const REFUSE_HELP: &str =
+    "Items that the index refuses, as 2:429,5:400: the place of an item from 1, counted over all requests, and a status from 400 to 599 other than 404 and 409 [default: none]";
+
+/// Its help and its options.
+pub fn command<'a>(alloc: Global, name: &'static str) -> Result<Command<'a>, AllocError> {
+    let listen = Arg::new(alloc, "listen")
+        .long("listen")
+        .value_name("ADDR")
+        .action(ArgAction::Set)
+        .required(true)
+        .help(LISTEN_HELP);
+    let requests = Arg::new(alloc, "requests")
+        .long("requests")
+        .value_name("N")
+        .action(ArgAction::Set)
+        .required(true)
+        .value_parser(ValueParser::unsigned(0, u64::MAX))
+        .help(REQUESTS_HELP);
+    let refuse = Arg::new(alloc, "refuse")
+        .long("refuse")
+        .value_name("LIST")
+        .action(ArgAction::Set)
+        .help(REFUSE_HELP);
+    Command::new(alloc, name)
+        .about(ABOUT)
+        .long_about(LONG_ABOUT)
+        .arg(listen)?
+        .arg(requests)?
+        .arg(refuse)
+}
+
+/// Runs it over sockets and standard output.
+pub fn run<R: Print + Eprint + Net + AllocGlobal>(rt: &R, matches: &ArgMatches<'_>) -> Exit {
+    let script = match script_of(rt, matches) {
+        Ok(script) => script,
+        Err(exit) => return exit,
+    };
+    let address = matches.get_str("listen").unwrap_or("");
+    let requests = matches.get_one::<u64>("requests").unwrap_or(0);
+    let Ok(mut listener) = TcpListen::bind(rt, address) else {
+        let _ = rt.eprintln("listen failed");
+        return Exit::Device;
+    };
+    let mut writer = StdStream::new(io::writer(rt));
+    match stub(rt.alloc(), &mut listener, requests, script, &mut writer) {
+        Ok(()) => Exit::Done,
+        Err(fault) => report(rt, fault),
+    }
+}
+
+// Says what stopped it. That the text may not be printed changes nothing.
+fn report<R: Eprint>(rt: &R, fault: StubFault) -> Exit {
+    let _ = rt.eprintln(fault);
+    exit_of_stub(fault)
+}

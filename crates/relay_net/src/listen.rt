@@ -1,0 +1,73 @@
+//! Connections that are taken.
+ghost use Rattle.std.specs.Prelude.{◌≡◌, IfOk};
+
+use relay_action::StdStream;
+use relay_stub::{AcceptFailed, Listen};
+use std::io;
+use std::marker::Model;
+use std::net::{Net, OpenListener, OpenStream, SocketAddr, TcpListener};
+
+/// Takes the connections that come to one address over TCP. Contracts see how many it took and how many
+/// calls failed, and of the bytes of a connection nothing; at 2^64 - 1 a count stays.
+#[derive(Drop)]
+pub struct TcpListen<R: Net> {
+    listener: R::Listener,
+    accepted: u64,
+    failed: u64,
+}
+
+impl<R: Net> Model for TcpListen<R> {
+    ghost use Rattle.std.specs.Prelude.{ℕ};
+
+    ghost Value = { ℕ × ℕ };
+
+    ghost view = { λ l. (l.accepted, l.failed) };
+}
+
+impl<R: Net> TcpListen<R> {
+    /// Listens at this address, as `HOST:PORT`: an IP address, in brackets where it is of version 6, or a
+    /// host's name, and a port; with port 0 the system chooses one. From here on connections may come, and
+    /// wait to be accepted. Any error is the system's: the address is none or not of this machine, or
+    /// another program listens there.
+    pub fn bind(net: &R, address: &str) -> Result<TcpListen<R>, io::Error>
+        ensures { IfOk result (λ l. l ≡ (0, 0)) }
+    {
+        let listener = TcpListener::bind(net, address)?;
+        Ok(TcpListen {
+            listener,
+            accepted: 0,
+            failed: 0,
+        })
+    }
+
+    /// Where it listens, with the port that the system chose where none was asked for. An error is the
+    /// system's.
+    pub fn local_addr(&self) -> Result<SocketAddr, io::Error> {
+        self.listener.local_addr()
+    }
+}
+
+impl<R: Net> Listen<StdStream<R::Stream>> for TcpListen<R> {
+    ghost use Rattle.relay_stub.specs.Listening.{unseen};
+
+    ghost shows = { λ l. unseen l.0 l.1 };
+
+    /// The next connection. It waits until one comes.
+    fn accept(&mut self) -> Result<StdStream<R::Stream>, AcceptFailed> {
+        match self.listener.accept() {
+            Ok((stream, _)) => {
+                self.accepted = self.accepted.saturating_add(1);
+                Ok(StdStream::new(stream))
+            }
+            Err(_) => {
+                self.failed = self.failed.saturating_add(1);
+                Err(AcceptFailed)
+            }
+        }
+    }
+
+    /// Closes the connection.
+    fn close(&mut self, stream: StdStream<R::Stream>) {
+        drop(stream);
+    }
+}

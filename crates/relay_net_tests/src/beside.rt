@@ -1,0 +1,71 @@
+//! A server in a thread of its own.
+ghost use Rattle.std.specs.Prelude.{◌≡◌, []};
+
+use crate::asking::{address_of, asks, wired};
+use relay_index::{Index, Script};
+use relay_net::TcpListen;
+use relay_stub::stub_serve;
+use relay_wires::Wire;
+use std::alloc::Global;
+use std::net::{Net, TcpListener, TcpStream};
+use std::sync::Wait;
+use std::test::Fail;
+use std::thread;
+use std::thread::Threads;
+
+// How many writes an index applied to its first document.
+fn count(alloc: Global, index: &Index) -> usize {
+    match index.keys(alloc) {
+        Ok(keys) => match keys.first() {
+            Some(key) => index.applied(key).len(),
+            None => 0,
+        },
+        Err(_) => 0,
+    }
+}
+
+// How many writes an index applied that served so many connections.
+fn serves<R: Net>(alloc: Global, mut listener: TcpListen<R>, requests: u64) -> usize {
+    let mut index = Index::new(alloc);
+    let mut script = Script::new(alloc);
+    match stub_serve(alloc, &mut listener, requests, &mut index, &mut script) {
+        Ok(()) => count(alloc, &index),
+        Err(_) => 0,
+    }
+}
+
+// The statuses of three deletes of one document with versions 2, 1 and 3.
+fn asks_all<W: Wire>(alloc: Global, wire: &mut W) -> [Option<u16>; 3]
+    requires { W.out wire.old ≡ [] }
+{
+    let second = asks(alloc, wire, 2);
+    let first = asks(alloc, wire, 1);
+    [second, first, asks(alloc, wire, 3)]
+}
+
+// Sends them to this address.
+fn asks_at<R: Net + Copy>(alloc: Global, net: R, address: String) -> [Option<u16>; 3] {
+    match wired(alloc, net, address) {
+        Some(mut wire) => asks_all(alloc, &mut wire),
+        None => [None; 3],
+    }
+}
+
+// Their statuses over sockets, and how many of them the server applied.
+fn asks_beside<R>(rt: R, alloc: Global) -> Option<([Option<u16>; 3], usize)>
+where
+    R: Net<Listener = TcpListener, Stream = TcpStream> + Threads + Wait + Copy + Send + 'static,
+{
+    let listener = TcpListen::bind(&rt, "127.0.0.1:0").ok()?;
+    let address = address_of(alloc, &listener)?;
+    let server = thread::spawn(&rt, move || serves(alloc, listener, 3)).ok()?;
+    let statuses = asks_at(alloc, rt, address);
+    Some((statuses, server.join(&rt)))
+}
+
+#[test]
+fn a_server_in_a_thread(rt: HostRuntime) -> Result<(), Fail> {
+    let wanted = Some(([Some(404), Some(409), Some(404)], 2));
+    assert!(rt; asks_beside(rt, rt.alloc()) == wanted);
+    Ok(())
+}

@@ -1,0 +1,100 @@
+//! Sockets of the loopback.
+ghost use Rattle.std.specs.Prelude.{◌≡◌, []};
+
+use crate::asking::{address_of, sends, status_of, wired};
+use relay_index::{Index, Script};
+use relay_net::{TcpDial, TcpListen};
+use relay_stub::stub_serve;
+use relay_wires::{Dial, Wire};
+use std::alloc::Global;
+use std::net::Net;
+use std::test::Fail;
+
+// Serves one connection with a fresh index. Whether it was served.
+fn serves<R: Net>(alloc: Global, listener: &mut TcpListen<R>) -> bool {
+    let mut index = Index::new(alloc);
+    let mut script = Script::new(alloc);
+    stub_serve(alloc, listener, 1, &mut index, &mut script).is_ok()
+}
+
+// The status of a delete over a wire to a listener. The request is small enough to wait in the socket until
+// the connection is taken.
+fn exchange<R: Net, W: Wire>(
+    alloc: Global,
+    listener: &mut TcpListen<R>,
+    wire: &mut W,
+) -> Option<u16>
+    requires { W.out wire.old ≡ [] }
+{
+    if !sends(alloc, wire, 2) || !serves(alloc, listener) {
+        return None;
+    }
+    status_of(wire.receive(1))
+}
+
+// The same over sockets.
+fn asks<R: Net + Copy>(alloc: Global, net: R) -> Option<u16> {
+    let mut listener = TcpListen::bind(&net, "127.0.0.1:0").ok()?;
+    let address = address_of(alloc, &listener)?;
+    let mut wire = wired(alloc, net, address)?;
+    exchange(alloc, &mut listener, &mut wire)
+}
+
+#[test]
+fn a_request_over_a_socket(rt: HostRuntime) -> Result<(), Fail> {
+    assert!(rt; asks(rt.alloc(), rt) == Some(404));
+    Ok(())
+}
+
+// Whether a connection to this address is made.
+fn dials<R: Net>(alloc: Global, net: &R, address: &str) -> Option<bool> {
+    let mut dial = TcpDial::new(net, address.to_string(alloc).ok()?);
+    Some(dial.dial().is_ok())
+}
+
+// Whether an address is dialled, and listened at.
+fn around<R: Net>(alloc: Global, net: &R, address: &str) -> (Option<bool>, bool) {
+    let dialled = dials(alloc, net, address);
+    (dialled, TcpListen::bind(net, address).is_ok())
+}
+
+// That of the address of a listener while it listens.
+fn around_listener<R: Net>(alloc: Global, net: &R) -> Option<(String, (Option<bool>, bool))> {
+    let listener = TcpListen::bind(net, "localhost:0").ok()?;
+    let address = address_of(alloc, &listener)?;
+    let found = around(alloc, net, address.as_str());
+    Some((address, found))
+}
+
+// Whether it is dialled while it listens and not listened at, and the other way round when it is gone.
+fn with_and_without<R: Net>(alloc: Global, net: &R) -> bool {
+    match around_listener(alloc, net) {
+        Some((address, found)) => {
+            found == (Some(true), false)
+                && around(alloc, net, address.as_str()) == (Some(false), true)
+        }
+        None => false,
+    }
+}
+
+#[test]
+fn with_and_without_a_listener(rt: HostRuntime) -> Result<(), Fail> {
+    assert!(rt; with_and_without(rt.alloc(), &rt));
+    Ok(())
+}
+
+#[test]
+fn no_addresses(rt: HostRuntime) -> Result<(), Fail> {
+    for address in [
+        "",
+        ":",
+        "127.0.0.1",
+        "127.0.0.1:",
+        "127.0.0.1:65536",
+        "no host:1",
+    ] {
+        assert!(rt; dials(rt.alloc(), &rt, address) == Some(false), "{address}");
+        assert!(rt; TcpListen::bind(&rt, address).is_err(), "{address}");
+    }
+    Ok(())
+}

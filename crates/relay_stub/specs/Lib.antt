@@ -1,0 +1,4 @@
+pub mod Listening
+pub mod Visits
+pub mod Listing
+pub mod Stub

@@ -1,0 +1,63 @@
+-- What `relay stub` serves and writes, and how it ends.
+use Rattle.std.specs.Prelude.{◌≡◌, ◌⊎◌, ℕ, ◌<◌, List, length, take, Option, Result, Ok, Err}
+use Rattle.std.specs.Io.KnownBytes.{append_known}
+use Rattle.relay_action.specs.Streams.{one_more}
+use Rattle.relay_index.specs.States.{State, fresh}
+use Rattle.relay_index.specs.Plans.{Plan}
+use Rattle.relay_index.specs.Serving.{under}
+use Rattle.relay_commands.specs.declared.exit.Exit.{Exit}
+use Rattle.relay_commands.specs.declared.exit.Exit.TheVariants as exit
+use Rattle.relay_stub.specs.Listening.{Listening}
+use Rattle.relay_stub.specs.Listing.{IsListing}
+use Rattle.relay_stub.specs.Visits.{Serves}
+use Rattle.relay_stub.specs.declared.stub.ServeError.TheVariants as error
+use Rattle.relay_stub.specs.declared.command.StubFault.{StubFault}
+use Rattle.relay_stub.specs.declared.command.StubFault.TheVariants as fault
+
+-- all connections were served with an index that was fresh, which has come to this
+abbrev pub ServesFresh : ℕ → Plan → Listening → Listening → State → Type 0
+ServesFresh requests script from to end = (left : Plan) × Serves requests from (under fresh script) to (under end left) (Ok tt)
+
+-- all connections were served, and this is the listing of the index then
+abbrev pub IsOutput : ℕ → Plan → Listening → Listening → List ℕ → Type 0
+IsOutput requests script from to text = (end : State) × ServesFresh requests script from to end × IsListing end text
+
+-- why there is no listing: a connection could not be accepted; or memory ran out, at a connection or when all were served
+abbrev pub NoOutput : ℕ → Plan → Listening → Listening → StubFault → Type 0
+NoOutput requests script from to fault.Accept =
+    (end : State) × (left : Plan) × Serves requests from (under fresh script) to (under end left) (Err error.Accept)
+NoOutput requests script from to (fault.Write sent) = ⊥
+NoOutput requests script from to fault.Memory =
+    ((end : State) × (left : Plan) × Serves requests from (under fresh script) to (under end left) (Err error.Memory))
+    ⊎ ((end : State) × ServesFresh requests script from to end)
+
+-- What was written, by how it ended: the listing of the index that served all connections; after a failed write exactly the
+-- first of its bytes; else nothing.
+abbrev pub Stubs : ℕ → Plan → Listening → Listening → Option (List ℕ) → Option (List ℕ) → Result (Unit {0}) StubFault → Type 0
+Stubs requests script from to before after (Ok u) =
+    (text : List ℕ) × IsOutput requests script from to text × (after ≡ append_known before text)
+Stubs requests script from to before after (Err (fault.Write sent)) =
+    (text : List ℕ) × IsOutput requests script from to text × (sent < length text) × (after ≡ append_known before (take sent text))
+Stubs requests script from to before after (Err fault.Accept) = NoOutput requests script from to fault.Accept × (after ≡ before)
+Stubs requests script from to before after (Err fault.Memory) = NoOutput requests script from to fault.Memory × (after ≡ before)
+
+-- the text was written, or after a failed write exactly the first of its bytes
+abbrev pub Sends : Option (List ℕ) → Option (List ℕ) → ℕ → ℕ → List ℕ → Result (Unit {0}) StubFault → Type 0
+Sends before after failed count text (Ok u) = (after ≡ append_known before text) × (count ≡ failed)
+Sends before after failed count text (Err (fault.Write sent)) =
+    (sent < length text) × (after ≡ append_known before (take sent text)) × (count ≡ one_more failed)
+Sends before after failed count text (Err fault.Accept) = ⊥
+Sends before after failed count text (Err fault.Memory) = ⊥
+
+-- how many calls of the writer have failed after an answer
+abbrev pub failed_by : Result (Unit {0}) StubFault → ℕ → ℕ
+failed_by (Ok u) n = n
+failed_by (Err fault.Accept) n = n
+failed_by (Err (fault.Write sent)) n = one_more n
+failed_by (Err fault.Memory) n = n
+
+-- how the program ends
+abbrev pub exit_of_stub : StubFault → Exit
+exit_of_stub fault.Accept = exit.Device
+exit_of_stub (fault.Write sent) = exit.Device
+exit_of_stub fault.Memory = exit.Memory

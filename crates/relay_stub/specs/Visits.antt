@@ -1,0 +1,140 @@
+-- What becomes of a connection, and of one connection after another.
+use Rattle.std.specs.Prelude.{◌≡◌, ◌⊎◌, ℕ, suc, zero, ◌<◌, ◌≤◌, List, [], codes, length, Option, Some, None, Result, Ok, Err, MatchResult, IsTrue, IsFalse, false}
+use Rattle.relay_action.specs.Streams.{one_more}
+use Rattle.relay_index.specs.Serving.{Server, answer_of, Answers, StopsAfter}
+use Rattle.relay_index.specs.declared.serving.ServeFault.{ServeFault}
+use Rattle.relay_http.specs.Forms.{Begins, Fails, IsOutside, IsThatOrOutside}
+use Rattle.relay_http.specs.Framing.{reply_limit}
+use Rattle.relay_http.specs.Connection.{Connection, ahead, fresh, failed_reading, failed_writing}
+use Rattle.relay_http.specs.Request.{IsRequest, RequestPasses, RequestStates, TookRequest, IsFound}
+use Rattle.relay_http.specs.WrittenAnswer.{answer}
+use Rattle.relay_http.specs.WrittenRequest.{Sends}
+use Rattle.relay_http.specs.declared.fault.HttpFault.{HttpFault}
+use Rattle.relay_http.specs.declared.fault.HttpFault.TheVariants as fault
+use Rattle.relay_http.specs.declared.request.HttpRequest.{HttpRequest}
+use Rattle.relay_stub.specs.Listening.{Shown, shown, Listening, HandsOut, refused, with_done}
+use Rattle.relay_stub.specs.declared.stub.ServeError.{ServeError}
+use Rattle.relay_stub.specs.declared.stub.ServeError.TheVariants as error
+
+-- ---- what is read
+
+-- a connection over a stream that shows this, before its first call
+abbrev pub opened : Shown → Connection
+opened s = fresh s.left s.written s.failed
+
+-- what the stream of a connection shows
+abbrev pub stream_of : Connection → Shown
+stream_of c = shown c.left c.written c.failed
+
+-- what reading a request from a connection answers and leaves
+pub record ReadsRequest (c d : Connection) (r : Result (Option HttpRequest) HttpFault) : Type 0 where
+  pub answer : MatchResult r (TookRequest (ahead c) (ahead d)) (Fails IsRequest (ahead c) d.left)
+  pub found : (stream : List ℕ) (there : Begins IsRequest stream) → ahead c ≡ Some stream → MatchResult r (IsFound there (ahead d)) IsOutside
+  pub stated : (stream : List ℕ) (f : HttpFault) → RequestStates stream f → ahead c ≡ Some stream → MatchResult r (λ request. ⊥) (IsThatOrOutside f)
+  pub long : (stream : List ℕ) → RequestPasses stream → ahead c ≡ Some stream → MatchResult r (λ request. ⊥) (IsThatOrOutside fault.BodyLong)
+  pub none : ahead c ≡ Some [] → MatchResult r (λ request. request ≡ None) IsOutside
+  pub failed : d.failed ≡ failed_reading r c.failed
+  pub written : d.written ≡ c.written
+
+-- ---- what is written
+
+-- the text of the answer to a request that is no POST to /_bulk
+abbrev pub not_bulk : List ℕ
+not_bulk = codes "{\"error\":{\"type\":\"NotBulk\"},\"status\":400}"
+
+-- An answer that fits was written, and says close: all of it, or a part where a write failed, or nothing where there was no
+-- memory for it.
+pub record Goes (status : ℕ) (text : List ℕ) (c d : Connection) : Type 0 where
+  pub fits : length text ≤ reply_limit
+  pub sent : Result (Unit {0}) HttpFault
+  pub message : Sends (answer status text false) c.written d.written sent
+  pub failed : d.failed ≡ failed_writing sent c.failed
+
+-- one that is longer than a reply may be was not
+pub record IsTooLong (text : List ℕ) (c d : Connection) : Type 0 where
+  pub passes : reply_limit < length text
+  pub written : d.written ≡ c.written
+  pub failed : d.failed ≡ c.failed
+
+-- this answer was given, and nothing was read for it
+pub record IsAnswered (status : ℕ) (text : List ℕ) (c d : Connection) : Type 0 where
+  pub goes : Goes status text c d ⊎ IsTooLong text c d
+  pub left : d.left ≡ c.left
+
+-- ---- one connection
+
+-- The body of a bulk request was served, once, and answered. Or memory ran out after its first items, and nothing was
+-- written.
+abbrev pub MeetsBulk : List ℕ → Server → Server → Connection → Connection → Result (Unit {0}) ServeFault → Type 0
+MeetsBulk body old new c d (Ok u) =
+    (status : ℕ) × (text : List ℕ) × Answers body old (answer_of status text) new × IsAnswered status text c d
+MeetsBulk body old new c d (Err e) = StopsAfter e.ran body old new × (d ≡ c)
+
+-- another request was answered NotBulk, and nothing was run
+abbrev pub MeetsOther : Server → Server → Connection → Connection → Result (Unit {0}) ServeFault → Type 0
+MeetsOther old new c d (Ok u) = (new ≡ old) × IsAnswered 400 not_bulk c d
+MeetsOther old new c d (Err e) = ⊥
+
+pub record Meets (r : HttpRequest) (old new : Server) (c d : Connection) (result : Result (Unit {0}) ServeFault) : Type 0 where
+  pub bulk : IsTrue r.bulk → MeetsBulk r.body.items old new c d result
+  pub other : IsFalse r.bulk → MeetsOther old new c d result
+
+-- the connection was dropped: nothing was written, and nothing was run
+abbrev pub Drops : Server → Server → Connection → Connection → Result (Unit {0}) ServeFault → Type 0
+Drops old new c d (Ok u) = (new ≡ old) × (d ≡ c)
+Drops old new c d (Err e) = ⊥
+
+-- by what was read
+abbrev pub Handles : Result (Option HttpRequest) HttpFault → Server → Server → Connection → Connection → Result (Unit {0}) ServeFault → Type 0
+Handles (Ok (Some request)) old new c d result = Meets request old new c d result
+Handles (Ok None) old new c d result = Drops old new c d result
+Handles (Err f) old new c d result = Drops old new c d result
+
+-- a request was read from a connection, and handled
+pub record Exchanges (c d : Connection) (old new : Server) (result : Result (Unit {0}) ServeFault) : Type 0 where
+  pub between : Connection
+  pub read : Result (Option HttpRequest) HttpFault
+  pub reads : ReadsRequest c between read
+  pub handles : Handles read old new between d result
+
+-- there was no memory for a connection over the stream: nothing was read, written or run
+abbrev pub HasNoRoom : Shown → Shown → Server → Server → Result (Unit {0}) ServeFault → Type 0
+HasNoRoom came went old new (Ok u) = ⊥
+HasNoRoom came went old new (Err e) = (e.ran ≡ 0) × (went ≡ came) × (new ≡ old)
+
+-- The stream that came was served one request, and showed this when it went.
+abbrev pub IsServed : Shown → Shown → Server → Server → Result (Unit {0}) ServeFault → Type 0
+IsServed came went old new result =
+    ((d : Connection) × Exchanges (opened came) d old new result × (went ≡ stream_of d)) ⊎ HasNoRoom came went old new result
+
+-- ---- one after another
+
+-- one connection was handed out, served, and taken back
+pub record Visits (from : Listening) (old : Server) (to : Listening) (new : Server) (result : Result (Unit {0}) ServeFault) : Type 0 where
+  pub came : Shown
+  pub went : Shown
+  pub at : Listening
+  pub handed : HandsOut from came at
+  pub served : IsServed came went old new result
+  pub back : to ≡ with_done at went
+
+-- so many were, one after the other
+abbrev pub VisitsAll : ℕ → Listening → Server → Listening → Server → Type 0
+VisitsAll zero from old to new = (to ≡ from) × (new ≡ old)
+VisitsAll (suc n) from old to new =
+    (at : Listening) × (later : Server) × VisitsAll n from old at later × Visits at later to new (Ok tt)
+
+-- What was served, by how it ended: all connections; or fewer, and then a call of the listener failed, or memory ran out
+-- at the next.
+abbrev pub Serves : ℕ → Listening → Server → Listening → Server → Result (Unit {0}) ServeError → Type 0
+Serves n from old to new (Ok u) = VisitsAll n from old to new
+Serves n from old to new (Err error.Accept) =
+    (k : ℕ) × (k < n) × ((at : Listening) × VisitsAll k from old at new × (to ≡ refused at))
+Serves n from old to new (Err error.Memory) =
+    (k : ℕ) × (k < n) × ((at : Listening) × (later : Server) × (e : ServeFault) × VisitsAll k from old at later × Visits at later to new (Err e))
+
+-- the next connection was served; or a call of the listener failed; or memory ran out
+abbrev pub ServesNext : Listening → Server → Listening → Server → Result (Unit {0}) ServeError → Type 0
+ServesNext from old to new (Ok u) = Visits from old to new (Ok tt)
+ServesNext from old to new (Err error.Accept) = (to ≡ refused from) × (new ≡ old)
+ServesNext from old to new (Err error.Memory) = (e : ServeFault) × Visits from old to new (Err e)

@@ -1,0 +1,93 @@
+//! A fresh stand-in index that serves connections: the function behind `relay stub`.
+ghost use Rattle.std.specs.Prelude.{◌≡◌, MatchResult};
+ghost use Rattle.relay_stub.specs.Stub.{Stubs, IsOutput, NoOutput, Sends, failed_by, exit_of_stub};
+
+use crate::listen::Listen;
+use crate::listing::listing;
+use crate::stub::{ServeError, stub_serve};
+use relay_action::{ByteIn, ByteOut, write_all};
+use relay_commands::exit::Exit;
+use relay_index::{Index, Script};
+use std::alloc::Global;
+use thiserror::Error;
+
+/// Why the connections were not all served, or not all was written. The text of a variant is what the
+/// program prints.
+#[derive(Clone, Copy, Debug, PartialEq, Eq, Error)]
+pub enum StubFault {
+    /// A connection could not be accepted. Nothing was written.
+    #[error("accept failed")]
+    Accept,
+    /// A write failed, which is not repeated. Exactly the first `sent` bytes of the listing went out.
+    #[error("write failed")]
+    Write {
+        /// How many bytes went out.
+        sent: u64,
+    },
+    /// There was no memory. Nothing was written.
+    #[error("out of memory")]
+    Memory,
+}
+
+/// Serves one request on each of so many connections with a fresh index under the script, and then writes
+/// a line for each write that the index applied, as [`listing`] makes them. Nothing is written before all
+/// connections were served.
+///
+/// [`listing`]: crate::listing::listing
+pub fn stub<S: ByteIn + ByteOut + Drop, L: Listen<S>, W: ByteOut>(
+    alloc: Global,
+    listener: &mut L,
+    requests: u64,
+    script: Script,
+    writer: &mut W,
+) -> Result<(), StubFault>
+    ensures stubs { Stubs requests script (L.shows listener.old) (L.shows listener.new)
+        (W.written writer.old) (W.written writer.new) result }
+    ensures failed { W.failed writer.new ≡ failed_by result (W.failed writer.old) }
+{
+    match output(alloc, listener, requests, script) {
+        Ok(text) => send(writer, text.as_slice()),
+        Err(fault) => Err(fault),
+    }
+}
+
+// Serves the connections, and gives the listing of the index.
+fn output<S: ByteIn + ByteOut + Drop, L: Listen<S>>(
+    alloc: Global,
+    listener: &mut L,
+    requests: u64,
+    mut script: Script,
+) -> Result<Vec<u8>, StubFault>
+    ensures { MatchResult result (λ text. IsOutput requests script (L.shows listener.old) (L.shows listener.new) text.items)
+        (NoOutput requests script (L.shows listener.old) (L.shows listener.new)) }
+{
+    let mut index = Index::new(alloc);
+    match stub_serve(alloc, listener, requests, &mut index, &mut script) {
+        Ok(()) => match listing(alloc, &index) {
+            Ok(text) => Ok(text),
+            Err(_) => Err(StubFault::Memory),
+        },
+        Err(ServeError::Accept) => Err(StubFault::Accept),
+        Err(ServeError::Memory) => Err(StubFault::Memory),
+    }
+}
+
+// Writes the listing.
+fn send<W: ByteOut>(writer: &mut W, text: &[u8]) -> Result<(), StubFault>
+    ensures { Sends (W.written writer.old) (W.written writer.new) (W.failed writer.old) (W.failed writer.new) text.now result }
+{
+    match write_all(writer, text) {
+        Ok(()) => Ok(()),
+        Err(sent) => Err(StubFault::Write { sent: sent as u64 }),
+    }
+}
+
+/// How `relay stub` ends after a fault.
+pub fn exit_of_stub(fault: StubFault) -> Exit
+    ensures { result ≡ exit_of_stub fault }
+{
+    match fault {
+        StubFault::Accept | StubFault::Write { .. } => Exit::Device,
+        StubFault::Memory => Exit::Memory,
+    }
+}

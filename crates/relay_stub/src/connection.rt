@@ -1,0 +1,111 @@
+//! One request on a connection.
+ghost use Rattle.std.specs.Prelude.{◌≡◌, ◌≤◌, length, IsTrue, IsFalse};
+ghost use Rattle.relay_index.specs.Serving.{under};
+ghost use Rattle.relay_http.specs.Connection.{is_broken, is_open};
+ghost use Rattle.relay_http.specs.WrittenAnswer.{IsAnswerStatus};
+ghost use Rattle.relay_stub.specs.Listening.{shown};
+ghost use Rattle.relay_stub.specs.Visits.{not_bulk, IsAnswered, MeetsBulk, Meets, Exchanges, IsServed};
+
+use relay_action::{ByteIn, ByteOut};
+use relay_http::{Conn, HttpRequest, REPLY_LIMIT};
+use relay_index::{Index, Script, ServeFault};
+use std::alloc::Global;
+
+// The answer to a request that is no POST to `/_bulk`.
+const NOT_BULK: &str = "{\"error\":{\"type\":\"NotBulk\"},\"status\":400}";
+
+/// Serves one request on a connection over this stream, and hands the stream back.
+///
+/// A bulk request is run by the index under the script, as `Index::serve_body` does it, and answered. Any
+/// other request is answered 400 and `{"error":{"type":"NotBulk"},"status":400}`. Each answer says that
+/// the connection closes. Where no request comes, its bytes are at fault or a read fails, or there is no
+/// memory to read it, nothing is run and nothing answered. An answer of more than 67,108,864 bytes is not
+/// written, and one that a write fails for is left as it is; its request was run.
+///
+/// `ServeFault`: there was no memory for the connection or to run the request, of which exactly the first
+/// `ran` items were run, and nothing was written.
+pub fn serve_connection<S: ByteIn + ByteOut + Drop>(
+    alloc: Global,
+    stream: S,
+    index: &mut Index,
+    script: &mut Script,
+) -> (Result<(), ServeFault>, S)
+    ensures { IsServed (shown (S.left stream) (S.written stream) (S.failed stream))
+        (shown (S.left result.1) (S.written result.1) (S.failed result.1))
+        (under index.old script.old) (under index.new script.new) result.0 }
+{
+    match Conn::new(alloc, stream) {
+        Ok(mut conn) => {
+            let result = exchange(alloc, &mut conn, index, script);
+            (result, conn.into_stream())
+        }
+        Err((_, stream)) => (Err(ServeFault { ran: 0 }), stream),
+    }
+}
+
+// Reads a request, and does what it asks for. Where there is none, nothing is done.
+fn exchange<S: ByteIn + ByteOut + Drop>(
+    alloc: Global,
+    conn: &mut Conn<S>,
+    index: &mut Index,
+    script: &mut Script,
+) -> Result<(), ServeFault>
+    requires { IsTrue (is_open conn.old.phase) }
+    ensures { Exchanges conn.old conn.new (under index.old script.old) (under index.new script.new) result }
+{
+    match conn.read_request(alloc) {
+        Ok(Some(request)) => meet(alloc, conn, &request, index, script),
+        Ok(None) => Ok(()),
+        Err(_) => Ok(()),
+    }
+}
+
+// Does what a request asks for.
+fn meet<S: ByteOut + Drop>(
+    alloc: Global,
+    conn: &mut Conn<S>,
+    request: &HttpRequest,
+    index: &mut Index,
+    script: &mut Script,
+) -> Result<(), ServeFault>
+    requires { IsFalse (is_broken conn.old.phase) }
+    ensures { Meets request.now (under index.old script.old) (under index.new script.new) conn.old conn.new result }
+{
+    if request.bulk {
+        return run(alloc, conn, request.body.as_slice(), index, script);
+    }
+    reply(alloc, conn, 400, NOT_BULK);
+    Ok(())
+}
+
+// Runs the body of a bulk request, and answers it.
+fn run<S: ByteOut + Drop>(
+    alloc: Global,
+    conn: &mut Conn<S>,
+    body: &[u8],
+    index: &mut Index,
+    script: &mut Script,
+) -> Result<(), ServeFault>
+    requires { IsFalse (is_broken conn.old.phase) }
+    ensures { MeetsBulk body.now (under index.old script.old) (under index.new script.new) conn.old conn.new result }
+{
+    match index.serve_body(alloc, body, script) {
+        Ok((status, text)) => {
+            reply(alloc, conn, status, text.as_str());
+            Ok(())
+        }
+        Err(fault) => Err(fault),
+    }
+}
+
+// Writes an answer, unless it is too long. A fault of the connection is let be: it carries nothing more.
+fn reply<S: ByteOut + Drop>(alloc: Global, conn: &mut Conn<S>, status: u16, text: &str)
+    requires phase { IsFalse (is_broken conn.old.phase) }
+    requires status { IsAnswerStatus status }
+    ensures { IsAnswered status text.now conn.old conn.new }
+{
+    if text.len() > REPLY_LIMIT {
+        return;
+    }
+    let _ = conn.write_answer(alloc, status, text, false);
+}

@@ -1,0 +1,76 @@
+//! One connection after another.
+ghost use Rattle.std.specs.Prelude.{◌≡◌, ◌+◌, ◌≤◌, OnOk};
+ghost use Rattle.relay_action.specs.Streams.{most};
+ghost use Rattle.relay_index.specs.Serving.{under};
+ghost use Rattle.relay_stub.specs.Visits.{Serves, ServesNext};
+
+use crate::connection::serve_connection;
+use crate::listen::Listen;
+use relay_action::{ByteIn, ByteOut};
+use relay_index::{Index, Script};
+use std::alloc::Global;
+use thiserror::Error;
+
+/// Why fewer connections were served than were asked for.
+#[derive(Clone, Copy, Debug, PartialEq, Eq, Error)]
+pub enum ServeError {
+    /// A connection could not be accepted. It is not tried again.
+    #[error("accept failed")]
+    Accept,
+    /// There was no memory for a connection, or to run its request. What ran before stays.
+    #[error("out of memory")]
+    Memory,
+}
+
+/// Serves one request on each of so many connections, one connection after the other, as
+/// [`serve_connection`] does it. A connection whose request is at fault, or whose answer could not be
+/// written, counts like any other.
+///
+/// The index and the script go through the requests in their order. `Accept`: the listener had no
+/// connection, and those before it were served. `Memory`: there was none for a connection, or to run its
+/// request; that connection and those before it were given back.
+///
+/// [`serve_connection`]: crate::serve_connection
+pub fn stub_serve<S: ByteIn + ByteOut + Drop, L: Listen<S>>(
+    alloc: Global,
+    listener: &mut L,
+    requests: u64,
+    index: &mut Index,
+    script: &mut Script,
+) -> Result<(), ServeError>
+    ensures served { Serves requests (L.shows listener.old) (under index.old script.old)
+        (L.shows listener.new) (under index.new script.new) result }
+    // So many connections were accepted, and no more.
+    ensures accepted { OnOk result ((L.shows listener.old).accepted + requests ≤ most
+        → (L.shows listener.new).accepted ≡ (L.shows listener.old).accepted + requests) }
+{
+    let mut served = 0;
+    while served < requests {
+        if let Err(error) = serve_next(alloc, listener, index, script) {
+            return Err(error);
+        }
+        served += 1;
+    }
+    Ok(())
+}
+
+// Serves the next connection.
+fn serve_next<S: ByteIn + ByteOut + Drop, L: Listen<S>>(
+    alloc: Global,
+    listener: &mut L,
+    index: &mut Index,
+    script: &mut Script,
+) -> Result<(), ServeError>
+    ensures { ServesNext (L.shows listener.old) (under index.old script.old)
+        (L.shows listener.new) (under index.new script.new) result }
+{
+    let Ok(stream) = listener.accept() else {
+        return Err(ServeError::Accept);
+    };
+    let (result, stream) = serve_connection(alloc, stream, index, script);
+    listener.close(stream);
+    match result {
+        Ok(()) => Ok(()),
+        Err(_) => Err(ServeError::Memory),
+    }
+}

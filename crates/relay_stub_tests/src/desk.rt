@@ -1,0 +1,133 @@
+//! A listener in memory, which compares what was written on each connection.
+ghost use Rattle.std.specs.Prelude.{◌≡◌};
+ghost use Rattle.relay_stub.specs.Listening.{unseen};
+
+use relay_action::MemStream;
+use relay_index::{Index, Script, may_refuse};
+use relay_stub::{AcceptFailed, Listen, ServeError, stub_serve};
+use std::alloc::Global;
+
+/// A connection: what is read from it, how many bytes may be written to it, which of its calls fails
+/// (0: none), and what is written to it.
+#[derive(Clone, Copy)]
+pub struct Visit<'a> {
+    pub input: &'a [u8],
+    pub room: usize,
+    pub fail_at: u64,
+    pub wanted: &'a [u8],
+}
+
+/// A listener for these connections, whose streams move so many bytes in a call. Where none is left it
+/// fails.
+#[derive(Drop)]
+pub struct Desk<'a> {
+    alloc: Global,
+    visits: &'a [Visit<'a>],
+    piece: usize,
+    handed: usize,
+    closed: usize,
+    wrong: usize,
+    accepted: u64,
+    failed: u64,
+}
+
+impl<'a> Desk<'a> {
+    /// None was handed out yet.
+    pub fn new(alloc: Global, visits: &'a [Visit<'a>], piece: usize) -> Desk<'a> {
+        Desk {
+            alloc,
+            visits,
+            piece,
+            handed: 0,
+            closed: 0,
+            wrong: 0,
+            accepted: 0,
+            failed: 0,
+        }
+    }
+
+    /// Whether so many connections were handed out and taken back, and each was written what it was to be.
+    pub fn served(&self, visits: usize) -> bool {
+        self.handed == visits && self.closed == visits && self.wrong == 0
+    }
+
+    // The stream of the next connection, where there is one and memory for it.
+    fn stream(&mut self) -> Option<MemStream>
+        ensures accepted { self.new.accepted ≡ self.old.accepted }
+        ensures failed { self.new.failed ≡ self.old.failed }
+    {
+        let visit = self.visits.get(self.handed)?;
+        self.handed = self.handed.saturating_add(1);
+        let input = visit.input.to_vec(self.alloc).ok()?;
+        MemStream::new(
+            self.alloc,
+            input,
+            visit.room,
+            self.piece.max(1),
+            visit.fail_at,
+        )
+        .ok()
+    }
+
+    // Whether what was written on the connection that is closed next is what it was to be.
+    fn right(&self, written: &[u8]) -> bool {
+        match self.visits.get(self.closed) {
+            Some(visit) => visit.wanted == written,
+            None => false,
+        }
+    }
+}
+
+impl Listen<MemStream> for Desk<'_> {
+    ghost shows = { λ d. unseen d.accepted d.failed };
+
+    fn accept(&mut self) -> Result<MemStream, AcceptFailed> {
+        match self.stream() {
+            Some(stream) => {
+                self.accepted = self.accepted.saturating_add(1);
+                Ok(stream)
+            }
+            None => {
+                self.failed = self.failed.saturating_add(1);
+                Err(AcceptFailed)
+            }
+        }
+    }
+
+    fn close(&mut self, stream: MemStream) {
+        if !self.right(stream.written()) {
+            self.wrong = self.wrong.saturating_add(1);
+        }
+        self.closed = self.closed.saturating_add(1);
+    }
+}
+
+/// A script of these refusals.
+pub fn script_of(alloc: Global, refusals: &[(u64, u16)]) -> Option<Script> {
+    let mut script = Script::new(alloc);
+    for (place, status) in refusals {
+        if !may_refuse(*status) || script.refuse(*place, *status).is_err() {
+            return None;
+        }
+    }
+    Some(script)
+}
+
+/// Serves so many connections with an index. What it answers, or `None` where a connection was written
+/// something else or was not taken back.
+pub fn serves(
+    alloc: Global,
+    visits: &[Visit<'_>],
+    piece: usize,
+    requests: u64,
+    index: &mut Index,
+    script: &mut Script,
+) -> Option<Result<(), ServeError>> {
+    let mut desk = Desk::new(alloc, visits, piece);
+    let result = stub_serve(alloc, &mut desk, requests, index, script);
+    if desk.served(visits.len()) {
+        Some(result)
+    } else {
+        None
+    }
+}

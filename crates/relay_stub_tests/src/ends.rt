@@ -1,0 +1,70 @@
+//! What the command writes, and how it ends.
+use crate::desk::{Desk, Visit, script_of};
+use relay_action::MemStream;
+use relay_commands::exit::Exit;
+use relay_stub::command::{StubFault, exit_of_stub, stub};
+use std::alloc::Global;
+use std::test::Fail;
+
+const DELETES: &[u8] =
+    b"POST /_bulk HTTP/1.1\r\nHost: h\r\nContent-Length: 297\r\n\r\n{\"delete\":{\"_id\":\"2\",\"_index\":\"b\",\"version\":1,\"version_type\":\"external\"}}\n{\"delete\":{\"_id\":\"3\",\"_index\":\"b\",\"version\":2,\"version_type\":\"external\"}}\n{\"delete\":{\"_id\":\"10\",\"_index\":\"b\",\"version\":3,\"version_type\":\"external\"}}\n{\"delete\":{\"_id\":\"9\",\"_index\":\"a\",\"version\":4,\"version_type\":\"external\"}}\n";
+
+const ANSWER: &[u8] =
+    b"HTTP/1.1 200 OK\r\nContent-Type: application/json\r\nContent-Length: 405\r\nConnection: close\r\n\r\n{\"errors\":true,\"items\":[{\"delete\":{\"_id\":\"2\",\"_index\":\"b\",\"_seq_no\":0,\"_version\":1,\"result\":\"not_found\",\"status\":404}},{\"delete\":{\"_id\":\"3\",\"_index\":\"b\",\"error\":{\"type\":\"scripted_refusal\"},\"status\":503}},{\"delete\":{\"_id\":\"10\",\"_index\":\"b\",\"_seq_no\":1,\"_version\":3,\"result\":\"not_found\",\"status\":404}},{\"delete\":{\"_id\":\"9\",\"_index\":\"a\",\"_seq_no\":2,\"_version\":4,\"result\":\"not_found\",\"status\":404}}],\"took\":0}";
+
+const LINES: &[u8] = b"applied a/9 4 delete\napplied b/10 3 delete\napplied b/2 1 delete\n";
+
+// What the command answers over a connection with these deletes, with room for so much output, where so
+// many connections are asked for; and whether this is what it wrote.
+fn ends(
+    alloc: Global,
+    requests: u64,
+    room: usize,
+    wanted: &[u8],
+) -> Option<(Result<(), StubFault>, bool)> {
+    let visits = [Visit {
+        input: DELETES,
+        room: 1000,
+        fail_at: 0,
+        wanted: ANSWER,
+    }];
+    let script = script_of(alloc, &[(2, 503)])?;
+    let mut desk = Desk::new(alloc, &visits, 100);
+    let mut writer = MemStream::new(alloc, Vec::new(alloc), room, 10, 0).ok()?;
+    let result = stub(alloc, &mut desk, requests, script, &mut writer);
+    Some((result, desk.served(1) && writer.written() == wanted))
+}
+
+#[test]
+fn lists_or_fails(rt: HostRuntime) -> Result<(), Fail> {
+    let rows: [(u64, usize, &[u8], Result<(), StubFault>); 4] = [
+        (1, 1000, LINES, Ok(())),
+        (1, 64, LINES, Ok(())),
+        (1, 30, &LINES[..30], Err(StubFault::Write { sent: 30 })),
+        (2, 1000, b"", Err(StubFault::Accept)),
+    ];
+    for (requests, room, wanted, answer) in rows {
+        assert!(rt;
+            ends(rt.alloc(), requests, room, wanted) == Some((answer, true)),
+            "{answer:?}"
+        );
+    }
+    Ok(())
+}
+
+#[test]
+fn statuses(rt: HostRuntime) -> Result<(), Fail> {
+    let rows = [
+        (StubFault::Accept, Exit::Device, "accept failed"),
+        (StubFault::Write { sent: 1 }, Exit::Device, "write failed"),
+        (StubFault::Memory, Exit::Memory, "out of memory"),
+    ];
+    for (fault, exit, said) in rows {
+        let text = format!(in rt.alloc(); "{fault}")?;
+        assert!(rt;
+            exit_of_stub(fault) == exit && text.as_str() == said,
+            "{said}"
+        );
+    }
+    Ok(())
+}
