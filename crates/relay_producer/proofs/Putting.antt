@@ -7,6 +7,7 @@ use Rattle.std.proofs.lemmas.Bool.Decides.{eqb_tells}
 use Rattle.std.proofs.lemmas.List.Elements.{All-nil, All-cons, All-head, All-tail}
 use Rattle.relay_action.specs.declared.key.DocKey.{DocKey}
 use Rattle.relay_action.specs.declared.operation.Op.{Op}
+use Rattle.relay_action.specs.declared.operation.OpName.{OpName}
 use Rattle.relay_action.specs.declared.mail.Body.{Body}
 use Rattle.relay_action.specs.declared.mail.Body.TheVariants.{Put}
 use Rattle.relay_action.specs.Lanes.{lane_of_document}
@@ -15,7 +16,7 @@ use Rattle.relay_queue.specs.Ends.{SenderEnd}
 use Rattle.relay_producer.specs.declared.ends.OpenEnd.{OpenEnd}
 use Rattle.relay_producer.specs.Ends.{with_sent, one_more, marked, open_puts, identity, identities, change_at}
 use Rattle.relay_producer.specs.Puts.{puts_of, ops_for, AreNumberedBy, HasPut}
-use Rattle.relay_producer.specs.States.{AreEndsOf, HasLanes, IsProducer}
+use Rattle.relay_producer.specs.States.{AreEndsOf, HasLanes, ProducerState, IsProducer}
 use Rattle.relay_producer.proofs.Closing.{puts_of-append}
 
 -- ---- one end changed
@@ -149,3 +150,11 @@ producer_marks producer count k ends p = record {
 -- the lane of the document, among as many lanes as there are ends
 pub at_lane : (key : DocKey) (f : OpenEnd → OpenEnd) (ends new : List OpenEnd) (lane count : ℕ) → new ≡ change_at lane f ends → lane ≡ lane_of_document key count → count ≡ length ends → new ≡ change_at (lane_of_document key (length ends)) f ends
 at_lane key f ends new lane count e at len = e ∙ ap (λ k. change_at k f ends) (at ∙ ap (lane_of_document key) len)
+
+-- a producer with these ends
+abbrev pub with_ends : ℕ → ℕ → List OpenEnd → ProducerState
+with_ends producer put ends = record { producer = producer; put = put; ends = ends }
+
+-- the name of its next operation
+abbrev pub next_name : ProducerState → OpName
+next_name s = record { producer = s.producer; number = s.put + 1 }
