@@ -5,6 +5,9 @@ use Rattle.relay_producer.specs.States.{ClosedControlState}
 use Rattle.relay_producer.proofs.Counting.{none_gone, gone_none}
 use Rattle.relay_producer.proofs.control.ClosedControl.gone.Goals as goal
 
+pub returns-clause-count : goal.returns-clause-count
+returns-clause-count c = c.count_closed_gone.ensures ∙ ap (count_by is_gone) c.deref.ensures.value ∙ ap (λ (s : ClosedControlState). count_by is_gone s.ends) c.self.view_is
+
 pub returns-clause-none : goal.returns-clause-none
 returns-clause-none c =
     let e = c.count_closed_gone.ensures ∙ ap (count_by is_gone) c.deref.ensures.value ∙ ap (λ (s : ClosedControlState). count_by is_gone s.ends) c.self.view_is in
