@@ -13,7 +13,8 @@ use std::thread;
 use std::thread::Threads;
 use std::time::{Clock, Duration};
 
-// The lanes of the documents 0 to 7 of the index books among 8, computed by hand from FNV-1a.
+// The lanes of the documents 0 to 7 of the index books among 8, computed apart from this code by FNV-1a.
+// Among two, the even ones belong to lane 0.
 const LANES: [u32; 8] = [6, 1, 0, 3, 2, 5, 4, 7];
 
 // Whether a deletion of the document is put under this number, to this lane.
