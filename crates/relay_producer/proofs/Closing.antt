@@ -68,6 +68,10 @@ zip_push [] (b ∷ bs) x y h c = absurd h
 zip_push (a ∷ as') [] x y h c = absurd h
 zip_push (a ∷ as') (b ∷ bs) x y h c = (h.0, zip_push as' bs x y h.1 c)
 
+-- the end that comes next leaves the ends in their order
+pub in_turn : (before rest left all : List OpenEnd) (x : OpenEnd) → rest ≡ x ∷ left → before ++ rest ≡ all → (before ++ x ∷ []) ++ left ≡ all
+in_turn before rest left all x e h = append_assoc before (x ∷ []) left ∙ ap (λ r. before ++ r) (sym e) ∙ h
+
 count_kept : (old : List OpenEnd) (new : List ClosedEnd) → AllZip Closes old new → length new ≡ length old
 count_kept [] [] h = refl
 count_kept [] (y ∷ ys) h = absurd h

@@ -7,6 +7,7 @@ use Rattle.std.proofs.lemmas.Bool.Decides.{eqb_tells}
 use Rattle.std.proofs.lemmas.List.Elements.{All-nil, All-cons, All-head, All-tail}
 use Rattle.relay_action.specs.declared.key.DocKey.{DocKey}
 use Rattle.relay_action.specs.declared.operation.Op.{Op}
+use Rattle.relay_action.specs.declared.operation.OpName.{OpName}
 use Rattle.relay_action.specs.declared.mail.Body.{Body}
 use Rattle.relay_action.specs.declared.mail.Body.TheVariants.{Put}
 use Rattle.relay_action.specs.Lanes.{lane_of_document}
@@ -15,7 +16,7 @@ use Rattle.relay_queue.specs.Ends.{SenderEnd}
 use Rattle.relay_producer.specs.declared.ends.OpenEnd.{OpenEnd}
 use Rattle.relay_producer.specs.Ends.{with_sent, one_more, marked, open_puts, identity, identities, change_at}
 use Rattle.relay_producer.specs.Puts.{puts_of, ops_for, AreNumberedBy, HasPut}
-use Rattle.relay_producer.specs.States.{AreEndsOf, HasLanes, IsProducer}
+use Rattle.relay_producer.specs.States.{AreEndsOf, HasLanes, ProducerState, IsProducer}
 use Rattle.relay_producer.proofs.Closing.{puts_of-append}
 
 -- ---- one end changed
@@ -25,7 +26,7 @@ set_change lane f [] x lt at = absurd (omega arith)
 set_change zero f (y ∷ ys) x lt at = ap (λ z. f z ∷ ys) at
 set_change (suc lane) f (y ∷ ys) x lt at = ap (λ l. y ∷ l) (set_change lane f ys x (omega arith) at)
 
-pub length-change_at : (lane : ℕ) (f : OpenEnd → OpenEnd) (xs : List OpenEnd) → length (change_at lane f xs) ≡ length xs
+length-change_at : (lane : ℕ) (f : OpenEnd → OpenEnd) (xs : List OpenEnd) → length (change_at lane f xs) ≡ length xs
 length-change_at lane f [] = refl
 length-change_at zero f (y ∷ ys) = refl
 length-change_at (suc lane) f (y ∷ ys) = ap suc (length-change_at lane f ys)
@@ -110,6 +111,10 @@ put_more producer count ends ops op named number h =
 
 -- ---- the producer afterwards
 
+-- a producer with these ends
+abbrev pub with_ends : ℕ → ℕ → List OpenEnd → ProducerState
+with_ends producer put ends = record { producer = producer; put = put; ends = ends }
+
 own_more : (sender count k : ℕ) (body : Body) (ends : List OpenEnd) → AreEndsOf sender count ends → AreEndsOf sender (count + 1) (change_at k (with_sent body) ends)
 own_more sender count k body ends h =
     let P : OpenEnd → Type 0 = λ e. (e.put.sender ≡ sender) × (length e.put.sent ≤ count) in
@@ -129,23 +134,36 @@ own_marked sender count k ends h =
 lanes_changed : (k : ℕ) (f : OpenEnd → OpenEnd) (ends : List OpenEnd) → HasLanes ends → HasLanes (change_at k f ends)
 lanes_changed k f ends h = let n = length-change_at k f ends in (omega arith, omega arith)
 
-pub producer_puts : (producer count : ℕ) (ends : List OpenEnd) (op : Op) → op.producer ≡ producer → op.number ≡ count + 1 → count < 2 ^ 40 → IsProducer (record { producer = producer; put = count; ends = ends })
-    → IsProducer (record { producer = producer; put = count + 1; ends = change_at (lane_of_document op.key (length ends)) (with_sent (Put op)) ends })
-producer_puts producer count ends op named number room p = record {
-  lanes = lanes_changed (lane_of_document op.key (length ends)) (with_sent (Put op)) ends p.lanes;
-  limit = omega arith;
-  own = own_more producer count (lane_of_document op.key (length ends)) (Put op) ends p.own;
-  shown = (p.shown.0 ++ op ∷ [], put_more producer count ends p.shown.0 op named number p.shown.1);
-}
+pub producer_puts : (producer count : ℕ) (ends new : List OpenEnd) (op : Op) → op.producer ≡ producer → op.number ≡ count + 1 → count < 2 ^ 40 → new ≡ change_at (lane_of_document op.key (length ends)) (with_sent (Put op)) ends
+    → IsProducer (with_ends producer count ends) → IsProducer (with_ends producer (count + 1) new)
+producer_puts producer count ends new op named number room is p =
+    let k = lane_of_document op.key (length ends) in
+    subst (λ (es : List OpenEnd). IsProducer (with_ends producer (count + 1) es)) (sym is)
+    (record {
+      lanes = lanes_changed k (with_sent (Put op)) ends p.lanes;
+      limit = omega arith;
+      own = own_more producer count k (Put op) ends p.own;
+      shown = (p.shown.0 ++ op ∷ [], put_more producer count ends p.shown.0 op named number p.shown.1);
+    })
 
-pub producer_marks : (producer count k : ℕ) (ends : List OpenEnd) → IsProducer (record { producer = producer; put = count; ends = ends }) → IsProducer (record { producer = producer; put = count; ends = change_at k marked ends })
-producer_marks producer count k ends p = record {
-  lanes = lanes_changed k marked ends p.lanes;
-  limit = p.limit;
-  own = own_marked producer count k ends p.own;
-  shown = (p.shown.0, subst (λ (ps : List SenderEnd). HasPut producer count ps p.shown.0) (sym (same_marked k ends)) p.shown.1);
-}
+pub producer_marks : (producer count k : ℕ) (ends new : List OpenEnd) → new ≡ change_at k marked ends → IsProducer (with_ends producer count ends) → IsProducer (with_ends producer count new)
+producer_marks producer count k ends new is p =
+    subst (λ (es : List OpenEnd). IsProducer (with_ends producer count es)) (sym is)
+    (record {
+      lanes = lanes_changed k marked ends p.lanes;
+      limit = p.limit;
+      own = own_marked producer count k ends p.own;
+      shown = (p.shown.0, subst (λ (ps : List SenderEnd). HasPut producer count ps p.shown.0) (sym (same_marked k ends)) p.shown.1);
+    })
+
+-- there are as many ends as before
+pub same_count : (k : ℕ) (f : OpenEnd → OpenEnd) (ends new : List OpenEnd) → new ≡ change_at k f ends → length new ≡ length ends
+same_count k f ends new is = ap length is ∙ length-change_at k f ends
 
 -- the lane of the document, among as many lanes as there are ends
 pub at_lane : (key : DocKey) (f : OpenEnd → OpenEnd) (ends new : List OpenEnd) (lane count : ℕ) → new ≡ change_at lane f ends → lane ≡ lane_of_document key count → count ≡ length ends → new ≡ change_at (lane_of_document key (length ends)) f ends
 at_lane key f ends new lane count e at len = e ∙ ap (λ k. change_at k f ends) (at ∙ ap (lane_of_document key) len)
+
+-- the name of its next operation
+abbrev pub next_name : ProducerState → OpName
+next_name s = record { producer = s.producer; number = s.put + 1 }

@@ -111,6 +111,7 @@ impl Producer {
         let lane = lane_of(&key, self.ends.len() as u32);
         let producer = self.producer;
         let number = self.count + 1;
+        let name = OpName { producer, number };
         let op = Op {
             producer,
             number,
@@ -120,10 +121,7 @@ impl Producer {
         match send_op(rt, &mut self.ends, lane as usize, op) {
             Ok(()) => {
                 self.count = number;
-                Ok(Receipt {
-                    name: OpName { producer, number },
-                    lane,
-                })
+                Ok(Receipt { name, lane })
             }
             Err(op) => Err(PutFault {
                 kind: PutFaultKind::LaneGone,
@@ -149,10 +147,11 @@ impl Producer {
             ends,
             closed,
         } = self;
+        let ends = close_all(rt, ends, closed);
         ClosedProducer {
             producer,
             count,
-            ends: close_all(rt, ends, closed),
+            ends,
         }
     }
 
@@ -203,6 +202,7 @@ impl ClosedProducer {
         ensures closed { All (IsClosedBy self.producer) self.ends }
         ensures shown { (ops : List Op) × HasPut self.producer self.put (closed_puts self.ends) ops }
     {
-        self.ends
+        let ClosedProducer { ends, .. } = self;
+        ends
     }
 }

@@ -47,7 +47,8 @@ fn add_lane(alloc: Global, capacity: u32, lanes: &mut Lanes) -> Result<(), Alloc
     lanes.takes.push(take)?;
     deal(&mut lanes.control, &mut puts)?;
     deal(&mut lanes.second, &mut puts)?;
-    deal(&mut lanes.first, &mut puts)
+    deal(&mut lanes.first, &mut puts)?;
+    Ok(())
 }
 
 /// So many lanes, each with a queue of so many places.
@@ -66,7 +67,7 @@ pub fn make(alloc: Global, count: u32, capacity: u32) -> Result<Lanes, AllocErro
         second: Vec::new(alloc),
         control: Vec::new(alloc),
     };
-    for _ in 0..count {
+    for _lane in 0..count {
         add_lane(alloc, capacity, &mut lanes)?;
     }
     Ok(lanes)

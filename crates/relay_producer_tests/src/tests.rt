@@ -13,7 +13,8 @@ use std::thread;
 use std::thread::Threads;
 use std::time::{Clock, Duration};
 
-// The lanes of the documents 0 to 7 of the index books among 8, computed by hand from FNV-1a.
+// The lanes of the documents 0 to 7 of the index books among 8, computed apart from this code by FNV-1a.
+// Among two, the even ones belong to lane 0.
 const LANES: [u32; 8] = [6, 1, 0, 3, 2, 5, 4, 7];
 
 // Whether a deletion of the document is put under this number, to this lane.
@@ -77,26 +78,35 @@ fn puts_all<R: Wait>(
 // The document of each of the 8 lanes.
 const DOCUMENTS: [u64; 8] = [2, 1, 4, 3, 6, 5, 0, 7];
 
-// Whether each taker finds the operation of each producer, the control's tick and flush, and each Done.
+// Whether the taker finds these messages.
+fn takes_rows<R: Wait>(rt: &R, take: &mut LaneTake, rows: &[(u32, u64, Said)]) -> bool {
+    let mut good = true;
+    for (sender, number, said) in rows {
+        good = good && takes(rt, take, *sender, *number, *said);
+    }
+    good
+}
+
+// Whether the taker of a document's lane finds the operation of each producer, the control's tick and
+// flush, and each Done.
+fn takes_lane<R: Wait>(rt: &R, take: &mut LaneTake, document: u64) -> bool {
+    let rows = [
+        (0u32, 1u64, Said::Put(document.wrapping_add(1))),
+        (1, 1, Said::Put(8u64.wrapping_sub(document))),
+        (2, 1, Said::Tick),
+        (2, 2, Said::Flush),
+        (0, 2, Said::Done),
+        (1, 2, Said::Done),
+        (2, 3, Said::Done),
+    ];
+    takes_rows(rt, take, &rows)
+}
+
+// Whether each taker does, of as many as there are documents.
 fn takes_all<R: Wait>(rt: &R, all: &mut Vec<LaneTake>) -> bool {
-    let mut good = all.len() == 8;
-    for lane in 0..all.len() {
-        let Some(document) = DOCUMENTS.get(lane) else {
-            return false;
-        };
-        let take = &mut all[lane];
-        let rows = [
-            (0u32, 1u64, Said::Put(document.wrapping_add(1))),
-            (1, 1, Said::Put(8u64.wrapping_sub(*document))),
-            (2, 1, Said::Tick),
-            (2, 2, Said::Flush),
-            (0, 2, Said::Done),
-            (1, 2, Said::Done),
-            (2, 3, Said::Done),
-        ];
-        for (sender, number, said) in rows {
-            good = good && takes(rt, take, sender, number, said);
-        }
+    let mut good = all.len() == DOCUMENTS.len();
+    for (take, document) in all.iter_mut().zip(DOCUMENTS) {
+        good = good && takes_lane(rt, take, document);
     }
     good
 }
@@ -132,11 +142,11 @@ fn two_producers_and_the_control(rt: HostRuntime) -> Result<(), Fail> {
     assert!(rt; puts_all(&rt, alloc, &mut first, 0, false));
     assert!(rt; puts_all(&rt, alloc, &mut second, 1, true));
     assert_eq!(rt; (control.tick(&rt), control.flush(&rt)), (8, 8));
-    assert_eq!(rt; first.gone() + second.gone() + control.gone(), 0);
+    assert_eq!(rt; (first.gone(), second.gone(), control.gone()), (0, 0, 0));
     let first = first.close(&rt);
     let second = second.close(&rt);
     let control = control.close(&rt);
-    assert_eq!(rt; first.gone() + second.gone() + control.gone(), 0);
+    assert_eq!(rt; (first.gone(), second.gone(), control.gone()), (0, 0, 0));
     assert!(rt; takes_all(&rt, &mut takes));
     Ok(())
 }
@@ -171,7 +181,10 @@ fn a_lane_whose_taker_is_dropped(rt: HostRuntime) -> Result<(), Fail> {
     assert!(rt; takes.pop().is_some());
     assert!(rt; goes_round_a_gone_lane(&rt, alloc, &mut first));
     assert_eq!(rt; first.close(&rt).gone(), 1);
-    assert_eq!(rt; (control.tick(&rt), control.gone(), control.flush(&rt)), (1, 1, 1));
+    assert_eq!(rt;
+        (control.tick(&rt), control.gone(), control.flush(&rt)),
+        (1, 1, 1)
+    );
     assert_eq!(rt; control.close(&rt).gone(), 1);
     assert_eq!(rt; second.gone(), 0);
     assert_eq!(rt; second.close(&rt).gone(), 1);
@@ -184,21 +197,9 @@ fn a_lane_whose_taker_is_dropped(rt: HostRuntime) -> Result<(), Fail> {
         (2, 3, Said::Done),
         (1, 1, Said::Done),
     ];
-    assert!(rt; takes_rows(&rt, &mut takes, &rows));
+    assert_eq!(rt; takes.len(), 1);
+    assert!(rt; takes_rows(&rt, &mut takes[0], &rows));
     Ok(())
-}
-
-// Whether the one taker finds these messages.
-fn takes_rows<R: Wait>(rt: &R, all: &mut Vec<LaneTake>, rows: &[(u32, u64, Said)]) -> bool {
-    if all.len() != 1 {
-        return false;
-    }
-    let take = &mut all[0];
-    let mut good = true;
-    for (sender, number, said) in rows {
-        good = good && takes(rt, take, *sender, *number, *said);
-    }
-    good
 }
 
 // How many operations the producer puts that waits.

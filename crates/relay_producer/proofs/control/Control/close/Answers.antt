@@ -5,8 +5,8 @@ use Rattle.relay_producer.proofs.Closing.{closed_identities, control_closed}
 use Rattle.relay_producer.proofs.control.Control.close.Goals as goal
 
 pub invariant_of-result : goal.invariant_of-result
-invariant_of-result g c = control_closed c.self.inside.sender c.self.inside.ends.items c.close_all.result.items c.close_all.ensures c.self.invariant.0
+invariant_of-result g c = control_closed c.self.inside.sender c.self.inside.ends.items c.close_all-ends.result.items c.close_all-ends.ensures c.self.invariant.0
 
 pub returns-clause-ends : goal.returns-clause-ends
 returns-clause-ends g c =
-    closed_identities c.self.inside.ends.items c.close_all.result.items c.close_all.ensures ∙ ap (λ (s : ControlState). identities (open_puts s.ends)) c.self.view_is
+    closed_identities c.self.inside.ends.items c.close_all-ends.result.items c.close_all-ends.ensures ∙ ap (λ (s : ControlState). identities (open_puts s.ends)) c.self.view_is

@@ -6,8 +6,8 @@ use Rattle.relay_action.specs.Lanes.{lane_of_document}
 use Rattle.relay_producer.specs.declared.ends.OpenEnd.{OpenEnd}
 use Rattle.relay_producer.specs.Ends.{with_sent, marked, open_puts, identities}
 use Rattle.relay_producer.specs.Puts.{HasPut}
-use Rattle.relay_producer.specs.States.{ProducerState, IsProducer, next_op}
-use Rattle.relay_producer.proofs.Putting.{at_lane, length-change_at, put_more, producer_puts, producer_marks, same_identities, same_marked}
+use Rattle.relay_producer.specs.States.{ProducerState, lane_for, next_op, after_put, after_gone}
+use Rattle.relay_producer.proofs.Putting.{at_lane, with_ends, next_name, same_count, put_more, producer_puts, producer_marks, same_identities, same_marked}
 use Rattle.relay_producer.proofs.producer.Producer.put.Goals as goal
 
 pub invariant_of-self : goal.invariant_of-self
@@ -15,11 +15,10 @@ invariant_of-self g c =
     let room : c.self.inside.count < 2 ^ 40 = omega arith in
     let op : Op = next_op c.args.key c.args.action (record { producer = c.self.inside.producer; put = c.self.inside.count; ends = c.self.inside.ends.items }) in
     let e = at_lane c.args.key (with_sent (Put op)) c.self.inside.ends.items c.send_op.new.ends.items c.lane_of-lane.result c.len.result c.in-Ok.ensures.sent c.lane_of-lane.ensures.value (c.len.ensures ∙ c.self.inside.ends.ok.0) in
-    let k = lane_of_document c.args.key (length c.self.inside.ends.items) in (
-      subst (λ (ends : List OpenEnd). IsProducer (record { producer = c.self.inside.producer; put = c.self.inside.count + 1; ends = ends })) (sym e)
-          (producer_puts c.self.inside.producer c.self.inside.count c.self.inside.ends.items op refl refl room c.self.invariant.0),
+    let n = same_count (lane_of_document c.args.key (length c.self.inside.ends.items)) (with_sent (Put op)) c.self.inside.ends.items c.send_op.new.ends.items e in (
+      producer_puts c.self.inside.producer c.self.inside.count c.self.inside.ends.items c.send_op.new.ends.items op refl refl room e c.self.invariant.0,
       c.self.invariant.1,
-      omega (arith, ap length e, length-change_at k (with_sent (Put op)) c.self.inside.ends.items, c.self.invariant.2),
+      omega (arith, n, c.self.invariant.2),
     )
 
 pub returns-in-Ok-clause-same : goal.returns-in-Ok-clause-same
@@ -41,11 +40,10 @@ returns-in-Ok-clause-put g c ops =
 
 pub invariant_of-self-in-Err : goal.invariant_of-self-in-Err
 invariant_of-self-in-Err g c =
-    let e = c.in-Err.ensures.gone in (
-      subst (λ (ends : List OpenEnd). IsProducer (record { producer = c.self.inside.producer; put = c.self.inside.count; ends = ends })) (sym e)
-          (producer_marks c.self.inside.producer c.self.inside.count c.lane_of-lane.result c.self.inside.ends.items c.self.invariant.0),
+    let n = same_count c.lane_of-lane.result marked c.self.inside.ends.items c.send_op.new.ends.items c.in-Err.ensures.gone in (
+      producer_marks c.self.inside.producer c.self.inside.count c.lane_of-lane.result c.self.inside.ends.items c.send_op.new.ends.items c.in-Err.ensures.gone c.self.invariant.0,
       c.self.invariant.1,
-      omega (arith, ap length e, length-change_at c.lane_of-lane.result marked c.self.inside.ends.items, c.self.invariant.2),
+      omega (arith, n, c.self.invariant.2),
     )
 
 pub returns-in-Err-clause-refused : goal.returns-in-Err-clause-refused
@@ -57,3 +55,21 @@ returns-in-Err-clause-same g c =
     ap (λ (ends : List OpenEnd). identities (open_puts ends)) c.in-Err.ensures.gone
     ∙ ap identities (same_marked c.lane_of-lane.result c.self.inside.ends.items)
     ∙ ap (λ (s : ProducerState). identities (open_puts s.ends)) c.self.view_is
+
+pub returns-in-Ok-clause-name : goal.returns-in-Ok-clause-name
+returns-in-Ok-clause-name g c = ap next_name c.self.view_is
+
+pub returns-in-Ok-clause-lane : goal.returns-in-Ok-clause-lane
+returns-in-Ok-clause-lane g c =
+    c.lane_of-lane.ensures.value ∙ ap (lane_of_document c.args.key) (c.len.ensures ∙ c.self.inside.ends.ok.0) ∙ ap (lane_for c.args.key) c.self.view_is
+
+pub returns-in-Ok-clause-added : goal.returns-in-Ok-clause-added
+returns-in-Ok-clause-added g c =
+    let op : Op = next_op c.args.key c.args.action (record { producer = c.self.inside.producer; put = c.self.inside.count; ends = c.self.inside.ends.items }) in
+    let e = at_lane c.args.key (with_sent (Put op)) c.self.inside.ends.items c.send_op.new.ends.items c.lane_of-lane.result c.len.result c.in-Ok.ensures.sent c.lane_of-lane.ensures.value (c.len.ensures ∙ c.self.inside.ends.ok.0) in
+    ap (with_ends c.self.inside.producer (c.self.inside.count + 1)) e ∙ ap (after_put c.args.key c.args.action) c.self.view_is
+
+pub returns-in-Err-clause-gone : goal.returns-in-Err-clause-gone
+returns-in-Err-clause-gone g c kind =
+    let e = at_lane c.args.key marked c.self.inside.ends.items c.send_op.new.ends.items c.lane_of-lane.result c.len.result c.in-Err.ensures.gone c.lane_of-lane.ensures.value (c.len.ensures ∙ c.self.inside.ends.ok.0) in
+    ap (with_ends c.self.inside.producer c.self.inside.count) e ∙ ap (after_gone c.args.key) c.self.view_is
