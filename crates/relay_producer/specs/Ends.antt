@@ -1,0 +1,90 @@
+-- What the ends of one sender are after a message and after the close.
+use Rattle.std.specs.Prelude.{◌≡◌, ◌≢◌, ℕ, zero, suc, ◌+◌, ◌<◌, ◌^◌, Bool, true, false, List, [], ◌∷◌, ◌++◌, length, map, ◌⊎◌, ⊤, slice_index_or}
+use Rattle.std.specs.List.{sum_by, AllZip}
+use Rattle.relay_action.specs.declared.mail.Mail.{Mail}
+use Rattle.relay_action.specs.declared.mail.Body.{Body}
+use Rattle.relay_action.specs.declared.mail.Body.TheVariants.{Done}
+use Rattle.relay_queue.specs.Sent.{message}
+use Rattle.relay_queue.specs.Ends.{Queue, SenderEnd}
+use Rattle.relay_producer.specs.declared.ends.OpenEnd.{OpenEnd}
+use Rattle.relay_producer.specs.declared.ends.ClosedEnd.{ClosedEnd}
+use Rattle.relay_producer.specs.declared.ends.ClosedEnd.TheVariants.{Closed, Gone}
+
+-- ---- one end
+
+-- an end of a lane that was not found gone
+abbrev pub opened : SenderEnd → OpenEnd
+opened put = record { put = put; gone = false }
+
+-- the end of a lane that was found gone
+abbrev pub marked : OpenEnd → OpenEnd
+marked e = record { put = e.put; gone = true }
+
+-- the end whose sender sent one more message
+abbrev pub one_more : Body → SenderEnd → SenderEnd
+one_more body put = record { queue = put.queue; sender = put.sender; sent = put.sent ++ message put.sender (length put.sent + 1) body ∷ [] }
+
+-- the end of a lane whose queue took a message
+abbrev pub with_sent : Body → OpenEnd → OpenEnd
+with_sent body e = record { put = one_more body e.put; gone = e.gone }
+
+-- the lane, which was not found gone, took the message
+pub record Takes (body : Body) (old new : OpenEnd) : Type 0 where
+  pub reached : old.gone ≡ false
+  pub sent : new ≡ with_sent body old
+
+-- the lane took the message; or it is found gone, now or before; or its queue takes no more of this sender
+abbrev pub IsSent : Body → OpenEnd → OpenEnd → Type 0
+IsSent body old new = Takes body old new ⊎ ((new ≡ marked old) ⊎ ((length old.put.sent ≡ 2 ^ 40) × (new ≡ old)))
+
+-- the end of a closed sender
+abbrev pub end_of : ClosedEnd → SenderEnd
+end_of (Closed put) = put
+end_of (Gone put) = put
+
+-- whether the lane was found gone
+abbrev pub is_gone : ClosedEnd → Bool
+is_gone (Closed put) = false
+is_gone (Gone put) = true
+
+-- a lane that was not found gone was sent Done; the end of one that was, before or now, is as before
+abbrev pub Closes : OpenEnd → ClosedEnd → Type 0
+Closes old (Closed put) = (old.gone ≡ false) × (put ≡ one_more Done old.put)
+Closes old (Gone put) = put ≡ old.put
+
+-- the end is this sender's; where the lane was not found gone, Done is its last message
+abbrev pub IsClosedBy : ℕ → ClosedEnd → Type 0
+IsClosedBy sender (Closed put) = (put.sender ≡ sender) × ((front : List Mail) × (put.sent ≡ front ++ message sender (length front + 1) Done ∷ []))
+IsClosedBy sender (Gone put) = put.sender ≡ sender
+
+-- ---- the ends of all lanes
+
+-- the ends of the queues, by lane
+abbrev pub open_puts : List OpenEnd → List SenderEnd
+open_puts ends = map (λ e. e.put) ends
+
+abbrev pub closed_puts : List ClosedEnd → List SenderEnd
+closed_puts ends = map end_of ends
+
+-- which queue each end is of, and under which sender's number
+abbrev pub identities : List SenderEnd → List (Queue × ℕ)
+identities puts = map (λ p. (p.queue, p.sender)) puts
+
+-- the ends with the one of this lane changed so
+abbrev pub change_at : ℕ → (OpenEnd → OpenEnd) → List OpenEnd → List OpenEnd
+change_at lane change [] = []
+change_at zero change (e ∷ es) = change e ∷ es
+change_at (suc lane) change (e ∷ es) = e ∷ change_at lane change es
+
+-- how many messages the queues took
+abbrev pub count_sent : List OpenEnd → ℕ
+count_sent ends = sum_by (λ e. length e.put.sent) ends
+
+-- the message was sent to each lane
+pub record IsSentToAll (body : Body) (old new : List OpenEnd) : Type 0 where
+  pub lanes : length new ≡ length old
+  pub each : (lane : ℕ) (d : OpenEnd) → lane < length old → IsSent body (slice_index_or old lane d) (slice_index_or new lane d)
+
+-- each lane's end was closed
+abbrev pub ClosesAll : List OpenEnd → List ClosedEnd → Type 0
+ClosesAll old new = AllZip Closes old new

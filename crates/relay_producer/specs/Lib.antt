@@ -1,0 +1,4 @@
+pub mod Ends
+pub mod Signals
+pub mod Puts
+pub mod States

@@ -1,0 +1,90 @@
+-- What contracts see of a producer and of the control.
+use Rattle.std.specs.Prelude.{◌≡◌, ℕ, ◌+◌, ◌<◌, ◌≤◌, ◌^◌, List, [], ◌∷◌, length, Some}
+use Rattle.std.specs.List.{All, slice_get}
+use Rattle.relay_action.specs.declared.key.DocKey.{DocKey}
+use Rattle.relay_action.specs.declared.action.Action.{Action}
+use Rattle.relay_action.specs.declared.operation.Op.{Op}
+use Rattle.relay_action.specs.declared.mail.Body.TheVariants.{Put}
+use Rattle.relay_action.specs.Lanes.{lane_of_document}
+use Rattle.relay_queue.specs.Ends.{SenderEnd, fresh}
+use Rattle.relay_producer.specs.declared.ends.OpenEnd.{OpenEnd}
+use Rattle.relay_producer.specs.declared.ends.ClosedEnd.{ClosedEnd}
+use Rattle.relay_producer.specs.Ends.{with_sent, marked, change_at, open_puts, closed_puts, IsClosedBy}
+use Rattle.relay_producer.specs.Puts.{HasPut}
+
+-- a producer: its number, how many operations it put, and its end of each lane's queue, by lane
+pub record ProducerState : Type 0 where
+  pub producer : ℕ
+  pub put : ℕ
+  pub ends : List OpenEnd
+
+-- a producer that has closed
+pub record ClosedProducerState : Type 0 where
+  pub producer : ℕ
+  pub put : ℕ
+  pub ends : List ClosedEnd
+
+-- the control: its number as a sender, and its end of each lane's queue, by lane
+pub record ControlState : Type 0 where
+  pub sender : ℕ
+  pub ends : List OpenEnd
+
+-- the control that has closed
+pub record ClosedControlState : Type 0 where
+  pub sender : ℕ
+  pub ends : List ClosedEnd
+
+-- these ends are of one sender, and sent nothing
+abbrev pub AreFresh : ℕ → List SenderEnd → Type 0
+AreFresh sender puts = All (λ p. p ≡ fresh p.queue sender) puts
+
+-- ---- a put
+
+-- the lane of a document among the producer's lanes
+abbrev pub lane_for : DocKey → ProducerState → ℕ
+lane_for key s = lane_of_document key (length s.ends)
+
+-- the next operation of a producer
+abbrev pub next_op : DocKey → Action → ProducerState → Op
+next_op key action s = record { producer = s.producer; number = s.put + 1; key = key; action = action }
+
+-- its document's lane took the operation, and nothing else changed
+abbrev pub after_put : DocKey → Action → ProducerState → ProducerState
+after_put key action s = record { producer = s.producer; put = s.put + 1; ends = change_at (lane_for key s) (with_sent (Put (next_op key action s))) s.ends }
+
+-- the document's lane was found gone, and nothing else changed
+abbrev pub after_gone : DocKey → ProducerState → ProducerState
+after_gone key s = record { producer = s.producer; put = s.put; ends = change_at (lane_for key s) marked s.ends }
+
+-- ---- what holds of each
+
+-- the lanes of a relay
+abbrev pub HasLanes : {A : Type 0} → List A → Type 0
+HasLanes ends = (0 < length ends) × (length ends ≤ 8)
+
+-- of each lane: its end is this sender's, and sent at most so many messages
+abbrev pub AreEndsOf : ℕ → ℕ → List OpenEnd → Type 0
+AreEndsOf sender most ends = All (λ e. (e.put.sender ≡ sender) × (length e.put.sent ≤ most)) ends
+
+-- a producer that put some operations, at most 2^40, and sent nothing else
+pub record IsProducer (s : ProducerState) : Type 0 where
+  pub lanes : HasLanes s.ends
+  pub limit : s.put ≤ 2 ^ 40
+  pub own : AreEndsOf s.producer s.put s.ends
+  pub shown : (ops : List Op) × HasPut s.producer s.put (open_puts s.ends) ops
+
+-- a closed producer that put some operations
+pub record IsClosedProducer (s : ClosedProducerState) : Type 0 where
+  pub lanes : HasLanes s.ends
+  pub own : All (IsClosedBy s.producer) s.ends
+  pub shown : (ops : List Op) × HasPut s.producer s.put (closed_puts s.ends) ops
+
+-- a control over the lanes of a relay
+pub record IsControl (s : ControlState) : Type 0 where
+  pub lanes : HasLanes s.ends
+  pub own : All (λ e. e.put.sender ≡ s.sender) s.ends
+
+-- a closed one
+pub record IsClosedControl (s : ClosedControlState) : Type 0 where
+  pub lanes : HasLanes s.ends
+  pub own : All (IsClosedBy s.sender) s.ends

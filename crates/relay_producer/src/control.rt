@@ -1,0 +1,142 @@
+//! The control's handle: it sends ticks and flushes to all lanes.
+ghost use Rattle.std.specs.Prelude.{◌≡◌, ◌+◌, ◌<◌, ◌≤◌, ◌↔◌, [], false, length, map, IfOk, vec_len};
+ghost use Rattle.std.specs.List.{All, count_by};
+ghost use Rattle.relay_action.specs.declared.mail.Body.TheVariants.{Tick, Flush};
+ghost use Rattle.relay_producer.specs.Ends.{opened, open_puts, closed_puts, identities, is_gone, count_sent, IsSentToAll, IsClosedBy, ClosesAll};
+ghost use Rattle.relay_producer.specs.States.{AreFresh, HasLanes};
+
+use crate::ends::{ClosedEnd, OpenEnd};
+use crate::lanes::{Signal, close_all, count_closed_gone, count_gone, open_all, send_to_all};
+use relay_queue::LanePut;
+use std::alloc::{AllocError, Global};
+use std::marker::Model;
+use std::sync::Wait;
+
+/// The control's handle, a sender beside the producers, numbered one past the last of them. Contracts
+/// see its number and its end of each lane's queue.
+///
+/// A lane is marked once its queue answers that the lane is gone: nothing more is sent to it.
+#[derive(Drop)]
+pub struct Control {
+    sender: u32,
+    ends: Vec<OpenEnd>,
+    closed: Vec<ClosedEnd>,
+}
+
+impl Model for Control {
+    ghost use Rattle.std.specs.Prelude.{◌≡◌, ◌≤◌, [], length, vec_capacity};
+    ghost use Rattle.relay_producer.specs.States.{ControlState, IsControl};
+
+    ghost Value = { ControlState };
+
+    ghost view = { λ a. record { sender = a.sender; ends = a.ends.items } };
+
+    ghost invariant = { λ a. IsControl (record { sender = a.sender; ends = a.ends.items })
+        × (a.closed.items ≡ [])
+        × (length a.ends.items ≤ vec_capacity a.closed) };
+}
+
+impl Control {
+    /// The handle of the control over its ends of the queues of 1 to 8 lanes, in lane order, by which
+    /// nothing was sent yet. No lane is marked. It reserves what its close needs: no later call takes
+    /// memory. `AllocError`: there was no memory for it; the ends are dropped.
+    pub fn new(alloc: Global, sender: u32, puts: Vec<LanePut>) -> Result<Control, AllocError>
+        requires lanes { HasLanes puts.items }
+        requires fresh { AreFresh sender puts.items }
+        ensures state { IfOk result (λ c. c ≡ record { sender = sender; ends = map opened puts.items }) }
+        ensures puts { IfOk result (λ c. open_puts c.ends ≡ puts.items) }
+    {
+        let closed = Vec::with_capacity(alloc, puts.len())?;
+        let ends = open_all(alloc, puts)?;
+        Ok(Control {
+            sender,
+            ends,
+            closed,
+        })
+    }
+
+    /// Sends a tick to each lane that is not marked, and marks those that it finds gone; how many lanes'
+    /// queues took it. A queue to which the control has sent 2^40 messages takes no more. It waits while
+    /// a queue is full, and takes no memory.
+    pub fn tick<R: Wait>(&mut self, rt: &R) -> u32
+        ensures sent { IsSentToAll Tick self.old.ends self.new.ends }
+        ensures count { count_sent self.old.ends + result ≡ count_sent self.new.ends }
+        ensures sender { self.new.sender ≡ self.old.sender }
+        ensures same { identities (open_puts self.new.ends) ≡ identities (open_puts self.old.ends) }
+    {
+        send_to_all(rt, &mut self.ends, Signal::Tick)
+    }
+
+    /// Sends a flush, as `tick` sends a tick.
+    pub fn flush<R: Wait>(&mut self, rt: &R) -> u32
+        ensures sent { IsSentToAll Flush self.old.ends self.new.ends }
+        ensures count { count_sent self.old.ends + result ≡ count_sent self.new.ends }
+        ensures sender { self.new.sender ≡ self.old.sender }
+        ensures same { identities (open_puts self.new.ends) ≡ identities (open_puts self.old.ends) }
+    {
+        send_to_all(rt, &mut self.ends, Signal::Flush)
+    }
+
+    /// Sends Done to each lane that is not marked, in lane order, and marks those that it finds gone. It
+    /// waits while a queue is full, and takes no memory.
+    pub fn close<R: Wait>(self, rt: &R) -> ClosedControl
+        ensures closed { ClosesAll self.ends result.ends }
+        ensures sender { result.sender ≡ self.sender }
+        ensures ends { identities (closed_puts result.ends) ≡ identities (open_puts self.ends) }
+    {
+        let Control {
+            sender,
+            ends,
+            closed,
+        } = self;
+        ClosedControl {
+            sender,
+            ends: close_all(rt, ends, closed),
+        }
+    }
+
+    /// How many lanes are marked.
+    pub fn gone(&self) -> u32
+        ensures { result ≡ count_by (λ e. e.gone) self.now.ends }
+    {
+        count_gone(&self.ends)
+    }
+}
+
+/// The handle of the control that has closed. Contracts see its number and its end of each lane's queue.
+#[derive(Drop)]
+pub struct ClosedControl {
+    sender: u32,
+    ends: Vec<ClosedEnd>,
+}
+
+impl Model for ClosedControl {
+    ghost use Rattle.relay_producer.specs.States.{ClosedControlState, IsClosedControl};
+
+    ghost Value = { ClosedControlState };
+
+    ghost view = { λ a. record { sender = a.sender; ends = a.ends.items } };
+
+    ghost invariant = { λ a. IsClosedControl (record { sender = a.sender; ends = a.ends.items }) };
+}
+
+impl ClosedControl {
+    /// How many lanes are marked: those that were found gone, before or at the close, and were sent no
+    /// Done.
+    pub fn gone(&self) -> u32
+        ensures count { result ≡ count_by is_gone self.now.ends }
+        ensures none { result ≡ 0 ↔ All (λ e. is_gone e ≡ false) self.now.ends }
+    {
+        count_closed_gone(&self.ends)
+    }
+
+    /// The ends of the lanes' queues, in lane order, each closed or of a lane that is marked: what the
+    /// lanes took is met with them.
+    pub fn into_ends(self) -> Vec<ClosedEnd>
+        ensures ends { result.items ≡ self.ends }
+        ensures lanes { HasLanes self.ends }
+        ensures closed { All (IsClosedBy self.sender) self.ends }
+    {
+        self.ends
+    }
+}

@@ -1,0 +1,65 @@
+//! A sender's end of one lane's queue, before and after its close.
+ghost use Rattle.std.specs.Prelude.{◌≡◌, ◌≢◌, ◌^◌, length, IfErr, OnOk};
+
+use relay_action::Body;
+use relay_queue::{ClosedPut, LanePut, PutRefusal};
+use std::sync::Wait;
+
+/// A sender's end of one lane's queue.
+#[derive(Drop)]
+pub struct OpenEnd {
+    /// The end of the queue.
+    pub put: LanePut,
+    /// Whether the lane was found gone. Nothing more is sent to it then.
+    pub gone: bool,
+}
+
+/// The end of one lane's queue of a sender that has closed.
+#[derive(Drop)]
+pub enum ClosedEnd {
+    /// The lane was sent Done.
+    Closed(ClosedPut),
+    /// The lane was found gone, and was sent no Done.
+    Gone(LanePut),
+}
+
+impl OpenEnd {
+    ghost use Rattle.relay_producer.specs.Ends.{Takes, marked, Closes};
+
+    // Sends a message other than Done where the lane was not found gone, and marks it where it is now. It
+    // waits while the queue is full. An error hands the body back.
+    pub(crate) fn send<R: Wait>(&mut self, rt: &R, body: Body) -> Result<(), (PutRefusal, Body)>
+        requires { body ≢ Body.Done }
+        ensures sent { OnOk result (Takes body self.old self.new) }
+        ensures back { IfErr result (λ e. e.1 ≡ body) }
+        ensures gone { IfErr result (λ e. e.0 ≡ PutRefusal.Gone → self.new ≡ marked self.old) }
+        ensures spent { IfErr result (λ e. e.0 ≡ PutRefusal.Spent
+            → (length self.old.put.sent ≡ 2 ^ 40) × (self.new ≡ self.old)) }
+    {
+        if self.gone {
+            return Err((PutRefusal::Gone, body));
+        }
+        match self.put.put(rt, body) {
+            Ok(_) => Ok(()),
+            Err((PutRefusal::Gone, body)) => {
+                self.gone = true;
+                Err((PutRefusal::Gone, body))
+            }
+            Err((PutRefusal::Spent, body)) => Err((PutRefusal::Spent, body)),
+        }
+    }
+
+    // Sends Done where the lane was not found gone. It waits while the queue is full.
+    pub(crate) fn close<R: Wait>(self, rt: &R) -> ClosedEnd
+        ensures { Closes self result }
+    {
+        let OpenEnd { put, gone } = self;
+        if gone {
+            return ClosedEnd::Gone(put);
+        }
+        match put.close(rt) {
+            Ok(closed) => ClosedEnd::Closed(closed),
+            Err((_, put)) => ClosedEnd::Gone(put),
+        }
+    }
+}

@@ -1,0 +1,91 @@
+//! The ends of all lanes' queues that one sender has.
+ghost use Rattle.std.specs.Prelude.{◌≡◌, ◌≢◌, ◌+◌, ◌<◌, ◌≤◌, ◌↔◌, [], false, length, map, IfOk, vec_len, vec_capacity};
+ghost use Rattle.std.specs.List.{All, count_by};
+ghost use Rattle.relay_producer.specs.Ends.{opened, is_gone, count_sent, IsSentToAll, ClosesAll};
+ghost use Rattle.relay_producer.specs.Signals.{body_of};
+
+use crate::ends::{ClosedEnd, OpenEnd};
+use relay_action::Body;
+use relay_queue::LanePut;
+use std::alloc::{AllocError, Global};
+use std::sync::Wait;
+
+/// What the control sends to all lanes.
+#[derive(Clone, Copy, Drop)]
+pub(crate) enum Signal {
+    /// A tick of the clock has passed.
+    Tick,
+    /// What is held is to be sent, full batch or not.
+    Flush,
+}
+
+// The message of a signal.
+fn signal_body(signal: Signal) -> Body
+    ensures value { result ≡ body_of signal }
+    ensures not_done { result ≢ Body.Done }
+{
+    match signal {
+        Signal::Tick => Body::Tick,
+        Signal::Flush => Body::Flush,
+    }
+}
+
+// The ends of lanes none of which was found gone.
+pub(crate) fn open_all(alloc: Global, puts: Vec<LanePut>) -> Result<Vec<OpenEnd>, AllocError>
+    ensures { IfOk result (λ ends. ends.items ≡ map opened puts.items) }
+{
+    let mut ends = Vec::with_capacity(alloc, puts.len())?;
+    for put in puts {
+        ends.push(OpenEnd { put, gone: false })?;
+    }
+    Ok(ends)
+}
+
+// Sends a signal to each lane that was not found gone; how many queues took it.
+pub(crate) fn send_to_all<R: Wait>(rt: &R, ends: &mut Vec<OpenEnd>, signal: Signal) -> u32
+    requires { vec_len ends.old ≤ 8 }
+    ensures sent { IsSentToAll (body_of signal) ends.old.items ends.new.items }
+    ensures count { count_sent ends.old.items + result ≡ count_sent ends.new.items }
+{
+    let mut taken = 0u32;
+    for lane in 0..ends.len() {
+        if ends[lane].send(rt, signal_body(signal)).is_ok() {
+            taken += 1;
+        }
+    }
+    taken
+}
+
+// Sends Done to each lane that was not found gone, in order. There is a place for each closed end.
+pub(crate) fn close_all<R: Wait>(
+    rt: &R,
+    ends: Vec<OpenEnd>,
+    mut closed: Vec<ClosedEnd>,
+) -> Vec<ClosedEnd>
+    requires none { closed.items ≡ [] }
+    requires room { vec_len ends ≤ vec_capacity closed }
+    ensures { ClosesAll ends.items result.items }
+{
+    for end in ends {
+        closed.push_reserved(end.close(rt));
+    }
+    closed
+}
+
+// How many lanes were found gone.
+pub(crate) fn count_gone(ends: &[OpenEnd]) -> u32
+    requires { length ends.now ≤ 8 }
+    ensures { result ≡ count_by (λ e. e.gone) ends.now }
+{
+    ends.iter().filter(|end| end.gone).count() as u32
+}
+
+// How many lanes were found gone by a sender that has closed.
+pub(crate) fn count_closed_gone(ends: &[ClosedEnd]) -> u32
+    requires { length ends.now ≤ 8 }
+    ensures { result ≡ count_by is_gone ends.now }
+{
+    ends.iter()
+        .filter(|end| matches!(end, ClosedEnd::Gone(_)))
+        .count() as u32
+}

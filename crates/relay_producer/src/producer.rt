@@ -1,0 +1,220 @@
+//! A producer's handle: it puts operations, each to the lane of its document.
+ghost use Rattle.std.specs.Prelude.{◌≡◌, ◌+◌, ◌<◌, ◌≤◌, ◌^◌, ◌↔◌, List, [], ◌∷◌, ◌++◌, false, length, map, Some, IfOk, IfErr, OnOk, OnErr, IsErrAnd, vec_len};
+ghost use Rattle.std.specs.List.{All, count_by, slice_get};
+ghost use Rattle.relay_action.specs.declared.operation.Op.{Op};
+ghost use Rattle.relay_queue.specs.Ends.{SenderEnd};
+ghost use Rattle.relay_producer.specs.Ends.{opened, open_puts, closed_puts, identities, is_gone, IsClosedBy, ClosesAll};
+ghost use Rattle.relay_producer.specs.Puts.{HasPut};
+ghost use Rattle.relay_producer.specs.States.{AreFresh, HasLanes, lane_for, next_op, after_put, after_gone};
+
+use crate::ends::{ClosedEnd, OpenEnd};
+use crate::fault::{PutFault, PutFaultKind};
+use crate::lanes::{close_all, count_closed_gone, count_gone, open_all};
+use relay_action::{Action, Body, DocKey, Op, OpName, lane_of};
+use relay_queue::{LanePut, PUT_LIMIT, PutRefusal};
+use std::alloc::{AllocError, Global};
+use std::marker::Model;
+use std::sync::Wait;
+
+/// What a put gives: under which name the operation was put, and to which lane.
+#[derive(Clone, Copy, Debug, PartialEq, Eq)]
+pub struct Receipt {
+    /// The operation's name.
+    pub name: OpName,
+    /// The lane of its document, from 0.
+    pub lane: u32,
+}
+
+/// A producer's handle. Contracts see its number, how many operations it put, and its end of each
+/// lane's queue.
+///
+/// A lane is marked once its queue answers that the lane is gone: nothing more is sent to it.
+#[derive(Drop)]
+pub struct Producer {
+    producer: u32,
+    count: u64,
+    ends: Vec<OpenEnd>,
+    closed: Vec<ClosedEnd>,
+}
+
+impl Model for Producer {
+    ghost use Rattle.std.specs.Prelude.{◌≡◌, ◌≤◌, [], length, vec_capacity};
+    ghost use Rattle.relay_producer.specs.States.{ProducerState, IsProducer};
+
+    ghost Value = { ProducerState };
+
+    ghost view = { λ a. record { producer = a.producer; put = a.count; ends = a.ends.items } };
+
+    ghost invariant = { λ a. IsProducer (record { producer = a.producer; put = a.count; ends = a.ends.items })
+        × (a.closed.items ≡ [])
+        × (length a.ends.items ≤ vec_capacity a.closed) };
+}
+
+impl Producer {
+    /// The handle of a producer, counted from 0, over its ends of the queues of 1 to 8 lanes, in lane
+    /// order, by which nothing was sent yet. It has put nothing, and no lane is marked. It reserves what
+    /// its close needs: no later call takes memory. `AllocError`: there was no memory for it; the ends are
+    /// dropped.
+    pub fn new(alloc: Global, producer: u32, puts: Vec<LanePut>) -> Result<Producer, AllocError>
+        requires lanes { HasLanes puts.items }
+        requires fresh { AreFresh producer puts.items }
+        ensures state { IfOk result
+            (λ p. p ≡ record { producer = producer; put = 0; ends = map opened puts.items }) }
+        ensures puts { IfOk result (λ p. open_puts p.ends ≡ puts.items) }
+        ensures none { IfOk result (λ p. HasPut producer 0 (open_puts p.ends) []) }
+    {
+        let closed = Vec::with_capacity(alloc, puts.len())?;
+        let ends = open_all(alloc, puts)?;
+        Ok(Producer {
+            producer,
+            count: 0,
+            ends,
+            closed,
+        })
+    }
+
+    /// Puts an operation: sends it, under the next number, to the lane of its document, and answers its
+    /// name and the lane. It waits while that lane's queue is full, and takes no memory.
+    ///
+    /// Both refusals hand key and action back, use no number and send nothing. `NumbersSpent` comes first,
+    /// exactly where this producer has put 2^40 operations. `LaneGone` comes where the lane is marked, and
+    /// where its queue answers that the lane is gone, which marks it; when that comes is not promised.
+    pub fn put<R: Wait>(
+        &mut self,
+        rt: &R,
+        key: DocKey,
+        action: Action,
+    ) -> Result<Receipt, PutFault>
+        ensures name { IfOk result
+            (λ r. r.name ≡ record { producer = self.old.producer; number = self.old.put + 1 }) }
+        ensures lane { IfOk result (λ r. r.lane ≡ lane_for key self.old) }
+        ensures added { OnOk result (self.new ≡ after_put key action self.old) }
+        ensures reached { OnOk result ((e : OpenEnd)
+            → slice_get self.old.ends (lane_for key self.old) ≡ Some e → e.gone ≡ false) }
+        ensures back { IfErr result (λ e. (e.key ≡ key) × (e.action ≡ action)) }
+        ensures gone { IfErr result
+            (λ e. e.kind ≡ PutFaultKind.LaneGone → self.new ≡ after_gone key self.old) }
+        ensures spent { IsErrAnd result (λ e. e.kind ≡ PutFaultKind.NumbersSpent)
+            ↔ (self.old.put ≡ 2 ^ 40) }
+        ensures unchanged { IfErr result
+            (λ e. e.kind ≡ PutFaultKind.NumbersSpent → self.new ≡ self.old) }
+        ensures same { identities (open_puts self.new.ends) ≡ identities (open_puts self.old.ends) }
+        ensures put { OnOk result ((ops : List Op)
+            → HasPut self.old.producer self.old.put (open_puts self.old.ends) ops
+            → HasPut self.new.producer self.new.put (open_puts self.new.ends)
+                (ops ++ next_op key action self.old ∷ [])) }
+        ensures refused { OnErr result (open_puts self.new.ends ≡ open_puts self.old.ends) }
+    {
+        if self.count >= PUT_LIMIT {
+            return Err(PutFault {
+                kind: PutFaultKind::NumbersSpent,
+                key,
+                action,
+            });
+        }
+        let lane = lane_of(&key, self.ends.len() as u32);
+        let number = self.count + 1;
+        let producer = self.producer;
+        let body = Body::Put(Op {
+            producer,
+            number,
+            key,
+            action,
+        });
+        match self.ends[lane as usize].send(rt, body) {
+            Ok(()) => {
+                self.count = number;
+                Ok(Receipt {
+                    name: OpName { producer, number },
+                    lane,
+                })
+            }
+            Err((PutRefusal::Gone, Body::Put(op))) => Err(gone_with(op)),
+            Err(_) => unreachable!(),
+        }
+    }
+
+    /// Sends Done to each lane that is not marked, in lane order, and marks those that it finds gone. It
+    /// waits while a queue is full, and takes no memory. Nothing is put after it.
+    pub fn close<R: Wait>(self, rt: &R) -> ClosedProducer
+        ensures closed { ClosesAll self.ends result.ends }
+        ensures same { (result.producer ≡ self.producer) × (result.put ≡ self.put) }
+        ensures ends { identities (closed_puts result.ends) ≡ identities (open_puts self.ends) }
+        ensures put { (ops : List Op)
+            → HasPut self.producer self.put (open_puts self.ends) ops
+            → HasPut result.producer result.put (closed_puts result.ends) ops }
+    {
+        let Producer {
+            producer,
+            count,
+            ends,
+            closed,
+        } = self;
+        ClosedProducer {
+            producer,
+            count,
+            ends: close_all(rt, ends, closed),
+        }
+    }
+
+    /// How many lanes are marked.
+    pub fn gone(&self) -> u32
+        ensures count { result ≡ count_by (λ e. e.gone) self.now.ends }
+        ensures shown { (ops : List Op) × HasPut self.now.producer self.now.put (open_puts self.now.ends) ops }
+    {
+        count_gone(&self.ends)
+    }
+}
+
+// A refusal since the lane is gone, with what the operation was made of.
+fn gone_with(op: Op) -> PutFault
+    ensures { (result.kind ≡ PutFaultKind.LaneGone) × (result.key ≡ op.key) × (result.action ≡ op.action) }
+{
+    PutFault {
+        kind: PutFaultKind::LaneGone,
+        key: op.key,
+        action: op.action,
+    }
+}
+
+/// The handle of a producer that has closed. Contracts see its number, how many operations it put, and
+/// its end of each lane's queue, which show what it put.
+#[derive(Drop)]
+pub struct ClosedProducer {
+    producer: u32,
+    count: u64,
+    ends: Vec<ClosedEnd>,
+}
+
+impl Model for ClosedProducer {
+    ghost use Rattle.relay_producer.specs.States.{ClosedProducerState, IsClosedProducer};
+
+    ghost Value = { ClosedProducerState };
+
+    ghost view = { λ a. record { producer = a.producer; put = a.count; ends = a.ends.items } };
+
+    ghost invariant = { λ a. IsClosedProducer (record { producer = a.producer; put = a.count; ends = a.ends.items }) };
+}
+
+impl ClosedProducer {
+    /// How many lanes are marked: those that were found gone, at a put or at the close, and were sent no
+    /// Done.
+    pub fn gone(&self) -> u32
+        ensures count { result ≡ count_by is_gone self.now.ends }
+        ensures none { result ≡ 0 ↔ All (λ e. is_gone e ≡ false) self.now.ends }
+        ensures shown { (ops : List Op) × HasPut self.now.producer self.now.put (closed_puts self.now.ends) ops }
+    {
+        count_closed_gone(&self.ends)
+    }
+
+    /// The ends of the lanes' queues, in lane order, each closed or of a lane that is marked: what the
+    /// lanes took is met with them.
+    pub fn into_ends(self) -> Vec<ClosedEnd>
+        ensures ends { result.items ≡ self.ends }
+        ensures lanes { HasLanes self.ends }
+        ensures closed { All (IsClosedBy self.producer) self.ends }
+        ensures shown { (ops : List Op) × HasPut self.producer self.put (closed_puts self.ends) ops }
+    {
+        self.ends
+    }
+}
