@@ -6,8 +6,13 @@
 //! complete.
 #![tactic(auto)]
 
+pub mod fault;
 pub mod lane_end;
+pub mod relay;
+mod rows;
 pub mod run;
+pub mod start;
+pub mod thread;
 
 pub use lane_end::{LaneEnd, LaneEndKind};
 pub use run::run_lane;
