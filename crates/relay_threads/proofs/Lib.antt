@@ -5,3 +5,7 @@ pub mod Ending
 pub mod Popping
 pub mod Joining
 pub mod Dealing
+pub mod Meeting
+pub mod Summing
+pub mod Firsts
+pub mod Finishing

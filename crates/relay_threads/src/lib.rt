@@ -7,11 +7,13 @@
 #![tactic(auto)]
 
 pub mod fault;
+pub mod finish;
 pub mod lane_end;
 pub mod relay;
 mod rows;
 pub mod run;
 pub mod start;
+pub mod summary;
 pub mod thread;
 
 pub use lane_end::{LaneEnd, LaneEndKind};
