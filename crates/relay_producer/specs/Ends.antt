@@ -1,5 +1,5 @@
 -- What the ends of one sender are after a message and after the close.
-use Rattle.std.specs.Prelude.{◌≡◌, ◌≢◌, ℕ, zero, suc, ◌+◌, ◌<◌, ◌^◌, Bool, true, false, List, [], ◌∷◌, ◌++◌, length, map, ◌⊎◌, ⊤, slice_index_or}
+use Rattle.std.specs.Prelude.{◌≡◌, ℕ, zero, suc, ◌+◌, ◌<◌, ◌^◌, Bool, true, false, List, [], ◌∷◌, ◌++◌, length, map, ◌⊎◌, slice_index_or}
 use Rattle.std.specs.List.{sum_by, AllZip}
 use Rattle.relay_action.specs.declared.mail.Mail.{Mail}
 use Rattle.relay_action.specs.declared.mail.Body.{Body}
@@ -66,9 +66,12 @@ open_puts ends = map (λ e. e.put) ends
 abbrev pub closed_puts : List ClosedEnd → List SenderEnd
 closed_puts ends = map end_of ends
 
--- which queue each end is of, and under which sender's number
+-- which queue an end is of, and under which sender's number
+abbrev pub identity : SenderEnd → Queue × ℕ
+identity put = (put.queue, put.sender)
+
 abbrev pub identities : List SenderEnd → List (Queue × ℕ)
-identities puts = map (λ p. (p.queue, p.sender)) puts
+identities puts = map identity puts
 
 -- the ends with the one of this lane changed so
 abbrev pub change_at : ℕ → (OpenEnd → OpenEnd) → List OpenEnd → List OpenEnd

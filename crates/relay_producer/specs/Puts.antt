@@ -1,7 +1,6 @@
 -- What a producer put, as its ends of all lanes' queues show it.
 use Rattle.std.specs.Prelude.{◌≡◌, ℕ, ◌+◌, ◌==◌, if◌then◌else◌, List, [], ◌∷◌, ◌++◌, length, ⊤, Some}
 use Rattle.std.specs.List.{slice_get}
-use Rattle.relay_action.specs.declared.key.DocKey.{DocKey}
 use Rattle.relay_action.specs.declared.operation.Op.{Op}
 use Rattle.relay_action.specs.declared.mail.Mail.{Mail}
 use Rattle.relay_action.specs.declared.mail.Body.{Body}

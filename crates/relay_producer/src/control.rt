@@ -89,10 +89,8 @@ impl Control {
             ends,
             closed,
         } = self;
-        ClosedControl {
-            sender,
-            ends: close_all(rt, ends, closed),
-        }
+        let ends = close_all(rt, ends, closed);
+        ClosedControl { sender, ends }
     }
 
     /// How many lanes are marked.
@@ -137,6 +135,7 @@ impl ClosedControl {
         ensures lanes { HasLanes self.ends }
         ensures closed { All (IsClosedBy self.sender) self.ends }
     {
-        self.ends
+        let ClosedControl { ends, .. } = self;
+        ends
     }
 }

@@ -1,5 +1,5 @@
 //! A sender's end of one lane's queue, before and after its close.
-ghost use Rattle.std.specs.Prelude.{◌≡◌, ◌≢◌, ◌^◌, length, IfErr, OnOk};
+ghost use Rattle.std.specs.Prelude.{◌≡◌, ◌≢◌, ◌+◌, ◌^◌, length, if◌then◌else◌, IfErr, OnOk};
 
 use relay_action::Body;
 use relay_queue::{ClosedPut, LanePut, PutRefusal};
@@ -24,7 +24,7 @@ pub enum ClosedEnd {
 }
 
 impl OpenEnd {
-    ghost use Rattle.relay_producer.specs.Ends.{Takes, marked, Closes};
+    ghost use Rattle.relay_producer.specs.Ends.{Takes, IsSent, marked, Closes};
 
     // Sends a message other than Done where the lane was not found gone, and marks it where it is now. It
     // waits while the queue is full. An error hands the body back.
@@ -46,6 +46,20 @@ impl OpenEnd {
                 Err((PutRefusal::Gone, body))
             }
             Err((PutRefusal::Spent, body)) => Err((PutRefusal::Spent, body)),
+        }
+    }
+
+    // Sends a message other than Done as `send` does, and tells whether the queue took it.
+    pub(crate) fn signal<R: Wait>(&mut self, rt: &R, body: Body) -> bool
+        requires { body ≢ Body.Done }
+        ensures sent { IsSent body self.old self.new }
+        ensures count { length self.new.put.sent
+            ≡ length self.old.put.sent + (if result then 1 else 0) }
+    {
+        match self.send(rt, body) {
+            Ok(()) => true,
+            Err((PutRefusal::Gone, _)) => false,
+            Err((PutRefusal::Spent, _)) => false,
         }
     }
 

@@ -1,12 +1,12 @@
 //! The ends of all lanes' queues that one sender has.
-ghost use Rattle.std.specs.Prelude.{◌≡◌, ◌≢◌, ◌+◌, ◌<◌, ◌≤◌, ◌↔◌, [], false, length, map, IfOk, vec_len, vec_capacity};
-ghost use Rattle.std.specs.List.{All, count_by};
-ghost use Rattle.relay_producer.specs.Ends.{opened, is_gone, count_sent, IsSentToAll, ClosesAll};
+ghost use Rattle.std.specs.Prelude.{◌≡◌, ◌≢◌, ◌+◌, ◌<◌, ◌≤◌, ◌^◌, [], false, length, map, Some, IfOk, IfErr, OnOk, OnErr, vec_len, vec_capacity};
+ghost use Rattle.std.specs.List.{All, count_by, slice_get};
+ghost use Rattle.relay_producer.specs.Ends.{opened, marked, with_sent, change_at, open_puts, identities, is_gone, count_sent, IsSentToAll, ClosesAll};
 ghost use Rattle.relay_producer.specs.Signals.{body_of};
 
 use crate::ends::{ClosedEnd, OpenEnd};
-use relay_action::Body;
-use relay_queue::LanePut;
+use relay_action::{Body, Op};
+use relay_queue::{LanePut, PutRefusal};
 use std::alloc::{AllocError, Global};
 use std::sync::Wait;
 
@@ -41,15 +41,40 @@ pub(crate) fn open_all(alloc: Global, puts: Vec<LanePut>) -> Result<Vec<OpenEnd>
     Ok(ends)
 }
 
+// Sends an operation to a lane that was not found gone, and marks the lane where it is now. It waits
+// while the queue is full. An error hands the operation back.
+pub(crate) fn send_op<R: Wait>(
+    rt: &R,
+    ends: &mut Vec<OpenEnd>,
+    lane: usize,
+    op: Op,
+) -> Result<(), Op>
+    requires lane { lane < vec_len ends.old }
+    requires room { All (λ e. length e.put.sent < 2 ^ 40) ends.old.items }
+    ensures sent { OnOk result
+        (ends.new.items ≡ change_at lane (with_sent (Body.Put op)) ends.old.items) }
+    ensures reached { OnOk result
+        ((e : OpenEnd) → slice_get ends.old.items lane ≡ Some e → e.gone ≡ false) }
+    ensures back { IfErr result (λ o. o ≡ op) }
+    ensures gone { OnErr result (ends.new.items ≡ change_at lane marked ends.old.items) }
+{
+    match ends[lane].send(rt, Body::Put(op)) {
+        Ok(()) => Ok(()),
+        Err((PutRefusal::Gone, Body::Put(op))) => Err(op),
+        Err(_) => unreachable!(),
+    }
+}
+
 // Sends a signal to each lane that was not found gone; how many queues took it.
 pub(crate) fn send_to_all<R: Wait>(rt: &R, ends: &mut Vec<OpenEnd>, signal: Signal) -> u32
     requires { vec_len ends.old ≤ 8 }
     ensures sent { IsSentToAll (body_of signal) ends.old.items ends.new.items }
     ensures count { count_sent ends.old.items + result ≡ count_sent ends.new.items }
+    ensures same { identities (open_puts ends.new.items) ≡ identities (open_puts ends.old.items) }
 {
     let mut taken = 0u32;
     for lane in 0..ends.len() {
-        if ends[lane].send(rt, signal_body(signal)).is_ok() {
+        if ends[lane].signal(rt, signal_body(signal)) {
             taken += 1;
         }
     }
@@ -77,7 +102,13 @@ pub(crate) fn count_gone(ends: &[OpenEnd]) -> u32
     requires { length ends.now ≤ 8 }
     ensures { result ≡ count_by (λ e. e.gone) ends.now }
 {
-    ends.iter().filter(|end| end.gone).count() as u32
+    let mut gone = 0u32;
+    for end in ends {
+        if end.gone {
+            gone += 1;
+        }
+    }
+    gone
 }
 
 // How many lanes were found gone by a sender that has closed.
@@ -85,7 +116,12 @@ pub(crate) fn count_closed_gone(ends: &[ClosedEnd]) -> u32
     requires { length ends.now ≤ 8 }
     ensures { result ≡ count_by is_gone ends.now }
 {
-    ends.iter()
-        .filter(|end| matches!(end, ClosedEnd::Gone(_)))
-        .count() as u32
+    let mut gone = 0u32;
+    for end in ends {
+        match end {
+            ClosedEnd::Closed(_) => {}
+            ClosedEnd::Gone(_) => gone += 1,
+        }
+    }
+    gone
 }

@@ -13,9 +13,11 @@ pub mod control;
 pub mod ends;
 pub mod fault;
 mod lanes;
+pub mod law;
 pub mod producer;
 
 pub use control::{ClosedControl, Control};
 pub use ends::{ClosedEnd, OpenEnd};
 pub use fault::{PutFault, PutFaultKind};
+pub use law::law_of_puts;
 pub use producer::{ClosedProducer, Producer, Receipt};

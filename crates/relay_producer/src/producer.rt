@@ -9,9 +9,9 @@ ghost use Rattle.relay_producer.specs.States.{AreFresh, HasLanes, lane_for, next
 
 use crate::ends::{ClosedEnd, OpenEnd};
 use crate::fault::{PutFault, PutFaultKind};
-use crate::lanes::{close_all, count_closed_gone, count_gone, open_all};
-use relay_action::{Action, Body, DocKey, Op, OpName, lane_of};
-use relay_queue::{LanePut, PUT_LIMIT, PutRefusal};
+use crate::lanes::{close_all, count_closed_gone, count_gone, open_all, send_op};
+use relay_action::{Action, DocKey, Op, OpName, lane_of};
+use relay_queue::{LanePut, PUT_LIMIT};
 use std::alloc::{AllocError, Global};
 use std::marker::Model;
 use std::sync::Wait;
@@ -79,12 +79,7 @@ impl Producer {
     /// Both refusals hand key and action back, use no number and send nothing. `NumbersSpent` comes first,
     /// exactly where this producer has put 2^40 operations. `LaneGone` comes where the lane is marked, and
     /// where its queue answers that the lane is gone, which marks it; when that comes is not promised.
-    pub fn put<R: Wait>(
-        &mut self,
-        rt: &R,
-        key: DocKey,
-        action: Action,
-    ) -> Result<Receipt, PutFault>
+    pub fn put<R: Wait>(&mut self, rt: &R, key: DocKey, action: Action) -> Result<Receipt, PutFault>
         ensures name { IfOk result
             (λ r. r.name ≡ record { producer = self.old.producer; number = self.old.put + 1 }) }
         ensures lane { IfOk result (λ r. r.lane ≡ lane_for key self.old) }
@@ -102,7 +97,7 @@ impl Producer {
         ensures put { OnOk result ((ops : List Op)
             → HasPut self.old.producer self.old.put (open_puts self.old.ends) ops
             → HasPut self.new.producer self.new.put (open_puts self.new.ends)
-                (ops ++ next_op key action self.old ∷ [])) }
+            (ops ++ next_op key action self.old ∷ [])) }
         ensures refused { OnErr result (open_puts self.new.ends ≡ open_puts self.old.ends) }
     {
         if self.count >= PUT_LIMIT {
@@ -113,24 +108,25 @@ impl Producer {
             });
         }
         let lane = lane_of(&key, self.ends.len() as u32);
-        let number = self.count + 1;
         let producer = self.producer;
-        let body = Body::Put(Op {
+        let number = self.count + 1;
+        let name = OpName { producer, number };
+        let op = Op {
             producer,
             number,
             key,
             action,
-        });
-        match self.ends[lane as usize].send(rt, body) {
+        };
+        match send_op(rt, &mut self.ends, lane as usize, op) {
             Ok(()) => {
                 self.count = number;
-                Ok(Receipt {
-                    name: OpName { producer, number },
-                    lane,
-                })
+                Ok(Receipt { name, lane })
             }
-            Err((PutRefusal::Gone, Body::Put(op))) => Err(gone_with(op)),
-            Err(_) => unreachable!(),
+            Err(op) => Err(PutFault {
+                kind: PutFaultKind::LaneGone,
+                key: op.key,
+                action: op.action,
+            }),
         }
     }
 
@@ -150,10 +146,11 @@ impl Producer {
             ends,
             closed,
         } = self;
+        let ends = close_all(rt, ends, closed);
         ClosedProducer {
             producer,
             count,
-            ends: close_all(rt, ends, closed),
+            ends,
         }
     }
 
@@ -163,17 +160,6 @@ impl Producer {
         ensures shown { (ops : List Op) × HasPut self.now.producer self.now.put (open_puts self.now.ends) ops }
     {
         count_gone(&self.ends)
-    }
-}
-
-// A refusal since the lane is gone, with what the operation was made of.
-fn gone_with(op: Op) -> PutFault
-    ensures { (result.kind ≡ PutFaultKind.LaneGone) × (result.key ≡ op.key) × (result.action ≡ op.action) }
-{
-    PutFault {
-        kind: PutFaultKind::LaneGone,
-        key: op.key,
-        action: op.action,
     }
 }
 
@@ -215,6 +201,7 @@ impl ClosedProducer {
         ensures closed { All (IsClosedBy self.producer) self.ends }
         ensures shown { (ops : List Op) × HasPut self.producer self.put (closed_puts self.ends) ops }
     {
-        self.ends
+        let ClosedProducer { ends, .. } = self;
+        ends
     }
 }

@@ -1,0 +1,6 @@
+pub mod Closing
+pub mod Counting
+pub mod Opening
+pub mod Putting
+pub mod Reading
+pub mod Sending

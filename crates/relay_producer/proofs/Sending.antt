@@ -1,0 +1,58 @@
+-- A signal goes to one lane after another.
+use Rattle.std.proofs.Common.{◌≡◌, ◌≢◌, ℕ, zero, suc, ◌+◌, ◌<◌, ◌≤◌, true, false, eqb, List, [], ◌∷◌, length, set, get_or, sym, refl, ap, ◌∙◌, subst, ⊎_elim, arith, length-set, get_or-set_other, get_or-set_same}
+use Rattle.std.specs.Prelude.{◌^◌}
+use Rattle.std.proofs.lemmas.Bool.Decides.{eqb_tells}
+use Rattle.std.proofs.lemmas.List.{get_or_read}
+use Rattle.std.proofs.lemmas.List.Sums.{sum_by-set}
+use Rattle.relay_action.specs.declared.mail.Body.{Body}
+use Rattle.relay_producer.specs.declared.ends.OpenEnd.{OpenEnd}
+use Rattle.relay_producer.specs.Ends.{Takes, IsSent, marked, count_sent, open_puts, identity, identities, IsSentToAll}
+
+-- the first lanes were sent the message, which so many took, and the others are as before
+pub record Sending (body : Body) (lane taken : ℕ) (old now : List OpenEnd) : Type 0 where
+  pub lanes : length now ≡ length old
+  pub done : (k : ℕ) (d : OpenEnd) → k < lane → IsSent body (get_or old k d) (get_or now k d)
+  pub left : (k : ℕ) (d : OpenEnd) → lane ≤ k → get_or now k d ≡ get_or old k d
+  pub count : count_sent old + taken ≡ count_sent now
+  pub same : identities (open_puts now) ≡ identities (open_puts old)
+  pub most : taken ≤ lane
+
+pub begins : (body : Body) (old : List OpenEnd) → Sending body 0 0 old old
+begins body old = record { lanes = refl; done = λ k d lt. absurd (omega arith); left = λ k d le. refl; count = omega arith; same = refl; most = omega arith }
+
+-- a lane's end stays that of its queue and sender
+sent_identity : (body : Body) (x y : OpenEnd) → IsSent body x y → identity y.put ≡ identity x.put
+sent_identity body x y h =
+    ⊎_elim (λ (t : Takes body x y). ap (λ (e : OpenEnd). identity e.put) t.sent)
+    (λ m. ⊎_elim (λ (e : y ≡ marked x). ap (λ (z : OpenEnd). identity z.put) e) (λ (e : (length x.put.sent ≡ 2 ^ 40) × (y ≡ x)). ap (λ (z : OpenEnd). identity z.put) e.1) m) h
+
+set_identity : (lane : ℕ) (xs : List OpenEnd) (x y : OpenEnd) → lane < length xs → x ≡ get_or xs lane x → identity y.put ≡ identity x.put → identities (open_puts (set xs lane y)) ≡ identities (open_puts xs)
+set_identity lane [] x y lt at e = refl
+set_identity zero (z ∷ zs) x y lt at e = ap (λ p. p ∷ identities (open_puts zs)) (e ∙ ap (λ (w : OpenEnd). identity w.put) at)
+set_identity (suc lane) (z ∷ zs) x y lt at e = ap (λ l. identity z.put ∷ l) (set_identity lane zs x y (omega arith) at e)
+
+-- one lane more
+pub goes_on : (body : Body) (lane taken more : ℕ) (old now : List OpenEnd) (x y : OpenEnd) → Sending body lane taken old now → lane < length now → x ≡ get_or now lane x → IsSent body x y → length y.put.sent ≡ length x.put.sent + more → more ≤ 1
+    → Sending body (lane + 1) (taken + more) old (set now lane y)
+goes_on body lane taken more old now x y h lt at sent grown most =
+    let here : (d : OpenEnd) → IsSent body (get_or old lane d) (get_or (set now lane y) lane d) = λ d.
+    subst (λ (z : OpenEnd × OpenEnd). IsSent body z.0 z.1) (λ i. ((get_or_read now lane x lt at d ∙ h.left lane d (omega arith)) i, sym (get_or-set_same now lane y d lt) i)) sent in
+    let before : (k : ℕ) (d : OpenEnd) → k ≢ lane → k < lane → IsSent body (get_or old k d) (get_or (set now lane y) k d) = λ k d n below.
+    subst (λ z. IsSent body (get_or old k d) z) (sym (get_or-set_other now lane k y d n)) (h.done k d below) in
+    let total = sum_by-set (λ (e : OpenEnd). length e.put.sent) now lane y x lt in
+    let same : length x.put.sent ≡ length (get_or now lane x).put.sent = ap (λ (e : OpenEnd). length e.put.sent) at in
+    let c = h.count in
+    let m = h.most in
+    record {
+      lanes = length-set now lane y ∙ h.lanes;
+      done = λ k d below.
+          ⊎_elim (λ (t : (eqb k lane ≡ true) × (k ≡ lane)). subst (λ j. IsSent body (get_or old j d) (get_or (set now lane y) j d)) (sym t.1) (here d))
+          (λ (t : (eqb k lane ≡ false) × (k ≢ lane)). let n = t.1 in before k d n (omega arith)) (eqb_tells k lane);
+      left = λ k d le. let n : k ≢ lane = omega arith in get_or-set_other now lane k y d n ∙ h.left k d (omega arith);
+      count = omega arith;
+      same = set_identity lane now x y lt at (sent_identity body x y sent) ∙ h.same;
+      most = omega arith;
+    }
+
+pub all_sent : (body : Body) (lane taken : ℕ) (old now : List OpenEnd) → Sending body lane taken old now → length old ≤ lane → IsSentToAll body old now
+all_sent body lane taken old now h le = record { lanes = h.lanes; each = λ k d lt. h.done k d (omega arith) }

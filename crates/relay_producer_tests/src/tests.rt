@@ -1,0 +1,261 @@
+//! What producers and the control send, and what they find gone.
+ghost use Rattle.std.specs.Prelude.{◌≡◌, ◌<◌, ◌≤◌, length, IfOk};
+ghost use Rattle.relay_producer.specs.States.{AreFresh};
+
+use crate::lanes::{Lanes, Said, document, is_document, make, takes};
+use relay_action::{Action, OpName};
+use relay_producer::{Control, Producer, PutFaultKind, Receipt};
+use relay_queue::LaneTake;
+use std::alloc::{AllocError, Global};
+use std::sync::Wait;
+use std::test::Fail;
+use std::thread;
+use std::thread::Threads;
+use std::time::{Clock, Duration};
+
+// The lanes of the documents 0 to 7 of the index books among 8, computed apart from this code by FNV-1a.
+// Among two, the even ones belong to lane 0.
+const LANES: [u32; 8] = [6, 1, 0, 3, 2, 5, 4, 7];
+
+// Whether a deletion of the document is put under this number, to this lane.
+fn puts<R: Wait>(
+    rt: &R,
+    alloc: Global,
+    producer: &mut Producer,
+    name: OpName,
+    document_number: usize,
+    lane: u32,
+) -> bool {
+    let Some(key) = document(alloc, document_number) else {
+        return false;
+    };
+    match producer.put(rt, key, Action::delete()) {
+        Ok(receipt) => receipt == Receipt { name, lane },
+        Err(_) => false,
+    }
+}
+
+// Whether the lane of the document is found gone, and key and action come back.
+fn finds_gone<R: Wait>(
+    rt: &R,
+    alloc: Global,
+    producer: &mut Producer,
+    document_number: usize,
+) -> bool {
+    let Some(key) = document(alloc, document_number) else {
+        return false;
+    };
+    match producer.put(rt, key, Action::delete()) {
+        Ok(_) => false,
+        Err(fault) => {
+            fault.kind == PutFaultKind::LaneGone
+                && is_document(alloc, &fault.key, document_number)
+                && matches!(&fault.action, Action::Delete)
+        }
+    }
+}
+
+// Whether a producer puts a deletion of each document, the last one first where it goes `back`.
+fn puts_all<R: Wait>(
+    rt: &R,
+    alloc: Global,
+    producer: &mut Producer,
+    sender: u32,
+    back: bool,
+) -> bool {
+    let mut good = true;
+    for turn in 0..8usize {
+        let number = if back { 7 - turn } else { turn };
+        let name = OpName {
+            producer: sender,
+            number: turn as u64 + 1,
+        };
+        good = good && puts(rt, alloc, producer, name, number, LANES[number]);
+    }
+    good
+}
+
+// The document of each of the 8 lanes.
+const DOCUMENTS: [u64; 8] = [2, 1, 4, 3, 6, 5, 0, 7];
+
+// Whether the taker finds these messages.
+fn takes_rows<R: Wait>(rt: &R, take: &mut LaneTake, rows: &[(u32, u64, Said)]) -> bool {
+    let mut good = true;
+    for (sender, number, said) in rows {
+        good = good && takes(rt, take, *sender, *number, *said);
+    }
+    good
+}
+
+// Whether the taker of a document's lane finds the operation of each producer, the control's tick and
+// flush, and each Done.
+fn takes_lane<R: Wait>(rt: &R, take: &mut LaneTake, document: u64) -> bool {
+    let rows = [
+        (0u32, 1u64, Said::Put(document.wrapping_add(1))),
+        (1, 1, Said::Put(8u64.wrapping_sub(document))),
+        (2, 1, Said::Tick),
+        (2, 2, Said::Flush),
+        (0, 2, Said::Done),
+        (1, 2, Said::Done),
+        (2, 3, Said::Done),
+    ];
+    takes_rows(rt, take, &rows)
+}
+
+// Whether each taker does, of as many as there are documents.
+fn takes_all<R: Wait>(rt: &R, all: &mut Vec<LaneTake>) -> bool {
+    let mut good = all.len() == DOCUMENTS.len();
+    for (take, document) in all.iter_mut().zip(DOCUMENTS) {
+        good = good && takes_lane(rt, take, document);
+    }
+    good
+}
+
+// The ends of lanes, tried once more where an allocation was refused.
+fn made(alloc: Global, count: u32) -> Result<Lanes, AllocError>
+    requires { (0 < count) × (count ≤ 8) }
+    ensures first { IfOk result
+        (λ r. AreFresh 0 r.first.items × (length r.first.items ≡ count)) }
+    ensures second { IfOk result
+        (λ r. AreFresh 1 r.second.items × (length r.second.items ≡ count)) }
+    ensures control { IfOk result
+        (λ r. AreFresh 2 r.control.items × (length r.control.items ≡ count)) }
+{
+    match make(alloc, count, 16) {
+        Ok(lanes) => Ok(lanes),
+        Err(AllocError) => make(alloc, count, 16),
+    }
+}
+
+#[test]
+fn two_producers_and_the_control(rt: HostRuntime) -> Result<(), Fail> {
+    let alloc = rt.alloc();
+    let Lanes {
+        mut takes,
+        first,
+        second,
+        control,
+    } = made(alloc, 8)?;
+    let mut first = Producer::new(alloc, 0, first)?;
+    let mut second = Producer::new(alloc, 1, second)?;
+    let mut control = Control::new(alloc, 2, control)?;
+    assert!(rt; puts_all(&rt, alloc, &mut first, 0, false));
+    assert!(rt; puts_all(&rt, alloc, &mut second, 1, true));
+    assert_eq!(rt; (control.tick(&rt), control.flush(&rt)), (8, 8));
+    assert_eq!(rt; (first.gone(), second.gone(), control.gone()), (0, 0, 0));
+    let first = first.close(&rt);
+    let second = second.close(&rt);
+    let control = control.close(&rt);
+    assert_eq!(rt; (first.gone(), second.gone(), control.gone()), (0, 0, 0));
+    assert!(rt; takes_all(&rt, &mut takes));
+    Ok(())
+}
+
+// Whether a producer finds the second of two lanes gone, and puts to the first one all the same.
+fn goes_round_a_gone_lane<R: Wait>(rt: &R, alloc: Global, producer: &mut Producer) -> bool {
+    let name = |number: u64| OpName {
+        producer: 0,
+        number,
+    };
+    producer.gone() == 0
+        && finds_gone(rt, alloc, producer, 1)
+        && producer.gone() == 1
+        && puts(rt, alloc, producer, name(1), 0, 0)
+        && finds_gone(rt, alloc, producer, 3)
+        && puts(rt, alloc, producer, name(2), 2, 0)
+        && producer.gone() == 1
+}
+
+#[test]
+fn a_lane_whose_taker_is_dropped(rt: HostRuntime) -> Result<(), Fail> {
+    let alloc = rt.alloc();
+    let Lanes {
+        mut takes,
+        first,
+        second,
+        control,
+    } = made(alloc, 2)?;
+    let mut first = Producer::new(alloc, 0, first)?;
+    let second = Producer::new(alloc, 1, second)?;
+    let mut control = Control::new(alloc, 2, control)?;
+    assert!(rt; takes.pop().is_some());
+    assert!(rt; goes_round_a_gone_lane(&rt, alloc, &mut first));
+    assert_eq!(rt; first.close(&rt).gone(), 1);
+    assert_eq!(rt;
+        (control.tick(&rt), control.gone(), control.flush(&rt)),
+        (1, 1, 1)
+    );
+    assert_eq!(rt; control.close(&rt).gone(), 1);
+    assert_eq!(rt; second.gone(), 0);
+    assert_eq!(rt; second.close(&rt).gone(), 1);
+    let rows = [
+        (0u32, 1u64, Said::Put(1)),
+        (0, 2, Said::Put(2)),
+        (0, 3, Said::Done),
+        (2, 1, Said::Tick),
+        (2, 2, Said::Flush),
+        (2, 3, Said::Done),
+        (1, 1, Said::Done),
+    ];
+    assert_eq!(rt; takes.len(), 1);
+    assert!(rt; takes_rows(&rt, &mut takes[0], &rows));
+    Ok(())
+}
+
+// How many operations the producer puts that waits.
+const COUNT: u64 = 20;
+
+// Waits longer by far than an end looks before it sleeps, and takes until the producer closes.
+fn take_late<R: Wait + Clock>(rt: &R, take: &mut LaneTake) -> bool {
+    thread::sleep(rt, Duration::from_millis(50));
+    let mut good = true;
+    for number in 1..COUNT + 1 {
+        good = good && takes(rt, take, 0, number, Said::Put(number));
+    }
+    good && takes(rt, take, 0, COUNT + 1, Said::Done)
+}
+
+// Whether a producer puts each operation, and closes.
+fn put_and_close<R: Wait>(rt: &R, alloc: Global, mut producer: Producer) -> bool {
+    let mut good = true;
+    for turn in 0..COUNT {
+        let name = OpName {
+            producer: 0,
+            number: turn + 1,
+        };
+        good = good && puts(rt, alloc, &mut producer, name, 0, 0);
+    }
+    good && producer.close(rt).gone() == 0
+}
+
+// Whether a thread takes what a producer put that waited at a queue of one place.
+fn waits<R: Threads + Wait + Clock + Copy + Send + 'static>(
+    rt: R,
+    alloc: Global,
+) -> Result<bool, AllocError> {
+    let Lanes {
+        mut takes,
+        first,
+        second: _,
+        control: _,
+    } = make(alloc, 1, 1)?;
+    let producer = Producer::new(alloc, 0, first)?;
+    let Some(mut take) = takes.pop() else {
+        return Ok(false);
+    };
+    let Ok(child) = thread::spawn(&rt, move || take_late(&rt, &mut take)) else {
+        return Err(AllocError);
+    };
+    let good = put_and_close(&rt, alloc, producer);
+    Ok(child.join(&rt) && good)
+}
+
+#[test]
+fn a_put_to_a_full_queue_waits(rt: HostRuntime) -> Result<(), Fail> {
+    let good = match waits(rt, rt.alloc()) {
+        Ok(good) => good,
+        Err(AllocError) => waits(rt, rt.alloc())?,
+    };
+    assert!(rt; good);
+    Ok(())
+}
