@@ -1,7 +1,8 @@
 -- Where no lane went wrong, all have finished.
-use Rattle.std.proofs.Common.{◌≡◌, ◌≢◌, ◌++◌, append-nil, ℕ, zero, suc, ◌+◌, ◌<◌, ◌≤◌, Bool, true, false, ◌||◌, IsTrue, List, [], ◌∷◌, length, map, sym, refl, ap, ◌∙◌, subst, arith}
-use Rattle.std.specs.Prelude.{Some, None}
+use Rattle.std.proofs.Common.{◌≡◌, ◌≢◌, ◌++◌, append-nil, length-append, ℕ, zero, suc, ◌+◌, ◌<◌, ◌≤◌, Bool, true, false, ◌||◌, IsTrue, List, [], ◌∷◌, length, map, sym, refl, ap, ◌∙◌, subst, arith}
+use Rattle.std.specs.Prelude.{nat_le}
 use Rattle.std.proofs.lemmas.List.{length-map}
+use Rattle.std.proofs.lemmas.Bool.Decides.{nat_tests}
 use Rattle.std.specs.declared.thread.PromisedHandle.{PromisedHandle}
 use Rattle.relay_action.specs.declared.mail.Mail.{Mail}
 use Rattle.relay_action.specs.declared.operation.Op.{Op}
@@ -14,6 +15,9 @@ use Rattle.relay_queue.specs.Sent.{mail_of, HasDone, IsWellTaken}
 use Rattle.relay_core.specs.declared.config.RelayConfig.{RelayConfig}
 use Rattle.relay_core.specs.State.{State, config_of, IsLane}
 use Rattle.relay_core.specs.Walk.{report_of}
+use Rattle.relay_core.specs.Limits.{is_valid, is_from_to}
+use Rattle.relay_results.proofs.Lists.{and_left, and_right}
+use Rattle.relay_producer.specs.States.{ClosedProducerState, ClosedControlState}
 use Rattle.relay_core.specs.Ties.{Fits}
 use Rattle.relay_lane.specs.Delivers.{GoesOn, IsDelivered}
 use Rattle.relay_producer.specs.declared.ends.ClosedEnd.{ClosedEnd}
@@ -28,7 +32,7 @@ use Rattle.relay_threads.specs.Kept.{KeepsCourse}
 use Rattle.relay_threads.specs.Lanes.{queues_of, wires_of, AreLanesOf, EndAsPromised}
 use Rattle.relay_threads.specs.Faults.{ends_as, is_memory, is_gone_kind, is_gone_in, is_gone_in_any, is_gone_lane}
 use Rattle.relay_threads.specs.Finished.{EndsOn, AllEndOn, Carries, FinishedLane, AllFinished}
-use Rattle.relay_threads.specs.Relay.{AreRows}
+use Rattle.relay_threads.specs.Relay.{RelayState, AreRows, rows_of}
 use Rattle.relay_threads.specs.Sums.{AreMetAt, NoneGoneIn, NoneGone, queues_taken, AreDone, SumsUp, AllSumUp}
 use Rattle.relay_threads.proofs.Popping.{long_map}
 use Rattle.relay_threads.proofs.Summing.{row_long}
@@ -86,7 +90,7 @@ module _ {W : Type 0} (describes : W → Bool) (fits : W → Outside → Type 0)
 
   -- ---- all have finished
 
-  AllKinds : List (LaneEnd W) → Type 0
+  abbrev pub AllKinds : List (LaneEnd W) → Type 0
   AllKinds [] = Unit {0}
   AllKinds (e ∷ es) = (e.kind ≡ Finished) × AllKinds es
 
@@ -178,3 +182,43 @@ module _ {W : Type 0} (describes : W → Bool) (fits : W → Outside → Type 0)
   all_finished rows lane (q ∷ qs) (w ∷ ws) [] ss n a k s = absurd a
   all_finished rows lane (q ∷ qs) (w ∷ ws) (e ∷ es) [] n a k s = absurd s
   all_finished rows lane (q ∷ qs) (w ∷ ws) (e ∷ es) (x ∷ ss) n a k s = (one_finished rows lane q w e x n k.0 a.0 s.0.0 s.0.1, all_finished rows (lane + 1) qs ws es ss n a.1 k.1 s.1)
+
+-- ---- all that is known when the lanes have ended
+
+most_lanes : (c : RelayConfig) → is_valid c ≡ true → c.lanes ≤ 8
+most_lanes c e = let a = and_left (is_from_to 1 8 c.lanes) _ e in let b = and_right (nat_le 1 c.lanes) (nat_le c.lanes 8) a in grind (arith, nat_tests)
+
+most_producers : (c : RelayConfig) → is_valid c ≡ true → c.producers ≤ 16
+most_producers c e =
+    let r = and_right (is_from_to 1 8 c.lanes) _ e in
+    let a = and_left (is_from_to 1 16 c.producers) _ r in
+    let b = and_right (nat_le 1 c.producers) (nat_le c.producers 16) a in
+    grind (arith, nat_tests)
+
+ends_long : {W : Type 0} (d : W → Bool) (f : W → Outside → Type 0) (hs : List (PromisedHandle (LaneEnd W) (LanePromise W))) (es : List (LaneEnd W)) → EndAsPromised d f hs es → length es ≡ length hs
+ends_long d f [] [] k = refl
+ends_long d f [] (e ∷ es) k = absurd k
+ends_long d f (h ∷ hs) [] k = absurd k
+ends_long d f (h ∷ hs) (e ∷ es) k = ap suc (ends_long d f hs es k.1)
+
+pub record Ready {W : Type 0} (d : W → Bool) (f : W → Outside → Type 0) (self : RelayState W) (es : List (LaneEnd W)) (rows : List (List ClosedEnd)) : Type 0 where
+  pub ended : AllEndOn d f self.config self.queues self.wires es
+  pub few_ends : length es ≤ 8
+  pub few_rows : length rows ≤ 17
+  pub count : length rows ≡ self.config.producers + 1
+
+pub ready : {W : Type 0} (d : W → Bool) (f : W → Outside → Type 0) (self : RelayState W) (config : RelayConfig) (hs : List (PromisedHandle (LaneEnd W) (LanePromise W))) (es : List (LaneEnd W)) (rows : List (List ClosedEnd)) (ps : List ClosedProducerState) (k : ClosedControlState)
+    → self ≡ record { config = config; queues = queues_of hs; wires = wires_of hs } → is_valid config ≡ true → length hs ≡ config.lanes → AreLanesOf config hs → EndAsPromised d f hs es → rows ≡ rows_of ps k → length ps ≡ self.config.producers → Ready d f self es rows
+ready {W = W} d f self config hs es rows ps k is valid lanes own kept given count =
+    let same : self.config ≡ config = ap (λ (r : RelayState W). r.config) is in
+    let same_p = ap (λ (g : RelayConfig). g.producers) same in
+    let long = ends_long d f hs es kept in
+    let rows_long : length rows ≡ length ps + 1 = ap length given ∙ length-append (map (λ (x : ClosedProducerState). x.ends) ps) (k.ends ∷ []) ∙ ap (λ n. n + 1) (long_map (λ (x : ClosedProducerState). x.ends) ps) in
+    let eight = most_lanes config valid in
+    let sixteen = most_producers config valid in
+    record {
+      ended = subst (λ (r : RelayState W). AllEndOn d f r.config r.queues r.wires es) (sym is) (all_end d f config hs es own kept);
+      few_ends = omega (arith, long, lanes, eight);
+      few_rows = omega (arith, rows_long, count, same_p, sixteen);
+      count = omega (arith, rows_long, count);
+    }

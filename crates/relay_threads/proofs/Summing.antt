@@ -6,7 +6,7 @@ use Rattle.relay_queue.specs.Ends.{Queue, SenderEnd}
 use Rattle.relay_queue.specs.Sent.{mail_of, HasDone}
 use Rattle.relay_producer.specs.declared.ends.ClosedEnd.{ClosedEnd}
 use Rattle.relay_producer.specs.declared.ends.ClosedEnd.TheVariants.{Closed, Gone}
-use Rattle.relay_producer.specs.Ends.{is_gone, end_of, closed_puts, identities}
+use Rattle.relay_producer.specs.Ends.{is_gone, end_of, closed_puts, identity, identities}
 use Rattle.relay_threads.specs.declared.lane_end.LaneEnd.{LaneEnd}
 use Rattle.relay_threads.specs.declared.summary.LaneSummary.{LaneSummary}
 use Rattle.relay_threads.specs.Rows.{HaveSome, LoseLast}
@@ -20,7 +20,7 @@ use Rattle.relay_threads.proofs.Dealing.{snoc_same, map_snoc}
 -- a row has as many ends as there are queues
 pub row_long : (qs : List Queue) (p : ℕ) (row : List ClosedEnd) → identities (closed_puts row) ≡ ends_of qs p → length row ≡ length qs
 row_long qs p row e =
-    sym (long_map end_of row) ∙ sym (long_map (λ (x : SenderEnd). (x.queue, x.sender)) (closed_puts row)) ∙ ap length e ∙ long_map (λ (q : Queue). (q, p)) qs
+    sym (long_map end_of row) ∙ sym (long_map identity (closed_puts row)) ∙ ap length e ∙ long_map (λ (q : Queue). (q, p)) qs
 
 -- of each row the first ends are left
 abbrev pub Fronts : List (List ClosedEnd) → List (List ClosedEnd) → Type 0
@@ -60,8 +60,8 @@ pub record RowSplits (qs : List Queue) (q : Queue) (p : ℕ) (new : List ClosedE
 row_splits : (qs : List Queue) (q : Queue) (p : ℕ) (row new : List ClosedEnd) (x : ClosedEnd) → identities (closed_puts row) ≡ ends_of (qs ++ q ∷ []) p → NoneGoneIn row → row ≡ new ++ x ∷ [] → RowSplits qs q p new x
 row_splits qs q p row new x own none is =
     let puts : closed_puts row ≡ closed_puts new ++ end_of x ∷ [] = ap closed_puts is ∙ map_snoc end_of new x in
-    let ids : identities (closed_puts row) ≡ identities (closed_puts new) ++ ((end_of x).queue, (end_of x).sender) ∷ [] = ap identities puts ∙ map_snoc (λ (z : SenderEnd). (z.queue, z.sender)) (closed_puts new) (end_of x) in
-    let s = snoc_same (identities (closed_puts new)) (ends_of qs p) ((end_of x).queue, (end_of x).sender) (q, p) (sym ids ∙ own ∙ map_snoc (λ (k : Queue). (k, p)) qs q) in
+    let ids : identities (closed_puts row) ≡ identities (closed_puts new) ++ identity (end_of x) ∷ [] = ap identities puts ∙ map_snoc identity (closed_puts new) (end_of x) in
+    let s = snoc_same (identities (closed_puts new)) (ends_of qs p) (identity (end_of x)) (q, p) (sym ids ∙ own ∙ map_snoc (λ (k : Queue). (k, p)) qs q) in
     let g = none_gone_front new x (subst NoneGoneIn is none) in
     record { left = s.0; none_gone = g.0; closed = closed_here q p x s.1 g.1 }
 
