@@ -2,3 +2,10 @@ pub mod Totals
 pub mod Hearing
 pub mod Keeping
 pub mod Ending
+pub mod Popping
+pub mod Joining
+pub mod Dealing
+pub mod Meeting
+pub mod Summing
+pub mod Firsts
+pub mod Finishing

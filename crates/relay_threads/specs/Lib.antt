@@ -1,2 +1,9 @@
 pub mod Course
 pub mod Steps
+pub mod Faults
+pub mod Finished
+pub mod Kept
+pub mod Lanes
+pub mod Relay
+pub mod Rows
+pub mod Sums

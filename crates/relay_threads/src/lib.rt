@@ -6,8 +6,15 @@
 //! complete.
 #![tactic(auto)]
 
+pub mod fault;
+pub mod finish;
 pub mod lane_end;
+pub mod relay;
+mod rows;
 pub mod run;
+pub mod start;
+pub mod summary;
+pub mod thread;
 
 pub use lane_end::{LaneEnd, LaneEndKind};
 pub use run::run_lane;

@@ -1,0 +1,224 @@
+-- Where no lane went wrong, all have finished.
+use Rattle.std.proofs.Common.{◌≡◌, ◌≢◌, ◌++◌, append-nil, length-append, ℕ, zero, suc, ◌+◌, ◌<◌, ◌≤◌, Bool, true, false, ◌||◌, IsTrue, List, [], ◌∷◌, length, map, sym, refl, ap, ◌∙◌, subst, arith}
+use Rattle.std.specs.Prelude.{nat_le}
+use Rattle.std.proofs.lemmas.List.{length-map}
+use Rattle.std.proofs.lemmas.Bool.Decides.{nat_tests}
+use Rattle.std.specs.declared.thread.PromisedHandle.{PromisedHandle}
+use Rattle.relay_action.specs.declared.mail.Mail.{Mail}
+use Rattle.relay_action.specs.declared.operation.Op.{Op}
+use Rattle.relay_results.specs.Outside.{Outside, IsOpening}
+use Rattle.relay_delivery.specs.Delivery.{HasDistinctNames, IsSound, IsComplete, attributed}
+use Rattle.relay_delivery.specs.Machine.{Config, Report}
+use Rattle.relay_delivery.specs.Lane as delivery
+use Rattle.relay_queue.specs.Ends.{Queue}
+use Rattle.relay_queue.specs.Sent.{mail_of, HasDone, IsWellTaken}
+use Rattle.relay_core.specs.declared.config.RelayConfig.{RelayConfig}
+use Rattle.relay_core.specs.State.{State, config_of, IsLane}
+use Rattle.relay_core.specs.Walk.{report_of}
+use Rattle.relay_core.specs.Limits.{is_valid, is_from_to}
+use Rattle.relay_results.proofs.Lists.{and_left, and_right}
+use Rattle.relay_producer.specs.States.{ClosedProducerState, ClosedControlState}
+use Rattle.relay_core.specs.Ties.{Fits}
+use Rattle.relay_lane.specs.Delivers.{GoesOn, IsDelivered}
+use Rattle.relay_producer.specs.declared.ends.ClosedEnd.{ClosedEnd}
+use Rattle.relay_producer.specs.Ends.{is_gone}
+use Rattle.relay_threads.specs.declared.lane_end.LaneEnd.{LaneEnd}
+use Rattle.relay_threads.specs.declared.lane_end.LaneEndKind.{LaneEndKind}
+use Rattle.relay_threads.specs.declared.lane_end.LaneEndKind.TheVariants.{Finished, Memory, Gone}
+use Rattle.relay_threads.specs.declared.summary.LaneSummary.{LaneSummary}
+use Rattle.relay_threads.specs.declared.thread.LanePromise.{LanePromise}
+use Rattle.relay_threads.specs.Course.{puts_of, IsBelow, Heard, Course, EndsAs}
+use Rattle.relay_threads.specs.Kept.{KeepsCourse}
+use Rattle.relay_threads.specs.Lanes.{queues_of, wires_of, AreLanesOf, EndAsPromised}
+use Rattle.relay_threads.specs.Faults.{ends_as, is_memory, is_gone_kind, is_gone_in, is_gone_in_any, is_gone_lane}
+use Rattle.relay_threads.specs.Finished.{EndsOn, AllEndOn, Carries, FinishedLane, AllFinished}
+use Rattle.relay_threads.specs.Relay.{RelayState, AreRows, rows_of}
+use Rattle.relay_threads.specs.Sums.{AreMetAt, NoneGoneIn, NoneGone, queues_taken, AreDone, SumsUp, AllSumUp}
+use Rattle.relay_threads.proofs.Popping.{long_map}
+use Rattle.relay_threads.proofs.Summing.{row_long}
+use Rattle.relay_threads.proofs.Firsts.{NoneBelow}
+
+-- ---- no lane is marked
+
+or_left : (a b : Bool) → (a || b) ≡ false → a ≡ false
+or_left true b e = e
+or_left false b e = refl
+
+or_right : (a b : Bool) → (a || b) ≡ false → b ≡ false
+or_right true b e = absurd (cc)
+or_right false b e = e
+
+none_gone_in : (row : List ClosedEnd) → ((lane : ℕ) → lane < length row → is_gone_in row lane ≡ false) → NoneGoneIn row
+none_gone_in [] h = tt
+none_gone_in (e ∷ es) h = (h 0 (omega arith), none_gone_in es (λ lane lt. h (suc lane) (omega (arith, lt))))
+
+pub none_gone : (qs : List Queue) (p : ℕ) (rows : List (List ClosedEnd)) → AreRows qs p rows → ((lane : ℕ) → lane < length qs → is_gone_in_any rows lane ≡ false) → NoneGone rows
+none_gone qs p [] own h = tt
+none_gone qs p (r ∷ rs) own h =
+    (none_gone_in r (λ lane lt. or_left (is_gone_in r lane) (is_gone_in_any rs lane) (h lane (let l = row_long qs p r own.0 in omega (arith, l, lt)))),
+      none_gone qs (p + 1) rs own.1 (λ lane lt. or_right (is_gone_in r lane) (is_gone_in_any rs lane) (h lane lt)))
+
+is_finished : (kind : LaneEndKind) → is_memory kind ≡ false → is_gone_kind kind ≡ false → kind ≡ Finished
+is_finished Finished m g = refl
+is_finished Memory m g = absurd (cc)
+is_finished Gone m g = absurd (cc)
+
+module _ {W : Type 0} (describes : W → Bool) (fits : W → Outside → Type 0) (c : RelayConfig) where
+  -- ---- what the threads promised
+
+  pub all_end : (hs : List (PromisedHandle (LaneEnd W) (LanePromise W))) (es : List (LaneEnd W)) → AreLanesOf c hs → EndAsPromised describes fits hs es → AllEndOn describes fits c (queues_of hs) (wires_of hs) es
+  all_end [] [] own k = tt
+  all_end [] (e ∷ es) own k = absurd k
+  all_end (h ∷ hs) [] own k = absurd k
+  all_end (h ∷ hs) (e ∷ es) own k =
+      let one : KeepsCourse describes fits c h.promise.take.value h.promise.wire.value e = subst (λ g. KeepsCourse describes fits g h.promise.take.value h.promise.wire.value e) own.0.0 k.0 in
+      let n = own.0.1 in
+      (record {
+        of_queue = one.queue;
+        well_taken = subst (λ m. IsWellTaken m e.taken.taken) (one.senders ∙ n) one.well_taken;
+        ends = one.ends;
+        closed = λ f sender lt. one.closed f sender (omega (arith, n, lt));
+      }, all_end hs es own.1 k.1)
+
+  pub queues_same : (qs : List Queue) (ws : List W) (es : List (LaneEnd W)) → AllEndOn describes fits c qs ws es → queues_taken es ≡ qs
+  queues_same [] [] [] a = refl
+  queues_same [] [] (e ∷ es) a = absurd a
+  queues_same [] (w ∷ ws) es a = absurd a
+  queues_same (q ∷ qs) [] es a = absurd a
+  queues_same (q ∷ qs) (w ∷ ws) [] a = absurd a
+  queues_same (q ∷ qs) (w ∷ ws) (e ∷ es) a = let r = queues_same qs ws es a.1 in let s = a.0.of_queue in λ i. s i ∷ r i
+
+  -- ---- all have finished
+
+  abbrev pub AllKinds : List (LaneEnd W) → Type 0
+  AllKinds [] = Unit {0}
+  AllKinds (e ∷ es) = (e.kind ≡ Finished) × AllKinds es
+
+  all_kinds : (es : List (LaneEnd W)) → ((lane : ℕ) → lane < length es → ends_as is_memory es lane ≡ false) → ((lane : ℕ) → lane < length es → ends_as is_gone_kind es lane ≡ false) → AllKinds es
+  all_kinds [] m g = tt
+  all_kinds (e ∷ es) m g = (is_finished e.kind (m 0 (omega arith)) (g 0 (omega arith)), all_kinds es (λ lane lt. m (suc lane) (omega (arith, lt))) (λ lane lt. g (suc lane) (omega (arith, lt))))
+
+  done_of : (n : ℕ) (qs : List Queue) (ws : List W) (es : List (LaneEnd W)) → n ≡ c.producers + 1 → AllEndOn describes fits c qs ws es → AllKinds es → AreDone n es
+  done_of n [] [] [] at a k = tt
+  done_of n [] [] (e ∷ es) at a k = absurd a
+  done_of n [] (w ∷ ws) es at a k = absurd a
+  done_of n (q ∷ qs) [] es at a k = absurd a
+  done_of n (q ∷ qs) (w ∷ ws) [] at a k = absurd a
+  done_of n (q ∷ qs) (w ∷ ws) (e ∷ es) at a k = ((λ sender lt. a.0.closed k.0 sender (omega (arith, at, lt))), done_of n qs ws es at a.1 k.1)
+
+  -- what the sum needs
+  pub record MaySum (n : ℕ) (rows : List (List ClosedEnd)) (es : List (LaneEnd W)) : Type 0 where
+    pub rows_own : AreRows (queues_taken es) 0 rows
+    pub none_marked : NoneGone rows
+    pub each_done : AreDone n es
+    pub kinds : AllKinds es
+
+  pub may_sum : (n : ℕ) (qs : List Queue) (ws : List W) (es : List (LaneEnd W)) (rows : List (List ClosedEnd)) (lanes : ℕ) → n ≡ c.producers + 1 → length es ≡ lanes → AllEndOn describes fits c qs ws es → AreRows qs 0 rows
+      → NoneBelow (ends_as is_memory es) lanes → NoneBelow (is_gone_lane es rows) lanes → MaySum n rows es
+  may_sum n qs ws es rows lanes at long a own m g =
+      let same = queues_same qs ws es a in
+      let long_q = long_map (λ (e : LaneEnd W). e.taken.queue) es in
+      let kinds = all_kinds es (λ lane lt. m lane (omega (arith, lt, long))) (λ lane lt. or_left (ends_as is_gone_kind es lane) (is_gone_in_any rows lane) (g lane (omega (arith, lt, long)))) in
+      let taken = subst (λ q. AreRows q 0 rows) (sym same) own in
+      record {
+        rows_own = taken;
+        none_marked = none_gone (queues_taken es) 0 rows taken (λ lane lt. or_right (ends_as is_gone_kind es lane) (is_gone_in_any rows lane) (g lane (omega (arith, lt, long_q, long))));
+        each_done = done_of n qs ws es at a kinds;
+        kinds = kinds;
+      }
+
+  -- ---- one lane
+
+  heard_whole : (kind : LaneEndKind) (taken heard : List Mail) → kind ≡ Finished → Heard kind taken heard → taken ≡ heard
+  heard_whole kind taken heard f h = h.all ∙ ap (λ l. heard ++ l) (h.memory (not_memory kind f)) ∙ append-nil heard where
+    not_memory : (kind : LaneEndKind) → kind ≡ Finished → kind ≢ Memory
+    not_memory kind f e = let k : Finished ≡ Memory = sym f ∙ e in absurd (cc)
+
+  -- delivery, as a lane's end has it, is that of its summary
+  carries : (ops : List Op) (e : LaneEnd W) (s : LaneSummary W) (o : Outside) → e.lane.config ≡ c → e.lane.core.held ≡ [] → SumsUp e s → HasDistinctNames ops → GoesOn fits e.wire e.lane ops o → Carries describes fits c ops s o
+  carries ops e s o is none sum distinct g =
+      let conf : e.lane.core.config ≡ config_of c = sum.lane.config ∙ ap config_of is in
+      let reports = sum.reports in
+      record {
+        outside = g.outside;
+        fitting = subst (λ w. fits w g.outside) (sym sum.wire) g.fitting;
+        continues = g.continues;
+        requests = sum.requests ∙ g.lane.is_of.requests ∙ ap (λ (x : Outside). length x.requests) g.lane.outside;
+        sound = subst (λ (z : Config × List Report). IsSound z.0 ops z.1 g.outside (attributed z.0 ops g.outside)) (λ i. (conf i, sym reports i)) (g.delivered.sound distinct);
+        complete = subst (λ (z : Config × List Report). IsComplete ops z.1 (attributed z.0 ops g.outside)) (λ i. (conf i, sym reports i)) (g.delivered.complete none distinct);
+      }
+
+  one_finished : (rows : List (List ClosedEnd)) (lane : ℕ) (q : Queue) (w : W) (e : LaneEnd W) (s : LaneSummary W) → length rows ≡ c.producers + 1 → e.kind ≡ Finished → EndsOn describes fits c q w e → AreMetAt lane 0 e.taken.taken rows → SumsUp e s → FinishedLane describes fits c rows lane w s
+  one_finished rows lane q w e s count f on met sum =
+      let x = on.ends in
+      let none = x.none_held f in
+      let all = heard_whole e.kind e.taken.taken x.messages f x.heard in
+      let k = x.course in
+      let totals = k.totals in
+      let held : length e.lane.core.held ≡ 0 = ap length none in
+      let long = length-map s.reports.items report_of in
+      let reports = ap length sum.reports in
+      let taken : s.taken ≡ length (puts_of e.taken.taken) = sum.taken ∙ k.taken ∙ ap (λ m. length (puts_of m)) (sym all) in
+      record {
+        messages = e.taken.taken;
+        met = met;
+        no_other = λ sender le. on.well_taken.no_other sender (omega (arith, count, le));
+        taken = taken;
+        totals = omega (arith, totals, held, long, reports, sum.applied, sum.already, sum.taken);
+        delivers = λ distinct is o fit opening below.
+            carries (puts_of e.taken.taken) e s o k.config none sum distinct
+            (subst (λ m. GoesOn fits e.wire e.lane (puts_of m) o) (sym all) (k.delivers is o fit opening below));
+      }
+
+  -- ---- all lanes
+
+  pub all_finished : (rows : List (List ClosedEnd)) (lane : ℕ) (qs : List Queue) (ws : List W) (es : List (LaneEnd W)) (ss : List (LaneSummary W)) → length rows ≡ c.producers + 1 → AllEndOn describes fits c qs ws es → AllKinds es → AllSumUp rows lane es ss
+      → AllFinished describes fits c rows lane ws ss
+  all_finished rows lane [] [] [] [] n a k s = tt
+  all_finished rows lane [] [] [] (x ∷ ss) n a k s = absurd s
+  all_finished rows lane [] [] (e ∷ es) ss n a k s = absurd a
+  all_finished rows lane [] (w ∷ ws) es ss n a k s = absurd a
+  all_finished rows lane (q ∷ qs) [] es ss n a k s = absurd a
+  all_finished rows lane (q ∷ qs) (w ∷ ws) [] ss n a k s = absurd a
+  all_finished rows lane (q ∷ qs) (w ∷ ws) (e ∷ es) [] n a k s = absurd s
+  all_finished rows lane (q ∷ qs) (w ∷ ws) (e ∷ es) (x ∷ ss) n a k s = (one_finished rows lane q w e x n k.0 a.0 s.0.0 s.0.1, all_finished rows (lane + 1) qs ws es ss n a.1 k.1 s.1)
+
+-- ---- all that is known when the lanes have ended
+
+most_lanes : (c : RelayConfig) → is_valid c ≡ true → c.lanes ≤ 8
+most_lanes c e = let a = and_left (is_from_to 1 8 c.lanes) _ e in let b = and_right (nat_le 1 c.lanes) (nat_le c.lanes 8) a in grind (arith, nat_tests)
+
+most_producers : (c : RelayConfig) → is_valid c ≡ true → c.producers ≤ 16
+most_producers c e =
+    let r = and_right (is_from_to 1 8 c.lanes) _ e in
+    let a = and_left (is_from_to 1 16 c.producers) _ r in
+    let b = and_right (nat_le 1 c.producers) (nat_le c.producers 16) a in
+    grind (arith, nat_tests)
+
+ends_long : {W : Type 0} (d : W → Bool) (f : W → Outside → Type 0) (hs : List (PromisedHandle (LaneEnd W) (LanePromise W))) (es : List (LaneEnd W)) → EndAsPromised d f hs es → length es ≡ length hs
+ends_long d f [] [] k = refl
+ends_long d f [] (e ∷ es) k = absurd k
+ends_long d f (h ∷ hs) [] k = absurd k
+ends_long d f (h ∷ hs) (e ∷ es) k = ap suc (ends_long d f hs es k.1)
+
+pub record Ready {W : Type 0} (d : W → Bool) (f : W → Outside → Type 0) (self : RelayState W) (es : List (LaneEnd W)) (rows : List (List ClosedEnd)) : Type 0 where
+  pub ended : AllEndOn d f self.config self.queues self.wires es
+  pub few_ends : length es ≤ 8
+  pub few_rows : length rows ≤ 17
+  pub count : length rows ≡ self.config.producers + 1
+
+pub ready : {W : Type 0} (d : W → Bool) (f : W → Outside → Type 0) (self : RelayState W) (config : RelayConfig) (hs : List (PromisedHandle (LaneEnd W) (LanePromise W))) (es : List (LaneEnd W)) (rows : List (List ClosedEnd)) (ps : List ClosedProducerState) (k : ClosedControlState)
+    → self ≡ record { config = config; queues = queues_of hs; wires = wires_of hs } → is_valid config ≡ true → length hs ≡ config.lanes → AreLanesOf config hs → EndAsPromised d f hs es → rows ≡ rows_of ps k → length ps ≡ self.config.producers → Ready d f self es rows
+ready {W = W} d f self config hs es rows ps k is valid lanes own kept given count =
+    let same : self.config ≡ config = ap (λ (r : RelayState W). r.config) is in
+    let same_p = ap (λ (g : RelayConfig). g.producers) same in
+    let long = ends_long d f hs es kept in
+    let rows_long : length rows ≡ length ps + 1 = ap length given ∙ length-append (map (λ (x : ClosedProducerState). x.ends) ps) (k.ends ∷ []) ∙ ap (λ n. n + 1) (long_map (λ (x : ClosedProducerState). x.ends) ps) in
+    let eight = most_lanes config valid in
+    let sixteen = most_producers config valid in
+    record {
+      ended = subst (λ (r : RelayState W). AllEndOn d f r.config r.queues r.wires es) (sym is) (all_end d f config hs es own kept);
+      few_ends = omega (arith, long, lanes, eight);
+      few_rows = omega (arith, rows_long, count, same_p, sixteen);
+      count = omega (arith, rows_long, count);
+    }

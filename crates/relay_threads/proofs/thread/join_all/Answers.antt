@@ -1,0 +1,14 @@
+use Rattle.std.proofs.Common.{arith}
+use Rattle.std.specs.Vec.Iter.{into_iter_items}
+use Rattle.relay_threads.proofs.Joining.{joins_on}
+use Rattle.relay_threads.proofs.thread.join_all.Goals as goal
+
+pub loop-lane-preserved : goal.loop-lane-preserved
+loop-lane-preserved g c =
+    let i = c.loop-lane.invariant in
+    let s = c.in-Some.ensures.steps in
+    let p = c.push_reserved.ensures in
+    record {
+      places = omega (arith, i.places, s.1, p.len, p.capacity);
+      joins = rw p.items (joins_on g.W.Wire.describes g.W.Wire.fits _ _ (into_iter_items c.next.new.self) _ c.in-Some.lane c.join.result i.joins s.0 c.join.ensures);
+    }

@@ -1,0 +1,10 @@
+use Rattle.std.proofs.Common.{◌≡◌, ◌+◌, ◌≤◌, ◌++◌, vec_len, vec_capacity, List}
+use Rattle.std.specs.Vec.Iter.{into_iter_items, into_iter_len}
+use Rattle.relay_threads.proofs.Joining.{JoinsOn}
+use Rattle.relay_threads.proofs.thread.join_all.Given as goal
+
+abbrev pub invariant-loop-lane : goal.invariant-loop-lane
+invariant-loop-lane g l = record {
+  places : vec_len l.ends + into_iter_len l.lane-iterator ≤ vec_capacity l.ends;
+  joins : JoinsOn g.W.Wire.describes g.W.Wire.fits l.fn.lanes.items (into_iter_items l.lane-iterator) l.ends.items;
+}

@@ -1,0 +1,43 @@
+-- Which lane is the first that did not finish well.
+use Rattle.std.specs.Prelude.{◌≡◌, ◌<◌, ℕ, zero, suc, Bool, true, false, ◌||◌, List, [], ◌∷◌, Option, Some, None, slice_get}
+use Rattle.relay_producer.specs.declared.ends.ClosedEnd.{ClosedEnd}
+use Rattle.relay_producer.specs.Ends.{is_gone}
+use Rattle.relay_threads.specs.declared.lane_end.LaneEnd.{LaneEnd}
+use Rattle.relay_threads.specs.declared.lane_end.LaneEndKind.{LaneEndKind}
+use Rattle.relay_threads.specs.declared.lane_end.LaneEndKind.TheVariants.{Finished, Memory, Gone}
+
+-- the first of the lanes 0 to n - 1 that passes the test, if one does
+abbrev pub FirstOf : (ℕ → Bool) → ℕ → Option ℕ → Type 0
+FirstOf test n None = (lane : ℕ) → lane < n → test lane ≡ false
+FirstOf test n (Some first) = (first < n) × (test first ≡ true) × ((lane : ℕ) → lane < first → test lane ≡ false)
+
+abbrev pub is_memory : LaneEndKind → Bool
+is_memory Finished = false
+is_memory Memory = true
+is_memory Gone = false
+
+abbrev pub is_gone_kind : LaneEndKind → Bool
+is_gone_kind Finished = false
+is_gone_kind Memory = false
+is_gone_kind Gone = true
+
+-- the lane has ended in such a way
+abbrev pub ends_as : {W : Type 0} → (LaneEndKind → Bool) → List (LaneEnd W) → ℕ → Bool
+ends_as test [] lane = false
+ends_as test (e ∷ es) zero = test e.kind
+ends_as test (e ∷ es) (suc lane) = ends_as test es lane
+
+-- a closed handle has marked the lane
+abbrev pub is_gone_in : List ClosedEnd → ℕ → Bool
+is_gone_in [] lane = false
+is_gone_in (e ∷ es) zero = is_gone e
+is_gone_in (e ∷ es) (suc lane) = is_gone_in es lane
+
+-- one of them has
+abbrev pub is_gone_in_any : List (List ClosedEnd) → ℕ → Bool
+is_gone_in_any [] lane = false
+is_gone_in_any (row ∷ rows) lane = is_gone_in row lane || is_gone_in_any rows lane
+
+-- the lane has ended as Gone, or a closed handle has marked it
+abbrev pub is_gone_lane : {W : Type 0} → List (LaneEnd W) → List (List ClosedEnd) → ℕ → Bool
+is_gone_lane ends rows lane = ends_as is_gone_kind ends lane || is_gone_in_any rows lane

@@ -1,0 +1,86 @@
+-- What is promised of a relay whose lanes have ended.
+use Rattle.std.specs.Prelude.{◌≡◌, ◌+◌, ◌<◌, ◌≤◌, ℕ, Bool, IsTrue, List, [], ◌∷◌, Some, None, map, length}
+use Rattle.relay_action.specs.declared.operation.Op.{Op}
+use Rattle.relay_action.specs.declared.mail.Mail.{Mail}
+use Rattle.relay_results.specs.Outside.{Outside, IsOpening, Continues}
+use Rattle.relay_delivery.specs.Delivery.{HasDistinctNames, IsSound, IsComplete, attributed}
+use Rattle.relay_queue.specs.Ends.{Queue}
+use Rattle.relay_queue.specs.Sent.{mail_of, HasDone, IsWellTaken}
+use Rattle.relay_core.specs.declared.config.RelayConfig.{RelayConfig}
+use Rattle.relay_core.specs.State.{config_of}
+use Rattle.relay_core.specs.Walk.{report_of}
+use Rattle.relay_producer.specs.declared.ends.ClosedEnd.{ClosedEnd}
+use Rattle.relay_threads.specs.declared.fault.FinishFault.{FinishFault}
+use Rattle.relay_threads.specs.declared.fault.FinishFaultKind.{FinishFaultKind}
+use Rattle.relay_threads.specs.declared.fault.FinishFaultKind.TheVariants as kind
+use Rattle.relay_threads.specs.declared.lane_end.LaneEnd.{LaneEnd}
+use Rattle.relay_threads.specs.declared.lane_end.LaneEndKind.TheVariants.{Finished}
+use Rattle.relay_threads.specs.declared.summary.LaneSummary.{LaneSummary}
+use Rattle.relay_threads.specs.Course.{puts_of, IsBelow, EndsAs}
+use Rattle.relay_threads.specs.Faults.{FirstOf, ends_as, is_memory, is_gone_lane}
+use Rattle.relay_threads.specs.Sums.{AreMetAt}
+
+module _ {W : Type 0} (describes : W → Bool) (fits : W → Outside → Type 0) (c : RelayConfig) where
+  -- ---- how the lanes ended
+
+  -- a lane that began with this queue and this wire has ended so
+  pub record EndsOn (queue : Queue) (start : W) (end : LaneEnd W) : Type 0 where
+    pub of_queue : end.taken.queue ≡ queue
+    pub well_taken : IsWellTaken (c.producers + 1) end.taken.taken
+    pub ends : EndsAs (describes start) fits start end.wire c end.taken.taken end.kind end.lane
+    pub closed : end.kind ≡ Finished → (sender : ℕ) → sender < c.producers + 1 → HasDone (mail_of sender end.taken.taken)
+
+  -- all of them have, in their order
+  abbrev pub AllEndOn : List Queue → List W → List (LaneEnd W) → Type 0
+  AllEndOn [] [] [] = Unit {0}
+  AllEndOn [] [] (e ∷ es) = ⊥
+  AllEndOn [] (w ∷ ws) es = ⊥
+  AllEndOn (q ∷ qs) [] es = ⊥
+  AllEndOn (q ∷ qs) (w ∷ ws) [] = ⊥
+  AllEndOn (q ∷ qs) (w ∷ ws) (e ∷ es) = EndsOn q w e × AllEndOn qs ws es
+
+  -- ---- faults
+
+  -- a fault of this kind tells of this lane
+  abbrev pub IsFaultOf : List (LaneEnd W) → List (List ClosedEnd) → FinishFaultKind → ℕ → Type 0
+  IsFaultOf ends rows kind.LaneMemory lane = FirstOf (ends_as is_memory ends) (length ends) (Some lane)
+  IsFaultOf ends rows kind.LaneGone lane =
+      FirstOf (ends_as is_memory ends) (length ends) None × FirstOf (is_gone_lane ends rows) (length ends) (Some lane)
+  IsFaultOf ends rows kind.Memory lane =
+      FirstOf (ends_as is_memory ends) (length ends) None × FirstOf (is_gone_lane ends rows) (length ends) None × (lane ≡ 0)
+
+  -- the lanes have ended, and this is what went wrong
+  pub record HasFault (queues : List Queue) (wires : List W) (rows : List (List ClosedEnd)) (fault : FinishFault) : Type 0 where
+    pub ends : List (LaneEnd W)
+    pub ended : AllEndOn queues wires ends
+    pub tells : IsFaultOf ends rows fault.kind fault.lane
+
+  -- ---- delivery
+
+  -- an outside fits the wire of the summary and continues the one before; beside it delivery of these operations is sound
+  -- and complete, and so many requests were sent
+  pub record Carries (ops : List Op) (s : LaneSummary W) (before : Outside) : Type 0 where
+    pub outside : Outside
+    pub fitting : fits s.wire outside
+    pub continues : Continues before outside
+    pub requests : s.requests ≡ length outside.requests
+    pub sound : IsSound (config_of c) ops (map report_of s.reports.items) outside (attributed (config_of c) ops outside)
+    pub complete : IsComplete ops (map report_of s.reports.items) (attributed (config_of c) ops outside)
+
+  -- A lane that has finished took from its queue exactly what each sender sent there, each of which has closed and has not
+  -- marked the lane. Each operation that it took was applied or is reported. For each opening that fitted the wire at the
+  -- start one outside goes on from there to the end.
+  pub record FinishedLane (rows : List (List ClosedEnd)) (lane : ℕ) (start : W) (s : LaneSummary W) : Type 0 where
+    pub messages : List Mail
+    pub met : AreMetAt lane 0 messages rows
+    pub no_other : (sender : ℕ) → length rows ≤ sender → mail_of sender messages ≡ []
+    pub taken : s.taken ≡ length (puts_of messages)
+    pub totals : s.applied + s.already + length s.reports.items ≡ s.taken
+    pub delivers : HasDistinctNames (puts_of messages) → IsTrue (describes start) → (o : Outside) → fits start o → IsOpening o → IsBelow c.first_version o → Carries (puts_of messages) s o
+
+  -- so it is of the lanes from this one on, each with its wire
+  abbrev pub AllFinished : List (List ClosedEnd) → ℕ → List W → List (LaneSummary W) → Type 0
+  AllFinished rows lane [] [] = Unit {0}
+  AllFinished rows lane [] (s ∷ ss) = ⊥
+  AllFinished rows lane (w ∷ ws) [] = ⊥
+  AllFinished rows lane (w ∷ ws) (s ∷ ss) = FinishedLane rows lane w s × AllFinished rows (lane + 1) ws ss

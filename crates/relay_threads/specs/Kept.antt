@@ -1,0 +1,17 @@
+-- What a lane's thread promises of its end.
+use Rattle.std.specs.Prelude.{◌≡◌, ◌<◌, ℕ, Bool}
+use Rattle.relay_results.specs.Outside.{Outside}
+use Rattle.relay_queue.specs.Ends.{TakerEnd}
+use Rattle.relay_queue.specs.Sent.{mail_of, HasDone, IsWellTaken}
+use Rattle.relay_core.specs.declared.config.RelayConfig.{RelayConfig}
+use Rattle.relay_threads.specs.declared.lane_end.LaneEnd.{LaneEnd}
+use Rattle.relay_threads.specs.declared.lane_end.LaneEndKind.TheVariants.{Finished}
+use Rattle.relay_threads.specs.Course.{EndsAs}
+
+-- a lane of this config, with this end of a queue and this wire, has ended as `run_lane` says
+pub record KeepsCourse {W : Type 0} (describes : W → Bool) (fits : W → Outside → Type 0) (c : RelayConfig) (take : TakerEnd) (start : W) (end : LaneEnd W) : Type 0 where
+  pub queue : end.taken.queue ≡ take.queue
+  pub senders : end.taken.senders ≡ take.senders
+  pub well_taken : IsWellTaken end.taken.senders end.taken.taken
+  pub ends : EndsAs (describes start) fits start end.wire c end.taken.taken end.kind end.lane
+  pub closed : end.kind ≡ Finished → (sender : ℕ) → sender < take.senders → HasDone (mail_of sender end.taken.taken)

@@ -1,0 +1,44 @@
+//! A relay that runs.
+use crate::lane_end::LaneEnd;
+use crate::thread::LaneThread;
+use relay_lane::{RelayConfig, Wire};
+use relay_producer::ClosedEnd;
+use std::alloc::Global;
+use std::marker::Model;
+
+/// A relay that runs: a thread for each lane. Contracts see how it works, its lanes' queues, and their
+/// wires as they were at the start, by lane.
+///
+/// Dropping it leaves the lanes to end by themselves, once each handle has closed or is dropped.
+#[derive(Drop)]
+pub struct Relay<W: Wire> {
+    pub(crate) alloc: Global,
+    pub(crate) config: RelayConfig,
+    pub(crate) lanes: Vec<LaneThread<W>>,
+    // Places for what they end with, and for the handles that are given back.
+    pub(crate) ends: Vec<LaneEnd<W>>,
+    pub(crate) rows: Vec<Vec<ClosedEnd>>,
+}
+
+impl<W: Wire> Model for Relay<W> {
+    ghost use Rattle.std.specs.Prelude.{◌≡◌, ◌+◌, ◌≤◌, [], true, length, vec_capacity};
+    ghost use Rattle.relay_core.specs.Limits.{is_valid};
+    ghost use Rattle.relay_threads.specs.Lanes.{queues_of, wires_of, AreLanesOf};
+    ghost use Rattle.relay_threads.specs.Relay.{RelayState};
+
+    ghost Value = { RelayState W };
+
+    ghost view = { λ a. record {
+      config = a.config;
+      queues = queues_of a.lanes.items;
+      wires = wires_of a.lanes.items;
+    } };
+
+    ghost invariant = { λ a. (is_valid a.config ≡ true)
+        × (length a.lanes.items ≡ a.config.lanes)
+        × AreLanesOf a.config a.lanes.items
+        × (a.ends.items ≡ [])
+        × (length a.lanes.items ≤ vec_capacity a.ends)
+        × (a.rows.items ≡ [])
+        × (a.config.producers + 1 ≤ vec_capacity a.rows) };
+}
