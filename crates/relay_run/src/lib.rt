@@ -1,9 +1,9 @@
 //! Files of operations through a relay: the function behind `relay run`.
 #![tactic(auto)]
 
-pub mod fault;
 pub mod faults;
 pub mod feed;
 pub mod outcome;
 pub mod producing;
+pub mod run;
 pub mod ticking;

@@ -3,12 +3,12 @@ ghost use Rattle.std.specs.Prelude.{◌≡◌, map, IfOk};
 ghost use Rattle.relay_run.specs.Handles.{identity_of_thread};
 ghost use Rattle.relay_run.specs.Identities.{identity_of, identity_of_closed};
 
-use crate::fault::StartFault;
 use crate::feed::{FeedFault, feed};
 use crossbeam_channel::Sender;
 use relay_action::ByteIn;
 use relay_ndjson::Input;
 use relay_producer::{ClosedProducer, Producer};
+use relay_threads::fault::StartFault;
 use std::alloc::{AllocError, Global};
 use std::snapshot::Snapshot;
 use std::sync::Wait;

@@ -1,0 +1,34 @@
+-- The handles that come back are those that were given out.
+use Rattle.std.proofs.Common.{◌≡◌, ℕ, ◌+◌, List, [], ◌∷◌, ◌++◌, map, length, refl, sym, ap, subst, ◌∙◌, arith}
+use Rattle.relay_queue.specs.Ends.{Queue, fresh}
+use Rattle.relay_producer.specs.Ends.{opened, open_puts, closed_puts, identities}
+use Rattle.relay_producer.specs.States.{ProducerState, ClosedProducerState, ClosedControlState}
+use Rattle.relay_threads.specs.Relay.{AreNew, AreRows, new_producer, ends_of, rows_of}
+use Rattle.relay_run.specs.Identities.{Identity, identity_of, identity_of_closed}
+
+-- the ends of a sender that has sent nothing
+pub fresh_ends : (queues : List Queue) (p : ℕ) → identities (open_puts (map (λ q. opened (fresh q p)) queues)) ≡ ends_of queues p
+fresh_ends [] p = refl
+fresh_ends (q ∷ qs) p = ap (λ es. (q, p) ∷ es) (fresh_ends qs p)
+
+no_more : (x : Identity) (xs : List Identity) → x ∷ xs ≡ [] → ⊥
+no_more x xs e = let n : length (x ∷ xs) ≡ 0 = ap length e in omega (arith, n)
+
+abbrev first : Identity → List Identity → Identity
+first d [] = d
+first d (x ∷ xs) = x
+
+abbrev rest : List Identity → List Identity
+rest [] = []
+rest (x ∷ xs) = xs
+
+-- closed producers with the identities of new ones, and the control behind them
+pub rows_back : (queues : List Queue) (p n : ℕ) (ps : List ProducerState) (cs : List ClosedProducerState) (control : ClosedControlState) → n ≡ p + length ps → AreNew queues p ps → map identity_of_closed cs ≡ map identity_of ps → identities (closed_puts control.ends) ≡ ends_of queues n → AreRows queues p (rows_of cs control)
+rows_back queues p n [] [] control count new same last = (subst (λ k. identities (closed_puts control.ends) ≡ ends_of queues k) (omega (arith, count)) last, tt)
+rows_back queues p n [] (c ∷ cs) control count new same last = absurd (no_more (identity_of_closed c) (map identity_of_closed cs) same)
+rows_back queues p n (x ∷ ps) [] control count new same last = absurd (no_more (identity_of x) (map identity_of ps) (sym same))
+rows_back queues p n (x ∷ ps) (c ∷ cs) control count new same last =
+    let head : identity_of_closed c ≡ identity_of x = ap (first (identity_of x)) same in
+    let is : identity_of x ≡ (p, ends_of queues p) = ap identity_of new.0 ∙ ap (λ (es : List (Queue × ℕ)). (p, es)) (fresh_ends queues p) in
+    let back : identities (closed_puts c.ends) ≡ ends_of queues p = ap (λ (i : Identity). i.1) (head ∙ is) in
+    (back, rows_back queues (p + 1) n ps cs control (omega (arith, count)) new.1 (ap rest same) last)

@@ -1,0 +1,70 @@
+//! Readers of operations through a relay.
+ghost use Rattle.std.specs.Prelude.{◌≡◌, List, IfOk, vec_len};
+ghost use Rattle.relay_producer.specs.declared.ends.ClosedEnd.{ClosedEnd};
+ghost use Rattle.relay_threads.specs.Relay.{NoneOut};
+ghost use Rattle.relay_threads.specs.Finished.{AllFinished};
+
+use crate::feed::FeedFault;
+use crate::producing::{join_producers, spawn_producers};
+use crate::ticking::tick_until_ended;
+use crossbeam_channel::bounded;
+use relay_action::ByteIn;
+use relay_lane::{Pace, RelayConfig, Wire};
+use relay_threads::fault::{FinishFault, StartFault};
+use relay_threads::relay::Relay;
+use relay_threads::summary::Summary;
+use std::alloc::Global;
+use std::sync::Wait;
+use std::thread::Threads;
+use std::time::Clock;
+
+/// What a run came to.
+#[derive(Drop)]
+pub struct Ran<W> {
+    /// Why each reader was not put whole, in their order; `None` where it was.
+    pub faults: Vec<Option<FeedFault>>,
+    /// What the lanes have done.
+    pub end: Result<Summary<W>, FinishFault>,
+}
+
+/// Starts a relay, has each producer put the operations of the reader at its place, if there is one, and
+/// waits until all is done. An operation that names no index has this index, if one is given. Each lane
+/// gets a tick each 100 ms until the producers have ended.
+///
+/// `StartFault`: the relay or a producer's thread could not be started, or there was no memory for what
+/// the threads are given. Threads that were started go on then.
+pub fn run<R, W, P, S>(
+    rt: R,
+    alloc: Global,
+    config: RelayConfig,
+    wires: Vec<W>,
+    paces: Vec<P>,
+    readers: Vec<Option<S>>,
+    index: Option<&str>,
+) -> Result<Ran<W>, StartFault>
+where
+    R: Threads + Wait + Clock + Copy + Send + 'static,
+    W: Wire + Drop + Send + 'static,
+    P: Pace + Drop + Send + 'static,
+    S: ByteIn + Drop + Send + 'static,
+    requires { NoneOut W.out wires.items }
+    ensures { IfOk result (λ r. IfOk r.end (λ s. (rows : List (List ClosedEnd))
+        × AllFinished W.describes W.fits config rows 0 wires.items s.lanes.items)) }
+{
+    let (relay, producers, mut control) = match Relay::start(rt, alloc, config, wires, paces) {
+        Ok(started) => started,
+        Err(fault) => return Err(fault),
+    };
+    let (ended, waiting) = bounded(alloc, 1)?;
+    let threads = match spawn_producers(rt, alloc, readers, index, producers, ended) {
+        Ok(threads) => threads,
+        Err(fault) => return Err(fault),
+    };
+    tick_until_ended(&rt, &waiting, &mut control);
+    let (closed, faults) = join_producers(&rt, alloc, threads)?;
+    let control = control.close(&rt);
+    Ok(Ran {
+        faults,
+        end: relay.finish(&rt, closed, control),
+    })
+}
