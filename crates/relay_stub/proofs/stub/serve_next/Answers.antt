@@ -1,0 +1,35 @@
+use Rattle.std.proofs.Common.{subst}
+use Rattle.relay_index.specs.Serving.{under}
+use Rattle.relay_stub.specs.Listening.{shown}
+use Rattle.relay_stub.specs.Visits.{IsServed}
+use Rattle.relay_stub.proofs.stub.serve_next.Goals as goal
+
+pub returns-in-Ok-result : goal.returns-in-Ok-result
+returns-in-Ok-result g c =
+    let s = g.S.ByteStream in
+    let call = c.serve_connection-result in
+    let came = shown (s.left c.in-Ok.stream) (s.written c.in-Ok.stream) (s.failed c.in-Ok.stream) in
+    let went = shown (s.left call.result.1) (s.written call.result.1) (s.failed call.result.1) in
+    record {
+      came = came;
+      went = went;
+      at = g.L.Listen.shows c.accept.new.self;
+      handed = c.in-Ok.ensures.ok;
+      served = subst (IsServed came went (under c.args.index.now c.args.script.now) (under call.new.index call.new.script)) c.in-Ok-result.is call.ensures;
+      back = c.close.ensures;
+    }
+
+pub returns-in-Err : goal.returns-in-Err
+returns-in-Err g c =
+    let s = g.S.ByteStream in
+    let call = c.serve_connection-result in
+    let came = shown (s.left c.in-Ok.stream) (s.written c.in-Ok.stream) (s.failed c.in-Ok.stream) in
+    let went = shown (s.left call.result.1) (s.written call.result.1) (s.failed call.result.1) in
+    (c.in-Err.field-0, record {
+      came = came;
+      went = went;
+      at = g.L.Listen.shows c.accept.new.self;
+      handed = c.in-Ok.ensures.ok;
+      served = subst (IsServed came went (under c.args.index.now c.args.script.now) (under call.new.index call.new.script)) c.in-Err.is call.ensures;
+      back = c.close.ensures;
+    })
