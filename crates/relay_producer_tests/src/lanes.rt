@@ -1,5 +1,5 @@
 //! Lanes with two producers and the control, and what their takers find.
-ghost use Rattle.std.specs.Prelude.{◌≡◌, ◌+◌, ◌<◌, ◌≤◌, ℕ, [], length, IfOk, OnOk};
+ghost use Rattle.std.specs.Prelude.{◌≡◌, ◌+◌, ◌<◌, ◌≤◌, ℕ, length, IfOk, OnOk};
 ghost use Rattle.relay_queue.specs.Ends.{Queue, fresh_puts};
 ghost use Rattle.relay_producer.specs.States.{AreFresh};
 
