@@ -1,5 +1,5 @@
 -- What a producer put is one list: the ends show each operation under its number.
-use Rattle.std.proofs.Common.{◌≡◌, ◌≢◌, ℕ, zero, suc, ◌+◌, ◌<◌, ◌≤◌, ◌%◌, Bool, true, false, eqb, eq-eqb, ne_eqb, List, [], ◌∷◌, length, sym, refl, ap, ◌∙◌, subst, ⊎_elim, arith}
+use Rattle.std.proofs.Common.{◌≡◌, ◌≢◌, ℕ, zero, suc, ◌+◌, ◌<◌, ◌≤◌, true, false, eqb, eq-eqb, ne_eqb, List, [], ◌∷◌, length, sym, refl, ap, ◌∙◌, ⊎_elim, arith}
 use Rattle.std.specs.Prelude.{Some}
 use Rattle.std.specs.List.{slice_get}
 use Rattle.std.proofs.Math.Nat.{mod-lt}
@@ -7,7 +7,7 @@ use Rattle.std.proofs.lemmas.Bool.Decides.{eqb_tells}
 use Rattle.relay_action.specs.declared.operation.Op.{Op}
 use Rattle.relay_action.specs.Lanes.{lane_of_document, fnv1a, document_bytes}
 use Rattle.relay_queue.specs.Ends.{SenderEnd}
-use Rattle.relay_producer.specs.Puts.{puts_of, ops_for, AreNumberedBy, HasPut}
+use Rattle.relay_producer.specs.Puts.{ops_for, AreNumberedBy, HasPut}
 
 lane_below : (op : Op) (lanes : ℕ) → 0 < lanes → lane_of_document op.key lanes < lanes
 lane_below op lanes some = mod-lt (fnv1a (document_bytes op.key)) some

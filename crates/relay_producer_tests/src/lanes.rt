@@ -1,5 +1,5 @@
 //! Lanes with two producers and the control, and what their takers find.
-ghost use Rattle.std.specs.Prelude.{◌≡◌, ◌+◌, ◌<◌, ◌≤◌, ℕ, [], length, IfOk, OnOk};
+ghost use Rattle.std.specs.Prelude.{◌≡◌, ◌+◌, ◌<◌, ◌≤◌, ℕ, length, IfOk, OnOk};
 ghost use Rattle.relay_queue.specs.Ends.{Queue, fresh_puts};
 ghost use Rattle.relay_producer.specs.States.{AreFresh};
 
@@ -73,17 +73,11 @@ pub fn make(alloc: Global, count: u32, capacity: u32) -> Result<Lanes, AllocErro
     Ok(lanes)
 }
 
-/// The document of this number.
-pub fn document(alloc: Global, number: usize) -> Option<DocKey> {
-    let id = format!(in alloc; "{number}").ok()?;
-    DocKey::new(alloc, "books", id.as_str()).ok()
-}
-
-/// Whether it is the document of this number.
-pub fn is_document(alloc: Global, key: &DocKey, number: usize) -> bool {
-    match format!(in alloc; "{number}") {
-        Ok(id) => key.index() == "books" && key.id() == id.as_str(),
-        Err(_) => false,
+/// The document of an id, which is tried once more where an allocation was refused.
+pub fn document(alloc: Global, id: &str) -> Option<DocKey> {
+    match DocKey::new(alloc, "books", id) {
+        Ok(key) => Some(key),
+        Err(_) => DocKey::new(alloc, "books", id).ok(),
     }
 }
 

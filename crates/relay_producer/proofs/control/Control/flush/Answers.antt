@@ -1,4 +1,4 @@
-use Rattle.std.proofs.Common.{ap, subst, sym, ◌+◌, ◌≡◌, ◌∙◌}
+use Rattle.std.proofs.Common.{subst, ◌+◌, ◌≡◌}
 use Rattle.relay_action.specs.declared.mail.Body.TheVariants.{Flush}
 use Rattle.relay_producer.specs.Ends.{count_sent, IsSentToAll}
 use Rattle.relay_producer.specs.States.{ControlState}

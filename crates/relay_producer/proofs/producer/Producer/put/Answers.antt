@@ -73,3 +73,22 @@ pub returns-in-Err-clause-gone : goal.returns-in-Err-clause-gone
 returns-in-Err-clause-gone g c kind =
     let e = at_lane c.args.key marked c.self.inside.ends.items c.send_op.new.ends.items c.lane_of-lane.result c.len.result c.in-Err.ensures.gone c.lane_of-lane.ensures.value (c.len.ensures ∙ c.self.inside.ends.ok.0) in
     ap (with_ends c.self.inside.producer c.self.inside.count) e ∙ ap (after_gone c.args.key) c.self.view_is
+
+-- fewer than 2^40 operations were put, so no queue took as many
+pub send_op-requires-clause-room : goal.send_op-requires-clause-room
+send_op-requires-clause-room g c k d below =
+    let room : c.self.inside.count < 2 ^ 40 = omega arith in
+    let own = (c.self.invariant.0.own k d below).1 in
+    omega arith
+
+pub returns-in-Ok-clause-spent : goal.returns-in-Ok-clause-spent
+returns-in-Ok-clause-spent g c =
+    let room : c.self.inside.count < 2 ^ 40 = omega arith in
+    let put = ap (λ (s : ProducerState). s.put) c.self.view_is in
+    (λ none. absurd none, λ full. absurd (omega arith))
+
+pub returns-in-Err-clause-spent : goal.returns-in-Err-clause-spent
+returns-in-Err-clause-spent g c =
+    let room : c.self.inside.count < 2 ^ 40 = omega arith in
+    let put = ap (λ (s : ProducerState). s.put) c.self.view_is in
+    (λ kind. absurd (cc), λ full. absurd (omega arith))
