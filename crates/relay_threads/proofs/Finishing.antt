@@ -206,6 +206,7 @@ pub record Ready {W : Type 0} (d : W → Bool) (f : W → Outside → Type 0) (s
   pub few_ends : length es ≤ 8
   pub few_rows : length rows ≤ 17
   pub count : length rows ≡ self.config.producers + 1
+  pub lanes : length self.queues ≡ self.config.lanes
 
 pub ready : {W : Type 0} (d : W → Bool) (f : W → Outside → Type 0) (self : RelayState W) (config : RelayConfig) (hs : List (PromisedHandle (LaneEnd W) (LanePromise W))) (es : List (LaneEnd W)) (rows : List (List ClosedEnd)) (ps : List ClosedProducerState) (k : ClosedControlState)
     → self ≡ record { config = config; queues = queues_of hs; wires = wires_of hs } → is_valid config ≡ true → length hs ≡ config.lanes → AreLanesOf config hs → EndAsPromised d f hs es → rows ≡ rows_of ps k → length ps ≡ self.config.producers → Ready d f self es rows
@@ -221,4 +222,5 @@ ready {W = W} d f self config hs es rows ps k is valid lanes own kept given coun
       few_ends = omega (arith, long, lanes, eight);
       few_rows = omega (arith, rows_long, count, same_p, sixteen);
       count = omega (arith, rows_long, count);
+      lanes = subst (λ (r : RelayState W). length r.queues ≡ r.config.lanes) (sym is) (long_map (λ (h : PromisedHandle (LaneEnd W) (LanePromise W)). h.promise.take.value.queue) hs ∙ lanes);
     }

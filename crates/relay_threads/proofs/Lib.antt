@@ -9,3 +9,4 @@ pub mod Meeting
 pub mod Summing
 pub mod Firsts
 pub mod Finishing
+pub mod Delivering

@@ -1,5 +1,6 @@
 pub mod Course
 pub mod Steps
+pub mod Delivered
 pub mod Faults
 pub mod Finished
 pub mod Kept

@@ -1,7 +1,9 @@
 //! Waits until the lanes of a relay have ended, and tells what each of them has done.
-ghost use Rattle.std.specs.Prelude.{◌≡◌, ◌+◌, ◌<◌, ◌≤◌, ◌||◌, ℕ, [], IfOk, IfErr, map, vec_len, vec_capacity};
+ghost use Rattle.std.specs.Prelude.{◌≡◌, ◌+◌, ◌<◌, ◌≤◌, ◌||◌, ℕ, List, [], IfOk, IfErr, map, vec_len, vec_capacity};
+ghost use Rattle.relay_action.specs.declared.operation.Op.{Op};
 ghost use Rattle.relay_queue.specs.Sent.{mail_of, HasDone};
 ghost use Rattle.relay_producer.specs.Ends.{is_gone};
+ghost use Rattle.relay_threads.specs.Delivered.{HavePut, HaveNoPuts, AllDelivered};
 ghost use Rattle.relay_threads.specs.Faults.{FirstOf, is_gone_in, is_gone_in_any, is_gone_lane, ends_as, is_memory, is_gone_kind};
 ghost use Rattle.relay_threads.specs.Finished.{AllFinished, HasFault};
 ghost use Rattle.relay_threads.specs.Relay.{AreRows, rows_of};
@@ -214,6 +216,9 @@ impl<W: Wire + Drop + Send + 'static> Relay<W> {
         requires rows { AreRows self.queues 0 (rows_of producers.items control) }
         ensures finished { IfOk result (λ s. AllFinished W.describes W.fits self.config
             (rows_of producers.items control) 0 self.wires s.lanes.items) }
+        ensures delivered { IfOk result (λ s. (puts : ℕ → List Op)
+            → HavePut puts 0 producers.items → HaveNoPuts control.ends
+            → AllDelivered W.describes W.fits self.config puts 0 self.wires s.lanes.items) }
         ensures fault { IfErr result (λ e. HasFault W.describes W.fits self.config
             self.queues self.wires (rows_of producers.items control) e) }
     {

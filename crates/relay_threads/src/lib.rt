@@ -16,5 +16,8 @@ pub mod start;
 pub mod summary;
 pub mod thread;
 
+pub use fault::{FinishFault, FinishFaultKind, StartFault};
 pub use lane_end::{LaneEnd, LaneEndKind};
+pub use relay::Relay;
 pub use run::run_lane;
+pub use summary::{LaneSummary, Summary};

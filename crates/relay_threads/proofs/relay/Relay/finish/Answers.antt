@@ -6,6 +6,7 @@ use Rattle.relay_threads.specs.Finished.{AllFinished}
 use Rattle.relay_threads.specs.Relay.{AreRows, rows_of}
 use Rattle.relay_threads.specs.Sums.{AllSumUp}
 use Rattle.relay_threads.proofs.Popping.{long_map}
+use Rattle.relay_threads.proofs.Delivering.{are_long, all_delivered}
 use Rattle.relay_threads.proofs.Finishing.{ready, may_sum, all_finished}
 use Rattle.relay_threads.proofs.relay.Relay.finish.Goals as goal
 
@@ -69,3 +70,7 @@ returns-in-Err-clause-fault g c =
     let long_g : (o : Option ℕ) → FirstOf (is_gone_lane c.join_all-ends.result.items rows) (vec_len c.join_all-ends.result) o → FirstOf (is_gone_lane c.join_all-ends.result.items given) (length c.join_all-ends.result.items) o = λ o h. subst (λ r. FirstOf (is_gone_lane c.join_all-ends.result.items r) (length c.join_all-ends.result.items) o) c.give_back-rows.ensures (subst (λ n. FirstOf (is_gone_lane c.join_all-ends.result.items rows) n o) c.join_all-ends.result.ok.0 h) in
     record { ends = c.join_all-ends.result.items; ended = r.ended; tells = (long_m None (subst (FirstOf (ends_as is_memory c.join_all-ends.result.items) (vec_len c.join_all-ends.result)) c.in_default.is c.first_memory.ensures), long_g None (subst (FirstOf (is_gone_lane c.join_all-ends.result.items (map (λ r. r.items) c.give_back-rows.result.items)) (vec_len c.join_all-ends.result)) c.in_default-first_gone.is c.first_gone.ensures), refl) }
 
+pub returns-in-Ok-clause-delivered : goal.returns-in-Ok-clause-delivered
+returns-in-Ok-clause-delivered g c puts h none =
+    let r = ready g.W.Wire.describes g.W.Wire.fits c.args.self c.self.inside.config c.self.inside.lanes.items c.join_all-ends.result.items _ c.args.producers.items c.args.control (sym c.self.view_is) c.self.invariant.0 c.self.invariant.1 c.self.invariant.2 c.join_all-ends.ensures c.give_back-rows.ensures (sym c.args.producers.ok.0 ∙ c.requires.count) in
+    all_delivered g.W.Wire.describes g.W.Wire.fits c.args.self.config puts c.args.producers.items c.args.control 0 c.args.self.wires c.in-Ok.lanes.items (sym c.args.producers.ok.0 ∙ c.requires.count) (are_long c.args.self.queues 0 c.args.self.config.lanes c.args.producers.items c.args.control r.lanes c.requires.rows) h none (returns-in-Ok-clause-finished g c)

@@ -1,0 +1,42 @@
+-- What is promised of all that the producers of a relay put.
+use Rattle.std.specs.Prelude.{◌≡◌, ◌+◌, ◌<◌, ◌≤◌, ℕ, Bool, IsTrue, List, [], ◌∷◌, length}
+use Rattle.relay_action.specs.declared.operation.Op.{Op}
+use Rattle.relay_results.specs.Outside.{Outside, IsOpening}
+use Rattle.relay_delivery.specs.Delivery.{taken_of}
+use Rattle.relay_core.specs.declared.config.RelayConfig.{RelayConfig}
+use Rattle.relay_producer.specs.declared.ends.ClosedEnd.{ClosedEnd}
+use Rattle.relay_producer.specs.Ends.{end_of, closed_puts}
+use Rattle.relay_producer.specs.Puts.{ops_for, puts_of, HasPut}
+use Rattle.relay_producer.specs.States.{ClosedProducerState}
+use Rattle.relay_threads.specs.declared.summary.LaneSummary.{LaneSummary}
+use Rattle.relay_threads.specs.Course.{IsBelow}
+use Rattle.relay_threads.specs.Finished.{Carries}
+
+-- the producers numbered p, p + 1, and so on put these operations, and no others
+abbrev pub HavePut : (ℕ → List Op) → ℕ → List ClosedProducerState → Type 0
+HavePut puts p [] = Unit {0}
+HavePut puts p (c ∷ cs) = HasPut p c.put (closed_puts c.ends) (puts p) × HavePut puts (p + 1) cs
+
+-- no operation was sent by these ends
+abbrev pub HaveNoPuts : List ClosedEnd → Type 0
+HaveNoPuts [] = Unit {0}
+HaveNoPuts (e ∷ es) = (puts_of (end_of e).sent ≡ []) × HaveNoPuts es
+
+module _ {W : Type 0} (describes : W → Bool) (fits : W → Outside → Type 0) (c : RelayConfig) (puts : ℕ → List Op) where
+  -- What a lane has delivered: the operations on its documents that the producers put, each producer's in its order, and no
+  -- others. Each of them was applied or is reported. For each opening that fitted the wire at the start one outside goes on
+  -- from there to the end, and beside it delivery is sound and complete.
+  pub record DeliveredLane (lane : ℕ) (start : W) (s : LaneSummary W) : Type 0 where
+    pub taken : List Op
+    pub own : (p : ℕ) → p < c.producers → taken_of taken p ≡ ops_for c.lanes lane (puts p)
+    pub no_other : (p : ℕ) → c.producers ≤ p → taken_of taken p ≡ []
+    pub count : s.taken ≡ length taken
+    pub totals : s.applied + s.already + length s.reports.items ≡ s.taken
+    pub delivers : IsTrue (describes start) → (o : Outside) → fits start o → IsOpening o → IsBelow c.first_version o → Carries describes fits c taken s o
+
+  -- so it is of the lanes from this one on, each with its wire
+  abbrev pub AllDelivered : ℕ → List W → List (LaneSummary W) → Type 0
+  AllDelivered lane [] [] = Unit {0}
+  AllDelivered lane [] (s ∷ ss) = ⊥
+  AllDelivered lane (w ∷ ws) [] = ⊥
+  AllDelivered lane (w ∷ ws) (s ∷ ss) = DeliveredLane lane w s × AllDelivered (lane + 1) ws ss
