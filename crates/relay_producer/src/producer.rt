@@ -1,5 +1,5 @@
 //! A producer's handle: it puts operations, each to the lane of its document.
-ghost use Rattle.std.specs.Prelude.{◌≡◌, ◌+◌, ◌^◌, ◌↔◌, List, [], ◌∷◌, ◌++◌, false, map, Some, IfOk, IfErr, OnOk, OnErr, IsErrAnd};
+ghost use Rattle.std.specs.Prelude.{◌≡◌, ◌+◌, ◌<◌, ◌^◌, ◌↔◌, List, [], ◌∷◌, ◌++◌, false, map, Some, IfOk, IfErr, OnOk, OnErr, IsErrAnd};
 ghost use Rattle.std.specs.List.{All, count_by, slice_get};
 ghost use Rattle.relay_action.specs.declared.operation.Op.{Op};
 ghost use Rattle.relay_producer.specs.Ends.{opened, open_puts, closed_puts, identities, is_gone, IsClosedBy, ClosesAll};

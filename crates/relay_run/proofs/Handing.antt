@@ -1,9 +1,10 @@
 -- The handles that come back are those that were given out.
 use Rattle.std.proofs.Common.{◌≡◌, ℕ, ◌+◌, List, [], ◌∷◌, ◌++◌, map, length, refl, sym, ap, subst, ◌∙◌, arith}
+use Rattle.std.proofs.lemmas.List.{length-map}
 use Rattle.relay_queue.specs.Ends.{Queue, fresh}
 use Rattle.relay_producer.specs.Ends.{opened, open_puts, closed_puts, identities}
-use Rattle.relay_producer.specs.States.{ProducerState, ClosedProducerState, ClosedControlState}
-use Rattle.relay_threads.specs.Relay.{AreNew, AreRows, new_producer, ends_of, rows_of}
+use Rattle.relay_producer.specs.States.{ProducerState, ControlState, ClosedProducerState, ClosedControlState}
+use Rattle.relay_threads.specs.Relay.{AreNew, AreRows, new_control, ends_of, rows_of}
 use Rattle.relay_run.specs.Identities.{Identity, identity_of, identity_of_closed}
 
 -- the ends of a sender that has sent nothing
@@ -32,3 +33,12 @@ rows_back queues p n (x ∷ ps) (c ∷ cs) control count new same last =
     let is : identity_of x ≡ (p, ends_of queues p) = ap identity_of new.0 ∙ ap (λ (es : List (Queue × ℕ)). (p, es)) (fresh_ends queues p) in
     let back : identities (closed_puts c.ends) ≡ ends_of queues p = ap (λ (i : Identity). i.1) (head ∙ is) in
     (back, rows_back queues (p + 1) n ps cs control (omega (arith, count)) new.1 (ap rest same) last)
+
+-- as many come back as were given out
+pub count_back : (ps : List ProducerState) (cs : List ClosedProducerState) → map identity_of_closed cs ≡ map identity_of ps → length cs ≡ length ps
+count_back ps cs same = sym (length-map identity_of_closed cs) ∙ ap length same ∙ length-map identity_of ps
+
+-- the control that comes back is the one that was given out
+pub control_back : (queues : List Queue) (n : ℕ) (start after : ControlState) (control : ClosedControlState) → start ≡ new_control queues n → identities (open_puts after.ends) ≡ identities (open_puts start.ends) → identities (closed_puts control.ends) ≡ identities (open_puts after.ends) → identities (closed_puts control.ends) ≡ ends_of queues n
+control_back queues n start after control is ticked closed =
+    closed ∙ ticked ∙ ap (λ (c : ControlState). identities (open_puts c.ends)) is ∙ fresh_ends queues n

@@ -3,6 +3,7 @@
 
 pub mod faults;
 pub mod feed;
+pub mod files;
 pub mod outcome;
 pub mod producing;
 pub mod run;

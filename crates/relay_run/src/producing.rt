@@ -8,7 +8,7 @@ use crossbeam_channel::Sender;
 use relay_action::ByteIn;
 use relay_ndjson::Input;
 use relay_producer::{ClosedProducer, Producer};
-use relay_threads::fault::StartFault;
+use relay_threads::StartFault;
 use std::alloc::{AllocError, Global};
 use std::snapshot::Snapshot;
 use std::sync::Wait;
