@@ -4,7 +4,7 @@ use Rattle.std.proofs.lemmas.List.{length-map}
 use Rattle.relay_queue.specs.Ends.{Queue, fresh}
 use Rattle.relay_producer.specs.Ends.{opened, open_puts, closed_puts, identities}
 use Rattle.relay_producer.specs.States.{ProducerState, ControlState, ClosedProducerState, ClosedControlState}
-use Rattle.relay_threads.specs.Relay.{AreNew, AreRows, new_control, ends_of, rows_of}
+use Rattle.relay_threads.specs.Relay.{AreNew, AreRows, NoneOut, new_control, ends_of, rows_of}
 use Rattle.relay_run.specs.Identities.{Identity, identity_of, identity_of_closed}
 
 -- the ends of a sender that has sent nothing
@@ -36,9 +36,18 @@ rows_back queues p n (x ∷ ps) (c ∷ cs) control count new same last =
 
 -- as many come back as were given out
 pub count_back : (ps : List ProducerState) (cs : List ClosedProducerState) → map identity_of_closed cs ≡ map identity_of ps → length cs ≡ length ps
-count_back ps cs same = sym (length-map identity_of_closed cs) ∙ ap length same ∙ length-map identity_of ps
+count_back ps cs same = sym (length-map cs identity_of_closed) ∙ ap length same ∙ length-map ps identity_of
 
 -- the control that comes back is the one that was given out
 pub control_back : (queues : List Queue) (n : ℕ) (start after : ControlState) (control : ClosedControlState) → start ≡ new_control queues n → identities (open_puts after.ends) ≡ identities (open_puts start.ends) → identities (closed_puts control.ends) ≡ identities (open_puts after.ends) → identities (closed_puts control.ends) ≡ ends_of queues n
 control_back queues n start after control is ticked closed =
     closed ∙ ticked ∙ ap (λ (c : ControlState). identities (open_puts c.ends)) is ∙ fresh_ends queues n
+
+-- one more wire on which no number is out
+pub none_out_push : {W : Type 0} (out : W → List ℕ) (ws : List W) (w : W) → NoneOut out ws → out w ≡ [] → NoneOut out (ws ++ w ∷ [])
+none_out_push out [] w none e = (e, tt)
+none_out_push out (x ∷ ws) w none e = (none.0, none_out_push out ws w none.1 e)
+
+-- the same of all producers
+pub rows_of_all : (queues : List Queue) (n : ℕ) (ps : List ProducerState) (cs : List ClosedProducerState) (control : ClosedControlState) → n ≡ length ps → AreNew queues 0 ps → map identity_of_closed cs ≡ map identity_of ps → identities (closed_puts control.ends) ≡ ends_of queues n → AreRows queues 0 (rows_of cs control)
+rows_of_all queues n ps cs control count new same last = rows_back queues 0 n ps cs control (omega (arith, count)) new same last

@@ -20,8 +20,7 @@ use relay_threads::{FinishFault, FinishFaultKind, StartFault, Summary};
 use relay_wires::HttpWire;
 use std::alloc::{AllocError, Global};
 use std::fs::File;
-use std::net::Net;
-use std::rt::Files;
+use std::net::TcpStream;
 use std::sync::Wait;
 use std::thread::Threads;
 use std::time::Clock;
@@ -53,15 +52,15 @@ impl RunOptions {
 }
 
 /// A wire over TCP.
-type TcpWire<R> = HttpWire<StdStream<<R as Net>::Stream>, TcpDial<R>>;
+type TcpWire = HttpWire<StdStream<TcpStream>, TcpDial<HostRuntime>>;
 
 // A wire to the index for each lane.
-fn make_wires<R: Net + Copy>(
-    rt: R,
+fn make_wires(
+    rt: HostRuntime,
     alloc: Global,
     to: &str,
     lanes: u32,
-) -> Result<Vec<TcpWire<R>>, AllocError>
+) -> Result<Vec<TcpWire>, AllocError>
     requires { IsTrue (is_host to.now) }
     ensures { IfOk result (λ v. NoneOut (λ w. numbers w.out) v.items) }
 {
@@ -74,11 +73,11 @@ fn make_wires<R: Net + Copy>(
 }
 
 // A pace for each lane.
-fn make_paces<R: Clock + Copy>(
-    rt: R,
+fn make_paces(
+    rt: HostRuntime,
     alloc: Global,
     lanes: u32,
-) -> Result<Vec<SleepPace<R>>, AllocError> {
+) -> Result<Vec<SleepPace<HostRuntime>>, AllocError> {
     let mut paces = Vec::new(alloc);
     for _ in 0..lanes {
         paces.push(SleepPace::new(rt))?;
@@ -87,11 +86,11 @@ fn make_paces<R: Clock + Copy>(
 }
 
 // The files as streams; `None` in place of one that could not be opened.
-fn open_files<R: Files>(
-    rt: &R,
+fn open_files(
+    rt: &HostRuntime,
     alloc: Global,
     files: &[String],
-) -> Result<Vec<Option<StdStream<R::File>>>, AllocError> {
+) -> Result<Vec<Option<StdStream<File>>>, AllocError> {
     let mut readers = Vec::new(alloc);
     for file in files {
         let reader = match File::open(rt, file.as_str()) {
@@ -207,23 +206,22 @@ fn conclude<W: Drop, O: ByteOut, E: ByteOut>(
 // Runs the files over TCP, and says what it came to.
 fn run_all<R, O, E>(
     rt: R,
-    alloc: Global,
+    host: HostRuntime,
     options: &RunOptions,
     out: &mut O,
     err: &mut E,
 ) -> Result<Exit, AllocError>
 where
-    R: Threads + Wait + Clock + Files + Net + Copy + Send + 'static,
-    R::File: Send + 'static,
-    R::Stream: Send + 'static,
+    R: Threads + Wait + Clock + Copy + Send + 'static,
     O: ByteOut,
     E: ByteOut,
     requires { IsTrue (is_host (string_bytes options.now.to)) }
 {
+    let alloc = host.alloc();
     let lanes = options.config.lanes;
-    let wires = make_wires(rt, alloc, options.to.as_str(), lanes)?;
-    let paces = make_paces(rt, alloc, lanes)?;
-    let readers = open_files(&rt, alloc, &options.files)?;
+    let wires = make_wires(host, alloc, options.to.as_str(), lanes)?;
+    let paces = make_paces(host, alloc, lanes)?;
+    let readers = open_files(&host, alloc, &options.files)?;
     let mut opened = Vec::new(alloc);
     for reader in &readers {
         opened.push(reader.is_some())?;
@@ -247,22 +245,20 @@ where
 /// a device's fault, that before an input's, and that before operations that were reported.
 pub fn run_files<R, O, E>(
     rt: R,
-    alloc: Global,
+    host: HostRuntime,
     options: &RunOptions,
     out: &mut O,
     err: &mut E,
 ) -> Exit
 where
-    R: Threads + Wait + Clock + Files + Net + Copy + Send + 'static,
-    R::File: Send + 'static,
-    R::Stream: Send + 'static,
+    R: Threads + Wait + Clock + Copy + Send + 'static,
     O: ByteOut,
     E: ByteOut,
 {
     if !options.is_valid() {
         return Exit::Usage;
     }
-    match run_all(rt, alloc, options, out, err) {
+    match run_all(rt, host, options, out, err) {
         Ok(exit) => exit,
         Err(_) => {
             let _ = write_all(err, b"out of memory\n");

@@ -1,0 +1,6 @@
+use Rattle.relay_threads.specs.Relay.{NoneOut}
+use Rattle.relay_wires.specs.Numbered.{numbers}
+use Rattle.relay_run.proofs.files.make_wires.Given as goal
+
+abbrev pub invariant-lanes : goal.invariant-lanes
+invariant-lanes l = NoneOut (λ w. numbers w.out) l.wires.items
