@@ -115,9 +115,9 @@ module _ {W : Type 0} where
   pub wires_more : (hs hs' : List (PromisedHandle (LaneEnd W) (LanePromise W))) (h : PromisedHandle (LaneEnd W) (LanePromise W)) (w : W) (rest rest' all : List W) → hs' ≡ hs ++ h ∷ [] → h.promise.wire.value ≡ w → rest ≡ w ∷ rest' → wires_of hs ++ rest ≡ all → wires_of hs' ++ rest' ≡ all
   wires_more hs hs' h w rest rest' all more is next so =
       ap (λ l. wires_of l ++ rest') more ∙ ap (λ l. l ++ rest') (map_snoc (λ (x : PromisedHandle (LaneEnd W) (LanePromise W)). x.promise.wire.value) hs h) ∙ ap (λ v. (wires_of hs ++ v ∷ []) ++ rest') is ∙ snoc_rest (wires_of hs) w rest' ∙ ap (λ l. wires_of hs ++ l) (sym next) ∙ so where
-    snoc_rest : (xs : List W) (y : W) (ys : List W) → (xs ++ y ∷ []) ++ ys ≡ xs ++ y ∷ ys
-    snoc_rest [] y ys = refl
-    snoc_rest (x ∷ xs) y ys = ap (λ l. x ∷ l) (snoc_rest xs y ys)
+        snoc_rest : (xs : List W) (y : W) (ys : List W) → (xs ++ y ∷ []) ++ ys ≡ xs ++ y ∷ ys
+        snoc_rest [] y ys = refl
+        snoc_rest (x ∷ xs) y ys = ap (λ l. x ∷ l) (snoc_rest xs y ys)
 
   pub puts_more : {V : Type 0} (items : V → List SenderEnd) (n : ℕ) (hs hs' : List (PromisedHandle (LaneEnd W) (LanePromise W))) (h : PromisedHandle (LaneEnd W) (LanePromise W)) (columns columns' : List V) (puts : V) → hs' ≡ hs ++ h ∷ [] → columns' ≡ columns ++ puts ∷ []
       → items puts ≡ fresh_puts h.promise.take.value.queue n → map items columns ≡ map (λ q. fresh_puts q n) (queues_of hs) → map items columns' ≡ map (λ q. fresh_puts q n) (queues_of hs')

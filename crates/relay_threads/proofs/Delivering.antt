@@ -103,6 +103,7 @@ distinct_numbered lanes lane p n [] h = tt
 distinct_numbered lanes lane p n (o ∷ os) h = by (eqb (lane_of_document o.key lanes) lane) refl (distinct_numbered lanes lane p (n + 1) os h.2) where
   alone : Mem (name_of o) (map name_of (ops_for lanes lane os)) → ⊥
   alone m = let l = least_mem (n + 1) (name_of o) (ops_for lanes lane os) (numbered_least lanes lane p (n + 1) (n + 1) os (omega arith) h.2) m in let at = h.1 in absurd (omega (arith, l, at))
+
   by : (t : Bool) → eqb (lane_of_document o.key lanes) lane ≡ t → AllDistinct (map name_of (ops_for lanes lane os)) → AllDistinct (map name_of (ops_for lanes lane (o ∷ os)))
   by true e r = rw e (alone, r)
   by false e r = rw e r
@@ -123,18 +124,18 @@ mem_filter p n [] is m = absurd m
 mem_filter p n (o ∷ os) is m =
     ⊎_elim (λ (e : n ≡ name_of o). let own : o.producer ≡ p = sym (ap (λ (x : OpName). x.producer) e) ∙ is in rw (eq-eqb o.producer p own) (inl e))
     (λ (r : Mem n (map name_of os)). by (eqb o.producer p) refl (mem_filter p n os is r)) m where
-  by : (t : Bool) → eqb o.producer p ≡ t → Mem n (map name_of (filter (is_from p) os)) → Mem n (map name_of (filter (is_from p) (o ∷ os)))
-  by true e r = rw e (inr r)
-  by false e r = rw e r
+      by : (t : Bool) → eqb o.producer p ≡ t → Mem n (map name_of (filter (is_from p) os)) → Mem n (map name_of (filter (is_from p) (o ∷ os)))
+      by true e r = rw e (inr r)
+      by false e r = rw e r
 
 distinct_all : (os : List Op) → ((p : ℕ) → AllDistinct (map name_of (filter (is_from p) os))) → AllDistinct (map name_of os)
 distinct_all [] h = tt
 distinct_all (o ∷ os) h =
     let here = subst (λ (b : Bool). AllDistinct (map name_of (if b then o ∷ filter (is_from o.producer) os else filter (is_from o.producer) os))) (eq-eqb o.producer o.producer refl) (h o.producer) in
     ((λ m. here.0 (mem_filter o.producer (name_of o) os refl m)), distinct_all os (λ p. rest p (eqb o.producer p) refl (h p))) where
-  rest : (p : ℕ) (t : Bool) → eqb o.producer p ≡ t → AllDistinct (map name_of (filter (is_from p) (o ∷ os))) → AllDistinct (map name_of (filter (is_from p) os))
-  rest p true e d = (subst (λ (b : Bool). AllDistinct (map name_of (if b then o ∷ filter (is_from p) os else filter (is_from p) os))) e d).1
-  rest p false e d = subst (λ (b : Bool). AllDistinct (map name_of (if b then o ∷ filter (is_from p) os else filter (is_from p) os))) e d
+      rest : (p : ℕ) (t : Bool) → eqb o.producer p ≡ t → AllDistinct (map name_of (filter (is_from p) (o ∷ os))) → AllDistinct (map name_of (filter (is_from p) os))
+      rest p true e d = (subst (λ (b : Bool). AllDistinct (map name_of (if b then o ∷ filter (is_from p) os else filter (is_from p) os))) e d).1
+      rest p false e d = subst (λ (b : Bool). AllDistinct (map name_of (if b then o ∷ filter (is_from p) os else filter (is_from p) os))) e d
 
 -- ---- what was met
 
@@ -221,14 +222,15 @@ of_all lanes lane count puts ms some none =
       no_other = λ q le. taken_is q ms each ∙ none q le;
       distinct = distinct_all (puts_of ms) (λ q. subst (λ l. AllDistinct (map name_of l)) (sym (taken_is q ms each)) (alone q));
     } where
-  each : (q : ℕ) → AllBy q (puts_of (mail_of q ms))
-  each q =
-      ⊎_elim (λ (l : q < count). let s = some q l in subst (AllBy q) (sym s.is) (by_for lanes lane q (puts q) (by_numbered q 1 (puts q) s.numbered)))
-      (λ (r : (q ≡ count) ⊎ (count < q)). subst (AllBy q) (sym (none q (⊎_elim (λ (e : q ≡ count). let le : count ≤ q = omega (arith, e) in le) (λ (g : count < q). let le : count ≤ q = omega (arith, g) in le) r))) tt) (split q count)
-  alone : (q : ℕ) → AllDistinct (map name_of (puts_of (mail_of q ms)))
-  alone q =
-      ⊎_elim (λ (l : q < count). let s = some q l in subst (λ (x : List Op). AllDistinct (map name_of x)) (sym s.is) (distinct_numbered lanes lane q 1 (puts q) s.numbered))
-      (λ (r : (q ≡ count) ⊎ (count < q)). subst (λ (x : List Op). AllDistinct (map name_of x)) (sym (none q (⊎_elim (λ (e : q ≡ count). let le : count ≤ q = omega (arith, e) in le) (λ (g : count < q). let le : count ≤ q = omega (arith, g) in le) r))) tt) (split q count)
+      each : (q : ℕ) → AllBy q (puts_of (mail_of q ms))
+      each q =
+          ⊎_elim (λ (l : q < count). let s = some q l in subst (AllBy q) (sym s.is) (by_for lanes lane q (puts q) (by_numbered q 1 (puts q) s.numbered)))
+          (λ (r : (q ≡ count) ⊎ (count < q)). subst (AllBy q) (sym (none q (⊎_elim (λ (e : q ≡ count). let le : count ≤ q = omega (arith, e) in le) (λ (g : count < q). let le : count ≤ q = omega (arith, g) in le) r))) tt) (split q count)
+
+      alone : (q : ℕ) → AllDistinct (map name_of (puts_of (mail_of q ms)))
+      alone q =
+          ⊎_elim (λ (l : q < count). let s = some q l in subst (λ (x : List Op). AllDistinct (map name_of x)) (sym s.is) (distinct_numbered lanes lane q 1 (puts q) s.numbered))
+          (λ (r : (q ≡ count) ⊎ (count < q)). subst (λ (x : List Op). AllDistinct (map name_of x)) (sym (none q (⊎_elim (λ (e : q ≡ count). let le : count ≤ q = omega (arith, e) in le) (λ (g : count < q). let le : count ≤ q = omega (arith, g) in le) r))) tt) (split q count)
 
 -- a row of closed ends is as long as there are queues
 pub are_long : (qs : List Queue) (p lanes : ℕ) (cs : List ClosedProducerState) (k : ClosedControlState) → length qs ≡ lanes → AreRows qs p (rows_of cs k) → AreLong lanes cs
@@ -243,9 +245,9 @@ module _ {W : Type 0} (describes : W → Bool) (fits : W → Outside → Type 0)
       let rows : length (rows_of cs k) ≡ length cs + 1 = length-append (map (λ (x : ClosedProducerState). x.ends) cs) (k.ends ∷ []) ∙ ap (λ m. m + 1) (long_ends cs) in
       let all = of_all c.lanes lane c.producers puts f.messages (λ q lt. of_senders c.lanes lane 0 puts f.messages cs k long h f.met q (omega arith) (omega (arith, lt, n)))
       (λ q le. ⊎_elim (λ (l : q < c.producers). absurd (let x : ⊥ = omega (arith, l, le) in x))
-          (λ (r : (q ≡ c.producers) ⊎ (c.producers < q)).
-          ⊎_elim (λ (e : q ≡ c.producers). of_control lane 0 f.messages cs k none f.met q (omega (arith, e, n)))
-          (λ (g : c.producers < q). ap puts_of (f.no_other q (omega (arith, g, rows, n)))) r) (split q c.producers)) in
+      (λ (r : (q ≡ c.producers) ⊎ (c.producers < q)).
+      ⊎_elim (λ (e : q ≡ c.producers). of_control lane 0 f.messages cs k none f.met q (omega (arith, e, n)))
+      (λ (g : c.producers < q). ap puts_of (f.no_other q (omega (arith, g, rows, n)))) r) (split q c.producers)) in
       record {
         taken = puts_of f.messages;
         own = all.own;
@@ -254,9 +256,9 @@ module _ {W : Type 0} (describes : W → Bool) (fits : W → Outside → Type 0)
         totals = f.totals;
         delivers = f.delivers all.distinct;
       } where
-    long_ends : (xs : List ClosedProducerState) → length (map (λ (x : ClosedProducerState). x.ends) xs) ≡ length xs
-    long_ends [] = refl
-    long_ends (x ∷ xs) = ap suc (long_ends xs)
+        long_ends : (xs : List ClosedProducerState) → length (map (λ (x : ClosedProducerState). x.ends) xs) ≡ length xs
+        long_ends [] = refl
+        long_ends (x ∷ xs) = ap suc (long_ends xs)
 
   pub all_delivered : (lane : ℕ) (ws : List W) (ss : List (LaneSummary W)) → length cs ≡ c.producers → AreLong c.lanes cs → HavePut puts 0 cs → HaveNoPuts k.ends → AllFinished describes fits c (rows_of cs k) lane ws ss → AllDelivered describes fits c puts lane ws ss
   all_delivered lane [] [] n long h none f = tt

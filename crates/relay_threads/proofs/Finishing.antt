@@ -54,9 +54,10 @@ none_gone_in (e ∷ es) h = (h 0 (omega arith), none_gone_in es (λ lane lt. h (
 
 pub none_gone : (qs : List Queue) (p : ℕ) (rows : List (List ClosedEnd)) → AreRows qs p rows → ((lane : ℕ) → lane < length qs → is_gone_in_any rows lane ≡ false) → NoneGone rows
 none_gone qs p [] own h = tt
-none_gone qs p (r ∷ rs) own h =
-    (none_gone_in r (λ lane lt. or_left (is_gone_in r lane) (is_gone_in_any rs lane) (h lane (let l = row_long qs p r own.0 in omega (arith, l, lt)))),
-      none_gone qs (p + 1) rs own.1 (λ lane lt. or_right (is_gone_in r lane) (is_gone_in_any rs lane) (h lane lt)))
+none_gone qs p (r ∷ rs) own h = (
+  none_gone_in r (λ lane lt. or_left (is_gone_in r lane) (is_gone_in_any rs lane) (h lane (let l = row_long qs p r own.0 in omega (arith, l, lt)))),
+  none_gone qs (p + 1) rs own.1 (λ lane lt. or_right (is_gone_in r lane) (is_gone_in_any rs lane) (h lane lt)),
+)
 
 is_finished : (kind : LaneEndKind) → is_memory kind ≡ false → is_gone_kind kind ≡ false → kind ≡ Finished
 is_finished Finished m g = refl
@@ -72,13 +73,15 @@ module _ {W : Type 0} (describes : W → Bool) (fits : W → Outside → Type 0)
   all_end (h ∷ hs) [] own k = absurd k
   all_end (h ∷ hs) (e ∷ es) own k =
       let one : KeepsCourse describes fits c h.promise.take.value h.promise.wire.value e = subst (λ g. KeepsCourse describes fits g h.promise.take.value h.promise.wire.value e) own.0.0 k.0 in
-      let n = own.0.1 in
-      (record {
-        of_queue = one.queue;
-        well_taken = subst (λ m. IsWellTaken m e.taken.taken) (one.senders ∙ n) one.well_taken;
-        ends = one.ends;
-        closed = λ f sender lt. one.closed f sender (omega (arith, n, lt));
-      }, all_end hs es own.1 k.1)
+      let n = own.0.1 in (
+        record {
+          of_queue = one.queue;
+          well_taken = subst (λ m. IsWellTaken m e.taken.taken) (one.senders ∙ n) one.well_taken;
+          ends = one.ends;
+          closed = λ f sender lt. one.closed f sender (omega (arith, n, lt));
+        },
+        all_end hs es own.1 k.1,
+      )
 
   pub queues_same : (qs : List Queue) (ws : List W) (es : List (LaneEnd W)) → AllEndOn describes fits c qs ws es → queues_taken es ≡ qs
   queues_same [] [] [] a = refl

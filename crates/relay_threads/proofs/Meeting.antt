@@ -34,8 +34,8 @@ meets_on queue taken column left left' sender e m is one =
       so_far = long ∙ ap (λ n. n + 1) at;
       closed = (subst (AreClosedOn queue sender) is m.closed).1;
     } where
-  snoc_long : (xs : List ClosedEnd) (x : ClosedEnd) → length (xs ++ x ∷ []) ≡ length xs + 1
-  snoc_long xs x = length-append xs (x ∷ [])
+      snoc_long : (xs : List ClosedEnd) (x : ClosedEnd) → length (xs ++ x ∷ []) ≡ length xs + 1
+      snoc_long xs x = length-append xs (x ∷ [])
 
 pub meets_all : (queue : Queue) (taken : List Mail) (column left : List ClosedEnd) (sender : ℕ) → MeetsOn queue taken column left sender → left ≡ [] → AreMet 0 taken column
 meets_all queue taken column left sender m none = subst (AreMet 0 taken) (sym (m.all ∙ ap (λ l. m.met ++ l) none ∙ append-nil m.met)) m.each

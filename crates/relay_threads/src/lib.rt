@@ -1,9 +1,12 @@
-//! The threads of the running relay: a lane that takes its messages from a queue and works on a wire
-//! until each sender has closed and nothing is held. It stands on `relay_queue` and `relay_lane`.
+//! The threads of the running relay. `Relay::start` starts a thread for each lane, which takes its
+//! messages from a queue and works on a wire until each sender has closed and nothing is held, and gives
+//! out the handles of the senders; `Relay::finish` takes them back, waits until every lane has ended, and
+//! tells what each has done. It stands on `relay_queue`, `relay_lane` and `relay_producer`, and takes no
+//! lock.
 //!
-//! It carries this promise: whatever a lane took from its queue is delivered soundly beside each outside
-//! that its wire describes, and where the lane ends Finished each sender's Done was taken and delivery is
-//! complete.
+//! It carries this promise: where `finish` answers `Ok`, each lane took exactly what the producers put to
+//! it, each of these operations was applied or is reported, and beside each outside that the lane's wire
+//! describes delivery of them is sound and complete.
 #![tactic(auto)]
 
 pub mod fault;

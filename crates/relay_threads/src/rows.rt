@@ -6,10 +6,7 @@ use std::alloc::{AllocError, Global};
 
 // Takes the last element of each list, in their order. `AllocError`: there was no memory for the answer;
 // the elements that were taken until then are dropped.
-pub(crate) fn pop_each<T: Drop>(
-    alloc: Global,
-    rows: &mut Vec<Vec<T>>,
-) -> Result<Vec<T>, AllocError>
+pub(crate) fn pop_each<T: Drop>(alloc: Global, rows: &mut Vec<Vec<T>>) -> Result<Vec<T>, AllocError>
     requires { HaveSome (map (λ r. r.items) rows.old.items) }
     ensures { IfOk result (λ v. LoseLast (map (λ r. r.items) rows.old.items) (map (λ r. r.items) rows.new.items) v.items) }
 {

@@ -182,7 +182,7 @@ impl<W: Wire + Drop + Send + 'static> Relay<W> {
             ↔ (is_valid config ≡ false) }
         ensures wire_count { IsErrAnd result (λ e. e ≡ StartFault.WireCount)
             ↔ ((is_valid config ≡ true)
-                × ((vec_len wires ≢ config.lanes) ⊎ (vec_len paces ≢ config.lanes))) }
+            × ((vec_len wires ≢ config.lanes) ⊎ (vec_len paces ≢ config.lanes))) }
     {
         if !config.valid() {
             return Err(StartFault::BadConfig);

@@ -4,7 +4,9 @@ ghost use Rattle.relay_producer.specs.Ends.{identities, closed_puts, open_puts};
 ghost use Rattle.relay_threads.specs.Relay.{NoneOut};
 ghost use Rattle.relay_threads_tests.specs.Handles.{open_names, closed_names};
 
+use crate::gates::{GateWire, LANES, gate_of};
 use crate::memory::{AtOnce, action_of, count_applied, is_as_put, key_of, wire_of};
+use relay_action::DocKey;
 use relay_batch::Limits;
 use relay_index::{Index, Script};
 use relay_lane::{Pace, RelayConfig, Wire};
@@ -12,9 +14,11 @@ use relay_producer::{ClosedProducer, Producer};
 use relay_threads::{FinishFault, LaneSummary, Relay, StartFault, Summary};
 use relay_wires::LoopWire;
 use std::alloc::{AllocError, Global};
-use std::sync::Wait;
+use std::sync::atomic::AtomicU32;
+use std::sync::{Arc, Wait};
 use std::test::Fail;
 use std::thread::Threads;
+use std::time::Clock;
 
 const CONFIG: RelayConfig = RelayConfig {
     lanes: 1,
@@ -52,6 +56,42 @@ fn put_all<R: Wait>(rt: &R, alloc: Global, producers: &mut Vec<Producer>, count:
         }
     }
     true
+}
+
+/// The lanes of the documents `0` to `7` of the index `books`, among eight.
+const LANE_OF: [u32; 8] = [6, 1, 0, 3, 2, 5, 4, 7];
+
+// Puts an operation on each of eight documents, one for each lane. Whether each went to its lane.
+fn put_eight<R: Wait>(rt: &R, alloc: Global, producers: &mut Vec<Producer>) -> bool
+    ensures { open_names producers.new.items ≡ open_names producers.old.items }
+{
+    for id in 0..8usize {
+        for p in 0..producers.len() {
+            if !put_to(rt, alloc, &mut producers[p], id, LANE_OF[id]) {
+                return false;
+            }
+        }
+    }
+    true
+}
+
+// Puts an operation on a document. Whether it went to this lane.
+fn put_to<R: Wait>(rt: &R, alloc: Global, producer: &mut Producer, id: usize, lane: u32) -> bool
+    ensures { identities (open_puts producer.new.ends) ≡ identities (open_puts producer.old.ends) }
+{
+    let Ok(id) = format!(in alloc; "{id}") else {
+        return false;
+    };
+    let Ok(key) = DocKey::new(alloc, "books", id.as_str()) else {
+        return false;
+    };
+    let Some(action) = action_of(alloc, 1) else {
+        return false;
+    };
+    match producer.put(rt, key, action) {
+        Ok(receipt) => receipt.lane == lane,
+        Err(_) => false,
+    }
 }
 
 // Puts an operation. Whether it was put under its number.
@@ -112,7 +152,11 @@ where
         Err(fault) => return Err(RunFault::Start(fault)),
     };
     let mut producers = producers;
-    let put = put_all(&rt, alloc, &mut producers, count);
+    let put = if config.lanes == LANES {
+        put_eight(&rt, alloc, &mut producers)
+    } else {
+        put_all(&rt, alloc, &mut producers, count)
+    };
     let Ok(closed) = close_all(&rt, alloc, producers) else {
         return Err(RunFault::Memory);
     };
@@ -187,5 +231,37 @@ fn start_faults(rt: HostRuntime) -> Result<(), Fail> {
         let end = run(rt, alloc, config, wires, one(alloc, AtOnce)?, 1);
         assert!(rt; matches!(end, Err(RunFault::Start(found)) if found == fault));
     }
+    Ok(())
+}
+
+// A gate for each lane.
+fn gates<C: Clock + Copy>(alloc: Global, clock: C) -> Result<Vec<GateWire<C>>, AllocError>
+    ensures { IfOk result (λ v. NoneOut (Wire.out (GateWire C)) v.items) }
+{
+    let flags = Arc::new(alloc, AtomicU32::new(0))?;
+    let mut wires = Vec::new(alloc);
+    for _ in 0..LANES {
+        wires.push(gate_of(alloc, clock, Arc::try_clone(&flags)?))?;
+    }
+    Ok(wires)
+}
+
+#[test]
+fn eight_lanes_at_once(rt: HostRuntime) -> Result<(), Fail> {
+    let alloc = rt.alloc();
+    let config = RelayConfig {
+        lanes: LANES,
+        producers: 1,
+        ..CONFIG
+    };
+    let mut paces = Vec::new(alloc);
+    for _ in 0..LANES {
+        paces.push(AtOnce)?;
+    }
+    let summary = run(rt, alloc, config, gates(alloc, rt)?, paces, 1)?;
+    for lane in &summary.lanes {
+        assert!(rt; lane.taken == 1 && lane.wire.passed);
+    }
+    assert!(rt; summary.lanes.len() == 8);
     Ok(())
 }
