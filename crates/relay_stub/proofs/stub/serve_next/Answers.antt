@@ -24,12 +24,14 @@ returns-in-Err g c =
     let s = g.S.ByteStream in
     let call = c.serve_connection-result in
     let came = shown (s.left c.in-Ok.stream) (s.written c.in-Ok.stream) (s.failed c.in-Ok.stream) in
-    let went = shown (s.left call.result.1) (s.written call.result.1) (s.failed call.result.1) in
-    (c.in-Err.field-0, record {
-      came = came;
-      went = went;
-      at = g.L.Listen.shows c.accept.new.self;
-      handed = c.in-Ok.ensures.ok;
-      served = subst (IsServed came went (under c.args.index.now c.args.script.now) (under call.new.index call.new.script)) c.in-Err.is call.ensures;
-      back = c.close.ensures;
-    })
+    let went = shown (s.left call.result.1) (s.written call.result.1) (s.failed call.result.1) in (
+      c.in-Err.field-0,
+      record {
+        came = came;
+        went = went;
+        at = g.L.Listen.shows c.accept.new.self;
+        handed = c.in-Ok.ensures.ok;
+        served = subst (IsServed came went (under c.args.index.now c.args.script.now) (under call.new.index call.new.script)) c.in-Err.is call.ensures;
+        back = c.close.ensures;
+      },
+    )
