@@ -6,6 +6,9 @@ use clap::{ArgMatches, Command, Error};
 use relay_commands::exit::Exit;
 use std::alloc::{AllocError, Global};
 use std::net::Net;
+use std::sync::Wait;
+use std::thread::Threads;
+use std::time::Clock;
 use std::rt::Env;
 use std::{env, io};
 
@@ -16,9 +19,12 @@ request, serves bulk requests with a stand-in index, also over HTTP, and plays s
 happen between producers, lanes and an index.";
 
 /// Does what the process's command line says.
-pub fn run<R: Input + Print + Eprint + Net + Env + AllocGlobal>(rt: &R) -> Exit {
+pub fn run<R>(rt: &R, host: HostRuntime) -> Exit
+where
+    R: Input + Print + Eprint + Env + Net + AllocGlobal + Threads + Wait + Clock + Copy + Send + 'static,
+{
     match words(rt) {
-        Ok(words) => run_words(rt, words.as_slice()),
+        Ok(words) => run_words(rt, host, words.as_slice()),
         Err(error) if error.kind() == io::ErrorKind::OutOfMemory => out_of_memory(rt),
         Err(_) => usage(rt, "error: the arguments are not all text"),
     }
@@ -31,13 +37,16 @@ fn words<R: Env + AllocGlobal>(rt: &R) -> Result<Vec<String>, io::Error> {
 }
 
 // Does what a command line says.
-fn run_words<R: Input + Print + Eprint + Net + AllocGlobal>(rt: &R, words: &[String]) -> Exit {
+fn run_words<R>(rt: &R, host: HostRuntime, words: &[String]) -> Exit
+where
+    R: Input + Print + Eprint + Net + AllocGlobal + Threads + Wait + Clock + Copy + Send + 'static,
+{
     let command = match relay_command(rt.alloc()) {
         Ok(command) => command,
         Err(error) => return explain(rt, &Error::from(error)),
     };
     match command.try_get_matches_from(words) {
-        Ok(matches) => run_matches(rt, &matches),
+        Ok(matches) => run_matches(rt, host, &matches),
         Err(error) => explain(rt, &error),
     }
 }
@@ -55,15 +64,15 @@ fn relay_command<'a>(alloc: Global) -> Result<Command<'a>, AllocError> {
 }
 
 // Runs the subcommand that was found. One that is not known runs nothing.
-fn run_matches<R: Input + Print + Eprint + Net + AllocGlobal>(
-    rt: &R,
-    matches: &ArgMatches<'_>,
-) -> Exit {
+fn run_matches<R>(rt: &R, host: HostRuntime, matches: &ArgMatches<'_>) -> Exit
+where
+    R: Input + Print + Eprint + Net + AllocGlobal + Threads + Wait + Clock + Copy + Send + 'static,
+{
     let Some((name, matches)) = matches.subcommand() else {
         return Exit::Usage;
     };
     match Subcommand::named(name) {
-        Some(subcommand) => subcommand.run(rt, matches),
+        Some(subcommand) => subcommand.run(rt, host, matches),
         None => Exit::Usage,
     }
 }

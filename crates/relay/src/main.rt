@@ -17,5 +17,5 @@ pub use relay_commands as commands;
 use std::process::ExitCode;
 
 fn main(rt: HostRuntime) -> ExitCode {
-    ExitCode::from(command::run(&rt).status())
+    ExitCode::from(command::run(&rt, rt).status())
 }

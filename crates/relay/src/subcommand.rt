@@ -1,6 +1,7 @@
 //! The subcommands: each has a file with its help, its options and what it runs.
 pub mod apply;
 pub mod lines;
+pub mod run;
 pub mod stub;
 pub mod world;
 
@@ -8,6 +9,9 @@ use clap::{ArgMatches, Command};
 use relay_commands::exit::Exit;
 use std::alloc::{AllocError, Global};
 use std::net::Net;
+use std::sync::Wait;
+use std::thread::Threads;
+use std::time::Clock;
 
 /// What the program can be told to do.
 #[derive(Clone, Copy, Debug, PartialEq, Eq)]
@@ -16,6 +20,8 @@ pub enum Subcommand {
     Lines,
     /// `relay apply`.
     Apply,
+    /// `relay run`.
+    Run,
     /// `relay stub`.
     Stub,
     /// `relay world`.
@@ -24,9 +30,10 @@ pub enum Subcommand {
 
 impl Subcommand {
     /// All of them, in the order of the help.
-    pub const ALL: [Subcommand; 4] = [
+    pub const ALL: [Subcommand; 5] = [
         Subcommand::Lines,
         Subcommand::Apply,
+        Subcommand::Run,
         Subcommand::Stub,
         Subcommand::World,
     ];
@@ -36,6 +43,7 @@ impl Subcommand {
         match self {
             Subcommand::Lines => "lines",
             Subcommand::Apply => "apply",
+            Subcommand::Run => "run",
             Subcommand::Stub => "stub",
             Subcommand::World => "world",
         }
@@ -56,20 +64,21 @@ impl Subcommand {
         match self {
             Subcommand::Lines => lines::command(alloc, self.name()),
             Subcommand::Apply => apply::command(alloc, self.name()),
+            Subcommand::Run => run::command(alloc, self.name()),
             Subcommand::Stub => stub::command(alloc, self.name()),
             Subcommand::World => world::command(alloc, self.name()),
         }
     }
 
     /// Runs it over standard input and output, and over sockets.
-    pub fn run<R: Input + Print + Eprint + Net + AllocGlobal>(
-        self,
-        rt: &R,
-        matches: &ArgMatches<'_>,
-    ) -> Exit {
+    pub fn run<R>(self, rt: &R, host: HostRuntime, matches: &ArgMatches<'_>) -> Exit
+    where
+        R: Input + Print + Eprint + Net + AllocGlobal + Threads + Wait + Clock + Copy + Send + 'static,
+    {
         match self {
             Subcommand::Lines => lines::run(rt, matches),
             Subcommand::Apply => apply::run(rt, matches),
+            Subcommand::Run => run::run(rt, host, matches),
             Subcommand::Stub => stub::run(rt, matches),
             Subcommand::World => world::run(rt, matches),
         }
