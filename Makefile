@@ -20,6 +20,9 @@ demo: build
 	@cat examples/lost_reply.script
 	@echo "--- relay world < examples/lost_reply.script"
 	@crates/relay/out/relay world < examples/lost_reply.script
+	@echo "--- relay stub --listen 127.0.0.1:19200 --requests 3 --refuse 2:429,3:400 &"
+	@echo "--- relay run --to 127.0.0.1:19200 examples/books.ndjson (item 2 is sent again, item 3 is reported)"
+	@crates/relay/out/relay stub --listen 127.0.0.1:19200 --requests 3 --refuse 2:429,3:400 & sleep 1; crates/relay/out/relay run --to 127.0.0.1:19200 examples/books.ndjson || echo "status $$?"; wait
 
 # The gate, with the processor minutes of each crate, and then the built program from the outside.
 test:

@@ -7,6 +7,7 @@ import sys
 
 import apply_cases
 import lines_cases
+import run_cases
 import stub_cases
 import world_cases
 from program import RESULTS, check, run
@@ -15,7 +16,7 @@ from program import RESULTS, check, run
 def command_line():
     version = run(["--version"])
     check("the version", (version.stdout, version.stderr, version.returncode) == (b"relay 0.1.0\n", b"", 0), version)
-    for args in (["--help"], ["help"], ["lines", "--help"], ["help", "lines"], ["apply", "--help"], ["help", "apply"], ["stub", "--help"], ["help", "stub"], ["world", "--help"], ["help", "world"]):
+    for args in (["--help"], ["help"], ["lines", "--help"], ["help", "lines"], ["apply", "--help"], ["help", "apply"], ["run", "--help"], ["help", "run"], ["stub", "--help"], ["help", "stub"], ["world", "--help"], ["help", "world"]):
         done = run(args)
         check("help: %s" % args, done.returncode == 0 and b"Usage: relay" in done.stdout and done.stderr == b"", done)
     kinds = run(["help", "lines"]).stdout
@@ -49,7 +50,7 @@ def command_line():
 
 
 def main():
-    for group in (*lines_cases.GROUPS, *apply_cases.GROUPS, *stub_cases.GROUPS, *world_cases.GROUPS, command_line):
+    for group in (*lines_cases.GROUPS, *apply_cases.GROUPS, *stub_cases.GROUPS, *run_cases.GROUPS, *world_cases.GROUPS, command_line):
         group()
     print("%d passed, %d failed" % (RESULTS["passed"], RESULTS["failed"]))
     sys.exit(RESULTS["failed"] != 0)

@@ -1,0 +1,139 @@
+"""A server of bulk requests for the tests of `relay run`: an index with external versions that keeps those of deleted
+documents, and a plan of faults: which request is lost, cut, late, refused or answered with something else."""
+import json
+import socket
+import threading
+import time
+
+
+class Index:
+    """What was applied to each document, in order, and its version."""
+
+    def __init__(self):
+        self.versions, self.applied = {}, {}
+
+    def run(self, kind, meta, source):
+        """The entry of a reply for one write."""
+        key = (meta["_index"], meta["_id"])
+        if meta["version"] <= self.versions.get(key, 0):
+            return {kind: {"_id": key[1], "status": 409, "error": {"type": "version_conflict_engine_exception"}}}
+        live = self.applied.get(key, [(0, "delete", None)])[-1][1] == "index"
+        self.versions[key] = meta["version"]
+        self.applied.setdefault(key, []).append((meta["version"], kind, source))
+        if kind == "delete":
+            return {kind: {"_id": key[1], "status": 200 if live else 404}}
+        return {kind: {"_id": key[1], "status": 200 if live else 201}}
+
+
+def writes_of(body):
+    """The writes of a bulk body: kind, metadata, source."""
+    lines = iter(body.decode().split("\n")[:-1])
+    for line in lines:
+        (kind, meta), = json.loads(line).items()
+        yield kind, meta, next(lines) if kind == "index" else None
+
+
+class Server:
+    """Serves connections in threads, a request at a time on each. `plan` gives for the number of a request, from 1, the
+    name of a fault or None."""
+
+    def __init__(self, plan=lambda number: None, refuse=lambda meta: None):
+        self.index, self.plan, self.refuse = Index(), plan, refuse
+        self.requests, self.lock = 0, threading.Lock()
+        self.listener = socket.create_server(("127.0.0.1", 0))
+        self.port = self.listener.getsockname()[1]
+        self.heads = []
+        threading.Thread(target=self.accept, daemon=True).start()
+
+    def accept(self):
+        while True:
+            try:
+                stream, _ = self.listener.accept()
+            except OSError:
+                return
+            threading.Thread(target=self.serve, args=(stream,), daemon=True).start()
+
+    def close(self):
+        self.listener.close()
+
+    def serve(self, stream):
+        with stream:
+            came = b""
+            while True:
+                while b"\r\n\r\n" not in came:
+                    piece = self.receive(stream)
+                    if not piece:
+                        return
+                    came += piece
+                head, came = came.split(b"\r\n\r\n", 1)
+                length = int(next(it for it in head.split(b"\r\n") if it.lower().startswith(b"content-length:")).split(b":")[1])
+                while len(came) < length:
+                    piece = self.receive(stream)
+                    if not piece:
+                        return
+                    came += piece
+                body, came = came[:length], came[length:]
+                if not self.answer(stream, head, body):
+                    return
+
+    @staticmethod
+    def receive(stream):
+        try:
+            return stream.recv(65536)
+        except OSError:
+            return b""
+
+    def answer(self, stream, head, body):
+        """Serves one request. Whether the connection is kept."""
+        with self.lock:
+            self.requests += 1
+            self.heads.append(head)
+            fault = self.plan(self.requests)
+            if fault == "drop before":
+                return False
+            if isinstance(fault, int):
+                return self.send(stream, fault, b"{}")
+            entries = []
+            for kind, meta, source in writes_of(body):
+                status = self.refuse(meta)
+                if status:
+                    entries.append({kind: {"_id": meta["_id"], "status": status, "error": {"type": "planned"}}})
+                else:
+                    entries.append(self.index.run(kind, meta, source))
+            reply = json.dumps({"took": 1, "errors": False, "items": entries}).encode()
+        if fault == "drop after":
+            return False
+        if fault == "late":
+            time.sleep(0.3)
+        if fault == "half":
+            self.send(stream, 200, reply, cut=len(reply) // 2)
+            return False
+        if fault == "garbage":
+            return self.send(stream, 200, b"<html>not JSON</html>")
+        if fault == "no items":
+            return self.send(stream, 200, b'{"took":1,"errors":false,"items":[]}')
+        if fault == "chunked":
+            parts = b"".join(b"%x\r\n%s\r\n" % (len(it), it) for it in (reply[:7], reply[7:]) if it)
+            return self.write(stream, b"HTTP/1.1 200 OK\r\nTransfer-Encoding: chunked\r\n\r\n" + parts + b"0\r\n\r\n")
+        if fault == "interim":
+            self.write(stream, b"HTTP/1.1 100 Continue\r\n\r\n")
+            return self.send(stream, 200, reply)
+        if fault == "close":
+            self.send(stream, 200, reply, more=b"Connection: close\r\n")
+            return False
+        if fault == "close silently":
+            self.send(stream, 200, reply)
+            return False
+        return self.send(stream, 200, reply)
+
+    def send(self, stream, status, body, more=b"", cut=None):
+        head = b"HTTP/1.1 %d X\r\nContent-Type: application/json\r\n%sContent-Length: %d\r\n\r\n" % (status, more, len(body))
+        return self.write(stream, head + body[:cut])
+
+    @staticmethod
+    def write(stream, data):
+        try:
+            stream.sendall(data)
+            return True
+        except OSError:
+            return False

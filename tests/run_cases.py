@@ -1,0 +1,177 @@
+"""What `relay run` does: against `relay stub`, and against a server that loses, cuts, delays and refuses."""
+import os
+import random
+import re
+import subprocess
+import tempfile
+import time
+
+from bulk_server import Server
+from program import RELAY, check
+from stub_cases import Stub, free_port
+
+FAULTS = ["drop before", "drop after", "late", "half", "garbage", "no items", "chunked", "interim", "close", "close silently", 429, 503]
+REPORT = re.compile(rb"report (\d+):(\d+) (\S+)/(\S+) (.*)")
+
+
+def relay_run(port, files, *more, timeout=300):
+    done = subprocess.run([RELAY, "run", "--to", "127.0.0.1:%d" % port, *more, *files], stdin=subprocess.DEVNULL, capture_output=True, timeout=timeout)
+    return done.returncode, done.stdout, done.stderr
+
+
+def operations(producer, count, documents):
+    """Operations of a producer on documents of its own: the id, and the source or None for a delete."""
+    return [("%d-%d" % (producer, n % documents), None if n % 7 == 6 else '{"n":%d}' % n) for n in range(count)]
+
+
+def written(folder, producer, ops, index='"_index":"books",'):
+    path = os.path.join(folder, "ops%d.ndjson" % producer)
+    with open(path, "w") as file:
+        for identity, source in ops:
+            if source is None:
+                file.write('{"delete":{%s"_id":"%s"}}\n' % (index, identity))
+            else:
+                file.write('{"index":{%s"_id":"%s"}}\n%s\n' % (index, identity, source))
+    return path
+
+
+def put_to(ops, identity):
+    return [source for it, source in ops if it == identity]
+
+
+def judge(name, server, producers, done, reported_may_be_applied=True):
+    """Each document's applied writes are among those put, each once and in order; what is missing is reported; the
+    counts add up."""
+    status, out, err = done
+    lines = out.split(b"\n")
+    reports = {(int(p), int(n)) for p, n, *_ in (REPORT.fullmatch(it).groups() for it in lines[:-2])}
+    counts = re.fullmatch(rb"applied (\d+) already (\d+) reported (\d+)", lines[-2])
+    check("%s: the counts" % name, counts is not None and sum(map(int, counts.groups())) == sum(map(len, producers)) and int(counts[3]) == len(reports) == len(lines) - 2, (status, out[-300:], err))
+    check("%s: the status" % name, status == (5 if reports else 0) and err == b"", (status, err))
+    right = True
+    for producer, ops in enumerate(producers):
+        for identity in {it for it, _ in ops}:
+            put = [(number, source) for number, (it, source) in enumerate(ops, 1) if it == identity]
+            applied = [it[2] for it in server.index.applied.get(("books", identity), [])]
+            place = 0
+            for number, source in put:
+                if place < len(applied) and applied[place] == source:
+                    place += 1
+                elif (producer, number) not in reports:
+                    right = False
+            right = right and place == len(applied)
+    check("%s: each document has what was put, once, in order" % name, right)
+
+
+def stub():
+    with tempfile.TemporaryDirectory() as folder:
+        producers = [[("%d-%d" % (p, n % 10), '{"n":%d}' % n) for n in range(100)] for p in range(2)]
+        files = [written(folder, p, ops) for p, ops in enumerate(producers)]
+        served = Stub(200)
+        wait_for(served)
+        done = relay_run(served.port, files, "--count", "1", "--capacity", "1", "--attempts", "3")
+        check("two files to the stub", done == (0, b"applied 200 already 0 reported 0\n", b""), done)
+        listed = served.process.communicate(timeout=60)[0].split(b"\n")[:-1]
+        right = len(listed) == 200
+        for p in range(2):
+            for d in range(10):
+                versions = [int(it.split()[2]) for it in listed if it.split()[1] == b"books/%d-%d" % (p, d)]
+                right = right and len(versions) == 10 and versions == sorted(versions)
+        check("the stub has applied each write once, in order", right)
+        served = Stub(103, "2:429,4:503,6:503,8:400")
+        wait_for(served)
+        done = relay_run(served.port, files[:1], "--count", "1", "--capacity", "1", "--first", "1000")
+        served.process.communicate(timeout=60)
+        right = done[0] == 5 and done[2] == b"" and done[1].endswith(b" Refused 400 scripted_refusal\napplied 99 already 0 reported 1\n")
+        check("refusals by the stub", right and done[1].count(b"\n") == 2, done)
+
+
+def wait_for(served):
+    """Waits until the stub listens, without a connection of our own."""
+    for _ in range(500):
+        with open("/proc/net/tcp") as file:
+            if any(line.split()[1].endswith(":%04X" % served.port) and line.split()[3] == "0A" for line in file.readlines()[1:]):
+                return
+        time.sleep(0.01)
+    raise TimeoutError("the stub does not listen")
+
+
+def faults():
+    with tempfile.TemporaryDirectory() as folder:
+        producers = [operations(p, 120, 9) for p in range(3)]
+        files = [written(folder, p, ops) for p, ops in enumerate(producers)]
+        for fault in FAULTS:
+            server = Server(lambda number, fault=fault: fault if number % 3 == 1 else None)
+            judge("%s" % fault, server, producers, relay_run(server.port, files, "--count", "20", "--linger", "0", "--lanes", "2"))
+            server.close()
+        dice = random.Random(11)
+        server = Server(lambda number: dice.choice([None, None, *FAULTS]))
+        judge("all faults at once", server, producers, relay_run(server.port, files, "--count", "25", "--linger", "0", "--lanes", "4", "--attempts", "32"))
+        server.close()
+        for status in (400, 401, 413, 500):
+            server = Server(lambda number, status=status: status if number == 1 else None)
+            done = relay_run(server.port, files[:1], "--linger", "0", "--count", "5")
+            judge("status %d" % status, server, producers[:1], done)
+            check("status %d is reported" % status, (b" Request %d\n" % status in done[1]) == (status < 500) or status == 500, done)
+            server.close()
+        server = Server(refuse=lambda meta: 400 if meta["_id"] == "0-3" else None)
+        done = relay_run(server.port, files[:1])
+        judge("a document that is refused", server, producers[:1], done)
+        check("each write to it is reported", len(re.findall(rb"books/0-3 Refused 400 planned\n", done[1])) == len(put_to(producers[0], "0-3")), done)
+        server.close()
+
+
+def no_server():
+    with tempfile.TemporaryDirectory() as folder:
+        path = written(folder, 0, operations(0, 3, 3))
+        done = relay_run(free_port(), [path], "--attempts", "1")
+        check("no server", done == (5, b"report 0:1 books/0-0 GaveUp 1\nreport 0:2 books/0-1 GaveUp 1\nreport 0:3 books/0-2 GaveUp 1\napplied 0 already 0 reported 3\n", b""), done)
+
+
+def files_at_fault():
+    with tempfile.TemporaryDirectory() as folder:
+        good = written(folder, 0, operations(0, 5, 5))
+        broken = written(folder, 1, operations(1, 2, 2))
+        with open(broken, "a") as file:
+            file.write('{"create":{"_index":"b","_id":"1"}}\n{}\n')
+        missing = os.path.join(folder, "missing")
+        server = Server()
+        done = relay_run(server.port, [good, missing, broken])
+        check("a file that is not there, and one that breaks off", done == (3, b"applied 7 already 0 reported 0\n", b"%s: open failed\n%s: line 4: UnsupportedAction\n" % (missing.encode(), broken.encode())), done)
+        done = relay_run(server.port, [broken], "--first", "1000")
+        check("a file that breaks off", done == (2, b"applied 2 already 0 reported 0\n", b"%s: line 4: UnsupportedAction\n" % broken.encode()), done)
+        done = relay_run(server.port, [folder], "--first", "2000")
+        check("a directory", done == (3, b"applied 0 already 0 reported 0\n", b"%s: read failed\n" % folder.encode()), done)
+        server.close()
+
+
+def options():
+    with tempfile.TemporaryDirectory() as folder:
+        producers = [operations(p, 40, 40) for p in range(16)]
+        files = [written(folder, p, ops) for p, ops in enumerate(producers)]
+        server = Server()
+        judge("16 files and 8 lanes", server, producers, relay_run(server.port, files, "--lanes", "8"))
+        check("the request names the address", all(b"Host: 127.0.0.1:%d" % server.port in it and it.startswith(b"POST /_bulk HTTP/1.1\r\n") for it in server.heads))
+        server.close()
+        plain = written(folder, 0, [("1", "{}"), ("2", None)], index="")
+        server = Server()
+        done = relay_run(server.port, [plain], "--index", "b", "--first", "7")
+        check("--index and --first", done == (0, b"applied 2 already 0 reported 0\n", b"") and sorted(server.index.applied) == [("b", "1"), ("b", "2")] and sorted(it[0][0] for it in server.index.applied.values()) == [7, 8], (done, server.index.applied))
+        server.close()
+        for args, said in (
+            (["--to", "x:1"], b"FILE"),
+            ([plain], b"--to"),
+            (["--to", "a b:1", plain], b"ASCII"),
+            (["--to", "x:1", "--lanes", "9", plain], b"'9'"),
+            (["--to", "x:1", "--lanes", "0", plain], b"'0'"),
+            (["--to", "x:1", "--count", "10001", plain], b"10001"),
+            (["--to", "x:1", "--bytes", "1023", plain], b"1023"),
+            (["--to", "x:1", "--attempts", "33", plain], b"33"),
+            (["--to", "x:1", "--flying", "2", plain], b"'2'"),
+            (["--to", "x:1", *[plain] * 17], b"17"),
+        ):
+            done = subprocess.run([RELAY, "run", *args], stdin=subprocess.DEVNULL, capture_output=True, timeout=60)
+            check("usage: run %s" % args[:4], done.returncode == 1 and said in done.stderr and done.stdout == b"", (done.returncode, done.stderr))
+
+
+GROUPS = (stub, faults, no_server, files_at_fault, options)
