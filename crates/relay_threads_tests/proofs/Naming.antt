@@ -1,10 +1,9 @@
 -- The handles that are given back are those that were given out.
 use Rattle.std.proofs.Common.{◌≡◌, ℕ, zero, suc, ◌+◌, ◌<◌, List, [], ◌∷◌, ◌++◌, length, map, set, get_or, sym, refl, ap, ◌∙◌, subst, arith}
-use Rattle.relay_queue.specs.Ends.{Queue, SenderEnd, fresh}
-use Rattle.relay_producer.specs.declared.ends.OpenEnd.{OpenEnd}
-use Rattle.relay_producer.specs.Ends.{opened, identity, identities, open_puts, closed_puts}
+use Rattle.relay_queue.specs.Ends.{Queue, fresh}
+use Rattle.relay_producer.specs.Ends.{opened, identities, open_puts, closed_puts}
 use Rattle.relay_producer.specs.States.{ProducerState, ClosedProducerState, ControlState, ClosedControlState}
-use Rattle.relay_threads.specs.Relay.{NoneOut, AreNew, new_producer, new_control, ends_of, AreRows, rows_of}
+use Rattle.relay_threads.specs.Relay.{NoneOut, AreNew, new_control, ends_of, AreRows, rows_of}
 use Rattle.relay_threads_tests.specs.Handles.{open_names, closed_names}
 
 -- one of them has changed, and its ends are of the same queues

@@ -1,5 +1,4 @@
-use Rattle.std.proofs.Common.{rules, ◌≡◌, ◌∙◌, ◌<◌, length, arith}
-use Rattle.relay_threads_tests.specs.Handles.{open_names, closed_names}
+use Rattle.std.proofs.Common.{◌∙◌, ◌<◌, length, arith}
 use Rattle.relay_threads_tests.proofs.Naming.{names_set}
 use Rattle.relay_threads_tests.proofs.relays.put_all.Goals as goal
 
