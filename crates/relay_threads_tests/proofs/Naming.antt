@@ -1,10 +1,9 @@
 -- The handles that are given back are those that were given out.
 use Rattle.std.proofs.Common.{◌≡◌, ℕ, zero, suc, ◌+◌, ◌<◌, List, [], ◌∷◌, ◌++◌, length, map, set, get_or, sym, refl, ap, ◌∙◌, subst, arith}
-use Rattle.relay_queue.specs.Ends.{Queue, SenderEnd, fresh}
-use Rattle.relay_producer.specs.declared.ends.OpenEnd.{OpenEnd}
-use Rattle.relay_producer.specs.Ends.{opened, identity, identities, open_puts, closed_puts}
+use Rattle.relay_queue.specs.Ends.{Queue, fresh}
+use Rattle.relay_producer.specs.Ends.{opened, identities, open_puts, closed_puts}
 use Rattle.relay_producer.specs.States.{ProducerState, ClosedProducerState, ControlState, ClosedControlState}
-use Rattle.relay_threads.specs.Relay.{AreNew, new_producer, new_control, ends_of, AreRows, rows_of}
+use Rattle.relay_threads.specs.Relay.{NoneOut, AreNew, new_control, ends_of, AreRows, rows_of}
 use Rattle.relay_threads_tests.specs.Handles.{open_names, closed_names}
 
 -- one of them has changed, and its ends are of the same queues
@@ -36,3 +35,11 @@ same_count (x ∷ xs) (y ∷ ys) e = let tails : closed_names xs ≡ open_names 
 
 pub control_fits : (qs : List Queue) (n : ℕ) (k : ControlState) (c : ClosedControlState) → k ≡ new_control qs n → identities (closed_puts c.ends) ≡ identities (open_puts k.ends) → identities (closed_puts c.ends) ≡ ends_of qs n
 control_fits qs n k c is e = e ∙ ap (λ (x : ControlState). identities (open_puts x.ends)) is ∙ fresh_names qs n
+
+-- one more wire on which no number is out
+none_more : {W : Type 0} (out : W → List ℕ) (ws : List W) (w : W) → NoneOut out ws → out w ≡ [] → NoneOut out (ws ++ w ∷ [])
+none_more out [] w all here = (here, tt)
+none_more out (x ∷ xs) w all here = (all.0, none_more out xs w all.1 here)
+
+pub none_pushed : {W : Type 0} (out : W → List ℕ) (ws : List W) (w : W) (now : List W) → NoneOut out ws → out w ≡ [] → now ≡ ws ++ w ∷ [] → NoneOut out now
+none_pushed out ws w now all here is = subst (λ l. NoneOut out l) (sym is) (none_more out ws w all here)

@@ -1,11 +1,13 @@
 //! Relays from start to finish.
 ghost use Rattle.std.specs.Prelude.{◌≡◌, [], ◌∷◌, IfOk};
+ghost use Rattle.std.specs.Option.{option_to_list};
 ghost use Rattle.relay_producer.specs.Ends.{identities, closed_puts, open_puts};
 ghost use Rattle.relay_threads.specs.Relay.{NoneOut};
+ghost use Rattle.relay_wires.specs.Numbered.{numbers};
 ghost use Rattle.relay_threads_tests.specs.Handles.{open_names, closed_names};
 
 use crate::gates::{GateWire, LANES, gate_of};
-use crate::memory::{AtOnce, action_of, count_applied, is_as_put, key_of, wire_of};
+use crate::memory::{AtOnce, MemoryWire, action_of, count_applied, is_as_put, key_of, wire_of};
 use relay_action::DocKey;
 use relay_batch::Limits;
 use relay_index::{Index, Script};
@@ -44,13 +46,49 @@ enum RunFault {
     Finish(FinishFault),
 }
 
+// Puts an operation on a document. Whether it went to this lane.
+fn put_to<R: Wait>(rt: &R, alloc: Global, producer: &mut Producer, id: usize, lane: u32) -> bool
+    ensures { identities (open_puts producer.new.ends) ≡ identities (open_puts producer.old.ends) }
+{
+    let Ok(id) = format!(in alloc; "{id}") else {
+        return false;
+    };
+    let Ok(key) = DocKey::new(alloc, "books", id.as_str()) else {
+        return false;
+    };
+    let Some(action) = action_of(alloc, 1) else {
+        return false;
+    };
+    match producer.put(rt, key, action) {
+        Ok(receipt) => receipt.lane == lane,
+        Err(_) => false,
+    }
+}
+
+// Puts an operation. Whether it was put under its number.
+fn put_one<R: Wait>(rt: &R, alloc: Global, producer: &mut Producer, number: u32, count: u64) -> bool
+    ensures { identities (open_puts producer.new.ends) ≡ identities (open_puts producer.old.ends) }
+{
+    let Some(key) = key_of(alloc, number, count) else {
+        return false;
+    };
+    let Some(action) = action_of(alloc, count) else {
+        return false;
+    };
+    match producer.put(rt, key, action) {
+        Ok(receipt) => receipt.name.number == count && receipt.name.producer == number,
+        Err(_) => false,
+    }
+}
+
 // Puts an operation by each producer, so often. Whether all were put.
 fn put_all<R: Wait>(rt: &R, alloc: Global, producers: &mut Vec<Producer>, count: u64) -> bool
     ensures { open_names producers.new.items ≡ open_names producers.old.items }
 {
     for sent in 0..count {
         for p in 0..producers.len() {
-            if !put_one(rt, alloc, &mut producers[p], p as u32, sent.saturating_add(1)) {
+            let number = u32::try_from(p).unwrap_or(0);
+            if !put_one(rt, alloc, &mut producers[p], number, sent.saturating_add(1)) {
                 return false;
             }
         }
@@ -75,44 +113,20 @@ fn put_eight<R: Wait>(rt: &R, alloc: Global, producers: &mut Vec<Producer>) -> b
     true
 }
 
-// Puts an operation on a document. Whether it went to this lane.
-fn put_to<R: Wait>(rt: &R, alloc: Global, producer: &mut Producer, id: usize, lane: u32) -> bool
-    ensures { identities (open_puts producer.new.ends) ≡ identities (open_puts producer.old.ends) }
-{
-    let Ok(id) = format!(in alloc; "{id}") else {
-        return false;
-    };
-    let Ok(key) = DocKey::new(alloc, "books", id.as_str()) else {
-        return false;
-    };
-    let Some(action) = action_of(alloc, 1) else {
-        return false;
-    };
-    match producer.put(rt, key, action) {
-        Ok(receipt) => receipt.lane == lane,
-        Err(_) => false,
-    }
-}
-
-// Puts an operation. Whether it was put under its number.
-fn put_one<R: Wait>(
+// Puts to eight lanes an operation each, or else so many operations by each producer. Whether all went well.
+fn put_some<R: Wait>(
     rt: &R,
     alloc: Global,
-    producer: &mut Producer,
-    number: u32,
+    lanes: u32,
+    producers: &mut Vec<Producer>,
     count: u64,
 ) -> bool
-    ensures { identities (open_puts producer.new.ends) ≡ identities (open_puts producer.old.ends) }
+    ensures { open_names producers.new.items ≡ open_names producers.old.items }
 {
-    let Some(key) = key_of(alloc, number, count) else {
-        return false;
-    };
-    let Some(action) = action_of(alloc, count) else {
-        return false;
-    };
-    match producer.put(rt, key, action) {
-        Ok(receipt) => receipt.name.number == count && receipt.name.producer == number,
-        Err(_) => false,
+    if lanes == LANES {
+        put_eight(rt, alloc, producers)
+    } else {
+        put_all(rt, alloc, producers, count)
     }
 }
 
@@ -152,11 +166,7 @@ where
         Err(fault) => return Err(RunFault::Start(fault)),
     };
     let mut producers = producers;
-    let put = if config.lanes == LANES {
-        put_eight(&rt, alloc, &mut producers)
-    } else {
-        put_all(&rt, alloc, &mut producers, count)
-    };
+    let put = put_some(&rt, alloc, config.lanes, &mut producers, count);
     let Ok(closed) = close_all(&rt, alloc, producers) else {
         return Err(RunFault::Memory);
     };
@@ -184,59 +194,102 @@ fn all_applied<W>(lane: &LaneSummary<W>) -> bool {
         && lane.reports.is_empty()
 }
 
+// Whether an index applied what two producers put: the operations 1 to 100 of each, and nothing else.
+fn is_whole(alloc: Global, index: &Index) -> Result<bool, Fail> {
+    for producer in 0..2u32 {
+        if !is_as_put(alloc, index, producer, 100)? {
+            return Ok(false);
+        }
+    }
+    Ok(count_applied(alloc, index)? == 200)
+}
+
+// A relay of one wire.
+fn run_one<R, W>(
+    rt: R,
+    alloc: Global,
+    config: RelayConfig,
+    wire: W,
+    count: u64,
+) -> Result<Summary<W>, RunFault>
+where
+    R: Threads + Wait + Copy + Send + 'static,
+    W: Wire + Drop + Send + 'static,
+    requires { W.out wire ≡ [] }
+{
+    let Ok(wires) = one(alloc, wire) else {
+        return Err(RunFault::Memory);
+    };
+    let Ok(paces) = one(alloc, AtOnce) else {
+        return Err(RunFault::Memory);
+    };
+    run(rt, alloc, config, wires, paces, count)
+}
+
+// Whether the summary is of one lane, whose index is whole.
+fn is_delivered(alloc: Global, summary: &Summary<MemoryWire>) -> Result<bool, Fail> {
+    match summary.lanes.as_slice() {
+        [lane] if all_applied(lane) => is_whole(alloc, &lane.wire.index),
+        _ => Ok(false),
+    }
+}
+
 #[test]
 fn two_producers(rt: HostRuntime) -> Result<(), Fail> {
     let alloc = rt.alloc();
-    let wires = one(alloc, wire_of(alloc))?;
-    let summary = run(rt, alloc, CONFIG, wires, one(alloc, AtOnce)?, 100)?;
-    for lane in &summary.lanes {
-        assert!(rt; all_applied(lane));
-        assert!(rt; count_applied(alloc, &lane.wire.index)? == 200);
-        for producer in 0..2u32 {
-            assert!(rt; is_as_put(alloc, &lane.wire.index, producer, 100)?);
-        }
-    }
-    assert!(rt; summary.lanes.len() == 1);
+    let summary = run_one(rt, alloc, CONFIG, wire_of(alloc), 100)?;
+    assert!(rt; is_delivered(alloc, &summary)?);
     Ok(())
 }
 
 // A wire round an index of its own, whose first reply is lost.
-fn loop_wire(alloc: Global) -> Result<LoopWire, AllocError> {
+fn loop_wire(alloc: Global) -> Result<LoopWire, AllocError>
+    ensures { IfOk result (λ w. numbers w.out ≡ []) }
+{
     let mut wire = LoopWire::new(alloc, Index::new(alloc), Script::new(alloc))?;
     wire.lose(1)?;
     Ok(wire)
 }
 
+// Whether the summary is of one lane, whose index is whole.
+fn is_delivered_over_http(alloc: Global, summary: &Summary<LoopWire>) -> Result<bool, Fail> {
+    match summary.lanes.as_slice() {
+        [lane] if all_applied(lane) => is_whole(alloc, lane.wire.index()),
+        _ => Ok(false),
+    }
+}
+
 #[test]
 fn two_producers_over_http(rt: HostRuntime) -> Result<(), Fail> {
     let alloc = rt.alloc();
-    let wires = one(alloc, loop_wire(alloc)?)?;
-    let summary = run(rt, alloc, CONFIG, wires, one(alloc, AtOnce)?, 100)?;
-    for lane in &summary.lanes {
-        assert!(rt; all_applied(lane));
-        for producer in 0..2u32 {
-            assert!(rt; is_as_put(alloc, lane.wire.index(), producer, 100)?);
-        }
-    }
-    assert!(rt; summary.lanes.len() == 1);
+    let summary = run_one(rt, alloc, CONFIG, loop_wire(alloc)?, 100)?;
+    assert!(rt; is_delivered_over_http(alloc, &summary)?);
     Ok(())
+}
+
+// The fault at the start of a relay that has one wire, and is to have so many lanes.
+fn fault_of<R>(rt: R, alloc: Global, lanes: u32) -> Option<StartFault>
+where
+    R: Threads + Wait + Copy + Send + 'static,
+{
+    let config = RelayConfig { lanes, ..CONFIG };
+    match run_one(rt, alloc, config, wire_of(alloc), 1) {
+        Err(RunFault::Start(fault)) => Some(fault),
+        _ => None,
+    }
 }
 
 #[test]
 fn start_faults(rt: HostRuntime) -> Result<(), Fail> {
-    let alloc = rt.alloc();
     for (lanes, fault) in [(0, StartFault::BadConfig), (2, StartFault::WireCount)] {
-        let config = RelayConfig { lanes, ..CONFIG };
-        let wires = one(alloc, wire_of(alloc))?;
-        let end = run(rt, alloc, config, wires, one(alloc, AtOnce)?, 1);
-        assert!(rt; matches!(end, Err(RunFault::Start(found)) if found == fault));
+        assert!(rt; fault_of(rt, rt.alloc(), lanes) == Some(fault));
     }
     Ok(())
 }
 
 // A gate for each lane.
 fn gates<C: Clock + Copy>(alloc: Global, clock: C) -> Result<Vec<GateWire<C>>, AllocError>
-    ensures { IfOk result (λ v. NoneOut (Wire.out (GateWire C)) v.items) }
+    ensures { IfOk result (λ v. NoneOut (λ w. option_to_list w.inner.flying) v.items) }
 {
     let flags = Arc::new(alloc, AtomicU32::new(0))?;
     let mut wires = Vec::new(alloc);
@@ -246,22 +299,47 @@ fn gates<C: Clock + Copy>(alloc: Global, clock: C) -> Result<Vec<GateWire<C>>, A
     Ok(wires)
 }
 
-#[test]
-fn eight_lanes_at_once(rt: HostRuntime) -> Result<(), Fail> {
-    let alloc = rt.alloc();
+// A pace for each lane.
+fn paces(alloc: Global) -> Result<Vec<AtOnce>, AllocError> {
+    let mut paces = Vec::new(alloc);
+    for _ in 0..LANES {
+        paces.push(AtOnce)?;
+    }
+    Ok(paces)
+}
+
+// A relay of eight lanes, to which one producer puts an operation for each lane.
+fn run_eight<R>(rt: R, alloc: Global) -> Result<Summary<GateWire<R>>, RunFault>
+where
+    R: Threads + Wait + Clock + Copy + Send + 'static,
+{
     let config = RelayConfig {
         lanes: LANES,
         producers: 1,
         ..CONFIG
     };
-    let mut paces = Vec::new(alloc);
-    for _ in 0..LANES {
-        paces.push(AtOnce)?;
-    }
-    let summary = run(rt, alloc, config, gates(alloc, rt)?, paces, 1)?;
+    let Ok(wires) = gates(alloc, rt) else {
+        return Err(RunFault::Memory);
+    };
+    let Ok(paces) = paces(alloc) else {
+        return Err(RunFault::Memory);
+    };
+    run(rt, alloc, config, wires, paces, 1)
+}
+
+// Whether each lane took one operation, and saw that all eight had sent.
+fn all_passed<C: Clock>(summary: &Summary<GateWire<C>>) -> bool {
     for lane in &summary.lanes {
-        assert!(rt; lane.taken == 1 && lane.wire.passed);
+        if lane.taken != 1 || !lane.wire.passed {
+            return false;
+        }
     }
-    assert!(rt; summary.lanes.len() == 8);
+    summary.lanes.len() == 8
+}
+
+#[test]
+fn eight_lanes_at_once(rt: HostRuntime) -> Result<(), Fail> {
+    let summary = run_eight(rt, rt.alloc())?;
+    assert!(rt; all_passed(&summary));
     Ok(())
 }
