@@ -1,6 +1,5 @@
 //! A lane's thread beside the threads of its senders.
-ghost use Rattle.std.specs.Prelude.{◌≡◌, ◌≢◌, ◌+◌, ◌<◌, ◌≤◌, [], None, true, IfSome};
-ghost use Rattle.relay_core.specs.Limits.{is_valid};
+ghost use Rattle.std.specs.Prelude.{◌≢◌, IfSome};
 
 use crate::memory::{AtOnce, MemoryWire, action_of, count_applied, is_as_put, key_of, wire_of};
 use relay_action::{Body, Op};
