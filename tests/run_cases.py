@@ -137,9 +137,9 @@ def files_at_fault():
         missing = os.path.join(folder, "missing")
         server = Server()
         done = relay_run(server.port, [good, missing, broken])
-        check("a file that is not there, and one that breaks off", done == (3, b"applied 7 already 0 reported 0\n", b"%s: open failed\n%s: line 4: UnsupportedAction\n" % (missing.encode(), broken.encode())), done)
+        check("a file that is not there, and one that breaks off", done == (3, b"applied 7 already 0 reported 0\n", b"%s: open failed\n%s: line 5: UnsupportedAction\n" % (missing.encode(), broken.encode())), done)
         done = relay_run(server.port, [broken], "--first", "1000")
-        check("a file that breaks off", done == (2, b"applied 2 already 0 reported 0\n", b"%s: line 4: UnsupportedAction\n" % broken.encode()), done)
+        check("a file that breaks off", done == (2, b"applied 2 already 0 reported 0\n", b"%s: line 5: UnsupportedAction\n" % broken.encode()), done)
         done = relay_run(server.port, [folder], "--first", "2000")
         check("a directory", done == (3, b"applied 0 already 0 reported 0\n", b"%s: read failed\n" % folder.encode()), done)
         server.close()
@@ -168,7 +168,7 @@ def options():
             (["--to", "x:1", "--bytes", "1023", plain], b"1023"),
             (["--to", "x:1", "--attempts", "33", plain], b"33"),
             (["--to", "x:1", "--flying", "2", plain], b"'2'"),
-            (["--to", "x:1", *[plain] * 17], b"17"),
+            (["--to", "x:1", *[plain] * 17], b"no more were expected"),
         ):
             done = subprocess.run([RELAY, "run", *args], stdin=subprocess.DEVNULL, capture_output=True, timeout=60)
             check("usage: run %s" % args[:4], done.returncode == 1 and said in done.stderr and done.stdout == b"", (done.returncode, done.stderr))
