@@ -24,13 +24,12 @@ demo: build
 	@echo "--- relay run --to 127.0.0.1:19200 examples/books.ndjson (item 2 is sent again, item 3 is reported)"
 	@crates/relay/out/relay stub --listen 127.0.0.1:19200 --requests 3 --refuse 2:429,3:400 & sleep 1; crates/relay/out/relay run --to 127.0.0.1:19200 examples/books.ndjson || echo "status $$?"; wait
 
-# The gate, with the processor minutes of each crate, and then the built program from the outside.
+# The gate, with the processor minutes of each crate, and then from the outside the program that it proved and built.
 test:
 	@echo "following the pointers of the tables of rules"
 	python3 tests/pointers.py
 	@echo "the gate; this takes a good while, and a line a minute says what it is at"
 	python3 tests/gate.py
-	@$(MAKE) --no-print-directory build
 	@echo "handing what relay_http writes to the HTTP client and server of Python"
 	@python3 tests/http_fixtures.py > /dev/null
 	@echo "running the built program from the outside"

@@ -6,10 +6,10 @@ use clap::{ArgMatches, Command, Error};
 use relay_commands::exit::Exit;
 use std::alloc::{AllocError, Global};
 use std::net::Net;
+use std::rt::Env;
 use std::sync::Wait;
 use std::thread::Threads;
 use std::time::Clock;
-use std::rt::Env;
 use std::{env, io};
 
 const ABOUT: &str = "Takes write operations from producers to an OpenSearch index.
@@ -21,7 +21,18 @@ happen between producers, lanes and an index.";
 /// Does what the process's command line says.
 pub fn run<R>(rt: &R, host: HostRuntime) -> Exit
 where
-    R: Input + Print + Eprint + Env + Net + AllocGlobal + Threads + Wait + Clock + Copy + Send + 'static,
+    R: Input
+        + Print
+        + Eprint
+        + Env
+        + Net
+        + AllocGlobal
+        + Threads
+        + Wait
+        + Clock
+        + Copy
+        + Send
+        + 'static,
 {
     match words(rt) {
         Ok(words) => run_words(rt, host, words.as_slice()),

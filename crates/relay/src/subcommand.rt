@@ -73,7 +73,17 @@ impl Subcommand {
     /// Runs it over standard input and output, and over sockets.
     pub fn run<R>(self, rt: &R, host: HostRuntime, matches: &ArgMatches<'_>) -> Exit
     where
-        R: Input + Print + Eprint + Net + AllocGlobal + Threads + Wait + Clock + Copy + Send + 'static,
+        R: Input
+            + Print
+            + Eprint
+            + Net
+            + AllocGlobal
+            + Threads
+            + Wait
+            + Clock
+            + Copy
+            + Send
+            + 'static,
     {
         match self {
             Subcommand::Lines => lines::run(rt, matches),

@@ -20,11 +20,7 @@ pub enum FileFault {
 /// Adds the line that says it: `FILE: open failed`, `FILE: read failed`, `FILE: out of memory`,
 /// `FILE: line N: KIND` or `FILE: NumbersSpent`. Of a lane that is gone it says nothing: that is said of the
 /// lane. `AllocError`: there was no memory for it, and a front of it may have been added.
-pub fn add_file_fault(
-    text: &mut Vec<u8>,
-    file: &str,
-    fault: FileFault,
-) -> Result<(), AllocError>
+pub fn add_file_fault(text: &mut Vec<u8>, file: &str, fault: FileFault) -> Result<(), AllocError>
     ensures { OnOk result (text.new.items ≡ text.old.items ++ file_fault_line file.now fault) }
 {
     match fault {

@@ -231,7 +231,11 @@ where
         Ok(ran) => conclude(alloc, &options.files, &opened, ran, out, err),
         Err(fault) => {
             let _ = write_all(err, start_fault_text(fault));
-            Ok(if fault == StartFault::Memory { Exit::Memory } else { Exit::Device })
+            Ok(if fault == StartFault::Memory {
+                Exit::Memory
+            } else {
+                Exit::Device
+            })
         }
     }
 }

@@ -9,15 +9,14 @@ use crate::producing::{join_producers, spawn_producers};
 use crate::ticking::tick_until_ended;
 use crossbeam_channel::bounded;
 use relay_action::ByteIn;
+pub use relay_batch::Limits;
+pub use relay_lane::RelayConfig;
 use relay_lane::{Pace, Wire};
 use relay_threads::{FinishFault, Relay, StartFault, Summary};
 use std::alloc::Global;
 use std::sync::Wait;
 use std::thread::Threads;
 use std::time::Clock;
-
-pub use relay_batch::Limits;
-pub use relay_lane::RelayConfig;
 
 /// What a run came to.
 #[derive(Drop)]

@@ -33,7 +33,10 @@ impl<R: Clock> Pace for SleepPace<R> {
 
     /// Sleeps 100 ms for each of these ticks.
     fn pause(&mut self, ticks: u64) {
-        thread::sleep(&self.clock, Duration::from_millis(ticks.saturating_mul(TICK)));
+        thread::sleep(
+            &self.clock,
+            Duration::from_millis(ticks.saturating_mul(TICK)),
+        );
     }
 }
 

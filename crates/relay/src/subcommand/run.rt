@@ -77,7 +77,9 @@ pub fn command<'a>(alloc: Global, name: &'static str) -> Result<Command<'a>, All
         .long("index")
         .value_name("NAME")
         .action(ArgAction::Set)
-        .help("The index of operations that name none, of 1 to 255 bytes [default: none, so that each operation has to name its index]");
+        .help(
+            "The index of operations that name none, of 1 to 255 bytes [default: none, so that each operation has to name its index]",
+        );
     let files = Arg::new(alloc, "file")
         .value_name("FILE")
         .action(ArgAction::Append)
@@ -89,15 +91,78 @@ pub fn command<'a>(alloc: Global, name: &'static str) -> Result<Command<'a>, All
         .long_about(LONG_ABOUT)
         .arg(to)?
         .arg(index)?
-        .arg(number(alloc, "first", 1, 9_000_000_000_000_000_000, "1", "The version that each lane gives first, from 1 to 9000000000000000000"))?
-        .arg(number(alloc, "lanes", 1, 8, "1", "How many lanes, 1 to 8, each with a connection of its own"))?
-        .arg(number(alloc, "capacity", 1, 65_536, "256", "How many operations wait in front of a lane at most, 1 to 65536"))?
-        .arg(number(alloc, "held", 1, 65_536, "1024", "How many operations a lane holds at most, sent or to be sent, 1 to 65536"))?
-        .arg(number(alloc, "count", 1, 10_000, "500", "How many operations a request has at most, 1 to 10000"))?
-        .arg(number(alloc, "bytes", 1_024, 16_777_216, "1048576", "How many bytes the body of a request has at most, 1024 to 16777216; one operation alone may have more"))?
-        .arg(number(alloc, "linger", 0, 65_535, "2", "How long a request waits to be filled, in ticks of 100 ms, 0 to 65535"))?
-        .arg(number(alloc, "attempts", 1, 32, "8", "How many requests carry an operation at most, 1 to 32"))?
-        .arg(number(alloc, "flying", 1, 1, "1", "How many requests of a lane are out at a time: 1 is all that there is yet"))?
+        .arg(number(
+            alloc,
+            "first",
+            1,
+            9_000_000_000_000_000_000,
+            "1",
+            "The version that each lane gives first, from 1 to 9000000000000000000",
+        ))?
+        .arg(number(
+            alloc,
+            "lanes",
+            1,
+            8,
+            "1",
+            "How many lanes, 1 to 8, each with a connection of its own",
+        ))?
+        .arg(number(
+            alloc,
+            "capacity",
+            1,
+            65_536,
+            "256",
+            "How many operations wait in front of a lane at most, 1 to 65536",
+        ))?
+        .arg(number(
+            alloc,
+            "held",
+            1,
+            65_536,
+            "1024",
+            "How many operations a lane holds at most, sent or to be sent, 1 to 65536",
+        ))?
+        .arg(number(
+            alloc,
+            "count",
+            1,
+            10_000,
+            "500",
+            "How many operations a request has at most, 1 to 10000",
+        ))?
+        .arg(number(
+            alloc,
+            "bytes",
+            1_024,
+            16_777_216,
+            "1048576",
+            "How many bytes the body of a request has at most, 1024 to 16777216; one operation alone may have more",
+        ))?
+        .arg(number(
+            alloc,
+            "linger",
+            0,
+            65_535,
+            "2",
+            "How long a request waits to be filled, in ticks of 100 ms, 0 to 65535",
+        ))?
+        .arg(number(
+            alloc,
+            "attempts",
+            1,
+            32,
+            "8",
+            "How many requests carry an operation at most, 1 to 32",
+        ))?
+        .arg(number(
+            alloc,
+            "flying",
+            1,
+            1,
+            "1",
+            "How many requests of a lane are out at a time: 1 is all that there is yet",
+        ))?
         .arg(files)
 }
 
@@ -147,7 +212,10 @@ where
         return out_of_memory(rt);
     };
     if !options.is_valid() {
-        return usage(rt, "error: --to ADDR has to be 1 to 255 visible ASCII characters");
+        return usage(
+            rt,
+            "error: --to ADDR has to be 1 to 255 visible ASCII characters",
+        );
     }
     let mut out = StdStream::new(io::writer(rt));
     let mut err = StdStream::new(host.stderr());
