@@ -42,7 +42,7 @@ class Server:
         self.requests, self.lock = 0, threading.Lock()
         self.listener = socket.create_server(("127.0.0.1", 0))
         self.port = self.listener.getsockname()[1]
-        self.heads = []
+        self.heads, self.streams = [], []
         threading.Thread(target=self.accept, daemon=True).start()
 
     def accept(self):
@@ -51,10 +51,27 @@ class Server:
                 stream, _ = self.listener.accept()
             except OSError:
                 return
+            with self.lock:
+                self.streams.append(stream)
             threading.Thread(target=self.serve, args=(stream,), daemon=True).start()
 
     def close(self):
         self.listener.close()
+
+    def rest(self, seconds):
+        """Stops listening, drops all connections, and listens again at the same port after so long."""
+        self.listener.shutdown(socket.SHUT_RDWR)
+        self.listener.close()
+        with self.lock:
+            streams, self.streams = self.streams, []
+        for stream in streams:
+            try:
+                stream.shutdown(socket.SHUT_RDWR)
+            except OSError:
+                pass
+        time.sleep(seconds)
+        self.listener = socket.create_server(("127.0.0.1", self.port))
+        threading.Thread(target=self.accept, daemon=True).start()
 
     def serve(self, stream):
         with stream:

@@ -4,6 +4,7 @@ import random
 import re
 import subprocess
 import tempfile
+import threading
 import time
 
 from bulk_server import Server
@@ -121,6 +122,51 @@ def faults():
         server.close()
 
 
+def server_that_comes_back():
+    with tempfile.TemporaryDirectory() as folder:
+        producers = [operations(p, 200, 20) for p in range(2)]
+        files = [written(folder, p, ops) for p, ops in enumerate(producers)]
+        server = Server(lambda number: "late" if number % 2 else None)
+        running = threading.Thread(target=lambda: done.append(relay_run(server.port, files, "--count", "10", "--linger", "0", "--attempts", "32")))
+        done = []
+        running.start()
+        while server.requests < 5 and running.is_alive():
+            time.sleep(0.01)
+        server.rest(1)
+        running.join()
+        judge("a server that is away for a second", server, producers, done[0])
+        check("all is applied when it is back", done[0][1].endswith(b"reported 0\n"), done[0][1][-100:])
+        server.close()
+
+
+def peak(process):
+    """The most kilobytes that a running process held at a time, as far as it was looked at."""
+    most = 0
+    while process.poll() is None:
+        try:
+            with open("/proc/%d/status" % process.pid) as file:
+                most = max([most] + [int(line.split()[1]) for line in file if line.startswith("VmHWM:")])
+        except OSError:
+            pass
+        time.sleep(0.01)
+    return most
+
+
+def memory():
+    peaks = []
+    with tempfile.TemporaryDirectory() as folder:
+        for count in (2_000, 20_000):
+            path = written(folder, 0, operations(0, count, count))
+            server = Server()
+            process = subprocess.Popen([RELAY, "run", "--to", "127.0.0.1:%d" % server.port, path], stdin=subprocess.DEVNULL, stdout=subprocess.PIPE)
+            peaks.append(peak(process))
+            out = process.communicate(timeout=60)[0]
+            check("%d operations" % count, (process.returncode, out) == (0, b"applied %d already 0 reported 0\n" % count), (process.returncode, out[-200:]))
+            server.close()
+    check("ten times the operations take no more memory", 0 < peaks[1] < peaks[0] + 2048, peaks)
+    print("relay run held at most %d and %d kilobytes" % tuple(peaks))
+
+
 def no_server():
     with tempfile.TemporaryDirectory() as folder:
         path = written(folder, 0, operations(0, 3, 3))
@@ -174,4 +220,4 @@ def options():
             check("usage: run %s" % args[:4], done.returncode == 1 and said in done.stderr and done.stdout == b"", (done.returncode, done.stderr))
 
 
-GROUPS = (stub, faults, no_server, files_at_fault, options)
+GROUPS = (stub, faults, server_that_comes_back, memory, no_server, files_at_fault, options)
