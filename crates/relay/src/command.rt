@@ -14,9 +14,9 @@ use std::{env, io};
 
 const ABOUT: &str = "Takes write operations from producers to an OpenSearch index.
 
-Today it numbers the operations of one producer with external versions, as the lines of a bulk
-request, serves bulk requests with a stand-in index, also over HTTP, and plays scripts of what may
-happen between producers, lanes and an index.";
+It writes files of operations to an index, each operation once and in order, numbers the operations
+of one producer as the lines of a bulk request, serves bulk requests with a stand-in index, also over
+HTTP, and plays scripts of what may happen between producers, lanes and an index.";
 
 /// Does what the process's command line says.
 pub fn run<R>(rt: &R, host: HostRuntime) -> Exit

@@ -1,11 +1,12 @@
-//! The program `relay`: a command line over `relay_commands`, `relay_script` and `relay_stub`. `relay lines`
-//! turns a producer's NDJSON into bulk lines with versions, `relay apply` serves one bulk request with a fresh
-//! stand-in index, `relay stub` serves connections over TCP with one, and `relay world` plays a script of
-//! events on lanes with their queues over an index.
+//! The program `relay`: a command line over `relay_commands`, `relay_script`, `relay_stub` and `relay_run`.
+//! `relay run` writes files of operations to an index; `relay lines` turns a producer's NDJSON into bulk lines
+//! with versions, `relay apply` serves one bulk request with a fresh stand-in index, `relay stub` serves
+//! connections over TCP with one, and `relay world` plays a script of events on lanes with their queues over an
+//! index.
 //!
 //! It reads the words of the command line, puts standard input and output behind the streams of
-//! `relay_action`, opens sockets by `relay_net`, and prints what stopped a command. The promises are those of the functions that the
-//! commands call, over any reader and writer.
+//! `relay_action`, opens sockets by `relay_net`, and prints what stopped a command. The promises are those of
+//! the functions that the commands call, over any reader and writer.
 #![tactic(auto)]
 
 mod command;
