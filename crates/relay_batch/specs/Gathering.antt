@@ -1,9 +1,10 @@
 -- A batch that is gathered: which answer an offer gets, and when the batch is ready.
-use Rattle.std.specs.Prelude.{ℕ, ◌+◌, Bool, false, ◌||◌, ◌&&◌, ◌==◌, nat_lt, nat_le, if◌then◌else◌, List, [], ◌∷◌, ◌++◌, length, Result, Ok, Err}
+use Rattle.std.specs.Prelude.{ℕ, ◌+◌, ◌-◌, Bool, false, ◌||◌, ◌&&◌, ◌==◌, nat_lt, nat_le, if◌then◌else◌, List, [], ◌∷◌, ◌++◌, length, Result, Ok, Err}
 use Rattle.std.specs.List.{list_any}
 use Rattle.relay_batch.specs.Batches.{bytes_of}
 use Rattle.relay_batch.specs.declared.item.Limits.{Limits}
 use Rattle.relay_batch.specs.declared.item.BatchItem.{BatchItem}
+use Rattle.relay_batch.specs.declared.item.Room.{Room}
 use Rattle.relay_batch.specs.declared.offer.Offer.{Offer}
 use Rattle.relay_batch.specs.declared.offer.Offer.TheVariants.{Busy, Closed, Added}
 
@@ -48,3 +49,7 @@ abbrev pub is_ready : ℕ → Gathering → Bool
 is_ready now g =
     nat_lt 0 (length g.items)
     && (is_count_reached g || nat_le g.limits.bytes (bytes_of g.items) || is_lingered g.limits.linger now g.items)
+
+-- what is left of the limits
+abbrev pub room_of : Gathering → Room
+room_of g = record { items = g.limits.count - length g.items; bytes = g.limits.bytes - bytes_of g.items }

@@ -1,10 +1,10 @@
 //! The batch that a lane gathers.
 ghost use Rattle.std.specs.Prelude.{◌≡◌, ◌+◌, [], MatchOption, OnErr, IfOk, None, Some, if◌then◌else◌};
 ghost use Rattle.relay_batch.specs.Batches.{IsBatch, bytes_of};
-ghost use Rattle.relay_batch.specs.Gathering.{holds_document, is_count_reached, passes_bytes, answer_to, after_offer, is_ready};
+ghost use Rattle.relay_batch.specs.Gathering.{holds_document, is_count_reached, passes_bytes, answer_to, after_offer, is_ready, room_of};
 
 use crate::batch::Batch;
-use crate::item::{BatchItem, Limits};
+use crate::item::{BatchItem, Limits, Room};
 use crate::offer::Offer;
 use std::alloc::{AllocError, Global};
 use std::marker::Model;
@@ -110,6 +110,22 @@ impl Batcher {
                         .checked_sub(first.taken_at)
                         .is_some_and(|age| age >= self.limits.linger as u64)
             }
+        }
+    }
+
+    /// What the batch has room for until it reaches its limits: the items and the bytes that it has fewer
+    /// than they say, 0 where it has as many or more. It takes no memory.
+    pub fn room(&self) -> Room
+        ensures { result ≡ room_of self.now }
+    {
+        let items = self.held.len();
+        Room {
+            items: if items < self.limits.count as usize {
+                self.limits.count - items as u32
+            } else {
+                0
+            },
+            bytes: self.limits.bytes.saturating_sub(self.total),
         }
     }
 

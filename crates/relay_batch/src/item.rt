@@ -12,6 +12,15 @@ pub struct Limits {
     pub linger: u32,
 }
 
+/// What a batch has room for: items, and bytes that they have together.
+#[derive(Clone, Copy, Debug, PartialEq, Eq)]
+pub struct Room {
+    /// How many items.
+    pub items: u32,
+    /// How many bytes.
+    pub bytes: u64,
+}
+
 /// An item of a batch: one operation that is to be sent.
 #[derive(Clone, Copy, Debug, PartialEq, Eq)]
 pub struct BatchItem {

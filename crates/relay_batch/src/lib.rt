@@ -14,5 +14,5 @@ mod tests;
 
 pub use batch::Batch;
 pub use batcher::Batcher;
-pub use item::{BatchItem, Limits};
+pub use item::{BatchItem, Limits, Room};
 pub use offer::Offer;

@@ -15,3 +15,5 @@ pub mod Invariant
 pub mod Taken
 pub mod Weighed
 pub mod Weighing
+pub mod Quiet
+pub mod Marks

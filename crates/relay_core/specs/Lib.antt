@@ -6,3 +6,4 @@ pub mod Memory
 pub mod View
 pub mod Ties
 pub mod Flights
+pub mod Quiet

@@ -1,12 +1,14 @@
 -- How the fields of a lane are read, and what always holds of them.
-use Rattle.std.specs.Prelude.{◌≡◌, ℕ, ◌+◌, ◌-◌, ◌*◌, ◌^◌, ◌<◌, ◌≤◌, true, map, min, length, vec_len, vec_capacity}
+use Rattle.std.specs.Prelude.{◌≡◌, ℕ, ◌+◌, ◌-◌, ◌*◌, ◌^◌, ◌<◌, ◌≤◌, Bool, true, map, min, length, vec_len, vec_capacity}
+use Rattle.std.specs.List.{list_all}
 use Rattle.relay_flight.specs.Flying.{IsFlight}
 use Rattle.relay_delivery.specs.Causes.{deals_from}
 use Rattle.relay_core.specs.declared.lane.Lane.TheInside.{Inside}
 use Rattle.relay_core.specs.Limits.{is_valid}
 use Rattle.relay_core.specs.State.{State, config_of}
 use Rattle.relay_core.specs.Memory.{entries, writes_in, flying_of, IsReadable, SameNumbers, AllUnder, tries_left}
-use Rattle.relay_core.specs.Walk.{report_of}
+use Rattle.relay_core.specs.Walk.{report_of, items_of_kept}
+use Rattle.relay_core.specs.Quiet.{is_roomy, IsQuiet}
 
 abbrev pub seen : Inside → State
 seen a = record {
@@ -47,3 +49,5 @@ pub record IsSound (a : Inside) : Type 0 where
   pub left : (a.flight.next - 1) + tries_left a.config.attempts a.held.items ≤ 32 * min a.taken a.deals
   pub config : is_valid a.config ≡ true
   pub deals : a.deals ≡ deals_from a.config.first_version
+  pub quiet : is_roomy a.room ≡ true
+      → IsQuiet a.clock a.mark (list_all (λ (b : Bool). b) a.closed.items) a.config.limits (items_of_kept a.held.items a.clock a.held.items) a.room

@@ -1,14 +1,35 @@
 //! The next batch.
-ghost use Rattle.std.specs.Prelude.{◌≡◌, Some, filter, IfOk, IfSome, OnErr, ◌<◌, length, []};
+ghost use Rattle.std.specs.Prelude.{◌≡◌, ◌||◌, true, false, fold, take, drop, List, ◌∷◌, ◌+◌, Some, filter, IfOk, IfSome, OnErr, ◌<◌, length, []};
 ghost use Rattle.relay_results.specs.Documents.{document_of, same_document};
+ghost use Rattle.relay_core.specs.declared.kept.Kept.{Kept};
 ghost use Rattle.relay_core.specs.Walk.{is_later_kept, is_eligible_kept, first_due_kept, is_candidate_kept, item_of_kept, items_of_kept};
 ghost use Rattle.relay_core.specs.State.{sooner};
+ghost use Rattle.relay_core.specs.Memory.{Rises};
 ghost use Rattle.relay_core.specs.Rule.{offered, closes, is_marked, batch_of};
+ghost use Rattle.relay_core.specs.Quiet.{hash_step, place_of, AreMarked, is_roomy, no_room, less, IsQuiet};
 
 use crate::kept::Kept;
 use relay_action::DocKey;
-use relay_batch::{Batch, BatchItem, Batcher, Limits, Offer};
+use relay_batch::{Batch, BatchItem, Batcher, Limits, Offer, Room};
 use std::alloc::{AllocError, Global};
+
+// The hash after one more byte.
+fn mix(hash: u64, byte: u8) -> u64
+    ensures { result ≡ hash_step hash byte }
+{
+    hash.wrapping_mul(31).wrapping_add(u64::from(byte))
+}
+
+// A hash of bytes: a polynomial in 31, modulo 2^64.
+fn hash(bytes: &[u8]) -> u64
+    ensures { result ≡ fold hash_step 0 bytes.now }
+{
+    let mut hash: u64 = 0;
+    for byte in bytes {
+        hash = mix(hash, *byte);
+    }
+    hash
+}
 
 // Whether two documents are one.
 fn is_same(a: &DocKey, b: &DocKey) -> bool
@@ -57,11 +78,41 @@ pub(crate) fn first_due(held: &[Kept]) -> Option<u64>
     first
 }
 
-// Whether it may be sent now.
-fn is_candidate(held: &[Kept], clock: u64, one: &Kept) -> bool
+// Among how many places documents are marked.
+const PLACES: u64 = 16_384;
+
+// The place of a document's mark, by the bytes of its id.
+fn place_of(key: &DocKey) -> usize
+    ensures place { result ≡ place_of key.now }
+    ensures within { result < 16384 }
+{
+    (hash(key.id().as_bytes()) % PLACES) as usize
+}
+
+// Marks the document of the one at a place, after those before it. Whether its mark is new, so that it is
+// the first of its document.
+fn mark_new(held: &[Kept], i: usize, marks: &mut [bool]) -> bool
+    requires within { i < length held.now }
+    requires rises { Rises held.now }
+    requires places { length marks.old ≡ 16384 }
+    requires marked { AreMarked marks.old (take i held.now) }
+    ensures places { length marks.new ≡ 16384 }
+    ensures marked { AreMarked marks.new (take (i + 1) held.now) }
+    ensures first { result ≡ true → (one : Kept) → (rest : List Kept) → drop i held.now ≡ one ∷ rest
+        → is_later_kept held.now (document_of one.key) one.version ≡ false }
+{
+    let place = place_of(&held[i].key);
+    let is_new = !marks[place];
+    marks[place] = true;
+    is_new
+}
+
+// Whether it may be sent now. Where it is the first of its document, nothing is looked for.
+fn is_candidate(held: &[Kept], clock: u64, one: &Kept, is_first: bool) -> bool
+    requires { is_first ≡ true → is_later_kept held.now (document_of one.now.key) one.now.version ≡ false }
     ensures { result ≡ is_candidate_kept held.now clock one.now }
 {
-    one.flies.is_none() && one.due <= clock && !is_later(held, &one.key, one.version)
+    one.flies.is_none() && one.due <= clock && (is_first || !is_later(held, &one.key, one.version))
 }
 
 // The item of a held operation. Its own version numbers its document, since nothing older is held of it.
@@ -93,14 +144,17 @@ pub(crate) fn gather(
     clock: u64,
     limits: Limits,
 ) -> Result<Gathered, AllocError>
+    requires rises { Rises held.now }
     ensures batch { IfOk result (λ g. g.batcher ≡ offered (items_of_kept held.now clock held.now) (record { limits = limits; items = [] })) }
     ensures err { OnErr result (0 < length (items_of_kept held.now clock held.now)) }
     ensures closed { IfOk result (λ g. g.closed ≡ closes (items_of_kept held.now clock held.now) (record { limits = limits; items = [] })) }
 {
     let mut batcher = Batcher::new(alloc, limits);
+    let mut marks = [false; PLACES as usize];
     'ops: for i in 0..held.len() {
+        let is_first = mark_new(held, i, &mut marks);
         let one = &held[i];
-        if is_candidate(held, clock, one) {
+        if is_candidate(held, clock, one, is_first) {
             match batcher.offer(item_of(one))? {
                 Offer::Closed => {
                     return Ok(Gathered {
@@ -128,7 +182,52 @@ fn is_flushed(items: &[BatchItem], mark: u64) -> bool
     }
 }
 
-/// The batch that is to be sent now, if one is.
+// Whether what was gathered is asked for.
+fn is_asked(is_ready: bool, closed: bool, is_flushed: bool, all_closed: bool) -> bool
+    ensures { result ≡ (is_ready || (closed || (is_flushed || all_closed))) }
+{
+    is_ready || closed || is_flushed || all_closed
+}
+
+/// What the sending rule says.
+#[derive(Debug, Drop)]
+pub struct Due {
+    /// The batch that is to be sent now, if one is.
+    pub batch: Option<Batch>,
+    /// Where there is room, nothing is to be sent before more than this was taken, unless a tick passes, a
+    /// flush comes, a sender closes, or an answer.
+    pub room: Room,
+}
+
+/// Room for nothing.
+pub(crate) fn no_room() -> Room
+    ensures { result ≡ no_room }
+{
+    Room { items: 0, bytes: 0 }
+}
+
+/// Whether it is room for an item at least, and for a byte.
+pub(crate) fn is_roomy(room: Room) -> bool
+    ensures { result ≡ is_roomy room }
+{
+    room.items > 0 && room.bytes > 0
+}
+
+/// What is left of it after an operation of so many bytes.
+pub(crate) fn less(room: Room, bytes: u64) -> Room
+    ensures { result ≡ less bytes room }
+{
+    if bytes < room.bytes {
+        Room {
+            items: room.items.saturating_sub(1),
+            bytes: room.bytes - bytes,
+        }
+    } else {
+        no_room()
+    }
+}
+
+/// The batch that is to be sent now, if one is; and else how long the rule need not be asked.
 pub(crate) fn due_batch(
     alloc: Global,
     held: &[Kept],
@@ -136,18 +235,33 @@ pub(crate) fn due_batch(
     mark: u64,
     all_closed: bool,
     limits: Limits,
-) -> Result<Option<Batch>, AllocError>
-    ensures batch { IfOk result (λ b. b ≡ batch_of clock mark all_closed limits (items_of_kept held.now clock held.now)) }
+) -> Result<Due, AllocError>
+    requires rises { Rises held.now }
+    ensures batch { IfOk result (λ d. d.batch ≡ batch_of clock mark all_closed limits (items_of_kept held.now clock held.now)) }
+    ensures quiet { IfOk result (λ d. is_roomy d.room ≡ true
+        → IsQuiet clock mark all_closed limits (items_of_kept held.now clock held.now) d.room) }
     ensures err { OnErr result (0 < length (items_of_kept held.now clock held.now)) }
 {
     let Gathered { batcher, closed } = gather(alloc, held, clock, limits)?;
     let is_ready = batcher.ready(clock);
+    let room = batcher.room();
     let Some(batch) = batcher.close() else {
-        return Ok(None);
+        return Ok(Due {
+            batch: None,
+            room: no_room(),
+        });
     };
-    if is_ready || closed || is_flushed(batch.items(), mark) || all_closed {
-        Ok(Some(batch))
+    if is_asked(
+        is_ready,
+        closed,
+        is_flushed(batch.items(), mark),
+        all_closed,
+    ) {
+        Ok(Due {
+            batch: Some(batch),
+            room: no_room(),
+        })
     } else {
-        Ok(None)
+        Ok(Due { batch: None, room })
     }
 }

@@ -14,14 +14,14 @@ ghost use Rattle.relay_core.specs.State.{fresh, taken, after_take, take_fault, i
 
 use crate::config::{RelayConfig, deals};
 use crate::flown::{find_writes, settle_flown};
-use crate::gather::{due_batch, first_due};
+use crate::gather::{Due, due_batch, first_due, is_roomy, less, no_room};
 use crate::kept::{Kept, Sent};
 use crate::launch::launch;
 use crate::report::Report;
 use crate::settled::{NotFlying, Settled, TakeFault, Totals};
 use crate::taking::{NoRoom, kept_of, make_room, refused};
 use relay_action::{Body, Mail, Op, Write};
-use relay_batch::{Batch, BatchItem};
+use relay_batch::{Batch, BatchItem, Room};
 use relay_flight::Flight;
 use relay_results::{Cause, Outcome, matches};
 use std::alloc::{AllocError, Global};
@@ -39,6 +39,8 @@ pub struct Lane {
     applied: u64,
     already: u64,
     closed: Vec<bool>,
+    // Where there is room, no batch is due before more than this was taken.
+    room: Room,
     held: Vec<Kept>,
     flight: Flight,
     flown: Vec<Sent>,
@@ -96,6 +98,7 @@ impl Lane {
             applied: 0,
             already: 0,
             closed: vec![in alloc; false; config.producers as usize + 1]?,
+            room: no_room(),
             held: Vec::new(alloc),
             flight: Flight::new(alloc, config.in_flight)?,
             flown: Vec::with_capacity(alloc, config.in_flight as usize)?,
@@ -107,6 +110,7 @@ impl Lane {
     pub fn tick(&mut self)
         ensures { self.new ≡ ticked self.old }
     {
+        self.room = no_room();
         self.clock = one_later(self.clock);
     }
 
@@ -115,6 +119,7 @@ impl Lane {
     pub fn flush(&mut self)
         ensures { self.new ≡ flushed self.old }
     {
+        self.room = no_room();
         if self.taken > 0 {
             self.mark = self.config.first_version + self.taken.min(self.deals) - 1;
         }
@@ -226,8 +231,9 @@ impl Lane {
             return Err(NoRoom { op });
         };
         let version = self.config.first_version + self.taken;
-        self.held
-            .push_reserved(kept_of(op, key, version, self.clock));
+        let kept = kept_of(op, key, version, self.clock);
+        self.room = less(self.room, kept.bytes);
+        self.held.push_reserved(kept);
         self.taken += 1;
         Ok(())
     }
@@ -279,6 +285,7 @@ impl Lane {
                 Ok(())
             }
             Body::Done => {
+                self.room = no_room();
                 self.closed[sender as usize] = true;
                 Ok(())
             }
@@ -289,23 +296,26 @@ impl Lane {
 // Requests are formed.
 impl Lane {
     // The batch that is to be sent now, if one is.
-    fn next_batch(&self) -> Result<Option<Batch>, AllocError>
-        ensures batch { IfOk result (λ b. b ≡ next_batch self.now) }
-        ensures place { OnErr result (length self.now.flights.batches < self.now.config.in_flight) }
-        ensures candidates { OnErr result (0 < length (candidates self.now.core)) }
-        ensures free { IfOk result (λ b. IfSome b (λ x. length self.now.flights.batches < self.now.config.in_flight)) }
+    fn next_batch(&mut self) -> Result<Option<Batch>, AllocError>
+        ensures same { self.new ≡ self.old }
+        ensures batch { IfOk result (λ b. b ≡ next_batch self.old) }
+        ensures place { OnErr result (length self.old.flights.batches < self.old.config.in_flight) }
+        ensures candidates { OnErr result (0 < length (candidates self.old.core)) }
+        ensures free { IfOk result (λ b. IfSome b (λ x. length self.old.flights.batches < self.old.config.in_flight)) }
     {
-        if self.flight.flying() >= self.config.in_flight {
+        if is_roomy(self.room) || self.flight.flying() >= self.config.in_flight {
             return Ok(None);
         }
-        due_batch(
+        let Due { batch, room } = due_batch(
             self.alloc,
             &self.held,
             self.clock,
             self.mark,
-            self.closed(),
+            are_closed(&self.closed),
             self.config.limits,
-        )
+        )?;
+        self.room = room;
+        Ok(batch)
     }
 
     // Lets a batch fly: its operations are sent, and their writes go into the request.
@@ -317,6 +327,7 @@ impl Lane {
         ensures after { self.new ≡ after_request self.old (Some batch) }
     {
         let mut writes = writes;
+        self.room = no_room();
         let number = self.flight.next();
         launch(&mut self.held, number - 1, batch.items(), &mut writes);
         let _ = self.flight.enter(batch);
@@ -397,6 +408,7 @@ impl Lane {
             outcomes,
         ) {
             Some(found) => {
+                self.room = no_room();
                 let _ = self.flight.settle(number);
                 self.applied += found.applied as u64;
                 self.already += found.already as u64;

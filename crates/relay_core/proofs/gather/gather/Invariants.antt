@@ -1,6 +1,7 @@
 use Rattle.std.proofs.Common.{◌≡◌, ◌+◌, ◌-◌, ◌≤◌, ◌++◌, [], length, take, drop}
 use Rattle.relay_core.specs.Walk.{items_of_kept}
 use Rattle.relay_core.specs.Rule.{offered, closes}
+use Rattle.relay_core.specs.Quiet.{AreMarked}
 use Rattle.relay_core.proofs.gather.gather.Given as goal
 
 abbrev pub invariant-ops : goal.invariant-ops
@@ -8,4 +9,6 @@ invariant-ops l = record {
   batch : offered (items_of_kept l.held l.clock (drop l.i l.held)) l.batcher ≡ offered (items_of_kept l.held l.clock l.held) (record { limits = l.fn.limits; items = [] });
   fewer : length (items_of_kept l.held l.clock (drop l.i l.held)) ≤ length (items_of_kept l.held l.clock l.held);
   closed : closes (items_of_kept l.held l.clock (drop l.i l.held)) l.batcher ≡ closes (items_of_kept l.held l.clock l.held) (record { limits = l.fn.limits; items = [] });
+  places : length l.marks ≡ 16384;
+  marked : AreMarked l.marks (take l.i l.held);
 }
