@@ -6,8 +6,8 @@ use Rattle.relay_results.specs.Documents.{document_of, same_document}
 use Rattle.relay_results.proofs.Lists.{true_or_false, and_left, and_right, and_both, not_true, any_false, Mem-filter, Mem-sub}
 use Rattle.relay_results.proofs.Same.{same_document-self}
 use Rattle.relay_delivery.specs.Machine.{Held, Place}
-use Rattle.relay_delivery.specs.Lane.{Entry, held_of, waits, is_candidate, candidates}
-use Rattle.relay_core.specs.State.{State, gathering}
+use Rattle.relay_delivery.specs.Lane.{held_of, waits, is_candidate, candidates}
+use Rattle.relay_core.specs.State.{gathering}
 use Rattle.relay_core.specs.Flights.{EarlierOnesSettled}
 use Rattle.relay_core.proofs.Tying.{chosen_sub}
 

@@ -1,6 +1,6 @@
 -- The invariant after an answer.
-use Rattle.std.proofs.Common.{◌≡◌, ◌≢◌, ℕ, zero, suc, ◌+◌, ◌-◌, ◌<◌, ◌≤◌, List, [], ◌∷◌, ◌++◌, length, Option, Some, None, Bool, true, false, ◌==◌, ◌&&◌, ◌||◌, refl, sym, ap, ◌∙◌, subst, ⊎_elim, inl, inr, arith, drop, length-append}
-use Rattle.std.specs.Prelude.{◌⊎◌, if◌then◌else◌, not, nat_lt, nat_le, map, slice_get, option_map, filter, is_some}
+use Rattle.std.proofs.Common.{◌≡◌, ℕ, ◌+◌, ◌-◌, ◌<◌, ◌≤◌, List, [], ◌∷◌, ◌++◌, Option, Some, None, Bool, true, false, ◌==◌, ◌&&◌, ◌||◌, refl, sym, ap, ◌∙◌, subst, ⊎_elim, arith, drop}
+use Rattle.std.specs.Prelude.{if◌then◌else◌, not, nat_lt, nat_le, slice_get, filter, is_some}
 use borrow.Author.Tests.{ltb-true}
 use Rattle.relay_action.specs.declared.write.Write.{Write}
 use Rattle.relay_action.specs.declared.action.ActionKind.{ActionKind}
@@ -8,15 +8,14 @@ use Rattle.relay_batch.specs.declared.item.BatchItem.{BatchItem}
 use Rattle.relay_results.specs.declared.outcome.Outcome.{Outcome}
 use Rattle.relay_results.specs.declared.decide.ItemVerdict.{ItemVerdict}
 use Rattle.relay_results.specs.declared.decide.ItemVerdict.TheVariants as verdict
-use Rattle.relay_results.specs.Fates.{Fate, Flies, Applied, Already, Retried, Reported, Tries, tried_again, fate_of_entry, fate_of_verdict}
+use Rattle.relay_results.specs.Fates.{Fate, Flies, Applied, Already, Retried, Reported, Tries, fate_of_entry, fate_of_verdict}
 use Rattle.relay_results.specs.Documents.{is_delete}
 use Rattle.relay_results.specs.Verdicts.{verdict_of}
 use Rattle.relay_delivery.specs.Lane.{backoff}
 use Rattle.relay_results.proofs.Lists.{true_or_false, equal, equal_test, and_right}
 use Rattle.relay_core.specs.declared.kept.Kept.{Kept}
 use Rattle.relay_core.specs.declared.kept.Sent.{Sent}
-use Rattle.relay_core.specs.declared.kept.Spot.{Spot}
-use Rattle.relay_core.specs.Walk.{flies_here, fate_or, fate_met, met_one, met_list, met_maybe, stays, kept_walk}
+use Rattle.relay_core.specs.Walk.{flies_here, fate_or, fate_met, met_maybe, kept_walk}
 use Rattle.relay_core.specs.Memory.{has_number, writes_in, without, Given, further, rest_if, IsMet, IsWriteOf, IsKept, AllKept, IsReadable, Carries, tries_left, AllAbove, AllUnder, Rises, NoneTwice, SameNumbers}
 use Rattle.relay_core.proofs.Settling.{rest_drop, met_ends, settles}
 use Rattle.relay_core.proofs.Keeping.{or_false, without_other, carries_past}

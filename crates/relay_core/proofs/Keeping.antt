@@ -1,15 +1,15 @@
 -- What an answer keeps of the invariant.
-use Rattle.std.proofs.Common.{◌≡◌, ◌≢◌, ℕ, zero, suc, ◌+◌, ◌-◌, ◌<◌, ◌≤◌, List, [], ◌∷◌, ◌++◌, length, Option, Some, None, Bool, true, false, ◌==◌, ◌&&◌, ◌||◌, refl, sym, ap, ◌∙◌, subst, ⊎_elim, inl, inr, arith, drop}
-use Rattle.std.specs.Prelude.{◌⊎◌, if◌then◌else◌, not, nat_lt, nat_le, map, slice_get, option_map, filter}
+use Rattle.std.proofs.Common.{◌≡◌, ℕ, List, [], ◌∷◌, ◌++◌, Option, Some, None, Bool, true, false, ◌==◌, ◌||◌, refl, sym, ap, ◌∙◌, subst, ⊎_elim, drop}
+use Rattle.std.specs.Prelude.{if◌then◌else◌, not, map, slice_get, filter}
 use Rattle.relay_action.specs.declared.write.Write.{Write}
 use Rattle.relay_results.specs.declared.outcome.Outcome.{Outcome}
 use Rattle.relay_results.specs.Fates.{Fate, Flies, Applied, Already, Retried, Reported}
-use Rattle.relay_delivery.specs.Lane.{Flying, is_other}
+use Rattle.relay_delivery.specs.Lane.{is_other}
 use Rattle.relay_results.proofs.Lists.{true_or_false, equal, equal_test}
 use Rattle.relay_core.specs.declared.kept.Kept.{Kept}
 use Rattle.relay_core.specs.declared.kept.Sent.{Sent}
 use Rattle.relay_core.specs.declared.kept.Spot.{Spot}
-use Rattle.relay_core.specs.Walk.{flies_here, fate_met, met_one, met_list, met_maybe, stays, kept_walk}
+use Rattle.relay_core.specs.Walk.{flies_here, fate_met, met_maybe, kept_walk}
 use Rattle.relay_core.specs.Memory.{has_number, writes_in, without, flying_of, Given, further, rest_if, IsMet, Carries, NoneTwice}
 
 -- the writes of the other requests stay

@@ -1,19 +1,16 @@
 -- A batch is sent: the held list as it is read afterwards, and what is kept.
-use Rattle.std.proofs.Common.{◌≡◌, ◌≢◌, ℕ, zero, suc, ◌+◌, ◌-◌, ◌<◌, ◌≤◌, List, [], ◌∷◌, ◌++◌, length, Option, Some, None, Bool, true, false, ◌==◌, ◌&&◌, ◌||◌, refl, sym, ap, ◌∙◌, subst, ⊎_elim, inl, inr, arith, drop, append_assoc, length-append}
-use Rattle.std.specs.Prelude.{◌⊎◌, if◌then◌else◌, not, nat_lt, nat_le, map, slice_get, option_map, option_to_list}
+use Rattle.std.proofs.Common.{◌≡◌, ℕ, ◌+◌, ◌<◌, ◌≤◌, List, [], ◌∷◌, ◌++◌, length, Option, Some, None, true, false, ◌==◌, refl, sym, ap, subst, ⊎_elim, inl, inr, arith, drop}
+use Rattle.std.specs.Prelude.{if◌then◌else◌, map, option_to_list}
 use Rattle.std.proofs.lemmas.Bool.{lt-ltb}
 use Rattle.relay_action.specs.declared.write.Write.{Write}
 use Rattle.relay_batch.specs.declared.item.BatchItem.{BatchItem}
 use Rattle.relay_results.specs.Words.{IsSubsequence}
-use Rattle.relay_results.proofs.Lists.{true_or_false, equal, equal_test, and_left, and_right}
-use Rattle.relay_delivery.specs.Machine.{Held, Place, place_of, launched, launched_at}
-use Rattle.relay_delivery.specs.Lane.{Entry, held_of, launched_entry}
+use Rattle.relay_results.proofs.Lists.{true_or_false, equal, equal_test, and_right}
 use Rattle.relay_core.specs.declared.kept.Kept.{Kept}
-use Rattle.relay_core.specs.declared.kept.Sent.{Sent}
 use Rattle.relay_core.specs.declared.kept.Spot.{Spot}
-use Rattle.relay_core.specs.Walk.{waits_here, flies_here, item_of_kept, more, is_next, launch_one, launched_kept, freight}
-use Rattle.relay_core.specs.Memory.{has_number, writes_in, write_found, action_or, held_seen, entry_of, entries, place_at, IsWriteOf, IsHome, IsKept, AllKept, AllAbove, AllUnder, Rises, NoneTwice, SameNumbers, Given, further, rest_if, IsMet, Carries, tries_left}
-use Rattle.relay_core.proofs.Launching.{AllWait, loads, Home, home_of, above_sub, waits_none, is_its, is_later_one}
+use Rattle.relay_core.specs.Walk.{flies_here, item_of_kept, more, is_next, launch_one, launched_kept, freight}
+use Rattle.relay_core.specs.Memory.{IsHome, IsKept, AllKept, AllAbove, AllUnder, Rises, Given, further, rest_if, IsMet, Carries, tries_left}
+use Rattle.relay_core.proofs.Launching.{AllWait, Home, home_of, above_sub, waits_none, is_its, is_later_one}
 
 -- ---- versions
 

@@ -1,25 +1,20 @@
 -- A batch is sent: what it makes of the held list, as it is read.
-use Rattle.std.proofs.Common.{◌≡◌, ℕ, zero, suc, ◌+◌, ◌-◌, ◌<◌, ◌≤◌, List, [], ◌∷◌, ◌++◌, length, Option, Some, None, Bool, true, false, ◌==◌, ◌&&◌, ◌||◌, refl, sym, ap, ◌∙◌, subst, ⊎_elim, inl, inr, arith, drop, append_assoc, length-append}
-use Rattle.std.specs.Prelude.{◌⊎◌, if◌then◌else◌, not, nat_lt, nat_le, map, filter, slice_get, option_map, option_to_list}
-use Rattle.std.proofs.lemmas.Bool.{lt-ltb}
-use borrow.Author.Tests.{ltb-true}
+use Rattle.std.proofs.Common.{◌≡◌, ℕ, ◌<◌, List, [], ◌∷◌, ◌++◌, Option, Some, None, true, false, ◌==◌, ◌&&◌, refl, sym, ap, ◌∙◌, subst, ⊎_elim, inl, inr, arith, append_assoc}
+use Rattle.std.specs.Prelude.{if◌then◌else◌, map, filter, option_to_list}
 use Rattle.relay_action.specs.declared.write.Write.{Write}
 use Rattle.relay_batch.specs.declared.item.BatchItem.{BatchItem}
 use Rattle.relay_batch.specs.Gathering.{Gathering, answer_to}
 use Rattle.relay_batch.specs.declared.offer.Offer.{Offer}
 use Rattle.relay_batch.specs.declared.offer.Offer.TheVariants.{Busy, Closed, Added}
 use Rattle.relay_results.specs.Words.{IsSubsequence}
-use Rattle.relay_results.specs.Documents.{document_of}
 use Rattle.relay_results.proofs.Lists.{true_or_false, equal, equal_test, and_left, filter_sub, sub_joined, Mem-sub, Mem-filter}
-use Rattle.relay_results.specs.Words.{Mem}
-use Rattle.relay_delivery.specs.Machine.{Held, Place, write_of, place_of, launched, launched_at}
-use Rattle.relay_delivery.specs.Lane.{Entry, Flying, held_of, launched_entry, writes_of_all}
+use Rattle.relay_delivery.specs.Machine.{write_of}
+use Rattle.relay_delivery.specs.Lane.{Entry, writes_of_all}
 use Rattle.relay_core.specs.declared.kept.Kept.{Kept}
-use Rattle.relay_core.specs.declared.kept.Sent.{Sent}
 use Rattle.relay_core.specs.declared.kept.Spot.{Spot}
 use Rattle.relay_core.specs.Rule.{by_answer, chosen, item_of, offered, with_item}
-use Rattle.relay_core.specs.Walk.{waits_here, flies_here, is_candidate_kept, item_of_kept, items_of_kept, more, is_next, launch_one, launched_kept, freight}
-use Rattle.relay_core.specs.Memory.{write_found, action_or, op_of, held_seen, entry_of, entries, place_at, IsWriteOf, IsHome, IsKept, AllKept, AllAbove, AllUnder, Rises, Given, further, rest_if, IsMet, Carries, tries_left}
+use Rattle.relay_core.specs.Walk.{waits_here, is_candidate_kept, item_of_kept, is_next, freight}
+use Rattle.relay_core.specs.Memory.{write_found, action_or, held_seen, entry_of, entries, IsWriteOf, IsHome, IsKept, AllKept, AllAbove, Rises}
 
 -- ---- what is gathered, and of which operations
 

@@ -1,7 +1,6 @@
 -- Until when no batch can be due.
-use Rattle.std.proofs.Common.{◌≡◌, ℕ, ◌+◌, ◌-◌, ◌<◌, ◌≤◌, List, [], ◌∷◌, ◌++◌, length, Option, Some, None, Bool, true, false, ◌&&◌, ◌||◌, refl, sym, ap, ◌∙◌, subst, ⊎_elim, arith, length-append}
-use Rattle.std.specs.Prelude.{◌⊎◌, if◌then◌else◌, not, nat_lt, nat_le, map, filter}
-use Rattle.std.specs.List.{list_any}
+use Rattle.std.proofs.Common.{◌≡◌, ℕ, ◌+◌, ◌-◌, ◌<◌, ◌≤◌, List, [], ◌∷◌, ◌++◌, length, None, Bool, true, false, ◌&&◌, ◌||◌, refl, sym, ap, ◌∙◌, subst, arith, length-append}
+use Rattle.std.specs.Prelude.{if◌then◌else◌, not, nat_lt, nat_le, map, filter}
 use Rattle.std.proofs.lemmas.Bool.{ltb-true, lt-ltb, lt-leb, leb-false}
 use Rattle.std.proofs.lemmas.List.{map-append, append-nil}
 use Rattle.std.proofs.lemmas.List.Elements.{filter-append}
@@ -14,9 +13,9 @@ use Rattle.relay_batch.specs.declared.offer.Offer.TheVariants.{Busy, Closed, Add
 use Rattle.relay_batch.specs.Batches.{bytes_of}
 use Rattle.relay_batch.specs.Gathering.{Gathering, answer_to, holds_document, is_count_reached, passes_bytes, is_lingered, is_ready, room_of}
 use Rattle.relay_results.specs.Documents.{Document, document_of, same_document}
-use Rattle.relay_results.proofs.Lists.{true_or_false, and_left, and_right}
+use Rattle.relay_results.proofs.Lists.{and_left, and_right}
 use Rattle.relay_core.specs.declared.kept.Kept.{Kept}
-use Rattle.relay_core.specs.Rule.{by_answer, with_item, offered, closes, is_marked, goes, batch_if, batch_of}
+use Rattle.relay_core.specs.Rule.{by_answer, with_item, offered, closes, is_marked, batch_if, batch_of}
 use Rattle.relay_core.specs.Walk.{waits_here, is_later_kept, is_candidate_kept, item_of_kept, items_of_kept}
 use Rattle.relay_core.specs.Memory.{AllUnder}
 use Rattle.relay_core.specs.Quiet.{empty, is_roomy, no_room, less, IsQuiet}

@@ -1,11 +1,9 @@
 -- What is read of the held list, and who is a candidate.
-use Rattle.std.proofs.Common.{◌≡◌, ℕ, zero, suc, ◌+◌, ◌-◌, ◌<◌, ◌≤◌, List, [], ◌∷◌, ◌++◌, length, Option, Some, None, Bool, true, false, ◌==◌, ◌&&◌, ◌||◌, refl, sym, ap, ◌∙◌, subst, ⊎_elim, inl, inr, arith, drop}
-use Rattle.std.specs.Prelude.{◌⊎◌, if◌then◌else◌, not, nat_lt, nat_le, map, filter, slice_get, option_map, Result, Ok, Err, IfOk, OnErr, IfSome, is_some}
+use Rattle.std.proofs.Common.{◌≡◌, ℕ, zero, suc, ◌+◌, ◌-◌, ◌≤◌, List, [], ◌∷◌, Option, Some, None, true, false, ◌==◌, ◌&&◌, ◌||◌, refl, sym, ap, ◌∙◌, ⊎_elim, inl, inr, arith}
+use Rattle.std.specs.Prelude.{◌⊎◌, if◌then◌else◌, not, nat_lt, nat_le, map, filter, option_map, Result, Ok, Err, IfOk, OnErr, IfSome}
 use Rattle.std.specs.List.{list_any}
 use Rattle.relay_action.specs.declared.write.Write.{Write}
-use Rattle.relay_batch.specs.declared.item.BatchItem.{BatchItem}
-use Rattle.relay_results.specs.Documents.{Document, document_of, same_document}
-use Rattle.relay_delivery.specs.Machine.{Held}
+use Rattle.relay_results.specs.Documents.{document_of, same_document}
 use Rattle.relay_core.specs.State.{State, is_eligible, first_due, sooner, due_in}
 use Rattle.relay_delivery.specs.Lane as delivery
 use Rattle.relay_delivery.specs.Lane.{Entry, Flying, writes_at, held_of, waits, is_later, is_candidate, candidates}

@@ -1,18 +1,18 @@
 -- A batch is sent: the held list as it is read afterwards is the one before with those of the batch sent.
-use Rattle.std.proofs.Common.{◌≡◌, ◌≢◌, ℕ, zero, suc, ◌+◌, ◌-◌, ◌<◌, ◌≤◌, List, [], ◌∷◌, ◌++◌, length, Option, Some, None, Bool, true, false, ◌==◌, ◌&&◌, ◌||◌, refl, sym, ap, ◌∙◌, subst, ⊎_elim, inl, inr, arith, drop, get_or, append_assoc, length-append}
-use Rattle.std.specs.Prelude.{◌⊎◌, if◌then◌else◌, not, nat_lt, nat_le, map, slice_get, option_map, option_to_list}
+use Rattle.std.proofs.Common.{◌≡◌, ◌≢◌, ℕ, suc, ◌+◌, ◌-◌, ◌<◌, ◌≤◌, List, [], ◌∷◌, ◌++◌, length, Option, Some, None, Bool, true, false, ◌==◌, ◌||◌, refl, sym, ap, ◌∙◌, subst, ⊎_elim, inl, inr, arith, get_or, append_assoc, length-append}
+use Rattle.std.specs.Prelude.{if◌then◌else◌, map, slice_get, option_map, option_to_list}
 use Rattle.relay_action.specs.declared.write.Write.{Write}
 use Rattle.relay_batch.specs.declared.item.BatchItem.{BatchItem}
 use Rattle.relay_flight.specs.Flying.{Flying, IsFlight}
 use Rattle.relay_results.specs.Words.{Mem, IsSubsequence}
 use Rattle.relay_results.proofs.Lists.{true_or_false, equal, equal_test}
-use Rattle.relay_delivery.specs.Machine.{Held, Place, place_of, launched, launched_at}
-use Rattle.relay_delivery.specs.Lane.{Entry, held_of, launched_entry}
+use Rattle.relay_delivery.specs.Machine.{Held, place_of, launched_at}
+use Rattle.relay_delivery.specs.Lane.{held_of, launched_entry}
 use Rattle.relay_core.specs.declared.kept.Kept.{Kept}
 use Rattle.relay_core.specs.declared.kept.Sent.{Sent}
 use Rattle.relay_core.specs.declared.kept.Spot.{Spot}
-use Rattle.relay_core.specs.Walk.{waits_here, item_of_kept, is_next, more, launch_one, launched_kept}
-use Rattle.relay_core.specs.Memory.{has_number, writes_in, write_found, action_or, op_of, held_seen, entry_of, entries, place_at, IsHome, IsKept, AllKept, AllAbove, Rises, NoneTwice, SameNumbers}
+use Rattle.relay_core.specs.Walk.{item_of_kept, launch_one, launched_kept}
+use Rattle.relay_core.specs.Memory.{has_number, writes_in, write_found, action_or, held_seen, entry_of, entries, place_at, IsHome, IsKept, AllKept, AllAbove, Rises, NoneTwice, SameNumbers}
 use Rattle.relay_core.proofs.Launching.{AllWait, loads, Home, home_of, above_sub, is_its, is_later_one}
 use Rattle.relay_core.proofs.Launched.{more_is}
 use Rattle.relay_core.proofs.Keeping.{or_false}

@@ -1,25 +1,24 @@
 -- What an answer makes of the held list, as it is read.
-use Rattle.std.proofs.Common.{◌≡◌, ℕ, zero, suc, ◌+◌, ◌<◌, ◌≤◌, List, [], ◌∷◌, ◌++◌, length, Option, Some, None, Bool, true, false, ◌==◌, ◌&&◌, ◌||◌, refl, sym, ap, ◌∙◌, subst, ⊎_elim, inl, inr, arith, drop}
-use Rattle.std.specs.Prelude.{◌⊎◌, if◌then◌else◌, not, nat_lt, nat_le, map, slice_get, option_map}
+use Rattle.std.proofs.Common.{◌≡◌, ℕ, zero, suc, ◌+◌, List, [], ◌∷◌, ◌++◌, Option, Some, None, Bool, true, false, ◌==◌, refl, sym, ap, ◌∙◌, subst, ⊎_elim, arith, drop}
+use Rattle.std.specs.Prelude.{if◌then◌else◌, nat_lt, slice_get, option_map}
 use Rattle.relay_action.specs.Actions.{kind_of}
 use Rattle.relay_action.specs.declared.write.Write.{Write}
-use Rattle.relay_action.specs.declared.action.Action.{Action}
 use Rattle.relay_action.specs.declared.action.ActionKind.{ActionKind}
 use Rattle.relay_results.specs.declared.outcome.Outcome.{Outcome}
 use Rattle.relay_results.specs.declared.decide.ItemVerdict.{ItemVerdict}
 use Rattle.relay_results.specs.declared.decide.ItemVerdict.TheVariants as verdict
-use Rattle.relay_results.specs.Words.{count, one_if}
+use Rattle.relay_results.specs.Words.{one_if}
 use Rattle.relay_results.specs.Documents.{document_of}
 use Rattle.relay_results.specs.Outside.{Answer}
 use Rattle.relay_results.specs.declared.cause.Cause.TheVariants as cause
 use Rattle.relay_results.specs.Fates.{Fate, Flies, Applied, Already, Retried, Reported, Tries, tried_again, fate, fate_of_entry, fate_of_verdict}
-use Rattle.relay_delivery.specs.Machine.{Config, Held, Place, Report, fate_of, reported_one, reported, how_many}
+use Rattle.relay_delivery.specs.Machine.{Config, fate_of, reported_one, reported, how_many}
 use Rattle.relay_delivery.specs.Lane.{Entry, held_of, kept_entry, kept_entries}
-use Rattle.relay_results.proofs.Lists.{true_or_false, equal, equal_test}
+use Rattle.relay_results.proofs.Lists.{true_or_false, equal_test}
 use Rattle.relay_core.specs.declared.kept.Kept.{Kept}
 use Rattle.relay_core.specs.declared.kept.Spot.{Spot}
-use Rattle.relay_core.specs.Walk.{flies_here, fate_or, fate_met, met_list, met_maybe, reports_one, reports_list, reports_maybe, tally, tally_maybe, kept_walk, reports_walk, tally_walk}
-use Rattle.relay_core.specs.Memory.{place_at, write_found, action_or, op_of, held_seen, entry_of, entries, IsWriteOf, Given, further, rest_if, IsMet, Carries, IsHome, IsKept, AllKept, SaysAs}
+use Rattle.relay_core.specs.Walk.{flies_here, fate_or, fate_met, met_list, met_maybe, reports_list, reports_maybe, tally, tally_maybe, kept_walk, reports_walk, tally_walk}
+use Rattle.relay_core.specs.Memory.{place_at, write_found, action_or, held_seen, entry_of, entries, Given, further, rest_if, IsMet, Carries, IsHome, IsKept, AllKept, SaysAs}
 
 -- a fate that settles
 abbrev pub settles : Fate → Bool

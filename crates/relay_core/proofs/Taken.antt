@@ -1,12 +1,12 @@
 -- An operation is taken.
-use Rattle.std.proofs.Common.{◌≡◌, ℕ, zero, suc, ◌+◌, ◌-◌, ◌<◌, ◌≤◌, List, [], ◌∷◌, ◌++◌, length, Option, Some, None, Bool, true, false, ◌==◌, refl, sym, ap, ◌∙◌, subst, ⊎_elim, inl, inr, arith}
-use Rattle.std.specs.Prelude.{◌⊎◌, if◌then◌else◌, map, nat_lt, Result, Ok, Err, is_ok, OnOk}
+use Rattle.std.proofs.Common.{◌≡◌, ℕ, suc, ◌+◌, ◌-◌, ◌<◌, ◌≤◌, List, [], ◌∷◌, ◌++◌, length, true, false, refl, sym, ap, subst, ⊎_elim, arith}
+use Rattle.std.specs.Prelude.{nat_lt, Result, Ok, Err, is_ok, OnOk}
 use borrow.Author.Tests.{ltb-true}
 use Rattle.relay_action.specs.declared.write.Write.{Write}
 use Rattle.relay_action.specs.declared.operation.Op.{Op}
 use Rattle.relay_ndjson.specs.Bulk.{write_text}
 use Rattle.relay_results.specs.Documents.{write_for}
-use Rattle.relay_delivery.specs.Lane.{Entry, State, entry_at}
+use Rattle.relay_delivery.specs.Lane.{State, entry_at}
 use Rattle.relay_results.proofs.Lists.{true_or_false}
 use Rattle.relay_core.specs.declared.kept.Kept.{Kept}
 use Rattle.relay_core.specs.declared.kept.Sent.{Sent}

@@ -1,19 +1,16 @@
 -- Each call of a lane is a step of delivery, or none.
-use Rattle.std.proofs.Common.{◌≡◌, ℕ, ◌+◌, List, [], ◌∷◌, ◌++◌, Option, Some, refl, sym, ap, ◌∙◌, subst, inl, inr}
-use Rattle.relay_action.specs.declared.operation.Op.{Op}
-use Rattle.relay_action.specs.declared.mail.Body.{Body}
+use Rattle.std.proofs.Common.{◌≡◌, List, [], ◌∷◌, ◌++◌, refl, sym, ap, subst, inl, inr}
 use Rattle.relay_action.specs.declared.mail.Body.TheVariants as body
-use Rattle.relay_batch.specs.declared.item.BatchItem.{BatchItem}
 use Rattle.relay_batch.specs.Gathering.{Gathering, answer_to}
 use Rattle.relay_batch.specs.declared.offer.Offer.{Offer}
 use Rattle.relay_batch.specs.declared.offer.Offer.TheVariants.{Busy, Closed, Added}
 use Rattle.relay_results.specs.Words.{IsSubsequence}
-use Rattle.relay_results.specs.Outside.{Outside, Sends, after}
+use Rattle.relay_results.specs.Outside.{Sends, after}
 use Rattle.relay_delivery.specs.Lane.{Entry, candidates, writes_of_all}
 use Rattle.relay_delivery.proofs.Fitting as delivery
 use Rattle.relay_core.specs.Rule.{by_answer, chosen, item_of, with_item}
-use Rattle.relay_core.specs.State.{State, config_of, later, bytes_of, after_take, gathering, next_entries, after_request}
-use Rattle.relay_core.specs.Ties.{Fits, ops_of, FreshFits, TakeFits, RequestFits, RunFits, AnswerFits}
+use Rattle.relay_core.specs.State.{config_of, later, bytes_of, after_take, gathering, next_entries, after_request}
+use Rattle.relay_core.specs.Ties.{Fits, FreshFits, TakeFits, RequestFits, RunFits, AnswerFits}
 
 pub fresh_fits : FreshFits
 fresh_fits c out opening below = delivery.fresh_fits (config_of c) out opening below

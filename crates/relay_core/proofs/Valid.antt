@@ -1,5 +1,5 @@
 -- What a valid config has.
-use Rattle.std.proofs.Common.{◌≡◌, ℕ, ◌+◌, ◌≤◌, Bool, true, false, ◌&&◌, arith}
+use Rattle.std.proofs.Common.{◌≡◌, ℕ, ◌≤◌, true}
 use Rattle.std.specs.Prelude.{nat_le}
 use borrow.Author.Tests.{leb-true}
 use Rattle.relay_results.proofs.Lists.{and_left, and_right}

@@ -1,7 +1,6 @@
 -- What is gathered keeps the limits of a batch, and its bytes are those of the text that is sent.
-use Rattle.std.proofs.Common.{◌≡◌, ◌≢◌, ℕ, zero, suc, ◌+◌, ◌<◌, ◌≤◌, List, [], ◌∷◌, ◌++◌, length, Option, Some, None, Bool, true, false, refl, sym, ap, ◌∙◌, subst, inl, inr, ⊎_elim, arith, length-append}
-use Rattle.std.specs.Prelude.{◌||◌, ◌&&◌, ◌==◌, All, AllPairs, map, nat_lt, nat_le, sum_by, option_map, if◌then◌else◌}
-use Rattle.std.specs.List.{list_any}
+use Rattle.std.proofs.Common.{◌≡◌, ◌≢◌, suc, ◌+◌, ◌<◌, ◌≤◌, List, [], ◌∷◌, ◌++◌, length, Bool, true, false, refl, ap, ◌∙◌, subst, inl, inr, arith, length-append}
+use Rattle.std.specs.Prelude.{◌||◌, ◌&&◌, ◌==◌, map, nat_lt, if◌then◌else◌}
 use Rattle.std.proofs.lemmas.List.Elements.{All-push}
 use Rattle.std.proofs.lemmas.List.Kept.{AllPairs-cons}
 use Rattle.std.proofs.lemmas.List.Sums.{sum_by_push, sum_by-cons}
@@ -18,8 +17,8 @@ use Rattle.relay_results.proofs.Lists.{equal_test}
 use Rattle.relay_delivery.specs.Machine.{write_of}
 use Rattle.relay_delivery.specs.Lane.{Entry, candidates, writes_of_all}
 use Rattle.relay_core.specs.Rule.{by_answer, with_item, offered, item_of}
-use Rattle.relay_core.specs.State.{State, IsLane, gathering, next_entries, next_batch}
-use Rattle.relay_core.specs.Flights.{KeepsLimits, RequestsKeepLimits}
+use Rattle.relay_core.specs.State.{gathering, next_entries}
+use Rattle.relay_core.specs.Flights.{RequestsKeepLimits}
 use Rattle.relay_core.proofs.Flights.{earlier_ones_settled}
 use Rattle.relay_core.proofs.Forming.{items_of_operations, batch_offered}
 

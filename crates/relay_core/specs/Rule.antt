@@ -1,13 +1,12 @@
 -- The sending rule: what is gathered of the candidates, and when it is sent.
-use Rattle.std.specs.Prelude.{ℕ, ◌+◌, List, [], ◌∷◌, ◌++◌, Option, Some, None, Bool, true, false, ◌&&◌, ◌||◌, not, nat_lt, nat_le, filter, map, length, if◌then◌else◌}
-use Rattle.std.specs.List.{list_any}
+use Rattle.std.specs.Prelude.{ℕ, List, [], ◌∷◌, ◌++◌, Option, Some, None, Bool, true, false, ◌&&◌, ◌||◌, nat_lt, nat_le, length}
 use Rattle.relay_batch.specs.declared.item.Limits.{Limits}
 use Rattle.relay_batch.specs.declared.item.BatchItem.{BatchItem}
 use Rattle.relay_batch.specs.declared.offer.Offer.{Offer}
 use Rattle.relay_batch.specs.declared.offer.Offer.TheVariants.{Busy, Closed, Added}
 use Rattle.relay_batch.specs.Gathering.{Gathering, answer_to, is_ready}
-use Rattle.relay_results.specs.Documents.{Document, document_of, same_document, name_of}
-use Rattle.relay_delivery.specs.Lane.{Entry, State, candidates}
+use Rattle.relay_results.specs.Documents.{name_of}
+use Rattle.relay_delivery.specs.Lane.{Entry}
 
 -- by the answer to an offer
 abbrev pub by_answer : {A : Type 0} → Offer → A → A → A → A

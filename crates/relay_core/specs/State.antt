@@ -1,9 +1,8 @@
 -- A lane as its callers see it, and what each call makes of it.
-use Rattle.std.specs.Prelude.{◌≡◌, ℕ, ◌+◌, ◌-◌, ◌^◌, ◌≤◌, List, [], ◌∷◌, ◌++◌, Option, Some, None, option_map, Bool, not, true, false, ◌==◌, ◌&&◌, nat_lt, min, map, filter, length, replicate, slice_set, slice_index_or, if◌then◌else◌}
+use Rattle.std.specs.Prelude.{◌≡◌, ℕ, ◌+◌, ◌-◌, ◌^◌, ◌≤◌, List, [], ◌∷◌, Option, Some, None, option_map, Bool, not, true, false, ◌==◌, ◌&&◌, nat_lt, min, map, filter, length, replicate, slice_set, slice_index_or, if◌then◌else◌}
 use Rattle.std.specs.List.{list_all}
 use Rattle.relay_action.specs.declared.write.Write.{Write}
 use Rattle.relay_action.specs.declared.operation.Op.{Op}
-use Rattle.relay_action.specs.declared.mail.Mail.{Mail}
 use Rattle.relay_action.specs.declared.mail.Body.{Body}
 use Rattle.relay_action.specs.declared.mail.Body.TheVariants as body
 use Rattle.relay_ndjson.specs.Bulk.{write_text}
@@ -13,11 +12,10 @@ use Rattle.relay_flight.specs.Flying as flight
 use Rattle.relay_results.specs.Words.{Mem}
 use Rattle.relay_results.specs.Documents.{write_for}
 use Rattle.relay_results.specs.Numbers.{from_zero}
-use Rattle.relay_results.specs.Outside.{Answer, Items}
-use Rattle.relay_results.specs.Matching.{matches}
+use Rattle.relay_results.specs.Outside.{Answer}
 use Rattle.relay_results.specs.Fates as fates
 use Rattle.relay_delivery.specs.Causes.{deals_from}
-use Rattle.relay_delivery.specs.Machine.{Config, Held, version_at, write_of, how_many, is_applied_fate, is_already_fate}
+use Rattle.relay_delivery.specs.Machine.{Config, version_at, write_of, how_many, is_applied_fate, is_already_fate}
 use Rattle.relay_delivery.specs.Lane as delivery
 use Rattle.relay_core.specs.declared.config.RelayConfig.{RelayConfig}
 use Rattle.relay_core.specs.declared.settled.TakeFault.{TakeFault}

@@ -1,11 +1,11 @@
 -- How the fields of a lane are read, and what always holds of them.
-use Rattle.std.specs.Prelude.{◌≡◌, ℕ, ◌+◌, ◌-◌, ◌*◌, ◌^◌, ◌<◌, ◌≤◌, Bool, true, map, min, length, vec_len, vec_capacity}
+use Rattle.std.specs.Prelude.{◌≡◌, ◌+◌, ◌-◌, ◌*◌, ◌^◌, ◌≤◌, Bool, true, map, min, vec_len, vec_capacity}
 use Rattle.std.specs.List.{list_all}
 use Rattle.relay_flight.specs.Flying.{IsFlight}
 use Rattle.relay_delivery.specs.Causes.{deals_from}
 use Rattle.relay_core.specs.declared.lane.Lane.TheInside.{Inside}
 use Rattle.relay_core.specs.Limits.{is_valid}
-use Rattle.relay_core.specs.State.{State, config_of}
+use Rattle.relay_core.specs.State.{State}
 use Rattle.relay_core.specs.Memory.{entries, writes_in, flying_of, IsReadable, SameNumbers, AllUnder, tries_left}
 use Rattle.relay_core.specs.Walk.{report_of, items_of_kept}
 use Rattle.relay_core.specs.Quiet.{is_roomy, IsQuiet}

@@ -1,5 +1,5 @@
 -- The held list as it stands in memory, and the walks over it.
-use Rattle.std.specs.Prelude.{◌≡◌, ℕ, ◌+◌, ◌-◌, ◌^◌, List, [], ◌∷◌, ◌++◌, Option, Some, None, Bool, true, false, ◌&&◌, ◌==◌, not, nat_lt, nat_le, min, drop, filter, map, slice_get, option_to_list, if◌then◌else◌}
+use Rattle.std.specs.Prelude.{ℕ, ◌+◌, List, [], ◌∷◌, ◌++◌, Option, Some, None, Bool, true, false, ◌&&◌, ◌==◌, not, nat_lt, nat_le, drop, filter, map, slice_get, option_to_list, if◌then◌else◌}
 use Rattle.std.specs.List.{list_any}
 use Rattle.relay_action.specs.declared.write.Write.{Write}
 use Rattle.relay_batch.specs.declared.item.BatchItem.{BatchItem}
@@ -9,7 +9,6 @@ use Rattle.relay_results.specs.Fates.{fate_of_entry}
 use Rattle.relay_results.specs.Fates as of
 use Rattle.relay_delivery.specs.Machine as machine
 use Rattle.relay_delivery.specs.Lane.{backoff}
-use Rattle.relay_action.specs.declared.text.Text.{Text}
 use Rattle.relay_results.specs.declared.cause.Cause.TheVariants as cause
 use Rattle.relay_core.specs.State.{sooner}
 use Rattle.relay_core.specs.declared.kept.Kept.{Kept}

@@ -303,7 +303,10 @@ impl Lane {
         ensures candidates { OnErr result (0 < length (candidates self.old.core)) }
         ensures free { IfOk result (λ b. IfSome b (λ x. length self.old.flights.batches < self.old.config.in_flight)) }
     {
-        if is_roomy(self.room) || self.flight.flying() >= self.config.in_flight {
+        if is_roomy(self.room) {
+            return Ok(None);
+        }
+        if self.flight.flying() >= self.config.in_flight {
             return Ok(None);
         }
         let Due { batch, room } = due_batch(
@@ -311,7 +314,7 @@ impl Lane {
             &self.held,
             self.clock,
             self.mark,
-            are_closed(&self.closed),
+            self.closed(),
             self.config.limits,
         )?;
         self.room = room;

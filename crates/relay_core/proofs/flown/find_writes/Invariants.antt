@@ -1,4 +1,4 @@
-use Rattle.std.proofs.Common.{◌≡◌, ◌++◌, take, drop}
+use Rattle.std.proofs.Common.{◌≡◌, drop}
 use Rattle.relay_core.specs.Memory.{has_number, writes_in}
 use Rattle.relay_core.proofs.flown.find_writes.Given as goal
 

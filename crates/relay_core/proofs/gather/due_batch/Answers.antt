@@ -1,4 +1,4 @@
-use Rattle.std.proofs.Common.{◌≡◌, List, ◌<◌, ◌||◌, sym, ap, ◌∙◌, subst, length}
+use Rattle.std.proofs.Common.{List, ◌<◌, sym, ap, ◌∙◌, subst, length}
 use Rattle.relay_batch.specs.declared.item.BatchItem.{BatchItem}
 use Rattle.relay_batch.specs.Gathering.{Gathering, is_ready, room_of}
 use Rattle.relay_core.specs.Rule.{is_marked}

@@ -1,4 +1,4 @@
-use Rattle.std.proofs.Common.{◌≡◌, ◌≤◌, ℕ, drop, length}
+use Rattle.std.proofs.Common.{◌≡◌, ◌≤◌, drop, length}
 use Rattle.std.specs.Prelude.{filter}
 use Rattle.relay_core.specs.Walk.{is_eligible_kept, first_due_kept}
 use Rattle.relay_core.proofs.gather.first_due.Given as goal

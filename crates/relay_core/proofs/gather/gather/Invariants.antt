@@ -1,4 +1,4 @@
-use Rattle.std.proofs.Common.{◌≡◌, ◌+◌, ◌-◌, ◌≤◌, ◌++◌, [], length, take, drop}
+use Rattle.std.proofs.Common.{◌≡◌, ◌≤◌, [], length, take, drop}
 use Rattle.relay_core.specs.Walk.{items_of_kept}
 use Rattle.relay_core.specs.Rule.{offered, closes}
 use Rattle.relay_core.specs.Quiet.{AreMarked}

@@ -1,4 +1,4 @@
-use Rattle.std.proofs.Common.{◌≡◌, ◌+◌, ◌<◌, ◌++◌, ◌∷◌, [], suc, sym, ap, ◌∙◌, subst, take, drop, true, false, length, arith}
+use Rattle.std.proofs.Common.{◌≡◌, ◌+◌, ◌<◌, ◌++◌, ◌∷◌, [], suc, sym, ap, ◌∙◌, subst, take, true, false, length, arith}
 use Rattle.std.specs.Prelude.{slice_index_or, slice_set}
 use Rattle.std.proofs.Math.Seq.{take-suc}
 use Rattle.relay_results.proofs.Lists.{not_true}

@@ -1,4 +1,4 @@
-use Rattle.std.proofs.Common.{◌≡◌, ◌+◌, ◌-◌, ◌≤◌, ◌++◌, length, vec_len, vec_capacity, take, drop}
+use Rattle.std.proofs.Common.{◌≡◌, ◌+◌, ◌≤◌, ◌++◌, length, vec_len, vec_capacity, take, drop}
 use Rattle.relay_core.specs.Walk.{launched_kept, freight}
 use Rattle.relay_core.proofs.launch.launch.Given as goal
 

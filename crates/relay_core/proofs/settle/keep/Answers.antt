@@ -1,4 +1,4 @@
-use Rattle.std.proofs.Common.{◌≡◌, ◌+◌, drop, ◌∙◌, ap, arith}
+use Rattle.std.proofs.Common.{◌+◌, drop, ◌∙◌, ap, arith}
 use Rattle.relay_core.proofs.Swaps.{drop-swap}
 use Rattle.relay_core.proofs.settle.keep.Goals as goal
 

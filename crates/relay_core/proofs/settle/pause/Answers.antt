@@ -1,4 +1,4 @@
-use Rattle.std.proofs.Common.{◌≡◌, ◌-◌, ◌^◌, ◌≤◌, arith}
+use Rattle.std.proofs.Common.{◌-◌, ◌^◌, ◌≤◌, arith}
 use Rattle.std.proofs.Math.Pow.{pow_mono}
 use Rattle.relay_core.proofs.settle.pause.Goals as goal
 

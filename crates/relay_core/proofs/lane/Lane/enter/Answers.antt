@@ -1,22 +1,20 @@
-use Rattle.std.proofs.Common.{◌≡◌, ◌≢◌, ℕ, ◌==◌, ◌-◌, ◌+◌, ◌*◌, ◌<◌, ◌≤◌, ◌++◌, ◌∷◌, [], List, refl, sym, ap, ◌∙◌, subst, ⊎_elim, true, false, length, arith}
-use Rattle.std.specs.Prelude.{map, Some, min, nat_lt}
+use Rattle.std.proofs.Common.{◌≡◌, ℕ, ◌==◌, ◌-◌, ◌+◌, ◌<◌, ◌++◌, ◌∷◌, [], refl, sym, ap, ◌∙◌, subst, ⊎_elim, false, length, arith}
+use Rattle.std.specs.Prelude.{map, Some}
 use Rattle.std.proofs.lemmas.Bool.{lt-ltb}
 use Rattle.std.proofs.lemmas.List.{map-append}
-use Rattle.relay_action.specs.declared.write.Write.{Write}
-use Rattle.relay_batch.specs.declared.item.BatchItem.{BatchItem}
-use Rattle.relay_results.proofs.Lists.{true_or_false, equal, equal_test}
-use Rattle.relay_delivery.specs.Lane.{Entry, held_of, launched_entry, writes_of_all}
-use Rattle.relay_delivery.specs.Lane as delivery
+use Rattle.relay_results.proofs.Lists.{apart_tests, true_or_false, equal, equal_test}
+use Rattle.relay_delivery.specs.Lane.{held_of, launched_entry, writes_of_all}
 use Rattle.relay_flight.specs.Flying as flight
 use Rattle.relay_core.specs.declared.kept.Sent.{Sent}
 use Rattle.relay_core.specs.Walk.{item_of_kept, launched_kept, freight}
 use Rattle.relay_core.specs.State.{State, next_batch, next_entries, after_request}
-use Rattle.relay_core.specs.Memory.{entries, writes_in, flying_of, has_number, Carries, AllKept, AllUnder, Rises, NoneTwice, SameNumbers, tries_left, IsReadable}
+use Rattle.relay_core.specs.Memory.{entries, writes_in, flying_of, has_number, Carries, AllUnder, SameNumbers, tries_left, IsReadable}
 use Rattle.relay_core.specs.View.{seen}
 use Rattle.relay_core.proofs.Launching.{loads, freight_is, kept_sub, loads_seen}
 use Rattle.relay_core.proofs.Launched.{under_launched, rises_launched, all_launched, left_more, carries_new, carries_other}
 use Rattle.relay_core.proofs.Sending.{not_it, from_zero_on, launched_seen, none_above, once_more, writes_more_other, writes_more_here, beside_more, beside_length, all_below}
 use Rattle.relay_core.proofs.Forming.{formed, ok_const}
+use Rattle.relay_core.specs.Quiet.{is_roomy}
 use Rattle.relay_core.proofs.lane.Lane.enter.Goals as goal
 
 pub push_reserved-requires : goal.push_reserved-requires
@@ -130,4 +128,5 @@ invariant_of-self c =
           let l = v.left in omega (arith, a, b, l, next, begun));
       config = v.config;
       deals = v.deals;
+      quiet = λ roomy. absurd (apart_tests (ap is_roomy (sym c.no_room-self-inside.ensures) ∙ roomy));
     }

@@ -1,4 +1,3 @@
-use Rattle.std.proofs.Common.{◌≡◌, ap, ◌∙◌}
 use Rattle.relay_core.proofs.Reading.{number_zero}
 use Rattle.relay_core.proofs.lane.Lane.lost.Goals as goal
 

@@ -1,7 +1,9 @@
-use Rattle.std.proofs.Common.{◌≡◌, ℕ, ◌-◌, [], arith, refl, sym, ap, ◌∙◌, subst, rules}
+use Rattle.std.proofs.Common.{ℕ, [], arith, sym, ap, ◌∙◌, subst, rules}
 use Rattle.relay_flight.specs.Flying.{Flying, IsFlight}
 use Rattle.relay_core.specs.Memory.{AllKept, Rises, NoneTwice, Carries, writes_in, AllUnder, SameNumbers, tries_left}
 use Rattle.relay_core.proofs.Valid.{valid_facts}
+use Rattle.relay_results.proofs.Lists.{apart_tests}
+use Rattle.relay_core.specs.Quiet.{is_roomy}
 use Rattle.relay_core.proofs.lane.Lane.new.Goals as goal
 
 fresh_flight : (max : ℕ) → IsFlight (record { max = max; next = 1; batches = [] })
@@ -39,4 +41,5 @@ invariant_of-result c =
       left = (let a = ap (tries_left c.args.config.attempts) held in let b = ap (λ (x : Flying). x.next) flight in omega arith);
       config = c.requires;
       deals = deals;
+      quiet = λ roomy. absurd (apart_tests (ap is_roomy (sym c.no_room.ensures) ∙ roomy));
     }

@@ -1,4 +1,4 @@
-use Rattle.std.proofs.Common.{◌≡◌, sym, ◌∙◌}
+use Rattle.std.proofs.Common.{sym}
 use Rattle.relay_core.proofs.Reading.{flying_positive}
 use Rattle.relay_core.proofs.lane.Lane.reply.Goals as goal
 

@@ -1,11 +1,14 @@
-use Rattle.std.proofs.Common.{◌≡◌, ℕ, ◌==◌, ◌-◌, ◌+◌, ◌++◌, List, refl, sym, ap, ◌∙◌, subst, true, false, arith}
+use Rattle.std.proofs.Common.{◌≡◌, ℕ, ◌==◌, ◌-◌, ◌+◌, ◌++◌, refl, sym, ap, ◌∙◌, subst, false, arith}
 use Rattle.std.specs.Prelude.{map, None, is_some, min}
-use Rattle.relay_results.specs.Outside.{Answer}
 use Rattle.relay_results.specs.Fates.{Fate, Flies}
 use Rattle.relay_delivery.specs.Machine.{is_applied_fate, is_already_fate, how_many}
 use Rattle.relay_delivery.specs.Lane as core
 use Rattle.relay_flight.specs.Flying as flight
-use Rattle.relay_core.specs.Walk.{report_of, tally_walk}
+use Rattle.std.specs.Prelude.{Bool}
+use Rattle.std.specs.List.{list_all}
+use Rattle.relay_results.proofs.Lists.{apart_tests}
+use Rattle.relay_core.specs.Quiet.{is_roomy, IsQuiet}
+use Rattle.relay_core.specs.Walk.{report_of, tally_walk, items_of_kept}
 use Rattle.relay_core.specs.State.{State, is_flying, answered, writes_of, counted, is_reported_fate, is_retried_fate}
 use Rattle.relay_core.specs.Memory.{SaysAs, writes_in, without, entries, flying_of, AllUnder, SameNumbers, tries_left}
 use Rattle.relay_core.specs.View.{seen}
@@ -137,6 +140,7 @@ invariant_of-self c =
           let l = v.left in omega arith);
       config = v.config;
       deals = v.deals;
+      quiet = λ roomy. absurd (apart_tests (ap is_roomy (sym c.no_room-self-inside.ensures) ∙ roomy));
     }
 
 pub invariant_of-self-in-None : goal.invariant_of-self-in-None
@@ -166,4 +170,5 @@ invariant_of-self-in-None c =
       left = (let q = ap (tries_left i.config.attempts) e.same_held in let l = v.left in omega arith);
       config = v.config;
       deals = v.deals;
+      quiet = λ roomy. subst (λ hs. IsQuiet i.clock i.mark (list_all (λ (b : Bool). b) i.closed.items) i.config.limits (items_of_kept hs i.clock hs) i.room) (sym e.same_held) (v.quiet roomy);
     }

@@ -1,8 +1,6 @@
-use Rattle.std.proofs.Common.{◌≡◌, ◌-◌, ◌+◌, ◌*◌, ◌^◌, ◌≤◌, ℕ, length, subst, sym, ap, ◌∙◌, arith, rules}
-use Rattle.std.specs.Prelude.{min}
-use Rattle.relay_core.specs.State.{State, IsLane}
+use Rattle.std.proofs.Common.{◌-◌, subst, arith}
+use Rattle.relay_core.specs.State.{IsLane}
 use Rattle.relay_core.specs.Memory.{writes_in}
-use Rattle.relay_core.specs.View.{seen}
 use Rattle.relay_core.proofs.Taken.{entries_length}
 use Rattle.relay_core.proofs.Weighed.{weighed_seen}
 use Rattle.relay_core.proofs.lane.Lane.totals.Goals as goal

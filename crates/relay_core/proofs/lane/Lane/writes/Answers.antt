@@ -1,4 +1,4 @@
-use Rattle.std.proofs.Common.{◌≡◌, ◌-◌, List, sym, ap, ◌∙◌, arith}
+use Rattle.std.proofs.Common.{◌-◌, sym, ap, ◌∙◌, arith}
 use Rattle.relay_core.specs.State.{State, is_flying, writes_of}
 use Rattle.relay_core.specs.Memory.{has_number, writes_in}
 use Rattle.relay_core.proofs.Reading.{if_some_map, writes_seen, number_seen, number_zero}
