@@ -1,5 +1,5 @@
 -- A batch that is gathered: which answer an offer gets, and when the batch is ready.
-use Rattle.std.specs.Prelude.{ℕ, ◌+◌, ◌-◌, Bool, false, ◌||◌, ◌&&◌, ◌==◌, nat_lt, nat_le, if◌then◌else◌, List, [], ◌∷◌, ◌++◌, length, Result, Ok, Err}
+use Rattle.std.specs.Prelude.{ℕ, ◌≤◌, ◌+◌, ◌-◌, Bool, false, ◌||◌, ◌&&◌, ◌==◌, nat_lt, nat_le, if◌then◌else◌, List, [], ◌∷◌, ◌++◌, length, Result, Ok, Err}
 use Rattle.std.specs.List.{list_any}
 use Rattle.relay_batch.specs.Batches.{bytes_of}
 use Rattle.relay_batch.specs.declared.item.Limits.{Limits}
@@ -53,3 +53,8 @@ is_ready now g =
 -- what is left of the limits
 abbrev pub room_of : Gathering → Room
 room_of g = record { items = g.limits.count - length g.items; bytes = g.limits.bytes - bytes_of g.items }
+
+-- private: no item's document has a greater number
+abbrev pub AreUpTo : ℕ → List BatchItem → Type 0
+AreUpTo highest [] = Unit {0}
+AreUpTo highest (i ∷ is) = (i.doc ≤ highest) × AreUpTo highest is

@@ -1,7 +1,7 @@
 //! The batch that a lane gathers.
 ghost use Rattle.std.specs.Prelude.{◌≡◌, ◌+◌, [], MatchOption, OnErr, IfOk, None, Some, if◌then◌else◌};
 ghost use Rattle.relay_batch.specs.Batches.{IsBatch, bytes_of};
-ghost use Rattle.relay_batch.specs.Gathering.{holds_document, is_count_reached, passes_bytes, answer_to, after_offer, is_ready, room_of};
+ghost use Rattle.relay_batch.specs.Gathering.{holds_document, is_count_reached, passes_bytes, answer_to, after_offer, is_ready, room_of, AreUpTo};
 
 use crate::batch::Batch;
 use crate::item::{BatchItem, Limits, Room};
@@ -15,12 +15,14 @@ pub struct Batcher {
     limits: Limits,
     held: Vec<BatchItem>,
     total: u64,
+    // No item's document has a greater number.
+    highest: u64,
 }
 
 impl Model for Batcher {
     ghost use Rattle.std.specs.Prelude.{◌≡◌};
     ghost use Rattle.relay_batch.specs.Batches.{IsBatch, bytes_of};
-    ghost use Rattle.relay_batch.specs.Gathering.{Gathering};
+    ghost use Rattle.relay_batch.specs.Gathering.{Gathering, AreUpTo};
 
     ghost Value = { Gathering };
 
@@ -29,14 +31,17 @@ impl Model for Batcher {
     ghost invariant = { λ b. record {
       batch : IsBatch b.limits b.held.items;
       total : b.total ≡ bytes_of b.held.items;
+      highest : AreUpTo b.highest b.held.items;
     } };
 }
 
-// Whether an item of the document stands among the items.
-fn is_held(items: &[BatchItem], doc: u64) -> bool
+// Whether an item of the document stands among the items, of which none has a greater number than the
+// highest: where documents are offered in rising number none is looked at.
+fn is_held(items: &[BatchItem], highest: u64, doc: u64) -> bool
+    requires { AreUpTo highest items.now }
     ensures { result ≡ holds_document doc items.now }
 {
-    items.iter().any(|item| item.doc == doc)
+    doc <= highest && items.iter().any(|item| item.doc == doc)
 }
 
 impl Batcher {
@@ -48,6 +53,7 @@ impl Batcher {
             limits,
             held: Vec::new(alloc),
             total: 0,
+            highest: 0,
         }
     }
 
@@ -80,7 +86,7 @@ impl Batcher {
         ensures refused { OnErr result (answer_to item self.old ≡ Offer.Added) }
         ensures after { self.new ≡ after_offer item self.old result }
     {
-        if is_held(self.held.as_slice(), item.doc) {
+        if is_held(self.held.as_slice(), self.highest, item.doc) {
             return Ok(Offer::Busy);
         }
         if self.is_full() {
@@ -91,6 +97,7 @@ impl Batcher {
         };
         self.held.push(item)?;
         self.total = total;
+        self.highest = self.highest.max(item.doc);
         Ok(Offer::Added)
     }
 

@@ -1,6 +1,6 @@
 //! Offers and readiness at the limits, and what a closed batch holds.
 use crate::batcher::Batcher;
-use crate::item::{BatchItem, Limits};
+use crate::item::{BatchItem, Limits, Room};
 use crate::offer::Offer;
 use relay_action::OpName;
 use std::alloc::{AllocError, Global};
@@ -207,6 +207,31 @@ fn ten_thousand_items(rt: HostRuntime) -> Result<(), Fail> {
     assert_eq!(rt; batch.items().len(), 10_000);
     assert_eq!(rt; batch.items().first(), Some(&item(0, 1_677, 0)));
     assert_eq!(rt; batch.items().last(), Some(&item(9_999, 1_677, 0)));
+    Ok(())
+}
+
+// What is left of the limits.
+#[test]
+fn room_of_a_batch(rt: HostRuntime) -> Result<(), Fail> {
+    let rows = [
+        (&[] as &[(u64, u64, Offer)], 3, 1024),
+        (&[(1, 400, Offer::Added)], 2, 624),
+        (&[(1, 1024, Offer::Added)], 2, 0),
+        (&[(1, 5000, Offer::Added)], 2, 0),
+        (
+            &[
+                (1, 1, Offer::Added),
+                (2, 1, Offer::Added),
+                (3, 1, Offer::Added),
+            ],
+            0,
+            1021,
+        ),
+    ];
+    for (offers, items, bytes) in rows {
+        let batcher = gathered(&rt, rt.alloc(), LIMITS, offers)?;
+        assert_eq!(rt; batcher.room(), Room { items, bytes });
+    }
     Ok(())
 }
 

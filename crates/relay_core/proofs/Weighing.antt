@@ -12,6 +12,7 @@ use Rattle.relay_batch.specs.declared.offer.Offer.{Offer}
 use Rattle.relay_batch.specs.declared.offer.Offer.TheVariants.{Busy, Closed, Added}
 use Rattle.relay_batch.specs.Batches.{HasDistinctDocuments, IsBatch, bytes_of}
 use Rattle.relay_batch.specs.Gathering.{Gathering, answer_to, holds_document, is_count_reached, passes_bytes}
+use Rattle.relay_batch.proofs.Added.{item_added}
 use Rattle.relay_results.specs.Words.{Mem}
 use Rattle.relay_results.proofs.Lists.{equal_test}
 use Rattle.relay_delivery.specs.Machine.{write_of}
@@ -23,49 +24,6 @@ use Rattle.relay_core.proofs.Flights.{earlier_ones_settled}
 use Rattle.relay_core.proofs.Forming.{items_of_operations, batch_offered}
 
 -- ---- the limits
-
-one_apart : (x y : BatchItem) → (x.doc == y.doc) ≡ false → x.doc ≢ y.doc
-one_apart x y f e = let t = equal_test x.doc y.doc e in absurd (cc)
-
-or_none : (a b : Bool) → (a || b) ≡ false → (a ≡ false) × (b ≡ false)
-or_none true b e = absurd (cc)
-or_none false b e = (refl, e)
-
-push_apart : (xs : List BatchItem) (y : BatchItem) → HasDistinctDocuments xs → holds_document y.doc xs ≡ false → HasDistinctDocuments (xs ++ y ∷ [])
-push_apart [] y h absent = λ i j d lt within. absurd (omega (arith, lt, within))
-push_apart (x ∷ xs) y h absent =
-    let n = or_none (x.doc == y.doc) (holds_document y.doc xs) absent in
-    AllPairs-cons (λ (a b : BatchItem). a.doc ≢ b.doc) x (xs ++ y ∷ [])
-    (All-push (λ (b : BatchItem). x.doc ≢ b.doc) xs y (λ j d within. h 0 (suc j) d (omega arith) (omega (arith, within))) (one_apart x y n.0))
-    (push_apart xs y (λ i j d lt within. h (suc i) (suc j) d (omega (arith, lt)) (omega (arith, within))) n.1)
-
--- what an offer that was Added says
-was_added : (a b : Bool) → (if a then Busy else if b then Closed else Added) ≡ Added → (a ≡ false) × (b ≡ false)
-was_added true b e = absurd (cc)
-was_added false true e = absurd (cc)
-was_added false false e = (refl, refl)
-
-and_none : (a b : Bool) → (a && b) ≡ false → a ≡ true → b ≡ false
-and_none true b e t = e
-and_none false b e t = absurd (cc)
-
-weighed_more : (g : Gathering) (i : BatchItem) → passes_bytes g i.bytes ≡ false → 1 < length (g.items ++ i ∷ []) → bytes_of (g.items ++ i ∷ []) ≤ g.limits.bytes
-weighed_more g i fits more =
-    let n = length-append g.items (i ∷ []) in
-    let sum = sum_by_push (λ (x : BatchItem). x.bytes) g.items i in
-    let some : nat_lt 0 (length g.items) ≡ true = lt-ltb 0 (length g.items) (omega (arith, n, more)) in
-    let le = ltb-false _ _ (and_none (nat_lt 0 (length g.items)) (nat_lt g.limits.bytes (bytes_of g.items + i.bytes)) fits some) in
-    omega (arith, le, sum)
-
-item_added : (g : Gathering) (i : BatchItem) → answer_to i g ≡ Added → IsBatch g.limits g.items → IsBatch g.limits (g.items ++ i ∷ [])
-item_added g i e b =
-    let a = was_added (holds_document i.doc g.items) (is_count_reached g || passes_bytes g i.bytes) e in
-    let c = or_none (is_count_reached g) (passes_bytes g i.bytes) a.1 in
-    record {
-      distinct = push_apart g.items i b.distinct a.0;
-      counted = (let n = length-append g.items (i ∷ []) in let f = leb-false g.limits.count (length g.items) c.0 in omega (arith, n, f));
-      weighed = weighed_more g i c.1;
-    }
 
 by_keep : (limits : Limits) (x : Offer) (busy closed added : Gathering) → IsBatch limits busy.items → IsBatch limits closed.items → (x ≡ Added → IsBatch limits added.items) → IsBatch limits (by_answer x busy closed added).items
 by_keep limits Busy busy closed added b c a = b

@@ -35,7 +35,7 @@ fn hash(bytes: &[u8]) -> u64
 fn is_same(a: &DocKey, b: &DocKey) -> bool
     ensures { result ≡ same_document (document_of a.now) (document_of b.now) }
 {
-    a.index() == b.index() && a.id() == b.id()
+    a.id() == b.id() && a.index() == b.index()
 }
 
 // Whether a held operation of this document has a lower version.
@@ -43,7 +43,7 @@ fn is_later(held: &[Kept], key: &DocKey, version: u64) -> bool
     ensures { result ≡ is_later_kept held.now (document_of key.now) version }
 {
     held.iter()
-        .any(|one| is_same(&one.key, key) && one.version < version)
+        .any(|one| one.version < version && is_same(&one.key, key))
 }
 
 // Whether it waits, and nothing older of its document is held.
