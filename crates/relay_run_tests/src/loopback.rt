@@ -7,17 +7,17 @@ use relay_run::files::{RunOptions, run_files};
 use relay_run::run::{Limits, RelayConfig};
 use relay_stub::stub_serve;
 use std::alloc::Global;
-use std::fs;
 use std::net::{Net, TcpListener, TcpStream};
 use std::rt::Files;
 use std::sync::Wait;
 use std::test::Fail;
-use std::thread;
 use std::thread::Threads;
 use std::time::Clock;
+use std::{fs, thread};
 
 // Operations of a file, and its documents. Each document gets ten operations.
 const OPERATIONS: u64 = 100;
+
 const DOCUMENTS: u64 = 10;
 
 const CONFIG: RelayConfig = RelayConfig {
@@ -38,14 +38,17 @@ const CONFIG: RelayConfig = RelayConfig {
 // The text of an operation: it stores its own number.
 fn operation(alloc: Global, producer: u64, number: u64) -> Option<String> {
     let document = number % DOCUMENTS;
-    format!(in alloc; "{{\"index\":{{\"_index\":\"books\",\"_id\":\"{producer}-{document}\"}}}}\n{number}\n").ok()
+    format!(in alloc;
+        "{{\"index\":{{\"_index\":\"books\",\"_id\":\"{producer}-{document}\"}}}}\n{number}\n"
+    ).ok()
 }
 
 // The text of a producer's file.
 fn file_text(alloc: Global, producer: u64) -> Option<String> {
     let mut text = String::new(alloc);
     for number in 0..OPERATIONS {
-        text.push_str(operation(alloc, producer, number)?.as_str()).ok()?;
+        text.push_str(operation(alloc, producer, number)?.as_str())
+            .ok()?;
     }
     Some(text)
 }
@@ -129,7 +132,7 @@ where
     let exit = run_files(rt, host, &options, &mut out, &mut err);
     Some(
         exit == Exit::Done
-            && out.written() == b"applied 200 already 0 reported 0\n"
+            && out.written() == b"applied 200 already 0 reported 0\n".as_slice()
             && err.written().is_empty(),
     )
 }
