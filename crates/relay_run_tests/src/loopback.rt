@@ -70,12 +70,12 @@ fn stores(write: &Write, text: &str) -> bool {
 }
 
 // Whether an index applied to this document of a producer its ten operations, each once and in order.
-fn is_as_put(alloc: Global, index: &Index, producer: u64, document: u64) -> Option<bool> {
+fn is_as_put(alloc: Global, index: &Index, producer: u8, document: u8) -> Option<bool> {
     let id = format!(in alloc; "{producer}-{document}").ok()?;
     let key = DocKey::new(alloc, "books", id.as_str()).ok()?;
     let applied = index.applied(&key);
     for place in 0..OPERATIONS / DOCUMENTS {
-        let number = place * DOCUMENTS + document;
+        let number = place * DOCUMENTS + u64::from(document);
         let text = format!(in alloc; "{number}").ok()?;
         match applied.get(place as usize) {
             Some(write) if stores(write, text.as_str()) => {}
@@ -87,9 +87,11 @@ fn is_as_put(alloc: Global, index: &Index, producer: u64, document: u64) -> Opti
 
 // The same of all documents of both producers.
 fn all_as_put(alloc: Global, index: &Index) -> Option<bool> {
-    for place in 0..2 * DOCUMENTS {
-        if !is_as_put(alloc, index, place / DOCUMENTS, place % DOCUMENTS)? {
-            return Some(false);
+    for producer in 0..2u8 {
+        for document in 0..DOCUMENTS as u8 {
+            if !is_as_put(alloc, index, producer, document)? {
+                return Some(false);
+            }
         }
     }
     Some(true)
