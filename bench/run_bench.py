@@ -145,10 +145,14 @@ def tell(runs, operations, goals):
         wall, used, peak = (plain_rust.median([run[at] for run in of]) for at in range(3))
         ratio = plain_rust.median([own[0] / its[0] for own, its in zip(runs["relay run"], of)])
         work = plain_rust.median([own[1] / its[1] for own, its in zip(runs["relay run"], of)])
-        line = "  %-14s %9.0f operations/s %7.2f s of processor %7d KiB  relay/it %.2f, processor %.2f" % (name, operations / wall, used, peak, ratio, work)
+        line = "  %-14s %9.0f operations/s %8.3f s of processor %7d KiB  relay/it %.2f, processor %.2f" % (name, operations / wall, used, peak, ratio, work)
         if name in goals:
             line += " (goal %.1f: %s)" % (goals[name], "met" if ratio <= goals[name] else "MISSED")
         print(line)
+
+
+def counted(number, what):
+    return "%d %s%s" % (number, what, "" if number == 1 else "s")
 
 
 def measure_shape(folder, relay, tools, shape, size, operations):
@@ -156,7 +160,7 @@ def measure_shape(folder, relay, tools, shape, size, operations):
     paths = make_files(folder, files, operations, size)
     ready = [write_requests(relay, path, path + "-ready") for path in paths]
     for nanoseconds, called in SERVERS:
-        print("run: %d files, %d lanes, %d operations of %d bytes, a server %s; medians of %d turns" % (files, lanes, operations, size, called, TURNS))
+        print("run: %s, %s, %d operations of %d bytes, a server %s; medians of %d turns" % (counted(files, "file"), counted(lanes, "lane"), operations, size, called, TURNS))
         with Server(tools["bulk"], nanoseconds) as server:
             programs = commands(tools, relay, server.port, lanes, paths, ready)
             tell(take_turns(server, programs, operations), operations, GOALS if nanoseconds else {})
@@ -172,7 +176,7 @@ def measure_memory(folder, relay, tools, operations):
         if told != "applied %d already 0 reported 0\n" % count:
             sys.exit("relay run: %s" % told[-300:])
         peaks.append(peak)
-        print("  %8d operations: %7d KiB, %9.0f operations/s, %6.2f s of processor" % (count, peak, count / wall, used))
+        print("  %8d operations: %7d KiB, %9.0f operations/s, %8.3f s of processor" % (count, peak, count / wall, used))
     if peaks[1] > peaks[0] + GROWTH:
         sys.exit("the memory of relay run grew from %d to %d KiB" % tuple(peaks))
     print("  the memory did not grow by more than %d KiB" % GROWTH)

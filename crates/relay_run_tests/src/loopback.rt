@@ -132,6 +132,9 @@ where
     let mut out = printed(alloc)?;
     let mut err = printed(alloc)?;
     let exit = run_files(rt, host, &options, &mut out, &mut err);
+    for file in &options.files {
+        fs::remove_file(&rt, file.as_str()).ok()?;
+    }
     Some(
         exit == Exit::Done
             && out.written() == b"applied 200 already 0 reported 0\n".as_slice()
