@@ -1,11 +1,13 @@
 """Measures `relay run` against a server of plain Rust that answers every bulk request with success, beside a relay in
 plain Rust, Python's `streaming_bulk`, and the floor: requests that stand ready, sent by plain Rust."""
+import contextlib
+import http.client
 import json
 import os
 import subprocess
 import sys
+import tempfile
 import time
-import urllib.request
 
 import plain_rust
 from lines_bench import peak_of
@@ -36,8 +38,10 @@ class Server:
 
     def answered(self):
         """How many operations it has answered so far."""
-        with urllib.request.urlopen("http://127.0.0.1:%s/" % self.port) as reply:
-            return json.load(reply)["answered"]
+        client = http.client.HTTPConnection("127.0.0.1", int(self.port))
+        with contextlib.closing(client):
+            client.request("GET", "/")
+            return json.load(client.getresponse())["answered"]
 
     def __enter__(self):
         return self
@@ -52,19 +56,18 @@ def once(command):
 
     The peak is sampled while the process runs: the one that the system tells of a process that ended is never below
     that of the process that started it."""
-    start = time.monotonic()
-    process = subprocess.Popen(command, stdin=subprocess.DEVNULL, stdout=subprocess.PIPE, text=True)
-    peak = 0
-    while True:
-        peak = max(peak, peak_of(process.pid))
-        pid, status, used = os.wait4(process.pid, os.WNOHANG)
-        if pid != 0:
-            break
-        time.sleep(0.001)
-    wall = time.monotonic() - start
-    process.returncode = os.waitstatus_to_exitcode(status)
-    told = process.stdout.read()
-    process.stdout.close()
+    with tempfile.TemporaryFile("w+") as out:
+        start = time.monotonic()
+        process = subprocess.Popen(command, stdin=subprocess.DEVNULL, stdout=out)
+        peak, pid = 0, 0
+        while pid == 0:
+            peak = max(peak, peak_of(process.pid))
+            time.sleep(0.001)
+            pid, status, used = os.wait4(process.pid, os.WNOHANG)
+        wall = time.monotonic() - start
+        process.returncode = os.waitstatus_to_exitcode(status)
+        out.seek(0)
+        told = out.read()
     if process.returncode != 0:
         sys.exit("%s ended with status %d: %s" % (" ".join(command[:3]), process.returncode, told[-300:]))
     return wall, used.ru_utime + used.ru_stime, peak, told
@@ -83,7 +86,8 @@ def make_files(folder, files, operations, size):
     paths = []
     for number in range(files):
         path = os.path.join(folder, "operations-%d" % number)
-        words = [str(operations // files), str(size), "%d-" % number]
+        count = operations // files + (number < operations % files)
+        words = [str(count), str(size), "%d-" % number]
         with open(path, "wb") as file:
             subprocess.run([sys.executable, os.path.join(plain_rust.BENCH, "make_input.py"), *words], stdout=file, check=True)
         paths.append(path)
