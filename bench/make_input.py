@@ -1,4 +1,6 @@
-"""Makes a producer's input for the benchmark: seeded, so that each run has the same bytes."""
+"""Makes a producer's input for the benchmark: seeded, so that each run has the same bytes.
+
+`make_input.py OPERATIONS BYTES [PREFIX]`: each id begins with the prefix."""
 import json
 import random
 import sys
@@ -6,6 +8,7 @@ import sys
 
 def main():
     count, size = int(sys.argv[1]), int(sys.argv[2])
+    prefix = sys.argv[3] if len(sys.argv) > 3 else ""
     rng = random.Random(20260101)
     out = sys.stdout
     letters = "abcdefghijklmnopqrstuvwxyz0123456789 "
@@ -13,9 +16,9 @@ def main():
     for number in range(count):
         document = rng.randrange(count)
         if rng.randrange(10) == 0:
-            out.write('{"delete":{"_index":"books","_id":"%d"}}\n' % document)
+            out.write('{"delete":{"_index":"books","_id":"%s%d"}}\n' % (prefix, document))
             continue
-        out.write('{"index":{"_index":"books","_id":"%d"}}\n' % document)
+        out.write('{"index":{"_index":"books","_id":"%s%d"}}\n' % (prefix, document))
         head = '{"title":"%d","text":"' % number
         start = rng.randrange(2048)
         out.write(head + filler[start : start + size - len(head) - 2] + '"}\n')

@@ -1,8 +1,9 @@
 """Measures the project's programs beside others, all in one run. Only the ratios count.
 
 `python3 bench/run.py` measures all parts; words after it name those to be measured: lines, apply, queue,
-replies, lane, http, world.
+replies, lane, http, world, run. `--operations N` gives `run` so many operations in place of 50,000.
 """
+import argparse
 import os
 import sys
 import tempfile
@@ -13,6 +14,7 @@ import lane_bench
 import lines_bench
 import queue_bench
 import replies_bench
+import run_bench
 import world_bench
 
 TOP = os.path.dirname(os.path.dirname(os.path.abspath(__file__)))
@@ -28,21 +30,27 @@ PARTS = [
     ("lane", RELAY_BENCH, "`rt run` in crates/relay_bench", lane_bench.measure),
     ("http", RELAY_BENCH, "`rt run` in crates/relay_bench", http_bench.measure),
     ("world", RELAY, "`make build`", world_bench.measure),
+    ("run", RELAY, "`make build`", run_bench.measure),
 ]
 
 
 def main():
-    wanted = sys.argv[1:] or [name for name, _, _, _ in PARTS]
-    unknown = [word for word in wanted if word not in [name for name, _, _, _ in PARTS]]
+    parser = argparse.ArgumentParser()
+    parser.add_argument("parts", nargs="*", metavar="PART")
+    parser.add_argument("--operations", type=int, default=run_bench.OPERATIONS)
+    words = parser.parse_args()
+    names = [name for name, _, _, _ in PARTS]
+    unknown = [word for word in words.parts if word not in names]
     if unknown:
         sys.exit("no part %s" % " ".join(unknown))
     for name, program, command, measure in PARTS:
-        if name not in wanted:
+        if name not in (words.parts or names):
             continue
         if not os.path.exists(program):
             sys.exit("no program for %s: run %s first" % (name, command))
+        more = {"operations": words.operations} if name == "run" else {}
         with tempfile.TemporaryDirectory() as folder:
-            measure(folder, program)
+            measure(folder, program, **more)
 
 
 main()

@@ -6,6 +6,7 @@ worked out by hand from the formats, never taken from the program's own output.
 import sys
 
 import apply_cases
+import client_cases
 import lines_cases
 import run_cases
 import stub_cases
@@ -50,7 +51,7 @@ def command_line():
 
 
 def main():
-    for group in (*lines_cases.GROUPS, *apply_cases.GROUPS, *stub_cases.GROUPS, *run_cases.GROUPS, *world_cases.GROUPS, command_line):
+    for group in (*lines_cases.GROUPS, *apply_cases.GROUPS, *stub_cases.GROUPS, *client_cases.GROUPS, *run_cases.GROUPS, *world_cases.GROUPS, command_line):
         group()
     print("%d passed, %d failed" % (RESULTS["passed"], RESULTS["failed"]))
     sys.exit(RESULTS["failed"] != 0)

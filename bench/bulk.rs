@@ -1,0 +1,167 @@
+// The two ends that every relay needs, in plain Rust: `bulk serve NANOSECONDS` is an index that answers each bulk
+// request with success, at once or after so long for each operation; `bulk ready PORT FILE..` sends requests that stand
+// ready in files, one connection a file, and reads each reply to its end.
+use std::fs::File;
+use std::io::{self, BufRead, BufReader, Write};
+use std::net::{TcpListener, TcpStream};
+use std::sync::atomic::{AtomicU64, Ordering};
+use std::thread;
+use std::time::{Duration, Instant};
+
+// Operations that were answered, by all connections.
+static ANSWERED: AtomicU64 = AtomicU64::new(0);
+
+// The length that a line of a head gives the body.
+fn length_of(line: &[u8]) -> Option<usize> {
+    let text = std::str::from_utf8(line).ok()?;
+    let (name, value) = text.split_once(':')?;
+    if name.eq_ignore_ascii_case("content-length") {
+        value.trim().parse().ok()
+    } else {
+        None
+    }
+}
+
+// Reads a message whole, head and body behind one another. The answer is where the body begins, or None where the
+// stream ends in front of it.
+fn read_message<R: BufRead>(stream: &mut R, message: &mut Vec<u8>) -> io::Result<Option<usize>> {
+    message.clear();
+    let mut length = 0;
+    loop {
+        let start = message.len();
+        if stream.read_until(b'\n', message)? == 0 {
+            return Ok(None);
+        }
+        let line = &message[start..];
+        if line == b"\r\n" {
+            break;
+        }
+        length = length_of(line).unwrap_or(length);
+    }
+    let head = message.len();
+    message.resize(head + length, 0);
+    stream.read_exact(&mut message[head..])?;
+    Ok(Some(head))
+}
+
+// The id in an action line. The measured ones need no escape.
+fn id_of(line: &[u8]) -> &[u8] {
+    const NAME: &[u8] = b"\"_id\":\"";
+    let start = line.windows(NAME.len()).position(|it| it == NAME).expect("an id") + NAME.len();
+    let end = line[start..].iter().position(|byte| *byte == b'"').expect("its end");
+    &line[start..start + end]
+}
+
+fn append_item(reply: &mut Vec<u8>, kind: &str, id: &[u8], result: &str, status: &str) {
+    for part in [b"{\"", kind.as_bytes(), b"\":{\"_index\":\"books\",\"_type\":\"_doc\",\"_id\":\"", id, b"\",\"_version\":1,\"result\":\"", result.as_bytes(),
+        b"\",\"_shards\":{\"total\":2,\"successful\":1,\"failed\":0},\"_seq_no\":0,\"_primary_term\":1,\"status\":", status.as_bytes(), b"}},"] {
+        reply.extend_from_slice(part);
+    }
+}
+
+// Writes what an index answers where it has applied every operation of a body, and tells how many there are.
+fn answer(mut body: &[u8], line: &mut Vec<u8>, reply: &mut Vec<u8>) -> io::Result<u64> {
+    reply.clear();
+    reply.extend_from_slice(b"{\"took\":1,\"errors\":false,\"items\":[");
+    let mut count = 0;
+    loop {
+        line.clear();
+        if body.read_until(b'\n', line)? == 0 {
+            break;
+        }
+        let id = id_of(line);
+        if line.starts_with(b"{\"delete\"") {
+            append_item(reply, "delete", id, "deleted", "200");
+        } else {
+            append_item(reply, "index", id, "created", "201");
+            line.clear();
+            body.read_until(b'\n', line)?;
+        }
+        count += 1;
+    }
+    if count > 0 {
+        reply.pop();
+    }
+    reply.extend_from_slice(b"]}");
+    Ok(count)
+}
+
+// What a client asks first, to see whom it speaks to; and how many operations were answered so far.
+fn about(reply: &mut Vec<u8>) -> io::Result<()> {
+    reply.clear();
+    let count = ANSWERED.load(Ordering::SeqCst);
+    write!(reply, "{{\"version\":{{\"number\":\"7.17.6\",\"build_flavor\":\"default\"}},\"tagline\":\"You Know, for Search\",\"answered\":{count}}}")
+}
+
+fn serve_connection(stream: TcpStream, nanoseconds: u64) -> io::Result<()> {
+    stream.set_nodelay(true)?;
+    let mut input = BufReader::with_capacity(262_144, stream.try_clone()?);
+    let mut output = stream;
+    let (mut message, mut line, mut reply) = (Vec::new(), Vec::new(), Vec::new());
+    while let Some(head) = read_message(&mut input, &mut message)? {
+        let start = Instant::now();
+        if message.starts_with(b"GET ") {
+            about(&mut reply)?;
+        } else {
+            let count = answer(&message[head..], &mut line, &mut reply)?;
+            let due = Duration::from_nanos(count * nanoseconds);
+            thread::sleep(due.saturating_sub(start.elapsed()));
+            ANSWERED.fetch_add(count, Ordering::SeqCst);
+        }
+        let mut text = format!("HTTP/1.1 200 OK\r\nX-Elastic-Product: Elasticsearch\r\nContent-Type: application/json\r\nContent-Length: {}\r\n\r\n", reply.len()).into_bytes();
+        text.extend_from_slice(&reply);
+        output.write_all(&text)?;
+    }
+    Ok(())
+}
+
+// Serves until it is stopped. Its one line is its port.
+fn serve(nanoseconds: u64) -> io::Result<()> {
+    let listener = TcpListener::bind("127.0.0.1:0")?;
+    println!("{}", listener.local_addr()?.port());
+    for stream in listener.incoming() {
+        let stream = stream?;
+        thread::spawn(move || serve_connection(stream, nanoseconds));
+    }
+    Ok(())
+}
+
+// Sends the requests of a file, and tells how many bytes of replies came.
+fn send_file(port: &str, path: &str) -> io::Result<usize> {
+    let mut file = BufReader::with_capacity(262_144, File::open(path)?);
+    let mut output = TcpStream::connect(format!("127.0.0.1:{port}"))?;
+    output.set_nodelay(true)?;
+    let mut input = BufReader::with_capacity(262_144, output.try_clone()?);
+    let (mut request, mut reply, mut bytes) = (Vec::new(), Vec::new(), 0);
+    while read_message(&mut file, &mut request)?.is_some() {
+        output.write_all(&request)?;
+        let head = read_message(&mut input, &mut reply)?.expect("a reply");
+        bytes += reply.len() - head;
+    }
+    Ok(bytes)
+}
+
+fn ready(port: &str, paths: &[String]) -> io::Result<()> {
+    let threads: Vec<_> = paths
+        .iter()
+        .map(|path| {
+            let (port, path) = (port.to_string(), path.clone());
+            thread::spawn(move || send_file(&port, &path))
+        })
+        .collect();
+    let mut bytes = 0;
+    for thread in threads {
+        bytes += thread.join().expect("a thread that ended")?;
+    }
+    println!("{bytes} bytes of replies");
+    Ok(())
+}
+
+fn main() -> io::Result<()> {
+    let words: Vec<String> = std::env::args().skip(1).collect();
+    match words.split_first().map(|(command, rest)| (command.as_str(), rest)) {
+        Some(("serve", [nanoseconds])) => serve(nanoseconds.parse().expect("nanoseconds")),
+        Some(("ready", [port, paths @ ..])) => ready(port, paths),
+        _ => panic!("usage: bulk serve NANOSECONDS, bulk ready PORT FILE.."),
+    }
+}

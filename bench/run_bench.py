@@ -1,0 +1,202 @@
+"""Measures `relay run` against a server of plain Rust that answers every bulk request with success, beside a relay in
+plain Rust, Python's `streaming_bulk`, and the floor: requests that stand ready, sent by plain Rust."""
+import contextlib
+import http.client
+import json
+import os
+import subprocess
+import sys
+import tempfile
+import time
+
+import plain_rust
+from lines_bench import peak_of
+
+TURNS = 7
+OPERATIONS = 50_000
+# Bytes of a source.
+SIZES = (100, 1000)
+# Files, and lanes.
+SHAPES = ((1, 1), (4, 4))
+COUNT = 500
+# Nanoseconds that the server takes for each operation, and what it is called then.
+SERVERS = ((0, "that answers at once"), (4000, "that takes 4 microseconds an operation"))
+# The most that `relay run` is to take of the time of the others with the server that takes its time: the project's goals.
+GOALS = {"ready bodies": 1.5, "plain Rust": 1.0, "streaming_bulk": 1.0}
+# By how many KiB ten times the operations may raise the memory.
+GROWTH = 2048
+# Interpreters that may have the helpers: this one, and the one that Debian's package is for.
+PYTHONS = (sys.executable, "/usr/bin/python3")
+
+
+class Server:
+    """A running `bulk serve`."""
+
+    def __init__(self, bulk, nanoseconds):
+        self.process = subprocess.Popen([bulk, "serve", str(nanoseconds)], stdout=subprocess.PIPE, text=True)
+        self.port = self.process.stdout.readline().strip()
+
+    def answered(self):
+        """How many operations it has answered so far."""
+        client = http.client.HTTPConnection("127.0.0.1", int(self.port))
+        with contextlib.closing(client):
+            client.request("GET", "/")
+            return json.load(client.getresponse())["answered"]
+
+    def __enter__(self):
+        return self
+
+    def __exit__(self, *_):
+        self.process.kill()
+        self.process.communicate()
+
+
+def once(command):
+    """Of one run the wall seconds, the seconds of processor time, the peak memory in KiB, and what it printed.
+
+    The peak is sampled while the process runs: the one that the system tells of a process that ended is never below
+    that of the process that started it."""
+    with tempfile.TemporaryFile("w+") as out:
+        start = time.monotonic()
+        process = subprocess.Popen(command, stdin=subprocess.DEVNULL, stdout=out)
+        peak, pid = 0, 0
+        while pid == 0:
+            peak = max(peak, peak_of(process.pid))
+            time.sleep(0.001)
+            pid, status, used = os.wait4(process.pid, os.WNOHANG)
+        wall = time.monotonic() - start
+        process.returncode = os.waitstatus_to_exitcode(status)
+        out.seek(0)
+        told = out.read()
+    if process.returncode != 0:
+        sys.exit("%s ended with status %d: %s" % (" ".join(command[:3]), process.returncode, told[-300:]))
+    return wall, used.ru_utime + used.ru_stime, peak, told
+
+
+def helpers():
+    """An interpreter that has the Elasticsearch helpers, or None."""
+    for python in PYTHONS:
+        if os.path.exists(python) and subprocess.run([python, "-c", "import elasticsearch.helpers"], capture_output=True).returncode == 0:
+            return python
+    return None
+
+
+def make_files(folder, files, operations, size):
+    """The files of a producer each, all together with so many operations."""
+    paths = []
+    for number in range(files):
+        path = os.path.join(folder, "operations-%d" % number)
+        count = operations // files + (number < operations % files)
+        words = [str(count), str(size), "%d-" % number]
+        with open(path, "wb") as file:
+            subprocess.run([sys.executable, os.path.join(plain_rust.BENCH, "make_input.py"), *words], stdout=file, check=True)
+        paths.append(path)
+    return paths
+
+
+def write_requests(relay, path, ready):
+    """Writes the requests for the operations of a file as they stand on the wire."""
+    with open(path, "rb") as file:
+        lines = subprocess.run([relay, "lines"], stdin=file, stdout=subprocess.PIPE, check=True).stdout.split(b"\n")
+    body, count, at = [], 0, 0
+    with open(ready, "wb") as file:
+        while at < len(lines) - 1:
+            taken = 1 if lines[at].startswith(b'{"delete"') else 2
+            body += lines[at : at + taken]
+            at, count = at + taken, count + 1
+            if count == COUNT or at == len(lines) - 1:
+                text = b"".join(line + b"\n" for line in body)
+                file.write(b"POST /_bulk HTTP/1.1\r\nHost: 127.0.0.1\r\nContent-Type: application/x-ndjson\r\nContent-Length: %d\r\n\r\n" % len(text))
+                file.write(text)
+                body, count = [], 0
+    return ready
+
+
+def run_command(relay, port, lanes, paths):
+    return [relay, "run", "--to", "127.0.0.1:%s" % port, "--count", str(COUNT), "--lanes", str(lanes), *paths]
+
+
+def commands(tools, relay, port, lanes, paths, ready):
+    """The commands that are compared, by name."""
+    found = {"relay run": run_command(relay, port, lanes, paths)}
+    if tools["forward"]:
+        found["plain Rust"] = [tools["forward"], port, *paths]
+    found["ready bodies"] = [tools["bulk"], "ready", port, *ready]
+    if tools["python"]:
+        found["streaming_bulk"] = [tools["python"], os.path.join(plain_rust.BENCH, "streaming_bulk.py"), port, *paths]
+    return found
+
+
+def take_turns(server, programs, operations):
+    """Of each program its runs, where they take turns. Each has to have all operations answered, once."""
+    runs = {name: [] for name in programs}
+    for _ in range(TURNS):
+        for name, command in programs.items():
+            before = server.answered()
+            run = once(command)
+            answered = server.answered() - before
+            if answered != operations:
+                sys.exit("%s: %d of %d operations were answered" % (name, answered, operations))
+            if name != "ready bodies" and run[3] != "applied %d already 0 reported 0\n" % operations:
+                sys.exit("%s: %s" % (name, run[3][-300:]))
+            runs[name].append(run)
+    return runs
+
+
+def tell(runs, operations, goals):
+    """A line for each program: medians, and the ratios of the relay to it by turns."""
+    for name, of in runs.items():
+        wall, used, peak = (plain_rust.median([run[at] for run in of]) for at in range(3))
+        ratio = plain_rust.median([own[0] / its[0] for own, its in zip(runs["relay run"], of)])
+        work = plain_rust.median([own[1] / its[1] for own, its in zip(runs["relay run"], of)])
+        line = "  %-14s %9.0f operations/s %8.3f s of processor %7d KiB  relay/it %.2f, processor %.2f" % (name, operations / wall, used, peak, ratio, work)
+        if name in goals:
+            line += " (goal %.1f: %s)" % (goals[name], "met" if ratio <= goals[name] else "MISSED")
+        print(line)
+
+
+def counted(number, what):
+    return "%d %s%s" % (number, what, "" if number == 1 else "s")
+
+
+def measure_shape(folder, relay, tools, shape, size, operations):
+    files, lanes = shape
+    paths = make_files(folder, files, operations, size)
+    ready = [write_requests(relay, path, path + "-ready") for path in paths]
+    for nanoseconds, called in SERVERS:
+        print("run: %s, %s, %d operations of %d bytes, a server %s; medians of %d turns" % (counted(files, "file"), counted(lanes, "lane"), operations, size, called, TURNS))
+        with Server(tools["bulk"], nanoseconds) as server:
+            programs = commands(tools, relay, server.port, lanes, paths, ready)
+            tell(take_turns(server, programs, operations), operations, GOALS if nanoseconds else {})
+
+
+def measure_memory(folder, relay, tools, operations):
+    """Ten times the operations may not take more memory."""
+    peaks = []
+    for count in (operations, 10 * operations):
+        paths = make_files(folder, 1, count, 100)
+        with Server(tools["bulk"], 0) as server:
+            wall, used, peak, told = once(run_command(relay, server.port, 1, paths))
+        if told != "applied %d already 0 reported 0\n" % count:
+            sys.exit("relay run: %s" % told[-300:])
+        peaks.append(peak)
+        print("  %8d operations: %7d KiB, %9.0f operations/s, %8.3f s of processor" % (count, peak, count / wall, used))
+    if peaks[1] > peaks[0] + GROWTH:
+        sys.exit("the memory of relay run grew from %d to %d KiB" % tuple(peaks))
+    print("  the memory did not grow by more than %d KiB" % GROWTH)
+
+
+def measure(folder, relay, operations=OPERATIONS):
+    tools = {"bulk": plain_rust.build(folder, "bulk"), "forward": plain_rust.build(folder, "forward", "serde_json", "serde/derive"), "python": helpers()}
+    if not tools["bulk"]:
+        print("run: not measured, since there is no cargo to build the server with")
+        return
+    if not tools["forward"]:
+        print("run: the plain Rust relay was not measured: librust-serde-json-dev or librust-serde-dev is not installed")
+    if not tools["python"]:
+        print("run: streaming_bulk was not measured: python3-elasticsearch is not installed")
+    for shape in SHAPES:
+        for size in SIZES:
+            measure_shape(folder, relay, tools, shape, size, operations)
+    print("run: the memory of 1 file and 1 lane, operations of 100 bytes")
+    measure_memory(folder, relay, tools, operations)
