@@ -12,6 +12,8 @@ use Rattle.relay_ndjson.specs.declared.kind.LineKind.TheVariants as kind
 use Rattle.relay_ndjson.specs.declared.lines.NumberedOperation.{NumberedOperation}
 use Rattle.relay_ndjson.specs.declared.lines.Line.{Line}
 use Rattle.relay_ndjson.specs.declared.lines.Line.TheVariants as line
+use Rattle.relay_ndjson.specs.declared.lines.Part.{Part}
+use Rattle.relay_ndjson.specs.declared.lines.Part.TheVariants as part
 use Rattle.relay_ndjson.specs.Lines.{IsUnbroken, IsRaw, IsPastLimit, IsLong, TakesText, TakesBlank, StopsInLine, is_read, line_limit}
 use Rattle.relay_ndjson.specs.Operations.{blank_limit, counted, line_count, TakesOperation, HoldsNoMore, BreaksSource, IsFault}
 use Rattle.relay_ndjson.specs.Bodies.{BeginsWithLine, IsLinesOf}
@@ -27,9 +29,9 @@ abbrev pub IsAddFault : List ℕ → LineKind → Type 0
 IsAddFault raw k = ((k ≡ kind.LineLong) × IsPastLimit raw) ⊎ (k ≡ kind.Memory)
 
 -- what a piece gave of a line that had begun: its end, or all that it held
-abbrev pub TakesPart : List ℕ → List ℕ → List ℕ → List ℕ → Result Bool LineKind → Type 0
-TakesPart begun piece text rest (Ok true) = (raw : List ℕ) × IsUnbroken raw × IsRaw text raw × (length text ≤ line_limit) × (begun ++ piece ≡ raw ++ 10 ∷ rest)
-TakesPart begun piece text rest (Ok false) = IsUnbroken text × IsStart text × (text ≡ begun ++ piece) × (rest ≡ [])
+abbrev pub TakesPart : List ℕ → List ℕ → List ℕ → List ℕ → Result Part LineKind → Type 0
+TakesPart begun piece text rest (Ok part.End) = (raw : List ℕ) × IsUnbroken raw × IsRaw text raw × (length text ≤ line_limit) × (begun ++ piece ≡ raw ++ 10 ∷ rest)
+TakesPart begun piece text rest (Ok part.More) = IsUnbroken text × IsStart text × (text ≡ begun ++ piece) × (rest ≡ [])
 TakesPart begun piece text rest (Err k) = (raw : List ℕ) × (later : List ℕ) × IsUnbroken raw × (begun ++ piece ≡ raw ++ later) × IsAddFault raw k
 
 -- what a read of a line took from the front, and what line it put into the buffer
