@@ -64,7 +64,7 @@ pub struct Lines {
 
 impl Lines {
     ghost use Rattle.relay_ndjson.specs.Metadata.{shown};
-    ghost use Rattle.relay_ndjson.specs.Operations.{Stops, failed_after};
+    ghost use Rattle.relay_ndjson.specs.Operations.{Stops, failed_after, position};
     ghost use Rattle.relay_ndjson.specs.LineReading.{TakesNext};
     ghost use Rattle.relay_ndjson.specs.Steps.{SkipsBlank, TakesSource, Reads, StopsInSource};
 
@@ -149,10 +149,11 @@ impl Lines {
 
     // Takes blank lines and the action line after them, if there is one.
     fn skip_blank<R: ByteIn>(&mut self, reader: &mut R) -> Result<bool, InputFault>
-        ensures line { SkipsBlank (prepend_known self.old.piece (R.left reader.old))
-            (prepend_known self.new.piece (R.left reader.new)) self.old.count self.new.count self.new.text.items result }
-        ensures stop { IfErr result (λ e. (default : Option (List ℕ)) → Stops default (prepend_known self.old.piece (R.left reader.old))
-            (prepend_known self.new.piece (R.left reader.new)) self.new.piece self.old.count e) }
+        ensures line { SkipsBlank (position (R.left reader.old) self.old.piece self.old.count)
+            (position (R.left reader.new) self.new.piece self.new.count) self.new.text.items result }
+        ensures stop { IfErr result (λ e. (default : Option (List ℕ))
+            → Stops default (position (R.left reader.old) self.old.piece self.old.count)
+            (position (R.left reader.new) self.new.piece self.new.count) e) }
         ensures failed { R.failed reader.new ≡ failed_after result (R.failed reader.old) }
     {
         for blank in 0..BLANK_LIMIT + 1 {
@@ -177,10 +178,10 @@ impl Lines {
         reader: &mut R,
         line: u64,
     ) -> Result<Action, InputFault>
-        ensures line { TakesSource (prepend_known self.old.piece (R.left reader.old))
-            (prepend_known self.new.piece (R.left reader.new)) line self.old.count self.new.count result }
-        ensures stop { IfErr result (StopsInSource (prepend_known self.old.piece (R.left reader.old))
-            (prepend_known self.new.piece (R.left reader.new)) self.new.piece line self.old.count) }
+        ensures line { TakesSource (position (R.left reader.old) self.old.piece self.old.count)
+            (position (R.left reader.new) self.new.piece self.new.count) line result }
+        ensures stop { IfErr result (StopsInSource (position (R.left reader.old) self.old.piece self.old.count)
+            (position (R.left reader.new) self.new.piece self.new.count) line) }
         ensures failed { R.failed reader.new ≡ failed_after result (R.failed reader.old) }
     {
         let found = self.take_line(reader)?;
@@ -206,11 +207,11 @@ impl Lines {
         reader: &mut R,
         default_index: Option<&str>,
     ) -> Result<Option<NumberedOperation>, InputFault>
-        ensures lines { Reads (shown default_index.entry)
-            (prepend_known self.old.piece (R.left reader.old)) (prepend_known self.new.piece (R.left reader.new))
-            self.old.count self.new.count result }
-        ensures stop { IfErr result (Stops (shown default_index.entry) (prepend_known self.old.piece (R.left reader.old))
-            (prepend_known self.new.piece (R.left reader.new)) self.new.piece self.old.count) }
+        ensures lines { Reads (shown default_index.entry) (position (R.left reader.old) self.old.piece self.old.count)
+            (position (R.left reader.new) self.new.piece self.new.count) result }
+        ensures stop { IfErr result (Stops (shown default_index.entry)
+            (position (R.left reader.old) self.old.piece self.old.count)
+            (position (R.left reader.new) self.new.piece self.new.count)) }
         ensures failed { R.failed reader.new ≡ failed_after result (R.failed reader.old) }
     {
         let found = self.skip_blank(reader)?;

@@ -1,6 +1,6 @@
 use Rattle.std.proofs.Common.{◌≡◌, ◌+◌, ◌≤◌, arith, rules, length, ◌∙◌}
 use Rattle.std.proofs.lemmas.Result.{err_from_is_err_and}
-use Rattle.relay_ndjson.specs.Operations.{blank_limit}
+use Rattle.relay_ndjson.specs.Operations.{blank_limit, position}
 use Rattle.relay_ndjson.proofs.Stopping.{blank_stops}
 use Rattle.relay_ndjson.proofs.Taking.{blank_next, skip_fault, blank_fault}
 use Rattle.relay_ndjson.proofs.lines.Lines.skip_blank.Goals as goal
@@ -19,7 +19,9 @@ returns-clause-line g c =
 pub returns-clause-stop : goal.returns-clause-stop
 returns-clause-stop g c =
     let all : c.loop-blank.blank ≡ blank_limit + 1 = omega (arith, c.loop-blank-test.false, c.loop-blank.auto.blank-end) in
-    λ default. blank_stops default _ _ c.loop-blank.self.piece c.loop-blank.blank c.args.self.now.count c.loop-blank.self.count all c.loop-blank.invariant.blank c.loop-blank.invariant.count
+    let old = position (g.R.ByteStream.left c.args.reader.now) c.args.self.now.piece c.args.self.now.count in
+    let new = position (g.R.ByteStream.left c.loop-blank.reader) c.loop-blank.self.piece c.loop-blank.self.count in
+    λ default. blank_stops default old new c.loop-blank.blank all c.loop-blank.invariant.blank c.loop-blank.invariant.count
 
 pub loop-blank-preserved : goal.loop-blank-preserved
 loop-blank-preserved g c =
