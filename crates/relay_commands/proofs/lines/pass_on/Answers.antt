@@ -1,4 +1,4 @@
-use Rattle.std.proofs.Common.{◌≡◌, refl, ap, sym, ◌∙◌, arith}
+use Rattle.std.proofs.Common.{refl, ◌∙◌}
 use Rattle.std.proofs.lemmas.Result.{err_from_is_err_and}
 use Rattle.relay_commands.proofs.Passed.{underway_none, underway_moved, underway_more, stops_inside, stops_at_end, stops_at_fault}
 use Rattle.relay_commands.proofs.lines.pass_on.Goals as goal
