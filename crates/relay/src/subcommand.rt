@@ -1,4 +1,6 @@
 //! The subcommands: each has a file with its help, its options and what it runs.
+ghost use Rattle.std.specs.Prelude.{◌≡◌};
+
 pub mod apply;
 pub mod lines;
 pub mod run;
@@ -29,6 +31,8 @@ pub enum Subcommand {
 }
 
 impl Subcommand {
+    ghost use Rattle.relay.specs.Subcommands.{subcommand_of, word_of};
+
     /// All of them, in the order of the help.
     pub const ALL: [Subcommand; 5] = [
         Subcommand::Lines,
@@ -39,7 +43,9 @@ impl Subcommand {
     ];
 
     /// Its word on the command line.
-    pub fn name(self) -> &'static str {
+    pub fn name(self) -> &'static str
+        ensures { result.now ≡ word_of self }
+    {
         match self {
             Subcommand::Lines => "lines",
             Subcommand::Apply => "apply",
@@ -49,14 +55,18 @@ impl Subcommand {
         }
     }
 
-    /// The subcommand of this name.
-    pub fn named(name: &str) -> Option<Subcommand> {
-        for subcommand in Subcommand::ALL {
-            if subcommand.name() == name {
-                return Some(subcommand);
-            }
+    /// The subcommand of this word. `None`: no subcommand has it.
+    pub fn named(name: &str) -> Option<Subcommand>
+        ensures { result ≡ subcommand_of name.now }
+    {
+        match name {
+            "lines" => Some(Subcommand::Lines),
+            "apply" => Some(Subcommand::Apply),
+            "run" => Some(Subcommand::Run),
+            "stub" => Some(Subcommand::Stub),
+            "world" => Some(Subcommand::World),
+            _ => None,
         }
-        None
     }
 
     /// Its help and its options.

@@ -1,5 +1,5 @@
--- Which fault a key or a source has first.
-use Rattle.std.specs.Prelude.{ℕ, ◌==◌, nat_lt, if◌then◌else◌, List, length, Option, None, Some}
+-- Which fault a key or a source has first, and the names of the faults.
+use Rattle.std.specs.Prelude.{ℕ, ◌==◌, nat_lt, if◌then◌else◌, List, length, codes, Option, None, Some}
 use Rattle.std.specs.List.{list_any}
 use Rattle.relay_action.specs.Limits.{index_limit, id_limit, source_limit, is_line_end}
 use Rattle.relay_action.specs.declared.fault.ActionFault.{ActionFault}
@@ -21,3 +21,14 @@ source_fault source =
     else if nat_lt source_limit (length source) then Some fault.SourceLong
     else if list_any is_line_end source then Some fault.SourceNewline
     else None
+
+-- the name of a fault, as the programs print it
+abbrev pub fault_name : ActionFault → List ℕ
+fault_name fault.IndexEmpty = codes "IndexEmpty"
+fault_name fault.IndexLong = codes "IndexLong"
+fault_name fault.IdEmpty = codes "IdEmpty"
+fault_name fault.IdLong = codes "IdLong"
+fault_name fault.SourceEmpty = codes "SourceEmpty"
+fault_name fault.SourceLong = codes "SourceLong"
+fault_name fault.SourceNewline = codes "SourceNewline"
+fault_name fault.Memory = codes "Memory"

@@ -56,6 +56,26 @@ fn keys_at_their_limits(rt: HostRuntime) -> Result<(), Fail> {
     Ok(())
 }
 
+// A fault is printed by its name.
+#[test]
+fn names_of_faults(rt: HostRuntime) -> Result<(), Fail> {
+    let rows = [
+        (ActionFault::IndexEmpty, "IndexEmpty"),
+        (ActionFault::IndexLong, "IndexLong"),
+        (ActionFault::IdEmpty, "IdEmpty"),
+        (ActionFault::IdLong, "IdLong"),
+        (ActionFault::SourceEmpty, "SourceEmpty"),
+        (ActionFault::SourceLong, "SourceLong"),
+        (ActionFault::SourceNewline, "SourceNewline"),
+        (ActionFault::Memory, "Memory"),
+    ];
+    for (fault, name) in rows {
+        assert_eq!(rt; fault.name(), name);
+        assert_eq!(rt; format!(in rt.alloc(); "{fault}")?.as_str(), name);
+    }
+    Ok(())
+}
+
 #[test]
 fn sources_at_their_limits(rt: HostRuntime) -> Result<(), Fail> {
     let alloc = rt.alloc();

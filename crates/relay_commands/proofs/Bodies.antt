@@ -1,5 +1,5 @@
 -- A body that is read piece by piece.
-use Rattle.std.proofs.Common.{◌≡◌, ℕ, ◌+◌, ◌<◌, ◌≤◌, List, [], ◌++◌, length, Option, Some, None, Result, Ok, Err, IfOk, refl, ap, sym, ◌∙◌, arith, append_assoc, length-append}
+use Rattle.std.proofs.Common.{◌≡◌, ℕ, ◌<◌, ◌≤◌, List, [], ◌++◌, length, Option, Some, None, Result, Ok, Err, IfOk, refl, ap, sym, ◌∙◌, arith, append_assoc, length-append}
 use Rattle.std.specs.Io.KnownBytes.{prepend_known}
 use Rattle.relay_commands.specs.declared.apply.ApplyFault.{ApplyFault}
 use Rattle.relay_commands.specs.declared.apply.ApplyFault.TheVariants as fault

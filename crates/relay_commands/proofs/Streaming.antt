@@ -1,9 +1,8 @@
 -- How `lines` ends.
-use Rattle.std.proofs.Common.{◌≡◌, ◌⊎◌, ℕ, ◌+◌, ◌≤◌, List, [], ◌++◌, length, take, Option, Some, None, Result, Ok, Err, Bool, true, false, if◌then◌else◌, refl, ap, sym, ◌∙◌, subst, arith, inl, inr}
+use Rattle.std.proofs.Common.{◌≡◌, ℕ, ◌≤◌, List, [], length, take, Option, Result, Ok, Err, Bool, true, false, if◌then◌else◌, ap, sym, ◌∙◌, subst, arith, inl, inr}
 use Rattle.std.proofs.lemmas.Grind.{common_steps}
 use Rattle.std.specs.Io.KnownBytes.{append_known}
 use Rattle.relay_action.specs.Streams.{one_more}
-use Rattle.relay_action.specs.Limits.{last_version}
 use Rattle.relay_ndjson.specs.Lines.{is_read}
 use Rattle.relay_ndjson.specs.Operations.{Operation}
 use Rattle.relay_ndjson.specs.Reading.{Reading, Parsing, start, reading, fresh}
@@ -13,7 +12,7 @@ use Rattle.relay_commands.specs.Calls.{NoneFails, OneFails, OneAtMost, FailsOnce
 use Rattle.relay_ndjson.specs.Lines.{piece_limit}
 use Rattle.relay_commands.specs.Lines.{Concludes, Deals, IsCutOff, Streams, Writes, failed_by, lines_of}
 use Rattle.relay_commands.specs.Passing.{Passes, FailsInPass}
-use Rattle.relay_commands.specs.Sending.{BreaksOff, Closes, Finishes, FinishesOrFails, MovesPart, Wrote}
+use Rattle.relay_commands.specs.Sending.{Closes, FinishesOrFails, MovesPart, Wrote}
 use Rattle.relay_commands.specs.declared.lines.LinesFault.{LinesFault}
 use Rattle.relay_commands.specs.declared.lines.LinesFault.TheVariants as fault
 use Rattle.relay_commands.proofs.Written.{wrote_all, wrote_part}

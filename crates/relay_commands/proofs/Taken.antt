@@ -4,7 +4,7 @@ use Rattle.std.proofs.lemmas.Grind.{flat_map-append}
 use Rattle.relay_ndjson.specs.Bulk.{write_text, text_of}
 use Rattle.relay_ndjson.specs.Operations.{Operation}
 use Rattle.relay_ndjson.specs.Reading.{Reading, Takes}
-use Rattle.relay_commands.specs.Lines.{TakesAll, Deals, numbered, lines_of, write_of}
+use Rattle.relay_commands.specs.Lines.{TakesAll, numbered, lines_of, write_of}
 
 pub takes_more : (old mid new : Reading) (ops : List Operation) (n : ℕ) (op : Operation) → TakesAll old mid ops → Takes mid new n op → TakesAll old new (ops ++ op ∷ [])
 takes_more old mid new [] n op t s = (n, new, subst (λ (o : Reading). Takes o new n op) t s, refl)

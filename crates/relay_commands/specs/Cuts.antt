@@ -1,5 +1,5 @@
 -- For one pair of a list of refusals, and for the texts that it is cut from.
-use Rattle.std.specs.Prelude.{◌≡◌, ℕ, ◌<◌, List, length, Option, Some, ◌==◌, if◌then◌else◌}
+use Rattle.std.specs.Prelude.{◌≡◌, ℕ, ◌<◌, List, length, Some, ◌==◌, if◌then◌else◌}
 use Rattle.std.specs.List.{before_first, after_first, position_or_len}
 use Rattle.relay_index.specs.Plans.{Plan, refusal_at}
 use Rattle.relay_commands.specs.Refusals.{IsNoRefusal}

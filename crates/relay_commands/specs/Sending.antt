@@ -1,5 +1,5 @@
 -- For text that is still to be written, with a count of the bytes that went out before it.
-use Rattle.std.specs.Prelude.{◌≡◌, ◌⊎◌, ℕ, ◌+◌, ◌<◌, min, List, ◌++◌, length, take, Option, Result, Ok, Err}
+use Rattle.std.specs.Prelude.{◌≡◌, ◌⊎◌, ℕ, ◌+◌, ◌<◌, min, List, ◌++◌, length, take, Option, Result, Err}
 use Rattle.std.specs.Io.KnownBytes.{append_known}
 use Rattle.relay_action.specs.Streams.{most}
 use Rattle.relay_commands.specs.Calls.{NoneFails, OneFails}

@@ -49,10 +49,8 @@ pub fn apply<R: ByteIn, W: ByteOut>(
     ensures calls { FailsOnceInApply (R.failed reader.old) (R.failed reader.new)
         (W.failed writer.old) (W.failed writer.new) result }
 {
-    match answer(alloc, reader, script) {
-        Ok(out) => send(writer, out.as_slice()),
-        Err(fault) => Err(fault),
-    }
+    let out = answer(alloc, reader, script)?;
+    send(writer, out.as_slice())
 }
 
 // Reads a body to its end, and gives the lines of a fresh index's answer to it. The fault is `BodyLong`,

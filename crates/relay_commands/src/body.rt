@@ -30,10 +30,8 @@ pub fn read_body<R: ByteIn>(alloc: Global, reader: &mut R) -> Result<Vec<u8>, Ap
         Err(_) => return Err(ApplyFault::Memory),
     };
     let mut body = Vec::new(alloc);
-    match read_pieces(reader, &mut piece, &mut body) {
-        Ok(()) => Ok(body),
-        Err(fault) => Err(fault),
-    }
+    read_pieces(reader, &mut piece, &mut body)?;
+    Ok(body)
 }
 
 // Reads a body to its end, piece by piece.
@@ -49,10 +47,9 @@ fn read_pieces<R: ByteIn>(
     ensures failed { R.failed reader.new ≡ failed_by result (R.failed reader.old) }
 {
     'pieces: loop {
-        match read_piece(reader, piece, body) {
-            Ok(Part::More) => {}
-            Ok(Part::End) => return Ok(()),
-            Err(fault) => return Err(fault),
+        match read_piece(reader, piece, body)? {
+            Part::More => {}
+            Part::End => return Ok(()),
         }
         if body.len() > BODY_LIMIT {
             return Err(ApplyFault::BodyLong);

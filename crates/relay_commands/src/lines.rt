@@ -93,10 +93,9 @@ fn pass_on<R: ByteIn, W: ByteOut>(
         if let Err(sent) = outgoing.make_way(writer, !parser.is_ready()) {
             return Err(LinesFault::Write { sent });
         }
-        match add_next(alloc, reader, parser, outgoing, version) {
-            Ok(Next::Added) => version += 1,
-            Ok(Next::Ended) => return Ok(version - first),
-            Err(fault) => return Err(fault),
+        match add_next(alloc, reader, parser, outgoing, version)? {
+            Next::Added => version += 1,
+            Next::Ended => return Ok(version - first),
         }
     }
 }
@@ -126,13 +125,12 @@ fn add_next<R: ByteIn>(
     ensures failed { R.failed reader.new ≡ failed_by result (R.failed reader.old) }
     ensures held { length parser.new.held ≤ piece_limit }
 {
-    match next_write(reader, parser, version) {
-        Ok(Some(write)) => match outgoing.add(alloc, &write) {
+    match next_write(reader, parser, version)? {
+        Some(write) => match outgoing.add(alloc, &write) {
             Ok(()) => Ok(Next::Added),
             Err(_) => Err(LinesFault::Memory),
         },
-        Ok(None) => Ok(Next::Ended),
-        Err(fault) => Err(fault),
+        None => Ok(Next::Ended),
     }
 }
 
@@ -149,10 +147,10 @@ fn next_write<R: ByteIn>(
     ensures held { length parser.new.held ≤ piece_limit }
 {
     match parser.next(reader) {
-        Ok(Some((key, action))) => match numbered(key, action, version, parser.line()) {
-            Ok(write) => Ok(Some(write)),
-            Err(fault) => Err(fault),
-        },
+        Ok(Some((key, action))) => {
+            let write = numbered(key, action, version, parser.line())?;
+            Ok(Some(write))
+        }
         Ok(None) => Ok(None),
         Err(fault) => Err(fault_of(fault)),
     }

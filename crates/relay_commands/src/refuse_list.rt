@@ -37,16 +37,12 @@ pub fn refuse_list(alloc: Global, list: &str) -> Result<Script, ListFault>
     let mut rest = list;
     let mut before = 0;
     'parts: while let Some((part, later)) = cut_at_comma(rest) {
-        if let Err(fault) = add(&mut script, part, before) {
-            return Err(fault);
-        }
+        add(&mut script, part, before)?;
         rest = later;
         before += 1;
     }
-    match add(&mut script, rest, before) {
-        Ok(()) => Ok(script),
-        Err(fault) => Err(fault),
-    }
+    add(&mut script, rest, before)?;
+    Ok(script)
 }
 
 // The parts of a text before its first colon and after it.
@@ -86,15 +82,9 @@ fn refusal_of(part: &str) -> Option<(u64, u16)>
     ensures some { IfSome result (λ r. IsRefusal part.now r.0 r.1) }
     ensures none { IfNone result (IsNoRefusal part.now) }
 {
-    let Some((place, status)) = cut_at_colon(part) else {
-        return None;
-    };
-    let Some(place) = number_of(place) else {
-        return None;
-    };
-    let Some(status) = number_of(status) else {
-        return None;
-    };
+    let (place, status) = cut_at_colon(part)?;
+    let place = number_of(place)?;
+    let status = number_of(status)?;
     if place == 0 || !is_refusal(status) {
         return None;
     }

@@ -13,7 +13,7 @@ use Rattle.serde_json.specs.Find.{get_member}
 use Rattle.serde_json.specs.Read.{of_json, of_members}
 use Rattle.serde_json.proofs.Views.{get_member-put}
 use Rattle.relay_json.specs.Sole.{sole, all_named}
-use Rattle.relay_json.proofs.Found.{found_in, get_member-of_members, member_has_data}
+use Rattle.relay_json.proofs.Found.{found_in, get_member-of_members, member_in_range}
 
 same_text : (xs : List ℕ) → slice_cmp nat_cmp xs xs ≡ Equal
 same_text xs = tied_itself nat_list_cmp_total xs
@@ -72,7 +72,7 @@ one_name k n d Greater e h = absurd (true≢false (sym h))
 -- what was put is found, or what came later at its name
 there : (k : List ℕ) (ms : json.Members) (x : Data) (found out : Members) (o : Option json.Json) → of_members ms (put k x found) ≡ Some out → json_find.get_member k ms ≡ o → is_some (found_in o (get_member k (put k x found))) ≡ true
 there k ms x found out None e is = ap is_some (get_member-put k x found)
-there k ms x found out (Some l) e is = member_has_data k ms (put k x found) out l e is
+there k ms x found out (Some l) e is = member_in_range k ms (put k x found) out l e is
 
 only_name : (n : List ℕ) (d : Data) (ms : json.Members) (found : Members) → of_members ms found ≡ Some (member n d no_members) → all_named n ms ≡ true
 only_name n d json.no_members found e = refl

@@ -44,12 +44,12 @@ has-later ms name k j l d (Some i) b is h later = let same : i ≡ l = cc in ap 
 has-later ms name k j l d None true is h later = let same : j ≡ l = cc in ap (λ x. is_some (of_json x)) (sym same) ∙ ap is_some is
 has-later ms name k j l d None false is h later = absurd (cc)
 
-pub member_has_data : (name : List ℕ) (ms : json.Members) (found out : Members) (l : json.Json) → of_members ms found ≡ Some out → json_find.get_member name ms ≡ Some l → is_some (of_json l) ≡ true
-member_has_data name json.no_members found out l e h = absurd (cc)
-member_has_data name (json.member k j ms) found out l e h =
+pub member_in_range : (name : List ℕ) (ms : json.Members) (found out : Members) (l : json.Json) → of_members ms found ≡ Some out → json_find.get_member name ms ≡ Some l → is_some (of_json l) ≡ true
+member_in_range name json.no_members found out l e h = absurd (cc)
+member_in_range name (json.member k j ms) found out l e h =
     let P : Option Data → Type 0 = λ o. of_json j ≡ o → option_and_then (λ d. of_members ms (put k d found)) o ≡ Some out → is_some (of_json l) ≡ true in
     let step : P (of_json j) = elim (of_json j) as P [
       | None ↦ λ is g. absurd (cc)
-      | Some d ↦ λ is g. has-later ms name k j l d (json_find.get_member name ms) (bytes_eq k name) is h (λ i f. member_has_data name ms (put k d found) out i g f)
+      | Some d ↦ λ is g. has-later ms name k j l d (json_find.get_member name ms) (bytes_eq k name) is h (λ i f. member_in_range name ms (put k d found) out i g f)
     ] in
     step refl e

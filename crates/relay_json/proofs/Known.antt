@@ -9,7 +9,7 @@ use Rattle.json.specs.Json as json
 use Rattle.json.specs.Find as json_find
 use Rattle.serde_json.specs.Data.{Data, Members, member, no_members, put}
 use Rattle.serde_json.specs.Read.{of_json, of_members}
-use Rattle.relay_json.specs.Reads.{HasData}
+use Rattle.relay_json.specs.Ranges.{NumbersInRange}
 use Rattle.relay_json.specs.Names.{all_names, has_only, all_known}
 use Rattle.relay_json.proofs.Nodes.{data_at}
 use Rattle.relay_json.proofs.Soles.{as_object as object_of}
@@ -55,7 +55,7 @@ and_true : (b : Bool) → (b && true) ≡ b
 and_true true = refl
 and_true false = refl
 
-pub known-object : (known : List ℕ → Bool) (j : json.Json) (ms : json.Members) → HasData j → json_find.as_object j ≡ Some ms → has_only known (data_at j) ≡ all_known known ms
+pub known-object : (known : List ℕ → Bool) (j : json.Json) (ms : json.Members) → NumbersInRange j → json_find.as_object j ≡ Some ms → has_only known (data_at j) ≡ all_known known ms
 known-object known j ms h e =
     let o = object_of j ms h e in
     ap (has_only known) o.is ∙ all_names-of_members known ms no_members o.out o.read ∙ and_true (all_known known ms)

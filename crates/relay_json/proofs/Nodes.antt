@@ -11,9 +11,9 @@ use Rattle.serde_json.specs.Data.{Data, null, number, array, object, Items, no_i
 use Rattle.serde_json.specs.Events.{items_len}
 use Rattle.serde_json.specs.Find.{get}
 use Rattle.serde_json.specs.Read.{number_of, of_json, of_items, of_members}
-use Rattle.relay_json.specs.Reads.{HasData, HaveData}
+use Rattle.relay_json.specs.Ranges.{NumbersInRange, ItemsInRange}
 use Rattle.relay_json.specs.Sole.{all_named}
-use Rattle.relay_json.proofs.Found.{found_in, get_member-of_members, member_has_data}
+use Rattle.relay_json.proofs.Found.{found_in, get_member-of_members, member_in_range}
 use Rattle.relay_json.proofs.Ranges.{Key}
 
 abbrev pub data_at : json.Json → Data
@@ -26,7 +26,7 @@ is_Some : {A : Type 0} (o : Option A) (a : A) → is_some o ≡ true → o ≡ S
 is_Some None a h = cc
 is_Some (Some b) a h = refl
 
-pub data_is : (j : json.Json) → HasData j → of_json j ≡ Some (data_at j)
+pub data_is : (j : json.Json) → NumbersInRange j → of_json j ≡ Some (data_at j)
 data_is j h = is_Some (of_json j) null h
 
 -- ---- look-ups
@@ -55,35 +55,35 @@ get-of_json name (json.object ms) d e =
     ] in
     step refl e
 
-object_data : (ms : json.Members) → HasData (json.object ms) → (out : Members) × (of_members ms no_members ≡ Some out)
+object_data : (ms : json.Members) → NumbersInRange (json.object ms) → (out : Members) × (of_members ms no_members ≡ Some out)
 object_data ms h =
     let P : Option Members → Type 0 = λ o. is_some (option_map object o) ≡ true → (out : Members) × (o ≡ Some out) in
     let step : P (of_members ms no_members) = elim (of_members ms no_members) as P [ None ↦ λ g. absurd (cc) | Some out ↦ λ g. (out, refl) ] in
     step h
 
-pub found_has_data : (name : List ℕ) (j l : json.Json) → HasData j → json_find.get name j ≡ Some l → HasData l
-found_has_data name json.null l h e = absurd (cc)
-found_has_data name (json.boolean b) l h e = absurd (cc)
-found_has_data name (json.string s) l h e = absurd (cc)
-found_has_data name (json.number s) l h e = absurd (cc)
-found_has_data name (json.array js) l h e = absurd (cc)
-found_has_data name (json.object ms) l h e = let out = object_data ms h in member_has_data name ms no_members out.0 l out.1 e
+pub found_in_range : (name : List ℕ) (j l : json.Json) → NumbersInRange j → json_find.get name j ≡ Some l → NumbersInRange l
+found_in_range name json.null l h e = absurd (cc)
+found_in_range name (json.boolean b) l h e = absurd (cc)
+found_in_range name (json.string s) l h e = absurd (cc)
+found_in_range name (json.number s) l h e = absurd (cc)
+found_in_range name (json.array js) l h e = absurd (cc)
+found_in_range name (json.object ms) l h e = let out = object_data ms h in member_in_range name ms no_members out.0 l out.1 e
 
-pub get-none : (name : List ℕ) (j : json.Json) → HasData j → json_find.get name j ≡ None → None ≡ get name (data_at j)
+pub get-none : (name : List ℕ) (j : json.Json) → NumbersInRange j → json_find.get name j ≡ None → None ≡ get name (data_at j)
 get-none name j h e = sym (get-of_json name j (data_at j) (data_is j h) ∙ ap (λ o. found_in o None) e)
 
-pub get-some : (name : List ℕ) (j l : json.Json) → HasData j → json_find.get name j ≡ Some l → Some (data_at l) ≡ get name (data_at j)
-get-some name j l h e = sym (get-of_json name j (data_at j) (data_is j h) ∙ ap (λ o. found_in o None) e ∙ data_is l (found_has_data name j l h e))
+pub get-some : (name : List ℕ) (j l : json.Json) → NumbersInRange j → json_find.get name j ≡ Some l → Some (data_at l) ≡ get name (data_at j)
+get-some name j l h e = sym (get-of_json name j (data_at j) (data_is j h) ∙ ap (λ o. found_in o None) e ∙ data_is l (found_in_range name j l h e))
 
 -- ---- items
 
 -- the first of the items, and the rest
 pub record Splits (j : json.Json) (js : json.Items) : Type 0 where
-  pub first : HasData j
-  pub rest : HaveData js
+  pub first : NumbersInRange j
+  pub rest : ItemsInRange js
   pub items : items_at (json.item j js) ≡ item (data_at j) (items_at js)
 
-pub split : (j : json.Json) (js : json.Items) → HaveData (json.item j js) → Splits j js
+pub split : (j : json.Json) (js : json.Items) → ItemsInRange (json.item j js) → Splits j js
 split j js h =
     let P : Option Data → Option Items → Type 0 = λ o p. of_json j ≡ o → of_items js ≡ p → is_some (option_and_then (λ d. option_map (item d) p) o) ≡ true → Splits j js in
     let step : P (of_json j) (of_items js) = elim (of_json j) as (λ o. P o (of_items js)) [
@@ -99,7 +99,7 @@ split j js h =
     ] in
     step refl refl h
 
-pub items_len-items_at : (vs : List (Value Global)) → HaveData (items_view vs) → length vs ≡ items_len (items_at (items_view vs))
+pub items_len-items_at : (vs : List (Value Global)) → ItemsInRange (items_view vs) → length vs ≡ items_len (items_at (items_view vs))
 items_len-items_at [] h = refl
 items_len-items_at (v ∷ vs) h =
     let s = split (value_view v) (items_view vs) h in

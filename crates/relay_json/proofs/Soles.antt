@@ -9,7 +9,7 @@ use Rattle.json.specs.declared.value.Value.{Value}
 use Rattle.serde_json.specs.Data.{object, Members, no_members}
 use Rattle.serde_json.specs.Find.{get}
 use Rattle.serde_json.specs.Read.{of_members}
-use Rattle.relay_json.specs.Reads.{HasData}
+use Rattle.relay_json.specs.Ranges.{NumbersInRange}
 use Rattle.relay_json.specs.Sole.{sole_member, all_named}
 use Rattle.relay_json.proofs.Alone.{sole-all_named, sole-several}
 use Rattle.relay_json.proofs.Nodes.{data_at}
@@ -21,7 +21,7 @@ pub record IsObject (j : json.Json) (ms : json.Members) : Type 0 where
   pub read : of_members ms no_members ≡ Some out
   pub is : data_at j ≡ object out
 
-object_at : (ms : json.Members) → HasData (json.object ms) → IsObject (json.object ms) ms
+object_at : (ms : json.Members) → NumbersInRange (json.object ms) → IsObject (json.object ms) ms
 object_at ms h =
     let P : Option Members → Type 0 = λ o. of_members ms no_members ≡ o → is_some (option_map object o) ≡ true → IsObject (json.object ms) ms in
     let step : P (of_members ms no_members) = elim (of_members ms no_members) as P [
@@ -30,7 +30,7 @@ object_at ms h =
     ] in
     step refl h
 
-pub as_object : (j : json.Json) (ms : json.Members) → HasData j → json_find.as_object j ≡ Some ms → IsObject j ms
+pub as_object : (j : json.Json) (ms : json.Members) → NumbersInRange j → json_find.as_object j ≡ Some ms → IsObject j ms
 as_object json.null ms h e = absurd (cc)
 as_object (json.boolean b) ms h e = absurd (cc)
 as_object (json.number s) ms h e = absurd (cc)
@@ -38,13 +38,13 @@ as_object (json.string s) ms h e = absurd (cc)
 as_object (json.array js) ms h e = absurd (cc)
 as_object (json.object ns) ms h e = let same : ns ≡ ms = cc in subst (λ xs. IsObject (json.object ns) xs) same (object_at ns h)
 
-pub sole-named : (j : json.Json) (ms : json.Members) (name : List ℕ) → HasData j → json_find.as_object j ≡ Some ms → all_named name ms ≡ true
+pub sole-named : (j : json.Json) (ms : json.Members) (name : List ℕ) → NumbersInRange j → json_find.as_object j ≡ Some ms → all_named name ms ≡ true
     → sole_member (data_at j) ≡ option_map (λ x. (name, x)) (get name (data_at j))
 sole-named j ms name h e named =
     let o = as_object j ms h e in
     ap sole_member o.is ∙ sole-all_named name ms o.out o.read named ∙ sym (ap (λ d. option_map (λ x. (name, x)) (get name d)) o.is)
 
-pub sole-other : (j : json.Json) (ms : List (Key × Value Global)) (m : Key × Value Global) → HasData j → json_find.as_object j ≡ Some (members_view ms) → slice_get ms 0 ≡ Some m
+pub sole-other : (j : json.Json) (ms : List (Key × Value Global)) (m : Key × Value Global) → NumbersInRange j → json_find.as_object j ≡ Some (members_view ms) → slice_get ms 0 ≡ Some m
     → all_named m.0.now (members_view ms) ≡ false → None ≡ sole_member (data_at j)
 sole-other j [] m h e first named = absurd (cc)
 sole-other j (x ∷ ms) m h e first named =

@@ -1,4 +1,4 @@
-pub mod Reads
+pub mod Ranges
 pub mod Sole
 pub mod Values
 pub mod Names

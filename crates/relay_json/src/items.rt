@@ -3,7 +3,7 @@ ghost use Rattle.std.specs.Prelude.{◌≡◌, ◌↔◌, IsTrue, MatchOption};
 ghost use Rattle.json.specs.Value.{items_view};
 ghost use Rattle.serde_json.specs.Data.{no_items, item};
 ghost use Rattle.serde_json.specs.Events.{items_len};
-ghost use Rattle.relay_json.specs.Reads.{HaveData};
+ghost use Rattle.relay_json.specs.Ranges.{ItemsInRange};
 
 use crate::value::Value;
 
@@ -11,7 +11,7 @@ use crate::value::Value;
 #[derive(Clone, Copy)]
 pub struct Items<'v, 't> {
     left: &'v [json::Value<'t>],
-    ghost have_data: { HaveData (items_view left.now) },
+    ghost in_range: { ItemsInRange (items_view left.now) },
 }
 
 impl<'v, 't> Items<'v, 't> {
@@ -19,7 +19,7 @@ impl<'v, 't> Items<'v, 't> {
 
     // The items of nodes of a tree.
     pub(crate) fn over(left: &'v [json::Value<'t>]) -> Items<'v, 't>
-        requires { HaveData (items_view left.now) }
+        requires { ItemsInRange (items_view left.now) }
         ensures { result.left ≡ left.entry }
     {
         Items { left }

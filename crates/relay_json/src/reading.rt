@@ -6,7 +6,7 @@ ghost use Rattle.json.specs.Reads.{opens};
 ghost use Rattle.json.specs.Scratch.{room};
 ghost use Rattle.json.specs.Value.{value_view};
 ghost use Rattle.serde_json.specs.Read.{read, max_depth};
-ghost use Rattle.relay_json.specs.Reads.{HasData};
+ghost use Rattle.relay_json.specs.Ranges.{NumbersInRange};
 
 use crate::range::numbers_in_range;
 use crate::value::Value;
@@ -62,7 +62,7 @@ fn read_tree<'t>(
 #[derive(Drop)]
 pub struct Tree<'t> {
     value: json::Value<'t>,
-    ghost has_data: { HasData (value_view value) },
+    ghost in_range: { NumbersInRange (value_view value) },
 }
 
 impl<'t> Tree<'t> {

@@ -3,7 +3,7 @@ ghost use Rattle.std.specs.Prelude.{◌≡◌, ⊤, Some, None, IsTrue, ◌↔�
 ghost use Rattle.json.specs.Value.{value_view};
 ghost use Rattle.serde_json.specs.Data.{null};
 ghost use Rattle.serde_json.specs.Find.{as_null, as_bool, as_number, as_object, as_str, as_array, as_i64, as_u64, get};
-ghost use Rattle.relay_json.specs.Reads.{HasData};
+ghost use Rattle.relay_json.specs.Ranges.{NumbersInRange};
 ghost use Rattle.relay_json.specs.Names.{has_only};
 ghost use Rattle.relay_json.specs.Sole.{sole_member};
 
@@ -17,7 +17,7 @@ use crate::number::{to_i64, to_u64};
 #[derive(Clone, Copy)]
 pub struct Value<'v, 't> {
     node: &'v json::Value<'t>,
-    ghost has_data: { HasData (value_view node.now) },
+    ghost in_range: { NumbersInRange (value_view node.now) },
 }
 
 impl<'v, 't> Value<'v, 't> {
@@ -26,7 +26,7 @@ impl<'v, 't> Value<'v, 't> {
     // The value at a node of a tree.
     #[inline(always)]
     pub(crate) fn at(node: &'v json::Value<'t>) -> Value<'v, 't>
-        requires { HasData (value_view node.now) }
+        requires { NumbersInRange (value_view node.now) }
         ensures { result.node ≡ node.entry }
     {
         Value { node }

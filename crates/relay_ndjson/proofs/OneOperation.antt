@@ -1,5 +1,6 @@
 -- A stream's front has one operation, and none where a read failed.
 use Rattle.std.proofs.Common.{◌≡◌, ◌≢◌, ℕ, zero, suc, ◌+◌, ◌-◌, ◌<◌, ◌≤◌, List, [], ◌∷◌, ◌++◌, length, Option, Some, refl, ap, sym, ◌∙◌, subst, arith, inl, inr, append_assoc, length-append, append-nil}
+use Rattle.std.specs.Io.KnownBytes.{prepend_known}
 use Rattle.relay_action.specs.declared.key.DocKey.{DocKey}
 use Rattle.relay_action.specs.declared.action.Action.{Action}
 use Rattle.relay_action.specs.declared.action.Action.TheVariants.{Index, Delete}
@@ -231,6 +232,8 @@ none_held default front bytes (x ∷ xs) [] taken b u e h =
     cut_goes_on (Some (used ++ 10 ∷ [])) (Some (h.2 ++ 10 ∷ [])) used (10 ∷ []) h.2 u refl refl (omega arith) (goes_on default (Some (used ++ 10 ∷ [])) (Some (h.2 ++ 10 ∷ [])) (bytes ++ 10 ∷ []) taken h.0 h.1 lifted (h.3 (10 ∷ [])))
 
 pub no_operation_at_read : NoOperationAtRead
-no_operation_at_read default bytes later held count e s k h =
+no_operation_at_read default bytes later old new e o n s k h =
     let cut = s.stop.cut (ap is_read k) in
-    none_held default s.front bytes s.stop.used later s.taken s.begins cut.0 s.stop.rest h
+    let begins = subst (λ (ahead : Option (List ℕ)). TakesBeginning default ahead s.front s.taken) o s.begins in
+    let rest = s.stop.rest ∙ ap (prepend_known s.stop.used) n in
+    none_held default s.front bytes s.stop.used later s.taken begins cut.0 rest h

@@ -1,5 +1,5 @@
 -- Lines that are found piece by piece.
-use Rattle.std.proofs.Common.{◌≡◌, ◌≢◌, ℕ, zero, suc, ◌+◌, ◌-◌, ◌<◌, ◌≤◌, List, [], ◌∷◌, ◌++◌, length, take, drop, get_or, Option, None, Some, Result, Ok, Err, true, false, subst, refl, ap, sym, ◌∙◌, arith, inl, inr, append_assoc, append-nil, add-one}
+use Rattle.std.proofs.Common.{◌≡◌, ◌≢◌, ℕ, zero, suc, ◌+◌, ◌-◌, ◌<◌, ◌≤◌, List, [], ◌∷◌, ◌++◌, length, take, drop, get_or, Option, None, Some, Result, Ok, Err, subst, refl, ap, sym, ◌∙◌, arith, inl, inr, append_assoc, append-nil, add-one}
 use Rattle.std.proofs.lemmas.Grind.{common_steps}
 use Rattle.std.proofs.Math.Seq.{drop-cons}
 use Rattle.std.proofs.lemmas.List.{take-append-drop}
@@ -9,6 +9,7 @@ use Rattle.relay_ndjson.specs.Lines.{IsUnbroken, IsRaw, line_limit}
 use Rattle.relay_ndjson.specs.Steps.{IsAddFault, TakesPart, TakesLine, EndsLine}
 use Rattle.relay_ndjson.specs.declared.lines.Line.{Line}
 use Rattle.relay_ndjson.specs.declared.lines.Line.TheVariants as line
+use Rattle.relay_ndjson.specs.declared.lines.Part.TheVariants as part
 use Rattle.relay_ndjson.specs.declared.kind.LineKind.{LineKind}
 
 pub prepend_nothing : (shown : Option (List ℕ)) → prepend_known [] shown ≡ shown
@@ -73,7 +74,7 @@ part_refused begun piece text rest end k u f a =
     let s = first_feed piece end f in
     (begun ++ take end piece, 10 ∷ drop (end + 1) piece, unbroken_append begun (take end piece) u s.0, ap (λ p. begun ++ p) s.1 ∙ sym (append_assoc begun (take end piece) (10 ∷ drop (end + 1) piece)), a)
 
-pub part_ended : (begun piece added text rest : List ℕ) (end : ℕ) → IsUnbroken begun → IsFirstByte (is_byte 10) piece (Some end) → added ≡ begun ++ take end piece → IsRaw text added → length text ≤ line_limit → rest ≡ drop (end + 1) piece → TakesPart begun piece text rest (Ok true)
+pub part_ended : (begun piece added text rest : List ℕ) (end : ℕ) → IsUnbroken begun → IsFirstByte (is_byte 10) piece (Some end) → added ≡ begun ++ take end piece → IsRaw text added → length text ≤ line_limit → rest ≡ drop (end + 1) piece → TakesPart begun piece text rest (Ok part.End)
 part_ended begun piece added text rest end u f e r n d =
     let s = first_feed piece end f in (
       added,
@@ -95,7 +96,7 @@ rejoined : (begun piece raw later : List ℕ) (old left : Option (List ℕ)) →
 rejoined begun piece raw later old left e f =
     e ∙ (sym (prepend_known-append begun piece left) ∙ (ap (λ b. prepend_known b left) f ∙ prepend_known-append raw later left))
 
-pub line_ended : (begun piece text rest : List ℕ) (old left : Option (List ℕ)) → old ≡ prepend_known begun (prepend_known piece left) → TakesPart begun piece text rest (Ok true) → TakesLine old (prepend_known rest left) text (Ok line.Ended)
+pub line_ended : (begun piece text rest : List ℕ) (old left : Option (List ℕ)) → old ≡ prepend_known begun (prepend_known piece left) → TakesPart begun piece text rest (Ok part.End) → TakesLine old (prepend_known rest left) text (Ok line.Ended)
 line_ended begun piece text rest old left e p =
     (p.0, p.1, p.2, p.3, rejoined begun piece (p.0 ++ 10 ∷ []) rest old left e (p.4 ∙ sym (append_assoc p.0 (10 ∷ []) rest)))
 
@@ -106,7 +107,7 @@ line_refused begun piece text rest old new left k e p =
       | inr m ↦ inr (inl m)
     ]
 
-pub line_goes_on : (begun piece text rest : List ℕ) (old left : Option (List ℕ)) → old ≡ prepend_known begun (prepend_known piece left) → TakesPart begun piece text rest (Ok false) → old ≡ prepend_known text (prepend_known rest left)
+pub line_goes_on : (begun piece text rest : List ℕ) (old left : Option (List ℕ)) → old ≡ prepend_known begun (prepend_known piece left) → TakesPart begun piece text rest (Ok part.More) → old ≡ prepend_known text (prepend_known rest left)
 line_goes_on begun piece text rest old left e p =
     let f : begun ++ piece ≡ text ++ rest = sym p.2 ∙ (sym (append-nil text) ∙ ap (λ x. text ++ x) (sym p.3)) in
     rejoined begun piece text rest old left e f

@@ -14,7 +14,7 @@ use Rattle.relay_ndjson.specs.declared.kind.LineKind.TheVariants as kind
 use Rattle.relay_json.specs.Names.{has_only}
 use Rattle.relay_ndjson.specs.Lines.{IsOfOneLine, IsLineBefore, IsRaw, StopsInLine, TakesText, TakesBlank, is_read, line_limit}
 use Rattle.relay_ndjson.specs.Metadata.{Says, is_document, is_field, index_of, id_of, action_of, fault_or, id_fault, document_fault, metadata_fault, value_fault, line_fault}
-use Rattle.relay_ndjson.specs.Operations.{blank_limit, counted, Stops}
+use Rattle.relay_ndjson.specs.Operations.{blank_limit, counted, Position, Stops}
 use Rattle.relay_ndjson.specs.Steps.{SkipsBlank, StopsInSource}
 use Rattle.relay_ndjson.proofs.Asking.{decide}
 use Rattle.relay_ndjson.proofs.Deciding.{key_none}
@@ -90,40 +90,40 @@ stops_after old new held text k t n = record {
 -- ---- the steps of the reader
 
 -- a blank line too many
-pub blank_stops : (default old new : Option (List ℕ)) (held : List ℕ) (n count here : ℕ) → n ≡ blank_limit + 1 → TakesBlank n old new → here ≡ counted (count + n) → Stops default old new held count (record { line = here; kind = kind.LineLong })
-blank_stops default old new held n count here e t c =
-    let last = blank_last blank_limit old new (rw e at t) in record {
+pub blank_stops : (default : Option (List ℕ)) (old new : Position) (n : ℕ) → n ≡ blank_limit + 1 → TakesBlank n old.ahead new.ahead → new.count ≡ counted (old.count + n) → Stops default old new (record { line = new.count; kind = kind.LineLong })
+blank_stops default old new n e t c =
+    let last = blank_last blank_limit old.ahead new.ahead (rw e at t) in record {
       taken = blank_limit;
       front = last.0;
       begins = inl (omega arith, last.1);
       line = omega (arith, c, e);
-      stop = stops_after last.0 new held [] kind.LineLong last.2 refl;
+      stop = stops_after last.0 new.ahead new.held [] kind.LineLong last.2 refl;
     }
 
 -- an action line that breaks the grammar, or for which there is no memory
-pub action_stops : (default old new : Option (List ℕ)) (held : List ℕ) (count here : ℕ) (text : List ℕ) (k : LineKind) → SkipsBlank old new count here text (Ok true) → (k ≡ kind.Memory) ⊎ (line_fault default text ≡ Some k) → Stops default old new held count (record { line = here; kind = k })
-action_stops default old new held count here text k s f =
+pub action_stops : (default : Option (List ℕ)) (old new : Position) (text : List ℕ) (k : LineKind) → SkipsBlank old new text (Ok true) → (k ≡ kind.Memory) ⊎ (line_fault default text ≡ Some k) → Stops default old new (record { line = new.count; kind = k })
+action_stops default old new text k s f =
     let no : is_read k ≡ false = elim f [ inl m ↦ ap is_read m | inr e ↦ no_read_line default text k e ] in record {
       taken = s.0;
       front = s.1;
       begins = inl (s.2, s.3);
       line = omega (arith, s.6);
-      stop = stops_after s.1 new held text k s.4 no;
+      stop = stops_after s.1 new.ahead new.held text k s.4 no;
     }
 
 -- a source that is none, or for which there is no memory
-pub source_stops : (default old mid new : Option (List ℕ)) (held : List ℕ) (count here : ℕ) (text : List ℕ) (key : DocKey) (e : InputFault) → SkipsBlank old mid count here text (Ok true) → Says default text action.Index key.index key.id → StopsInSource mid new held here here e → Stops default old new held count e
-source_stops default old mid new held count here text key e s says (inl f) = record {
+pub source_stops : (default : Option (List ℕ)) (old mid new : Position) (text : List ℕ) (key : DocKey) (e : InputFault) → SkipsBlank old mid text (Ok true) → Says default text action.Index key.index key.id → StopsInSource mid new mid.count e → Stops default old new e
+source_stops default old mid new text key e s says (inl f) = record {
   taken = s.0 + 1;
-  front = mid;
+  front = mid.ahead;
   begins = inr (s.0, s.1, text, key.index, key.id, s.2, s.3, s.4, says, key_none key.index key.id key.index_ok key.id_ok, refl);
   line = omega (arith, s.6, f.0);
   stop = f.1;
 }
-source_stops default old mid new held count here text key e s says (inr f) = record {
+source_stops default old mid new text key e s says (inr f) = record {
   taken = s.0;
   front = s.1;
   begins = inl (s.2, s.3);
   line = omega (arith, s.6, f.0);
-  stop = stops_after s.1 new held text e.kind (subst (λ (o : Option (List ℕ)). TakesText s.1 o text) (sym f.2) s.4) (ap is_read f.1);
+  stop = stops_after s.1 new.ahead new.held text e.kind (subst (λ (o : Option (List ℕ)). TakesText s.1 o text) (sym f.2) s.4) (ap is_read f.1);
 }

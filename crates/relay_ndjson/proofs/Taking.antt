@@ -11,7 +11,7 @@ use Rattle.relay_ndjson.specs.declared.kind.InputFault.{InputFault}
 use Rattle.relay_ndjson.specs.Metadata.{Says, line_fault}
 use Rattle.relay_ndjson.specs.Lines.{TakesText, IsLong, TakesBlank}
 use Rattle.relay_ndjson.proofs.Deciding.{key_none}
-use Rattle.relay_ndjson.specs.Operations.{blank_limit, counted, TakesOperation, BreaksAt, IsFault, line_count}
+use Rattle.relay_ndjson.specs.Operations.{blank_limit, counted, TakesOperation, BreaksAt, IsFault, Position, line_count}
 use Rattle.relay_ndjson.specs.LineReading.{TakesNext}
 use Rattle.relay_ndjson.specs.Steps.{SkipsBlank, TakesSource}
 
@@ -40,30 +40,33 @@ blank_fault default old new n count here e t c =
     fault_at default old last.0 blank_limit 1 count (record { line = here; kind = kind.LineLong }) (omega arith) last.1 (inr (inl ((refl, new, last.2, refl), refl))) l
 
 -- the action line breaks the grammar
-pub action_fault : (default old new : Option (List ℕ)) (count here : ℕ) (text : List ℕ) (k : LineKind) → SkipsBlank old new count here text (Ok true) → (k ≡ kind.Memory) ⊎ (line_fault default text ≡ Some k) → IsFault default old count (record { line = here; kind = k })
-action_fault default old new count here text k s f =
-    let l : here ≡ counted (count + (s.0 + 1)) = omega (arith, s.6) in
-    elim f [ inl m ↦ inr (inl m) | inr b ↦ fault_at default old s.1 s.0 1 count (record { line = here; kind = k }) s.2 s.3 (inl (inr (text, new, s.4, s.5, b), refl)) l ]
+pub action_fault : (default : Option (List ℕ)) (old new : Position) (text : List ℕ) (k : LineKind) → SkipsBlank old new text (Ok true) → (k ≡ kind.Memory) ⊎ (line_fault default text ≡ Some k) → IsFault default old.ahead old.count (record { line = new.count; kind = k })
+action_fault default old new text k s f =
+    let l : new.count ≡ counted (old.count + (s.0 + 1)) = omega (arith, s.6) in
+    elim f [
+      | inl m ↦ inr (inl m)
+      | inr b ↦ fault_at default old.ahead s.1 s.0 1 old.count (record { line = new.count; kind = k }) s.2 s.3 (inl (inr (text, new.ahead, s.4, s.5, b), refl)) l
+    ]
 
 -- the source line does
-pub source_fault : (default old mid new : Option (List ℕ)) (count here after : ℕ) (text : List ℕ) (key : DocKey) (e : InputFault) → SkipsBlank old mid count here text (Ok true) → Says default text action.Index key.index key.id → TakesSource mid new here here after (Err e) → IsFault default old count e
-source_fault default old mid new count here after text key e s says f =
+pub source_fault : (default : Option (List ℕ)) (old mid new : Position) (text : List ℕ) (key : DocKey) (e : InputFault) → SkipsBlank old mid text (Ok true) → Says default text action.Index key.index key.id → TakesSource mid new mid.count (Err e) → IsFault default old.ahead old.count e
+source_fault default old mid new text key e s says f =
     elim f [
       | inl r ↦ inl r
       | inr o ↦ elim o [
         | inl m ↦ inr (inl m)
         | inr p ↦ elim p [
-          | inl q ↦ fault_at default old s.1 s.0 1 count e s.2 s.3 (inr (inr (text, mid, key.index, key.id, s.4, says, key_none key.index key.id key.index_ok key.id_ok, inl (q.0, q.1, refl)))) (omega (arith, s.6, q.2))
-          | inr q ↦ fault_at default old s.1 s.0 2 count e s.2 s.3 (inr (inr (text, mid, key.index, key.id, s.4, says, key_none key.index key.id key.index_ok key.id_ok, inr (q.0, refl)))) (omega (arith, s.6, q.1))
+          | inl q ↦ fault_at default old.ahead s.1 s.0 1 old.count e s.2 s.3 (inr (inr (text, mid.ahead, key.index, key.id, s.4, says, key_none key.index key.id key.index_ok key.id_ok, inl (q.0, q.1, refl)))) (omega (arith, s.6, q.2))
+          | inr q ↦ fault_at default old.ahead s.1 s.0 2 old.count e s.2 s.3 (inr (inr (text, mid.ahead, key.index, key.id, s.4, says, key_none key.index key.id key.index_ok key.id_ok, inr (q.0, refl)))) (omega (arith, s.6, q.1))
         ]
       ]
     ]
 
 -- an index action and its source
-pub source_taken : (default old mid new : Option (List ℕ)) (count here after : ℕ) (text : List ℕ) (key : DocKey) (a : Action) → SkipsBlank old mid count here text (Ok true) → Says default text action.Index key.index key.id → TakesSource mid new here here after (Ok a) → (n : ℕ) × TakesOperation default old new n (key, a) × (here ≡ counted (count + n + 1)) × (after ≡ counted (count + n + line_count a))
-source_taken default old mid new count here after text key (Index source) s says t =
-    (s.0, (s.1, s.2, s.3, (text, mid, s.4, says, subst (λ (x : List ℕ). TakesText mid new x) (sym t.2) t.1)), s.6, omega (arith, s.6, t.3))
-source_taken default old mid new count here after text key Delete s says t = absurd t.2
+pub source_taken : (default : Option (List ℕ)) (old mid new : Position) (text : List ℕ) (key : DocKey) (a : Action) → SkipsBlank old mid text (Ok true) → Says default text action.Index key.index key.id → TakesSource mid new mid.count (Ok a) → (n : ℕ) × TakesOperation default old.ahead new.ahead n (key, a) × (mid.count ≡ counted (old.count + n + 1)) × (new.count ≡ counted (old.count + n + line_count a))
+source_taken default old mid new text key (Index source) s says t =
+    (s.0, (s.1, s.2, s.3, (text, mid.ahead, s.4, says, subst (λ (x : List ℕ). TakesText mid.ahead new.ahead x) (sym t.2) t.1)), s.6, omega (arith, s.6, t.3))
+source_taken default old mid new text key Delete s says t = absurd t.2
 
 -- one more blank line
 pub blank_next : (n : ℕ) (old mid new : Option (List ℕ)) (here after : ℕ) (text : List ℕ) (found : Bool) → found ≡ true → TakesNext mid new here after text (Ok found) → length text ≡ 0 → TakesBlank n old mid → TakesBlank (n + 1) old new × (after ≡ one_more here)

@@ -1,5 +1,6 @@
 -- Kinds of faults.
 use Rattle.std.specs.Prelude.{ℕ, List, codes}
+use Rattle.relay_action.specs.Faults.{fault_name}
 use Rattle.relay_action.specs.declared.fault.ActionFault.{ActionFault}
 use Rattle.relay_action.specs.declared.fault.ActionFault.TheVariants as fault
 use Rattle.relay_ndjson.specs.declared.kind.LineKind.{LineKind}
@@ -9,17 +10,6 @@ use Rattle.relay_ndjson.specs.declared.kind.LineKind.TheVariants as kind
 abbrev pub kind_of : ActionFault → LineKind
 kind_of fault.Memory = kind.Memory
 kind_of other = kind.Action other
-
--- the name of a fault of a document or a source
-abbrev pub fault_name : ActionFault → List ℕ
-fault_name fault.IndexEmpty = codes "IndexEmpty"
-fault_name fault.IndexLong = codes "IndexLong"
-fault_name fault.IdEmpty = codes "IdEmpty"
-fault_name fault.IdLong = codes "IdLong"
-fault_name fault.SourceEmpty = codes "SourceEmpty"
-fault_name fault.SourceLong = codes "SourceLong"
-fault_name fault.SourceNewline = codes "SourceNewline"
-fault_name fault.Memory = codes "Memory"
 
 -- the name of a kind
 abbrev pub name_of : LineKind → List ℕ

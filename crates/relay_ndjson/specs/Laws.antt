@@ -9,7 +9,7 @@ use Rattle.relay_ndjson.specs.declared.kind.LineKind.{LineKind}
 use Rattle.relay_ndjson.specs.declared.kind.LineKind.TheVariants as kind
 use Rattle.relay_ndjson.specs.Lines.{TakesText, TakesBlank}
 use Rattle.relay_ndjson.specs.Metadata.{Says, line_fault, source_line_fault}
-use Rattle.relay_ndjson.specs.Operations.{Operation, blank_limit, TakesOperation, HoldsNoMore, Breaks, Stops}
+use Rattle.relay_ndjson.specs.Operations.{Operation, blank_limit, TakesOperation, HoldsNoMore, Breaks, Position, Stops}
 use Rattle.relay_ndjson.specs.Bulk.{text_of}
 use Rattle.relay_ndjson.specs.Versioned.{SaysVersioned, write_line_fault}
 use Rattle.relay_ndjson.specs.Bodies.{AreDealt, IsBulk, BreaksBulk}
@@ -46,8 +46,8 @@ HoldsOperation default bytes =
 
 -- where a read failed, no operation stands whole in the bytes that had been read
 abbrev pub NoOperationAtRead : Type 0
-NoOperationAtRead = (default : Option (List ℕ)) (bytes later held : List ℕ) (count : ℕ) (e : InputFault) →
-    Stops default (Some (bytes ++ later)) (Some later) held count e → e.kind ≡ kind.Read → HoldsOperation default bytes → ⊥
+NoOperationAtRead = (default : Option (List ℕ)) (bytes later : List ℕ) (old new : Position) (e : InputFault) →
+    old.ahead ≡ Some (bytes ++ later) → new.ahead ≡ Some later → Stops default old new e → e.kind ≡ kind.Read → HoldsOperation default bytes → ⊥
 
 -- ---- one of them always holds
 

@@ -1,7 +1,7 @@
 -- The producer grammar over a stream: operations at its front, and what is no operation. An action line is as in the
 -- OpenSearch bulk API: an index action has its source on the line after it.
 use Rattle.std.specs.Prelude.{◌≡◌, ◌≢◌, ℕ, ◌+◌, ◌≤◌, ◌⊎◌, min, List, [], Option, None, Some, Result, Ok, Err, if◌then◌else◌}
-use Rattle.std.specs.Io.KnownBytes.{IsAtEnd}
+use Rattle.std.specs.Io.KnownBytes.{IsAtEnd, prepend_known}
 use Rattle.relay_action.specs.Streams.{most, one_more}
 use Rattle.relay_action.specs.Faults.{key_fault}
 use Rattle.relay_action.specs.declared.key.DocKey.{DocKey}
@@ -99,14 +99,25 @@ TakesBeginning default old new count =
     ⊎ ((n : ℕ) × (mid : Option (List ℕ)) × (text : List ℕ) × (index : List ℕ) × (id : List ℕ) × (n ≤ blank_limit) × TakesBlank n old mid
     × TakesText mid new text × Says default text action.Index index id × (key_fault index id ≡ None) × (count ≡ n + 1))
 
+-- where a reader stands in its stream: the bytes that were not used yet, where they are known, those of them that were
+-- read, and how many lines were taken
+pub record Position : Type 0 where
+  pub ahead : Option (List ℕ)
+  pub held : List ℕ
+  pub count : ℕ
+
+-- by what the stream has left, what was read of it and not used, and how many lines were taken
+abbrev pub position : Option (List ℕ) → List ℕ → ℕ → Position
+position left held count = record { ahead = prepend_known held left; held = held; count = count }
+
 -- a fault names the line in which the reader stopped: before it stand the lines that begin an operation, and of what
 -- follows no more was used than of this line
-pub record Stops (default old new : Option (List ℕ)) (held : List ℕ) (count : ℕ) (e : InputFault) : Type 0 where
+pub record Stops (default : Option (List ℕ)) (old new : Position) (e : InputFault) : Type 0 where
   pub taken : ℕ
   pub front : Option (List ℕ)
-  pub begins : TakesBeginning default old front taken
-  pub line : e.line ≡ counted (count + taken + 1)
-  pub stop : StopsInLine front new held e.kind
+  pub begins : TakesBeginning default old.ahead front taken
+  pub line : e.line ≡ counted (old.count + taken + 1)
+  pub stop : StopsInLine front new.ahead new.held e.kind
 
 -- how many calls of the stream have failed after an answer
 abbrev pub failed_after : {T : Type 0} → Result T InputFault → ℕ → ℕ

@@ -6,7 +6,7 @@ use Rattle.relay_ndjson.specs.declared.kind.LineKind.TheVariants as kind
 use Rattle.relay_ndjson.specs.declared.kind.InputFault.{InputFault}
 use Rattle.relay_ndjson.specs.declared.parser.Phase.{Phase}
 use Rattle.relay_ndjson.specs.declared.parser.Phase.TheVariants as phase
-use Rattle.relay_ndjson.specs.Operations.{Operation, counted, TakesOperation, HoldsNoMore, IsFault, Stops, line_count}
+use Rattle.relay_ndjson.specs.Operations.{Operation, counted, TakesOperation, HoldsNoMore, IsFault, Position, Stops, line_count}
 
 -- a parser: what was read and not used yet, how many lines were taken, the line of the last action, and what stands
 -- for an absent index name
@@ -48,6 +48,10 @@ abbrev pub fresh : Option (List ℕ) → ℕ → Option (List ℕ) → Reading
 fresh ahead failed default =
     record { ahead = ahead; held = []; count = 0; line = 0; phase = phase.Open; default = default; failed = failed }
 
+-- where the parser stands in its stream
+abbrev pub position_of : Reading → Position
+position_of r = record { ahead = r.ahead; held = r.held; count = r.count }
+
 -- an operation was taken
 pub record Takes (old new : Reading) (n : ℕ) (op : Operation) : Type 0 where
   pub lines : TakesOperation old.default old.ahead new.ahead n op
@@ -65,7 +69,7 @@ pub record Ends (old new : Reading) : Type 0 where
 -- a fault was answered, of the line in which the reader stopped
 pub record Fails (old new : Reading) (e : InputFault) : Type 0 where
   pub fault : IsFault old.default old.ahead old.count e
-  pub stops : Stops old.default old.ahead new.ahead new.held old.count e
+  pub stops : Stops old.default (position_of old) (position_of new) e
   pub line : new.line ≡ old.line
   pub phase : new.phase ≡ phase.Failed e.line
 

@@ -12,8 +12,10 @@ use Rattle.relay_ndjson.specs.declared.kind.LineKind.TheVariants as kind
 use Rattle.relay_ndjson.specs.declared.lines.NumberedOperation.{NumberedOperation}
 use Rattle.relay_ndjson.specs.declared.lines.Line.{Line}
 use Rattle.relay_ndjson.specs.declared.lines.Line.TheVariants as line
+use Rattle.relay_ndjson.specs.declared.lines.Part.{Part}
+use Rattle.relay_ndjson.specs.declared.lines.Part.TheVariants as part
 use Rattle.relay_ndjson.specs.Lines.{IsUnbroken, IsRaw, IsPastLimit, IsLong, TakesText, TakesBlank, StopsInLine, is_read, line_limit}
-use Rattle.relay_ndjson.specs.Operations.{blank_limit, counted, line_count, TakesOperation, HoldsNoMore, BreaksSource, IsFault}
+use Rattle.relay_ndjson.specs.Operations.{blank_limit, counted, line_count, TakesOperation, HoldsNoMore, BreaksSource, IsFault, Position}
 use Rattle.relay_ndjson.specs.Bodies.{BeginsWithLine, IsLinesOf}
 
 -- ---- a line
@@ -27,9 +29,9 @@ abbrev pub IsAddFault : List ℕ → LineKind → Type 0
 IsAddFault raw k = ((k ≡ kind.LineLong) × IsPastLimit raw) ⊎ (k ≡ kind.Memory)
 
 -- what a piece gave of a line that had begun: its end, or all that it held
-abbrev pub TakesPart : List ℕ → List ℕ → List ℕ → List ℕ → Result Bool LineKind → Type 0
-TakesPart begun piece text rest (Ok true) = (raw : List ℕ) × IsUnbroken raw × IsRaw text raw × (length text ≤ line_limit) × (begun ++ piece ≡ raw ++ 10 ∷ rest)
-TakesPart begun piece text rest (Ok false) = IsUnbroken text × IsStart text × (text ≡ begun ++ piece) × (rest ≡ [])
+abbrev pub TakesPart : List ℕ → List ℕ → List ℕ → List ℕ → Result Part LineKind → Type 0
+TakesPart begun piece text rest (Ok part.End) = (raw : List ℕ) × IsUnbroken raw × IsRaw text raw × (length text ≤ line_limit) × (begun ++ piece ≡ raw ++ 10 ∷ rest)
+TakesPart begun piece text rest (Ok part.More) = IsUnbroken text × IsStart text × (text ≡ begun ++ piece) × (rest ≡ [])
 TakesPart begun piece text rest (Err k) = (raw : List ℕ) × (later : List ℕ) × IsUnbroken raw × (begun ++ piece ≡ raw ++ later) × IsAddFault raw k
 
 -- what a read of a line took from the front, and what line it put into the buffer
@@ -57,32 +59,34 @@ failed_by (Err k) n = if is_read k then one_more n else n
 
 -- ---- an operation: whether there is an action line
 
-abbrev pub SkipsBlank : Option (List ℕ) → Option (List ℕ) → ℕ → ℕ → List ℕ → Result Bool InputFault → Type 0
-SkipsBlank old new count after text (Ok true) =
-    (n : ℕ) × (mid : Option (List ℕ)) × (n ≤ blank_limit) × TakesBlank n old mid × TakesText mid new text × (text ≢ []) × (after ≡ counted (count + n + 1))
-SkipsBlank old new count after text (Ok false) = HoldsNoMore old
-SkipsBlank old new count after text (Err e) = (default : Option (List ℕ)) → IsFault default old count e
+abbrev pub SkipsBlank : Position → Position → List ℕ → Result Bool InputFault → Type 0
+SkipsBlank old new text (Ok true) =
+    (n : ℕ) × (mid : Option (List ℕ)) × (n ≤ blank_limit) × TakesBlank n old.ahead mid × TakesText mid new.ahead text × (text ≢ [])
+    × (new.count ≡ counted (old.count + n + 1))
+SkipsBlank old new text (Ok false) = HoldsNoMore old.ahead
+SkipsBlank old new text (Err e) = (default : Option (List ℕ)) → IsFault default old.ahead old.count e
 
 -- the source line of the action on a line
-abbrev pub TakesSource : Option (List ℕ) → Option (List ℕ) → ℕ → ℕ → ℕ → Result Action InputFault → Type 0
-TakesSource old new line count after (Ok a) =
-    (text : List ℕ) × TakesText old new text × IsIndexOf text a × (after ≡ one_more count)
-TakesSource old new line count after (Err e) =
+abbrev pub TakesSource : Position → Position → ℕ → Result Action InputFault → Type 0
+TakesSource old new line (Ok a) =
+    (text : List ℕ) × TakesText old.ahead new.ahead text × IsIndexOf text a × (new.count ≡ one_more old.count)
+TakesSource old new line (Err e) =
     (e.kind ≡ kind.Read) ⊎ (e.kind ≡ kind.Memory)
-    ⊎ (IsAtEnd old × (e.kind ≡ kind.SourceMissing) × (e.line ≡ line))
-    ⊎ (BreaksSource old e.kind × (e.line ≡ one_more count))
+    ⊎ (IsAtEnd old.ahead × (e.kind ≡ kind.SourceMissing) × (e.line ≡ line))
+    ⊎ (BreaksSource old.ahead e.kind × (e.line ≡ one_more old.count))
 
 -- where the reader stopped in place of a source: in its line, or at the end, which is a fault of the action's line
-abbrev pub StopsInSource : Option (List ℕ) → Option (List ℕ) → List ℕ → ℕ → ℕ → InputFault → Type 0
-StopsInSource old new held line count e =
-    ((e.line ≡ one_more count) × StopsInLine old new held e.kind)
-    ⊎ ((e.line ≡ line) × (e.kind ≡ kind.SourceMissing) × (new ≡ old))
+abbrev pub StopsInSource : Position → Position → ℕ → InputFault → Type 0
+StopsInSource old new line e =
+    ((e.line ≡ one_more old.count) × StopsInLine old.ahead new.ahead new.held e.kind)
+    ⊎ ((e.line ≡ line) × (e.kind ≡ kind.SourceMissing) × (new.ahead ≡ old.ahead))
 
-abbrev pub Reads : Option (List ℕ) → Option (List ℕ) → Option (List ℕ) → ℕ → ℕ → Result (Option NumberedOperation) InputFault → Type 0
-Reads default old new count after (Ok (Some f)) =
-    (n : ℕ) × TakesOperation default old new n (f.key, f.action) × (f.line ≡ counted (count + n + 1)) × (after ≡ counted (count + n + line_count f.action))
-Reads default old new count after (Ok None) = HoldsNoMore old
-Reads default old new count after (Err e) = IsFault default old count e
+abbrev pub Reads : Option (List ℕ) → Position → Position → Result (Option NumberedOperation) InputFault → Type 0
+Reads default old new (Ok (Some f)) =
+    (n : ℕ) × TakesOperation default old.ahead new.ahead n (f.key, f.action) × (f.line ≡ counted (old.count + n + 1))
+    × (new.count ≡ counted (old.count + n + line_count f.action))
+Reads default old new (Ok None) = HoldsNoMore old.ahead
+Reads default old new (Err e) = IsFault default old.ahead old.count e
 
 -- ---- a body
 

@@ -80,10 +80,8 @@ pub fn read_action(
     ensures ok { IfOk result (λ a. Says (shown default_index.entry) line.now a.0 a.1.index a.1.id) }
     ensures err { IfErr result (λ e. (e ≡ LineKind.Memory) ⊎ (line_fault (shown default_index.entry) line.now ≡ Some e)) }
 {
-    match value_of(alloc, line, scratch) {
-        Ok(tree) => asked(alloc, default_index, tree.root()),
-        Err(fault) => Err(fault),
-    }
+    let tree = value_of(alloc, line, scratch)?;
+    asked(alloc, default_index, tree.root())
 }
 
 /// The action that stores what a line holds.

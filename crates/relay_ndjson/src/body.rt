@@ -134,17 +134,17 @@ fn take_write<'b>(
             },
             rest,
         )),
-        ActionKind::Index => match take_source(alloc, rest) {
-            Ok((action, rest)) => Ok((
+        ActionKind::Index => {
+            let (action, rest) = take_source(alloc, rest)?;
+            Ok((
                 Write {
                     key,
                     version,
                     action,
                 },
                 rest,
-            )),
-            Err(fault) => Err(fault),
-        },
+            ))
+        }
     }
 }
 

@@ -1,6 +1,6 @@
 //! What is wrong with a line.
 ghost use Rattle.std.specs.Prelude.{◌≡◌};
-ghost use Rattle.relay_ndjson.specs.Kinds.{kind_of, fault_name, name_of};
+ghost use Rattle.relay_ndjson.specs.Kinds.{kind_of, name_of};
 
 use relay_action::ActionFault;
 use std::fmt;
@@ -57,7 +57,7 @@ impl LineKind {
             LineKind::VersionGiven => "VersionGiven",
             LineKind::VersionMissing => "VersionMissing",
             LineKind::SourceMissing => "SourceMissing",
-            LineKind::Action(fault) => fault_name(fault),
+            LineKind::Action(fault) => fault.name(),
             LineKind::NoFinalNewline => "NoFinalNewline",
             LineKind::LineLong => "LineLong",
             LineKind::Read => "Read",
@@ -102,21 +102,5 @@ pub fn kind_of(fault: ActionFault) -> LineKind
     match fault {
         ActionFault::Memory => LineKind::Memory,
         fault => LineKind::Action(fault),
-    }
-}
-
-// The name of a fault of a document or a source.
-fn fault_name(fault: ActionFault) -> &'static str
-    ensures { result.now ≡ fault_name fault }
-{
-    match fault {
-        ActionFault::IndexEmpty => "IndexEmpty",
-        ActionFault::IndexLong => "IndexLong",
-        ActionFault::IdEmpty => "IdEmpty",
-        ActionFault::IdLong => "IdLong",
-        ActionFault::SourceEmpty => "SourceEmpty",
-        ActionFault::SourceLong => "SourceLong",
-        ActionFault::SourceNewline => "SourceNewline",
-        ActionFault::Memory => "Memory",
     }
 }

@@ -33,6 +33,15 @@ pub enum Line {
     Absent,
 }
 
+/// What a piece gave of a line.
+#[derive(Clone, Copy, Debug, PartialEq, Eq)]
+pub enum Part {
+    /// The rest of it, with its end.
+    End,
+    /// All that the piece held, which does not end it.
+    More,
+}
+
 /// An operation, and the number of its action line.
 #[derive(Drop)]
 pub struct NumberedOperation {
@@ -55,7 +64,7 @@ pub struct Lines {
 
 impl Lines {
     ghost use Rattle.relay_ndjson.specs.Metadata.{shown};
-    ghost use Rattle.relay_ndjson.specs.Operations.{Stops, failed_after};
+    ghost use Rattle.relay_ndjson.specs.Operations.{Stops, failed_after, position};
     ghost use Rattle.relay_ndjson.specs.LineReading.{TakesNext};
     ghost use Rattle.relay_ndjson.specs.Steps.{SkipsBlank, TakesSource, Reads, StopsInSource};
 
@@ -72,8 +81,8 @@ impl Lines {
         }
     }
 
-    // Adds what the piece holds of the line that has begun, and tells whether that ends it.
-    fn take_part(&mut self) -> Result<bool, LineKind>
+    // Adds what the piece holds of the line that has begun.
+    fn take_part(&mut self) -> Result<Part, LineKind>
         requires unbroken { IsUnbroken self.old.text.items }
         requires start { IsStart self.old.text.items }
         ensures part { TakesPart self.old.text.items self.old.piece self.new.text.items self.new.piece result }
@@ -82,20 +91,16 @@ impl Lines {
     {
         match memchr(b'\n', self.piece.held()) {
             Some(end) => {
-                if let Err(fault) = add(&mut self.text, &self.piece.held()[..end]) {
-                    return Err(fault);
-                }
+                add(&mut self.text, &self.piece.held()[..end])?;
                 drop_return(&mut self.text);
                 self.piece.skip(end + 1);
-                Ok(true)
+                Ok(Part::End)
             }
             None => {
-                if let Err(fault) = add(&mut self.text, self.piece.held()) {
-                    return Err(fault);
-                }
+                add(&mut self.text, self.piece.held())?;
                 let count = self.piece.held().len();
                 self.piece.skip(count);
-                Ok(false)
+                Ok(Part::More)
             }
         }
     }
@@ -111,15 +116,12 @@ impl Lines {
     {
         self.text.clear();
         'pieces: loop {
-            match self.piece.refill(reader) {
-                Ok(true) => {}
-                Ok(false) => return end_of_line(self.text.as_slice()),
-                Err(fault) => return Err(fault),
+            if !self.piece.refill(reader)? {
+                return end_of_line(self.text.as_slice());
             }
-            match self.take_part() {
-                Ok(true) => return Ok(Line::Ended),
-                Ok(false) => {}
-                Err(fault) => return Err(fault),
+            match self.take_part()? {
+                Part::End => return Ok(Line::Ended),
+                Part::More => {}
             }
         }
     }
@@ -133,10 +135,9 @@ impl Lines {
         ensures failed { R.failed reader.new ≡ failed_after result (R.failed reader.old) }
     {
         let number = self.count.saturating_add(1);
-        let line = match self.read_line(reader) {
-            Ok(line) => line,
-            Err(kind) => return Err(InputFault { line: number, kind }),
-        };
+        let line = self
+            .read_line(reader)
+            .map_err(|kind| InputFault { line: number, kind })?;
         match line {
             Line::Absent => Ok(false),
             Line::Ended | Line::Open => {
@@ -148,17 +149,15 @@ impl Lines {
 
     // Takes blank lines and the action line after them, if there is one.
     fn skip_blank<R: ByteIn>(&mut self, reader: &mut R) -> Result<bool, InputFault>
-        ensures line { SkipsBlank (prepend_known self.old.piece (R.left reader.old))
-            (prepend_known self.new.piece (R.left reader.new)) self.old.count self.new.count self.new.text.items result }
-        ensures stop { IfErr result (λ e. (default : Option (List ℕ)) → Stops default (prepend_known self.old.piece (R.left reader.old))
-            (prepend_known self.new.piece (R.left reader.new)) self.new.piece self.old.count e) }
+        ensures line { SkipsBlank (position (R.left reader.old) self.old.piece self.old.count)
+            (position (R.left reader.new) self.new.piece self.new.count) self.new.text.items result }
+        ensures stop { IfErr result (λ e. (default : Option (List ℕ))
+            → Stops default (position (R.left reader.old) self.old.piece self.old.count)
+            (position (R.left reader.new) self.new.piece self.new.count) e) }
         ensures failed { R.failed reader.new ≡ failed_after result (R.failed reader.old) }
     {
         for blank in 0..BLANK_LIMIT + 1 {
-            let found = match self.take_line(reader) {
-                Ok(found) => found,
-                Err(fault) => return Err(fault),
-            };
+            let found = self.take_line(reader)?;
             if !found {
                 return Ok(false);
             }
@@ -179,10 +178,10 @@ impl Lines {
         reader: &mut R,
         line: u64,
     ) -> Result<Action, InputFault>
-        ensures line { TakesSource (prepend_known self.old.piece (R.left reader.old))
-            (prepend_known self.new.piece (R.left reader.new)) line self.old.count self.new.count result }
-        ensures stop { IfErr result (StopsInSource (prepend_known self.old.piece (R.left reader.old))
-            (prepend_known self.new.piece (R.left reader.new)) self.new.piece line self.old.count) }
+        ensures line { TakesSource (position (R.left reader.old) self.old.piece self.old.count)
+            (position (R.left reader.new) self.new.piece self.new.count) line result }
+        ensures stop { IfErr result (StopsInSource (position (R.left reader.old) self.old.piece self.old.count)
+            (position (R.left reader.new) self.new.piece self.new.count) line) }
         ensures failed { R.failed reader.new ≡ failed_after result (R.failed reader.old) }
     {
         let found = self.take_line(reader)?;
@@ -208,17 +207,14 @@ impl Lines {
         reader: &mut R,
         default_index: Option<&str>,
     ) -> Result<Option<NumberedOperation>, InputFault>
-        ensures lines { Reads (shown default_index.entry)
-            (prepend_known self.old.piece (R.left reader.old)) (prepend_known self.new.piece (R.left reader.new))
-            self.old.count self.new.count result }
-        ensures stop { IfErr result (Stops (shown default_index.entry) (prepend_known self.old.piece (R.left reader.old))
-            (prepend_known self.new.piece (R.left reader.new)) self.new.piece self.old.count) }
+        ensures lines { Reads (shown default_index.entry) (position (R.left reader.old) self.old.piece self.old.count)
+            (position (R.left reader.new) self.new.piece self.new.count) result }
+        ensures stop { IfErr result (Stops (shown default_index.entry)
+            (position (R.left reader.old) self.old.piece self.old.count)
+            (position (R.left reader.new) self.new.piece self.new.count)) }
         ensures failed { R.failed reader.new ≡ failed_after result (R.failed reader.old) }
     {
-        let found = match self.skip_blank(reader) {
-            Ok(found) => found,
-            Err(fault) => return Err(fault),
-        };
+        let found = self.skip_blank(reader)?;
         if !found {
             return Ok(None);
         }
@@ -234,10 +230,10 @@ impl Lines {
                 key,
                 action: Action::delete(),
             })),
-            ActionKind::Index => match self.take_source(alloc, reader, line) {
-                Ok(action) => Ok(Some(NumberedOperation { line, key, action })),
-                Err(fault) => Err(fault),
-            },
+            ActionKind::Index => {
+                let action = self.take_source(alloc, reader, line)?;
+                Ok(Some(NumberedOperation { line, key, action }))
+            }
         }
     }
 }

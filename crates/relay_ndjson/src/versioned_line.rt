@@ -26,10 +26,8 @@ pub fn read_versioned(
     ensures ok { IfOk result (λ a. SaysVersioned line.now a.kind a.key.index a.key.id a.version) }
     ensures err { IfErr result (λ e. (e ≡ LineKind.Memory) ⊎ (write_line_fault line.now ≡ Some e)) }
 {
-    match value_of(alloc, line, scratch) {
-        Ok(tree) => asked(alloc, tree.root()),
-        Err(fault) => Err(fault),
-    }
+    let tree = value_of(alloc, line, scratch)?;
+    asked(alloc, tree.root())
 }
 
 // The version of metadata, where it is one that the index takes.

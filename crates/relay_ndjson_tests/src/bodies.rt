@@ -318,11 +318,23 @@ fn refusals(rt: HostRuntime) -> Result<(), Fail> {
 // A kind is printed by its name.
 #[test]
 fn names(rt: HostRuntime) -> Result<(), Fail> {
-    let rows: [(LineKind, &str); 4] = [
+    let rows = [
         (LineKind::NotJson, "NotJson"),
-        (LineKind::Action(ActionFault::IdLong), "IdLong"),
+        (LineKind::NotOneAction, "NotOneAction"),
+        (LineKind::UnsupportedAction, "UnsupportedAction"),
+        (LineKind::UnsupportedField, "UnsupportedField"),
+        (LineKind::MissingIndex, "MissingIndex"),
+        (LineKind::MissingId, "MissingId"),
+        (LineKind::VersionGiven, "VersionGiven"),
         (LineKind::VersionMissing, "VersionMissing"),
+        (LineKind::SourceMissing, "SourceMissing"),
+        (LineKind::Action(ActionFault::IdLong), "IdLong"),
+        (LineKind::Action(ActionFault::SourceNewline), "SourceNewline"),
         (LineKind::NoFinalNewline, "NoFinalNewline"),
+        (LineKind::LineLong, "LineLong"),
+        (LineKind::Read, "Read"),
+        (LineKind::Memory, "Memory"),
+        (LineKind::Failed, "Failed"),
     ];
     for (kind, name) in rows {
         assert_eq!(rt; kind.name(), name);

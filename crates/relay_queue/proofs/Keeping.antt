@@ -9,7 +9,7 @@ use Rattle.relay_queue.specs.declared.rule.SentList.{SentList}
 use Rattle.relay_queue.specs.declared.rule.Knowledge.{Knowledge}
 use Rattle.relay_queue.specs.declared.rule.Knowledge.TheVariants.{Sender, Taker, Met}
 use Rattle.relay_queue.specs.Sent.{mail_of, HasDone, ClosedAs, IsWellSent, IsWellTaken}
-use Rattle.relay_queue.specs.Rule.{History, FitsSender, IsUnmade, WasMet, FitsTaker, Fits, Delivers}
+use Rattle.relay_queue.specs.Rule.{History, IsUnmade, WasMet, Fits, Delivers}
 use Rattle.relay_queue.specs.Log.{IsAllOf, HasLog}
 use Rattle.relay_queue.specs.Steps as step
 use Rattle.relay_queue.specs.Steps.{IsSender, IsTaker, capacity_of, sender_of, sent_of, senders_of, taken_of, with_sender, new_sender, with_met}
@@ -22,7 +22,7 @@ use Rattle.relay_queue.proofs.Passes.{at_set, AllFit, fit_set, fit_push, pass_at
 abbrev start : History
 start = record { capacity = 0; taker = 0; pass_of = λ _. none; taken = []; log = [] }
 
-starts : FitsTaker start 0 0 0 [] []
+starts : Fits start 0 (Taker 0 0 [] [])
 starts = record {
   places = refl;
   own = refl;
@@ -74,13 +74,13 @@ pub sends : (state : Bool) (n pass : ℕ) (v : Knowledge) (x : Mail) → IsSende
     → (¬ HasDone (sent_of v) → ClosedAs state (sent_of v ++ x ∷ [])) → Pushes Delivers n pass v x (step.Sends state v x)
 sends state n pass (Sender capacity sender sent closed) x open_one places mine number now queued passes room h at =
     let history = h.history in
-    let me : FitsSender history pass capacity sender sent closed = h.known pass (Sender capacity sender sent closed) at in
+    let me : Fits history pass (Sender capacity sender sent closed) = h.known pass (Sender capacity sender sent closed) at in
     let unclosed : ¬ HasDone sent = subst (λ (b : Bool). ClosedAs b sent) open_one me.done in
     let all : sent ≡ mail_of x.sender history.log = me.all ∙ ap (λ p. mail_of p history.log) mine in
     let own : history.pass_of x.sender ≡ some pass = ap history.pass_of (sym mine) ∙ me.own in
     let grown : sent ++ x ∷ [] ≡ mail_of sender (history.log ++ x ∷ []) = ap (λ l. l ++ x ∷ []) me.all ∙ sym (mail_of-own sender history.log x (sym mine)) in
     let well : (p : ℕ) → IsWellSent (mail_of p (history.log ++ x ∷ [])) = log_send history.log x h.well_sent (subst (λ (l : List Mail). ¬ HasDone l) all unclosed) (number ∙ ap (λ (l : List Mail). length l + 1) all) in
-    let mine_now : FitsSender (sent_more history x) pass capacity sender (sent ++ x ∷ []) state = record { places = me.places; own = me.own; all = grown; done = now unclosed } in (
+    let mine_now : Fits (sent_more history x) pass (Sender capacity sender (sent ++ x ∷ []) state) = record { places = me.places; own = me.own; all = grown; done = now unclosed } in (
       Sender capacity sender (sent ++ x ∷ []) state,
       record {
         history = sent_more history x;
@@ -111,12 +111,12 @@ takes pass (Sender capacity sender sent closed) is_taker x queued passes h at = 
 takes pass Met is_taker x queued passes h at = absurd is_taker
 takes pass (Taker capacity senders taken met) is_taker x queued passes h at =
     let history = h.history in
-    let me : FitsTaker history pass capacity senders taken met = h.known pass (Taker capacity senders taken met) at in
+    let me : Fits history pass (Taker capacity senders taken met) = h.known pass (Taker capacity senders taken met) at in
     let log_is : history.log ≡ (history.taken ++ x ∷ []) ++ queued = h.in_log ∙ sym (append_assoc history.taken (x ∷ []) queued) in
     let late : senders ≤ x.sender → ⊥ = λ le. has_mail x.sender history.taken queued x refl (ap (mail_of x.sender) (sym h.in_log) ∙ (me.later x.sender le).nothing) in
     let parts : (p : ℕ) → mail_of p history.log ≡ mail_of p (taken ++ x ∷ []) ++ mail_of p queued = λ p.
     ap (mail_of p) (log_is ∙ ap (λ (l : List Mail). (l ++ x ∷ []) ++ queued) (sym me.front)) ∙ mail_of-append p (taken ++ x ∷ []) queued in
-    let mine_now : FitsTaker (took_more history x) pass capacity senders (taken ++ x ∷ []) met = record {
+    let mine_now : Fits (took_more history x) pass (Taker capacity senders (taken ++ x ∷ []) met) = record {
       places = me.places;
       own = me.own;
       front = ap (λ l. l ++ x ∷ []) me.front;
@@ -176,7 +176,7 @@ splits pass (Sender capacity sender sent closed) places is_taker first queued pa
 splits pass Met places is_taker first queued passes h at = absurd is_taker
 splits pass (Taker capacity senders taken met) places is_taker first queued passes h at =
     let history = h.history in
-    let me : FitsTaker history pass capacity senders taken met = h.known pass (Taker capacity senders taken met) at in
+    let me : Fits history pass (Taker capacity senders taken met) = h.known pass (Taker capacity senders taken met) at in
     let free : IsUnmade history senders = me.later senders (omega arith) in
     let passes' : List Knowledge = set passes pass (Taker places (senders + 1) taken met) in
     let new : ℕ = length passes' in
@@ -186,14 +186,14 @@ splits pass (Taker capacity senders taken met) places is_taker first queued pass
     let short : length queued ≤ places =
     ⊎_elim (λ (z : senders ≡ 0). let none_queued = no_mail history.taken queued (λ p. ap (mail_of p) (sym h.in_log) ∙ (me.later p (omega arith)).nothing) in omega (arith, ap length none_queued))
     (λ (z : capacity ≡ places). let c = me.places in let s = h.within in omega arith) first in
-    let mine_now : FitsTaker history' pass places (senders + 1) taken met = record {
+    let mine_now : Fits history' pass (Taker places (senders + 1) taken met) = record {
       places = refl;
       own = me.own;
       front = me.front;
       later = λ p le. let l = me.later p (omega arith) in record { no_pass = pass_at-other history.pass_of senders p (some new) (omega arith) ∙ l.no_pass; nothing = l.nothing };
       closed = λ i m e. let k = me.closed i m e in let lt = k.made in record { made = omega arith; no_pass = pass_at-other history.pass_of senders m.sender (some new) (omega arith) ∙ k.no_pass; all = k.all; done = k.done };
     } in
-    let new_now : FitsSender history' new places senders [] false = record { places = refl; own = pass_at-own history.pass_of senders (some new); all = sym free.nothing; done = λ d. d } in
+    let new_now : Fits history' new (Sender places senders [] false) = record { places = refl; own = pass_at-own history.pass_of senders (some new); all = sym free.nothing; done = λ d. d } in
     record {
       history = history';
       in_log = h.in_log;
@@ -234,13 +234,13 @@ meets pass (Taker capacity senders taken met) other (Sender c sender sent closed
     let history' : History = met_more history sender in
     let both : Knowledge = Taker capacity senders taken (record { sender = sender; sent = sent } ∷ met) in
     let theirs_at : Knowledge = Sender c sender sent closed in
-    let me : FitsTaker history pass capacity senders taken met = h.known pass (Taker capacity senders taken met) at in
+    let me : Fits history pass (Taker capacity senders taken met) = h.known pass (Taker capacity senders taken met) at in
     let was : get_elem? passes other ≡ some theirs_at = ⊎_elim (λ x. absurd (two x.0)) (λ x. x.1) (at_set passes pass other both theirs_at at') in
-    let theirs : FitsSender history other c sender sent closed = h.known other theirs_at was in
+    let theirs : Fits history other (Sender c sender sent closed) = h.known other theirs_at was in
     let late : senders ≤ sender → ⊥ = λ le. some-ne-none other (sym theirs.own ∙ (me.later sender le).no_pass) in
     let lt : sender < senders = omega arith in
     let one : WasMet history' senders (record { sender = sender; sent = sent }) = record { made = lt; no_pass = pass_at-own history.pass_of sender none; all = theirs.all; done = subst (λ (b : Bool). ClosedAs b sent) is_closed theirs.done } in
-    let mine_now : FitsTaker history' pass capacity senders taken (record { sender = sender; sent = sent } ∷ met) = record {
+    let mine_now : Fits history' pass (Taker capacity senders taken (record { sender = sender; sent = sent } ∷ met)) = record {
       places = me.places;
       own = me.own;
       front = me.front;
@@ -268,7 +268,7 @@ reads pass (Sender capacity sender sent closed) is_taker queued passes h at = ab
 reads pass Met is_taker queued passes h at = absurd is_taker
 reads pass (Taker capacity senders taken met) is_taker queued passes h at =
     let history = h.history in
-    let me : FitsTaker history pass capacity senders taken met = h.known pass (Taker capacity senders taken met) at in (
+    let me : Fits history pass (Taker capacity senders taken met) = h.known pass (Taker capacity senders taken met) at in (
       (let c = me.places in let s = h.within in omega arith),
       λ i m e.
           let k = me.closed i m e in
@@ -300,10 +300,10 @@ has_log queued passes h =
       taken = history.taken;
       within = h.within;
       senders = λ pass places sender sent closed at.
-          let f : FitsSender history pass places sender sent closed = h.known pass (Sender places sender sent closed) at in
+          let f : Fits history pass (Sender places sender sent closed) = h.known pass (Sender places sender sent closed) at in
           (f.places, all_of history.log history.taken queued sender sent closed h.in_log h.well_sent f.all f.done);
       takers = λ pass places made front met at.
-          let f : FitsTaker history pass places made front met = h.known pass (Taker places made front met) at in (
+          let f : Fits history pass (Taker places made front met) = h.known pass (Taker places made front met) at in (
             f.places,
             f.front,
             (λ sender le. ap (mail_of sender) (sym h.in_log) ∙ (f.later sender le).nothing),

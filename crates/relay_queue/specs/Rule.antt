@@ -18,13 +18,29 @@ pub record History : Type 0 where
   pub taken : List Mail
   pub log : List Mail
 
+-- what a sender's pass knows: how many places the queue has, the sender's number, what it sent, and
+-- whether it closed
+pub record OfSender : Type 0 where
+  pub capacity : ℕ
+  pub sender : ℕ
+  pub sent : List Mail
+  pub closed : Bool
+
+-- what the taker's pass knows: how many places the queue has, how many senders were made, what was
+-- taken, and what the senders sent that were met
+pub record OfTaker : Type 0 where
+  pub capacity : ℕ
+  pub senders : ℕ
+  pub taken : List Mail
+  pub met : List SentList
+
 -- a sender's pass is the only one of that sender; what it knows to be sent is what the log holds of
 -- the sender, and Done is among it where the sender closed, and only there
-pub record FitsSender (history : History) (pass capacity sender : ℕ) (sent : List Mail) (closed : Bool) : Type 0 where
-  pub places : capacity ≡ history.capacity
-  pub own : history.pass_of sender ≡ some pass
-  pub all : sent ≡ mail_of sender history.log
-  pub done : ClosedAs closed sent
+pub record FitsSender (history : History) (pass : ℕ) (known : OfSender) : Type 0 where
+  pub places : known.capacity ≡ history.capacity
+  pub own : history.pass_of known.sender ≡ some pass
+  pub all : known.sent ≡ mail_of known.sender history.log
+  pub done : ClosedAs known.closed known.sent
 
 -- a sender that was not made yet has no pass and sent nothing
 pub record IsUnmade (history : History) (sender : ℕ) : Type 0 where
@@ -40,17 +56,19 @@ pub record WasMet (history : History) (senders : ℕ) (met : SentList) : Type 0 
 
 -- the taker's pass is the only one of its kind; it knows what was taken, that later senders are not
 -- made, and what the senders sent that it met
-pub record FitsTaker (history : History) (pass capacity senders : ℕ) (taken : List Mail) (met : List SentList) : Type 0 where
-  pub places : capacity ≡ history.capacity
+pub record FitsTaker (history : History) (pass : ℕ) (known : OfTaker) : Type 0 where
+  pub places : known.capacity ≡ history.capacity
   pub own : pass ≡ history.taker
-  pub front : taken ≡ history.taken
-  pub later : (sender : ℕ) → senders ≤ sender → IsUnmade history sender
-  pub closed : (i : ℕ) (m : SentList) → get_elem? met i ≡ some m → WasMet history senders m
+  pub front : known.taken ≡ history.taken
+  pub later : (sender : ℕ) → known.senders ≤ sender → IsUnmade history sender
+  pub closed : (i : ℕ) (m : SentList) → get_elem? known.met i ≡ some m → WasMet history known.senders m
 
 -- what the pass knows is true
 abbrev pub Fits : History → ℕ → Knowledge → Type 0
-Fits history pass (Sender capacity sender sent closed) = FitsSender history pass capacity sender sent closed
-Fits history pass (Taker capacity senders taken met) = FitsTaker history pass capacity senders taken met
+Fits history pass (Sender capacity sender sent closed) =
+    FitsSender history pass (record { capacity = capacity; sender = sender; sent = sent; closed = closed })
+Fits history pass (Taker capacity senders taken met) =
+    FitsTaker history pass (record { capacity = capacity; senders = senders; taken = taken; met = met })
 Fits history pass Met = ⊤
 
 -- the rule: there is a log, what was taken and then what is queued; what it holds of each sender is

@@ -21,12 +21,28 @@ pub struct SentList {
 
 /// What the pass of an end knows. No value of it is made: it stands in proofs alone.
 pub enum Knowledge {
-    /// A sender's end knows how many places the queue has, its number, what it sent, and whether it
-    /// closed.
-    Sender(u64, u64, LinkedList<Mail>, bool),
-    /// The taker's end knows how many places the queue has, how many senders were made, what it took,
-    /// and what the senders sent whose closed ends it met.
-    Taker(u64, u64, LinkedList<Mail>, LinkedList<SentList>),
+    /// What a sender's end knows.
+    Sender {
+        /// How many places the queue has.
+        capacity: u64,
+        /// The sender's number.
+        sender: u64,
+        /// What it sent.
+        sent: LinkedList<Mail>,
+        /// Whether it closed.
+        closed: bool,
+    },
+    /// What the taker's end knows.
+    Taker {
+        /// How many places the queue has.
+        capacity: u64,
+        /// How many senders were made.
+        senders: u64,
+        /// What it took.
+        taken: LinkedList<Mail>,
+        /// What the senders sent whose closed ends it met.
+        met: LinkedList<SentList>,
+    },
     /// The pass of a closed end that was met knows nothing any more.
     Met,
 }

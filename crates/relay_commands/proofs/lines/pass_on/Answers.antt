@@ -1,4 +1,5 @@
-use Rattle.std.proofs.Common.{◌≡◌, refl, ap, sym, ◌∙◌, arith}
+use Rattle.std.proofs.Common.{refl, ◌∙◌}
+use Rattle.std.proofs.lemmas.Result.{err_from_is_err_and}
 use Rattle.relay_commands.proofs.Passed.{underway_none, underway_moved, underway_more, stops_inside, stops_at_end, stops_at_fault}
 use Rattle.relay_commands.proofs.lines.pass_on.Goals as goal
 
@@ -15,24 +16,25 @@ returns-in-Err-clause-lines g c =
 
 pub operations-preserved : goal.operations-preserved
 operations-preserved g c =
-    let next = rw c.in-Ok-Added.field-0-is at c.in-Ok-Added.ensures.next in
+    let next = rw c.in-Added.is at c.in_ok-add_next.ensures.next in
     let moved = underway_moved c.args.first c.operations.version _ _ _ _ _ _ _ _ _ c.operations.invariant.taken c.in_default.ensures.ok in record {
-      taken = underway_more c.args.first c.operations.version _ _ _ _ _ _ _ _ _ next.0 moved next.1 c.in-Ok-Added.ensures.held next.2 c.in-Ok-Added.ensures.sent;
-      reads = c.in-Ok-Added.ensures.failed ∙ c.operations.invariant.reads;
+      taken = underway_more c.args.first c.operations.version _ _ _ _ _ _ _ _ _ next.0 moved next.1 c.in_ok-add_next.ensures.held next.2 c.in_ok-add_next.ensures.sent;
+      reads = c.in_ok-add_next.ensures.failed ∙ c.operations.invariant.reads;
       writes = c.in_default.ensures.succeeded ∙ c.operations.invariant.writes;
     }
 
-pub returns-in-Ok-Ended-clause-lines : goal.returns-in-Ok-Ended-clause-lines
-returns-in-Ok-Ended-clause-lines g c =
-    let next = rw c.in-Ok-Ended.field-0-is at c.in-Ok-Ended.ensures.next in
+pub returns-in-Ended-clause-lines : goal.returns-in-Ended-clause-lines
+returns-in-Ended-clause-lines g c =
+    let next = rw c.in-Ended.is at c.in_ok-add_next.ensures.next in
     let moved = underway_moved c.args.first c.operations.version _ _ _ _ _ _ _ _ _ c.operations.invariant.taken c.in_default.ensures.ok in
-    stops_at_end c.args.first c.operations.version _ _ _ _ c.add_next.new.parser _ _ _ _ _ _ moved next.0 c.in-Ok-Ended.ensures.held next.1 c.in-Ok-Ended.ensures.sent
+    stops_at_end c.args.first c.operations.version _ _ _ _ c.add_next.new.parser _ _ _ _ _ _ moved next.0 c.in_ok-add_next.ensures.held next.1 c.in_ok-add_next.ensures.sent
 
-pub returns-in-Err-add_next-clause-lines : goal.returns-in-Err-add_next-clause-lines
-returns-in-Err-add_next-clause-lines g c =
-    let next = c.in-Err-add_next.ensures.next in
+pub returns-in_err-add_next-clause-lines : goal.returns-in_err-add_next-clause-lines
+returns-in_err-add_next-clause-lines g c =
+    let p = err_from_is_err_and c.from_residual.result c.from_residual.ensures.1 in
+    let next = c.in_err-add_next.ensures.next in
     let moved = underway_moved c.args.first c.operations.version _ _ _ _ _ _ _ _ _ c.operations.invariant.taken c.in_default.ensures.ok in
-    stops_at_fault c.args.first c.operations.version _ _ _ _ c.add_next.new.parser _ _ _ _ _ _ c.in-Err-add_next.fault moved next.0 c.in-Err-add_next.ensures.held next.1 c.in-Err-add_next.ensures.sent
+    rw (p.1, p.2) (stops_at_fault c.args.first c.operations.version _ _ _ _ c.add_next.new.parser _ _ _ _ _ _ c.in_err-add_next.field-0.0 moved next.0 c.in_err-add_next.ensures.held next.1 c.in_err-add_next.ensures.sent)
 
 pub returns-in-Err-clause-calls : goal.returns-in-Err-clause-calls
 returns-in-Err-clause-calls g c = (c.operations.invariant.reads, rw c.operations.invariant.writes at c.in-Err.ensures.failed)

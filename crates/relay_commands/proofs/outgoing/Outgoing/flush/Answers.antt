@@ -1,4 +1,4 @@
-use Rattle.std.proofs.Common.{◌≡◌, length, ap, sym, arith, append-nil}
+use Rattle.std.proofs.Common.{length, ap, sym, arith, append-nil}
 use Rattle.relay_commands.proofs.outgoing.Outgoing.flush.Goals as goal
 
 pub returns-in-Err-clause-err : goal.returns-in-Err-clause-err

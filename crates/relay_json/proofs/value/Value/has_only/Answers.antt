@@ -7,4 +7,4 @@ use Rattle.relay_json.proofs.value.Value.has_only.Goals as goal
 pub returns-in-Some : goal.returns-in-Some
 returns-in-Some g c =
     let object : json_find.as_object (value_view c.args.self.node.now) ≡ Some (members_view c.in-Some.members.now) = sym c.in-Some.ensures in
-    c.are_all_known.ensures ∙ sym (known-object g.N.Names.known (value_view c.args.self.node.now) (members_view c.in-Some.members.now) c.args.self.has_data object)
+    c.are_all_known.ensures ∙ sym (known-object g.N.Names.known (value_view c.args.self.node.now) (members_view c.in-Some.members.now) c.args.self.in_range object)

@@ -14,7 +14,7 @@ returns-then-not-are_all_named c =
     let object : json_find.as_object (value_view c.args.self.node.now) ≡ Some (members_view ms) = sym c.in_ok-members.ensures in
     let first : slice_get ms 0 ≡ Some c.in_ok-name.field-0.now = search rules in
     let named : all_named c.in_ok-name.field-0.now.0.now (members_view ms) ≡ false = grind arith in
-    sole-other (value_view c.args.self.node.now) ms c.in_ok-name.field-0.now c.args.self.has_data object first named
+    sole-other (value_view c.args.self.node.now) ms c.in_ok-name.field-0.now c.args.self.in_range object first named
 
 pub returns-in_err-get : goal.returns-in_err-get
 returns-in_err-get c =
@@ -25,7 +25,7 @@ returns-in_err-get c =
     let none : get name (data_of c.args.self) ≡ None = grind arith in
     let nothing : c.from_residual-in_err-get.result ≡ None = grind arith in
     ap (option_map (λ m. (m.0.now, data_of m.1))) nothing
-    ∙ sym (sole-named (value_view c.args.self.node.now) (members_view ms) name c.args.self.has_data object named ∙ ap (option_map (λ x. (name, x))) none)
+    ∙ sym (sole-named (value_view c.args.self.node.now) (members_view ms) name c.args.self.in_range object named ∙ ap (option_map (λ x. (name, x))) none)
 
 pub returns : goal.returns
 returns c =
@@ -34,4 +34,4 @@ returns c =
     let object : json_find.as_object (value_view c.args.self.node.now) ≡ Some (members_view ms) = sym c.in_ok-members.ensures in
     let named : all_named name (members_view ms) ≡ true = grind arith in
     let some : get name (data_of c.args.self) ≡ Some (data_of c.in_ok-get.field-0) = sym c.in_ok-get.ensures in
-    sym (sole-named (value_view c.args.self.node.now) (members_view ms) name c.args.self.has_data object named ∙ ap (option_map (λ x. (name, x))) some)
+    sym (sole-named (value_view c.args.self.node.now) (members_view ms) name c.args.self.in_range object named ∙ ap (option_map (λ x. (name, x))) some)
