@@ -2,4 +2,5 @@ pub mod Outcomes
 pub mod Faults
 pub mod Feeding
 pub mod Identities
+pub mod Fed
 pub mod Handles
