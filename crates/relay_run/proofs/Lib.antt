@@ -1,3 +1,4 @@
 pub mod Feeding
 pub mod Handing
 pub mod Ending
+pub mod Texts
