@@ -11,7 +11,7 @@ use Rattle.relay_core.specs.declared.config.RelayConfig.{RelayConfig}
 use Rattle.relay_queue.specs.Ends.{Queue, SenderEnd, fresh}
 use Rattle.relay_producer.specs.Ends.{opened, open_puts, closed_puts}
 use Rattle.relay_producer.specs.Puts.{puts_of, HasPut}
-use Rattle.relay_producer.specs.States.{ProducerState, ClosedProducerState, lane_for, next_op, after_put, after_gone}
+use Rattle.relay_producer.specs.States.{ProducerState, ClosedProducerState, lane_for, next_op, after_put}
 use Rattle.relay_producer.proofs.Putting.{put_more, same_marked}
 use Rattle.relay_producer.proofs.Closing.{put_kept}
 use Rattle.relay_threads.specs.Relay.{AreNew, new_producer}
@@ -23,7 +23,7 @@ use Rattle.relay_run.specs.declared.feed.FeedFault.TheVariants as fault
 use Rattle.relay_run.specs.declared.producing.Fed.{Fed}
 use Rattle.relay_run.specs.declared.producing.FedPromise.{FedPromise}
 use Rattle.relay_run.specs.Feeding.{after_puts, Stops}
-use Rattle.relay_run.specs.Identities.{Identity, identity_of, identity_of_closed}
+use Rattle.relay_run.specs.Identities.{identity_of, identity_of_closed}
 use Rattle.relay_run.specs.Fed.{named, answer_of, first_reader, other_readers, IsFedFrom, IsFed, AreFedFrom}
 use Rattle.relay_run.specs.Handles.{Given, given_to, all_given, EndsFed, AllEndFed}
 

@@ -1,6 +1,5 @@
 -- What is said of a file that was not put whole, and how the program ends then.
-use Rattle.std.specs.Prelude.{ℕ, ◌<◌, Bool, true, false, List, [], ◌∷◌, ◌++◌, Option, None, Some, codes, decimal, if◌then◌else◌, nat_lt}
-use Rattle.relay_ndjson.specs.declared.kind.InputFault.{InputFault}
+use Rattle.std.specs.Prelude.{ℕ, Bool, true, false, List, [], ◌∷◌, ◌++◌, Option, None, Some, codes, decimal, if◌then◌else◌, nat_lt}
 use Rattle.relay_ndjson.specs.declared.kind.LineKind.TheVariants as kind
 use Rattle.relay_ndjson.specs.declared.kind.LineKind.{LineKind}
 use Rattle.relay_ndjson.specs.Kinds.{name_of}

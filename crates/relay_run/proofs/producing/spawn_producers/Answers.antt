@@ -3,7 +3,7 @@ use Rattle.std.specs.Prelude.{option_map, string_bytes}
 use Rattle.std.specs.Option.{option_flatten}
 use Rattle.std.specs.Vec.Iter.{into_iter_items}
 use Rattle.relay_ndjson.specs.Metadata.{shown}
-use Rattle.relay_run.specs.Handles.{Given, given_to, all_given}
+use Rattle.relay_run.specs.Handles.{given_to, all_given}
 use Rattle.relay_run.proofs.Ending.{takes_reader, given_push, given_more}
 use Rattle.relay_run.proofs.producing.spawn_producers.Goals as goal
 
