@@ -2,3 +2,4 @@ pub mod Feeding
 pub mod Handing
 pub mod Ending
 pub mod Texts
+pub mod Said

@@ -4,3 +4,4 @@ pub mod Feeding
 pub mod Identities
 pub mod Fed
 pub mod Handles
+pub mod Saying

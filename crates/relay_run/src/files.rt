@@ -1,10 +1,13 @@
 //! Files of operations to an index: the function behind `relay run`.
-ghost use Rattle.std.specs.Prelude.{◌≡◌, ◌++◌, IfOk, OnOk, IsTrue, is_some, length, map, string_bytes, true, vec_len};
+ghost use Rattle.std.specs.Prelude.{◌≡◌, ◌++◌, IfOk, OnOk, IsTrue, false, is_some, length, map, string_bytes, true, vec_len};
 ghost use Rattle.relay_core.specs.Limits.{is_valid};
 ghost use Rattle.relay_http.specs.WrittenRequest.{is_host};
 ghost use Rattle.relay_threads.specs.Relay.{NoneOut};
 ghost use Rattle.relay_wires.specs.Numbered.{numbers};
-ghost use Rattle.relay_run.specs.Faults.{file_fault, said_of, worse_by, faults_text, exit_of_files};
+ghost use Rattle.std.specs.Io.KnownBytes.{append_known};
+ghost use Rattle.relay_action.specs.Streams.{FailedSince};
+ghost use Rattle.relay_run.specs.Faults.{worse, file_fault, said_of, worse_by, faults_text, exit_of_files};
+ghost use Rattle.relay_run.specs.Saying.{IsSaid, exit_of_finish, SaysSummary, Concludes};
 ghost use Rattle.relay_run.specs.Outcomes.{start_fault_text, kind_name, finish_fault_text, total, reports_of, exit_of_reports, TellsOf};
 
 use crate::faults::{FileFault, add_file_fault, exit_of_file, worse};
@@ -263,6 +266,65 @@ fn summary_text<W: Drop>(alloc: Global, summary: Summary<W>) -> Result<(Vec<u8>,
     Ok((text, exit))
 }
 
+// Writes a text. Whether all of it was written.
+fn say<W: ByteOut>(out: &mut W, text: &[u8]) -> bool
+    ensures all { IsTrue result → (W.written out.new ≡ append_known (W.written out.old) text.now)
+        × (W.failed out.new ≡ W.failed out.old) }
+    ensures failed { result ≡ false → FailedSince (W.failed out.old) (W.failed out.new) }
+{
+    match write_all(out, text) {
+        Ok(()) => true,
+        Err(_) => false,
+    }
+}
+
+// How the program ends by a relay that did not finish well.
+fn exit_of_finish(kind: FinishFaultKind) -> Exit
+    ensures { result ≡ exit_of_finish kind }
+{
+    match kind {
+        FinishFaultKind::LaneMemory => Exit::Memory,
+        FinishFaultKind::LaneGone => Exit::Device,
+        FinishFaultKind::Memory => Exit::Memory,
+    }
+}
+
+// Says that a relay did not finish well.
+fn say_fault<E: ByteOut>(
+    alloc: Global,
+    exit: Exit,
+    fault: FinishFault,
+    err: &mut E,
+) -> Result<Exit, AllocError>
+    ensures said { OnOk result (IsSaid (finish_fault_text fault)
+        (E.written err.old, E.failed err.old) (E.written err.new, E.failed err.new)) }
+    ensures exit { IfOk result (λ end. end ≡ worse exit (exit_of_finish fault.kind)) }
+{
+    let text = finish_fault_text(alloc, fault)?;
+    let _ = say(err, &text);
+    Ok(worse(exit, exit_of_finish(fault.kind)))
+}
+
+// Writes the summary of a run, or says that a write of it failed.
+fn say_summary<W: Drop, O: ByteOut, E: ByteOut>(
+    alloc: Global,
+    exit: Exit,
+    summary: Summary<W>,
+    out: &mut O,
+    err: &mut E,
+) -> Result<Exit, AllocError>
+    ensures { IfOk result (λ end. SaysSummary summary.lanes.items exit
+        (O.written out.old, O.failed out.old) (O.written out.new, O.failed out.new)
+        (E.written err.old, E.failed err.old) (E.written err.new, E.failed err.new) end) }
+{
+    let (text, reported) = summary_text(alloc, summary)?;
+    if say(out, &text) {
+        return Ok(worse(exit, reported));
+    }
+    let _ = say(err, b"write failed\n");
+    Ok(worse(exit, Exit::Device))
+}
+
 // Says what a run came to.
 fn conclude<W: Drop, O: ByteOut, E: ByteOut>(
     alloc: Global,
@@ -274,27 +336,18 @@ fn conclude<W: Drop, O: ByteOut, E: ByteOut>(
 ) -> Result<Exit, AllocError>
     requires opened { length opened.now ≡ length files.now }
     requires stops { vec_len ran.faults ≡ length files.now }
+    ensures { IfOk result (λ end. Concludes (faults_text (map string_bytes files.now) opened.now ran.faults.items)
+        (exit_of_files Exit.Done opened.now ran.faults.items) ran.end
+        (O.written out.old, O.failed out.old) (O.written out.new, O.failed out.new)
+        (E.written err.old, E.failed err.old) (E.written err.new, E.failed err.new) end) }
 {
     let Ran { faults, end } = ran;
     let (text, exit) = faults_text(alloc, files, opened, &faults)?;
-    let _ = write_all(err, &text);
-    let summary = match end {
-        Ok(summary) => summary,
-        Err(fault) => {
-            let _ = write_all(err, &finish_fault_text(alloc, fault)?);
-            let of_lanes = match fault.kind {
-                FinishFaultKind::LaneGone => Exit::Device,
-                FinishFaultKind::LaneMemory | FinishFaultKind::Memory => Exit::Memory,
-            };
-            return Ok(worse(exit, of_lanes));
-        }
-    };
-    let (text, of_reports) = summary_text(alloc, summary)?;
-    if write_all(out, &text).is_err() {
-        let _ = write_all(err, b"write failed\n");
-        return Ok(worse(exit, Exit::Device));
+    let _ = say(err, &text);
+    match end {
+        Ok(summary) => say_summary(alloc, exit, summary, out, err),
+        Err(fault) => say_fault(alloc, exit, fault, err),
     }
-    Ok(worse(exit, of_reports))
 }
 
 // Runs the files over TCP, and says what it came to.
