@@ -13,7 +13,7 @@ use Rattle.relay_producer.specs.declared.ends.OpenEnd.{OpenEnd}
 use Rattle.relay_producer.specs.declared.ends.ClosedEnd.{ClosedEnd}
 use Rattle.relay_producer.specs.declared.ends.ClosedEnd.TheVariants.{Closed, Gone}
 use Rattle.relay_producer.specs.Ends.{Closes, end_of, open_puts, closed_puts, identity, identities, IsClosedBy}
-use Rattle.relay_producer.specs.Puts.{puts_in, puts_of, ops_for, HasPut}
+use Rattle.relay_producer.specs.Puts.{puts_in, puts_of, ops_for, HasPut, HaveNoPuts}
 use Rattle.relay_producer.specs.States.{HasLanes, IsProducer, IsClosedProducer, IsControl, IsClosedControl}
 
 pub puts_of-append : (a b : List Mail) → puts_of (a ++ b) ≡ puts_of a ++ puts_of b
@@ -116,5 +116,16 @@ producer_closed producer put old new h p = record {
   shown = (p.shown.0, put_kept producer put old new p.shown.0 h p.shown.1);
 }
 
+-- the close sends no operation
+no_puts_closed : (old : List OpenEnd) (new : List ClosedEnd) → AllZip Closes old new → HaveNoPuts (open_puts old) → HaveNoPuts (closed_puts new)
+no_puts_closed [] [] h none = tt
+no_puts_closed [] (y ∷ ys) h none = absurd h
+no_puts_closed (x ∷ xs) [] h none = absurd h
+no_puts_closed (x ∷ xs) (y ∷ ys) h none = (same_puts x y h.0 ∙ none.0, no_puts_closed xs ys h.1 none.1)
+
 pub control_closed : (sender : ℕ) (old : List OpenEnd) (new : List ClosedEnd) → AllZip Closes old new → IsControl (record { sender = sender; ends = old }) → IsClosedControl (record { sender = sender; ends = new })
-control_closed sender old new h p = record { lanes = lanes_kept old new h p.lanes; own = all_closed_by sender old new p.own h }
+control_closed sender old new h p = record {
+  lanes = lanes_kept old new h p.lanes;
+  own = all_closed_by sender old new p.own h;
+  no_puts = no_puts_closed old new h p.no_puts;
+}

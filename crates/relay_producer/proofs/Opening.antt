@@ -4,11 +4,11 @@ use Rattle.std.specs.Prelude.{Some}
 use Rattle.std.specs.List.{slice_get}
 use Rattle.std.proofs.lemmas.List.{length-map}
 use Rattle.std.proofs.lemmas.Option.{slice_get_within, get_or_from_slice_get}
-use Rattle.std.proofs.lemmas.List.Elements.{All-map, All-weaker}
+use Rattle.std.proofs.lemmas.List.Elements.{All-map, All-weaker, All-head, All-tail}
 use Rattle.relay_queue.specs.Ends.{SenderEnd, fresh}
 use Rattle.relay_producer.specs.declared.ends.OpenEnd.{OpenEnd}
 use Rattle.relay_producer.specs.Ends.{opened, open_puts}
-use Rattle.relay_producer.specs.Puts.{puts_of, HasPut}
+use Rattle.relay_producer.specs.Puts.{puts_of, HasPut, HaveNoPuts}
 use Rattle.relay_producer.specs.States.{AreFresh, AreEndsOf, HasLanes, IsProducer, IsControl}
 
 pub opened_puts : (puts : List SenderEnd) → open_puts (map opened puts) ≡ puts
@@ -47,9 +47,20 @@ is_producer sender puts lanes h = record {
   shown = ([], subst (λ (ps : List SenderEnd). HasPut sender 0 ps []) (sym (opened_puts puts)) (has_none sender puts h));
 }
 
+-- it has sent no operation
+pub fresh_no_puts : (sender : ℕ) (puts : List SenderEnd) → AreFresh sender puts → HaveNoPuts puts
+fresh_no_puts sender [] h = tt
+fresh_no_puts sender (p ∷ ps) h =
+    let F : SenderEnd → Type 0 = λ q. q ≡ fresh q.queue sender in
+    (ap (λ (q : SenderEnd). puts_of q.sent) (All-head F p ps h), fresh_no_puts sender ps (All-tail F p ps h))
+
 pub is_control : (sender : ℕ) (puts : List SenderEnd) → HasLanes puts → AreFresh sender puts → IsControl (record { sender = sender; ends = map opened puts })
 is_control sender puts lanes h =
     let P : OpenEnd → Type 0 = λ e. e.put.sender ≡ sender in
     let F : SenderEnd → Type 0 = λ p. p ≡ fresh p.queue sender in
     let step : (p : SenderEnd) → F p → P (opened p) = λ p e. ap (λ (q : SenderEnd). q.sender) e in
-    record { lanes = lanes_opened puts lanes; own = All-map P opened puts (All-weaker F (λ p. P (opened p)) step puts h) }
+    record {
+      lanes = lanes_opened puts lanes;
+      own = All-map P opened puts (All-weaker F (λ p. P (opened p)) step puts h);
+      no_puts = subst HaveNoPuts (sym (opened_puts puts)) (fresh_no_puts sender puts h);
+    }

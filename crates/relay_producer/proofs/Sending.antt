@@ -1,11 +1,16 @@
 -- A signal goes to one lane after another.
-use Rattle.std.proofs.Common.{◌≡◌, ◌≢◌, ℕ, zero, suc, ◌+◌, ◌<◌, ◌≤◌, true, false, eqb, List, [], ◌∷◌, length, set, get_or, sym, refl, ap, ◌∙◌, subst, ⊎_elim, arith, length-set, get_or-set_other, get_or-set_same}
+use Rattle.std.proofs.Common.{◌≡◌, ◌≢◌, ℕ, zero, suc, ◌+◌, ◌<◌, ◌≤◌, true, false, eqb, List, [], ◌∷◌, ◌++◌, length, set, get_or, sym, refl, ap, ◌∙◌, subst, ⊎_elim, arith, length-set, get_or-set_other, get_or-set_same}
 use Rattle.std.specs.Prelude.{◌^◌}
 use Rattle.std.proofs.lemmas.Bool.Decides.{eqb_tells}
 use Rattle.std.proofs.lemmas.List.{get_or_read}
 use Rattle.std.proofs.lemmas.List.Sums.{sum_by-set}
 use Rattle.relay_action.specs.declared.mail.Body.{Body}
 use Rattle.relay_producer.specs.declared.ends.OpenEnd.{OpenEnd}
+use Rattle.relay_queue.specs.Ends.{Queue}
+use Rattle.relay_queue.specs.Sent.{message}
+use Rattle.relay_producer.specs.Puts.{puts_in, puts_of, HaveNoPuts}
+use Rattle.relay_producer.specs.States.{IsControl}
+use Rattle.relay_producer.proofs.Closing.{puts_of-append}
 use Rattle.relay_producer.specs.Ends.{Takes, IsSent, marked, count_sent, open_puts, identity, identities, IsSentToAll}
 
 -- the first lanes were sent the message, which so many took, and the others are as before
@@ -56,3 +61,35 @@ goes_on body lane taken more old now x y h lt at sent grown most =
 
 pub all_sent : (body : Body) (lane taken : ℕ) (old now : List OpenEnd) → Sending body lane taken old now → length old ≤ lane → IsSentToAll body old now
 all_sent body lane taken old now h le = record { lanes = h.lanes; each = λ k d lt. h.done k d (omega arith) }
+
+-- ---- the control afterwards
+
+-- a message that is no operation adds none
+no_put_sent : (body : Body) (x y : OpenEnd) → puts_in body ≡ [] → IsSent body x y → puts_of x.put.sent ≡ [] → puts_of y.put.sent ≡ []
+no_put_sent body x y silent h none =
+    ⊎_elim (λ (t : Takes body x y).
+    ap (λ (e : OpenEnd). puts_of e.put.sent) t.sent ∙ puts_of-append x.put.sent (message x.put.sender (length x.put.sent + 1) body ∷ [])
+    ∙ ap (λ l. l ++ (puts_in body ++ [])) none ∙ ap (λ l. l ++ []) silent)
+    (λ m. ⊎_elim (λ (e : y ≡ marked x). ap (λ (z : OpenEnd). puts_of z.put.sent) e ∙ none) (λ (e : (length x.put.sent ≡ 2 ^ 40) × (y ≡ x)). ap (λ (z : OpenEnd). puts_of z.put.sent) e.1 ∙ none) m) h
+
+no_puts_sent : (body : Body) (old new : List OpenEnd) → puts_in body ≡ [] → IsSentToAll body old new → HaveNoPuts (open_puts old) → HaveNoPuts (open_puts new)
+no_puts_sent body [] [] silent h none = tt
+no_puts_sent body [] (y ∷ ys) silent h none = absurd (let n = h.lanes in omega arith)
+no_puts_sent body (x ∷ xs) [] silent h none = absurd (let n = h.lanes in omega arith)
+no_puts_sent body (x ∷ xs) (y ∷ ys) silent h none =
+    let n = h.lanes in
+    let first : IsSent body x y = h.each 0 x (omega arith) in
+    let later : IsSentToAll body xs ys = record { lanes = omega arith; each = λ lane d lt. h.each (suc lane) d (omega arith) } in
+    (no_put_sent body x y silent first none.0, no_puts_sent body xs ys silent later none.1)
+
+pub control_sends : (body : Body) (sender : ℕ) (old new : List OpenEnd) → puts_in body ≡ [] → IsSentToAll body old new → IsControl (record { sender = sender; ends = old }) → IsControl (record { sender = sender; ends = new })
+control_sends body sender old new silent h p =
+    let n = h.lanes in
+    let lanes = p.lanes in
+    record {
+      lanes = (omega arith, omega arith);
+      own = λ k d lt.
+          let within : k < length old = omega arith in
+          ap (λ (q : Queue × ℕ). q.1) (sent_identity body (get_or old k d) (get_or new k d) (h.each k d within)) ∙ p.own k d within;
+      no_puts = no_puts_sent body old new silent h p.no_puts;
+    }

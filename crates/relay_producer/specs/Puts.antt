@@ -37,3 +37,8 @@ pub record HasPut (producer count : ℕ) (puts : List SenderEnd) (ops : List Op)
   pub numbered : AreNumberedBy producer 1 ops
   pub senders : (lane : ℕ) (put : SenderEnd) → slice_get puts lane ≡ Some put → put.sender ≡ producer
   pub sent : (lane : ℕ) (put : SenderEnd) → slice_get puts lane ≡ Some put → puts_of put.sent ≡ ops_for (length puts) lane ops
+
+-- no operation was sent by these ends
+abbrev pub HaveNoPuts : List SenderEnd → Type 0
+HaveNoPuts [] = Unit {0}
+HaveNoPuts (p ∷ ps) = (puts_of p.sent ≡ []) × HaveNoPuts ps

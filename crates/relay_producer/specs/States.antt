@@ -10,7 +10,7 @@ use Rattle.relay_queue.specs.Ends.{SenderEnd, fresh}
 use Rattle.relay_producer.specs.declared.ends.OpenEnd.{OpenEnd}
 use Rattle.relay_producer.specs.declared.ends.ClosedEnd.{ClosedEnd}
 use Rattle.relay_producer.specs.Ends.{with_sent, marked, change_at, open_puts, closed_puts, IsClosedBy}
-use Rattle.relay_producer.specs.Puts.{HasPut}
+use Rattle.relay_producer.specs.Puts.{HasPut, HaveNoPuts}
 
 -- a producer: its number, how many operations it put, and its end of each lane's queue, by lane
 pub record ProducerState : Type 0 where
@@ -79,12 +79,14 @@ pub record IsClosedProducer (s : ClosedProducerState) : Type 0 where
   pub own : All (IsClosedBy s.producer) s.ends
   pub shown : (ops : List Op) × HasPut s.producer s.put (closed_puts s.ends) ops
 
--- a control over the lanes of a relay
+-- a control over the lanes of a relay, which sent no operation
 pub record IsControl (s : ControlState) : Type 0 where
   pub lanes : HasLanes s.ends
   pub own : All (λ e. e.put.sender ≡ s.sender) s.ends
+  pub no_puts : HaveNoPuts (open_puts s.ends)
 
 -- a closed one
 pub record IsClosedControl (s : ClosedControlState) : Type 0 where
   pub lanes : HasLanes s.ends
   pub own : All (IsClosedBy s.sender) s.ends
+  pub no_puts : HaveNoPuts (closed_puts s.ends)

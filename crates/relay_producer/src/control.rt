@@ -3,6 +3,7 @@ ghost use Rattle.std.specs.Prelude.{◌≡◌, ◌+◌, ◌↔◌, false, map, I
 ghost use Rattle.std.specs.List.{All, count_by};
 ghost use Rattle.relay_action.specs.declared.mail.Body.TheVariants.{Tick, Flush};
 ghost use Rattle.relay_producer.specs.Ends.{opened, open_puts, closed_puts, identities, is_gone, count_sent, IsSentToAll, IsClosedBy, ClosesAll};
+ghost use Rattle.relay_producer.specs.Puts.{HaveNoPuts};
 ghost use Rattle.relay_producer.specs.States.{AreFresh, HasLanes};
 
 use crate::ends::{ClosedEnd, OpenEnd};
@@ -12,8 +13,8 @@ use std::alloc::{AllocError, Global};
 use std::marker::Model;
 use std::sync::Wait;
 
-/// The control's handle, a sender beside the producers, numbered one past the last of them. Contracts
-/// see its number and its end of each lane's queue.
+/// The control's handle, a sender beside the producers, numbered one past the last of them. It sends no
+/// operation. Contracts see its number and its end of each lane's queue.
 ///
 /// A lane is marked once its queue answers that the lane is gone: nothing more is sent to it.
 #[derive(Drop)]
@@ -45,6 +46,7 @@ impl Control {
         requires fresh { AreFresh sender puts.items }
         ensures state { IfOk result (λ c. c ≡ record { sender = sender; ends = map opened puts.items }) }
         ensures puts { IfOk result (λ c. open_puts c.ends ≡ puts.items) }
+        ensures no_puts { IfOk result (λ c. HaveNoPuts (open_puts c.ends)) }
     {
         let closed = Vec::with_capacity(alloc, puts.len())?;
         let ends = open_all(alloc, puts)?;
@@ -63,6 +65,7 @@ impl Control {
         ensures count { count_sent self.old.ends + result ≡ count_sent self.new.ends }
         ensures sender { self.new.sender ≡ self.old.sender }
         ensures same { identities (open_puts self.new.ends) ≡ identities (open_puts self.old.ends) }
+        ensures no_puts { HaveNoPuts (open_puts self.new.ends) }
     {
         send_to_all(rt, &mut self.ends, Signal::Tick)
     }
@@ -73,6 +76,7 @@ impl Control {
         ensures count { count_sent self.old.ends + result ≡ count_sent self.new.ends }
         ensures sender { self.new.sender ≡ self.old.sender }
         ensures same { identities (open_puts self.new.ends) ≡ identities (open_puts self.old.ends) }
+        ensures no_puts { HaveNoPuts (open_puts self.new.ends) }
     {
         send_to_all(rt, &mut self.ends, Signal::Flush)
     }
@@ -83,6 +87,7 @@ impl Control {
         ensures closed { ClosesAll self.ends result.ends }
         ensures sender { result.sender ≡ self.sender }
         ensures ends { identities (closed_puts result.ends) ≡ identities (open_puts self.ends) }
+        ensures no_puts { HaveNoPuts (closed_puts result.ends) }
     {
         let Control {
             sender,
@@ -101,7 +106,8 @@ impl Control {
     }
 }
 
-/// The handle of the control that has closed. Contracts see its number and its end of each lane's queue.
+/// The handle of the control that has closed. Contracts see its number and its end of each lane's queue, by
+/// which no operation was sent.
 #[derive(Drop)]
 pub struct ClosedControl {
     sender: u32,
@@ -134,6 +140,7 @@ impl ClosedControl {
         ensures ends { result.items ≡ self.ends }
         ensures lanes { HasLanes self.ends }
         ensures closed { All (IsClosedBy self.sender) self.ends }
+        ensures no_puts { HaveNoPuts (closed_puts self.ends) }
     {
         let ClosedControl { ends, .. } = self;
         ends

@@ -1,2 +1,5 @@
 pub mod Feeding
 pub mod Handing
+pub mod Ending
+pub mod Texts
+pub mod Said

@@ -1,6 +1,5 @@
 -- What is said of a file that was not put whole, and how the program ends then.
-use Rattle.std.specs.Prelude.{ℕ, ◌<◌, Bool, List, [], ◌++◌, codes, decimal, if◌then◌else◌, nat_lt}
-use Rattle.relay_ndjson.specs.declared.kind.InputFault.{InputFault}
+use Rattle.std.specs.Prelude.{ℕ, Bool, true, false, List, [], ◌∷◌, ◌++◌, Option, None, Some, codes, decimal, if◌then◌else◌, nat_lt}
 use Rattle.relay_ndjson.specs.declared.kind.LineKind.TheVariants as kind
 use Rattle.relay_ndjson.specs.declared.kind.LineKind.{LineKind}
 use Rattle.relay_ndjson.specs.Kinds.{name_of}
@@ -25,6 +24,12 @@ file_fault_line file (fault.Feed (feed.Input e)) = file ++ codes ": " ++ line_fa
 file_fault_line file (fault.Feed feed.NumbersSpent) = file ++ codes ": NumbersSpent\n"
 file_fault_line file (fault.Feed feed.LaneGone) = []
 
+-- why a file was not put whole: it was not opened, or this stopped its producer
+abbrev pub file_fault : Bool → Option FeedFault → Option FileFault
+file_fault false stop = Some fault.Open
+file_fault true None = None
+file_fault true (Some stop) = Some (fault.Feed stop)
+
 -- a file that cannot be opened or read is a device's fault
 abbrev pub exit_of_file : FileFault → Exit
 exit_of_file fault.Open = exit.Device
@@ -43,3 +48,27 @@ rank exit.Memory = 5
 
 abbrev pub worse : Exit → Exit → Exit
 worse a b = if nat_lt (rank a) (rank b) then b else a
+
+-- ---- all files
+
+-- what is said of a file, where something is at fault
+abbrev pub said_of : List ℕ → Option FileFault → List ℕ
+said_of file None = []
+said_of file (Some f) = file_fault_line file f
+
+abbrev pub worse_by : Exit → Option FileFault → Exit
+worse_by end None = end
+worse_by end (Some f) = worse end (exit_of_file f)
+
+-- of files, each with whether it was opened and what stopped its producer, in their order
+abbrev pub faults_text : List (List ℕ) → List Bool → List (Option FeedFault) → List ℕ
+faults_text [] opened stops = []
+faults_text (file ∷ files) [] stops = []
+faults_text (file ∷ files) (was ∷ opened) [] = []
+faults_text (file ∷ files) (was ∷ opened) (stop ∷ stops) = said_of file (file_fault was stop) ++ faults_text files opened stops
+
+-- how the program ends by them, where it would have ended so
+abbrev pub exit_of_files : Exit → List Bool → List (Option FeedFault) → Exit
+exit_of_files end [] stops = end
+exit_of_files end (was ∷ opened) [] = end
+exit_of_files end (was ∷ opened) (stop ∷ stops) = exit_of_files (worse_by end (file_fault was stop)) opened stops

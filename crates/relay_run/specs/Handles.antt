@@ -1,9 +1,34 @@
--- The threads of producers.
+-- The threads of producers, and what they ended with.
+use Rattle.std.specs.Prelude.{ℕ, List, [], ◌∷◌, Option, option_map, string_bytes}
 use Rattle.std.specs.declared.thread.PromisedHandle.{PromisedHandle}
+use Rattle.relay_producer.specs.States.{ProducerState, ClosedProducerState}
+use Rattle.relay_run.specs.declared.feed.FeedFault.{FeedFault}
 use Rattle.relay_run.specs.declared.producing.Fed.{Fed}
 use Rattle.relay_run.specs.declared.producing.FedPromise.{FedPromise}
-use Rattle.relay_run.specs.Identities.{Identity, identity_of}
+use Rattle.relay_run.specs.Fed.{IsFed, first_reader, other_readers}
 
--- that of the producer that a thread was given
-abbrev pub identity_of_thread : PromisedHandle Fed FedPromise → Identity
-identity_of_thread h = identity_of h.promise.producer.value
+-- what a producer's thread is given: the producer, its reader, if it has one, and the index of operations that name none
+abbrev pub Given : Type 0 → Type 0
+Given S = ProducerState × Option S × Option (List ℕ)
+
+module _ {S : Type 0} where
+  abbrev pub given_to : PromisedHandle Fed (FedPromise S) → Given S
+  given_to h = (h.promise.producer.value, h.promise.reader.value, option_map string_bytes h.promise.index.value)
+
+  -- each producer with the reader at its place
+  abbrev pub all_given : Option (List ℕ) → List (Option S) → List ProducerState → List (Given S)
+  all_given index readers [] = []
+  all_given index readers (p ∷ ps) = (p, first_reader readers, index) ∷ all_given index (other_readers readers) ps
+
+  -- a thread that was given this has ended so
+  abbrev pub EndsFed : (S → Option (List ℕ)) → (S → ℕ) → Given S → ClosedProducerState → Option FeedFault → Type 0
+  EndsFed left failed g closed fault = IsFed left failed g.2 g.1 g.0 closed fault
+
+  -- so have all of them, in their order
+  abbrev pub AllEndFed : (S → Option (List ℕ)) → (S → ℕ) → List (Given S) → List ClosedProducerState → List (Option FeedFault) → Type 0
+  AllEndFed left failed [] [] [] = Unit {0}
+  AllEndFed left failed [] [] (f ∷ fs) = ⊥
+  AllEndFed left failed [] (c ∷ cs) fs = ⊥
+  AllEndFed left failed (g ∷ gs) [] fs = ⊥
+  AllEndFed left failed (g ∷ gs) (c ∷ cs) [] = ⊥
+  AllEndFed left failed (g ∷ gs) (c ∷ cs) (f ∷ fs) = EndsFed left failed g c f × AllEndFed left failed gs cs fs

@@ -2,4 +2,6 @@ pub mod Outcomes
 pub mod Faults
 pub mod Feeding
 pub mod Identities
+pub mod Fed
 pub mod Handles
+pub mod Saying

@@ -1,8 +1,17 @@
 -- What a run says at its end.
-use Rattle.std.specs.Prelude.{ℕ, ◌+◌, ◌*◌, ◌^◌, List, ◌++◌, length, codes, flat_map}
+use Rattle.std.specs.Prelude.{◌≡◌, ℕ, ◌+◌, ◌*◌, ◌^◌, List, [], ◌∷◌, ◌++◌, length, codes, decimal, flat_map, IsPermutation}
 use Rattle.std.specs.List.Sorted.{IsNonDecreasingBy}
 use Rattle.relay_action.specs.declared.operation.OpName.{OpName}
 use Rattle.relay_core.specs.declared.report.Report.{Report}
+use Rattle.relay_ndjson.specs.Operations.{counted}
+use Rattle.relay_commands.specs.declared.exit.Exit.{Exit}
+use Rattle.relay_commands.specs.declared.exit.Exit.TheVariants as exit
+use Rattle.relay_threads.specs.declared.fault.StartFault.{StartFault}
+use Rattle.relay_threads.specs.declared.fault.StartFault.TheVariants as start
+use Rattle.relay_threads.specs.declared.fault.FinishFault.{FinishFault}
+use Rattle.relay_threads.specs.declared.fault.FinishFaultKind.{FinishFaultKind}
+use Rattle.relay_threads.specs.declared.fault.FinishFaultKind.TheVariants as kind
+use Rattle.relay_threads.specs.declared.summary.LaneSummary.{LaneSummary}
 use Rattle.relay_text.specs.Texts.{spaced, name_text, document_text, cause_text}
 
 -- `report P:N INDEX/ID CAUSE` and a line end
@@ -25,3 +34,44 @@ place_of name = name.producer * 2 ^ 64 + name.number
 -- the reports stand in the order of their names
 abbrev pub AreInOrder : List Report → Type 0
 AreInOrder reports = IsNonDecreasingBy (λ r. place_of r.name) reports
+
+-- how the program ends where these operations are reported
+abbrev pub exit_of_reports : List Report → Exit
+exit_of_reports [] = exit.Done
+exit_of_reports (r ∷ rs) = exit.Reported
+
+module _ {W : Type 0} where
+  -- the count of all lanes and this one so far; it stays at its greatest value
+  abbrev pub total : (LaneSummary W → ℕ) → ℕ → List (LaneSummary W) → ℕ
+  total count sum [] = sum
+  total count sum (s ∷ ss) = total count (counted (sum + count s)) ss
+
+  -- the reports of all lanes
+  abbrev pub reports_of : List (LaneSummary W) → List Report
+  reports_of [] = []
+  reports_of (s ∷ ss) = s.reports.items ++ reports_of ss
+
+  -- the text tells of the reports of all lanes, in the order of their names, and of the counts of all lanes
+  pub record TellsOf (lanes : List (LaneSummary W)) (text : List ℕ) (end : Exit) : Type 0 where
+    pub reports : List Report
+    pub same : IsPermutation (reports_of lanes) reports
+    pub order : AreInOrder reports
+    pub lines : text ≡ outcome_text reports (total (λ s. s.applied) 0 lanes) (total (λ s. s.already) 0 lanes)
+    pub ends : end ≡ exit_of_reports (reports_of lanes)
+
+-- what is said of a relay that was not started
+abbrev pub start_fault_text : StartFault → List ℕ
+start_fault_text start.BadConfig = codes "start: BadConfig\n"
+start_fault_text start.WireCount = codes "start: WireCount\n"
+start_fault_text start.Memory = codes "start: Memory\n"
+start_fault_text start.Thread = codes "start: Thread\n"
+
+-- the name of a fault at the end
+abbrev pub kind_name : FinishFaultKind → List ℕ
+kind_name kind.LaneMemory = codes "LaneMemory"
+kind_name kind.LaneGone = codes "LaneGone"
+kind_name kind.Memory = codes "Memory"
+
+-- what is said of a relay that did not finish well
+abbrev pub finish_fault_text : FinishFault → List ℕ
+finish_fault_text f = codes "lane " ++ decimal f.lane ++ codes ": " ++ kind_name f.kind ++ codes "\n"

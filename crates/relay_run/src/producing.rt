@@ -1,7 +1,10 @@
 //! The thread of a producer: it puts the operations of a stream, and closes.
-ghost use Rattle.std.specs.Prelude.{◌≡◌, map, IfOk};
-ghost use Rattle.relay_run.specs.Handles.{identity_of_thread};
-ghost use Rattle.relay_run.specs.Identities.{identity_of, identity_of_closed};
+ghost use Rattle.std.specs.Prelude.{◌≡◌, List, map, option_map, string_bytes, IfOk};
+ghost use Rattle.relay_ndjson.specs.Metadata.{shown};
+ghost use Rattle.relay_ndjson.specs.Operations.{Operation};
+ghost use Rattle.relay_producer.specs.Ends.{identities, open_puts};
+ghost use Rattle.relay_run.specs.Fed.{IsFedFrom, IsFed};
+ghost use Rattle.relay_run.specs.Handles.{given_to, all_given, AllEndFed};
 
 use crate::feed::{FeedFault, feed};
 use crossbeam_channel::Sender;
@@ -24,41 +27,79 @@ pub struct Fed {
     pub fault: Option<FeedFault>,
 }
 
-/// What a producer's thread was given, for proofs alone: the producer as it was.
+/// What a producer's thread was given, for proofs alone: the producer, its reader and the index, as they
+/// were.
 #[derive(Drop)]
-pub struct FedPromise {
+pub struct FedPromise<S> {
     /// The producer.
     pub producer: Snapshot<Producer>,
+    /// Its reader, if it has one.
+    pub reader: Snapshot<Option<S>>,
+    /// The index of operations that name none.
+    pub index: Snapshot<Option<String>>,
 }
 
-impl Promise<Fed> for FedPromise {
-    ghost use Rattle.std.specs.Prelude.{◌≡◌};
-    ghost use Rattle.relay_run.specs.Identities.{identity_of, identity_of_closed};
+impl<S: ByteIn> Promise<Fed> for FedPromise<S> {
+    ghost use Rattle.std.specs.Prelude.{option_map, string_bytes};
+    ghost use Rattle.relay_run.specs.Fed.{IsFed};
 
-    ghost kept_by = { λ p end. identity_of_closed end.closed ≡ identity_of p.producer.value };
+    ghost kept_by = { λ p end. IsFed S.left S.failed (option_map string_bytes p.index.value) p.reader.value p.producer.value end.closed end.fault };
 }
 
 /// A producer in its thread.
-pub type FedThread = PromisedHandle<Fed, FedPromise>;
+pub type FedThread<S> = PromisedHandle<Fed, FedPromise<S>>;
+
+// Puts the operations of a stream. Why not all were put; `None` where they were.
+fn feed_from<R: Wait, S: ByteIn + Drop>(
+    rt: &R,
+    alloc: Global,
+    reader: S,
+    index: Option<&str>,
+    producer: &mut Producer,
+) -> Option<FeedFault>
+    ensures fed { (ops : List Operation)
+        × IsFedFrom S.left S.failed (shown index.entry) (Some reader) ops producer.old producer.new result }
+    ensures same { identities (open_puts producer.new.ends) ≡ identities (open_puts producer.old.ends) }
+    ensures producer { producer.new.producer ≡ producer.old.producer }
+{
+    let mut input = Input::new(alloc, reader, index);
+    match feed(rt, &mut input, producer) {
+        Ok(()) => None,
+        Err(fault) => Some(fault),
+    }
+}
+
+// Puts the operations of a stream, if there is one. Why not all were put; `None` where they were.
+fn feed_some<R: Wait, S: ByteIn + Drop>(
+    rt: &R,
+    alloc: Global,
+    reader: Option<S>,
+    index: Option<&str>,
+    producer: &mut Producer,
+) -> Option<FeedFault>
+    ensures fed { (ops : List Operation)
+        × IsFedFrom S.left S.failed (shown index.entry) reader ops producer.old producer.new result }
+    ensures same { identities (open_puts producer.new.ends) ≡ identities (open_puts producer.old.ends) }
+    ensures producer { producer.new.producer ≡ producer.old.producer }
+{
+    match reader {
+        Some(reader) => feed_from(rt, alloc, reader, index, producer),
+        None => None,
+    }
+}
 
 // Puts the operations of a stream, if there is one, and closes.
 fn run_producer<R: Wait, S: ByteIn + Drop>(
     rt: &R,
     alloc: Global,
     reader: Option<S>,
-    index: Option<&str>,
+    index: Option<String>,
     producer: Producer,
 ) -> Fed
-    ensures { identity_of_closed result.closed ≡ identity_of producer }
+    ensures { IsFed S.left S.failed (option_map string_bytes index) reader producer result.closed result.fault }
 {
     let mut producer = producer;
-    let fault = match reader {
-        Some(reader) => {
-            let mut input = Input::new(alloc, reader, index);
-            feed(rt, &mut input, &mut producer).err()
-        }
-        None => None,
-    };
+    let fault = feed_some(rt, alloc, reader, index.as_deref(), &mut producer);
     Fed {
         closed: producer.close(rt),
         fault,
@@ -74,19 +115,33 @@ fn spawn_producer<R, S>(
     index: Option<String>,
     producer: Producer,
     ended: Sender<(), Global>,
-) -> Result<FedThread, AllocError>
+) -> Result<FedThread<S>, AllocError>
 where
     R: Threads + Wait + Copy + Send + 'static,
     S: ByteIn + Drop + Send + 'static,
-    ensures { IfOk result (λ h. identity_of_thread h ≡ identity_of producer) }
+    ensures producer { IfOk result (λ h. h.promise.producer.value ≡ producer) }
+    ensures reader { IfOk result (λ h. h.promise.reader.value ≡ reader) }
+    ensures index { IfOk result (λ h. h.promise.index.value ≡ index) }
 {
     let promise = FedPromise {
         producer: Snapshot::of(&producer),
+        reader: Snapshot::of(&reader),
+        index: Snapshot::of(&index),
     };
     Ok(thread::spawn_with(&rt, promise, move || {
         let _ended = ended;
-        run_producer(&rt, alloc, reader, index.as_deref(), producer)
+        run_producer(&rt, alloc, reader, index, producer)
     })?)
+}
+
+// A text of its own, where there is one.
+fn own_text(alloc: Global, text: Option<&str>) -> Result<Option<String>, AllocError>
+    ensures { IfOk result (λ own. option_map string_bytes own ≡ shown text.entry) }
+{
+    match text {
+        Some(text) => Ok(Some(String::from_str(alloc, text)?)),
+        None => Ok(None),
+    }
 }
 
 /// Starts a thread for each producer, which puts the operations of the reader at its place, if there is
@@ -100,22 +155,20 @@ pub(crate) fn spawn_producers<R, S>(
     index: Option<&str>,
     producers: Vec<Producer>,
     ended: Sender<(), Global>,
-) -> Result<Vec<FedThread>, StartFault>
+) -> Result<Vec<FedThread<S>>, StartFault>
 where
     R: Threads + Wait + Copy + Send + 'static,
     S: ByteIn + Drop + Send + 'static,
-    ensures { IfOk result (λ v. map identity_of_thread v.items ≡ map identity_of producers.items) }
+    ensures { IfOk result
+        (λ v. map given_to v.items ≡ all_given (shown index.entry) readers.items producers.items) }
 {
     let mut threads = Vec::new(alloc);
     let mut readers = readers.into_iter();
     for producer in producers {
         let reader = readers.next().flatten();
-        let index = match index {
-            Some(index) => Some(String::from_str(alloc, index)?),
-            None => None,
-        };
+        let own = own_text(alloc, index)?;
         threads.reserve(1)?;
-        match spawn_producer(rt, alloc, reader, index, producer, ended.clone()?) {
+        match spawn_producer(rt, alloc, reader, own, producer, ended.clone()?) {
             Ok(thread) => threads.push_reserved(thread),
             Err(_) => return Err(StartFault::Thread),
         }
@@ -125,12 +178,13 @@ where
 
 /// Waits until each producer's thread has ended: the producers, which have closed, and why each of them
 /// was not fed all, in their order. `AllocError`: there was no memory for them.
-pub(crate) fn join_producers<R: Threads>(
+pub(crate) fn join_producers<R: Threads, S: ByteIn + Drop + Send + 'static>(
     rt: &R,
     alloc: Global,
-    threads: Vec<FedThread>,
+    threads: Vec<FedThread<S>>,
 ) -> Result<(Vec<ClosedProducer>, Vec<Option<FeedFault>>), AllocError>
-    ensures { IfOk result (λ r. map identity_of_closed r.0.items ≡ map identity_of_thread threads.items) }
+    ensures { IfOk result
+        (λ r. AllEndFed S.left S.failed (map given_to threads.items) r.0.items r.1.items) }
 {
     let mut closed = Vec::with_capacity(alloc, threads.len())?;
     let mut faults = Vec::with_capacity(alloc, threads.len())?;

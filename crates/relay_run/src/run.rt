@@ -1,8 +1,11 @@
 //! Readers of operations through a relay.
-ghost use Rattle.std.specs.Prelude.{◌≡◌, List, IfOk, vec_len};
-ghost use Rattle.relay_producer.specs.declared.ends.ClosedEnd.{ClosedEnd};
+ghost use Rattle.std.specs.Prelude.{◌≡◌, ℕ, List, IfOk, vec_len};
+ghost use Rattle.relay_ndjson.specs.Metadata.{shown};
+ghost use Rattle.relay_ndjson.specs.Operations.{Operation};
+ghost use Rattle.relay_queue.specs.Ends.{Queue};
 ghost use Rattle.relay_threads.specs.Relay.{NoneOut};
-ghost use Rattle.relay_threads.specs.Finished.{AllFinished};
+ghost use Rattle.relay_threads.specs.Delivered.{AllDelivered};
+ghost use Rattle.relay_run.specs.Fed.{named, AreFedFrom};
 
 use crate::feed::FeedFault;
 use crate::producing::{join_producers, spawn_producers};
@@ -31,6 +34,11 @@ pub struct Ran<W> {
 /// waits until all is done. An operation that names no index has this index, if one is given. Each lane
 /// gets a tick each 100 ms until the producers have ended.
 ///
+/// Of each producer there are operations that it was fed, those at the front of its reader, and its fault
+/// says why there were no more. Where the relay ends with a summary, each lane took exactly those of them
+/// on its documents, and delivered them: soundly and completely beside each outside that its wire fitted
+/// at the start. Without a summary what was taken was delivered as far as a lane's end says.
+///
 /// `StartFault`: the relay or a producer's thread could not be started, or there was no memory for what
 /// the threads are given. Threads that were started go on then.
 pub fn run<R, W, P, S>(
@@ -48,8 +56,11 @@ where
     P: Pace + Drop + Send + 'static,
     S: ByteIn + Drop + Send + 'static,
     requires { NoneOut W.out wires.items }
-    ensures { IfOk result (λ r. IfOk r.end (λ s. (rows : List (List ClosedEnd))
-        × AllFinished W.describes W.fits config rows 0 wires.items s.lanes.items)) }
+    ensures count { IfOk result (λ r. vec_len r.faults ≡ config.producers) }
+    ensures delivered { IfOk result (λ r. (queues : List Queue) × (ops : ℕ → List Operation)
+        × AreFedFrom S.left S.failed (shown index.entry) queues ops 0 readers.items r.faults.items
+        × IfOk r.end (λ s. AllDelivered W.describes W.fits config (λ p. named p 1 (ops p)) 0
+        wires.items s.lanes.items)) }
 {
     let (relay, producers, mut control) = match Relay::start(rt, alloc, config, wires, paces) {
         Ok(started) => started,

@@ -16,12 +16,15 @@ pub const TICK: u64 = 100;
 /// A pace that sleeps 100 ms for each tick.
 #[derive(Clone, Copy, Drop)]
 pub struct SleepPace<R: Clock> {
-    clock: R,
+    /// The clock by which it sleeps.
+    pub clock: R,
 }
 
 impl<R: Clock> SleepPace<R> {
     /// A pace by this clock.
-    pub fn new(clock: R) -> SleepPace<R> {
+    pub fn new(clock: R) -> SleepPace<R>
+        ensures { result.clock ≡ clock }
+    {
         SleepPace { clock }
     }
 }

@@ -21,7 +21,7 @@ use Rattle.relay_producer.specs.declared.ends.ClosedEnd.{ClosedEnd}
 use Rattle.relay_producer.specs.declared.ends.ClosedEnd.TheVariants.{Closed, Gone}
 use Rattle.relay_producer.specs.Ends.{end_of, closed_puts}
 use Rattle.relay_producer.specs.Puts as put
-use Rattle.relay_producer.specs.Puts.{AreNumberedBy, ops_for, HasPut}
+use Rattle.relay_producer.specs.Puts.{AreNumberedBy, ops_for, HasPut, HaveNoPuts}
 use Rattle.relay_producer.specs.States.{ClosedProducerState, ClosedControlState}
 use Rattle.relay_threads.specs.declared.summary.LaneSummary.{LaneSummary}
 use Rattle.relay_threads.specs.Course.{puts_of}
@@ -30,7 +30,7 @@ use Rattle.relay_threads.specs.Sums.{IsMetAt, AreMetAt}
 use Rattle.relay_threads.specs.Finished.{FinishedLane, AllFinished}
 use Rattle.relay_threads.proofs.Popping.{long_map}
 use Rattle.relay_threads.proofs.Summing.{row_long}
-use Rattle.relay_threads.specs.Delivered.{HavePut, HaveNoPuts, DeliveredLane, AllDelivered}
+use Rattle.relay_threads.specs.Delivered.{HavePut, DeliveredLane, AllDelivered}
 
 -- ---- operations of one producer
 
@@ -154,7 +154,7 @@ get_put [] lane x e = absurd (cc)
 get_put (y ∷ ys) zero x e = let same : y ≡ Closed x = cc in ap (λ z. Some (end_of z)) same
 get_put (y ∷ ys) (suc lane) x e = get_put ys lane x e
 
-none_at : (row : List ClosedEnd) (lane : ℕ) (x : SenderEnd) → HaveNoPuts row → slice_get row lane ≡ Some (Closed x) → put.puts_of x.sent ≡ []
+none_at : (row : List ClosedEnd) (lane : ℕ) (x : SenderEnd) → HaveNoPuts (closed_puts row) → slice_get row lane ≡ Some (Closed x) → put.puts_of x.sent ≡ []
 none_at [] lane x h e = absurd (cc)
 none_at (y ∷ ys) zero x h e = let same : y ≡ Closed x = cc in ap (λ z. put.puts_of (end_of z).sent) (sym same) ∙ h.0
 none_at (y ∷ ys) (suc lane) x h e = none_at ys lane x h.1 e
@@ -196,7 +196,7 @@ of_senders lanes lane p puts ms (c ∷ cs) k long h m q le lt =
     ⊎_elim (λ (t : (eqb q p ≡ true) × (q ≡ p)). subst (OfSender lanes lane puts ms) (sym t.1) (of_one lanes lane p puts ms c long.0 h.0 m.0))
     (λ (t : (eqb q p ≡ false) × (q ≢ p)). let n = t.1 in of_senders lanes lane (p + 1) puts ms cs k long.1 h.1 m.1 q (omega (arith, le, n)) (omega (arith, lt))) (eqb_tells q p)
 
-of_control : (lane p : ℕ) (ms : List Mail) (cs : List ClosedProducerState) (k : ClosedControlState) → HaveNoPuts k.ends → AreMetAt lane p ms (rows_of cs k) → (q : ℕ) → q ≡ p + length cs → puts_of (mail_of q ms) ≡ []
+of_control : (lane p : ℕ) (ms : List Mail) (cs : List ClosedProducerState) (k : ClosedControlState) → HaveNoPuts (closed_puts k.ends) → AreMetAt lane p ms (rows_of cs k) → (q : ℕ) → q ≡ p + length cs → puts_of (mail_of q ms) ≡ []
 of_control lane p ms [] k none m q is =
     let e = met_end k.ends lane p ms m.0 in
     let same : q ≡ p = omega (arith, is) in
@@ -240,7 +240,7 @@ are_long qs p lanes (c ∷ cs) k n own = (long_map end_of c.ends ∙ row_long qs
 -- ---- lanes
 
 module _ {W : Type 0} (describes : W → Bool) (fits : W → Outside → Type 0) (c : RelayConfig) (puts : ℕ → List Op) (cs : List ClosedProducerState) (k : ClosedControlState) where
-  one_delivered : (lane : ℕ) (w : W) (s : LaneSummary W) → length cs ≡ c.producers → AreLong c.lanes cs → HavePut puts 0 cs → HaveNoPuts k.ends → FinishedLane describes fits c (rows_of cs k) lane w s → DeliveredLane describes fits c puts lane w s
+  one_delivered : (lane : ℕ) (w : W) (s : LaneSummary W) → length cs ≡ c.producers → AreLong c.lanes cs → HavePut puts 0 cs → HaveNoPuts (closed_puts k.ends) → FinishedLane describes fits c (rows_of cs k) lane w s → DeliveredLane describes fits c puts lane w s
   one_delivered lane w s n long h none f =
       let rows : length (rows_of cs k) ≡ length cs + 1 = length-append (map (λ (x : ClosedProducerState). x.ends) cs) (k.ends ∷ []) ∙ ap (λ m. m + 1) (long_ends cs) in
       let all = of_all c.lanes lane c.producers puts f.messages (λ q lt. of_senders c.lanes lane 0 puts f.messages cs k long h f.met q (omega arith) (omega (arith, lt, n)))
@@ -260,7 +260,7 @@ module _ {W : Type 0} (describes : W → Bool) (fits : W → Outside → Type 0)
         long_ends [] = refl
         long_ends (x ∷ xs) = ap suc (long_ends xs)
 
-  pub all_delivered : (lane : ℕ) (ws : List W) (ss : List (LaneSummary W)) → length cs ≡ c.producers → AreLong c.lanes cs → HavePut puts 0 cs → HaveNoPuts k.ends → AllFinished describes fits c (rows_of cs k) lane ws ss → AllDelivered describes fits c puts lane ws ss
+  pub all_delivered : (lane : ℕ) (ws : List W) (ss : List (LaneSummary W)) → length cs ≡ c.producers → AreLong c.lanes cs → HavePut puts 0 cs → HaveNoPuts (closed_puts k.ends) → AllFinished describes fits c (rows_of cs k) lane ws ss → AllDelivered describes fits c puts lane ws ss
   all_delivered lane [] [] n long h none f = tt
   all_delivered lane [] (s ∷ ss) n long h none f = absurd f
   all_delivered lane (w ∷ ws) [] n long h none f = absurd f

@@ -1,5 +1,5 @@
 -- How a lane ends.
-use Rattle.std.proofs.Common.{◌≡◌, ◌≢◌, ℕ, ◌+◌, ◌<◌, List, [], ◌++◌, Bool, true, sym, ap, ◌∙◌, subst, arith, length}
+use Rattle.std.proofs.Common.{◌≡◌, ◌≢◌, ℕ, ◌+◌, ◌<◌, List, [], ◌++◌, Bool, true, false, sym, ap, ◌∙◌, subst, arith, length, append-nil}
 use Rattle.std.specs.List.{list_all}
 use Rattle.relay_action.specs.declared.mail.Mail.{Mail}
 use Rattle.relay_results.specs.Outside.{Outside}
@@ -7,31 +7,43 @@ use Rattle.relay_queue.specs.Sent.{mail_of, HasDone}
 use Rattle.relay_core.specs.declared.config.RelayConfig.{RelayConfig}
 use Rattle.relay_core.specs.State.{State, all_closed}
 use Rattle.relay_threads.specs.declared.lane_end.LaneEndKind.{LaneEndKind}
-use Rattle.relay_threads.specs.declared.lane_end.LaneEndKind.TheVariants.{Finished}
-use Rattle.relay_threads.specs.Course.{Heard, Course, EndsAs}
+use Rattle.relay_threads.specs.declared.lane_end.LaneEndKind.TheVariants.{Finished, Memory, Gone}
+use Rattle.relay_threads.specs.Course.{KnowsOpen, OneIsOpen, Heard, Course, EndsAs}
 use Rattle.relay_threads.specs.Steps.{KeepsOn}
-use Rattle.relay_threads.proofs.Hearing.{heard_all, all_done, done_more}
+use Rattle.relay_threads.proofs.Hearing.{heard_all, all_done, done_more, one_open}
 use Rattle.relay_threads.proofs.Keeping.{course_on}
+
+gone_apart : (kind : LaneEndKind) → kind ≡ Gone → kind ≡ Memory → ⊥
+gone_apart kind g m = cc
+
+-- a lane that ended as Gone heard all that was taken, so of the sender that it does not know to have closed no Done was taken
+left_open : (producers : ℕ) (taken : List Mail) (kind : LaneEndKind) (s : State) (heard : List Mail) → kind ≡ Gone → Heard kind taken heard → length s.closed ≡ producers + 1 → KnowsOpen s.closed heard → all_closed s ≡ false → OneIsOpen (producers + 1) taken
+left_open producers taken kind s heard gone h n knows left =
+    let none : h.missed ≡ [] = h.memory (λ m. absurd (gone_apart kind gone m)) in
+    let all : taken ≡ heard = h.all ∙ ap (λ l. heard ++ l) none ∙ append-nil heard in
+    subst (OneIsOpen (producers + 1)) (sym all) (one_open s.closed heard (producers + 1) n knows left)
 
 module _ {S : Type 0} (d : Bool) (fits : S → Outside → Type 0) where
   -- it stopped early
-  pub ends_early : (start w : S) (c : RelayConfig) (taken : List Mail) (kind : LaneEndKind) (s : State) → kind ≢ Finished → ((heard : List Mail) × Heard kind taken heard × Course d fits start w c heard s) → EndsAs d fits start w c taken kind s
-  ends_early start w c taken kind s early x = record {
+  pub ends_early : (start w : S) (c : RelayConfig) (taken : List Mail) (kind : LaneEndKind) (s : State) → kind ≢ Finished → (kind ≡ Gone → all_closed s ≡ false) → ((heard : List Mail) × Heard kind taken heard × Course d fits start w c heard s) → EndsAs d fits start w c taken kind s
+  ends_early start w c taken kind s early left x = record {
     messages = x.0;
     heard = x.1;
     course = x.2;
     closed = λ f. absurd (early f);
+    not_closed = λ g. left_open c.producers taken kind s x.0 g x.1 x.2.senders x.2.not_closed (left g);
     none_held = λ f. absurd (early f);
   }
 
   -- it drained
   pub ends_drained : (start v w : S) (c : RelayConfig) (taken : List Mail) (kind : LaneEndKind) (s t : State) (e : Bool) → e ≡ d → Course d fits start v c taken s → KeepsOn e fits v w s t taken taken
-      → all_closed s ≡ true → t.closed ≡ s.closed → (kind ≡ Finished → t.core.held ≡ []) → EndsAs d fits start w c taken kind t
-  ends_drained start v w c taken kind s t e same k x closed stays none = record {
+      → all_closed s ≡ true → t.closed ≡ s.closed → (kind ≡ Finished → t.core.held ≡ []) → kind ≢ Gone → EndsAs d fits start w c taken kind t
+  ends_drained start v w c taken kind s t e same k x closed stays none early = record {
     messages = taken;
     heard = heard_all kind taken;
     course = course_on d e fits start v w c s t taken taken same k x;
     closed = λ f. ap (list_all (λ (b : Bool). b)) stays ∙ closed;
+    not_closed = λ g. absurd (early g);
     none_held = none;
   }
 

@@ -1,6 +1,6 @@
 -- What a lane heard, message by message.
-use Rattle.std.proofs.Common.{◌≡◌, ◌≢◌, ℕ, ◌+◌, ◌<◌, Bool, true, false, ◌&&◌, eqb, List, [], ◌∷◌, ◌++◌, length, set, get_or, replicate, zero, suc, sym, refl, ap, ◌∙◌, subst, ⊎_elim, inl, inr, arith, length-append, append_assoc, get_or-set_other, append-nil, length-set}
-use Rattle.std.specs.Prelude.{Some, None, unwrap_or, if◌then◌else◌}
+use Rattle.std.proofs.Common.{◌≡◌, ◌≢◌, ℕ, ◌+◌, ◌<◌, Bool, true, false, ◌&&◌, eqb, List, [], ◌∷◌, ◌++◌, length, set, get_or, replicate, zero, suc, sym, refl, ap, ◌∙◌, subst, ⊎_elim, inl, inr, arith, length-append, append_assoc, get_or-set_other, get_or-set_same, append-nil, length-set}
+use Rattle.std.specs.Prelude.{Some, None, unwrap_or, ◌⊎◌, if◌then◌else◌}
 use Rattle.std.specs.List.{list_all}
 use Rattle.std.proofs.lemmas.Bool.Decides.{eqb_tells}
 use Rattle.relay_action.specs.declared.operation.Op.{Op}
@@ -9,13 +9,13 @@ use Rattle.relay_action.specs.declared.mail.Body.{Body}
 use Rattle.relay_action.specs.declared.mail.Body.TheVariants as body
 use Rattle.relay_results.proofs.Lists.{and_left, and_right}
 use Rattle.relay_queue.specs.Sent.{mail_of, IsDone, HasDone, IsWellSent, IsWellTaken}
-use Rattle.relay_queue.proofs.Mails.{mail_of-append, mail_of-own, done-push, nothing_after}
+use Rattle.relay_queue.proofs.Mails.{mail_of-append, mail_of-own, mail_of-other, done-push, nothing_after}
 use Rattle.relay_core.specs.declared.settled.TakeFault.{TakeFault}
 use Rattle.relay_core.specs.declared.settled.TakeFault.TheVariants.{AfterClose, HeldFull, Memory}
 use Rattle.relay_core.specs.State.{State, after_take, take_fault, is_full}
 use Rattle.relay_core.specs.Ties.{ops_of}
 use Rattle.relay_threads.specs.declared.lane_end.LaneEndKind.{LaneEndKind}
-use Rattle.relay_threads.specs.Course.{puts_of, KnowsClosed, Heard}
+use Rattle.relay_threads.specs.Course.{puts_of, KnowsClosed, KnowsOpen, OneIsOpen, Heard}
 
 -- ---- operations
 
@@ -48,6 +48,58 @@ knows_body s heard m body.Done e h = knows_close s.closed heard m e h
 
 pub knows_take : (s : State) (heard : List Mail) (m : Mail) → KnowsClosed s.closed heard → KnowsClosed (after_take s m.sender m.body).closed (heard ++ m ∷ [])
 knows_take s heard m h = knows_body s heard m m.body refl h
+
+-- ---- who has not
+
+done-split : (a b : List Mail) → HasDone (a ++ b) → HasDone a ⊎ HasDone b
+done-split [] b h = inr h
+done-split (m ∷ ms) b h =
+    ⊎_elim (λ (d : IsDone m). inl (inl d))
+    (λ (d : HasDone (ms ++ b)). ⊎_elim (λ (x : HasDone ms). inl (inr x)) (λ (y : HasDone b). inr y) (done-split ms b d)) h
+
+-- a message that is no Done of this sender leaves it open
+open_more : (p : ℕ) (heard : List Mail) (m : Mail) → (m.sender ≡ p → ¬ IsDone m) → ¬ HasDone (mail_of p heard) → ¬ HasDone (mail_of p (heard ++ m ∷ []))
+open_more p heard m other none d =
+    ⊎_elim (λ (t : (eqb m.sender p ≡ true) × (m.sender ≡ p)).
+    ⊎_elim (λ (x : HasDone (mail_of p heard)). none x) (λ (y : HasDone (m ∷ [])). ⊎_elim (λ (z : IsDone m). other t.1 z) (λ (z : HasDone []). z) y)
+    (done-split (mail_of p heard) (m ∷ []) (subst HasDone (mail_of-own p heard m t.1) d)))
+    (λ (t : (eqb m.sender p ≡ false) × (m.sender ≢ p)). none (subst HasDone (mail_of-other p heard m t.1) d)) (eqb_tells m.sender p)
+
+not_done : (m : Mail) (b : Body) → m.body ≡ b → b ≢ body.Done → ¬ IsDone m
+not_done m b e n d = n (sym e ∙ d)
+
+open_stays : (closed : List Bool) (heard : List Mail) (m : Mail) → ¬ IsDone m → KnowsOpen closed heard → KnowsOpen closed (heard ++ m ∷ [])
+open_stays closed heard m n h p lt e = open_more p heard m (λ is. n) (h p lt e)
+
+open_close : (closed : List Bool) (heard : List Mail) (m : Mail) → m.sender < length closed → KnowsOpen closed heard → KnowsOpen (set closed m.sender true) (heard ++ m ∷ [])
+open_close closed heard m within h p lt e =
+    ⊎_elim (λ (t : (eqb p m.sender ≡ true) × (p ≡ m.sender)).
+    let marked : get_or (set closed m.sender true) p false ≡ true = ap (λ k. get_or (set closed m.sender true) k false) t.1 ∙ get_or-set_same closed m.sender true false within in
+    absurd (cc))
+    (λ (t : (eqb p m.sender ≡ false) × (p ≢ m.sender)).
+    let n = t.1 in
+    let below : p < length closed = omega (arith, lt, length-set closed m.sender true) in
+    open_more p heard m (λ is. absurd (n (sym is))) (h p below (sym (get_or-set_other closed m.sender p true false n) ∙ e))) (eqb_tells p m.sender)
+
+open_body : (s : State) (heard : List Mail) (m : Mail) (b : Body) → m.body ≡ b → m.sender < length s.closed → KnowsOpen s.closed heard → KnowsOpen (after_take s m.sender b).closed (heard ++ m ∷ [])
+open_body s heard m (body.Put o) e lt h = open_stays s.closed heard m (not_done m (body.Put o) e (λ x. cc)) h
+open_body s heard m body.Tick e lt h = open_stays s.closed heard m (not_done m body.Tick e (λ x. cc)) h
+open_body s heard m body.Flush e lt h = open_stays s.closed heard m (not_done m body.Flush e (λ x. cc)) h
+open_body s heard m body.Done e lt h = open_close s.closed heard m lt h
+
+pub open_take : (s : State) (heard : List Mail) (m : Mail) → m.sender < length s.closed → KnowsOpen s.closed heard → KnowsOpen (after_take s m.sender m.body).closed (heard ++ m ∷ [])
+open_take s heard m lt h = open_body s heard m m.body refl lt h
+
+-- where not all have closed, one has not
+one_at : (closed : List Bool) → list_all (λ (b : Bool). b) closed ≡ false → (p : ℕ) × (p < length closed) × (get_or closed p false ≡ false)
+one_at [] e = absurd (cc)
+one_at (false ∷ bs) e = (0, omega arith, refl)
+one_at (true ∷ bs) e = let x = one_at bs e in let lt = x.1 in (suc x.0, omega arith, x.2)
+
+pub one_open : (closed : List Bool) (heard : List Mail) (senders : ℕ) → length closed ≡ senders → KnowsOpen closed heard → list_all (λ (b : Bool). b) closed ≡ false → OneIsOpen senders heard
+one_open closed heard senders n h e = let x = one_at closed e in (x.0, omega (arith, x.1, n), h x.0 x.1 x.2)
+
+-- ---- what comes next
 
 not_none : (m : Mail) → m ∷ [] ≡ [] → ⊥
 not_none m e = cc

@@ -1,5 +1,5 @@
 -- The course of a lane goes on while it works and takes.
-use Rattle.std.proofs.Common.{◌≡◌, ℕ, ◌+◌, List, [], ◌∷◌, ◌++◌, Bool, true, IsTrue, Result, Ok, Err, OnOk, OnErr, refl, sym, ap, ◌∙◌, subst, arith, length, length-append}
+use Rattle.std.proofs.Common.{◌≡◌, ℕ, ◌+◌, ◌<◌, List, [], ◌∷◌, ◌++◌, Bool, true, IsTrue, Result, Ok, Err, OnOk, OnErr, refl, sym, ap, ◌∙◌, subst, arith, length, length-append}
 use Rattle.std.proofs.lemmas.List.{length-replicate}
 use Rattle.relay_action.specs.declared.mail.Mail.{Mail}
 use Rattle.relay_results.specs.Outside.{Outside}
@@ -13,10 +13,10 @@ use Rattle.relay_lane.specs.Turns.{Worked, Stays}
 use Rattle.relay_lane.specs.Delivers.{GoesOn, Delivers}
 use Rattle.relay_lane.proofs.Carrying.{goes_on}
 use Rattle.relay_lane.proofs.Resting.{fresh_rests, take_rests}
-use Rattle.relay_threads.specs.Course.{puts_of, KnowsClosed, DeliversFrom, Course}
+use Rattle.relay_threads.specs.Course.{puts_of, KnowsClosed, KnowsOpen, DeliversFrom, Course}
 use Rattle.relay_threads.specs.Steps.{Takes, KeepsOn}
 use Rattle.relay_threads.proofs.Totals.{worked_totals, take_totals, take_counts}
-use Rattle.relay_threads.proofs.Hearing.{puts_push, knows_take, none_known, take_senders, take_config}
+use Rattle.relay_threads.proofs.Hearing.{puts_push, knows_take, open_take, none_known, take_senders, take_config}
 
 module _ {S : Type 0} (d : Bool) (fits : S → Outside → Type 0) where
   -- ---- at the start
@@ -27,6 +27,7 @@ module _ {S : Type 0} (d : Bool) (fits : S → Outside → Type 0) where
     taken = refl;
     senders = length-replicate (c.producers + 1) _;
     closed = none_known (c.producers + 1) [];
+    not_closed = λ p lt e d. d;
     rest = fresh_rests c;
     totals = refl;
     delivers = λ is o f opening below. goes_on fits w (fresh c) [] o o f (continues_itself o) (fresh_fits c o opening below);
@@ -58,6 +59,7 @@ module _ {S : Type 0} (d : Bool) (fits : S → Outside → Type 0) where
     taken = stays.taken ∙ k.taken;
     senders = ap length stays.closed ∙ k.senders;
     closed = subst (λ l. KnowsClosed l heard) (sym stays.closed) k.closed;
+    not_closed = subst (λ l. KnowsOpen l heard) (sym stays.closed) k.not_closed;
     rest = rest;
     totals = worked_totals going s t worked k.totals;
     delivers = further start v w s t c heard delivers k.delivers;
@@ -70,6 +72,7 @@ module _ {S : Type 0} (d : Bool) (fits : S → Outside → Type 0) where
     taken = stays.taken ∙ k.taken;
     senders = ap length stays.closed ∙ k.senders;
     closed = subst (λ l. KnowsClosed l heard) (sym stays.closed) k.closed;
+    not_closed = subst (λ l. KnowsOpen l heard) (sym stays.closed) k.not_closed;
     rest = rest;
     totals = worked_totals going (flushed s) t worked k.totals;
     delivers = further start v w s t c heard delivers k.delivers;
@@ -84,8 +87,8 @@ module _ {S : Type 0} (d : Bool) (fits : S → Outside → Type 0) where
       let lane : Fits t (puts_of (heard ++ m ∷ [])) x.outside = subst (λ l. Fits t l x.outside) (sym (puts_push heard m)) (take_fits s m.sender m.body (puts_of heard) x.outside x.lane) in
       goes_on fits w t (puts_of (heard ++ m ∷ [])) o x.outside x.fitting x.continues lane
 
-  hears : (start w : S) (s : State) (c : RelayConfig) (heard : List Mail) (m : Mail) → Course d fits start w c heard s → Course d fits start w c (heard ++ m ∷ []) (after_take s m.sender m.body)
-  hears start w s c heard m k =
+  hears : (start w : S) (s : State) (c : RelayConfig) (heard : List Mail) (m : Mail) → m.sender < length s.closed → Course d fits start w c heard s → Course d fits start w c (heard ++ m ∷ []) (after_take s m.sender m.body)
+  hears start w s c heard m lt k =
       let n = take_counts s m.sender m.body in
       let p = ap length (puts_push heard m) in
       let a = length-append (puts_of heard) (ops_of m.body) in
@@ -95,13 +98,14 @@ module _ {S : Type 0} (d : Bool) (fits : S → Outside → Type 0) where
         taken = omega (arith, n, p, a, t);
         senders = take_senders s m.sender m.body ∙ k.senders;
         closed = knows_take s heard m k.closed;
+        not_closed = open_take s heard m lt k.not_closed;
         rest = take_rests s m.sender m.body k.rest;
         totals = take_totals s m.sender m.body k.totals;
         delivers = heard_more start w s c heard m k.delivers;
       }
 
   pub takes : (w : S) (s t : State) (old new : List Mail) → Takes s t old new → KeepsOn d fits w w s t old new
-  takes w s t old new x start c k = subst (λ (z : List Mail × State). Course d fits start w c z.0 z.1) (λ i. (sym x.taken i, sym x.reached i)) (hears start w s c old x.mail k)
+  takes w s t old new x start c k = subst (λ (z : List Mail × State). Course d fits start w c z.0 z.1) (λ i. (sym x.taken i, sym x.reached i)) (hears start w s c old x.mail x.sender k)
 
 -- one after another
 pub keeps_on : {S : Type 0} (d e : Bool) (fits : S → Outside → Type 0) (u v w : S) (r s t : State) (a b c : List Mail) → e ≡ d → KeepsOn d fits u v r s a b → KeepsOn e fits v w s t b c → KeepsOn d fits u w r t a c

@@ -12,7 +12,7 @@ use Rattle.relay_core.specs.Ties.{ops_of}
 use Rattle.relay_lane.specs.Rest.{IsAtRest}
 use Rattle.relay_lane.specs.Delivers.{GoesOn}
 use Rattle.relay_threads.specs.declared.lane_end.LaneEndKind.{LaneEndKind}
-use Rattle.relay_threads.specs.declared.lane_end.LaneEndKind.TheVariants.{Finished, Memory}
+use Rattle.relay_threads.specs.declared.lane_end.LaneEndKind.TheVariants.{Finished, Memory, Gone}
 
 -- the operations of messages, in their order
 abbrev pub puts_of : List Mail → List Op
@@ -22,6 +22,14 @@ puts_of (m ∷ ms) = ops_of m.body ++ puts_of ms
 -- a sender that the lane knows to have closed sent its Done
 abbrev pub KnowsClosed : List Bool → List Mail → Type 0
 KnowsClosed closed heard = (sender : ℕ) → slice_index_or closed sender false ≡ true → HasDone (mail_of sender heard)
+
+-- a sender that the lane does not know to have closed sent no Done
+abbrev pub KnowsOpen : List Bool → List Mail → Type 0
+KnowsOpen closed heard = (sender : ℕ) → sender < length closed → slice_index_or closed sender false ≡ false → ¬ HasDone (mail_of sender heard)
+
+-- not each of so many senders has closed: of one no Done was taken
+abbrev pub OneIsOpen : ℕ → List Mail → Type 0
+OneIsOpen senders taken = (sender : ℕ) × (sender < senders) × (¬ HasDone (mail_of sender taken))
 
 -- Of the messages that were taken from the queue the lane heard all, but for want of memory maybe the last one, an operation.
 pub record Heard (kind : LaneEndKind) (taken heard : List Mail) : Type 0 where
@@ -51,14 +59,17 @@ pub record Course {S : Type 0} (describes : Bool) (fits : S → Outside → Type
   pub taken : s.core.taken ≡ length (puts_of heard)
   pub senders : length s.closed ≡ c.producers + 1
   pub closed : KnowsClosed s.closed heard
+  pub not_closed : KnowsOpen s.closed heard
   pub rest : IsAtRest s
   pub totals : HasTotals s
   pub delivers : DeliversFrom describes fits start now c heard s
 
--- how it ended: what it heard of what was taken, and where it finished each sender closed and nothing is held
+-- How it ended: what it heard of what was taken. Where it finished each sender closed and nothing is held; where it ended as
+-- Gone not each of them had closed.
 pub record EndsAs {S : Type 0} (describes : Bool) (fits : S → Outside → Type 0) (start now : S) (c : RelayConfig) (taken : List Mail) (kind : LaneEndKind) (s : State) : Type 0 where
   pub messages : List Mail
   pub heard : Heard kind taken messages
   pub course : Course describes fits start now c messages s
   pub closed : kind ≡ Finished → all_closed s ≡ true
+  pub not_closed : kind ≡ Gone → OneIsOpen (c.producers + 1) taken
   pub none_held : kind ≡ Finished → s.core.held ≡ []

@@ -4,9 +4,8 @@ use Rattle.relay_action.specs.declared.operation.Op.{Op}
 use Rattle.relay_results.specs.Outside.{Outside, IsOpening}
 use Rattle.relay_delivery.specs.Delivery.{taken_of}
 use Rattle.relay_core.specs.declared.config.RelayConfig.{RelayConfig}
-use Rattle.relay_producer.specs.declared.ends.ClosedEnd.{ClosedEnd}
-use Rattle.relay_producer.specs.Ends.{end_of, closed_puts}
-use Rattle.relay_producer.specs.Puts.{ops_for, puts_of, HasPut}
+use Rattle.relay_producer.specs.Ends.{closed_puts}
+use Rattle.relay_producer.specs.Puts.{ops_for, HasPut}
 use Rattle.relay_producer.specs.States.{ClosedProducerState}
 use Rattle.relay_threads.specs.declared.summary.LaneSummary.{LaneSummary}
 use Rattle.relay_threads.specs.Course.{IsBelow}
@@ -16,11 +15,6 @@ use Rattle.relay_threads.specs.Finished.{Carries}
 abbrev pub HavePut : (ℕ → List Op) → ℕ → List ClosedProducerState → Type 0
 HavePut puts p [] = Unit {0}
 HavePut puts p (c ∷ cs) = HasPut p c.put (closed_puts c.ends) (puts p) × HavePut puts (p + 1) cs
-
--- no operation was sent by these ends
-abbrev pub HaveNoPuts : List ClosedEnd → Type 0
-HaveNoPuts [] = Unit {0}
-HaveNoPuts (e ∷ es) = (puts_of (end_of e).sent ≡ []) × HaveNoPuts es
 
 module _ {W : Type 0} (describes : W → Bool) (fits : W → Outside → Type 0) (c : RelayConfig) (puts : ℕ → List Op) where
   -- What a lane has delivered: the operations on its documents that the producers put, each producer's in its order, and no

@@ -2,8 +2,9 @@
 ghost use Rattle.std.specs.Prelude.{◌≡◌, ◌+◌, ◌<◌, ◌≤◌, ◌||◌, ℕ, List, [], IfOk, IfErr, map, vec_len, vec_capacity};
 ghost use Rattle.relay_action.specs.declared.operation.Op.{Op};
 ghost use Rattle.relay_queue.specs.Sent.{mail_of, HasDone};
-ghost use Rattle.relay_producer.specs.Ends.{is_gone};
-ghost use Rattle.relay_threads.specs.Delivered.{HavePut, HaveNoPuts, AllDelivered};
+ghost use Rattle.relay_producer.specs.Ends.{is_gone, closed_puts};
+ghost use Rattle.relay_producer.specs.Puts.{HaveNoPuts};
+ghost use Rattle.relay_threads.specs.Delivered.{HavePut, AllDelivered};
 ghost use Rattle.relay_threads.specs.Faults.{FirstOf, is_gone_in, is_gone_in_any, is_gone_lane, ends_as, is_memory, is_gone_kind};
 ghost use Rattle.relay_threads.specs.Finished.{AllFinished, HasFault};
 ghost use Rattle.relay_threads.specs.Relay.{AreRows, rows_of};
@@ -110,7 +111,8 @@ fn give_back(
 ) -> Vec<Vec<ClosedEnd>>
     requires none { places.items ≡ [] }
     requires places { vec_len producers + 1 ≤ vec_capacity places }
-    ensures { map (λ r. r.items) result.items ≡ rows_of producers.items control }
+    ensures rows { map (λ r. r.items) result.items ≡ rows_of producers.items control }
+    ensures no_puts { HaveNoPuts (closed_puts control.ends) }
 {
     let mut rows = places;
     for producer in producers {
@@ -217,7 +219,7 @@ impl<W: Wire + Drop + Send + 'static> Relay<W> {
         ensures finished { IfOk result (λ s. AllFinished W.describes W.fits self.config
             (rows_of producers.items control) 0 self.wires s.lanes.items) }
         ensures delivered { IfOk result (λ s. (puts : ℕ → List Op)
-            → HavePut puts 0 producers.items → HaveNoPuts control.ends
+            → HavePut puts 0 producers.items
             → AllDelivered W.describes W.fits self.config puts 0 self.wires s.lanes.items) }
         ensures fault { IfErr result (λ e. HasFault W.describes W.fits self.config
             self.queues self.wires (rows_of producers.items control) e) }

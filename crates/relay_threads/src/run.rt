@@ -1,5 +1,5 @@
 //! A lane takes its messages and works, until each sender has closed.
-ghost use Rattle.std.specs.Prelude.{◌≡◌, ◌≢◌, ◌+◌, ◌<◌, [], ℕ, List, true, length, IfOk, OnOk, OnErr, IfErr};
+ghost use Rattle.std.specs.Prelude.{◌≡◌, ◌≢◌, ◌+◌, ◌<◌, [], ℕ, List, true, false, length, IfOk, OnOk, OnErr, IfErr};
 ghost use Rattle.relay_action.specs.declared.mail.Mail.{Mail};
 ghost use Rattle.relay_queue.specs.Sent.{mail_of, HasDone, IsWellTaken};
 ghost use Rattle.relay_core.specs.State.{fresh, all_closed};
@@ -96,6 +96,7 @@ fn take_next<R: Wait, W: Wire, P: Pace>(
     ensures ok { OnOk result
         (KeepsOn (W.describes wire.old) W.fits wire.old wire.new lane.old lane.new take.old.taken take.new.taken) }
     ensures early { IfErr result (λ kind. kind ≢ LaneEndKind.Finished) }
+    ensures same_closed { IfErr result (λ kind. kind ≡ LaneEndKind.Gone → lane.new.closed ≡ lane.old.closed) }
     ensures stopped { IfErr result (λ kind. (heard : List Mail) × Heard kind take.new.taken heard
         × KeepsOn (W.describes wire.old) W.fits wire.old wire.new lane.old lane.new take.old.taken heard) }
 {
@@ -131,6 +132,7 @@ fn take_all<R: Wait, W: Wire, P: Pace>(
     ensures ok { OnOk result
         (Course (W.describes wire.old) W.fits wire.old wire.new lane.old.config take.new.taken lane.new) }
     ensures early { IfErr result (λ kind. kind ≢ LaneEndKind.Finished) }
+    ensures not_closed { IfErr result (λ kind. kind ≡ LaneEndKind.Gone → all_closed lane.new ≡ false) }
     ensures stopped { IfErr result (λ kind. (heard : List Mail) × Heard kind take.new.taken heard
         × Course (W.describes wire.old) W.fits wire.old wire.new lane.old.config heard lane.new) }
 {
@@ -173,8 +175,8 @@ fn work<R: Wait, W: Wire, P: Pace>(
 /// held. It waits for messages, for the wire and for the pace, and nothing else.
 ///
 /// It ends as Memory where there was no memory for an operation that it took or for a request, and as
-/// Gone where the queue answered that all senders are dropped; [`LaneEnd`] says what stands then. In each
-/// case what the lane heard of its queue is delivered soundly beside each outside that the wire
+/// Gone where the queue answered that all senders are dropped, of which not each had closed; [`LaneEnd`]
+/// says what stands then. In each case what the lane heard of its queue is delivered soundly beside each outside that the wire
 /// describes, and where it ends as Finished completely.
 pub fn run_lane<R: Wait, W: Wire, P: Pace + Drop>(
     rt: &R,

@@ -1,15 +1,49 @@
-use Rattle.std.proofs.Common.{ap, sym, ◌∙◌}
+use Rattle.std.proofs.Common.{List, ap, sym, subst, ◌∙◌}
 use Rattle.relay_core.specs.declared.config.RelayConfig.{RelayConfig}
+use Rattle.relay_ndjson.specs.Metadata.{shown}
+use Rattle.relay_run.specs.Fed.{named}
+use Rattle.relay_run.specs.Handles.{Given, AllEndFed}
 use Rattle.relay_run.proofs.Handing.{rows_of_all, count_back, control_back}
+use Rattle.relay_run.proofs.Ending.{all_fed, fed_and_put, delivered_as}
 use Rattle.relay_run.proofs.run.run.Goals as goal
 
 pub finish-requires-clause-count : goal.finish-requires-clause-count
 finish-requires-clause-count g c κs within =
-    c.in_ok-closed.closed.ok.0 ∙ count_back _ _ (c.in_ok-closed.ensures ∙ c.in-Ok-spawn_producers.ensures) ∙ sym c.in-Ok.started.1.ok.0 ∙ c.in-Ok.ensures.count
+    let left = g.S.ByteStream.left in
+    let failed = g.S.ByteStream.failed in
+    let ended = subst (λ (gs : List (Given _)). AllEndFed left failed gs c.in_ok-closed.closed.items c.in_ok-closed.faults.items) c.in-Ok-spawn_producers.ensures c.in_ok-closed.ensures in
+    let all = all_fed left failed (shown c.args.index) c.in-Ok.started.0.queues 0 c.args.readers.items c.in-Ok.started.1.items c.in_ok-closed.closed.items c.in_ok-closed.faults.items c.in-Ok.ensures.producers ended in
+    c.in_ok-closed.closed.ok.0 ∙ count_back _ _ all.identities ∙ sym c.in-Ok.started.1.ok.0 ∙ c.in-Ok.ensures.count
     ∙ sym (ap (λ (k : RelayConfig). k.producers) c.in-Ok.ensures.config)
 
 pub finish-requires-clause-rows : goal.finish-requires-clause-rows
 finish-requires-clause-rows g c κs within =
+    let left = g.S.ByteStream.left in
+    let failed = g.S.ByteStream.failed in
+    let ended = subst (λ (gs : List (Given _)). AllEndFed left failed gs c.in_ok-closed.closed.items c.in_ok-closed.faults.items) c.in-Ok-spawn_producers.ensures c.in_ok-closed.ensures in
+    let all = all_fed left failed (shown c.args.index) c.in-Ok.started.0.queues 0 c.args.readers.items c.in-Ok.started.1.items c.in_ok-closed.closed.items c.in_ok-closed.faults.items c.in-Ok.ensures.producers ended in
     rows_of_all _ c.args.config.producers c.in-Ok.started.1.items c.in_ok-closed.closed.items c.close-control.result
-    (sym c.in-Ok.ensures.count ∙ c.in-Ok.started.1.ok.0) c.in-Ok.ensures.producers (c.in_ok-closed.ensures ∙ c.in-Ok-spawn_producers.ensures)
+    (sym c.in-Ok.ensures.count ∙ c.in-Ok.started.1.ok.0) c.in-Ok.ensures.producers all.identities
     (control_back _ c.args.config.producers c.in-Ok.started.2 c.tick_until_ended.new.control c.close-control.result c.in-Ok.ensures.control c.tick_until_ended.ensures.same c.close-control.ensures.ends)
+
+pub returns-clause-count : goal.returns-clause-count
+returns-clause-count g c =
+    let left = g.S.ByteStream.left in
+    let failed = g.S.ByteStream.failed in
+    let ended = subst (λ (gs : List (Given _)). AllEndFed left failed gs c.in_ok-closed.closed.items c.in_ok-closed.faults.items) c.in-Ok-spawn_producers.ensures c.in_ok-closed.ensures in
+    let all = all_fed left failed (shown c.args.index) c.in-Ok.started.0.queues 0 c.args.readers.items c.in-Ok.started.1.items c.in_ok-closed.closed.items c.in_ok-closed.faults.items c.in-Ok.ensures.producers ended in
+    c.in_ok-closed.faults.ok.0 ∙ all.count ∙ sym c.in-Ok.started.1.ok.0 ∙ c.in-Ok.ensures.count
+
+pub returns-clause-delivered : goal.returns-clause-delivered
+returns-clause-delivered g c =
+    let left = g.S.ByteStream.left in
+    let failed = g.S.ByteStream.failed in
+    let queues = c.in-Ok.started.0.queues in
+    let ended = subst (λ (gs : List (Given _)). AllEndFed left failed gs c.in_ok-closed.closed.items c.in_ok-closed.faults.items) c.in-Ok-spawn_producers.ensures c.in_ok-closed.ensures in
+    let all = all_fed left failed (shown c.args.index) queues 0 c.args.readers.items c.in-Ok.started.1.items c.in_ok-closed.closed.items c.in_ok-closed.faults.items c.in-Ok.ensures.producers ended in
+    let x = fed_and_put left failed (shown c.args.index) queues c.args.readers.items c.in-Ok.started.1.items c.in_ok-closed.closed.items c.in_ok-closed.faults.items all in (
+      queues,
+      x.ops,
+      x.fed,
+      delivered_as g.W.Wire.describes g.W.Wire.fits c.in-Ok.started.0.config c.args.config c.in-Ok.started.0.wires c.args.wires.items (λ p. named p 1 (x.ops p)) c.in_ok-closed.closed.items c.finish.result c.in-Ok.ensures.config c.in-Ok.ensures.wires x.put c.finish.ensures.delivered,
+    )

@@ -10,3 +10,7 @@ invariant_of-result g c = control_closed c.self.inside.sender c.self.inside.ends
 pub returns-clause-ends : goal.returns-clause-ends
 returns-clause-ends g c =
     closed_identities c.self.inside.ends.items c.close_all-ends.result.items c.close_all-ends.ensures ∙ ap (λ (s : ControlState). identities (open_puts s.ends)) c.self.view_is
+
+pub returns-clause-no_puts : goal.returns-clause-no_puts
+returns-clause-no_puts g c =
+    (control_closed c.self.inside.sender c.self.inside.ends.items c.close_all-ends.result.items c.close_all-ends.ensures c.self.invariant.0).no_puts

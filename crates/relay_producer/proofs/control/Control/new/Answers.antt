@@ -3,7 +3,8 @@ use Rattle.std.proofs.lemmas.List.{length-map}
 use Rattle.relay_producer.specs.declared.ends.OpenEnd.{OpenEnd}
 use Rattle.relay_producer.specs.Ends.{opened, open_puts}
 use Rattle.relay_producer.specs.States.{IsControl}
-use Rattle.relay_producer.proofs.Opening.{opened_puts, is_control}
+use Rattle.relay_producer.proofs.Opening.{opened_puts, is_control, fresh_no_puts}
+use Rattle.relay_producer.specs.Puts.{HaveNoPuts}
 use Rattle.relay_producer.proofs.control.Control.new.Goals as goal
 
 pub invariant_of-result : goal.invariant_of-result
@@ -16,3 +17,7 @@ invariant_of-result c =
 
 pub returns-clause-puts : goal.returns-clause-puts
 returns-clause-puts c = ap open_puts c.in_ok-ends.ensures ∙ opened_puts c.args.puts.items
+
+pub returns-clause-no_puts : goal.returns-clause-no_puts
+returns-clause-no_puts c =
+    subst HaveNoPuts (sym (ap open_puts c.in_ok-ends.ensures ∙ opened_puts c.args.puts.items)) (fresh_no_puts c.args.sender c.args.puts.items c.requires.fresh)

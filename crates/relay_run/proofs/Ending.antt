@@ -1,0 +1,250 @@
+-- What the producers were fed is what they put.
+use Rattle.std.proofs.Common.{◌≡◌, ℕ, zero, suc, ◌+◌, List, [], ◌∷◌, ◌++◌, length, map, get_or, refl, sym, ap, subst, ◌∙◌, arith, append-nil, append_assoc}
+use Rattle.std.specs.Prelude.{Bool, Option, None, Some, MatchOption, Result, Ok, Err, IfOk, slice_get}
+use Rattle.std.specs.Option.{option_flatten}
+use Rattle.std.specs.declared.thread.PromisedHandle.{PromisedHandle}
+use Rattle.relay_action.specs.declared.operation.Op.{Op}
+use Rattle.relay_ndjson.specs.Operations.{Operation}
+use Rattle.relay_ndjson.specs.Reading.{Reading}
+use Rattle.relay_results.specs.Outside.{Outside}
+use Rattle.relay_core.specs.declared.config.RelayConfig.{RelayConfig}
+use Rattle.relay_queue.specs.Ends.{Queue, SenderEnd, fresh}
+use Rattle.relay_producer.specs.Ends.{opened, open_puts, closed_puts}
+use Rattle.relay_producer.specs.Puts.{puts_of, HasPut}
+use Rattle.relay_producer.specs.States.{ProducerState, ClosedProducerState, lane_for, next_op, after_put}
+use Rattle.relay_producer.proofs.Putting.{put_more, same_marked}
+use Rattle.relay_producer.proofs.Closing.{put_kept}
+use Rattle.relay_threads.specs.Relay.{AreNew, new_producer}
+use Rattle.relay_threads.specs.Delivered.{HavePut, AllDelivered}
+use Rattle.relay_threads.specs.declared.fault.FinishFault.{FinishFault}
+use Rattle.relay_threads.specs.declared.summary.Summary.{Summary}
+use Rattle.relay_run.specs.declared.feed.FeedFault.{FeedFault}
+use Rattle.relay_run.specs.declared.feed.FeedFault.TheVariants as fault
+use Rattle.relay_run.specs.declared.producing.Fed.{Fed}
+use Rattle.relay_run.specs.declared.producing.FedPromise.{FedPromise}
+use Rattle.relay_run.specs.Feeding.{after_puts, Stops}
+use Rattle.relay_run.specs.Identities.{identity_of, identity_of_closed}
+use Rattle.relay_run.specs.Fed.{named, answer_of, first_reader, other_readers, IsFedFrom, IsFed, AreFedFrom}
+use Rattle.relay_run.specs.Handles.{Given, given_to, all_given, EndsFed, AllEndFed}
+
+-- ---- one producer
+
+-- the operations that it was fed join what it had put, under their names
+put_on : (s : ProducerState) (done : List Op) (ops : List Operation) → HasPut s.producer s.put (open_puts s.ends) done
+    → HasPut s.producer (after_puts s ops).put (open_puts (after_puts s ops).ends) (done ++ named s.producer (s.put + 1) ops)
+put_on s done [] h = subst (HasPut s.producer s.put (open_puts s.ends)) (sym (append-nil done)) h
+put_on s done (op ∷ ops) h =
+    let next = next_op op.0 op.1 s in
+    let t = after_put op.0 op.1 s in
+    let more : HasPut t.producer t.put (open_puts t.ends) (done ++ next ∷ []) = put_more s.producer s.put s.ends done next refl refl h in
+    subst (HasPut s.producer (after_puts t ops).put (open_puts (after_puts t ops).ends)) (append_assoc done (next ∷ []) (named s.producer (t.put + 1) ops)) (put_on t (done ++ next ∷ []) ops more)
+
+same_producer : (s : ProducerState) (ops : List Operation) → (after_puts s ops).producer ≡ s.producer
+same_producer s [] = refl
+same_producer s (op ∷ ops) = same_producer (after_put op.0 op.1 s) ops
+
+-- an end of a new producer
+record IsFresh (p : ℕ) (put : SenderEnd) : Type 0 where
+  pub sender : put.sender ≡ p
+  pub sent : put.sent ≡ []
+
+fresh_at : (queues : List Queue) (p lane : ℕ) (put : SenderEnd) → slice_get (open_puts (map (λ q. opened (fresh q p)) queues)) lane ≡ Some put → IsFresh p put
+fresh_at [] p lane put at = absurd (cc)
+fresh_at (q ∷ qs) p zero put at =
+    let is : put ≡ fresh q p = cc in
+    record { sender = ap (λ (x : SenderEnd). x.sender) is; sent = ap (λ (x : SenderEnd). x.sent) is }
+fresh_at (q ∷ qs) p (suc lane) put at = fresh_at qs p lane put at
+
+new_none : (queues : List Queue) (p : ℕ) → HasPut p 0 (open_puts (new_producer queues p).ends) []
+new_none queues p = record {
+  counted = refl;
+  numbered = tt;
+  senders = λ lane put at. (fresh_at queues p lane put at).sender;
+  sent = λ lane put at. ap puts_of (fresh_at queues p lane put at).sent;
+}
+
+-- what stopped the feeding has put nothing more
+record PutsNoMore (fed after : ProducerState) : Type 0 where
+  pub put : after.put ≡ fed.put
+  pub ends : open_puts after.ends ≡ open_puts fed.ends
+
+stays : (fed after : ProducerState) → after ≡ fed → PutsNoMore fed after
+stays fed after is = record { put = ap (λ (s : ProducerState). s.put) is; ends = ap (λ (s : ProducerState). open_puts s.ends) is }
+
+stopped : (rest new : Reading) (fed after : ProducerState) (f : Option FeedFault) → Stops rest new fed after (answer_of f) → PutsNoMore fed after
+stopped rest new fed after None h = stays fed after h.1
+stopped rest new fed after (Some (fault.Input e)) h = stays fed after h.1
+stopped rest new fed after (Some fault.NumbersSpent) h = stays fed after h.4
+stopped rest new fed after (Some fault.LaneGone) h =
+    record {
+      put = ap (λ (s : ProducerState). s.put) h.3;
+      ends = ap (λ (s : ProducerState). open_puts s.ends) h.3 ∙ same_marked (lane_for h.1.0 fed) fed.ends;
+    }
+
+module _ {S : Type 0} (left : S → Option (List ℕ)) (failed : S → ℕ) (index : Option (List ℕ)) where
+  fed_put : (queues : List Queue) (p : ℕ) (reader : Option S) (ops : List Operation) (after : ProducerState) (f : Option FeedFault) → IsFedFrom left failed index reader ops (new_producer queues p) after f
+      → HasPut p after.put (open_puts after.ends) (named p 1 ops)
+  fed_put queues p None ops after f h =
+      let P : List Operation × ProducerState → Type 0 = λ x. HasPut p x.1.put (open_puts x.1.ends) (named p 1 x.0) in
+      subst P (λ i. (sym h.0 i, sym h.1 i)) (new_none queues p)
+  fed_put queues p (Some reader) ops after f h =
+      let x = h.1 in
+      let all = put_on (new_producer queues p) [] x.ops (new_none queues p) in
+      let s = stopped x.rest h.0 (after_puts (new_producer queues p) x.ops) after f x.stops in
+      let P : ℕ × List SenderEnd × List Operation → Type 0 = λ y. HasPut p y.0 y.1 (named p 1 y.2) in
+      subst P (λ i. (sym s.put i, sym s.ends i, h.2 i)) all
+
+  closed_put : (queues : List Queue) (p : ℕ) (reader : Option S) (c : ClosedProducerState) (f : Option FeedFault) (x : IsFed left failed index reader (new_producer queues p) c f) → HasPut p c.put (closed_puts c.ends) (named p 1 x.ops)
+  closed_put queues p reader c f x =
+      subst (λ n. HasPut p n (closed_puts c.ends) (named p 1 x.ops)) (sym x.same.1)
+      (put_kept p x.after.put x.after.ends c.ends (named p 1 x.ops) x.closes (fed_put queues p reader x.ops x.after f x.fed))
+
+  -- ---- all of them
+
+  -- the same with the operations of each in a list
+  abbrev pub AreFedAs : List Queue → ℕ → List (List Operation) → List (Option S) → List (Option FeedFault) → Type 0
+  AreFedAs queues p [] readers [] = Unit {0}
+  AreFedAs queues p [] readers (f ∷ fs) = ⊥
+  AreFedAs queues p (o ∷ os) readers [] = ⊥
+  AreFedAs queues p (o ∷ os) readers (f ∷ fs) =
+      ((after : ProducerState) × IsFedFrom left failed index (first_reader readers) o (new_producer queues p) after f) × AreFedAs queues (p + 1) os (other_readers readers) fs
+
+  fed_at : (queues : List Queue) (p : ℕ) (all : ℕ → List Operation) (os : List (List Operation)) (readers : List (Option S)) (fs : List (Option FeedFault)) → ((k : ℕ) → all (p + k) ≡ get_or os k []) → AreFedAs queues p os readers fs → AreFedFrom left failed index queues all p readers fs
+  fed_at queues p all [] readers [] e h = tt
+  fed_at queues p all [] readers (f ∷ fs) e h = absurd h
+  fed_at queues p all (o ∷ os) readers [] e h = absurd h
+  fed_at queues p all (o ∷ os) readers (f ∷ fs) e h =
+      let here : all p ≡ o = ap all (let z : p ≡ p + 0 = omega arith in z) ∙ e 0 in (
+        (h.0.0, subst (λ x. IsFedFrom left failed index (first_reader readers) x (new_producer queues p) h.0.0 f) (sym here) h.0.1),
+        fed_at queues (p + 1) all os (other_readers readers) fs (λ k. ap all (let z : p + 1 + k ≡ p + suc k = omega arith in z) ∙ e (suc k)) h.1,
+      )
+
+-- what they put
+abbrev pub HavePutAs : ℕ → List (List Operation) → List ClosedProducerState → Type 0
+HavePutAs p [] [] = Unit {0}
+HavePutAs p [] (c ∷ cs) = ⊥
+HavePutAs p (o ∷ os) [] = ⊥
+HavePutAs p (o ∷ os) (c ∷ cs) = HasPut p c.put (closed_puts c.ends) (named p 1 o) × HavePutAs (p + 1) os cs
+
+put_at : (p : ℕ) (all : ℕ → List Operation) (os : List (List Operation)) (cs : List ClosedProducerState) → ((k : ℕ) → all (p + k) ≡ get_or os k []) → HavePutAs p os cs → HavePut (λ q. named q 1 (all q)) p cs
+put_at p all [] [] e h = tt
+put_at p all [] (c ∷ cs) e h = absurd h
+put_at p all (o ∷ os) [] e h = absurd h
+put_at p all (o ∷ os) (c ∷ cs) e h =
+    let here : all p ≡ o = ap all (let z : p ≡ p + 0 = omega arith in z) ∙ e 0 in
+    (subst (λ x. HasPut p c.put (closed_puts c.ends) (named p 1 x)) (sym here) h.0, put_at (p + 1) all os cs (λ k. ap all (let z : p + 1 + k ≡ p + suc k = omega arith in z) ∙ e (suc k)) h.1)
+
+module _ {S : Type 0} (left : S → Option (List ℕ)) (failed : S → ℕ) where
+  -- what is known of all that have ended
+  pub record AllFed (index : Option (List ℕ)) (queues : List Queue) (p : ℕ) (readers : List (Option S)) (ps : List ProducerState) (cs : List ClosedProducerState) (fs : List (Option FeedFault)) : Type 0 where
+    pub ops : List (List Operation)
+    pub fed : AreFedAs left failed index queues p ops readers fs
+    pub put : HavePutAs p ops cs
+    pub identities : map identity_of_closed cs ≡ map identity_of ps
+    pub count : length fs ≡ length ps
+
+  pub all_fed : (index : Option (List ℕ)) (queues : List Queue) (p : ℕ) (readers : List (Option S)) (ps : List ProducerState) (cs : List ClosedProducerState) (fs : List (Option FeedFault)) → AreNew queues p ps → AllEndFed left failed (all_given index readers ps) cs fs
+      → AllFed index queues p readers ps cs fs
+  all_fed index queues p readers [] [] [] new h = record { ops = []; fed = tt; put = tt; identities = refl; count = refl }
+  all_fed index queues p readers [] [] (f ∷ fs) new h = absurd h
+  all_fed index queues p readers [] (c ∷ cs) fs new h = absurd h
+  all_fed index queues p readers (x ∷ ps) [] fs new h = absurd h
+  all_fed index queues p readers (x ∷ ps) (c ∷ cs) [] new h = absurd h
+  all_fed index queues p readers (x ∷ ps) (c ∷ cs) (f ∷ fs) new h =
+      let own : IsFed left failed index (first_reader readers) (new_producer queues p) c f = subst (λ (s : ProducerState). IsFed left failed index (first_reader readers) s c f) new.0 h.0 in
+      let r = all_fed index queues (p + 1) (other_readers readers) ps cs fs new.1 h.1 in
+      let same : identity_of_closed c ≡ identity_of x = h.0.identity in
+      let others = r.identities in
+      record {
+        ops = own.ops ∷ r.ops;
+        fed = ((own.after, own.fed), r.fed);
+        put = (closed_put left failed index queues p (first_reader readers) c f own, r.put);
+        identities = λ i. same i ∷ others i;
+        count = ap suc r.count;
+      }
+
+  -- what `run` says of them
+  pub record FedAndPut (index : Option (List ℕ)) (queues : List Queue) (readers : List (Option S)) (cs : List ClosedProducerState) (fs : List (Option FeedFault)) : Type 0 where
+    pub ops : ℕ → List Operation
+    pub fed : AreFedFrom left failed index queues ops 0 readers fs
+    pub put : HavePut (λ p. named p 1 (ops p)) 0 cs
+
+  pub fed_and_put : (index : Option (List ℕ)) (queues : List Queue) (readers : List (Option S)) (ps : List ProducerState) (cs : List ClosedProducerState) (fs : List (Option FeedFault)) → AllFed index queues 0 readers ps cs fs → FedAndPut index queues readers cs fs
+  fed_and_put index queues readers ps cs fs h =
+      let all : ℕ → List Operation = λ k. get_or h.ops k [] in
+      let same : (k : ℕ) → all (0 + k) ≡ get_or h.ops k [] = λ k. ap all (let z : 0 + k ≡ k = omega arith in z) in
+      record {
+        ops = all;
+        fed = fed_at left failed index queues 0 all h.ops readers fs same h.fed;
+        put = put_at 0 all h.ops cs same h.put;
+      }
+
+  -- ---- one thread after another
+
+  none_left : (xs : List (Option S)) → length xs ≡ 0 → xs ≡ []
+  none_left [] n = refl
+  none_left (x ∷ xs) n = absurd (omega (arith, n))
+
+  -- the first reader is taken, if there is one
+  pub record TakesReader (r : Option (Option S)) (old new : List (Option S)) : Type 0 where
+    pub first : option_flatten r ≡ first_reader old
+    pub others : new ≡ other_readers old
+
+  pub takes_reader : (r : Option (Option S)) (old new : List (Option S)) (m n : ℕ) → m ≡ length old → n ≡ length new → MatchOption r ((m ≡ 0) × (n ≡ 0)) (λ x. (old ≡ x ∷ new) × (n + 1 ≡ m)) → TakesReader r old new
+  takes_reader None old new m n is now h =
+      let none_old = none_left old (sym is ∙ h.0) in
+      let none_new = none_left new (sym now ∙ h.1) in
+      record { first = sym (ap first_reader none_old); others = none_new ∙ sym (ap other_readers none_old) }
+  takes_reader (Some x) old new m n is now h = record { first = sym (ap first_reader h.0); others = sym (ap other_readers h.0) }
+
+  pub given_push : (hs : List (PromisedHandle Fed (FedPromise S))) (h : PromisedHandle Fed (FedPromise S)) → map given_to (hs ++ h ∷ []) ≡ map given_to hs ++ given_to h ∷ []
+  given_push [] h = refl
+  given_push (x ∷ hs) h = ap (λ l. given_to x ∷ l) (given_push hs h)
+
+  pub given_more : (index : Option (List ℕ)) (before all : List (Given S)) (g : Given S) (rs later : List (Option S)) (ps others : List ProducerState) (p : ProducerState) (r : Option S)
+      → ps ≡ p ∷ others → g ≡ (p, r, index) → r ≡ first_reader rs → later ≡ other_readers rs → before ++ all_given index rs ps ≡ all → (before ++ g ∷ []) ++ all_given index later others ≡ all
+  given_more index before all g rs later ps others p r next is first rest h =
+      let whole : g ∷ all_given index later others ≡ all_given index rs (p ∷ others) = λ i. (is ∙ ap (λ (x : Option S). let y : Given S = (p, x, index) in y) first) i ∷ all_given index (rest i) others in
+      append_assoc before (g ∷ []) (all_given index later others) ∙ ap (λ l. before ++ l) (whole ∙ ap (all_given index rs) (sym next)) ∙ h
+
+  all_end_more : (gs : List (Given S)) (cs : List ClosedProducerState) (fs : List (Option FeedFault)) (g : Given S) (c : ClosedProducerState) (f : Option FeedFault) → AllEndFed left failed gs cs fs → EndsFed left failed g c f → AllEndFed left failed (gs ++ g ∷ []) (cs ++ c ∷ []) (fs ++ f ∷ [])
+  all_end_more [] [] [] g c f a k = (k, tt)
+  all_end_more [] [] (y ∷ fs) g c f a k = absurd a
+  all_end_more [] (x ∷ cs) fs g c f a k = absurd a
+  all_end_more (w ∷ gs) [] fs g c f a k = absurd a
+  all_end_more (w ∷ gs) (x ∷ cs) [] g c f a k = absurd a
+  all_end_more (w ∷ gs) (x ∷ cs) (y ∷ fs) g c f a k = (a.0, all_end_more gs cs fs g c f a.1 k)
+
+  -- the first of these threads have ended, and the others are left
+  pub record JoinsFed (hs others : List (PromisedHandle Fed (FedPromise S))) (cs : List ClosedProducerState) (fs : List (Option FeedFault)) : Type 0 where
+    pub joined : List (PromisedHandle Fed (FedPromise S))
+    pub all : hs ≡ joined ++ others
+    pub ended : AllEndFed left failed (map given_to joined) cs fs
+
+  pub joins_none : (hs : List (PromisedHandle Fed (FedPromise S))) (cs : List ClosedProducerState) (fs : List (Option FeedFault)) → cs ≡ [] → fs ≡ [] → JoinsFed hs hs cs fs
+  joins_none hs cs fs none_c none_f = record {
+    joined = [];
+    all = refl;
+    ended = subst (λ (x : List ClosedProducerState × List (Option FeedFault)). AllEndFed left failed [] x.0 x.1) (λ i. (sym none_c i, sym none_f i)) tt;
+  }
+
+  pub joins_on : (hs others later : List (PromisedHandle Fed (FedPromise S))) (cs new_cs : List ClosedProducerState) (fs new_fs : List (Option FeedFault)) (h : PromisedHandle Fed (FedPromise S)) (c : ClosedProducerState) (f : Option FeedFault)
+      → JoinsFed hs others cs fs → others ≡ h ∷ later → EndsFed left failed (given_to h) c f → new_cs ≡ cs ++ c ∷ [] → new_fs ≡ fs ++ f ∷ [] → JoinsFed hs later new_cs new_fs
+  joins_on hs others later cs new_cs fs new_fs h c f j is k more_c more_f = record {
+    joined = j.joined ++ h ∷ [];
+    all = j.all ∙ ap (λ l. j.joined ++ l) is ∙ sym (append_assoc j.joined (h ∷ []) later);
+    ended =
+        subst (λ (x : List (Given S) × List ClosedProducerState × List (Option FeedFault)). AllEndFed left failed x.0 x.1 x.2) (λ i. (sym (given_push j.joined h) i, sym more_c i, sym more_f i))
+        (all_end_more (map given_to j.joined) cs fs (given_to h) c f j.ended k);
+  }
+
+  pub joins_all : (hs others : List (PromisedHandle Fed (FedPromise S))) (cs : List ClosedProducerState) (fs : List (Option FeedFault)) → JoinsFed hs others cs fs → others ≡ [] → AllEndFed left failed (map given_to hs) cs fs
+  joins_all hs others cs fs j none =
+      subst (λ l. AllEndFed left failed (map given_to l) cs fs) (sym (j.all ∙ ap (λ l. j.joined ++ l) none ∙ append-nil j.joined)) j.ended
+
+-- what `finish` says of these operations, with the config and the wires of the start
+pub delivered_as : {W : Type 0} (describes : W → Bool) (fits : W → Outside → Type 0) (c k : RelayConfig) (ws vs : List W) (puts : ℕ → List Op) (cs : List ClosedProducerState) (r : Result (Summary W) FinishFault)
+    → c ≡ k → ws ≡ vs → HavePut puts 0 cs → IfOk r (λ s. (all : ℕ → List Op) → HavePut all 0 cs → AllDelivered describes fits c all 0 ws s.lanes.items) → IfOk r (λ s. AllDelivered describes fits k puts 0 vs s.lanes.items)
+delivered_as {W = W} describes fits c k ws vs puts cs (Ok s) same wires h d =
+    subst (λ (x : RelayConfig × List W). AllDelivered describes fits x.0 puts 0 x.1 s.lanes.items) (λ i. (same i, wires i)) (d puts h)
+delivered_as describes fits c k ws vs puts cs (Err e) same wires h d = tt

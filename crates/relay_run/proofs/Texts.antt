@@ -1,0 +1,42 @@
+-- The texts of a run, file by file and lane by lane.
+use Rattle.std.proofs.Common.{◌≡◌, ℕ, ◌+◌, ◌<◌, Bool, List, ◌∷◌, ◌++◌, length, drop, get_or, sym, ap, ◌∙◌, append_assoc}
+use Rattle.std.specs.Prelude.{Option}
+use Rattle.std.proofs.lemmas.List.{drop_more}
+use Rattle.relay_core.specs.declared.report.Report.{Report}
+use Rattle.relay_ndjson.specs.Operations.{counted}
+use Rattle.relay_commands.specs.declared.exit.Exit.{Exit}
+use Rattle.relay_threads.specs.declared.summary.LaneSummary.{LaneSummary}
+use Rattle.relay_run.specs.declared.feed.FeedFault.{FeedFault}
+use Rattle.relay_run.specs.Faults.{file_fault, said_of, worse_by, faults_text, exit_of_files}
+use Rattle.relay_run.specs.Outcomes.{total, reports_of}
+
+-- ---- files
+
+-- what is said of one file more
+pub said_on : (files : List (List ℕ)) (opened : List Bool) (stops : List (Option FeedFault)) (place : ℕ) (file : List ℕ) (d : Bool) (e : Option FeedFault) (text new all : List ℕ)
+    → place < length files → place < length opened → place < length stops
+    → file ≡ get_or files place file → new ≡ text ++ said_of file (file_fault (get_or opened place d) (get_or stops place e))
+    → text ++ faults_text (drop place files) (drop place opened) (drop place stops) ≡ all → new ++ faults_text (drop (place + 1) files) (drop (place + 1) opened) (drop (place + 1) stops) ≡ all
+said_on files opened stops place file d e text new all f o s at is h =
+    let said = said_of file (file_fault (get_or opened place d) (get_or stops place e)) in
+    let left = faults_text (drop (place + 1) files) (drop (place + 1) opened) (drop (place + 1) stops) in
+    let next : drop place files ≡ file ∷ drop (place + 1) files = drop_more files place file f ∙ ap (λ x. x ∷ drop (place + 1) files) (sym at) in
+    let whole : faults_text (drop place files) (drop place opened) (drop place stops) ≡ said ++ left = λ i. faults_text (next i) (drop_more opened place d o i) (drop_more stops place e s i) in
+    ap (λ t. t ++ left) is ∙ append_assoc text said left ∙ ap (λ t. text ++ t) (sym whole) ∙ h
+
+pub exit_on : (opened : List Bool) (stops : List (Option FeedFault)) (place : ℕ) (d : Bool) (e : Option FeedFault) (old new all : Exit)
+    → place < length opened → place < length stops → new ≡ worse_by old (file_fault (get_or opened place d) (get_or stops place e))
+    → exit_of_files old (drop place opened) (drop place stops) ≡ all → exit_of_files new (drop (place + 1) opened) (drop (place + 1) stops) ≡ all
+exit_on opened stops place d e old new all o s is h =
+    let whole : exit_of_files old (drop place opened) (drop place stops) ≡ exit_of_files (worse_by old (file_fault (get_or opened place d) (get_or stops place e))) (drop (place + 1) opened) (drop (place + 1) stops) = λ i. exit_of_files old (drop_more opened place d o i) (drop_more stops place e s i) in
+    ap (λ x. exit_of_files x (drop (place + 1) opened) (drop (place + 1) stops)) is ∙ sym whole ∙ h
+
+-- ---- lanes
+
+module _ {W : Type 0} where
+  pub total_on : (count : LaneSummary W → ℕ) (sum new all : ℕ) (left others : List (LaneSummary W)) (s : LaneSummary W) → left ≡ s ∷ others → new ≡ counted (sum + count s) → total count sum left ≡ all → total count new others ≡ all
+  total_on count sum new all left others s is more h = ap (λ n. total count n others) more ∙ ap (total count sum) (sym is) ∙ h
+
+  pub reports_on : (reports new all : List Report) (left others : List (LaneSummary W)) (s : LaneSummary W) → left ≡ s ∷ others → new ≡ reports ++ s.reports.items → reports ++ reports_of left ≡ all → new ++ reports_of others ≡ all
+  reports_on reports new all left others s is more h =
+      ap (λ l. l ++ reports_of others) more ∙ append_assoc reports s.reports.items (reports_of others) ∙ ap (λ l. reports ++ reports_of l) (sym is) ∙ h
