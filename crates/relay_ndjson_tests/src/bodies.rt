@@ -329,7 +329,10 @@ fn names(rt: HostRuntime) -> Result<(), Fail> {
         (LineKind::VersionMissing, "VersionMissing"),
         (LineKind::SourceMissing, "SourceMissing"),
         (LineKind::Action(ActionFault::IdLong), "IdLong"),
-        (LineKind::Action(ActionFault::SourceNewline), "SourceNewline"),
+        (
+            LineKind::Action(ActionFault::SourceNewline),
+            "SourceNewline",
+        ),
         (LineKind::NoFinalNewline, "NoFinalNewline"),
         (LineKind::LineLong, "LineLong"),
         (LineKind::Read, "Read"),
