@@ -1,5 +1,5 @@
 -- What is written at the end of a run, and how the program ends.
-use Rattle.std.specs.Prelude.{◌≡◌, ◌⊎◌, ℕ, List, ◌++◌, Option, Result, Ok, Err, codes}
+use Rattle.std.specs.Prelude.{◌≡◌, ◌⊎◌, ℕ, List, Option, Result, Ok, Err, codes}
 use Rattle.std.specs.Io.KnownBytes.{append_known}
 use Rattle.relay_action.specs.Streams.{FailedSince}
 use Rattle.relay_commands.specs.declared.exit.Exit.{Exit}
