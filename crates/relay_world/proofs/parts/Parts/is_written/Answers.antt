@@ -1,0 +1,5 @@
+use Rattle.std.proofs.Common.{rules}
+use Rattle.relay_world.proofs.parts.Parts.is_written.Goals as goal
+
+pub returns : goal.returns
+returns c = search rules
