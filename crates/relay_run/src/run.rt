@@ -37,7 +37,7 @@ pub struct Ran<W> {
 /// Of each producer there are operations that it was fed, those at the front of its reader, and its fault
 /// says why there were no more. Where the relay ends with a summary, each lane took exactly those of them
 /// on its documents, and delivered them: soundly and completely beside each outside that its wire fitted
-/// at the start. Without a summary what was taken was delivered as far as a lane's end says.
+/// at the start. Without a summary nothing is said of what was delivered.
 ///
 /// `StartFault`: the relay or a producer's thread could not be started, or there was no memory for what
 /// the threads are given. Threads that were started go on then.

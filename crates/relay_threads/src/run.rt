@@ -176,8 +176,8 @@ fn work<R: Wait, W: Wire, P: Pace>(
 ///
 /// It ends as Memory where there was no memory for an operation that it took or for a request, and as
 /// Gone where the queue answered that all senders are dropped, of which not each had closed; [`LaneEnd`]
-/// says what stands then. In each case what the lane heard of its queue is delivered soundly beside each outside that the wire
-/// describes, and where it ends as Finished completely.
+/// says what stands then. In each case what the lane heard of its queue is delivered soundly beside each
+/// outside that the wire describes, and where it ends as Finished completely.
 pub fn run_lane<R: Wait, W: Wire, P: Pace + Drop>(
     rt: &R,
     take: LaneTake,
