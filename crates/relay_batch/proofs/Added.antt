@@ -10,10 +10,7 @@ use Rattle.relay_batch.specs.declared.offer.Offer.TheVariants.{Busy, Closed, Add
 use Rattle.relay_batch.specs.Batches.{HasDistinctDocuments, IsBatch, bytes_of}
 use Rattle.relay_batch.specs.Gathering.{Gathering, answer_to, holds_document, is_count_reached, passes_bytes}
 
-one_apart : (x y : BatchItem) → (x.doc == y.doc) ≡ false → x.doc ≢ y.doc
-one_apart x y f e = eqb-false x.doc y.doc f e
-
-or_none : (a b : Bool) → (a || b) ≡ false → (a ≡ false) × (b ≡ false)
+pub or_none : (a b : Bool) → (a || b) ≡ false → (a ≡ false) × (b ≡ false)
 or_none true b e = absurd (cc)
 or_none false b e = (refl, e)
 
@@ -22,7 +19,7 @@ push_apart [] y h absent = λ i j d lt within. absurd (omega (arith, lt, within)
 push_apart (x ∷ xs) y h absent =
     let n = or_none (x.doc == y.doc) (holds_document y.doc xs) absent in
     AllPairs-cons (λ (a b : BatchItem). a.doc ≢ b.doc) x (xs ++ y ∷ [])
-    (All-push (λ (b : BatchItem). x.doc ≢ b.doc) xs y (λ j d within. h 0 (suc j) d (omega arith) (omega (arith, within))) (one_apart x y n.0))
+    (All-push (λ (b : BatchItem). x.doc ≢ b.doc) xs y (λ j d within. h 0 (suc j) d (omega arith) (omega (arith, within))) (eqb-false x.doc y.doc n.0))
     (push_apart xs y (λ i j d lt within. h (suc i) (suc j) d (omega (arith, lt)) (omega (arith, within))) n.1)
 
 -- what an offer that was Added says
@@ -31,7 +28,7 @@ was_added true b e = absurd (cc)
 was_added false true e = absurd (cc)
 was_added false false e = (refl, refl)
 
-and_none : (a b : Bool) → (a && b) ≡ false → a ≡ true → b ≡ false
+pub and_none : (a b : Bool) → (a && b) ≡ false → a ≡ true → b ≡ false
 and_none true b e t = e
 and_none false b e t = absurd (cc)
 

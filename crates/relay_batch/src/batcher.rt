@@ -125,13 +125,8 @@ impl Batcher {
     pub fn room(&self) -> Room
         ensures { result ≡ room_of self.now }
     {
-        let items = self.held.len();
         Room {
-            items: if items < self.limits.count as usize {
-                self.limits.count - items as u32
-            } else {
-                0
-            },
+            items: (self.limits.count as usize).saturating_sub(self.held.len()) as u32,
             bytes: self.limits.bytes.saturating_sub(self.total),
         }
     }

@@ -5,6 +5,7 @@ use Rattle.std.proofs.lemmas.List.{get_or-set_same, get_or-set_other}
 use Rattle.relay_results.specs.Documents.{Document, document_of, same_document}
 use Rattle.relay_results.proofs.Same.{same_document-true}
 use Rattle.relay_results.proofs.Lists.{apart_tests, true_or_false, equal_or_not}
+use Rattle.relay_core.specs.declared.gather.TheConstants.{PLACES}
 use Rattle.relay_core.specs.declared.kept.Kept.{Kept}
 use Rattle.relay_core.specs.Walk.{is_later_kept}
 use Rattle.relay_core.specs.Memory.{AllAbove, Rises}
@@ -34,7 +35,7 @@ not_marked marks x h m f =
     ⊎_elim {C = same_document (document_of x.key) (document_of h.key) ≡ false}
     (λ t.
     let same = same_document-true (document_of x.key) (document_of h.key) t in
-    let places : place_of x.key ≡ place_of h.key = ap (λ (d : Document). fold hash_step 0 d.id % 16384) same in
+    let places : place_of x.key ≡ place_of h.key = ap (λ (d : Document). fold hash_step 0 d.id % PLACES) same in
     absurd (apart_tests (sym f ∙ ap (λ n. slice_index_or marks n false) (sym places) ∙ m)))
     (λ e. e)
     (true_or_false (same_document (document_of x.key) (document_of h.key)))

@@ -12,6 +12,7 @@ use Rattle.relay_batch.specs.declared.offer.Offer.{Offer}
 use Rattle.relay_batch.specs.declared.offer.Offer.TheVariants.{Busy, Closed, Added}
 use Rattle.relay_batch.specs.Batches.{bytes_of}
 use Rattle.relay_batch.specs.Gathering.{Gathering, answer_to, holds_document, is_count_reached, passes_bytes, is_lingered, is_ready, room_of}
+use Rattle.relay_batch.proofs.Added.{or_none, and_none}
 use Rattle.relay_results.specs.Documents.{Document, document_of, same_document}
 use Rattle.relay_results.proofs.Lists.{and_left, and_right}
 use Rattle.relay_core.specs.declared.kept.Kept.{Kept}
@@ -162,12 +163,12 @@ quiet_none clock mark all_closed limits is room roomy q =
 
 -- ---- an operation is taken
 
-or_none : (a b c : Bool) → b ≡ false → ((a && b) || c) ≡ c
-or_none true b c e = ap (λ x. x || c) e
-or_none false b c e = refl
+or_rest : (a b c : Bool) → b ≡ false → ((a && b) || c) ≡ c
+or_rest true b c e = ap (λ x. x || c) e
+or_rest false b c e = refl
 
 later_same : (hs : List Kept) (h : Kept) (k : Document) (v : ℕ) → v ≤ h.version → is_later_kept (hs ++ h ∷ []) k v ≡ is_later_kept hs k v
-later_same [] h k v le = or_none (same_document (document_of h.key) k) (nat_lt h.version v) false (ltb_no h.version v le)
+later_same [] h k v le = or_rest (same_document (document_of h.key) k) (nat_lt h.version v) false (ltb_no h.version v le)
 later_same (g ∷ hs) h k v le = ap (λ b. (same_document (document_of g.key) k && nat_lt g.version v) || b) (later_same hs h k v le)
 
 candidates_same : (hs : List Kept) (h : Kept) (clock : ℕ) (rest : List Kept) → AllUnder h.version rest → filter (is_candidate_kept (hs ++ h ∷ []) clock) rest ≡ filter (is_candidate_kept hs clock) rest
@@ -218,18 +219,10 @@ quiet_taken clock mark all_closed limits hs hs' h room e u quiet roomy =
 
 -- ---- what was gathered is not asked for
 
-or_both : (a b : Bool) → (a || b) ≡ false → (a ≡ false) × (b ≡ false)
-or_both true b e = absurd (cc)
-or_both false b e = (refl, e)
-
 or_all : (a b c : Bool) → (a || b || c) ≡ false → (a ≡ false) × (b ≡ false) × (c ≡ false)
 or_all true b c e = absurd (cc)
 or_all false true c e = absurd (cc)
 or_all false false c e = (refl, refl, e)
-
-and_none : (a b : Bool) → (a && b) ≡ false → a ≡ true → b ≡ false
-and_none true b e t = e
-and_none false b e t = absurd (cc)
 
 pub quiet_of : (clock mark : ℕ) (all_closed : Bool) (limits : Limits) (is : List BatchItem) (room : Room) (ready shut marked : Bool)
     → 0 < length (offered is (empty limits)).items → room ≡ room_of (offered is (empty limits)) → ready ≡ is_ready clock (offered is (empty limits)) → shut ≡ closes is (empty limits)
@@ -240,9 +233,9 @@ quiet_of clock mark all_closed limits is room ready shut marked some left is_r i
     let same = offered_limits is (empty limits) in
     let counts = ap (λ (l : Limits). l.count) same in
     let weighs = ap (λ (l : Limits). l.bytes) same in
-    let a = or_both ready (shut || (marked || all_closed)) none in
-    let b = or_both shut (marked || all_closed) a.1 in
-    let d = or_both marked all_closed b.1 in
+    let a = or_none ready (shut || (marked || all_closed)) none in
+    let b = or_none shut (marked || all_closed) a.1 in
+    let d = or_none marked all_closed b.1 in
     let unready = or_all (is_count_reached g) (nat_le g.limits.bytes (bytes_of g.items)) (is_lingered g.limits.linger clock g.items) (and_none (nat_lt 0 (length g.items)) _ (sym is_r ∙ a.0) (lt-ltb 0 (length g.items) some)) in
     let few = leb-false g.limits.count (length g.items) unready.0 in
     let light = leb-false g.limits.bytes (bytes_of g.items) unready.1 in

@@ -6,6 +6,7 @@ use Rattle.relay_batch.specs.declared.item.Room.{Room}
 use Rattle.relay_batch.specs.declared.item.BatchItem.{BatchItem}
 use Rattle.relay_batch.specs.Batches.{bytes_of}
 use Rattle.relay_batch.specs.Gathering.{Gathering, is_lingered}
+use Rattle.relay_core.specs.declared.gather.TheConstants.{PLACES}
 use Rattle.relay_core.specs.declared.kept.Kept.{Kept}
 use Rattle.relay_core.specs.Rule.{offered, closes, is_marked}
 
@@ -14,7 +15,7 @@ abbrev pub hash_step : ℕ → ℕ → ℕ
 hash_step hash byte = ((hash * 31) % 2 ^ 64 + byte) % 2 ^ 64
 
 abbrev pub place_of : DocKey → ℕ
-place_of key = fold hash_step 0 key.id % 16384
+place_of key = fold hash_step 0 key.id % PLACES
 
 abbrev pub AreMarked : List Bool → List Kept → Type 0
 AreMarked marks [] = Unit {0}
