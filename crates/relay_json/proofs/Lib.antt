@@ -1,8 +1,3 @@
-pub mod Found
-pub mod Ranges
-pub mod Alone
-pub mod Nodes
-pub mod Soles
+pub mod Rows
 pub mod Numbers
 pub mod Digits
-pub mod Known

@@ -1,4 +1,3 @@
-pub mod Ranges
+pub mod Items
+pub mod Walks
 pub mod Sole
-pub mod Values
-pub mod Names

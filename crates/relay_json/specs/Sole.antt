@@ -1,8 +1,11 @@
 -- The one member of an object (RFC 8259, section 4). A name that is given twice counts once, with its last value.
-use Rattle.std.specs.Prelude.{ℕ, Bool, true, ◌&&◌, List, bytes_eq, Option, None, Some, option_and_then}
-use Rattle.json.specs.Json as json
-use Rattle.serde_json.specs.Data.{Data, Members, member, no_members}
+use Rattle.std.specs.Prelude.{◌≡◌, ℕ, List, Bool, if◌then◌else◌, is_some, Option, None, Some, MatchOption, option_and_then}
+use denote.Ref.{Bor}
+use Rattle.serde_json.specs.Data.{Data, object, Members, member, no_members}
 use Rattle.serde_json.specs.Find.{as_object}
+use Rattle.relay_json.specs.Walks.{Gathered}
+use Rattle.relay_json.specs.declared.sole.Found.{Found}
+use Rattle.relay_json.specs.declared.sole.Found.TheVariants as found
 
 abbrev pub sole : Members → Option (List ℕ × Data)
 sole no_members = None
@@ -13,7 +16,23 @@ sole (member name d (member other e ms)) = None
 abbrev pub sole_member : Data → Option (List ℕ × Data)
 sole_member d = option_and_then sole (as_object d)
 
--- each of the members, as they stand in a text, has this name
-abbrev pub all_named : List ℕ → json.Members → Bool
-all_named name json.no_members = true
-all_named name (json.member k j ms) = bytes_eq k name && all_named name ms
+-- the same, where the value is an object
+abbrev pub sole_object : Data → Option (List ℕ × Data)
+sole_object d = option_and_then (λ m. if is_some (as_object m.1) then Some m else None) (sole_member d)
+
+-- the name of the one member, and what was made of its value, where that is an object
+abbrev pub SoleObject : {F : Type 0} → (F → Members → Type 0) → Data → Option (Bor (List ℕ) × F) → Type 0
+SoleObject Holds d r = MatchOption r (sole_object d ≡ None) (λ r. (ms : Members) × (sole_object d ≡ Some (r.0.now, object ms)) × Holds r.1 ms)
+
+-- ---- for private clauses
+
+abbrev pub AreSeveral : Members → Type 0
+AreSeveral no_members = ⊥
+AreSeveral (member k d no_members) = ⊥
+AreSeveral (member k d (member l e ms)) = Unit {0}
+
+-- what was found of members
+abbrev pub HoldsSole : {F : Type 0} → (F → Members → Type 0) → Found F → Members → Type 0
+HoldsSole Holds found.Nothing ms = ms ≡ no_members
+HoldsSole Holds (found.One name f) ms = (d : Data) × (ms ≡ member name.now d no_members) × Gathered Holds d f
+HoldsSole Holds found.Several ms = AreSeveral ms

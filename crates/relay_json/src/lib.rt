@@ -1,21 +1,20 @@
-//! JSON texts read into values that borrow from the text, for bodies of which a few members count
-//! (RFC 8259). It stands on `json`, whose tree it looks into, and on the definitions of
-//! `serde_json`: a text says the same value here as there, and a look-up finds the same in it.
+//! JSON texts read from front to end (RFC 8259), with nothing kept but what counts. It stands on the
+//! reader of `json`, and on the definitions of `serde_json`: a text says the same value here as there.
 //!
 //! Numbers stay text until they are asked for; a text with a number that is too large for a float is
 //! no JSON, also where nobody asks for it.
 #![tactic(auto)]
 
-mod items;
-mod members;
-mod names;
+mod fault;
+mod leaf;
 mod number;
-mod range;
 mod reading;
-mod value;
+mod sole;
+mod walk;
 
-pub use items::Items;
+pub use fault::ReadFault;
 pub use json::Scratch;
-pub use names::Names;
-pub use reading::{ReadFault, Tree};
-pub use value::Value;
+pub use leaf::Leaf;
+pub use reading::{read_object, read_sole_object};
+pub use sole::Fields;
+pub use walk::{Collect, Gather, Walk};

@@ -1,0 +1,47 @@
+-- Values of a text, read where they begin (RFC 8259, section 2).
+use Rattle.std.specs.Prelude.{◌≡◌, ℕ, ◌+◌, List, ◌∷◌, Option, Some, None, MatchOption}
+use Rattle.json.specs.Token.{Token}
+use Rattle.json.specs.Json.{value}
+use Rattle.serde_json.specs.Data.{Data, Num, null, boolean, number, string, array, object, Items, Members}
+use Rattle.serde_json.specs.Find.{as_object, as_array}
+use Rattle.serde_json.specs.Read.{of_json, number_of, converted}
+use Rattle.relay_json.specs.declared.leaf.Leaf.{Leaf}
+use Rattle.relay_json.specs.declared.leaf.Leaf.TheVariants as leaf
+use Rattle.relay_json.specs.declared.walk.Walk.{Walk}
+
+-- the tokens begin with a value of this data, nested at most so deep, and `rest` follows it
+abbrev pub Reads : ℕ → List Token → Data → List Token → Type 0
+Reads depth tokens d rest = converted of_json (value depth tokens) ≡ Some (d, rest)
+
+-- they begin with none
+abbrev pub Refuses : ℕ → List Token → Type 0
+Refuses depth tokens = converted of_json (value depth tokens) ≡ None
+
+-- the walk passed a value of this data
+abbrev pub IsRead : Walk → Data → Walk → Type 0
+IsRead old d new = (new.depth ≡ old.depth) × Reads old.depth old.reader d new.reader
+
+-- where the walk stands no value begins
+abbrev pub IsRefused : Walk → Type 0
+IsRefused walk = Refuses walk.depth walk.reader
+
+-- the walk went into the array or the object that this bracket opens
+abbrev pub Opens : Token → Walk → Walk → Type 0
+Opens bracket old new = (old.reader ≡ bracket ∷ new.reader) × (old.depth ≡ new.depth + 1)
+
+-- what the data is at its top
+abbrev pub IsLeaf : Leaf → Data → Type 0
+IsLeaf leaf.Null d = d ≡ null
+IsLeaf (leaf.Bool b) d = d ≡ boolean b
+IsLeaf (leaf.Number s) d = (n : Num) × (number_of s.now ≡ Some n) × (d ≡ number n)
+IsLeaf (leaf.String s) d = d ≡ string s.now
+IsLeaf leaf.Array d = (ds : Items) × (d ≡ array ds)
+IsLeaf leaf.Object d = (ms : Members) × (d ≡ object ms)
+
+-- what was made of the members, where the data is an object
+abbrev pub Gathered : {G : Type 0} → (G → Members → Type 0) → Data → Option G → Type 0
+Gathered Holds d found = MatchOption found (as_object d ≡ None) (λ g. (ms : Members) × (as_object d ≡ Some ms) × Holds g ms)
+
+-- what was made of the items, where the data is an array
+abbrev pub Collected : {C : Type 0} → (C → Items → Type 0) → Data → Option C → Type 0
+Collected Holds d found = MatchOption found (as_array d ≡ None) (λ c. (ds : Items) × (as_array d ≡ Some ds) × Holds c ds)

@@ -1,0 +1,62 @@
+//! What a value is at its top.
+ghost use Rattle.std.specs.Prelude.{◌≡◌, option_map, option_and_then, is_some};
+ghost use Rattle.serde_json.specs.Data.{Data};
+ghost use Rattle.serde_json.specs.Find.{as_null, as_number, as_str, as_i64, as_u64};
+ghost use Rattle.relay_json.specs.Walks.{IsLeaf};
+
+use crate::number::{to_i64, to_u64};
+
+/// What a value is at its top. Nothing is kept of what an array or an object holds.
+#[derive(Clone, Copy, Debug, PartialEq, Eq)]
+pub enum Leaf<'t> {
+    Null,
+    Bool(bool),
+    /// A number as it stands in the text.
+    Number(&'t str),
+    /// A text, its escapes replaced.
+    String(&'t str),
+    Array,
+    Object,
+}
+
+impl<'t> Leaf<'t> {
+    /// Whether it is null.
+    #[inline(always)]
+    pub fn is_null(self) -> bool
+        ensures { (d : Data) → IsLeaf self.entry d → result ≡ is_some (as_null d) }
+    {
+        matches!(self, Leaf::Null)
+    }
+
+    /// The text, where it is one.
+    #[inline(always)]
+    pub fn as_str(self) -> Option<&'t str>
+        ensures { (d : Data) → IsLeaf self.entry d → option_map (λ s. s.now) result ≡ as_str d }
+    {
+        match self {
+            Leaf::String(text) => Some(text),
+            _ => None,
+        }
+    }
+
+    /// The integer, where it is one from 0 to 2^64 - 1, written without a point or an exponent.
+    pub fn as_u64(self) -> Option<u64>
+        ensures { (d : Data) → IsLeaf self.entry d → result ≡ option_and_then as_u64 (as_number d) }
+    {
+        match self {
+            Leaf::Number(text) => to_u64(text),
+            _ => None,
+        }
+    }
+
+    /// The integer, where it is one from -2^63 to 2^63 - 1, written without a point or an exponent.
+    /// `-0` is none.
+    pub fn as_i64(self) -> Option<i64>
+        ensures { (d : Data) → IsLeaf self.entry d → result ≡ option_and_then as_i64 (as_number d) }
+    {
+        match self {
+            Leaf::Number(text) => to_i64(text),
+            _ => None,
+        }
+    }
+}

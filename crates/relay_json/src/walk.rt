@@ -1,0 +1,309 @@
+//! A text read from its front to its end.
+ghost use Rattle.std.specs.Prelude.{◌≡◌, ◌<◌, [], ◌∷◌, List, length, None, Some, Err, IfOk, IfErr, OnOk, OnErr, IsUtf8};
+ghost use Rattle.std.specs.Bool.{MatchBool};
+ghost use Rattle.json.specs.Token.{Token as SpecToken, begin_array, begin_object};
+ghost use Rattle.json.specs.Json.{items, members, value};
+ghost use Rattle.json.specs.Lex.{tokens};
+ghost use Rattle.json.specs.Reads.{token_of};
+ghost use Rattle.json.specs.Scratch.{room};
+ghost use Rattle.serde_json.specs.Data.{Data, Items, Members, no_items, no_members, put};
+ghost use Rattle.serde_json.specs.Find.{as_array, as_object};
+ghost use Rattle.serde_json.specs.Read.{of_items, of_members, converted, max_depth};
+ghost use Rattle.relay_json.specs.Items.{and_item};
+ghost use Rattle.relay_json.specs.Sole.{SoleObject, HoldsSole};
+ghost use Rattle.relay_json.specs.Walks.{Reads, Refuses, IsRead, IsRefused, IsLeaf, Opens, Gathered, Collected};
+
+use crate::fault::ReadFault;
+use crate::leaf::Leaf;
+use crate::number::is_in_range;
+use crate::sole::{Fields, Found};
+use json::{Invalid, Reader, Scratch, Token};
+
+// How deep arrays and objects may nest.
+const MAX_DEPTH: usize = 127;
+
+// What the value is at its top whose first token was taken. All of it is passed.
+#[cycle(pass)]
+#[inline(always)]
+fn pass_from<'t>(
+    token: Token<'t>,
+    reader: &mut Reader<'t>,
+    depth: usize,
+) -> Result<Leaf<'t>, Invalid>
+    ensures ok { IfOk result (λ leaf. (d : Data)
+        × Reads depth (token_of token.entry ∷ reader.old) d reader.new × IsLeaf leaf d) }
+    ensures err { OnErr result (Refuses depth (token_of token.entry ∷ reader.old)) }
+{
+    match token {
+        Token::String(text) => Ok(Leaf::String(text)),
+        Token::Number(text) => if is_in_range(text) {
+            Ok(Leaf::Number(text))
+        } else {
+            Err(Invalid)
+        },
+        Token::Bool(truth) => Ok(Leaf::Bool(truth)),
+        Token::Null => Ok(Leaf::Null),
+        Token::EndObject | Token::EndArray | Token::Key(_) | Token::Bad => Err(Invalid),
+        Token::BeginArray => {
+            if depth == 0 {
+                return Err(Invalid);
+            }
+            pass_items(reader, depth - 1)?;
+            Ok(Leaf::Array)
+        }
+        Token::BeginObject => {
+            if depth == 0 {
+                return Err(Invalid);
+            }
+            pass_members(reader, depth - 1)?;
+            Ok(Leaf::Object)
+        }
+    }
+}
+
+// What the next value is at its top. All of it is passed.
+#[cycle(pass)]
+#[inline(always)]
+fn pass<'t>(reader: &mut Reader<'t>, depth: usize) -> Result<Leaf<'t>, Invalid>
+    ensures ok { IfOk result (λ leaf. (d : Data) × Reads depth reader.old d reader.new × IsLeaf leaf d) }
+    ensures err { OnErr result (Refuses depth reader.old) }
+{
+    let token = reader.next().ok_or(Invalid)?;
+    pass_from(token, reader, depth)
+}
+
+// Passes the items of an array, and its closing bracket.
+#[cycle(pass)]
+#[inline(never)]
+fn pass_items(reader: &mut Reader<'_>, depth: usize) -> Result<(), Invalid>
+    ensures ok { OnOk result ((ds : Items)
+        × (converted of_items (items (value depth) (length reader.old) reader.old) ≡ Some (ds, reader.new))) }
+    ensures err { OnErr result
+        (converted of_items (items (value depth) (length reader.old) reader.old) ≡ None) }
+{
+    'items: while !reader.take_end_array() {
+        pass(reader, depth)?;
+    }
+    Ok(())
+}
+
+// Passes the members of an object, and its closing bracket.
+#[cycle(pass)]
+#[inline(never)]
+fn pass_members(reader: &mut Reader<'_>, depth: usize) -> Result<(), Invalid>
+    ensures ok { OnOk result ((ms : Members)
+        × (converted (λ js. of_members js no_members) (members (value depth) (length reader.old) reader.old)
+        ≡ Some (ms, reader.new))) }
+    ensures err { OnErr result
+        (converted (λ js. of_members js no_members) (members (value depth) (length reader.old) reader.old) ≡ None) }
+{
+    'members: while let Some(_) = reader.next_key()? {
+        pass(reader, depth)?;
+    }
+    Ok(())
+}
+
+/// A place in a text, where a value begins. Values are read one after another, and nothing is kept of
+/// them.
+#[derive(Drop)]
+pub struct Walk<'t> {
+    reader: Reader<'t>,
+    // How deep the next value may nest.
+    depth: usize,
+}
+
+/// What counts of the members of an object. It is told of them one after another.
+pub trait Gather<'t>: Drop {
+    /// What it holds of members: of a name that was given twice those of the last.
+    ghost Holds: { Self → Members → Type 0 };
+
+    /// Whether it may want memory.
+    ghost MayFail: { Type 0 };
+
+    /// Reads the value of the next member.
+    fn member(&mut self, name: &'t str, walk: &mut Walk<'t>) -> Result<(), ReadFault>
+        ensures ok { OnOk result ((d : Data) × IsRead walk.old d walk.new
+            × ((ms : Members) → Holds self.old ms → Holds self.new (put name.now d ms))) }
+        ensures not_json { result ≡ Err ReadFault.NotJson → IsRefused walk.old }
+        ensures memory { result ≡ Err ReadFault.Memory → MayFail };
+}
+
+/// What counts of the items of an array. It is told of them one after another.
+pub trait Collect<'t>: Drop {
+    /// What it holds of items.
+    ghost Holds: { Self → Items → Type 0 };
+
+    /// Whether it may want memory.
+    ghost MayFail: { Type 0 };
+
+    /// Reads the next item.
+    fn item(&mut self, walk: &mut Walk<'t>) -> Result<(), ReadFault>
+        ensures ok { OnOk result ((d : Data) × IsRead walk.old d walk.new
+            × ((ds : Items) → Holds self.old ds → Holds self.new (and_item ds d))) }
+        ensures not_json { result ≡ Err ReadFault.NotJson → IsRefused walk.old }
+        ensures memory { result ≡ Err ReadFault.Memory → MayFail };
+}
+
+impl<'t> Walk<'t> {
+    // The front of a text.
+    pub(crate) fn over(text: &'t [u8], scratch: &'t mut Scratch) -> Result<Walk<'t>, ReadFault>
+        ensures ok { IfOk result (λ walk. IsUtf8 text.now × (walk.reader ≡ tokens text.now)
+            × (walk.depth ≡ max_depth)) }
+        ensures not_json { result ≡ Err ReadFault.NotJson → IsUtf8 text.now → ⊥ }
+        ensures memory { result ≡ Err ReadFault.Memory → room scratch.old < length text.now }
+    {
+        let Ok(text) = simdutf8::compat::from_utf8(text) else {
+            return Err(ReadFault::NotJson);
+        };
+        let Ok(reader) = Reader::new(text, scratch) else {
+            return Err(ReadFault::Memory);
+        };
+        Ok(Walk { reader, depth: MAX_DEPTH })
+    }
+
+    // Whether nothing is left.
+    pub(crate) fn is_at_end(&mut self) -> bool
+        ensures { MatchBool result (self.old.reader ≡ []) ((t : SpecToken) × (ts : List SpecToken) × (self.old.reader ≡ t ∷ ts)) }
+    {
+        self.reader.next().is_none()
+    }
+
+    /// What the next value is at its top. It passes the value.
+    #[inline(always)]
+    pub fn leaf(&mut self) -> Result<Leaf<'t>, ReadFault>
+        ensures ok { IfOk result (λ leaf. (d : Data) × IsRead self.old d self.new × IsLeaf leaf d) }
+        ensures err { IfErr result (λ e. (e ≡ ReadFault.NotJson) × IsRefused self.old) }
+    {
+        Ok(pass(&mut self.reader, self.depth)?)
+    }
+
+    // Tells of the members of the object whose opening bracket was taken.
+    fn members<G: Gather<'t>>(&mut self, start: G) -> Result<G, ReadFault>
+        requires { G.Holds start no_members }
+        ensures ok { IfOk result (λ g. (ms : Members)
+            × (converted (λ js. of_members js no_members) (members (value self.old.depth) (length self.old.reader) self.old.reader)
+            ≡ Some (ms, self.new.reader)) × (self.new.depth ≡ self.old.depth) × G.Holds g ms) }
+        ensures not_json { result ≡ Err ReadFault.NotJson
+            → converted (λ js. of_members js no_members) (members (value self.old.depth) (length self.old.reader) self.old.reader) ≡ None }
+        ensures memory { result ≡ Err ReadFault.Memory → G.MayFail }
+    {
+        let mut gathered = start;
+        'members: while let Some(name) = self.reader.next_key()? {
+            gathered.member(name, self)?;
+        }
+        Ok(gathered)
+    }
+
+    // Looks for the one member of the object whose opening bracket was taken.
+    fn sole_member<F: Fields<'t>>(&mut self) -> Result<Found<'t, F>, ReadFault>
+        ensures ok { IfOk result (λ found. (ms : Members)
+            × (converted (λ js. of_members js no_members) (members (value self.old.depth) (length self.old.reader) self.old.reader)
+            ≡ Some (ms, self.new.reader)) × (self.new.depth ≡ self.old.depth) × HoldsSole F.Holds found ms) }
+        ensures not_json { result ≡ Err ReadFault.NotJson
+            → converted (λ js. of_members js no_members) (members (value self.old.depth) (length self.old.reader) self.old.reader) ≡ None }
+        ensures memory { result ≡ Err ReadFault.Memory → F.MayFail }
+    {
+        let mut found = Found::Nothing;
+        'members: while let Some(name) = self.reader.next_key()? {
+            let value = self.gather(F::none())?;
+            found = found.and_member(name, value);
+        }
+        Ok(found)
+    }
+
+    // Tells of the items of the array whose opening bracket was taken.
+    fn items<C: Collect<'t>>(&mut self, start: C) -> Result<C, ReadFault>
+        requires { C.Holds start no_items }
+        ensures ok { IfOk result (λ c. (ds : Items)
+            × (converted of_items (items (value self.old.depth) (length self.old.reader) self.old.reader)
+            ≡ Some (ds, self.new.reader)) × (self.new.depth ≡ self.old.depth) × C.Holds c ds) }
+        ensures not_json { result ≡ Err ReadFault.NotJson
+            → converted of_items (items (value self.old.depth) (length self.old.reader) self.old.reader) ≡ None }
+        ensures memory { result ≡ Err ReadFault.Memory → C.MayFail }
+    {
+        let mut collected = start;
+        'items: while !self.reader.take_end_array() {
+            collected.item(self)?;
+        }
+        Ok(collected)
+    }
+
+    // Whether the next value is an object. Then its opening bracket was taken, else all of it was passed.
+    pub(crate) fn opens_object(&mut self) -> Result<bool, ReadFault>
+        ensures ok { IfOk result (λ opened. MatchBool opened (Opens begin_object self.old self.new)
+            ((d : Data) × IsRead self.old d self.new × (as_object d ≡ None))) }
+        ensures err { IfErr result (λ e. (e ≡ ReadFault.NotJson) × IsRefused self.old) }
+    {
+        let token = self.reader.next().ok_or(Invalid)?;
+        if let Token::BeginObject = token {
+            self.depth = self.depth.checked_sub(1).ok_or(Invalid)?;
+            return Ok(true);
+        }
+        pass_from(token, &mut self.reader, self.depth)?;
+        Ok(false)
+    }
+
+    // Whether the next value is an array. Then its opening bracket was taken, else all of it was passed.
+    fn opens_array(&mut self) -> Result<bool, ReadFault>
+        ensures ok { IfOk result (λ opened. MatchBool opened (Opens begin_array self.old self.new)
+            ((d : Data) × IsRead self.old d self.new × (as_array d ≡ None))) }
+        ensures err { IfErr result (λ e. (e ≡ ReadFault.NotJson) × IsRefused self.old) }
+    {
+        let token = self.reader.next().ok_or(Invalid)?;
+        if let Token::BeginArray = token {
+            self.depth = self.depth.checked_sub(1).ok_or(Invalid)?;
+            return Ok(true);
+        }
+        pass_from(token, &mut self.reader, self.depth)?;
+        Ok(false)
+    }
+
+    /// Reads the next value, and where it is an object tells of its members.
+    pub fn gather<G: Gather<'t>>(&mut self, start: G) -> Result<Option<G>, ReadFault>
+        requires { G.Holds start no_members }
+        ensures ok { IfOk result (λ found. (d : Data) × IsRead self.old d self.new × Gathered G.Holds d found) }
+        ensures not_json { result ≡ Err ReadFault.NotJson → IsRefused self.old }
+        ensures memory { result ≡ Err ReadFault.Memory → G.MayFail }
+    {
+        if !self.opens_object()? {
+            return Ok(None);
+        }
+        let gathered = self.members(start)?;
+        self.depth += 1;
+        Ok(Some(gathered))
+    }
+
+    /// Reads the next value, and where it is an array tells of its items.
+    pub fn collect<C: Collect<'t>>(&mut self, start: C) -> Result<Option<C>, ReadFault>
+        requires { C.Holds start no_items }
+        ensures ok { IfOk result (λ found. (d : Data) × IsRead self.old d self.new × Collected C.Holds d found) }
+        ensures not_json { result ≡ Err ReadFault.NotJson → IsRefused self.old }
+        ensures memory { result ≡ Err ReadFault.Memory → C.MayFail }
+    {
+        if !self.opens_array()? {
+            return Ok(None);
+        }
+        let collected = self.items(start)?;
+        self.depth += 1;
+        Ok(Some(collected))
+    }
+
+    /// Reads the next value, and answers the name of its one member and what counts of that member's
+    /// value; `None` where the value is no object, has no member or members of several names, or where
+    /// the member's value is no object.
+    pub fn sole_object<F: Fields<'t>>(&mut self) -> Result<Option<(&'t str, F)>, ReadFault>
+        ensures ok { IfOk result (λ found. (d : Data) × IsRead self.old d self.new × SoleObject F.Holds d found) }
+        ensures not_json { result ≡ Err ReadFault.NotJson → IsRefused self.old }
+        ensures memory { result ≡ Err ReadFault.Memory → F.MayFail }
+    {
+        if !self.opens_object()? {
+            return Ok(None);
+        }
+        let found = self.sole_member()?;
+        self.depth += 1;
+        match found {
+            Found::One(name, Some(fields)) => Ok(Some((name, fields))),
+            _ => Ok(None),
+        }
+    }
+}
