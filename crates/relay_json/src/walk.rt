@@ -206,7 +206,11 @@ impl<'t> Walk<'t> {
         let mut found = Found::Nothing;
         'members: while let Some(name) = self.reader.next_key()? {
             let value = self.gather(F::none())?;
-            found = found.and_member(name, value);
+            found = match found {
+                Found::Nothing => Found::One(name, value),
+                Found::One(first, _) if first == name => Found::One(name, value),
+                _ => Found::Several,
+            };
         }
         Ok(found)
     }
