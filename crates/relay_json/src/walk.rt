@@ -11,7 +11,7 @@ ghost use Rattle.serde_json.specs.Find.{as_array, as_object};
 ghost use Rattle.serde_json.specs.Read.{of_items, of_members, converted, max_depth};
 ghost use Rattle.relay_json.specs.Items.{and_item};
 ghost use Rattle.relay_json.specs.Sole.{SoleObject, HoldsSole};
-ghost use Rattle.relay_json.specs.Walks.{Reads, Refuses, IsRead, IsRefused, IsLeaf, Opens, Gathered, Collected};
+ghost use Rattle.relay_json.specs.Walks.{Reads, Refuses, IsRead, IsRefused, IsLeaf, Opens, Gathered, GatheredOrLeaf, Collected};
 
 use crate::fault::ReadFault;
 use crate::leaf::Leaf;
@@ -275,6 +275,24 @@ impl<'t> Walk<'t> {
         let gathered = self.members(start)?;
         self.depth += 1;
         Ok(Some(gathered))
+    }
+
+    /// Reads the next value, and where it is an object tells of its members; else it answers what the
+    /// value is at its top.
+    pub fn gather_or_leaf<G: Gather<'t>>(&mut self, start: G) -> Result<Result<G, Leaf<'t>>, ReadFault>
+        requires { G.Holds start no_members }
+        ensures ok { IfOk result (λ found. (d : Data) × IsRead self.old d self.new × GatheredOrLeaf G.Holds d found) }
+        ensures not_json { result ≡ Err ReadFault.NotJson → IsRefused self.old }
+        ensures memory { result ≡ Err ReadFault.Memory → G.MayFail }
+    {
+        let token = self.reader.next().ok_or(Invalid)?;
+        let Token::BeginObject = token else {
+            return Ok(Err(pass_from(token, &mut self.reader, self.depth)?));
+        };
+        self.depth = self.depth.checked_sub(1).ok_or(Invalid)?;
+        let gathered = self.members(start)?;
+        self.depth += 1;
+        Ok(Ok(gathered))
     }
 
     /// Reads the next value, and where it is an array tells of its items.
