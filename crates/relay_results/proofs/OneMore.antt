@@ -9,6 +9,7 @@ use Rattle.relay_json.specs.Items.{and_item}
 use Rattle.relay_json.specs.Sole.{sole_object}
 use Rattle.relay_results.specs.declared.outcome.Outcome.{Outcome}
 use Rattle.relay_results.specs.Replies.{IsEntry, IsNoEntry, AreEntries, IsBadAt}
+use Rattle.relay_results.specs.Parts.{SayUpTo}
 
 -- ---- one more member
 
@@ -23,8 +24,11 @@ pub told_before : {A : Type 0} (f : Data → Option A) (k name : List ℕ) (d : 
     → found ≡ option_and_then f (get_member k ms) → found ≡ option_and_then f (get_member k (put name d ms))
 told_before f k name d ms found apart is = is ∙ sym (ap (option_and_then f) (get_member-put_other k name d ms (λ e. apart (sym e))))
 
+pub differ : (a b : List ℕ) → bytes_eq a b ≡ false → a ≡ b → ⊥
+differ a b apart e = true≢false (sym ((bytes_eq-Decides a b).1 e) ∙ apart)
+
 pub other_name : (name j k : List ℕ) → name ≡ j → bytes_eq j k ≡ false → name ≡ k → ⊥
-other_name name j k same differ e = true≢false (sym ((bytes_eq-Decides j k).1 (sym same ∙ e)) ∙ differ)
+other_name name j k same apart e = differ j k apart (sym same ∙ e)
 
 -- ---- one more entry
 
@@ -44,6 +48,19 @@ pub still_bad : (ds : Items) (place : ℕ) (d : Data) → IsBadAt ds place → I
 still_bad no_items place d h = absurd h
 still_bad (item x ds) zero d h = h
 still_bad (item x ds) (suc place) d h = (h.0, still_bad ds place d h.1)
+
+-- entries are passed after the first that says no outcome
+pub passes : (ds : Items) (os : List Outcome) (d : Data) (bad : Bool) → bad ≡ true → SayUpTo ds os bad → SayUpTo (and_item ds d) os bad
+passes ds os d true is h = still_bad ds (length os) d h
+passes ds os d false is h = absurd (true≢false (sym is))
+
+pub adds : (ds : Items) (os new : List Outcome) (d : Data) (o : Outcome) (bad : Bool) → bad ≡ false → new ≡ os ++ o ∷ [] → IsEntry d o → SayUpTo ds os bad → SayUpTo (and_item ds d) new bad
+adds ds os new d o false is added e h = subst (AreEntries (and_item ds d)) (sym added) (one_more ds os d o h e)
+adds ds os new d o true is added e h = absurd (true≢false is)
+
+pub stops : (ds : Items) (os : List Outcome) (d : Data) (bad : Bool) → bad ≡ false → IsNoEntry d → SayUpTo ds os bad → IsBadAt (and_item ds d) (length os)
+stops ds os d false is none h = first_bad ds os d h none
+stops ds os d true is none h = absurd (true≢false is)
 
 -- ---- what an entry says
 

@@ -7,8 +7,6 @@ use Rattle.relay_results.specs.declared.reading.EntryFields.{EntryFields}
 use Rattle.relay_results.specs.declared.reading.Entries.{Entries}
 use Rattle.relay_results.specs.declared.reading.ErrorType.{ErrorType}
 use Rattle.relay_results.specs.declared.reading.Reply.{Reply}
-use Rattle.relay_results.specs.declared.reading.ReplyFault.{ReplyFault}
-use Rattle.relay_results.specs.declared.reading.ReplyFault.TheVariants as fault
 use Rattle.relay_results.specs.Replies.{IsCut, error_limit, error_type, IsNoEntry, AreEntries, IsBadAt}
 
 -- ---- an error
@@ -52,17 +50,14 @@ SayUpTo ds os true = IsBadAt ds (length os)
 abbrev pub HoldsEntries : Entries → Items → Type 0
 HoldsEntries entries ds = SayUpTo ds entries.outcomes.items entries.has_bad
 
--- the fault of entries
-abbrev pub IsFaultOfEntries : Items → ReplyFault → Type 0
-IsFaultOfEntries ds fault.NotJson = ⊥
-IsFaultOfEntries ds fault.NoItems = ⊥
-IsFaultOfEntries ds (fault.BadItem place) = IsBadAt ds place
-IsFaultOfEntries ds fault.Memory = ⊥
-
 -- ---- a reply
 
 abbrev pub items_in : Members → Option Items
 items_in ms = option_and_then as_array (get_member (codes "items") ms)
 
+-- what was collected of the items, where there are any
+abbrev pub HoldsItems : Option Entries → Option Items → Type 0
+HoldsItems found items = MatchOption found (items ≡ None) (λ e. (ds : Items) × (items ≡ Some ds) × HoldsEntries e ds)
+
 abbrev pub HoldsReply : Reply → Members → Type 0
-HoldsReply reply ms = MatchOption reply.entries (items_in ms ≡ None) (λ e. (ds : Items) × (items_in ms ≡ Some ds) × HoldsEntries e ds)
+HoldsReply reply ms = HoldsItems reply.entries (items_in ms)

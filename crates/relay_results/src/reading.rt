@@ -4,8 +4,8 @@ ghost use Rattle.serde_json.specs.Data.{Data, object, Items, no_items, Members, 
 ghost use Rattle.relay_json.specs.Items.{and_item};
 ghost use Rattle.relay_json.specs.Sole.{SoleObject};
 ghost use Rattle.relay_json.specs.Walks.{IsLeaf, IsRead, IsRefused};
-ghost use Rattle.relay_results.specs.Replies.{IsCut, error_limit, IsEntry, IsNoEntry, AreEntries, IsReply, IsFaultOf};
-ghost use Rattle.relay_results.specs.Parts.{status_of, told_error, KeepsError, HoldsType, HoldsFields, HoldsEntries, IsFaultOfEntries, HoldsReply};
+ghost use Rattle.relay_results.specs.Replies.{IsCut, error_limit, IsEntry, IsNoEntry, IsReply, IsFaultOf};
+ghost use Rattle.relay_results.specs.Parts.{status_of, told_error, KeepsError, HoldsType, HoldsFields, HoldsEntries, HoldsReply};
 
 use crate::outcome::Outcome;
 use relay_action::{ActionKind, Text};
@@ -169,10 +169,7 @@ fn read_entry(alloc: Global, walk: &mut Walk<'_>) -> Result<Option<Outcome>, Rea
     let Some((name, fields)) = walk.sole_object::<EntryFields<'_>>()? else {
         return Ok(None);
     };
-    match outcome_of(alloc, name, &fields) {
-        Ok(outcome) => Ok(outcome),
-        Err(AllocError) => Err(ReadFault::Memory),
-    }
+    Ok(outcome_of(alloc, name, &fields).map_err(|_| ReadFault::Memory)?)
 }
 
 // What entries say, up to the first that says no outcome.
@@ -194,17 +191,6 @@ impl Entries {
             has_bad: false,
         }
     }
-
-    // The outcomes, or the place of the first entry that says none.
-    fn into_outcomes(self) -> Result<Vec<Outcome>, ReplyFault>
-        ensures ok { IfOk result (λ v. (ds : Items) → HoldsEntries self ds → AreEntries ds v.items) }
-        ensures err { IfErr result (λ e. (ds : Items) → HoldsEntries self ds → IsFaultOfEntries ds e) }
-    {
-        if self.has_bad {
-            return Err(ReplyFault::BadItem(self.outcomes.len() as u64));
-        }
-        Ok(self.outcomes)
-    }
 }
 
 impl<'t> Collect<'t> for Entries {
@@ -218,15 +204,10 @@ impl<'t> Collect<'t> for Entries {
             return Ok(());
         }
         match read_entry(self.alloc, walk)? {
-            Some(outcome) => match self.outcomes.push(outcome) {
-                Ok(()) => Ok(()),
-                Err(_) => Err(ReadFault::Memory),
-            },
-            None => {
-                self.has_bad = true;
-                Ok(())
-            }
+            Some(outcome) => self.outcomes.push(outcome).map_err(|_| ReadFault::Memory)?,
+            None => self.has_bad = true,
         }
+        Ok(())
     }
 }
 
@@ -265,24 +246,20 @@ pub fn read_reply(alloc: Global, bytes: &[u8]) -> Result<Vec<Outcome>, ReplyFaul
     ensures err { IfErr result (λ e. IsFaultOf bytes.now e) }
 {
     let mut scratch = Scratch::new(alloc);
-    match read_object(
-        bytes,
-        &mut scratch,
-        Reply {
-            alloc,
-            entries: None,
-        },
-    ) {
-        Ok(
-            Some(
-                Reply {
-                    entries: Some(entries),
-                    ..
-                },
-            ),
-        ) => entries.into_outcomes(),
-        Ok(_) => Err(ReplyFault::NoItems),
-        Err(ReadFault::NotJson) => Err(ReplyFault::NotJson),
-        Err(ReadFault::Memory) => Err(ReplyFault::Memory),
+    let start = Reply {
+        alloc,
+        entries: None,
+    };
+    let found = match read_object(bytes, &mut scratch, start) {
+        Ok(found) => found,
+        Err(ReadFault::NotJson) => return Err(ReplyFault::NotJson),
+        Err(ReadFault::Memory) => return Err(ReplyFault::Memory),
+    };
+    let Some(entries) = found.and_then(|reply| reply.entries) else {
+        return Err(ReplyFault::NoItems);
+    };
+    if entries.has_bad {
+        return Err(ReplyFault::BadItem(entries.outcomes.len() as u64));
     }
+    Ok(entries.outcomes)
 }
