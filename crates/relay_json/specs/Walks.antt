@@ -1,5 +1,5 @@
 -- Values of a text, read where they begin (RFC 8259, section 2).
-use Rattle.std.specs.Prelude.{◌≡◌, ℕ, ◌+◌, List, ◌∷◌, Option, Some, None, MatchOption}
+use Rattle.std.specs.Prelude.{◌≡◌, ℕ, ◌+◌, List, ◌∷◌, Option, Some, None, MatchOption, Result, Ok, Err}
 use Rattle.json.specs.Token.{Token}
 use Rattle.json.specs.Json.{value}
 use Rattle.serde_json.specs.Data.{Data, Num, null, boolean, number, string, array, object, Items, Members}
@@ -41,6 +41,11 @@ IsLeaf leaf.Object d = (ms : Members) × (d ≡ object ms)
 -- what was made of the members, where the data is an object
 abbrev pub Gathered : {G : Type 0} → (G → Members → Type 0) → Data → Option G → Type 0
 Gathered Holds d found = MatchOption found (as_object d ≡ None) (λ g. (ms : Members) × (as_object d ≡ Some ms) × Holds g ms)
+
+-- the same, or what the data is at its top
+abbrev pub GatheredOrLeaf : {G : Type 0} → (G → Members → Type 0) → Data → Result G Leaf → Type 0
+GatheredOrLeaf Holds d (Ok g) = (ms : Members) × (as_object d ≡ Some ms) × Holds g ms
+GatheredOrLeaf Holds d (Err leaf) = (as_object d ≡ None) × IsLeaf leaf d
 
 -- what was made of the items, where the data is an array
 abbrev pub Collected : {C : Type 0} → (C → Items → Type 0) → Data → Option C → Type 0

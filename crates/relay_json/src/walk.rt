@@ -1,5 +1,5 @@
 //! A text read from its front to its end.
-ghost use Rattle.std.specs.Prelude.{◌≡◌, ◌≢◌, ◌+◌, ◌<◌, [], ◌∷◌, List, length, None, Some, Err, IfOk, IfErr, OnOk, OnErr, IsUtf8};
+ghost use Rattle.std.specs.Prelude.{◌≡◌, ◌≢◌, ◌+◌, ◌<◌, [], ◌∷◌, List, length, None, Some, Err, IfOk, IfErr, OnOk, OnErr, MatchOption, IsUtf8};
 ghost use Rattle.std.specs.Bool.{MatchBool};
 ghost use Rattle.json.specs.Token.{Token as SpecToken, begin_array, begin_object};
 ghost use Rattle.json.specs.Json.{items, members, value};
@@ -11,7 +11,7 @@ ghost use Rattle.serde_json.specs.Find.{as_array, as_object};
 ghost use Rattle.serde_json.specs.Read.{number_of, of_items, of_members, converted, max_depth};
 ghost use Rattle.relay_json.specs.Items.{and_item};
 ghost use Rattle.relay_json.specs.Sole.{SoleObject, HoldsSole};
-ghost use Rattle.relay_json.specs.Walks.{Reads, Refuses, IsRead, IsRefused, IsLeaf, Opens, Gathered, Collected};
+ghost use Rattle.relay_json.specs.Walks.{Reads, Refuses, IsRead, IsRefused, IsLeaf, Opens, Gathered, GatheredOrLeaf, Collected};
 
 use crate::fault::ReadFault;
 use crate::leaf::Leaf;
@@ -248,10 +248,11 @@ impl<'t> Walk<'t> {
         Ok(collected)
     }
 
-    // Whether the next value is an object. Then its opening bracket was taken, else all of it was passed.
-    pub(crate) fn opens_object(&mut self) -> Result<bool, ReadFault>
-        ensures ok { IfOk result (λ opened. MatchBool opened (Opens begin_object self.old self.new)
-            ((d : Data) × IsRead self.old d self.new × (as_object d ≡ None))) }
+    // What the next value is at its top, and all of it is passed; `None` where it is an object, and then
+    // its opening bracket was taken.
+    pub(crate) fn leaf_or_object(&mut self) -> Result<Option<Leaf<'t>>, ReadFault>
+        ensures ok { IfOk result (λ found. MatchOption found (Opens begin_object self.old self.new)
+            (λ leaf. (d : Data) × IsRead self.old d self.new × (as_object d ≡ None) × IsLeaf leaf d)) }
         ensures err { IfErr result (λ e. (e ≡ ReadFault.NotJson) × IsRefused self.old) }
     {
         let token = self.reader.next().ok_or(Invalid)?;
@@ -260,10 +261,9 @@ impl<'t> Walk<'t> {
                 return Err(ReadFault::NotJson);
             }
             self.depth -= 1;
-            return Ok(true);
+            return Ok(None);
         }
-        pass_from(token, &mut self.reader, self.depth)?;
-        Ok(false)
+        Ok(Some(pass_from(token, &mut self.reader, self.depth)?))
     }
 
     // Whether the next value is an array. Then its opening bracket was taken, else all of it was passed.
@@ -284,6 +284,26 @@ impl<'t> Walk<'t> {
         Ok(false)
     }
 
+    /// Reads the next value, and where it is an object tells of its members; else it answers what the
+    /// value is at its top.
+    pub fn gather_or_leaf<G: Gather<'t>>(
+        &mut self,
+        start: G,
+    ) -> Result<Result<G, Leaf<'t>>, ReadFault>
+        requires { G.Holds start no_members }
+        ensures ok { IfOk result (λ found. (d : Data) × IsRead self.old d self.new × GatheredOrLeaf G.Holds d found) }
+        ensures not_json { result ≡ Err ReadFault.NotJson → IsRefused self.old }
+        ensures memory { result ≡ Err ReadFault.Memory → G.MayFail }
+    {
+        let depth = self.depth;
+        if let Some(leaf) = self.leaf_or_object()? {
+            return Ok(Err(leaf));
+        }
+        let gathered = self.members(start)?;
+        self.depth = depth;
+        Ok(Ok(gathered))
+    }
+
     /// Reads the next value, and where it is an object tells of its members.
     pub fn gather<G: Gather<'t>>(&mut self, start: G) -> Result<Option<G>, ReadFault>
         requires { G.Holds start no_members }
@@ -291,13 +311,7 @@ impl<'t> Walk<'t> {
         ensures not_json { result ≡ Err ReadFault.NotJson → IsRefused self.old }
         ensures memory { result ≡ Err ReadFault.Memory → G.MayFail }
     {
-        let depth = self.depth;
-        if !self.opens_object()? {
-            return Ok(None);
-        }
-        let gathered = self.members(start)?;
-        self.depth = depth;
-        Ok(Some(gathered))
+        Ok(self.gather_or_leaf(start)?.ok())
     }
 
     /// Reads the next value, and where it is an array tells of its items.
@@ -325,7 +339,7 @@ impl<'t> Walk<'t> {
         ensures memory { result ≡ Err ReadFault.Memory → F.MayFail }
     {
         let depth = self.depth;
-        if !self.opens_object()? {
+        if self.leaf_or_object()?.is_some() {
             return Ok(None);
         }
         let found = self.sole_member()?;

@@ -1,7 +1,7 @@
 pub mod Lists
 pub mod Entries
 pub mod Same
-pub mod Ahead
+pub mod OneMore
 pub mod Excluded
 pub mod Fates
 pub mod ReadsBack

@@ -1,29 +1,63 @@
--- For private clauses: what is looked up in an entry, and what a loop over entries has found.
-use Rattle.std.specs.Prelude.{◌≡◌, ℕ, Bool, true, false, List, [], ◌∷◌, ◌++◌, codes, nat_le, ◌&&◌, Option, None, Some, option_and_then, if◌then◌else◌}
-use Rattle.serde_json.specs.Data.{Data, Items}
-use Rattle.serde_json.specs.Find.{get, as_str, as_number, as_u64}
+-- For private clauses: what was found of the members and the items of a reply that were read so far.
+use Rattle.std.specs.Prelude.{◌≡◌, ℕ, Bool, true, false, List, [], length, codes, nat_le, ◌&&◌, is_some, Option, None, Some, MatchOption, option_map, option_and_then, if◌then◌else◌}
+use Rattle.serde_json.specs.Data.{Data, Items, Members}
+use Rattle.serde_json.specs.Find.{get_member, as_array, as_null, as_number, as_str, as_u64}
 use Rattle.relay_results.specs.declared.outcome.Outcome.{Outcome}
-use Rattle.relay_results.specs.declared.reading.ReplyFault.{ReplyFault}
-use Rattle.relay_results.specs.declared.reading.ReplyFault.TheVariants as fault
-use Rattle.relay_results.specs.Replies.{IsEntry, IsNoEntry, IsBadAt}
+use Rattle.relay_results.specs.declared.reading.EntryFields.{EntryFields}
+use Rattle.relay_results.specs.declared.reading.Entries.{Entries}
+use Rattle.relay_results.specs.declared.reading.ErrorType.{ErrorType}
+use Rattle.relay_results.specs.declared.reading.Reply.{Reply}
+use Rattle.relay_results.specs.Replies.{IsCut, error_limit, error_type, IsNoEntry, AreEntries, IsBadAt}
 
-abbrev pub id_in : Data → Option (List ℕ)
-id_in fields = option_and_then as_str (get (codes "_id") fields)
+-- ---- an error
+
+-- the text under a name
+abbrev pub text_at : List ℕ → Members → Option (List ℕ)
+text_at name ms = option_and_then as_str (get_member name ms)
+
+abbrev pub HoldsType : ErrorType → Members → Type 0
+HoldsType e ms = option_map (λ t. t.now) e.text ≡ text_at (codes "type") ms
+
+-- the type that an error tells, the empty text where it tells none; nothing where it is null
+abbrev pub told_error : Data → Option (List ℕ)
+told_error d = if is_some (as_null d) then None else Some (error_type d)
+
+-- an outcome keeps the front of it
+abbrev pub KeepsError : Option (List ℕ) → Option (List ℕ) → Type 0
+KeepsError None kept = kept ≡ None
+KeepsError (Some text) kept = (front : List ℕ) × IsCut error_limit text front × (kept ≡ Some front)
+
+-- ---- an entry
 
 abbrev pub in_range : ℕ → Option ℕ
 in_range n = if nat_le 100 n && nat_le n 599 then Some n else None
 
-abbrev pub status_in : Data → Option ℕ
-status_in fields = option_and_then in_range (option_and_then as_u64 (option_and_then as_number (get (codes "status") fields)))
+abbrev pub status_of : Data → Option ℕ
+status_of d = option_and_then in_range (option_and_then as_u64 (as_number d))
 
--- the entry's outcome was added, or it says none
-abbrev pub PushesEntry : Data → List Outcome → List Outcome → Bool → Type 0
-PushesEntry d old new true = (o : Outcome) × IsEntry d o × (new ≡ old ++ o ∷ [])
-PushesEntry d old new false = IsNoEntry d
+pub record HoldsFields (fields : EntryFields) (ms : Members) : Type 0 where
+  pub id : option_map (λ t. t.now) fields.id ≡ text_at (codes "_id") ms
+  pub status : fields.status ≡ option_and_then status_of (get_member (codes "status") ms)
+  pub error : option_map (λ t. t.now) fields.error ≡ option_and_then told_error (get_member (codes "error") ms)
 
--- the fault of entries
-abbrev pub IsFaultOfEntries : Items → ReplyFault → Type 0
-IsFaultOfEntries ds fault.NotJson = ⊥
-IsFaultOfEntries ds fault.NoItems = ⊥
-IsFaultOfEntries ds (fault.BadItem place) = IsBadAt ds place
-IsFaultOfEntries ds fault.Memory = Unit {0}
+-- ---- entries
+
+-- all of them say an outcome, or the first that says none follows these outcomes
+abbrev pub SayUpTo : Items → List Outcome → Bool → Type 0
+SayUpTo ds os false = AreEntries ds os
+SayUpTo ds os true = IsBadAt ds (length os)
+
+abbrev pub HoldsEntries : Entries → Items → Type 0
+HoldsEntries entries ds = SayUpTo ds entries.outcomes.items entries.has_bad
+
+-- ---- a reply
+
+abbrev pub items_in : Members → Option Items
+items_in ms = option_and_then as_array (get_member (codes "items") ms)
+
+-- what was collected of the items, where there are any
+abbrev pub HoldsItems : Option Entries → Option Items → Type 0
+HoldsItems found items = MatchOption found (items ≡ None) (λ e. (ds : Items) × (items ≡ Some ds) × HoldsEntries e ds)
+
+abbrev pub HoldsReply : Reply → Members → Type 0
+HoldsReply reply ms = HoldsItems reply.entries (items_in ms)

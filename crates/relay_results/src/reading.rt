@@ -1,15 +1,15 @@
 //! Replies read.
-ghost use Rattle.std.specs.Prelude.{◌≡◌, ℕ, List, [], Bool, true, Option, Some, None, IfOk, IfErr, MatchOption, codes, option_map, option_and_then, is_some, unwrap_or, IsUtf8};
-ghost use Rattle.serde_json.specs.Data.{Data};
-ghost use Rattle.serde_json.specs.Find.{as_array, as_str, get};
-ghost use Rattle.relay_json.specs.Sole.{sole_member};
-ghost use Rattle.relay_json.specs.Values.{data_of, items_of, root_of};
-ghost use Rattle.relay_results.specs.Replies.{ReadsAs, IsCut, error_limit, error_member, error_type, SaysError, IsEntry, IsNoEntry, AreEntries, IsReply, IsFaultOf};
-ghost use Rattle.relay_results.specs.Parts.{id_in, status_in, PushesEntry, IsFaultOfEntries};
+ghost use Rattle.std.specs.Prelude.{◌≡◌, false, Option, Some, None, Err, IfOk, IfErr, OnOk, MatchOption, option_map};
+ghost use Rattle.serde_json.specs.Data.{Data, object, Items, no_items, Members, member, no_members, put};
+ghost use Rattle.relay_json.specs.Items.{and_item};
+ghost use Rattle.relay_json.specs.Sole.{SoleObject};
+ghost use Rattle.relay_json.specs.Walks.{IsLeaf, IsRead, IsRefused};
+ghost use Rattle.relay_results.specs.Replies.{IsCut, error_limit, IsEntry, IsNoEntry, IsReply, IsFaultOf};
+ghost use Rattle.relay_results.specs.Parts.{status_of, told_error, KeepsError, HoldsType, HoldsFields, HoldsEntries, HoldsReply};
 
 use crate::outcome::Outcome;
 use relay_action::{ActionKind, Text};
-use relay_json::{Items, ReadFault, Scratch, Tree, Value};
+use relay_json::{Collect, Fields, Gather, Leaf, ReadFault, Scratch, Walk, read_object};
 use std::alloc::{AllocError, Global};
 use thiserror::Error;
 
@@ -34,38 +34,85 @@ pub enum ReplyFault {
     Memory,
 }
 
-// The value of a text.
-fn value_of<'t>(
-    alloc: Global,
-    bytes: &'t [u8],
-    scratch: &'t mut Scratch,
-) -> Result<Tree<'t>, ReplyFault>
-    ensures ok { IfOk result (λ t. ReadsAs bytes.now (root_of t)) }
-    ensures err { IfErr result (λ e. IsFaultOf bytes.now e) }
-{
-    match Tree::read(alloc, bytes, scratch) {
-        Ok(tree) => Ok(tree),
-        Err(ReadFault::NotJson) => Err(ReplyFault::NotJson),
-        Err(ReadFault::Memory) => Err(ReplyFault::Memory),
+// The type that an error tells, where it tells one.
+#[derive(Drop)]
+struct ErrorType<'t> {
+    text: Option<&'t str>,
+}
+
+impl<'t> Gather<'t> for ErrorType<'t> {
+    ghost Holds = { HoldsType };
+
+    ghost MayFail = { ⊥ };
+
+    fn member(&mut self, name: &'t str, walk: &mut Walk<'t>) -> Result<(), ReadFault> {
+        let leaf = walk.leaf()?;
+        if name == "type" {
+            self.text = leaf.as_str();
+        }
+        Ok(())
     }
 }
 
-// The id of an entry.
-fn id_in<'t>(fields: Value<'_, 't>) -> Option<&'t str>
-    ensures { option_map (λ t. t.now) result ≡ id_in (data_of fields.entry) }
+// The type of an error; the empty text where it tells none, and nothing where it is null.
+fn read_error<'t>(walk: &mut Walk<'t>) -> Result<Option<&'t str>, ReadFault>
+    ensures ok { IfOk result (λ e. (d : Data) × IsRead walk.old d walk.new
+        × (option_map (λ t. t.now) e ≡ told_error d)) }
+    ensures err { IfErr result (λ e. (e ≡ ReadFault.NotJson) × IsRefused walk.old) }
 {
-    fields.get("_id").and_then(Value::as_str)
+    match walk.gather_or_leaf(ErrorType { text: None })? {
+        Ok(error) => Ok(Some(error.text.unwrap_or(""))),
+        Err(Leaf::Null) => Ok(None),
+        Err(_) => Ok(Some("")),
+    }
 }
 
-// The status of an entry, where it is one.
-fn status_in(fields: Value<'_, '_>) -> Option<u16>
-    ensures { result ≡ status_in (data_of fields.entry) }
+// The status that a value is, where it is one.
+fn status_of(leaf: Leaf<'_>) -> Option<u16>
+    ensures { (d : Data) → IsLeaf leaf.entry d → result ≡ status_of d }
 {
-    let status = fields.get("status").and_then(Value::as_u64)?;
+    let status = leaf.as_u64()?;
     if 100 <= status && status <= 599 {
         Some(status as u16)
     } else {
         None
+    }
+}
+
+// What counts of the value of an entry's member: its id and its status, where they are of the form,
+// and the type of its error, unless it has none.
+#[derive(Drop)]
+struct EntryFields<'t> {
+    id: Option<&'t str>,
+    status: Option<u16>,
+    error: Option<&'t str>,
+}
+
+impl<'t> Gather<'t> for EntryFields<'t> {
+    ghost Holds = { HoldsFields };
+
+    ghost MayFail = { ⊥ };
+
+    fn member(&mut self, name: &'t str, walk: &mut Walk<'t>) -> Result<(), ReadFault> {
+        match name {
+            "_id" => self.id = walk.leaf()?.as_str(),
+            "status" => self.status = status_of(walk.leaf()?),
+            "error" => self.error = read_error(walk)?,
+            _ => {
+                walk.leaf()?;
+            }
+        }
+        Ok(())
+    }
+}
+
+impl<'t> Fields<'t> for EntryFields<'t> {
+    fn none() -> EntryFields<'t> {
+        EntryFields {
+            id: None,
+            status: None,
+            error: None,
+        }
     }
 }
 
@@ -76,96 +123,114 @@ fn cut(text: &str) -> &str
     &text[..text.floor_char_boundary(ERROR_LIMIT)]
 }
 
-// The type that an error tells.
-fn error_type<'t>(error: Value<'_, 't>) -> &'t str
-    ensures { result.now ≡ error_type (data_of error.entry) }
+// What an outcome keeps of an error's type.
+fn error_text(alloc: Global, error: Option<&str>) -> Result<Option<Text>, AllocError>
+    ensures { IfOk result (λ e. KeepsError (option_map (λ t. t.now) error.entry) e) }
 {
-    error.get("type").and_then(Value::as_str).unwrap_or("")
-}
-
-// What an entry says of an error.
-fn error_in(alloc: Global, fields: Value<'_, '_>) -> Result<Option<Text>, AllocError>
-    ensures { IfOk result (λ e. SaysError (error_member (data_of fields.entry)) e) }
-{
-    match fields.get("error") {
-        Some(error) if !error.is_null() => Ok(Some(Text::new(alloc, cut(error_type(error)))?)),
-        _ => Ok(None),
+    match error {
+        Some(text) => Ok(Some(Text::new(alloc, cut(text))?)),
+        None => Ok(None),
     }
 }
 
-// The outcome that an entry says, if it says one.
-fn read_entry(alloc: Global, value: Value<'_, '_>) -> Result<Option<Outcome>, AllocError>
-    ensures { IfOk result
-        (λ r. MatchOption r (IsNoEntry (data_of value.entry)) (IsEntry (data_of value.entry))) }
+// The outcome that an entry says whose one member has this name, if it says one.
+fn outcome_of(
+    alloc: Global,
+    name: &str,
+    fields: &EntryFields<'_>,
+) -> Result<Option<Outcome>, AllocError>
+    ensures { IfOk result (λ r. (ms : Members) → HoldsFields fields.now ms → MatchOption r
+        (IsNoEntry (object (member name.now (object ms) no_members)))
+        (IsEntry (object (member name.now (object ms) no_members)))) }
 {
-    let Some((name, fields)) = value.sole_member() else {
-        return Ok(None);
-    };
-    if !fields.is_object() {
-        return Ok(None);
-    }
     let Some(kind) = ActionKind::named(name) else {
         return Ok(None);
     };
-    let Some(id) = id_in(fields) else {
+    let Some(id) = fields.id else {
         return Ok(None);
     };
-    let Some(status) = status_in(fields) else {
+    let Some(status) = fields.status else {
         return Ok(None);
     };
     Ok(Some(Outcome {
         kind,
         id: Text::new(alloc, id)?,
         status,
-        error: error_in(alloc, fields)?,
+        error: error_text(alloc, fields.error)?,
     }))
 }
 
-// Adds the outcome that an entry says, if it says one, and tells whether it does.
-fn push_entry(
-    alloc: Global,
-    outcomes: &mut Vec<Outcome>,
-    value: Value<'_, '_>,
-) -> Result<bool, AllocError>
-    ensures { IfOk result
-        (λ said. PushesEntry (data_of value.entry) outcomes.old.items outcomes.new.items said) }
+// The outcome that the next value says, if it is an entry that says one.
+fn read_entry(alloc: Global, walk: &mut Walk<'_>) -> Result<Option<Outcome>, ReadFault>
+    ensures ok { IfOk result (λ r. (d : Data) × IsRead walk.old d walk.new
+        × MatchOption r (IsNoEntry d) (IsEntry d)) }
+    ensures not_json { result ≡ Err ReadFault.NotJson → IsRefused walk.old }
 {
-    match read_entry(alloc, value)? {
-        Some(outcome) => {
-            outcomes.push(outcome)?;
-            Ok(true)
-        }
-        None => Ok(false),
-    }
-}
-
-// The outcomes that entries say.
-fn read_entries(alloc: Global, entries: Items<'_, '_>) -> Result<Vec<Outcome>, ReplyFault>
-    ensures ok { IfOk result (λ v. AreEntries (items_of entries.entry) v.items) }
-    ensures err { IfErr result (λ e. IsFaultOfEntries (items_of entries.entry) e) }
-{
-    let count = entries.len();
-    let Ok(mut outcomes) = Vec::with_capacity(alloc, count) else {
-        return Err(ReplyFault::Memory);
+    let Some((name, fields)) = walk.sole_object::<EntryFields<'_>>()? else {
+        return Ok(None);
     };
-    let mut left = entries;
-    'entries: while let Some((value, rest)) = left.split_first() {
-        match push_entry(alloc, &mut outcomes, value) {
-            Ok(true) => {}
-            Ok(false) => return Err(ReplyFault::BadItem((count - left.len()) as u64)),
-            Err(AllocError) => return Err(ReplyFault::Memory),
-        }
-        left = rest;
-    }
-    Ok(outcomes)
+    Ok(outcome_of(alloc, name, &fields).map_err(|_| ReadFault::Memory)?)
 }
 
-// The entries of a reply.
-fn entries_of<'v, 't>(value: Value<'v, 't>) -> Option<Items<'v, 't>>
-    ensures { option_map items_of result
-        ≡ option_and_then as_array (get (codes "items") (data_of value.entry)) }
-{
-    value.get("items").and_then(Value::items)
+// What entries say, up to the first that says no outcome.
+#[derive(Drop)]
+struct Entries {
+    alloc: Global,
+    outcomes: Vec<Outcome>,
+    // Whether the entry after these outcomes says none.
+    has_bad: bool,
+}
+
+impl Entries {
+    fn new(alloc: Global) -> Entries
+        ensures { HoldsEntries result no_items }
+    {
+        Entries {
+            alloc,
+            outcomes: Vec::new(alloc),
+            has_bad: false,
+        }
+    }
+}
+
+impl<'t> Collect<'t> for Entries {
+    ghost Holds = { HoldsEntries };
+
+    ghost MayFail = { Unit {0} };
+
+    fn item(&mut self, walk: &mut Walk<'t>) -> Result<(), ReadFault> {
+        if self.has_bad {
+            walk.leaf()?;
+            return Ok(());
+        }
+        match read_entry(self.alloc, walk)? {
+            Some(outcome) => self.outcomes.push(outcome).map_err(|_| ReadFault::Memory)?,
+            None => self.has_bad = true,
+        }
+        Ok(())
+    }
+}
+
+// What counts of a reply.
+#[derive(Drop)]
+struct Reply {
+    alloc: Global,
+    entries: Option<Entries>,
+}
+
+impl<'t> Gather<'t> for Reply {
+    ghost Holds = { HoldsReply };
+
+    ghost MayFail = { Unit {0} };
+
+    fn member(&mut self, name: &'t str, walk: &mut Walk<'t>) -> Result<(), ReadFault> {
+        if name == "items" {
+            self.entries = walk.collect(Entries::new(self.alloc))?;
+        } else {
+            walk.leaf()?;
+        }
+        Ok(())
+    }
 }
 
 /// The outcomes that the body of a reply of status 200 says, one for each entry, in their order.
@@ -181,9 +246,20 @@ pub fn read_reply(alloc: Global, bytes: &[u8]) -> Result<Vec<Outcome>, ReplyFaul
     ensures err { IfErr result (λ e. IsFaultOf bytes.now e) }
 {
     let mut scratch = Scratch::new(alloc);
-    let tree = value_of(alloc, bytes, &mut scratch)?;
-    let Some(entries) = entries_of(tree.root()) else {
+    let start = Reply {
+        alloc,
+        entries: None,
+    };
+    let found = match read_object(bytes, &mut scratch, start) {
+        Ok(found) => found,
+        Err(ReadFault::NotJson) => return Err(ReplyFault::NotJson),
+        Err(ReadFault::Memory) => return Err(ReplyFault::Memory),
+    };
+    let Some(entries) = found.and_then(|reply| reply.entries) else {
         return Err(ReplyFault::NoItems);
     };
-    read_entries(alloc, entries)
+    if entries.has_bad {
+        return Err(ReplyFault::BadItem(entries.outcomes.len() as u64));
+    }
+    Ok(entries.outcomes)
 }
