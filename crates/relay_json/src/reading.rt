@@ -45,7 +45,7 @@ pub fn read_sole_object<'t, F: Fields<'t>>(
     ensures memory { result ≡ Err ReadFault.Memory → F.MayFail ⊎ (room scratch.old < length text.now) }
 {
     let mut walk = Walk::over(text, scratch)?;
-    let sole = walk.sole_object()?;
+    let sole = walk.sole_object::<F>()?;
     walk.end()?;
     Ok(sole)
 }

@@ -342,7 +342,7 @@ impl<'t> Walk<'t> {
         if self.leaf_or_object()?.is_some() {
             return Ok(None);
         }
-        let found = self.sole_member()?;
+        let found = self.sole_member::<F>()?;
         self.depth = depth;
         Ok(found.object())
     }

@@ -230,20 +230,24 @@ fn members(rt: HostRuntime) -> Result<(), Fail> {
 // The names of members, in their order, a name given twice told twice.
 #[test]
 fn names_of_members(rt: HostRuntime) -> Result<(), Fail> {
-    let rows: [(&str, &[&str]); 5] = [
-        ("{}", &[]),
-        ("{\"a\":1,\"b\":2}", &["a", "b"]),
-        ("{\"c\":{\"x\":[{}]},\"a\":2}", &["c", "a"]),
-        ("{\"a\":1,\"\\u0061\":2}", &["a", "a"]),
-        ("{\"\\u0063\":1,\"\":[1,2],\"d\":null}", &["c", "", "d"]),
+    let rows: [(&str, usize, [&str; 4]); 5] = [
+        ("{}", 0, [""; 4]),
+        ("{\"a\":1,\"b\":2}", 2, ["a", "b", "", ""]),
+        ("{\"c\":{\"x\":[{}]},\"a\":2}", 2, ["c", "a", "", ""]),
+        ("{\"a\":1,\"\\u0061\":2}", 2, ["a", "a", "", ""]),
+        (
+            "{\"\\u0063\":1,\"\":[1,2],\"d\":null}",
+            3,
+            ["c", "", "d", ""],
+        ),
     ];
-    for (text, names) in rows {
+    for (text, count, names) in rows {
         let mut scratch = Scratch::new(rt.alloc());
         let told = read_object(text.as_bytes(), &mut scratch, Told::none())
             .ok()
             .flatten()
             .ok_or("an object")?;
-        assert!(rt; &told.names[..told.count] == names);
+        assert!(rt; told.count == count && told.names == names);
     }
     Ok(())
 }
@@ -349,11 +353,20 @@ fn kinds(rt: HostRuntime) -> Result<(), Fail> {
 // The items of an array, in their order.
 #[test]
 fn items_in_order(rt: HostRuntime) -> Result<(), Fail> {
-    let rows: [(&str, Option<&[Option<u64>]>); 6] = [
-        ("{\"a\":[3,1,2]}", Some(&[Some(3), Some(1), Some(2)])),
-        ("{\"a\":[]}", Some(&[])),
-        ("{\"a\":[{\"x\":[1]},[5],7]}", Some(&[None, None, Some(7)])),
-        ("{\"a\":[1],\"b\":[2],\"a\":[4]}", Some(&[Some(4)])),
+    let rows: [(&str, Option<(usize, [Option<u64>; 4])>); 6] = [
+        (
+            "{\"a\":[3,1,2]}",
+            Some((3, [Some(3), Some(1), Some(2), None])),
+        ),
+        ("{\"a\":[]}", Some((0, [None; 4]))),
+        (
+            "{\"a\":[{\"x\":[1]},[5],7]}",
+            Some((3, [None, None, Some(7), None])),
+        ),
+        (
+            "{\"a\":[1],\"b\":[2],\"a\":[4]}",
+            Some((1, [Some(4), None, None, None])),
+        ),
         ("{\"a\":[1],\"a\":{}}", None),
         ("{\"a\":7}", None),
     ];
@@ -363,12 +376,48 @@ fn items_in_order(rt: HostRuntime) -> Result<(), Fail> {
             .ok()
             .flatten()
             .ok_or("an object")?;
-        match (listed.items, integers) {
-            (Some(items), Some(integers)) => assert!(rt;
-                &items.integers[..items.count] == integers
-            ),
-            (found, integers) => assert!(rt; found.is_none() && integers.is_none()),
-        }
+        assert!(rt; listed.items.map(|items| (items.count, items.integers)) == integers);
+    }
+    Ok(())
+}
+
+// How many members the last member has, where it is an object, and else what it is at its top.
+#[derive(Clone, Copy, Drop)]
+struct Last<'t> {
+    last: Result<usize, Leaf<'t>>,
+}
+
+impl<'t> Gather<'t> for Last<'t> {
+    ghost Holds = { λ _ _. ⊤ };
+
+    ghost MayFail = { ⊤ };
+
+    fn member(&mut self, _: &'t str, walk: &mut Walk<'t>) -> Result<(), ReadFault> {
+        self.last = walk.gather_or_leaf(Told::none())?.map(|told| told.count);
+        Ok(())
+    }
+}
+
+#[test]
+fn objects_or_leaves(rt: HostRuntime) -> Result<(), Fail> {
+    let rows: [(&str, Result<usize, Leaf>); 6] = [
+        ("{\"a\":{}}", Ok(0)),
+        ("{\"a\":7,\"b\":{\"x\":1,\"y\":{\"z\":2}}}", Ok(2)),
+        ("{\"a\":{},\"a\":7}", Err(Leaf::Number("7"))),
+        ("{\"a\":null}", Err(Leaf::Null)),
+        ("{\"a\":[{\"x\":1}]}", Err(Leaf::Array)),
+        ("{\"a\":\"{}\"}", Err(Leaf::String("{}"))),
+    ];
+    for (text, last) in rows {
+        let mut scratch = Scratch::new(rt.alloc());
+        let start = Last {
+            last: Err(Leaf::Null),
+        };
+        let found = read_object(text.as_bytes(), &mut scratch, start)
+            .ok()
+            .flatten()
+            .ok_or("an object")?;
+        assert!(rt; found.last == last);
     }
     Ok(())
 }
