@@ -44,7 +44,7 @@ impl<'t> Fields<'t> for Told<'t> {
 }
 
 // The integers of the items of an array, as far as they are such.
-#[derive(Clone, Copy, Drop)]
+#[derive(Clone, Copy, PartialEq, Drop)]
 struct Integers {
     integers: [Option<u64>; 4],
     count: usize,
@@ -350,22 +350,26 @@ fn kinds(rt: HostRuntime) -> Result<(), Fail> {
     Ok(())
 }
 
+fn of_items(count: usize, integers: [Option<u64>; 4]) -> Option<Integers> {
+    Some(Integers { integers, count })
+}
+
 // The items of an array, in their order.
 #[test]
 fn items_in_order(rt: HostRuntime) -> Result<(), Fail> {
-    let rows: [(&str, Option<(usize, [Option<u64>; 4])>); 6] = [
+    let rows: [(&str, Option<Integers>); 6] = [
         (
             "{\"a\":[3,1,2]}",
-            Some((3, [Some(3), Some(1), Some(2), None])),
+            of_items(3, [Some(3), Some(1), Some(2), None]),
         ),
-        ("{\"a\":[]}", Some((0, [None; 4]))),
+        ("{\"a\":[]}", of_items(0, [None; 4])),
         (
             "{\"a\":[{\"x\":[1]},[5],7]}",
-            Some((3, [None, None, Some(7), None])),
+            of_items(3, [None, None, Some(7), None]),
         ),
         (
             "{\"a\":[1],\"b\":[2],\"a\":[4]}",
-            Some((1, [Some(4), None, None, None])),
+            of_items(1, [Some(4), None, None, None]),
         ),
         ("{\"a\":[1],\"a\":{}}", None),
         ("{\"a\":7}", None),
@@ -376,7 +380,7 @@ fn items_in_order(rt: HostRuntime) -> Result<(), Fail> {
             .ok()
             .flatten()
             .ok_or("an object")?;
-        assert!(rt; listed.items.map(|items| (items.count, items.integers)) == integers);
+        assert!(rt; listed.items == integers);
     }
     Ok(())
 }
