@@ -4,22 +4,36 @@ ghost use Rattle.std.specs.Cmp.Rules.{comparing, hashing};
 ghost use Rattle.std.specs.Hash as fed;
 ghost use Rattle.std.proofs.Common.{rules};
 
+use arrayvec::ArrayString;
 use std::alloc::{AllocError, Global};
+use std::fmt;
 use std::hash::{Hash, Hasher};
 use std::marker::Model;
 
-/// A UTF-8 text, owned. Two texts are equal where their bytes are.
-#[derive(Debug, Drop)]
+// The most bytes of a text that lies in the value itself: a UUID takes 36.
+const SHORT: usize = 40;
+
+// Where the bytes of a text lie.
+#[derive(Drop)]
+enum Held {
+    Short(ArrayString<SHORT>),
+    Long(String),
+}
+
+/// A UTF-8 text, owned. Two texts are equal where their bytes are. One of up to 40 bytes takes no
+/// memory but that of the value.
+#[derive(Drop)]
 pub struct Text {
-    held: String,
+    held: Held,
 }
 
 impl Model for Text {
-    ghost use Rattle.std.specs.Prelude.{List, ℕ, string_bytes};
+    ghost use Rattle.std.specs.Prelude.{List, ℕ};
+    ghost use Rattle.relay_action.specs.Texts.{held_bytes};
 
     ghost Value = { List ℕ };
 
-    ghost view = { λ t. string_bytes t.held };
+    ghost view = { λ t. held_bytes t.held };
 }
 
 impl Text {
@@ -28,16 +42,19 @@ impl Text {
         ensures { IfOk result (λ t. t ≡ text.now) }
     {
         Ok(Text {
-            held: String::from_str(alloc, text)?,
+            held: match ArrayString::from(text) {
+                Ok(short) => Held::Short(short),
+                Err(_) => Held::Long(String::from_str(alloc, text)?),
+            },
         })
     }
 
-    /// The text of no bytes. It takes no memory.
-    pub fn empty(alloc: Global) -> Text
+    /// The text of no bytes.
+    pub fn empty() -> Text
         ensures { result ≡ [] }
     {
         Text {
-            held: String::new(alloc),
+            held: Held::Short(ArrayString::new()),
         }
     }
 
@@ -45,7 +62,10 @@ impl Text {
     pub fn as_str(&self) -> &str
         ensures { result.now ≡ self.now }
     {
-        self.held.as_str()
+        match &self.held {
+            Held::Short(short) => short.as_str(),
+            Held::Long(long) => long.as_str(),
+        }
     }
 
     /// An equal text. `AllocError`: there was no memory for its bytes.
@@ -53,8 +73,17 @@ impl Text {
         ensures { IfOk result (λ t. t ≡ self.now) }
     {
         Ok(Text {
-            held: self.held.clone()?,
+            held: match &self.held {
+                Held::Short(short) => Held::Short(*short),
+                Held::Long(long) => Held::Long(long.clone()?),
+            },
         })
+    }
+}
+
+impl fmt::Debug for Text {
+    fn fmt<W: fmt::Write>(&self, f: &mut fmt::Formatter<W>) -> fmt::Result {
+        fmt::Debug::fmt(self.as_str(), f)
     }
 }
 

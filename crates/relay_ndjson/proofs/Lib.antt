@@ -14,7 +14,6 @@ pub mod TwoLines
 mod LineEnds
 pub mod Versioning
 pub mod Bodies
-pub mod SameWrites
 pub mod OneBody
 pub mod OneOperation
 pub mod Written

@@ -17,7 +17,7 @@ use Rattle.relay_ndjson.proofs.Deciding.{key_none}
 use Rattle.relay_ndjson.proofs.Fronts.{not_unbroken, rejoined, some_same, one_text, no_text_at_end, no_text_at_long, no_long_at_end}
 use Rattle.relay_ndjson.proofs.Exclusion.{source_none, some_kind}
 use Rattle.relay_ndjson.proofs.Versioning.{says_none, asks_one}
-use Rattle.relay_ndjson.proofs.SameWrites.{same_key, same_source, same_write}
+use Rattle.relay_action.proofs.SameWrites.{same_key, same_source, same_write}
 
 -- ---- lines
 

@@ -16,7 +16,7 @@ use Rattle.relay_ndjson.specs.Laws.{OneOperation, HoldsOperation, NoOperationAtR
 use Rattle.relay_ndjson.proofs.Deciding.{one_name}
 use Rattle.relay_ndjson.proofs.Fronts.{Shows, shown_rest, shows_on, one_text, some_same, nil_of, prefix, rejoined, no_text_at_end}
 use Rattle.relay_ndjson.proofs.Exclusion.{Stops, Compared, shows_behind, compare_blank, stopped, front_of, says_stops}
-use Rattle.relay_ndjson.proofs.SameWrites.{same_key, same_source}
+use Rattle.relay_action.proofs.SameWrites.{same_key, same_source}
 use Rattle.relay_ndjson.proofs.Totality.{decide_le}
 use Rattle.relay_ndjson.proofs.Versioning.{same_object}
 
