@@ -29,9 +29,7 @@ pub fn read_object<'t, G: Gather<'t>>(
 {
     let mut walk = Walk::over(text, scratch)?;
     let found = walk.gather(start)?;
-    if !walk.is_at_end() {
-        return Err(ReadFault::NotJson);
-    }
+    walk.end()?;
     Ok(found)
 }
 
@@ -47,9 +45,7 @@ pub fn read_sole_object<'t, F: Fields<'t>>(
     ensures memory { result ≡ Err ReadFault.Memory → F.MayFail ⊎ (room scratch.old < length text.now) }
 {
     let mut walk = Walk::over(text, scratch)?;
-    let found = walk.sole_object()?;
-    if !walk.is_at_end() {
-        return Err(ReadFault::NotJson);
-    }
-    Ok(found)
+    let sole = walk.sole_object::<F>()?;
+    walk.end()?;
+    Ok(sole)
 }

@@ -176,11 +176,16 @@ impl<'t> Walk<'t> {
         })
     }
 
-    // Whether nothing is left.
-    pub(crate) fn is_at_end(&mut self) -> bool
-        ensures { MatchBool result (self.old.reader ≡ []) ((t : SpecToken) × (ts : List SpecToken) × (self.old.reader ≡ t ∷ ts)) }
+    // Nothing may be left.
+    pub(crate) fn end(&mut self) -> Result<(), ReadFault>
+        ensures ok { OnOk result (self.old.reader ≡ []) }
+        ensures err { IfErr result (λ e. (e ≡ ReadFault.NotJson)
+            × (t : SpecToken) × (ts : List SpecToken) × (self.old.reader ≡ t ∷ ts)) }
     {
-        self.reader.next().is_none()
+        if self.reader.next().is_some() {
+            return Err(ReadFault::NotJson);
+        }
+        Ok(())
     }
 
     /// What the next value is at its top. It passes the value.
@@ -337,7 +342,7 @@ impl<'t> Walk<'t> {
         if self.leaf_or_object()?.is_some() {
             return Ok(None);
         }
-        let found = self.sole_member()?;
+        let found = self.sole_member::<F>()?;
         self.depth = depth;
         Ok(found.object())
     }

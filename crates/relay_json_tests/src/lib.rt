@@ -1,4 +1,4 @@
-//! The tests of `relay_json`: texts read, and looked into.
+//! The tests of `relay_json`: texts read, and what counts of them.
 #![tactic(auto)]
 
 #[cfg(test)]

@@ -1,14 +1,98 @@
-//! Texts read, and looked into.
-ghost use Rattle.std.specs.Prelude.{◌||◌, bytes_eq, codes};
+//! Texts read, and what counts of them.
+ghost use Rattle.std.specs.Prelude.{⊤};
 
-use relay_json::{Names, ReadFault, Scratch, Tree};
+use relay_json::{
+    Collect, Fields, Gather, Leaf, ReadFault, Scratch, Walk, read_object, read_sole_object,
+};
 use std::alloc::{AllocError, Global};
 use std::test::Fail;
+
+// What is told of the members of an object: their names, and the last value of the name `a`.
+#[derive(Clone, Copy, Drop)]
+struct Told<'t> {
+    names: [&'t str; 4],
+    count: usize,
+    a: Option<Leaf<'t>>,
+}
+
+impl<'t> Gather<'t> for Told<'t> {
+    ghost Holds = { λ _ _. ⊤ };
+
+    ghost MayFail = { ⊤ };
+
+    fn member(&mut self, name: &'t str, walk: &mut Walk<'t>) -> Result<(), ReadFault> {
+        let leaf = walk.leaf()?;
+        if name == "a" {
+            self.a = Some(leaf);
+        }
+        if self.count < 4 {
+            self.names[self.count] = name;
+            self.count += 1;
+        }
+        Ok(())
+    }
+}
+
+impl<'t> Fields<'t> for Told<'t> {
+    fn none() -> Told<'t> {
+        Told {
+            names: [""; 4],
+            count: 0,
+            a: None,
+        }
+    }
+}
+
+// The integers of the items of an array, as far as they are such.
+#[derive(Clone, Copy, PartialEq, Drop)]
+struct Integers {
+    integers: [Option<u64>; 4],
+    count: usize,
+}
+
+impl<'t> Collect<'t> for Integers {
+    ghost Holds = { λ _ _. ⊤ };
+
+    ghost MayFail = { ⊤ };
+
+    fn item(&mut self, walk: &mut Walk<'t>) -> Result<(), ReadFault> {
+        let leaf = walk.leaf()?;
+        if self.count < 4 {
+            self.integers[self.count] = leaf.as_u64();
+            self.count += 1;
+        }
+        Ok(())
+    }
+}
+
+// The items of the member `a`, where it is an array.
+#[derive(Clone, Copy, Drop)]
+struct Listed {
+    items: Option<Integers>,
+}
+
+impl<'t> Gather<'t> for Listed {
+    ghost Holds = { λ _ _. ⊤ };
+
+    ghost MayFail = { ⊤ };
+
+    fn member(&mut self, name: &'t str, walk: &mut Walk<'t>) -> Result<(), ReadFault> {
+        if name == "a" {
+            self.items = walk.collect(Integers {
+                integers: [None; 4],
+                count: 0,
+            })?;
+        } else {
+            walk.leaf()?;
+        }
+        Ok(())
+    }
+}
 
 // Why a text gives no value, where it gives none.
 fn fault_of(alloc: Global, text: &[u8]) -> Option<ReadFault> {
     let mut scratch = Scratch::new(alloc);
-    Tree::read(alloc, text, &mut scratch).err()
+    read_object(text, &mut scratch, Told::none()).err()
 }
 
 // So many openings, a middle and as many closings, between a front and a back.
@@ -112,166 +196,232 @@ fn depth(rt: HostRuntime) -> Result<(), Fail> {
     Ok(())
 }
 
+// The member `a` of a text that is an object.
+fn member_a<'t>(text: &'t str, scratch: &'t mut Scratch) -> Result<Option<Leaf<'t>>, Fail> {
+    match read_object(text.as_bytes(), scratch, Told::none()) {
+        Ok(Some(told)) => Ok(told.a),
+        Ok(None) => Ok(None),
+        Err(_) => Err("a value")?,
+    }
+}
+
 // The text of a member, of which the last of its name counts.
 #[test]
 fn members(rt: HostRuntime) -> Result<(), Fail> {
-    let alloc = rt.alloc();
-    let rows: [(&str, &str, Option<&str>); 9] = [
-        ("{\"a\":\"x\"}", "a", Some("x")),
-        ("{\"a\":\"x\",\"b\":\"y\"}", "b", Some("y")),
-        ("{\"a\":\"x\",\"a\":\"y\"}", "a", Some("y")),
-        ("{\"a\":\"x\",\"a\":null}", "a", None),
-        ("{\"\\u005fid\":\"z\"}", "_id", Some("z")),
-        ("{\"_id\":\"x\",\"\\u005fid\":\"z\"}", "_id", Some("z")),
-        ("{\"a\":\"\\n\\u00e4\"}", "a", Some("\nä")),
-        ("{\"ab\":\"x\"}", "a", None),
-        ("[\"a\"]", "a", None),
+    let rows: [(&str, Option<&str>); 9] = [
+        ("{\"a\":\"x\"}", Some("x")),
+        ("{\"b\":\"x\",\"a\":\"y\"}", Some("y")),
+        ("{\"a\":\"x\",\"a\":\"y\"}", Some("y")),
+        ("{\"a\":\"x\",\"a\":null}", None),
+        ("{\"\\u0061\":\"z\"}", Some("z")),
+        ("{\"a\":\"x\",\"\\u0061\":\"z\"}", Some("z")),
+        ("{\"a\":\"\\n\\u00e4\"}", Some("\nä")),
+        ("{\"ab\":\"x\"}", None),
+        ("[\"a\"]", None),
     ];
-    let mut scratch = Scratch::new(alloc);
-    for (text, name, found) in rows {
-        let tree = Tree::read(alloc, text.as_bytes(), &mut scratch)
-            .ok()
-            .ok_or("a value")?;
-        let member = tree.root().get(name);
-        assert_eq!(rt; member.and_then(|value| value.as_str()), found);
+    for (text, found) in rows {
+        let mut scratch = Scratch::new(rt.alloc());
+        let leaf = member_a(text, &mut scratch)?;
+        assert_eq!(rt; leaf.and_then(|leaf| leaf.as_str()), found);
     }
     Ok(())
 }
 
-// The one member of an object, and its integer.
-#[test]
-fn sole_members(rt: HostRuntime) -> Result<(), Fail> {
-    let alloc = rt.alloc();
-    let rows: [(&str, Option<(&str, u64)>); 8] = [
-        ("{\"a\":1}", Some(("a", 1))),
-        ("{}", None),
-        ("[]", None),
-        ("{\"a\":1,\"b\":2}", None),
-        ("{\"a\":1,\"a\":2}", Some(("a", 2))),
-        ("{\"a\":1,\"\\u0061\":3}", Some(("a", 3))),
-        ("{\"a\":1,\"a\":2,\"b\":3}", None),
-        ("{\"a\":1,\"b\":2,\"a\":3}", None),
-    ];
-    for (text, sole) in rows {
-        let mut scratch = Scratch::new(alloc);
-        let tree = Tree::read(alloc, text.as_bytes(), &mut scratch)
-            .ok()
-            .ok_or("a value")?;
-        let found = match tree.root().sole_member() {
-            Some((name, value)) => Some((name, value.as_u64().unwrap_or(0))),
-            None => None,
-        };
-        assert_eq!(rt; found, sole);
-    }
-    Ok(())
-}
-
-// Two names.
-struct FirstLetters;
-
-impl Names for FirstLetters {
-    ghost known = { λ name. bytes_eq name (codes "a") || bytes_eq name (codes "b") };
-
-    fn is_known(name: &str) -> bool {
-        name == "a" || name == "b"
-    }
-}
-
+// The names of members, in their order, a name given twice told twice.
 #[test]
 fn names_of_members(rt: HostRuntime) -> Result<(), Fail> {
-    let alloc = rt.alloc();
-    let rows: [(&str, bool); 7] = [
-        ("{\"a\":1,\"b\":2}", true),
-        ("{}", true),
-        ("[\"c\"]", true),
-        ("{\"a\":1,\"c\":2}", false),
-        ("{\"c\":1,\"a\":2}", false),
-        ("{\"a\":1,\"\\u0061\":2}", true),
-        ("{\"\\u0063\":1}", false),
+    let rows: [(&str, usize, [&str; 4]); 5] = [
+        ("{}", 0, [""; 4]),
+        ("{\"a\":1,\"b\":2}", 2, ["a", "b", "", ""]),
+        ("{\"c\":{\"x\":[{}]},\"a\":2}", 2, ["c", "a", "", ""]),
+        ("{\"a\":1,\"\\u0061\":2}", 2, ["a", "a", "", ""]),
+        (
+            "{\"\\u0063\":1,\"\":[1,2],\"d\":null}",
+            3,
+            ["c", "", "d", ""],
+        ),
     ];
-    for (text, known) in rows {
-        let mut scratch = Scratch::new(alloc);
-        let tree = Tree::read(alloc, text.as_bytes(), &mut scratch)
+    for (text, count, names) in rows {
+        let mut scratch = Scratch::new(rt.alloc());
+        let told = read_object(text.as_bytes(), &mut scratch, Told::none())
+            .ok()
+            .flatten()
+            .ok_or("an object")?;
+        assert!(rt; told.count == count && told.names == names);
+    }
+    Ok(())
+}
+
+// The name of the one member, where its value is an object, and the integer `a` in it.
+#[test]
+fn sole_objects(rt: HostRuntime) -> Result<(), Fail> {
+    let rows: [(&str, Option<(&str, Option<u64>)>); 13] = [
+        ("{\"x\":{\"a\":1}}", Some(("x", Some(1)))),
+        ("{\"x\":{}}", Some(("x", None))),
+        ("{}", None),
+        ("[]", None),
+        ("7", None),
+        ("{\"x\":1}", None),
+        ("{\"x\":{},\"y\":{}}", None),
+        ("{\"x\":{\"a\":1},\"x\":{\"a\":2}}", Some(("x", Some(2)))),
+        (
+            "{\"x\":{\"a\":1},\"\\u0078\":{\"a\":3}}",
+            Some(("x", Some(3))),
+        ),
+        ("{\"x\":{\"a\":1},\"x\":{}}", Some(("x", None))),
+        ("{\"x\":{\"a\":1},\"x\":5}", None),
+        ("{\"x\":{},\"x\":{},\"y\":{}}", None),
+        ("{\"x\":{},\"y\":{},\"x\":{}}", None),
+    ];
+    for (text, found) in rows {
+        let mut scratch = Scratch::new(rt.alloc());
+        let sole = read_sole_object::<Told>(text.as_bytes(), &mut scratch)
             .ok()
             .ok_or("a value")?;
-        assert_eq!(rt; tree.root().has_only::<FirstLetters>(), known);
+        assert_eq!(rt;
+            sole.map(|(name, told)| (name, told.a.and_then(|leaf| leaf.as_u64()))),
+            found
+        );
     }
     Ok(())
 }
 
 // Numbers as integers of 64 bits.
 #[test]
-fn integers(rt: HostRuntime) -> Result<(), Fail> {
-    let alloc = rt.alloc();
-    let rows: [(&str, Option<u64>, Option<i64>); 11] = [
-        ("0", Some(0), Some(0)),
-        ("-0", None, None),
-        ("201", Some(201), Some(201)),
-        ("9223372036854775808", Some(9223372036854775808), None),
-        ("9999999999999999999", Some(9999999999999999999), None),
-        ("18446744073709551615", Some(18446744073709551615), None),
-        ("18446744073709551616", None, None),
-        ("-9223372036854775808", None, Some(-9223372036854775808)),
-        ("-1", None, Some(-1)),
-        ("1.0", None, None),
-        ("1e2", None, None),
+fn numbers_as_integers(rt: HostRuntime) -> Result<(), Fail> {
+    let rows: [(&str, Option<u64>, Option<i64>); 12] = [
+        ("{\"a\":0}", Some(0), Some(0)),
+        ("{\"a\":-0}", None, None),
+        ("{\"a\":201}", Some(201), Some(201)),
+        (
+            "{\"a\":9223372036854775808}",
+            Some(9223372036854775808),
+            None,
+        ),
+        (
+            "{\"a\":9999999999999999999}",
+            Some(9999999999999999999),
+            None,
+        ),
+        (
+            "{\"a\":18446744073709551615}",
+            Some(18446744073709551615),
+            None,
+        ),
+        ("{\"a\":18446744073709551616}", None, None),
+        (
+            "{\"a\":-9223372036854775808}",
+            None,
+            Some(-9223372036854775808),
+        ),
+        ("{\"a\":-1}", None, Some(-1)),
+        ("{\"a\":1.0}", None, None),
+        ("{\"a\":1e2}", None, None),
+        ("{\"a\":\"1\"}", None, None),
     ];
     for (text, unsigned, signed) in rows {
-        let mut scratch = Scratch::new(alloc);
-        let tree = Tree::read(alloc, text.as_bytes(), &mut scratch)
-            .ok()
-            .ok_or("a value")?;
-        assert_eq!(rt; tree.root().as_u64(), unsigned);
-        assert_eq!(rt; tree.root().as_i64(), signed);
+        let mut scratch = Scratch::new(rt.alloc());
+        let leaf = member_a(text, &mut scratch)?;
+        assert_eq!(rt; leaf.and_then(|leaf| leaf.as_u64()), unsigned);
+        assert_eq!(rt; leaf.and_then(|leaf| leaf.as_i64()), signed);
     }
     Ok(())
 }
 
-// What kind of value a text is: null, a truth value, an object, and how many items it has.
+// What a value is at its top.
 #[test]
 fn kinds(rt: HostRuntime) -> Result<(), Fail> {
-    let alloc = rt.alloc();
-    let rows: [(&str, bool, Option<bool>, bool, Option<usize>); 7] = [
-        ("null", true, None, false, None),
-        ("true", false, Some(true), false, None),
-        ("false", false, Some(false), false, None),
-        ("{}", false, None, true, None),
-        ("[]", false, None, false, Some(0)),
-        ("[1,null,{}]", false, None, false, Some(3)),
-        ("\"null\"", false, None, false, None),
+    let rows: [(&str, Leaf); 8] = [
+        ("{\"a\":null}", Leaf::Null),
+        ("{\"a\":true}", Leaf::Bool(true)),
+        ("{\"a\":false}", Leaf::Bool(false)),
+        ("{\"a\":{}}", Leaf::Object),
+        ("{\"a\":[]}", Leaf::Array),
+        ("{\"a\":[1,null,{}]}", Leaf::Array),
+        ("{\"a\":\"null\"}", Leaf::String("null")),
+        ("{\"a\":-1.50E+2}", Leaf::Number("-1.50E+2")),
     ];
-    for (text, is_null, truth, is_object, len) in rows {
-        let mut scratch = Scratch::new(alloc);
-        let tree = Tree::read(alloc, text.as_bytes(), &mut scratch)
-            .ok()
-            .ok_or("a value")?;
-        let root = tree.root();
-        assert_eq!(rt; root.is_null(), is_null);
-        assert_eq!(rt; root.as_bool(), truth);
-        assert_eq!(rt; root.is_object(), is_object);
-        assert_eq!(rt; root.items().map(|items| items.len()), len);
-        assert_eq!(rt;
-            root.items().map(|items| items.is_empty()),
-            len.map(|len| len == 0)
-        );
+    for (text, kind) in rows {
+        let mut scratch = Scratch::new(rt.alloc());
+        let leaf = member_a(text, &mut scratch)?.ok_or("a member")?;
+        assert!(rt; leaf == kind);
+        assert_eq!(rt; leaf.is_null(), kind == Leaf::Null);
     }
     Ok(())
+}
+
+fn of_items(count: usize, integers: [Option<u64>; 4]) -> Option<Integers> {
+    Some(Integers { integers, count })
 }
 
 // The items of an array, in their order.
 #[test]
 fn items_in_order(rt: HostRuntime) -> Result<(), Fail> {
-    let alloc = rt.alloc();
-    let mut scratch = Scratch::new(alloc);
-    let tree = Tree::read(alloc, b"[3,1,2]", &mut scratch)
-        .ok()
-        .ok_or("a value")?;
-    let mut left = tree.root().items().ok_or("an array")?;
-    for number in [3u64, 1, 2] {
-        let (item, rest) = left.split_first().ok_or("an item")?;
-        assert_eq!(rt; item.as_u64(), Some(number));
-        left = rest;
+    let rows: [(&str, Option<Integers>); 6] = [
+        (
+            "{\"a\":[3,1,2]}",
+            of_items(3, [Some(3), Some(1), Some(2), None]),
+        ),
+        ("{\"a\":[]}", of_items(0, [None; 4])),
+        (
+            "{\"a\":[{\"x\":[1]},[5],7]}",
+            of_items(3, [None, None, Some(7), None]),
+        ),
+        (
+            "{\"a\":[1],\"b\":[2],\"a\":[4]}",
+            of_items(1, [Some(4), None, None, None]),
+        ),
+        ("{\"a\":[1],\"a\":{}}", None),
+        ("{\"a\":7}", None),
+    ];
+    for (text, integers) in rows {
+        let mut scratch = Scratch::new(rt.alloc());
+        let listed = read_object(text.as_bytes(), &mut scratch, Listed { items: None })
+            .ok()
+            .flatten()
+            .ok_or("an object")?;
+        assert!(rt; listed.items == integers);
     }
-    assert!(rt; left.is_empty());
+    Ok(())
+}
+
+// How many members the last member has, where it is an object, and else what it is at its top.
+#[derive(Clone, Copy, Drop)]
+struct Last<'t> {
+    last: Result<usize, Leaf<'t>>,
+}
+
+impl<'t> Gather<'t> for Last<'t> {
+    ghost Holds = { λ _ _. ⊤ };
+
+    ghost MayFail = { ⊤ };
+
+    fn member(&mut self, _: &'t str, walk: &mut Walk<'t>) -> Result<(), ReadFault> {
+        self.last = walk.gather_or_leaf(Told::none())?.map(|told| told.count);
+        Ok(())
+    }
+}
+
+#[test]
+fn objects_or_leaves(rt: HostRuntime) -> Result<(), Fail> {
+    let rows: [(&str, Result<usize, Leaf>); 6] = [
+        ("{\"a\":{}}", Ok(0)),
+        ("{\"a\":7,\"b\":{\"x\":1,\"y\":{\"z\":2}}}", Ok(2)),
+        ("{\"a\":{},\"a\":7}", Err(Leaf::Number("7"))),
+        ("{\"a\":null}", Err(Leaf::Null)),
+        ("{\"a\":[{\"x\":1}]}", Err(Leaf::Array)),
+        ("{\"a\":\"{}\"}", Err(Leaf::String("{}"))),
+    ];
+    for (text, last) in rows {
+        let mut scratch = Scratch::new(rt.alloc());
+        let start = Last {
+            last: Err(Leaf::Null),
+        };
+        let found = read_object(text.as_bytes(), &mut scratch, start)
+            .ok()
+            .flatten()
+            .ok_or("an object")?;
+        assert!(rt; found.last == last);
+    }
     Ok(())
 }
