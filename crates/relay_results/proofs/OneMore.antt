@@ -1,8 +1,8 @@
 -- What was found of a reply so far, and one more member or entry.
-use Rattle.std.proofs.Common.{◌≡◌, ◌≤◌, ℕ, zero, suc, Bool, true, false, List, [], ◌∷◌, ◌++◌, length, bytes_eq, nat_le, codes, Option, None, Some, option_and_then, option_map, cond, true≢false, refl, sym, ap, subst, ◌∙◌, arith}
+use Rattle.std.proofs.Common.{◌≡◌, ℕ, zero, suc, Bool, true, false, List, [], ◌∷◌, ◌++◌, length, bytes_eq, Option, None, Some, option_and_then, true≢false, sym, ap, subst, ◌∙◌}
 use Rattle.std.proofs.lemmas.Slice.Eq.{bytes_eq-Decides}
 use Rattle.std.proofs.lemmas.Option.{same_Some}
-use Rattle.serde_json.specs.Data.{Data, null, boolean, number, string, array, object, unsigned, negative, float, Items, no_items, item, Members, no_members, member, put}
+use Rattle.serde_json.specs.Data.{Data, null, boolean, number, string, array, object, Items, no_items, item, Members, no_members, member, put}
 use Rattle.serde_json.specs.Find.{get_member}
 use Rattle.serde_json.proofs.Views.{get_member-put, get_member-put_other}
 use Rattle.relay_json.specs.Items.{and_item}
@@ -62,7 +62,7 @@ pub stops : (ds : Items) (os : List Outcome) (d : Data) (bad : Bool) → bad ≡
 stops ds os d false is none h = first_bad ds os d h none
 stops ds os d true is none h = absurd (true≢false is)
 
--- ---- what an entry says
+-- ---- an object of one member
 
 pub entry_is : (d : Data) (name : List ℕ) (ms : Members) → sole_object d ≡ Some (name, object ms) → d ≡ object (member name (object ms) no_members)
 entry_is null name ms e = cc
@@ -78,6 +78,3 @@ entry_is (object (member k (string s) no_members)) name ms e = cc
 entry_is (object (member k (array ds) no_members)) name ms e = cc
 entry_is (object (member k (object fs) no_members)) name ms e = let p = same_Some (k, object fs) (name, object ms) e in λ i. object (member (p i).0 (p i).1 no_members)
 entry_is (object (member k d (member l f fs))) name ms e = cc
-
-pub no_sole_object : (d : Data) → sole_object d ≡ None → IsNoEntry d
-no_sole_object d none o x = let e = sym none ∙ ap sole_object x.action in cc

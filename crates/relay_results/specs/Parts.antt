@@ -1,5 +1,5 @@
 -- For private clauses: what was found of the members and the items of a reply that were read so far.
-use Rattle.std.specs.Prelude.{◌≡◌, ℕ, Bool, true, false, List, [], length, codes, nat_le, ◌&&◌, is_some, Option, None, Some, MatchOption, option_map, option_and_then, if◌then◌else◌}
+use Rattle.std.specs.Prelude.{◌≡◌, ℕ, Bool, true, false, List, length, codes, nat_le, ◌&&◌, is_some, Option, None, Some, MatchOption, option_map, option_and_then, if◌then◌else◌}
 use Rattle.serde_json.specs.Data.{Data, Items, Members}
 use Rattle.serde_json.specs.Find.{get_member, as_array, as_null, as_number, as_str, as_u64}
 use Rattle.relay_results.specs.declared.outcome.Outcome.{Outcome}
@@ -7,7 +7,7 @@ use Rattle.relay_results.specs.declared.reading.EntryFields.{EntryFields}
 use Rattle.relay_results.specs.declared.reading.Entries.{Entries}
 use Rattle.relay_results.specs.declared.reading.ErrorType.{ErrorType}
 use Rattle.relay_results.specs.declared.reading.Reply.{Reply}
-use Rattle.relay_results.specs.Replies.{IsCut, error_limit, error_type, IsNoEntry, AreEntries, IsBadAt}
+use Rattle.relay_results.specs.Replies.{IsCut, error_limit, error_type, AreEntries, IsBadAt}
 
 -- ---- an error
 
