@@ -18,15 +18,8 @@ use Rattle.relay_action.proofs.Actions.{one_kind}
 use Rattle.relay_ndjson.proofs.Asking.{decide}
 use Rattle.relay_ndjson.proofs.Deciding.{kind_of_name, no_fault, no_kind, action_form}
 
-pub write_line_fault-value : (text : List ℕ) (d : Data) → IsUtf8 text → read text ≡ Some d → write_line_fault text ≡ write_fault d
+write_line_fault-value : (text : List ℕ) (d : Data) → IsUtf8 text → read text ≡ Some d → write_line_fault text ≡ write_fault d
 write_line_fault-value text d u r = let e = is_utf8-from_IsUtf8 text u in rw (e, r) refl
-
-pub write_line_fault-json : (text : List ℕ) → (IsUtf8 text → read text ≡ None) → write_line_fault text ≡ Some kind.NotJson
-write_line_fault-json text h =
-    elim (decide (is_utf8 text)) [ inl e ↦ (let r = h (IsUtf8-from_is_utf8 text e) in rw (e, r) refl) | inr e ↦ rw e refl ]
-
-pub write_value_kind : (text : List ℕ) (d : Data) (k : LineKind) → IsUtf8 text → read text ≡ Some d → (k ≡ kind.Memory) ⊎ (write_fault d ≡ Some k) → (k ≡ kind.Memory) ⊎ (write_line_fault text ≡ Some k)
-write_value_kind text d k u r h = rw (write_line_fault-value text d u r) h
 
 -- ---- a line that says what it has to has no fault
 

@@ -70,9 +70,8 @@ pub fn document_of<'t>(
     default_index: Option<&'t str>,
     metadata: &Metadata<'t>,
 ) -> Result<DocKey, LineKind>
-    ensures index { (ms : Members) → HoldsMembers metadata.now ms
-        → IfOk result (λ k. index_of (shown default_index.entry) (object ms) ≡ Some k.index) }
-    ensures id { (ms : Members) → HoldsMembers metadata.now ms → IfOk result (λ k. id_of (object ms) ≡ Some k.id) }
+    ensures ok { (ms : Members) → HoldsMembers metadata.now ms
+        → IfOk result (λ k. (index_of (shown default_index.entry) (object ms) ≡ Some k.index) × (id_of (object ms) ≡ Some k.id)) }
     ensures err { (ms : Members) → HoldsMembers metadata.now ms
         → IfErr result (λ e. (e ≡ LineKind.Memory) ⊎ (document_fault (shown default_index.entry) (object ms) ≡ Some e)) }
 {
