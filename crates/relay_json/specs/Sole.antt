@@ -1,5 +1,5 @@
 -- The one member of an object (RFC 8259, section 4). A name that is given twice counts once, with its last value.
-use Rattle.std.specs.Prelude.{◌≡◌, ℕ, List, Bool, if◌then◌else◌, is_some, Option, None, Some, MatchOption, option_and_then}
+use Rattle.std.specs.Prelude.{◌≡◌, ℕ, List, if◌then◌else◌, bytes_eq, is_some, Option, None, Some, MatchOption, option_and_then}
 use denote.Ref.{Bor}
 use Rattle.serde_json.specs.Data.{Data, object, Members, member, no_members}
 use Rattle.serde_json.specs.Find.{as_object}
@@ -36,3 +36,16 @@ abbrev pub HoldsSole : {F : Type 0} → (F → Members → Type 0) → Found F �
 HoldsSole Holds found.Nothing ms = ms ≡ no_members
 HoldsSole Holds (found.One name f) ms = (d : Data) × (ms ≡ member name.now d no_members) × Gathered Holds d f
 HoldsSole Holds found.Several ms = AreSeveral ms
+
+-- what is found with one more member
+abbrev pub and_member : {F : Type 0} → Found F → Bor (List ℕ) → Option F → Found F
+and_member found.Nothing name f = found.One name f
+and_member (found.One first g) name f = if bytes_eq first.now name.now then found.One name f else found.Several
+and_member found.Several name f = found.Several
+
+-- the name of the one member, and what was found of its value
+abbrev pub found_object : {F : Type 0} → Found F → Option (Bor (List ℕ) × F)
+found_object found.Nothing = None
+found_object (found.One name None) = None
+found_object (found.One name (Some f)) = Some (name, f)
+found_object found.Several = None

@@ -1,14 +1,14 @@
 //! A text read from its front to its end.
-ghost use Rattle.std.specs.Prelude.{◌≡◌, ◌<◌, [], ◌∷◌, List, length, None, Some, Err, IfOk, IfErr, OnOk, OnErr, IsUtf8};
+ghost use Rattle.std.specs.Prelude.{◌≡◌, ◌≢◌, ◌+◌, ◌<◌, [], ◌∷◌, List, length, None, Some, Err, IfOk, IfErr, OnOk, OnErr, IsUtf8};
 ghost use Rattle.std.specs.Bool.{MatchBool};
 ghost use Rattle.json.specs.Token.{Token as SpecToken, begin_array, begin_object};
 ghost use Rattle.json.specs.Json.{items, members, value};
 ghost use Rattle.json.specs.Lex.{tokens};
 ghost use Rattle.json.specs.Reads.{token_of};
 ghost use Rattle.json.specs.Scratch.{room};
-ghost use Rattle.serde_json.specs.Data.{Data, Items, Members, no_items, no_members, put};
+ghost use Rattle.serde_json.specs.Data.{Data, Num, number, Items, Members, no_items, no_members, put};
 ghost use Rattle.serde_json.specs.Find.{as_array, as_object};
-ghost use Rattle.serde_json.specs.Read.{of_items, of_members, converted, max_depth};
+ghost use Rattle.serde_json.specs.Read.{number_of, of_items, of_members, converted, max_depth};
 ghost use Rattle.relay_json.specs.Items.{and_item};
 ghost use Rattle.relay_json.specs.Sole.{SoleObject, HoldsSole};
 ghost use Rattle.relay_json.specs.Walks.{Reads, Refuses, IsRead, IsRefused, IsLeaf, Opens, Gathered, Collected};
@@ -22,6 +22,20 @@ use json::{Invalid, Reader, Scratch, Token};
 // How deep arrays and objects may nest.
 const MAX_DEPTH: usize = 127;
 
+// A number that is in range.
+#[inline(always)]
+fn number<'t>(text: &'t str) -> Result<Leaf<'t>, Invalid>
+    ensures ok { IfOk result (λ leaf. (n : Num) × (number_of text.now ≡ Some n) × IsLeaf leaf (number n)) }
+    ensures opens_none { IfOk result (λ leaf. (leaf ≢ Leaf.Array) × (leaf ≢ Leaf.Object)) }
+    ensures err { OnErr result (number_of text.now ≡ None) }
+{
+    if is_in_range(text) {
+        Ok(Leaf::Number(text))
+    } else {
+        Err(Invalid)
+    }
+}
+
 // What the value is at its top whose first token was taken. All of it is passed.
 #[cycle(pass)]
 #[inline(always)]
@@ -32,15 +46,13 @@ fn pass_from<'t>(
 ) -> Result<Leaf<'t>, Invalid>
     ensures ok { IfOk result (λ leaf. (d : Data)
         × Reads depth (token_of token.entry ∷ reader.old) d reader.new × IsLeaf leaf d) }
+    ensures opened { IfOk result (λ leaf. (leaf ≡ Leaf.Array → token.entry ≡ Token.BeginArray)
+        × (leaf ≡ Leaf.Object → token.entry ≡ Token.BeginObject)) }
     ensures err { OnErr result (Refuses depth (token_of token.entry ∷ reader.old)) }
 {
     match token {
         Token::String(text) => Ok(Leaf::String(text)),
-        Token::Number(text) => if is_in_range(text) {
-            Ok(Leaf::Number(text))
-        } else {
-            Err(Invalid)
-        },
+        Token::Number(text) => number(text),
         Token::Bool(truth) => Ok(Leaf::Bool(truth)),
         Token::Null => Ok(Leaf::Null),
         Token::EndObject | Token::EndArray | Token::Key(_) | Token::Bad => Err(Invalid),
@@ -158,7 +170,10 @@ impl<'t> Walk<'t> {
         let Ok(reader) = Reader::new(text, scratch) else {
             return Err(ReadFault::Memory);
         };
-        Ok(Walk { reader, depth: MAX_DEPTH })
+        Ok(Walk {
+            reader,
+            depth: MAX_DEPTH,
+        })
     }
 
     // Whether nothing is left.
@@ -206,11 +221,7 @@ impl<'t> Walk<'t> {
         let mut found = Found::Nothing;
         'members: while let Some(name) = self.reader.next_key()? {
             let value = self.gather(F::none())?;
-            found = match found {
-                Found::Nothing => Found::One(name, value),
-                Found::One(first, _) if first == name => Found::One(name, value),
-                _ => Found::Several,
-            };
+            found = found.and_member(name, value);
         }
         Ok(found)
     }
@@ -240,7 +251,10 @@ impl<'t> Walk<'t> {
     {
         let token = self.reader.next().ok_or(Invalid)?;
         if let Token::BeginObject = token {
-            self.depth = self.depth.checked_sub(1).ok_or(Invalid)?;
+            if self.depth == 0 {
+                return Err(ReadFault::NotJson);
+            }
+            self.depth -= 1;
             return Ok(true);
         }
         pass_from(token, &mut self.reader, self.depth)?;
@@ -255,7 +269,10 @@ impl<'t> Walk<'t> {
     {
         let token = self.reader.next().ok_or(Invalid)?;
         if let Token::BeginArray = token {
-            self.depth = self.depth.checked_sub(1).ok_or(Invalid)?;
+            if self.depth == 0 {
+                return Err(ReadFault::NotJson);
+            }
+            self.depth -= 1;
             return Ok(true);
         }
         pass_from(token, &mut self.reader, self.depth)?;
@@ -269,11 +286,12 @@ impl<'t> Walk<'t> {
         ensures not_json { result ≡ Err ReadFault.NotJson → IsRefused self.old }
         ensures memory { result ≡ Err ReadFault.Memory → G.MayFail }
     {
+        let depth = self.depth;
         if !self.opens_object()? {
             return Ok(None);
         }
         let gathered = self.members(start)?;
-        self.depth += 1;
+        self.depth = depth;
         Ok(Some(gathered))
     }
 
@@ -284,11 +302,12 @@ impl<'t> Walk<'t> {
         ensures not_json { result ≡ Err ReadFault.NotJson → IsRefused self.old }
         ensures memory { result ≡ Err ReadFault.Memory → C.MayFail }
     {
+        let depth = self.depth;
         if !self.opens_array()? {
             return Ok(None);
         }
         let collected = self.items(start)?;
-        self.depth += 1;
+        self.depth = depth;
         Ok(Some(collected))
     }
 
@@ -300,14 +319,12 @@ impl<'t> Walk<'t> {
         ensures not_json { result ≡ Err ReadFault.NotJson → IsRefused self.old }
         ensures memory { result ≡ Err ReadFault.Memory → F.MayFail }
     {
+        let depth = self.depth;
         if !self.opens_object()? {
             return Ok(None);
         }
         let found = self.sole_member()?;
-        self.depth += 1;
-        match found {
-            Found::One(name, Some(fields)) => Ok(Some((name, fields))),
-            _ => Ok(None),
-        }
+        self.depth = depth;
+        Ok(found.object())
     }
 }
