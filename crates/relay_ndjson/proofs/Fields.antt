@@ -1,5 +1,5 @@
 -- What is kept of the metadata of an action line, member by member.
-use Rattle.std.proofs.Common.{◌≡◌, ◌⊎◌, ℕ, List, codes, Bool, true, false, not, ◌&&◌, ◌||◌, true≢false, bytes_eq, is_some, Option, None, Some, Ordering, Less, Equal, Greater, nat_cmp, is_eq, refl, ap, sym, ◌∙◌, subst, inl, inr, arith}
+use Rattle.std.proofs.Common.{◌≡◌, ◌⊎◌, ℕ, List, codes, Bool, true, false, not, ◌&&◌, true≢false, bytes_eq, is_some, Option, None, Some, Ordering, Less, Equal, Greater, nat_cmp, is_eq, refl, ap, sym, ◌∙◌, subst, inl, inr}
 use Rattle.std.proofs.lemmas.Map.Text.{is_eq-slice_cmp}
 use Rattle.std.proofs.lemmas.Slice.Eq.{bytes_eq-Decides}
 use Rattle.std.specs.Cmp.Lexicographic.{slice_cmp}
@@ -10,7 +10,7 @@ use Rattle.serde_json.proofs.Views.{get_member-put, get_member-put_other}
 use Rattle.relay_json.specs.Walks.{IsLeaf}
 use Rattle.relay_json.specs.declared.leaf.Leaf.{Leaf}
 use Rattle.relay_ndjson.specs.declared.metadata.Metadata.{Metadata}
-use Rattle.relay_ndjson.specs.Names.{all_names, has_only}
+use Rattle.relay_ndjson.specs.Names.{all_names}
 use Rattle.relay_ndjson.specs.declared.kind.LineKind.TheVariants as kind
 use Rattle.relay_ndjson.specs.Metadata.{is_document, is_version, is_field, document_fault, metadata_fault}
 use Rattle.relay_ndjson.specs.Fields.{IsLeafOf, HoldsMembers}

@@ -1,5 +1,5 @@
 -- What was kept of the metadata of an action line. No contract of a public function speaks of it.
-use Rattle.std.specs.Prelude.{◌≡◌, ℕ, Bool, not, List, codes, Option, None, Some, IsUtf8, if◌then◌else◌}
+use Rattle.std.specs.Prelude.{◌≡◌, ℕ, not, List, codes, Option, None, Some, IsUtf8, if◌then◌else◌}
 use Rattle.std.specs.Str.{is_utf8}
 use Rattle.serde_json.specs.Data.{Data, object, Members, member, no_members}
 use Rattle.serde_json.specs.Find.{get_member}

@@ -1,4 +1,4 @@
-use Rattle.std.proofs.Common.{inr, sym, ◌∙◌}
+use Rattle.std.proofs.Common.{inr, sym}
 use Rattle.serde_json.specs.Data.{object}
 use Rattle.relay_ndjson.proofs.Asking.{not_json, not_one_action, unsupported}
 use Rattle.relay_ndjson.proofs.action_line.action_of.Goals as goal
