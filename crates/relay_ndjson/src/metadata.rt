@@ -45,6 +45,7 @@ impl<'t> Gather<'t> for Metadata<'t> {
 
     ghost MayFail = { ⊥ };
 
+    #[inline(never)]
     fn member(&mut self, name: &'t str, walk: &mut Walk<'t>) -> Result<(), ReadFault> {
         let leaf = walk.leaf()?;
         self.set(name, leaf);
