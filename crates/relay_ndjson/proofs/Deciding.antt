@@ -15,7 +15,7 @@ use Rattle.relay_action.specs.declared.action.ActionKind.{ActionKind}
 use Rattle.relay_action.specs.declared.action.ActionKind.TheVariants as action
 use Rattle.relay_ndjson.specs.declared.kind.LineKind.{LineKind}
 use Rattle.relay_ndjson.specs.declared.kind.LineKind.TheVariants as kind
-use Rattle.relay_json.specs.Names.{has_only, all_names}
+use Rattle.relay_ndjson.specs.Names.{has_only, all_names}
 use Rattle.relay_ndjson.specs.Metadata.{is_document, is_field, index_of, id_of, Asks, Says, metadata_fault, value_fault, line_fault, IsDocument, fault_or, action_of}
 use Rattle.relay_ndjson.specs.Laws.{TextDecides}
 use Rattle.relay_ndjson.proofs.Asking.{decide, line_fault-value}

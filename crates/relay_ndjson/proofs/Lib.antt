@@ -3,6 +3,7 @@ pub mod Parts
 pub mod ReadsBack
 pub mod Pieces
 pub mod Asking
+pub mod Fields
 pub mod Deciding
 pub mod Taking
 pub mod Stopping

@@ -11,7 +11,7 @@ use Rattle.relay_action.specs.declared.key.DocKey.{DocKey}
 use Rattle.relay_ndjson.specs.declared.kind.InputFault.{InputFault}
 use Rattle.relay_ndjson.specs.declared.kind.LineKind.{LineKind}
 use Rattle.relay_ndjson.specs.declared.kind.LineKind.TheVariants as kind
-use Rattle.relay_json.specs.Names.{has_only}
+use Rattle.relay_ndjson.specs.Names.{has_only}
 use Rattle.relay_ndjson.specs.Lines.{IsOfOneLine, IsLineBefore, IsRaw, StopsInLine, TakesText, TakesBlank, is_read, line_limit}
 use Rattle.relay_ndjson.specs.Metadata.{Says, is_document, is_field, index_of, id_of, action_of, fault_or, id_fault, document_fault, metadata_fault, value_fault, line_fault}
 use Rattle.relay_ndjson.specs.Operations.{blank_limit, counted, Position, Stops}

@@ -1,5 +1,5 @@
 -- What an action line of the index side asks for.
-use Rattle.std.proofs.Common.{◌≡◌, ◌⊎◌, ℕ, List, Option, None, Some, refl, ap, sym, ◌∙◌, subst, inl, inr, true, false, Bool, is_some, ◌&&◌, IsUtf8}
+use Rattle.std.proofs.Common.{◌≡◌, ℕ, List, Option, None, Some, refl, ap, sym, ◌∙◌, subst, inl, inr, true, false, Bool, is_some, ◌&&◌, IsUtf8}
 use Rattle.std.specs.Str.{is_utf8}
 use Rattle.std.proofs.lemmas.Str.{is_utf8-from_IsUtf8, IsUtf8-from_is_utf8}
 use Rattle.serde_json.specs.Data.{Data, object, Members, member, no_members}
@@ -8,9 +8,8 @@ use Rattle.relay_action.specs.Actions.{kind_name, kind_named}
 use Rattle.relay_action.specs.Faults.{key_fault}
 use Rattle.relay_action.specs.declared.action.ActionKind.{ActionKind}
 use Rattle.relay_action.specs.declared.action.ActionKind.TheVariants as action
-use Rattle.relay_ndjson.specs.declared.kind.LineKind.{LineKind}
 use Rattle.relay_ndjson.specs.declared.kind.LineKind.TheVariants as kind
-use Rattle.relay_json.specs.Names.{has_only}
+use Rattle.relay_ndjson.specs.Names.{has_only}
 use Rattle.relay_ndjson.specs.Metadata.{is_field, index_of, id_of, fault_or, document_fault, action_of}
 use Rattle.relay_ndjson.specs.Versioned.{version_of, is_external, IsVersioned, AsksVersioned, SaysVersioned, versioned_fault, write_fault, write_line_fault}
 use Rattle.relay_ndjson.specs.Laws.{VersionedTextDecides}
@@ -18,15 +17,8 @@ use Rattle.relay_action.proofs.Actions.{one_kind}
 use Rattle.relay_ndjson.proofs.Asking.{decide}
 use Rattle.relay_ndjson.proofs.Deciding.{kind_of_name, no_fault, no_kind, action_form}
 
-pub write_line_fault-value : (text : List ℕ) (d : Data) → IsUtf8 text → read text ≡ Some d → write_line_fault text ≡ write_fault d
+write_line_fault-value : (text : List ℕ) (d : Data) → IsUtf8 text → read text ≡ Some d → write_line_fault text ≡ write_fault d
 write_line_fault-value text d u r = let e = is_utf8-from_IsUtf8 text u in rw (e, r) refl
-
-pub write_line_fault-json : (text : List ℕ) → (IsUtf8 text → read text ≡ None) → write_line_fault text ≡ Some kind.NotJson
-write_line_fault-json text h =
-    elim (decide (is_utf8 text)) [ inl e ↦ (let r = h (IsUtf8-from_is_utf8 text e) in rw (e, r) refl) | inr e ↦ rw e refl ]
-
-pub write_value_kind : (text : List ℕ) (d : Data) (k : LineKind) → IsUtf8 text → read text ≡ Some d → (k ≡ kind.Memory) ⊎ (write_fault d ≡ Some k) → (k ≡ kind.Memory) ⊎ (write_line_fault text ≡ Some k)
-write_value_kind text d k u r h = rw (write_line_fault-value text d u r) h
 
 -- ---- a line that says what it has to has no fault
 

@@ -4,7 +4,9 @@ pub mod Sends
 pub mod Escapes
 pub mod Lines
 pub mod LineReading
+pub mod Names
 pub mod Metadata
+pub mod Fields
 pub mod Operations
 pub mod Reading
 pub mod Laws

@@ -6,7 +6,7 @@ use Rattle.std.specs.Fmt.{signed_decimal}
 use Rattle.serde_json.specs.Data.{Num, unsigned, negative, float, Data, null, boolean, number, string, array, object, Members, member, no_members}
 use Rattle.serde_json.specs.Find.{get, as_object, as_str}
 use Rattle.serde_json.specs.Read.{read}
-use Rattle.relay_json.specs.Names.{has_only}
+use Rattle.relay_ndjson.specs.Names.{has_only}
 use Rattle.relay_json.specs.Sole.{sole}
 use Rattle.relay_action.specs.Actions.{kind_name, kind_named}
 use Rattle.relay_action.specs.Faults.{key_fault, source_fault}

@@ -11,7 +11,7 @@ use Rattle.relay_action.specs.declared.write.Write.{Write}
 use Rattle.relay_ndjson.specs.declared.kind.LineKind.{LineKind}
 use Rattle.relay_ndjson.specs.declared.kind.LineKind.TheVariants as kind
 use Rattle.relay_action.specs.Limits.{last_version}
-use Rattle.relay_json.specs.Names.{has_only}
+use Rattle.relay_ndjson.specs.Names.{has_only}
 use Rattle.relay_ndjson.specs.Metadata.{is_field, index_of, id_of, fault_or, document_fault, action_of}
 
 -- a version as the index takes it

@@ -17,6 +17,7 @@ pub mod laws;
 pub mod length;
 pub mod line_reader;
 mod lines;
+mod metadata;
 pub mod parser;
 mod piece;
 mod quoted;
