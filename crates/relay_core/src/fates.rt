@@ -27,7 +27,7 @@ fn error_type(alloc: Global, error: Option<Text>) -> Text
 {
     match error {
         Some(text) => text,
-        None => Text::empty(alloc),
+        None => Text::empty(),
     }
 }
 
