@@ -6,7 +6,6 @@ ghost use Rattle.relay_core.specs.Walk.{said, fate_or};
 use crate::kept::Kept;
 use relay_action::{ActionKind, Text};
 use relay_results::{Cause, ItemVerdict, Outcome, verdict};
-use std::alloc::Global;
 
 /// What becomes of an operation when the answer of its request comes.
 #[derive(Debug, Drop)]
@@ -21,25 +20,8 @@ pub enum Fate {
     Reported(Cause),
 }
 
-// The type of an error, or no text where there is none.
-fn error_type(alloc: Global, error: Option<Text>) -> Text
-    ensures { result ≡ unwrap_or error [] }
-{
-    match error {
-        Some(text) => text,
-        None => Text::empty(),
-    }
-}
-
 // What an entry makes of the operation that it is for.
-fn fate_by(
-    alloc: Global,
-    kind: ActionKind,
-    outcome: Outcome,
-    sends: u32,
-    attempts: u32,
-    max: u32,
-) -> Fate
+fn fate_by(kind: ActionKind, outcome: Outcome, sends: u32, attempts: u32, max: u32) -> Fate
     ensures { said result
         ≡ fate_of_item (record { sends = sends; attempts = attempts; max = max }) kind outcome }
 {
@@ -58,25 +40,18 @@ fn fate_by(
         ItemVerdict::GaveUp => Fate::Reported(Cause::GaveUp { sends }),
         ItemVerdict::Refused => Fate::Reported(Cause::Refused {
             status: outcome.status,
-            kind: error_type(alloc, outcome.error),
+            kind: outcome.error.unwrap_or(Text::empty()),
         }),
     }
 }
 
 // What the entry at its place makes of it, if there is one.
-fn fate_next(
-    alloc: Global,
-    kind: ActionKind,
-    entry: Option<Outcome>,
-    sends: u32,
-    attempts: u32,
-    max: u32,
-) -> Fate
+fn fate_next(kind: ActionKind, entry: Option<Outcome>, sends: u32, attempts: u32, max: u32) -> Fate
     ensures { said result
         ≡ fate_of_entry (record { sends = sends; attempts = attempts; max = max }) kind entry }
 {
     match entry {
-        Some(outcome) => fate_by(alloc, kind, outcome, sends, attempts, max),
+        Some(outcome) => fate_by(kind, outcome, sends, attempts, max),
         None => {
             if attempts < max {
                 Fate::Retried
@@ -89,19 +64,13 @@ fn fate_next(
 
 /// What an answer makes of a held operation: the status of the whole request, where it is reported; else
 /// its entry, and where it has none it is tried again. It takes no memory.
-pub(crate) fn fate_in(
-    alloc: Global,
-    one: &Kept,
-    whole: Option<u16>,
-    entry: Option<Outcome>,
-    max: u32,
-) -> Fate
+pub(crate) fn fate_in(one: &Kept, whole: Option<u16>, entry: Option<Outcome>, max: u32) -> Fate
     ensures { said result
         ≡ fate_or whole
         (fate_of_entry (record { sends = one.now.sends; attempts = one.now.attempts; max = max }) one.now.kind entry) }
 {
     match whole {
         Some(status) => Fate::Reported(Cause::Request { status }),
-        None => fate_next(alloc, one.kind, entry, one.sends, one.attempts, max),
+        None => fate_next(one.kind, entry, one.sends, one.attempts, max),
     }
 }

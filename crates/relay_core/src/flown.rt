@@ -11,7 +11,6 @@ use crate::settle::settle_walk;
 use crate::settled::Settled;
 use relay_action::Write;
 use relay_results::Outcome;
-use std::alloc::Global;
 
 /// The writes of a request, counted from 0, if it flies.
 pub(crate) fn find_writes(flown: &[Sent], number: u64) -> Option<&[Write]>
@@ -44,7 +43,6 @@ fn take_flown(flown: &mut Vec<Sent>, number: u64) -> Option<Sent>
 
 /// The operations of a request, counted from 0, meet its answer. Where it does not fly, nothing changes.
 pub(crate) fn settle_flown(
-    alloc: Global,
     held: &mut Vec<Kept>,
     flown: &mut Vec<Sent>,
     reports: &mut Vec<Report>,
@@ -76,7 +74,6 @@ pub(crate) fn settle_flown(
 {
     match take_flown(flown, number) {
         Some(sent) => Some(settle_walk(
-            alloc,
             held,
             reports,
             max,

@@ -400,7 +400,6 @@ impl Lane {
         ensures unchanged { IfNone result (self.new ≡ self.old) }
     {
         match settle_flown(
-            self.alloc,
             &mut self.held,
             &mut self.flown,
             &mut self.reports,

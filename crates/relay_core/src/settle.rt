@@ -12,7 +12,6 @@ use crate::report::Report;
 use crate::settled::Settled;
 use relay_action::Write;
 use relay_results::Outcome;
-use std::alloc::Global;
 use std::vec::IntoIter;
 
 // Whether it flies in a request.
@@ -196,7 +195,6 @@ fn next_of<T: Drop>(items: &mut IntoIter<T>) -> Option<T>
 
 /// What flies in a request is settled by its answer, in one pass; there is room for the reports.
 pub(crate) fn settle_walk(
-    alloc: Global,
     held: &mut Vec<Kept>,
     reports: &mut Vec<Report>,
     max: u32,
@@ -232,7 +230,7 @@ pub(crate) fn settle_walk(
     let mut to = 0;
     'ops: for i in 0..held.len() {
         if is_in(held[i].flies, number) {
-            let fate = fate_in(alloc, &held[i], whole, next_of(&mut left), max);
+            let fate = fate_in(&held[i], whole, next_of(&mut left), max);
             let write = next_of(&mut ahead);
             to = settle_one(held, i, to, fate, write, clock, reports, &mut counts);
         } else {
