@@ -27,6 +27,19 @@ fn texts_and_lists_hold_what_they_were_given(rt: HostRuntime) -> Result<(), Fail
     Ok(())
 }
 
+// A text keeps its bytes where they lie in the value, and where they do not.
+#[test]
+fn texts_of_all_lengths(rt: HostRuntime) -> Result<(), Fail> {
+    let alloc = rt.alloc();
+    for length in [0usize, 1, 39, 40, 41, 600] {
+        let letters = letters(alloc, length)?;
+        let text = Text::new(alloc, letters.as_str())?;
+        assert!(rt; text.as_str() == letters.as_str() && text.copy()? == text);
+        assert!(rt; (text == Text::empty()) == (length == 0));
+    }
+    Ok(())
+}
+
 #[test]
 fn keys_at_their_limits(rt: HostRuntime) -> Result<(), Fail> {
     let alloc = rt.alloc();
