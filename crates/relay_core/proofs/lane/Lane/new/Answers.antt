@@ -43,3 +43,6 @@ invariant_of-result c =
       deals = deals;
       quiet = λ roomy. absurd (apart_tests (ap is_roomy (sym c.no_room.ensures) ∙ roomy));
     }
+
+pub returns : goal.returns
+returns c = search rules

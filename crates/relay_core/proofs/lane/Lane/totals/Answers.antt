@@ -1,4 +1,4 @@
-use Rattle.std.proofs.Common.{◌-◌, subst, arith}
+use Rattle.std.proofs.Common.{◌-◌, subst, arith, rules}
 use Rattle.relay_core.specs.State.{IsLane}
 use Rattle.relay_core.specs.Memory.{writes_in}
 use Rattle.relay_core.proofs.Taken.{entries_length}
@@ -20,3 +20,6 @@ returns-clause-lane c =
       next = omega (arith, begun);
       numbers = (let l = v.left in let d = v.dealt in omega (arith, l, d, begun));
     })
+
+pub returns-clause-totals : goal.returns-clause-totals
+returns-clause-totals c = search rules
