@@ -16,8 +16,7 @@ pub invariant_of-self : goal.invariant_of-self
 invariant_of-self g c =
     let i = c.self.invariant in
     let sent = c.in-Ok.ensures.rule.0 in
-    let next = after_send _ _ i.1 in
-    (
+    let next = after_send _ _ i.1 in (
       c.in-Ok.ensures.channel.0,
       subst (IsSender false) (sym sent) next.0,
       ap capacity_of sent ∙ next.1 ∙ i.2,
