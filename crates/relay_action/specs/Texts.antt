@@ -4,5 +4,5 @@ use Rattle.relay_action.specs.declared.text.Held.{Held}
 use Rattle.relay_action.specs.declared.text.Held.TheVariants as held
 
 abbrev pub held_bytes : Held → List ℕ
-held_bytes (held.Short short) = short.bytes
+held_bytes (held.Short short) = short
 held_bytes (held.Long long) = string_bytes long

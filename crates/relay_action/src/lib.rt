@@ -14,6 +14,7 @@ pub mod list;
 pub mod mail;
 pub mod memory;
 pub mod operation;
+mod short;
 pub mod standard;
 pub mod stream;
 pub mod text;

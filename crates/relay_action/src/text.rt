@@ -4,23 +4,20 @@ ghost use Rattle.std.specs.Cmp.Rules.{comparing, hashing};
 ghost use Rattle.std.specs.Hash as fed;
 ghost use Rattle.std.proofs.Common.{rules};
 
-use arrayvec::ArrayString;
+use crate::short::ShortText;
 use std::alloc::{AllocError, Global};
 use std::fmt;
 use std::hash::{Hash, Hasher};
 use std::marker::Model;
 
-// The most bytes of a text that lies in the value itself: a UUID takes 36.
-const SHORT: usize = 40;
-
 // Where the bytes of a text lie.
 #[derive(Drop)]
 enum Held {
-    Short(ArrayString<SHORT>),
+    Short(ShortText),
     Long(String),
 }
 
-/// A UTF-8 text, owned. Two texts are equal where their bytes are. One of up to 40 bytes takes no
+/// A UTF-8 text, owned. Two texts are equal where their bytes are. One of up to 38 bytes takes no
 /// memory but that of the value.
 #[derive(Drop)]
 pub struct Text {
@@ -42,9 +39,9 @@ impl Text {
         ensures { IfOk result (λ t. t ≡ text.now) }
     {
         Ok(Text {
-            held: match ArrayString::from(text) {
-                Ok(short) => Held::Short(short),
-                Err(_) => Held::Long(String::from_str(alloc, text)?),
+            held: match ShortText::from(text) {
+                Some(short) => Held::Short(short),
+                None => Held::Long(String::from_str(alloc, text)?),
             },
         })
     }
@@ -54,7 +51,7 @@ impl Text {
         ensures { result ≡ [] }
     {
         Text {
-            held: Held::Short(ArrayString::new()),
+            held: Held::Short(ShortText::empty()),
         }
     }
 
@@ -74,7 +71,7 @@ impl Text {
     {
         Ok(Text {
             held: match &self.held {
-                Held::Short(short) => Held::Short(*short),
+                Held::Short(short) => Held::Short(short.copy()),
                 Held::Long(long) => Held::Long(long.clone()?),
             },
         })
