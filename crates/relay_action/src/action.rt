@@ -4,7 +4,7 @@ ghost use Rattle.std.specs.List.{list_any};
 ghost use Rattle.relay_action.specs.Limits.{HasLength, IsOneLine, is_line_end, source_limit};
 
 use crate::fault::ActionFault;
-use crate::text::Text;
+use crate::long::LongText;
 use memchr::memchr2;
 use std::alloc::{AllocError, Global};
 
@@ -15,7 +15,7 @@ pub const SOURCE_LIMIT: usize = 1_048_576;
 /// no carriage return. It is not parsed.
 #[derive(Debug, Drop)]
 pub struct Source {
-    text: Text,
+    text: LongText,
     pub ghost length_ok: { HasLength source_limit text },
     pub ghost line_ok: { IsOneLine text },
     pub ghost utf8: { ∥ IsUtf8 text ∥₁ },
@@ -102,7 +102,7 @@ impl Action {
             return Err(ActionFault::SourceNewline);
         }
         Ok(Action::Index(Source {
-            text: Text::new(alloc, source).map_err(|_| ActionFault::Memory)?,
+            text: LongText::new(alloc, source).map_err(|_| ActionFault::Memory)?,
         }))
     }
 

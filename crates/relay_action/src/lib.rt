@@ -11,6 +11,7 @@ pub mod fault;
 pub mod key;
 pub mod lane;
 pub mod list;
+mod long;
 pub mod mail;
 pub mod memory;
 pub mod operation;

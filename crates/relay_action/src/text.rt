@@ -4,6 +4,7 @@ ghost use Rattle.std.specs.Cmp.Rules.{comparing, hashing};
 ghost use Rattle.std.specs.Hash as fed;
 ghost use Rattle.std.proofs.Common.{rules};
 
+use crate::long::LongText;
 use crate::short::ShortText;
 use std::alloc::{AllocError, Global};
 use std::fmt;
@@ -14,7 +15,7 @@ use std::marker::Model;
 #[derive(Drop)]
 enum Held {
     Short(ShortText),
-    Long(String),
+    Long(LongText),
 }
 
 /// A UTF-8 text, owned. Two texts are equal where their bytes are. One of up to 38 bytes takes no
@@ -41,7 +42,7 @@ impl Text {
         Ok(Text {
             held: match ShortText::from(text) {
                 Some(short) => Held::Short(short),
-                None => Held::Long(String::from_str(alloc, text)?),
+                None => Held::Long(LongText::new(alloc, text)?),
             },
         })
     }
@@ -72,7 +73,7 @@ impl Text {
         Ok(Text {
             held: match &self.held {
                 Held::Short(short) => Held::Short(short.copy()),
-                Held::Long(long) => Held::Long(long.clone()?),
+                Held::Long(long) => Held::Long(long.copy()?),
             },
         })
     }
