@@ -1,6 +1,7 @@
 pub mod Plain
 pub mod Parts
 pub mod ReadsBack
+pub mod UsualLines
 pub mod Pieces
 pub mod Asking
 pub mod Fields

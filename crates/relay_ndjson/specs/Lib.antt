@@ -6,6 +6,7 @@ pub mod Lines
 pub mod LineReading
 pub mod Names
 pub mod Metadata
+pub mod Usual
 pub mod Fields
 pub mod Operations
 pub mod Reading

@@ -8,8 +8,10 @@ ghost use Rattle.relay_action.specs.Actions.{IsIndexOf};
 
 use crate::kind::{LineKind, kind_of};
 use crate::metadata::{Metadata, document_of};
+use crate::usual::read_usual;
 use relay_action::{Action, ActionKind, DocKey};
 use relay_json::{ReadFault, Scratch, read_sole_object};
+use simdutf8::compat::from_utf8;
 use std::alloc::Global;
 
 /// The action of a line, and its metadata. The scratch serves one line after another.
@@ -43,6 +45,22 @@ pub fn read_action(
     ensures ok { IfOk result (λ a. Says (shown default_index.entry) line.now a.0 a.1.index a.1.id) }
     ensures err { IfErr result (λ e. (e ≡ LineKind.Memory) ⊎ (line_fault (shown default_index.entry) line.now ≡ Some e)) }
 {
+    match read_usual(alloc, default_index, line) {
+        Some(action) => Ok(action),
+        None => parse_action(alloc, default_index, line, scratch),
+    }
+}
+
+// What an action line of any form asks for.
+fn parse_action(
+    alloc: Global,
+    default_index: Option<&str>,
+    line: &[u8],
+    scratch: &mut Scratch,
+) -> Result<(ActionKind, DocKey), LineKind>
+    ensures ok { IfOk result (λ a. Says (shown default_index.entry) line.now a.0 a.1.index a.1.id) }
+    ensures err { IfErr result (λ e. (e ≡ LineKind.Memory) ⊎ (line_fault (shown default_index.entry) line.now ≡ Some e)) }
+{
     let (kind, metadata) = action_of(line, scratch)?;
     let key = key_of(alloc, default_index, &metadata)?;
     Ok((kind, key))
@@ -53,7 +71,7 @@ pub fn read_source(alloc: Global, line: &[u8]) -> Result<Action, LineKind>
     ensures ok { IfOk result (λ a. IsUtf8 line.now × IsIndexOf line.now a) }
     ensures err { IfErr result (λ e. (e ≡ LineKind.Memory) ⊎ (source_line_fault line.now ≡ Some e)) }
 {
-    let Ok(text) = str::from_utf8(line) else {
+    let Ok(text) = from_utf8(line) else {
         return Err(LineKind::NotJson);
     };
     match Action::index(alloc, text) {

@@ -21,6 +21,7 @@ mod metadata;
 pub mod parser;
 mod piece;
 mod quoted;
+mod usual;
 mod versioned_line;
 
 pub use body::read_bulk;

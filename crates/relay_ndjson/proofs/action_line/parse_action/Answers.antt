@@ -2,7 +2,7 @@ use Rattle.std.proofs.Common.{inl, inr}
 use Rattle.std.proofs.lemmas.Result.{err_from_is_err_and}
 use Rattle.relay_ndjson.specs.Metadata.{shown, metadata_fault}
 use Rattle.relay_ndjson.proofs.Asking.{metadata_kind}
-use Rattle.relay_ndjson.proofs.action_line.read_action.Goals as goal
+use Rattle.relay_ndjson.proofs.action_line.parse_action.Goals as goal
 
 pub returns-in_err-kind-clause-err : goal.returns-in_err-kind-clause-err
 returns-in_err-kind-clause-err c =
