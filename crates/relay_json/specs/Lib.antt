@@ -1,3 +1,4 @@
 pub mod Items
 pub mod Walks
 pub mod Sole
+pub mod Leaves

@@ -38,6 +38,19 @@ IsLeaf (leaf.String s) d = d ≡ string s.now
 IsLeaf leaf.Array d = (ds : Items) × (d ≡ array ds)
 IsLeaf leaf.Object d = (ms : Members) × (d ≡ object ms)
 
+-- where it is a number, these tokens begin with it as it stands there, and `rest` follows it
+abbrev pub NumberStands : List Token → Leaf → List Token → Type 0
+NumberStands tokens leaf.Null rest = Unit {0}
+NumberStands tokens (leaf.Bool b) rest = Unit {0}
+NumberStands tokens (leaf.Number s) rest = tokens ≡ Token.number s.now ∷ rest
+NumberStands tokens (leaf.String s) rest = Unit {0}
+NumberStands tokens leaf.Array rest = Unit {0}
+NumberStands tokens leaf.Object rest = Unit {0}
+
+-- where it is a number, it is the text that the walk passed
+abbrev pub IsNumberPassed : Walk → Leaf → Walk → Type 0
+IsNumberPassed old leaf new = NumberStands old.reader leaf new.reader
+
 -- what was made of the members, where the data is an object
 abbrev pub Gathered : {G : Type 0} → (G → Members → Type 0) → Data → Option G → Type 0
 Gathered Holds d found = MatchOption found (as_object d ≡ None) (λ g. (ms : Members) × (as_object d ≡ Some ms) × Holds g ms)

@@ -1,5 +1,5 @@
 //! A text read from its front to its end.
-ghost use Rattle.std.specs.Prelude.{◌≡◌, ◌≢◌, ◌+◌, ◌<◌, [], ◌∷◌, List, length, None, Some, Err, IfOk, IfErr, OnOk, OnErr, MatchOption, IsUtf8};
+ghost use Rattle.std.specs.Prelude.{◌≡◌, ◌≢◌, ◌+◌, ◌<◌, [], ◌∷◌, List, length, None, Some, Err, IfOk, IfErr, IfSome, OnOk, OnErr, MatchOption, IsUtf8};
 ghost use Rattle.std.specs.Bool.{MatchBool};
 ghost use Rattle.json.specs.Token.{Token as SpecToken, begin_array, begin_object};
 ghost use Rattle.json.specs.Json.{items, members, value};
@@ -11,7 +11,7 @@ ghost use Rattle.serde_json.specs.Find.{as_array, as_object};
 ghost use Rattle.serde_json.specs.Read.{number_of, of_items, of_members, converted, max_depth};
 ghost use Rattle.relay_json.specs.Items.{and_item};
 ghost use Rattle.relay_json.specs.Sole.{SoleObject, HoldsSole};
-ghost use Rattle.relay_json.specs.Walks.{Reads, Refuses, IsRead, IsRefused, IsLeaf, Opens, Gathered, GatheredOrLeaf, Collected};
+ghost use Rattle.relay_json.specs.Walks.{Reads, Refuses, IsRead, IsRefused, IsLeaf, NumberStands, IsNumberPassed, Opens, Gathered, GatheredOrLeaf, Collected};
 
 use crate::fault::ReadFault;
 use crate::leaf::Leaf;
@@ -26,7 +26,7 @@ const MAX_DEPTH: usize = 127;
 #[inline(always)]
 fn number<'t>(text: &'t str) -> Result<Leaf<'t>, Invalid>
     ensures ok { IfOk result (λ leaf. (n : Num) × (number_of text.now ≡ Some n) × IsLeaf leaf (number n)) }
-    ensures opens_none { IfOk result (λ leaf. (leaf ≢ Leaf.Array) × (leaf ≢ Leaf.Object)) }
+    ensures number { IfOk result (λ leaf. leaf ≡ Leaf.Number text.entry) }
     ensures err { OnErr result (number_of text.now ≡ None) }
 {
     if is_in_range(text) {
@@ -46,6 +46,7 @@ fn pass_from<'t>(
 ) -> Result<Leaf<'t>, Invalid>
     ensures ok { IfOk result (λ leaf. (d : Data)
         × Reads depth (token_of token.entry ∷ reader.old) d reader.new × IsLeaf leaf d) }
+    ensures number { IfOk result (λ leaf. NumberStands (token_of token.entry ∷ reader.old) leaf reader.new) }
     ensures opened { IfOk result (λ leaf. (leaf ≡ Leaf.Array → token.entry ≡ Token.BeginArray)
         × (leaf ≡ Leaf.Object → token.entry ≡ Token.BeginObject)) }
     ensures err { OnErr result (Refuses depth (token_of token.entry ∷ reader.old)) }
@@ -78,6 +79,7 @@ fn pass_from<'t>(
 #[inline(always)]
 fn pass<'t>(reader: &mut Reader<'t>, depth: usize) -> Result<Leaf<'t>, Invalid>
     ensures ok { IfOk result (λ leaf. (d : Data) × Reads depth reader.old d reader.new × IsLeaf leaf d) }
+    ensures number { IfOk result (λ leaf. NumberStands reader.old leaf reader.new) }
     ensures err { OnErr result (Refuses depth reader.old) }
 {
     let token = reader.next().ok_or(Invalid)?;
@@ -192,6 +194,7 @@ impl<'t> Walk<'t> {
     #[inline(always)]
     pub fn leaf(&mut self) -> Result<Leaf<'t>, ReadFault>
         ensures ok { IfOk result (λ leaf. (d : Data) × IsRead self.old d self.new × IsLeaf leaf d) }
+        ensures number { IfOk result (λ leaf. IsNumberPassed self.old leaf self.new) }
         ensures err { IfErr result (λ e. (e ≡ ReadFault.NotJson) × IsRefused self.old) }
     {
         Ok(pass(&mut self.reader, self.depth)?)
@@ -253,6 +256,7 @@ impl<'t> Walk<'t> {
     pub(crate) fn leaf_or_object(&mut self) -> Result<Option<Leaf<'t>>, ReadFault>
         ensures ok { IfOk result (λ found. MatchOption found (Opens begin_object self.old self.new)
             (λ leaf. (d : Data) × IsRead self.old d self.new × (as_object d ≡ None) × IsLeaf leaf d)) }
+        ensures number { IfOk result (λ found. IfSome found (λ leaf. IsNumberPassed self.old leaf self.new)) }
         ensures err { IfErr result (λ e. (e ≡ ReadFault.NotJson) × IsRefused self.old) }
     {
         let token = self.reader.next().ok_or(Invalid)?;
@@ -292,6 +296,7 @@ impl<'t> Walk<'t> {
     ) -> Result<Result<G, Leaf<'t>>, ReadFault>
         requires { G.Holds start no_members }
         ensures ok { IfOk result (λ found. (d : Data) × IsRead self.old d self.new × GatheredOrLeaf G.Holds d found) }
+        ensures number { IfOk result (λ found. IfErr found (λ leaf. IsNumberPassed self.old leaf self.new)) }
         ensures not_json { result ≡ Err ReadFault.NotJson → IsRefused self.old }
         ensures memory { result ≡ Err ReadFault.Memory → G.MayFail }
     {

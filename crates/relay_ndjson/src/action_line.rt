@@ -1,5 +1,6 @@
 //! What an action line asks for, and what a source line holds.
-ghost use Rattle.std.specs.Prelude.{◌≡◌, ◌⊎◌, Option, Some, IfOk, IfErr, IsUtf8};
+ghost use Rattle.std.specs.Prelude.{◌≡◌, ◌<◌, ◌⊎◌, Option, Some, Err, IfOk, IfErr, length, IsUtf8};
+ghost use Rattle.json.specs.Scratch.{room};
 ghost use Rattle.serde_json.specs.Data.{Data, Members, object};
 ghost use Rattle.relay_ndjson.specs.Metadata.{shown, IsDocument, Says, metadata_fault, line_fault, source_line_fault};
 ghost use Rattle.relay_ndjson.specs.Fields.{HoldsMembers, SaysAction, action_fault};
@@ -22,6 +23,7 @@ pub fn action_of<'t>(
     ensures ok { IfOk result (λ a. SaysAction line.now a.0 a.1) }
     ensures err { IfErr result (λ e. (e ≡ LineKind.Memory)
         ⊎ ((of_metadata : Data → Option LineKind) → action_fault of_metadata line.now ≡ Some e)) }
+    ensures memory { result ≡ Err LineKind.Memory → room scratch.old < length line.now }
 {
     let (name, metadata) = match read_sole_object::<Metadata>(line, scratch) {
         Ok(Some(action)) => action,

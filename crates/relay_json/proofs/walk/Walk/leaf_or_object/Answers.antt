@@ -1,9 +1,9 @@
-use Rattle.std.proofs.Common.{◌≡◌, [], ◌∷◌, refl, ap, ap₂, ◌∙◌, arith}
+use Rattle.std.proofs.Common.{◌≡◌, [], ◌∷◌, refl, ap, ap₂, sym, subst, ◌∙◌, arith}
 use Rattle.json.specs.Json.{value}
 use Rattle.json.specs.Reads.{token_of}
 use Rattle.json.proofs.Grammar.{value_is}
 use Rattle.serde_json.specs.Read.{of_json, converted}
-use Rattle.relay_json.specs.Walks.{IsRefused}
+use Rattle.relay_json.specs.Walks.{IsRefused, NumberStands}
 use Rattle.relay_json.proofs.Leaves.{no_object}
 use Rattle.relay_json.proofs.walk.Walk.leaf_or_object.Goals as goal
 
@@ -24,4 +24,4 @@ pub returns : goal.returns
 returns c =
     let first : c.args.self.now.reader ≡ token_of c.in_ok-token.token ∷ c.next.new.self = grind arith in
     let passed = c.in_ok-pass_from.ensures in
-    record { ok = (passed.ok.0, (refl, ap (λ ts. converted of_json (value c.args.self.now.depth ts)) first ∙ passed.ok.1), no_object c.in_ok-pass_from.field-0 passed.ok.0 (λ is. c.in_default.not-BeginObject (passed.opened.1 is)) passed.ok.2, passed.ok.2); err = tt }
+    record { ok = (passed.ok.0, (refl, ap (λ ts. converted of_json (value c.args.self.now.depth ts)) first ∙ passed.ok.1), no_object c.in_ok-pass_from.field-0 passed.ok.0 (λ is. c.in_default.not-BeginObject (passed.opened.1 is)) passed.ok.2, passed.ok.2); number = subst (λ ts. NumberStands ts c.in_ok-pass_from.field-0 c.pass_from.new.reader) (sym first) passed.number; err = tt }

@@ -11,7 +11,7 @@ returns-in_ok-leaf-in-text-clause-ok c =
       read.0,
       read.1,
       λ ms h. record {
-        id = told_here as_str (codes "_id") name read.0 ms _ c.in-text.is (c.as_str-self.ensures read.0 read.2);
+        id = told_here as_str (codes "_id") name read.0 ms _ c.in-text.is (c.as_str-self.ensures.value read.0 read.2);
         status = told_before status_of (codes "status") name read.0 ms _ (other_name name (codes "_id") (codes "status") c.in-text.is refl) h.status;
         error = told_before told_error (codes "error") name read.0 ms _ (other_name name (codes "_id") (codes "error") c.in-text.is refl) h.error;
       },
