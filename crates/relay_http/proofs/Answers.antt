@@ -40,6 +40,15 @@ pub answer_joined : {A E : Type 0} (last : Result A E) (status reason digits e t
 answer_joined (Ok u) status reason digits e t1 t2 t3 t4 t5 t6 t7 keep e1 e2 e3 e4 e5 e6 e7 e8 = joined status reason digits e t1 t2 t3 t4 t5 t6 t7 keep e1 e2 e3 e4 e5 e6 e7 e8
 answer_joined (Err f) status reason digits e t1 t2 t3 t4 t5 t6 t7 keep e1 e2 e3 e4 e5 e6 e7 e8 = tt
 
+-- a head and a body behind it, where the body was appended
+pub answer_ended : {A E : Type 0} (last : Result A E) (head before body given new : List ℕ)
+    → before ≡ head
+    → given ≡ body
+    → new ≡ (if is_ok last then before ++ given else before)
+    → OnOk last (new ≡ head ++ body)
+answer_ended (Ok u) head before body given new e1 e2 e3 = rw (e3, e1, e2) refl
+answer_ended (Err f) head before body given new e1 e2 e3 = tt
+
 front : (status reason : List ℕ) (fields : List Field) → print_response (record { blank = []; minor = 1; digits = status; reason = Some reason; line_end = crlf; fields = fields; last = crlf }) ≡ codes "HTTP/1.1 " ++ (status ++ (32 ∷ (reason ++ (crlf_bytes ++ (flat_map print_field fields ++ crlf_bytes)))))
 unfolding httparse_on_literals
 front status reason fields = simp (append_assoc)

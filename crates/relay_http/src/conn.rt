@@ -22,7 +22,8 @@ use relay_action::{ByteIn, ByteOut, ByteStream, Write};
 use std::alloc::{AllocError, Global};
 use std::marker::Model;
 
-/// A connection over a stream. It holds a window of 16,384 bytes, which `new` makes.
+/// A connection over a stream. It holds a window of 16,384 bytes, which `new` makes, and the room of the
+/// longest message that it wrote.
 ///
 /// A call that answers a fault breaks it, and so does a message after which there is no other: then
 /// each call answers `Broken` and leaves it as it is.
