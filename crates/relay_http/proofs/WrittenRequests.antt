@@ -1,13 +1,14 @@
 -- The request that is written is a request.
-use Rattle.std.proofs.Common.{◌≡◌, ℕ, ◌<◌, ◌≤◌, ◌^◌, true, false, List, [], ◌∷◌, length, refl, ap, sym, arith, ◌&&◌, nat_lt, nat_le}
+use Rattle.std.proofs.Common.{◌≡◌, ℕ, ◌<◌, ◌≤◌, ◌-◌, ◌^◌, true, false, List, [], ◌∷◌, ◌++◌, length, length-append, drop, refl, ap, ◌∙◌, sym, arith, ◌&&◌, nat_lt, nat_le}
 use Rattle.std.specs.List.{list_all}
 use Rattle.std.specs.Fmt.{decimal}
 use Rattle.std.proofs.lemmas.Bool.{and_from}
 use Rattle.std.proofs.lemmas.Bool.Decides.{nat_tests}
 use Rattle.std.proofs.lemmas.Fmt.{length-decimal-le}
+use Rattle.std.proofs.Math.Seq.{drop-append_seam}
 use Rattle.std.proofs.lemmas.Grind.{common_steps}
 use Rattle.httparse.specs.Grammar.{is_value_byte}
-use Rattle.relay_http.specs.WrittenRequest.{head_text, written_head, is_visible, is_host, request}
+use Rattle.relay_http.specs.WrittenRequest.{head_room, head_text, written_head, is_visible, is_host, request, EndsWith}
 use Rattle.relay_http.specs.Request.{IsRequest, request_headers, request_info}
 use Rattle.relay_http.specs.Framing.{keeps}
 use Rattle.relay_http.specs.Fields.{same_word}
@@ -16,9 +17,36 @@ use Rattle.relay_http.proofs.Requests.{printed, is_written, all_pass}
 use Rattle.relay_http.proofs.Written.{both, digits_written, value_digits}
 use Rattle.relay_http.proofs.AnswerLaws.{request_framed}
 
-head_size : (host digits : List ℕ) → length host ≤ 255 → length digits ≤ 20 → length (head_text host digits) ≤ 16384
+head_size : (host digits : List ℕ) → length host ≤ 255 → length digits ≤ 20 → length (head_text host digits) ≤ head_room
 unfolding head_text
 head_size host digits h d = grind (arith, common_steps, h, d)
+
+digits_size : (n : ℕ) → n < 2 ^ 64 → length (decimal n) ≤ 20
+digits_size n small = length-decimal-le 20 n (omega arith) (omega (arith, small)) small
+
+-- a host is short
+host_size : (host : List ℕ) → is_host host ≡ true → length host ≤ 255
+host_size host good =
+    let short = (both (nat_le (length host) 255) (list_all is_visible host) (both (nat_lt 0 (length host)) (nat_le (length host) 255 && list_all is_visible host) good).1).0 in
+    grind (arith, nat_tests, short)
+
+-- a head has room
+pub head_fits : (host : List ℕ) (n : ℕ) → is_host host ≡ true → n < 2 ^ 64 → length (head_text host (decimal n)) ≤ head_room
+head_fits host n good small = head_size host (decimal n) (host_size host good) (digits_size n small)
+
+-- a head right before the body that stands behind the room is the request
+pub gathered : (host body room before head text : List ℕ) (total start : ℕ)
+    → length room ≡ head_room
+    → before ≡ room ++ body
+    → total ≡ length before
+    → head ≡ head_text host (decimal (total - head_room))
+    → EndsWith text start (head ++ drop head_room before)
+    → EndsWith text start (request host body)
+gathered host body room before head text total start spare is n made ends =
+    let rest : drop head_room before ≡ body = ap (drop head_room) is ∙ ap (λ k. drop k (room ++ body)) (sym spare) ∙ drop-append_seam room body in
+    let sum = ap length is ∙ length-append room body in
+    let size : total - head_room ≡ length body = omega (arith, spare, n, sum) in
+    ends ∙ ap (λ w. head ++ w) rest ∙ ap (λ w. w ++ body) (made ∙ ap (λ k. head_text host (decimal k)) size)
 
 keeps_written : (host digits : List ℕ) → keeps 1 (request_headers (written_head host digits)) ≡ true
 unfolding same_word
@@ -40,12 +68,9 @@ request_written host body good fits =
     let small : n < 2 ^ 64 = omega (arith, fits) in
     let digits = decimal n in
     let parts = both (nat_le (length host) 255) (list_all is_visible host) (both (nat_lt 0 (length host)) (nat_le (length host) 255 && list_all is_visible host) good).1 in
-    let short = parts.0 in
-    let host_size : length host ≤ 255 = grind (arith, nat_tests, short) in
     let visible = visible_values host parts.1 in
-    let size = length-decimal-le 20 n (omega arith) (omega (arith, fits)) small in
     let total = ap length (printed host digits) in
-    let bound = head_size host digits host_size size in
+    let bound = head_fits host n good small in
     let values = value_digits digits (digits_written n small) in
     record {
       info = request_info (written_head host digits);

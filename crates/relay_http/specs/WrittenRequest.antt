@@ -1,5 +1,5 @@
 -- The request that carries a bulk body (RFC 9112, section 3), as it is written.
-use Rattle.std.specs.Prelude.{◌≡◌, ◌&&◌, ℕ, ◌<◌, nat_le, nat_lt, Bool, List, [], ◌∷◌, ◌++◌, length, take, codes, Option, Result, Ok, Err}
+use Rattle.std.specs.Prelude.{◌≡◌, ◌&&◌, ℕ, ◌<◌, nat_le, nat_lt, Bool, List, [], ◌∷◌, ◌++◌, length, take, drop, codes, Option, Result, Ok, Err}
 use Rattle.std.specs.Fmt.{decimal}
 use Rattle.std.specs.Io.KnownBytes.{append_known}
 use Rattle.std.specs.List.{list_all}
@@ -49,6 +49,14 @@ written_head host digits = record {
   fields = host_field host ∷ type_field ∷ length_field digits ∷ [];
   last = crlf;
 }
+
+-- the room that is left for a head before its body is put together, which no head exceeds
+abbrev pub head_room : ℕ
+head_room = 512
+
+-- what stands in a text from this place on is the message
+abbrev pub EndsWith : List ℕ → ℕ → List ℕ → Type 0
+EndsWith text start message = drop start text ≡ message
 
 -- what a write of this message leaves: all of it, or a part where a write failed, or nothing
 abbrev pub Sends : List ℕ → Option (List ℕ) → Option (List ℕ) → Result (Unit {0}) HttpFault → Type 0

@@ -13,17 +13,17 @@ ghost use Rattle.relay_http.specs.declared.fault.HttpFault.{HttpFault};
 
 use crate::buffered::Buffered;
 use crate::fault::HttpFault;
-use crate::message::{answer_head, request_head, send};
+use crate::message::{gather_answer, gather_request, send};
 use crate::phase::Phase;
 use crate::reply::HttpReply;
 use crate::request::HttpRequest;
 use crate::window::Window;
 use relay_action::{ByteIn, ByteOut, ByteStream, Write};
-use relay_ndjson::bulk_text;
 use std::alloc::{AllocError, Global};
 use std::marker::Model;
 
-/// A connection over a stream. It holds a window of 16,384 bytes, which `new` makes.
+/// A connection over a stream. It holds a window of 16,384 bytes, which `new` makes, and the room of the
+/// longest message that it wrote.
 ///
 /// A call that answers a fault breaks it, and so does a message after which there is no other: then
 /// each call answers `Broken` and leaves it as it is.
@@ -31,6 +31,8 @@ use std::marker::Model;
 pub struct Conn<S: ByteStream> {
     bytes: Buffered<S>,
     phase: Phase,
+    /// The message that is being written; its room is kept.
+    text: Vec<u8>,
 }
 
 impl<S: ByteStream> Model for Conn<S> {
@@ -58,6 +60,7 @@ impl<S: ByteStream> Conn<S> {
             Ok(window) => Ok(Conn {
                 bytes: Buffered { stream, window },
                 phase: Phase::Open,
+                text: Vec::new(alloc),
             }),
             Err(failed) => Err((failed, stream)),
         }
@@ -184,7 +187,7 @@ impl<S: ByteOut + Drop> Conn<S> {
         if !self.phase.is_open() {
             return Err(HttpFault::Broken);
         }
-        let result = write_bulk(alloc, &mut self.bytes.stream, host, writes);
+        let result = write_bulk(alloc, &mut self.bytes.stream, &mut self.text, host, writes);
         self.phase = Phase::after(result.is_ok());
         result
     }
@@ -218,37 +221,35 @@ impl<S: ByteOut + Drop> Conn<S> {
             return Err(HttpFault::Broken);
         }
         let lasts = keep && self.phase.is_open();
-        let result = write_text(alloc, &mut self.bytes.stream, status, body, lasts);
+        let result = write_text(&mut self.bytes.stream, &mut self.text, status, body, lasts);
         self.phase = Phase::after(result.is_ok() && lasts);
         result
     }
 }
 
-// Writes the request that carries these writes.
+// Writes the request that carries these writes, put together in the text.
 fn write_bulk<S: ByteOut>(
     alloc: Global,
     stream: &mut S,
+    text: &mut Vec<u8>,
     host: &str,
     writes: &[Write],
 ) -> Result<(), HttpFault>
+    requires { IsTrue (is_host host.now) }
     ensures sent { Sends (request host.now (text_of writes.now)) (S.written stream.old) (S.written stream.new) result }
     ensures failed { S.failed stream.new ≡ failed_writing result (S.failed stream.old) }
     ensures left { S.left stream.new ≡ S.left stream.old }
 {
-    match bulk_text(alloc, writes) {
+    match gather_request(alloc, text, host, writes) {
         Err(_) => Err(HttpFault::Memory),
-        Ok(body) => send(
-            stream,
-            request_head(alloc, host, body.len()),
-            body.as_slice(),
-        ),
+        Ok(start) => send(stream, &text[start..]),
     }
 }
 
-// Writes the answer with this status and this body, which says close or not.
+// Writes the answer with this status and this body, which says close or not, put together in the text.
 fn write_text<S: ByteOut>(
-    alloc: Global,
     stream: &mut S,
+    text: &mut Vec<u8>,
     status: u16,
     body: &str,
     keep: bool,
@@ -257,6 +258,8 @@ fn write_text<S: ByteOut>(
     ensures failed { S.failed stream.new ≡ failed_writing result (S.failed stream.old) }
     ensures left { S.left stream.new ≡ S.left stream.old }
 {
-    let head = answer_head(alloc, status, body.len(), keep);
-    send(stream, head, body.as_bytes())
+    match gather_answer(text, status, body, keep) {
+        Err(_) => Err(HttpFault::Memory),
+        Ok(()) => send(stream, text.as_slice()),
+    }
 }

@@ -1,5 +1,6 @@
 //! Requests and answers as they are written, and what they leave of the connection.
 ghost use Rattle.std.specs.Prelude.{◌≤◌, length};
+ghost use Rattle.relay_ndjson.specs.Bulk.{text_of};
 ghost use Rattle.relay_http.specs.WrittenAnswer.{IsAnswerStatus};
 
 use crate::reading::{gives_reply, gives_request, over};
@@ -52,6 +53,30 @@ fn a_request_without_writes(rt: HostRuntime) -> Result<(), Fail> {
         was_written(
             conn,
             b"POST /_bulk HTTP/1.1\r\nHost: a\r\nContent-Type: application/x-ndjson\r\nContent-Length: 0\r\n\r\n"
+        )
+    );
+    Ok(())
+}
+
+// Whether a request with these writes, one without any and an answer are written one after another.
+fn writes_in_turn(alloc: Global, conn: &mut Conn<MemStream>, writes: &[Write]) -> bool
+    requires { length (text_of writes.now) ≤ 1000 }
+{
+    conn.write_request(alloc, "a", writes).is_ok()
+        && conn.write_request(alloc, "a", &[]).is_ok()
+        && conn.write_answer(alloc, 200, "ok", true).is_ok()
+}
+
+#[test]
+fn messages_one_after_another(rt: HostRuntime) -> Result<(), Fail> {
+    let writes = one_write(rt.alloc())?;
+    assert!(rt; writes.len() == 1 && bulk_len(writes.as_slice()) == 78);
+    let mut conn = over(rt.alloc(), b"", 5)?;
+    assert!(rt; writes_in_turn(rt.alloc(), &mut conn, writes.as_slice()));
+    assert!(rt;
+        was_written(
+            conn,
+            b"POST /_bulk HTTP/1.1\r\nHost: a\r\nContent-Type: application/x-ndjson\r\nContent-Length: 78\r\n\r\n{\"delete\":{\"_id\":\"2\",\"_index\":\"books\",\"version\":2,\"version_type\":\"external\"}}\nPOST /_bulk HTTP/1.1\r\nHost: a\r\nContent-Type: application/x-ndjson\r\nContent-Length: 0\r\n\r\nHTTP/1.1 200 OK\r\nContent-Type: application/json\r\nContent-Length: 2\r\n\r\nok"
         )
     );
     Ok(())

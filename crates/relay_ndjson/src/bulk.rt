@@ -39,14 +39,24 @@ pub fn append_write(alloc: Global, text: &mut Vec<u8>, write: &Write) -> Result<
     done
 }
 
+/// Appends the bulk text of writes to a text: their lines, one after another. `AllocError`: there was no
+/// memory for them, and the text may hold some of them.
+pub fn append_bulk(text: &mut Vec<u8>, writes: &[Write]) -> Result<(), AllocError>
+    ensures { OnOk result (text.new.items ≡ text.old.items ++ text_of writes.now) }
+{
+    let alloc = *text.allocator();
+    for write in writes {
+        append_write(alloc, text, write)?;
+    }
+    Ok(())
+}
+
 /// The bulk text of writes: their lines, one after another. `AllocError`: there was no memory for it.
 pub fn bulk_text(alloc: Global, writes: &[Write]) -> Result<Vec<u8>, AllocError>
     ensures { IfOk result (λ text. text.items ≡ text_of writes.now) }
 {
     let mut text = Vec::new(alloc);
-    for write in writes {
-        append_write(alloc, &mut text, write)?;
-    }
+    append_bulk(&mut text, writes)?;
     Ok(text)
 }
 

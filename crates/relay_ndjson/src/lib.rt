@@ -25,7 +25,7 @@ mod usual;
 mod versioned_line;
 
 pub use body::read_bulk;
-pub use bulk::{TextFault, append_write, bulk_text, write_write};
+pub use bulk::{TextFault, append_bulk, append_write, bulk_text, write_write};
 pub use input::Input;
 pub use kind::{BulkFault, InputFault, LineKind};
 pub use length::{bulk_len, write_len};

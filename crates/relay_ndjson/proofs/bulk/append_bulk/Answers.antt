@@ -1,6 +1,6 @@
 use Rattle.std.proofs.Common.{arith}
 use Rattle.std.proofs.lemmas.Grind.{common_steps}
-use Rattle.relay_ndjson.proofs.bulk.bulk_text.Goals as goal
+use Rattle.relay_ndjson.proofs.bulk.append_bulk.Goals as goal
 
 pub loop-write-preserved : goal.loop-write-preserved
 loop-write-preserved c = grind (arith, common_steps)
