@@ -59,6 +59,31 @@ fn operations_and_their_lines(rt: HostRuntime) -> Result<(), Fail> {
     Ok(())
 }
 
+// The same is read of a line in the usual form and of one in another form.
+#[test]
+fn forms_of_action_lines(rt: HostRuntime) -> Result<(), Fail> {
+    let rows: [(&[u8], &str, &str, Option<&str>); 12] = [
+        (b"{\"index\":{\"_index\":\"c\",\"_id\":\"1\"}}\n{}", "1", "c", Some("{}")),
+        (b"{\"index\":{\"_id\":\"1\"}}\n{}", "1", "b", Some("{}")),
+        (b"{\"delete\":{\"_index\":\"c\",\"_id\":\"1\"}}\n", "1", "c", None),
+        (b"{\"delete\":{\"_id\":\"1\"}}", "1", "b", None),
+        (b"{\"delete\":{\"_id\":\"1\",\"_index\":\"c\"}}", "1", "c", None),
+        (b" { \"delete\" : {\"_index\":\"c\",\"_id\":\"1\"}}", "1", "c", None),
+        (b"{\"delete\":{\"_index\":\"c\",\"_id\":\"1\"}} ", "1", "c", None),
+        (b"{\"delete\":{\"_index\":\"c\",\"_id\":\"}}\"}}", "}}", "c", None),
+        (b"{\"delete\":{\"_index\":\"c\",\"_id\":\"\\\"\\u0031\"}}", "\"1", "c", None),
+        (b"{\"delete\":{\"_index\":\"\\\\\",\"_id\":\"1\"}}", "1", "\\", None),
+        ("{\"delete\":{\"_index\":\"c\",\"_id\":\"ä\"}}".as_bytes(), "ä", "c", None),
+        ("{\"delete\":{\"_index\":\"ä\",\"_id\":\"1\"}}".as_bytes(), "1", "ä", None),
+    ];
+    for (text, id, index, source) in rows {
+        let mut input = input_of(rt.alloc(), text)?;
+        assert!(rt; gives(&mut input, id, index, source)?);
+        assert!(rt; matches!(input.next(), Ok(None)));
+    }
+    Ok(())
+}
+
 // The operations of an input of which one read fails, and its first fault, where the second answer after it
 // is Failed on the same line. Nine bytes come at a time.
 fn failed_read(
