@@ -2,3 +2,4 @@ pub mod Items
 pub mod Walks
 pub mod Sole
 pub mod Leaves
+pub mod Plain

@@ -8,6 +8,7 @@
 mod fault;
 mod leaf;
 mod number;
+mod plain;
 mod reading;
 mod sole;
 mod walk;
@@ -15,6 +16,7 @@ mod walk;
 pub use fault::ReadFault;
 pub use json::Scratch;
 pub use leaf::Leaf;
+pub use plain::{after, plain_text, take_plain};
 pub use reading::{read_object, read_sole_object};
 pub use sole::Fields;
 pub use walk::{Collect, Gather, Walk};

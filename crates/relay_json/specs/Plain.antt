@@ -1,0 +1,10 @@
+-- Texts that stand for themselves in a JSON string (RFC 8259, section 7).
+use Rattle.std.specs.Prelude.{◌≡◌, ℕ, Bool, true, not, ◌&&◌, ◌==◌, nat_le, nat_lt, List}
+use Rattle.std.specs.List.{list_all}
+
+-- a character of ASCII from the space on, but no quote, no backslash and no DEL
+abbrev pub is_plain_byte : ℕ → Bool
+is_plain_byte b = nat_le 32 b && nat_lt b 127 && not (b == 34) && not (b == 92)
+
+abbrev pub IsPlain : List ℕ → Type 0
+IsPlain text = list_all is_plain_byte text ≡ true

@@ -1,0 +1,51 @@
+//! Texts that stand for themselves, and the bytes between them.
+ghost use Rattle.std.specs.Prelude.{◌≡◌, ◌++◌, ◌∷◌, IfSome};
+ghost use Rattle.std.specs.List.{list_all};
+ghost use Rattle.relay_json.specs.Plain.{is_plain_byte, IsPlain};
+
+use memchr::memchr;
+use std::str;
+
+/// What follows these bytes, where they stand in front.
+#[inline(always)]
+pub fn after<'t>(bytes: &'t [u8], front: &[u8]) -> Option<&'t [u8]>
+    ensures { IfSome result (λ rest. bytes.now ≡ front.now ++ rest.now) }
+{
+    bytes.strip_prefix(front)
+}
+
+/// The text of bytes that all are characters of ASCII from the space on, but no quote, no backslash and
+/// no DEL: in a JSON string they stand for themselves (RFC 8259, section 7). `None`: some are not.
+pub fn plain_text(bytes: &[u8]) -> Option<&str>
+    ensures same { IfSome result (λ text. text.now ≡ bytes.now) }
+    ensures plain { IfSome result (λ text. IsPlain text.now) }
+{
+    if !is_plain(bytes) {
+        return None;
+    }
+    Some(unsafe { str::from_utf8_unchecked(bytes) })
+}
+
+/// The plain text up to the next quote, and what follows the quote. `None`: there is no quote, or the
+/// text before it is not plain.
+pub fn take_plain(bytes: &[u8]) -> Option<(&str, &[u8])>
+    ensures parts { IfSome result (λ t. bytes.now ≡ t.0.now ++ 34 ∷ t.1.now) }
+    ensures plain { IfSome result (λ t. IsPlain t.0.now) }
+{
+    let (text, rest) = bytes.split_at(memchr(b'"', bytes)?);
+    Some((plain_text(text)?, rest.strip_prefix(b"\"")?))
+}
+
+// Whether each byte is a character of ASCII that stands for itself.
+fn is_plain(bytes: &[u8]) -> bool
+    ensures { result ≡ list_all is_plain_byte bytes.now }
+{
+    bytes.iter().all(|byte| is_plain_byte(*byte))
+}
+
+#[inline(always)]
+fn is_plain_byte(byte: u8) -> bool
+    ensures { result ≡ is_plain_byte byte }
+{
+    byte >= 32 && byte < 127 && byte != b'"' && byte != b'\\'
+}
