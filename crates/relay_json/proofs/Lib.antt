@@ -5,3 +5,4 @@ pub mod Results
 pub mod Turns
 pub mod Numbers
 pub mod Digits
+pub mod Decimals
