@@ -6,3 +6,4 @@ pub mod Turns
 pub mod Numbers
 pub mod Digits
 pub mod PlainTexts
+pub mod Decimals

@@ -5,6 +5,7 @@
 //! no JSON, also where nobody asks for it.
 #![tactic(auto)]
 
+mod decimal;
 mod fault;
 mod leaf;
 mod number;
@@ -13,6 +14,7 @@ mod reading;
 mod sole;
 mod walk;
 
+pub use decimal::take_decimal;
 pub use fault::ReadFault;
 pub use json::Scratch;
 pub use leaf::Leaf;

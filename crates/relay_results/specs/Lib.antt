@@ -7,5 +7,6 @@ pub mod Outside
 pub mod Fates
 pub mod Laws
 pub mod Replies
+pub mod Usual
 pub mod Parts
 pub mod Done

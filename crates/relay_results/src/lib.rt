@@ -13,6 +13,7 @@ pub mod laws;
 pub mod outcome;
 pub mod pairing;
 pub mod reading;
+mod usual;
 pub mod writing;
 
 pub use cause::Cause;
