@@ -5,5 +5,6 @@ pub mod OneMore
 pub mod Excluded
 pub mod Fates
 pub mod ReadsBack
+pub mod UsualReplies
 pub mod OneReading
 pub mod Steps

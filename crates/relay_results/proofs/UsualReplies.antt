@@ -1,0 +1,171 @@
+-- A reply in the usual form says what its entries say.
+use denote.Ref.{Bor}
+use Rattle.std.proofs.Common.{◌≡◌, ℕ, ◌^◌, ◌<◌, ◌≤◌, ◌+◌, List, [], ◌∷◌, ◌++◌, length, Option, Some, None, IsUtf8, true, false, refl, sym, ap, ◌∙◌, arith, rules, lit≤, codes, decimal, append_assoc, append-nil, length-append, option_and_then}
+use Rattle.std.specs.Prelude.{map}
+use Rattle.std.proofs.lemmas.Grind.{common_steps}
+use Rattle.std.proofs.lemmas.Str.{IsUtf8-append}
+use Rattle.std.proofs.lemmas.Fmt.{decimal_by_steps}
+use Rattle.json.specs.Json as json
+use Rattle.json.specs.Lex.{tokens}
+use Rattle.json.specs.Print.{ArePrintable, escape_byte, print, print_from, quoted}
+use Rattle.json.specs.Token.{Token}
+use Rattle.json.specs.Tree.{json_tokens, items_tokens, items_depth, depth}
+use Rattle.json.proofs.Printed.Decimals.{IsNumber-decimal}
+use Rattle.json.proofs.Printed.Tokens.{tokens-print}
+use Rattle.json.proofs.Printed.Trees.{value-json_tokens}
+use Rattle.json.proofs.Printed.Utf8.{IsUtf8-are_ascii}
+use Rattle.serde_json.specs.Data.{Data, Items, no_items, item, Members, string, number, boolean, unsigned, array, object, member, no_members}
+use Rattle.serde_json.specs.Read.{read, of_json, of_items, number_of, max_depth}
+use Rattle.serde_json.proofs.Numbers.{number_of-decimal}
+use Rattle.relay_action.specs.Actions.{kind_name}
+use Rattle.relay_action.specs.declared.action.ActionKind.{ActionKind}
+use Rattle.relay_action.specs.declared.action.ActionKind.TheVariants as action
+use Rattle.relay_json.specs.Plain.{IsPlain}
+use Rattle.relay_json.proofs.PlainTexts.{between_quotes, utf8_plain}
+use Rattle.relay_results.specs.declared.outcome.Outcome.{Outcome}
+use Rattle.relay_results.specs.declared.usual.Entry.{Entry}
+use Rattle.relay_results.specs.Replies.{IsEntry, AreEntries, IsReply}
+use Rattle.relay_results.specs.Usual.{start_text, type_text, id_text, document_text, applied_text, shards_text, place_text, entry_text, more_text, head_text, outcome_of, IsPlainType, IsDocument, IsApplied, AreShards, IsPlace, IsUsual, AreUsual, HasRead}
+
+-- ---- entries one after another
+
+more_text-snoc : (es : List Entry) (e : Entry) (rest : List ℕ) → more_text (es ++ e ∷ []) rest ≡ more_text es (codes "," ++ entry_text e rest)
+more_text-snoc [] e rest = refl
+more_text-snoc (x ∷ xs) e rest = ap (λ t. codes "," ++ entry_text x t) (more_text-snoc xs e rest)
+
+outcomes-snoc : (es : List Entry) (e : Entry) → map outcome_of (es ++ e ∷ []) ≡ map outcome_of es ++ outcome_of e ∷ []
+outcomes-snoc [] e = refl
+outcomes-snoc (x ∷ xs) e = ap (λ os. outcome_of x ∷ os) (outcomes-snoc xs e)
+
+usual-snoc : (es : List Entry) (e : Entry) → AreUsual es → IsUsual e → AreUsual (es ++ e ∷ [])
+usual-snoc [] e h k = (k, tt)
+usual-snoc (x ∷ xs) e h k = (h.0, usual-snoc xs e h.1 k)
+
+pub one_more : (bytes : List ℕ) (os new : List Outcome) (rest more later : List ℕ) (e : Entry) → HasRead bytes os rest → rest ≡ codes "," ++ more → more ≡ entry_text e later → IsUsual e → new ≡ os ++ outcome_of e ∷ [] → HasRead bytes new later
+one_more bytes os new rest more later e h comma entry usual grown = record {
+  took = h.took;
+  took_fits = h.took_fits;
+  first = h.first;
+  more = h.more ++ e ∷ [];
+  first_is = h.first_is;
+  more_are = usual-snoc h.more e h.more_are usual;
+  text = h.text ∙ ap (λ t. head_text h.took (entry_text h.first t)) (ap (more_text h.more) (comma ∙ ap (λ (t : List ℕ). codes "," ++ t) entry) ∙ sym (more_text-snoc h.more e later));
+  says = grown ∙ ap (λ xs. xs ++ outcome_of e ∷ []) h.says ∙ ap (λ xs. outcome_of h.first ∷ xs) (sym (outcomes-snoc h.more e));
+}
+
+pub first_one : (bytes : List ℕ) (took : ℕ) (new : List Outcome) (rest later : List ℕ) (e : Entry) → took < 2 ^ 64 → bytes ≡ head_text took rest → rest ≡ entry_text e later → IsUsual e → new ≡ outcome_of e ∷ [] → HasRead bytes new later
+first_one bytes took new rest later e fits head entry usual grown = record {
+  took = took;
+  took_fits = fits;
+  first = e;
+  more = [];
+  first_is = usual;
+  more_are = tt;
+  text = head ∙ ap (head_text took) entry;
+  says = grown;
+}
+
+-- ---- an entry as a JSON value
+
+abbrev type_json : Option (Bor (List ℕ)) → json.Members → json.Members
+type_json None ms = ms
+type_json (Some t) ms = json.member (codes "_type") (json.string t.now) ms
+
+abbrev number_json : List ℕ → ℕ → json.Members → json.Members
+number_json name n ms = json.member name (json.number (decimal n)) ms
+
+abbrev shards_json : (a b c : ℕ) → json.Json
+shards_json a b c = json.object (number_json (codes "total") a (number_json (codes "successful") b (number_json (codes "failed") c json.no_members)))
+
+abbrev fields_json : (t : Option (Bor (List ℕ))) (index id result : List ℕ) (v a b c n p s : ℕ) → json.Members
+fields_json t index id result v a b c n p s =
+    json.member (codes "_index") (json.string index)
+    (type_json t
+    (json.member (codes "_id") (json.string id)
+    (number_json (codes "_version") v
+    (json.member (codes "result") (json.string result)
+    (json.member (codes "_shards") (shards_json a b c)
+    (number_json (codes "_seq_no") n (number_json (codes "_primary_term") p (number_json (codes "status") s json.no_members))))))))
+
+abbrev line_json : (k : ActionKind) (t : Option (Bor (List ℕ))) (index id result : List ℕ) (v a b c n p s : ℕ) → json.Json
+line_json k t index id result v a b c n p s = json.object (json.member (kind_name k) (json.object (fields_json t index id result v a b c n p s)) json.no_members)
+
+abbrev entry_json : Entry → json.Json
+entry_json e =
+    line_json e.document.kind e.document.type_name e.document.index.now e.document.id.now e.applied.result.now
+    e.applied.version e.shards.total e.shards.successful e.shards.failed e.place.seq_no e.place.primary_term e.place.status
+
+-- its members, in byte order of their names
+abbrev number_data : List ℕ → ℕ → Members → Members
+number_data name n ms = member name (number (unsigned n)) ms
+
+abbrev shards_data : (a b c : ℕ) → Data
+shards_data a b c = object (number_data (codes "failed") c (number_data (codes "successful") b (number_data (codes "total") a no_members)))
+
+abbrev type_data : Option (Bor (List ℕ)) → Members → Members
+type_data None ms = ms
+type_data (Some t) ms = member (codes "_type") (string t.now) ms
+
+abbrev fields_data : (t : Option (Bor (List ℕ))) (index id result : List ℕ) (v a b c n p s : ℕ) → Members
+fields_data t index id result v a b c n p s =
+    member (codes "_id") (string id)
+    (member (codes "_index") (string index)
+    (number_data (codes "_primary_term") p
+    (number_data (codes "_seq_no") n
+    (member (codes "_shards") (shards_data a b c)
+    (type_data t
+    (number_data (codes "_version") v
+    (member (codes "result") (string result) (number_data (codes "status") s no_members))))))))
+
+abbrev line_data : (k : ActionKind) (t : Option (Bor (List ℕ))) (index id result : List ℕ) (v a b c n p s : ℕ) → Data
+line_data k t index id result v a b c n p s = object (member (kind_name k) (object (fields_data t index id result v a b c n p s)) no_members)
+
+abbrev entry_data : Entry → Data
+entry_data e =
+    line_data e.document.kind e.document.type_name e.document.index.now e.document.id.now e.applied.result.now
+    e.applied.version e.shards.total e.shards.successful e.shards.failed e.place.seq_no e.place.primary_term e.place.status
+
+line_reads : (k : ActionKind) (t : Option (Bor (List ℕ))) (index id result : List ℕ) (v a b c n p s : ℕ)
+    → number_of (decimal v) ≡ Some (unsigned v) → number_of (decimal a) ≡ Some (unsigned a) → number_of (decimal b) ≡ Some (unsigned b) → number_of (decimal c) ≡ Some (unsigned c)
+    → number_of (decimal n) ≡ Some (unsigned n) → number_of (decimal p) ≡ Some (unsigned p) → number_of (decimal s) ≡ Some (unsigned s)
+    → of_json (line_json k t index id result v a b c n p s) ≡ Some (line_data k t index id result v a b c n p s)
+line_reads k None index id result v a b c n p s hv ha hb hc hn hp hs = rw (hv, ha, hb, hc, hn, hp, hs) refl
+line_reads k (Some t) index id result v a b c n p s hv ha hb hc hn hp hs = rw (hv, ha, hb, hc, hn, hp, hs) refl
+
+entry_reads : (e : Entry) → IsUsual e → of_json (entry_json e) ≡ Some (entry_data e)
+entry_reads e h =
+    line_reads e.document.kind e.document.type_name e.document.index.now e.document.id.now e.applied.result.now
+    e.applied.version e.shards.total e.shards.successful e.shards.failed e.place.seq_no e.place.primary_term e.place.status
+    (number_of-decimal e.applied.version h.applied.0)
+    (number_of-decimal e.shards.total h.shards.0) (number_of-decimal e.shards.successful h.shards.1) (number_of-decimal e.shards.failed h.shards.2)
+    (number_of-decimal e.place.seq_no h.place.0) (number_of-decimal e.place.primary_term h.place.1) (number_of-decimal e.place.status h.place.2)
+
+-- ---- its text
+
+-- how it begins, up to the first string
+abbrev name_text : ActionKind → List ℕ
+name_text action.Index = codes "{\"index\":{\"_index\":"
+name_text action.Delete = codes "{\"delete\":{\"_index\":"
+
+abbrev type_strings : Option (Bor (List ℕ)) → List ℕ → List ℕ
+type_strings None rest = rest
+type_strings (Some t) rest = codes ",\"_type\":" ++ (quoted t.now ++ rest)
+
+-- what follows the result, from the comma on
+abbrev after_result : (a b c n p s : ℕ) → List ℕ → List ℕ
+after_result a b c n p s rest =
+    codes ",\"_shards\":{\"total\":" ++ (decimal a ++ (codes ",\"successful\":" ++ (decimal b ++ (codes ",\"failed\":" ++ (decimal c ++ (codes "}" ++
+    (codes ",\"_seq_no\":" ++ (decimal n ++ (codes ",\"_primary_term\":" ++ (decimal p ++ (codes ",\"status\":" ++ (decimal s ++ (codes "}}" ++ rest)))))))))))))
+
+-- with its strings whole
+abbrev strings : (k : ActionKind) (t : Option (Bor (List ℕ))) (index id result : List ℕ) (v a b c n p s : ℕ) → List ℕ → List ℕ
+strings k t index id result v a b c n p s rest =
+    name_text k ++ (quoted index ++ type_strings t (codes ",\"_id\":" ++ (quoted id ++ (codes ",\"_version\":" ++ (decimal v ++ (codes ",\"result\":" ++ (quoted result ++ after_result a b c n p s rest)))))))
+
+printed : (k : ActionKind) (t : Option (Bor (List ℕ))) (index id result : List ℕ) (v a b c n p s : ℕ) (ts : List Token)
+    → print_from false (json_tokens (line_json k t index id result v a b c n p s) ++ ts) ≡ strings k t index id result v a b c n p s (print_from true ts)
+unfolding print_from escape_byte
+printed action.Index None index id result v a b c n p s ts = refl
+printed action.Index (Some t) index id result v a b c n p s ts = refl
+printed action.Delete None index id result v a b c n p s ts = refl
+printed action.Delete (Some t) index id result v a b c n p s ts = refl
