@@ -169,3 +169,123 @@ printed action.Index None index id result v a b c n p s ts = refl
 printed action.Index (Some t) index id result v a b c n p s ts = refl
 printed action.Delete None index id result v a b c n p s ts = refl
 printed action.Delete (Some t) index id result v a b c n p s ts = refl
+
+-- what follows the strings, without the commas that stand in front
+abbrev from_shards : (a b c n p s : ℕ) → List ℕ → List ℕ
+from_shards a b c n p s rest =
+    codes "\"_shards\":{\"total\":" ++ (decimal a ++ (codes ",\"successful\":" ++ (decimal b ++ (codes ",\"failed\":" ++ (decimal c ++ (codes "},\"_seq_no\":" ++ (decimal n ++ (codes ",\"_primary_term\":" ++ (decimal p ++ (codes ",\"status\":" ++ (decimal s ++ (codes "}}" ++ rest))))))))))))
+
+abbrev from_version : (result : List ℕ) (v a b c n p s : ℕ) → List ℕ → List ℕ
+from_version result v a b c n p s rest = codes "\"_version\":" ++ (decimal v ++ (codes ",\"result\":\"" ++ (result ++ (codes "\"," ++ from_shards a b c n p s rest))))
+
+abbrev pieces : (k : ActionKind) (t : Option (Bor (List ℕ))) (index id result : List ℕ) (v a b c n p s : ℕ) → List ℕ → List ℕ
+pieces k t index id result v a b c n p s rest = start_text k ++ (index ++ (codes "\"," ++ type_text t (id_text id (from_version result v a b c n p s rest))))
+
+-- from the version on
+version_pieces : (result : List ℕ) (v a b c n p s : ℕ) (rest : List ℕ) → IsPlain result
+    → codes ",\"_version\":" ++ (decimal v ++ (codes ",\"result\":" ++ (quoted result ++ after_result a b c n p s rest))) ≡ codes "," ++ from_version result v a b c n p s rest
+version_pieces result v a b c n p s rest h =
+    ap (λ (x : List ℕ). codes ",\"_version\":" ++ (decimal v ++ (codes ",\"result\":" ++ x))) (between_quotes result (after_result a b c n p s rest) h)
+
+-- from the id on
+id_pieces : (id tail : List ℕ) → IsPlain id → codes ",\"_id\":" ++ (quoted id ++ (codes "," ++ tail)) ≡ codes "," ++ id_text id tail
+id_pieces id tail h = ap (λ (x : List ℕ). codes ",\"_id\":" ++ x) (between_quotes id (codes "," ++ tail) h)
+
+-- from the type on
+type_pieces : (t : Option (Bor (List ℕ))) (tail : List ℕ) → IsPlainType t → type_strings t (codes "," ++ tail) ≡ codes "," ++ type_text t tail
+type_pieces None tail h = refl
+type_pieces (Some t) tail h = ap (λ (x : List ℕ). codes ",\"_type\":" ++ x) (between_quotes t.now (codes "," ++ tail) h)
+
+start_pieces : (k : ActionKind) (index tail : List ℕ) → IsPlain index → name_text k ++ (quoted index ++ tail) ≡ start_text k ++ (index ++ 34 ∷ tail)
+start_pieces action.Index index tail h = ap (λ (x : List ℕ). name_text action.Index ++ x) (between_quotes index tail h)
+start_pieces action.Delete index tail h = ap (λ (x : List ℕ). name_text action.Delete ++ x) (between_quotes index tail h)
+
+in_pieces : (k : ActionKind) (t : Option (Bor (List ℕ))) (index id result : List ℕ) (v a b c n p s : ℕ) (rest : List ℕ) → IsPlain index → IsPlainType t → IsPlain id → IsPlain result
+    → strings k t index id result v a b c n p s rest ≡ pieces k t index id result v a b c n p s rest
+in_pieces k t index id result v a b c n p s rest hi ht hd hr =
+    let version = version_pieces result v a b c n p s rest hr in
+    let from_id = ap (λ (x : List ℕ). codes ",\"_id\":" ++ (quoted id ++ x)) version ∙ id_pieces id (from_version result v a b c n p s rest) hd in
+    let from_type = ap (type_strings t) from_id ∙ type_pieces t (id_text id (from_version result v a b c n p s rest)) ht in
+    ap (λ (x : List ℕ). name_text k ++ (quoted index ++ x)) from_type
+    ∙ start_pieces k index (codes "," ++ type_text t (id_text id (from_version result v a b c n p s rest))) hi
+
+entry_printed : (e : Entry) (ts : List Token) → IsUsual e → print_from false (json_tokens (entry_json e) ++ ts) ≡ entry_text e (print_from true ts)
+entry_printed e ts h =
+    let d = e.document in
+    let a = e.applied in
+    let s = e.shards in
+    let p = e.place in
+    printed d.kind d.type_name d.index.now d.id.now a.result.now a.version s.total s.successful s.failed p.seq_no p.primary_term p.status ts
+    ∙ in_pieces d.kind d.type_name d.index.now d.id.now a.result.now a.version s.total s.successful s.failed p.seq_no p.primary_term p.status (print_from true ts) h.document.0 h.document.1 h.document.2 h.applied.1
+
+line_printable : (k : ActionKind) (t : Option (Bor (List ℕ))) (index id result : List ℕ) (v a b c n p s : ℕ) (ts : List Token)
+    → v < 2 ^ 64 → a < 2 ^ 64 → b < 2 ^ 64 → c < 2 ^ 64 → n < 2 ^ 64 → p < 2 ^ 64 → s < 2 ^ 64 → ArePrintable ts
+    → ArePrintable (json_tokens (line_json k t index id result v a b c n p s) ++ ts)
+unfolding ArePrintable
+line_printable k None index id result v a b c n p s ts hv ha hb hc hn hp hs h =
+    let v = IsNumber-decimal v hv in
+    let a = IsNumber-decimal a ha in
+    let b = IsNumber-decimal b hb in
+    let c = IsNumber-decimal c hc in
+    let n = IsNumber-decimal n hn in
+    let p = IsNumber-decimal p hp in
+    let s = IsNumber-decimal s hs in search rules
+line_printable k (Some t) index id result v a b c n p s ts hv ha hb hc hn hp hs h =
+    let v = IsNumber-decimal v hv in
+    let a = IsNumber-decimal a ha in
+    let b = IsNumber-decimal b hb in
+    let c = IsNumber-decimal c hc in
+    let n = IsNumber-decimal n hn in
+    let p = IsNumber-decimal p hp in
+    let s = IsNumber-decimal s hs in search rules
+
+entry_printable : (e : Entry) (ts : List Token) → IsUsual e → ArePrintable ts → ArePrintable (json_tokens (entry_json e) ++ ts)
+entry_printable e ts h k =
+    line_printable e.document.kind e.document.type_name e.document.index.now e.document.id.now e.applied.result.now
+    e.applied.version e.shards.total e.shards.successful e.shards.failed e.place.seq_no e.place.primary_term e.place.status ts
+    h.applied.0 h.shards.0 h.shards.1 h.shards.2 h.place.0 h.place.1 h.place.2 k
+
+-- ---- it says its outcome
+
+line_says : (k : ActionKind) (t : Option (Bor (List ℕ))) (index id result : List ℕ) (v a b c n p s : ℕ) → 100 ≤ s → s ≤ 599 → IsEntry (line_data k t index id result v a b c n p s) (record { kind = k; id = id; status = s; error = None })
+line_says k None index id result v a b c n p s low high = record {
+  fields = fields_data None index id result v a b c n p s;
+  action = refl;
+  id = refl;
+  status = refl;
+  least = low;
+  most = high;
+  error = refl;
+}
+line_says k (Some t) index id result v a b c n p s low high = record {
+  fields = fields_data (Some t) index id result v a b c n p s;
+  action = refl;
+  id = refl;
+  status = refl;
+  least = low;
+  most = high;
+  error = refl;
+}
+
+entry_says : (e : Entry) → IsUsual e → IsEntry (entry_data e) (outcome_of e)
+entry_says e h =
+    line_says e.document.kind e.document.type_name e.document.index.now e.document.id.now e.applied.result.now
+    e.applied.version e.shards.total e.shards.successful e.shards.failed e.place.seq_no e.place.primary_term e.place.status h.least h.most
+
+-- ---- the entries
+
+abbrev items_json : List Entry → json.Items
+items_json [] = json.no_items
+items_json (e ∷ es) = json.item (entry_json e) (items_json es)
+
+abbrev items_data : List Entry → Items
+items_data [] = no_items
+items_data (e ∷ es) = item (entry_data e) (items_data es)
+
+items_read : (es : List Entry) → AreUsual es → of_items (items_json es) ≡ Some (items_data es)
+items_read [] h = refl
+items_read (e ∷ es) h = rw (entry_reads e h.0, items_read es h.1) refl
+
+each_says : (es : List Entry) → AreUsual es → AreEntries (items_data es) (map outcome_of es)
+each_says [] h = tt
+each_says (e ∷ es) h = (entry_says e h.0, each_says es h.1)
