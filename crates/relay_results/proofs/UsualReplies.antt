@@ -1,6 +1,6 @@
 -- A reply in the usual form says what its entries say.
 use denote.Ref.{Bor}
-use Rattle.std.proofs.Common.{◌≡◌, ℕ, ◌^◌, ◌<◌, ◌≤◌, ◌+◌, List, [], ◌∷◌, ◌++◌, length, Option, Some, None, IsUtf8, true, false, refl, sym, ap, ◌∙◌, arith, rules, lit≤, codes, decimal, append_assoc, append-nil, length-append, option_and_then}
+use Rattle.std.proofs.Common.{◌≡◌, ℕ, ◌^◌, ◌<◌, ◌≤◌, ◌+◌, ◌%◌, List, [], ◌∷◌, ◌++◌, length, Option, Some, None, IsUtf8, true, false, refl, sym, ap, ◌∙◌, subst, arith, rules, lit≤, codes, decimal, append_assoc, append-nil, length-append, option_and_then}
 use Rattle.std.specs.Prelude.{map}
 use Rattle.std.proofs.lemmas.Grind.{common_steps}
 use Rattle.std.proofs.lemmas.Str.{IsUtf8-append}
@@ -13,7 +13,7 @@ use Rattle.json.specs.Tree.{json_tokens, items_tokens, items_depth, depth}
 use Rattle.json.proofs.Printed.Decimals.{IsNumber-decimal}
 use Rattle.json.proofs.Printed.Tokens.{tokens-print}
 use Rattle.json.proofs.Printed.Trees.{value-json_tokens}
-use Rattle.json.proofs.Printed.Utf8.{IsUtf8-are_ascii}
+use Rattle.json.proofs.Printed.Utf8.{IsUtf8-are_ascii, are_ascii}
 use Rattle.serde_json.specs.Data.{Data, Items, no_items, item, Members, string, number, boolean, unsigned, array, object, member, no_members}
 use Rattle.serde_json.specs.Read.{read, of_json, of_items, number_of, max_depth}
 use Rattle.serde_json.proofs.Numbers.{number_of-decimal}
@@ -24,7 +24,7 @@ use Rattle.relay_json.specs.Plain.{IsPlain}
 use Rattle.relay_json.proofs.PlainTexts.{between_quotes, utf8_plain}
 use Rattle.relay_results.specs.declared.outcome.Outcome.{Outcome}
 use Rattle.relay_results.specs.declared.usual.Entry.{Entry}
-use Rattle.relay_results.specs.Replies.{IsEntry, AreEntries, IsReply}
+use Rattle.relay_results.specs.Replies.{IsEntry, AreEntries, IsReply, ReadsAs}
 use Rattle.relay_results.specs.Usual.{start_text, type_text, id_text, document_text, applied_text, shards_text, place_text, entry_text, more_text, head_text, outcome_of, IsPlainType, IsDocument, IsApplied, AreShards, IsPlace, IsUsual, AreUsual, HasRead}
 
 -- ---- entries one after another
@@ -289,3 +289,149 @@ items_read (e ∷ es) h = rw (entry_reads e h.0, items_read es h.1) refl
 each_says : (es : List Entry) → AreUsual es → AreEntries (items_data es) (map outcome_of es)
 each_says [] h = tt
 each_says (e ∷ es) h = (entry_says e h.0, each_says es h.1)
+
+-- ---- it is UTF-8
+
+utf8_digit : (n : ℕ) → n < 10 → IsUtf8 ((48 + n) ∷ [])
+utf8_digit n h = IsUtf8-are_ascii ((48 + n) ∷ []) (grind (arith, common_steps))
+
+utf8_decimal : (n : ℕ) → n < 2 ^ 64 → IsUtf8 (decimal n)
+utf8_decimal n h =
+    decimal_by_steps (λ n ds. IsUtf8 ds) utf8_digit (λ n ds low rec. IsUtf8-append ds ((48 + n % 10) ∷ []) rec (utf8_digit (n % 10) (omega arith))) n h
+
+after_ascii : (front rest : List ℕ) → are_ascii front ≡ true → IsUtf8 rest → IsUtf8 (front ++ rest)
+after_ascii front rest h u = IsUtf8-append front rest (IsUtf8-are_ascii front h) u
+
+after_number : (n : ℕ) (rest : List ℕ) → n < 2 ^ 64 → IsUtf8 rest → IsUtf8 (decimal n ++ rest)
+after_number n rest h u = IsUtf8-append (decimal n) rest (utf8_decimal n h) u
+
+after_text : (text rest : List ℕ) → IsPlain text → IsUtf8 rest → IsUtf8 (text ++ (codes "\"," ++ rest))
+after_text text rest h u = IsUtf8-append text (codes "\"," ++ rest) (utf8_plain text h) (after_ascii (codes "\",") rest refl u)
+
+utf8_start : (k : ActionKind) (rest : List ℕ) → IsUtf8 rest → IsUtf8 (start_text k ++ rest)
+utf8_start action.Index rest u = after_ascii (start_text action.Index) rest refl u
+utf8_start action.Delete rest u = after_ascii (start_text action.Delete) rest refl u
+
+utf8_type : (t : Option (Bor (List ℕ))) (rest : List ℕ) → IsPlainType t → IsUtf8 rest → IsUtf8 (type_text t rest)
+utf8_type None rest h u = u
+utf8_type (Some t) rest h u = after_ascii (codes "\"_type\":\"") (t.now ++ (codes "\"," ++ rest)) refl (after_text t.now rest h u)
+
+utf8_place : (n p s : ℕ) (rest : List ℕ) → n < 2 ^ 64 → p < 2 ^ 64 → s < 2 ^ 64 → IsUtf8 rest
+    → IsUtf8 (codes "\"_seq_no\":" ++ (decimal n ++ (codes ",\"_primary_term\":" ++ (decimal p ++ (codes ",\"status\":" ++ (decimal s ++ (codes "}}" ++ rest)))))))
+utf8_place n p s rest hn hp hs u =
+    let status = after_number s (codes "}}" ++ rest) hs (after_ascii (codes "}}") rest refl u) in
+    let term = after_number p (codes ",\"status\":" ++ (decimal s ++ (codes "}}" ++ rest))) hp (after_ascii (codes ",\"status\":") _ refl status) in
+    after_ascii (codes "\"_seq_no\":") _ refl (after_number n _ hn (after_ascii (codes ",\"_primary_term\":") _ refl term))
+
+utf8_shards : (a b c : ℕ) (rest : List ℕ) → a < 2 ^ 64 → b < 2 ^ 64 → c < 2 ^ 64 → IsUtf8 rest
+    → IsUtf8 (codes "\"_shards\":{\"total\":" ++ (decimal a ++ (codes ",\"successful\":" ++ (decimal b ++ (codes ",\"failed\":" ++ (decimal c ++ (codes "}," ++ rest)))))))
+utf8_shards a b c rest ha hb hc u =
+    let failed = after_number c (codes "}," ++ rest) hc (after_ascii (codes "},") rest refl u) in
+    let successful = after_number b (codes ",\"failed\":" ++ (decimal c ++ (codes "}," ++ rest))) hb (after_ascii (codes ",\"failed\":") _ refl failed) in
+    after_ascii (codes "\"_shards\":{\"total\":") _ refl (after_number a _ ha (after_ascii (codes ",\"successful\":") _ refl successful))
+
+utf8_entry : (e : Entry) (rest : List ℕ) → IsUsual e → IsUtf8 rest → IsUtf8 (entry_text e rest)
+utf8_entry e rest h u =
+    let d = e.document in
+    let place = utf8_place e.place.seq_no e.place.primary_term e.place.status rest h.place.0 h.place.1 h.place.2 u in
+    let shards = utf8_shards e.shards.total e.shards.successful e.shards.failed (place_text e.place rest) h.shards.0 h.shards.1 h.shards.2 place in
+    let tail = shards_text e.shards (place_text e.place rest) in
+    let applied = after_ascii (codes "\"_version\":") _ refl (after_number e.applied.version _ h.applied.0 (after_ascii (codes ",\"result\":\"") _ refl (after_text e.applied.result.now tail h.applied.1 shards))) in
+    let id = after_ascii (codes "\"_id\":\"") _ refl (after_text d.id.now (applied_text e.applied tail) h.document.2 applied) in
+    utf8_start d.kind _ (after_text d.index.now _ h.document.0 (utf8_type d.type_name (id_text d.id.now (applied_text e.applied tail)) h.document.1 id))
+
+utf8_more : (es : List Entry) (rest : List ℕ) → AreUsual es → IsUtf8 rest → IsUtf8 (more_text es rest)
+utf8_more [] rest h u = u
+utf8_more (e ∷ es) rest h u = after_ascii (codes ",") _ refl (utf8_entry e (more_text es rest) h.0 (utf8_more es rest h.1 u))
+
+-- ---- the whole reply
+
+abbrev head_tokens : ℕ → List Token → List Token
+head_tokens took ts =
+    Token.begin_object ∷ Token.key (codes "took") ∷ Token.number (decimal took) ∷ Token.key (codes "errors") ∷ Token.boolean false ∷ Token.key (codes "items") ∷ Token.begin_array ∷ ts
+
+abbrev reply_json : ℕ → Entry → List Entry → json.Json
+reply_json took e es =
+    json.object (number_json (codes "took") took (json.member (codes "errors") (json.boolean false) (json.member (codes "items") (json.array (items_json (e ∷ es))) json.no_members)))
+
+abbrev reply_data : ℕ → Entry → List Entry → Data
+reply_data took e es =
+    object (member (codes "errors") (boolean false) (member (codes "items") (array (items_data (e ∷ es))) (number_data (codes "took") took no_members)))
+
+-- what follows the tokens of items
+abbrev last_tokens : List Token
+last_tokens = Token.end_object ∷ []
+
+reply_tokens : (took : ℕ) (e : Entry) (es : List Entry) → json_tokens (reply_json took e es) ≡ head_tokens took (json_tokens (entry_json e) ++ (items_tokens (items_json es) ++ last_tokens))
+reply_tokens took e es = ap (head_tokens took) (append_assoc (json_tokens (entry_json e)) (items_tokens (items_json es)) last_tokens)
+
+more_printed : (es : List Entry) → AreUsual es → print_from true (items_tokens (items_json es) ++ last_tokens) ≡ more_text es (codes "]}")
+unfolding print_from
+more_printed [] h = refl
+more_printed (e ∷ es) h =
+    ap (print_from true) (append_assoc (json_tokens (entry_json e)) (items_tokens (items_json es)) last_tokens)
+    ∙ ap (λ (x : List ℕ). codes "," ++ x) (entry_printed e (items_tokens (items_json es) ++ last_tokens) h.0 ∙ ap (entry_text e) (more_printed es h.1))
+
+head_printed : (took : ℕ) (ts : List Token) → print (head_tokens took ts) ≡ head_text took (print_from false ts)
+unfolding print_from escape_byte
+head_printed took ts = refl
+
+reply_printed : (took : ℕ) (e : Entry) (es : List Entry) → IsUsual e → AreUsual es → print (json_tokens (reply_json took e es)) ≡ head_text took (entry_text e (more_text es (codes "]}")))
+reply_printed took e es h k =
+    let ts = items_tokens (items_json es) ++ last_tokens in
+    ap print (reply_tokens took e es) ∙ head_printed took (json_tokens (entry_json e) ++ ts)
+    ∙ ap (head_text took) (entry_printed e ts h ∙ ap (entry_text e) (more_printed es k))
+
+more_printable : (es : List Entry) → AreUsual es → ArePrintable (items_tokens (items_json es) ++ last_tokens)
+unfolding ArePrintable
+more_printable [] h = search rules
+more_printable (e ∷ es) h =
+    subst ArePrintable (sym (append_assoc (json_tokens (entry_json e)) (items_tokens (items_json es)) last_tokens))
+    (entry_printable e (items_tokens (items_json es) ++ last_tokens) h.0 (more_printable es h.1))
+
+head_printable : (took : ℕ) (ts : List Token) → took < 2 ^ 64 → ArePrintable ts → ArePrintable (head_tokens took ts)
+unfolding ArePrintable
+head_printable took ts h k = let n = IsNumber-decimal took h in search rules
+
+reply_printable : (took : ℕ) (e : Entry) (es : List Entry) → took < 2 ^ 64 → IsUsual e → AreUsual es → ArePrintable (json_tokens (reply_json took e es))
+reply_printable took e es n h k =
+    let ts = items_tokens (items_json es) ++ last_tokens in
+    subst ArePrintable (sym (reply_tokens took e es)) (head_printable took (json_tokens (entry_json e) ++ ts) n (entry_printable e ts h (more_printable es k)))
+
+line_depth : (k : ActionKind) (t : Option (Bor (List ℕ))) (index id result : List ℕ) (v a b c n p s : ℕ) → depth (line_json k t index id result v a b c n p s) ≤ 3
+line_depth k None index id result v a b c n p s = lit≤ tt
+line_depth k (Some t) index id result v a b c n p s = lit≤ tt
+
+entry_depth : (e : Entry) → depth (entry_json e) ≤ 3
+entry_depth e =
+    line_depth e.document.kind e.document.type_name e.document.index.now e.document.id.now e.applied.result.now
+    e.applied.version e.shards.total e.shards.successful e.shards.failed e.place.seq_no e.place.primary_term e.place.status
+
+more_depth : (es : List Entry) → items_depth (items_json es) ≤ 3
+more_depth [] = omega arith
+more_depth (e ∷ es) = let a = entry_depth e in let b = more_depth es in omega (arith, a, b)
+
+reply_depth : (took : ℕ) (e : Entry) (es : List Entry) → depth (reply_json took e es) ≤ max_depth
+reply_depth took e es = let b = more_depth (e ∷ es) in omega (arith, b)
+
+reply_reads : (took : ℕ) (e : Entry) (es : List Entry) → took < 2 ^ 64 → AreUsual (e ∷ es) → of_json (reply_json took e es) ≡ Some (reply_data took e es)
+reply_reads took e es n h = rw (number_of-decimal took n, items_read (e ∷ es) h) refl
+
+read-reply : (text : List ℕ) (took : ℕ) (e : Entry) (es : List Entry) → text ≡ head_text took (entry_text e (more_text es (codes "]}"))) → took < 2 ^ 64 → IsUsual e → AreUsual es → read text ≡ Some (reply_data took e es)
+read-reply text took e es is n h k =
+    let j = reply_json took e es in
+    let told = ap tokens (is ∙ sym (reply_printed took e es h k)) ∙ tokens-print (json_tokens j) (reply_printable took e es n h k) in
+    let value = ap (json.value max_depth) (told ∙ sym (append-nil _)) ∙ value-json_tokens j max_depth [] (reply_depth took e es) in
+    ap (λ o. option_and_then of_json (option_and_then (λ p. json.if_last p.0 p.1) o)) value ∙ reply_reads took e es n (h, k)
+
+pub whole_reply : (bytes : List ℕ) (os : List Outcome) (rest : List ℕ) → HasRead bytes os rest → rest ≡ codes "]}" → IsReply bytes os
+whole_reply bytes os rest r last =
+    let is = r.text ∙ ap (λ t. head_text r.took (entry_text r.first (more_text r.more t))) last in
+    let head = after_ascii (codes "{\"took\":") _ refl (after_number r.took _ r.took_fits (after_ascii (codes ",\"errors\":false,\"items\":[") _ refl (utf8_entry r.first (more_text r.more (codes "]}")) r.first_is (utf8_more r.more (codes "]}") r.more_are (IsUtf8-are_ascii (codes "]}") refl))))) in
+    record {
+      value = reply_data r.took r.first r.more;
+      reads = record { utf8 = subst IsUtf8 (sym is) head; value = read-reply bytes r.took r.first r.more is r.took_fits r.first_is r.more_are };
+      entries = items_data (r.first ∷ r.more);
+      items = refl;
+      each = subst (AreEntries (items_data (r.first ∷ r.more))) (sym r.says) (each_says (r.first ∷ r.more) (r.first_is, r.more_are));
+    }

@@ -8,6 +8,7 @@ ghost use Rattle.relay_results.specs.Replies.{IsCut, error_limit, IsEntry, IsNoE
 ghost use Rattle.relay_results.specs.Parts.{status_of, told_error, KeepsError, HoldsType, HoldsFields, HoldsEntries, HoldsReply};
 
 use crate::outcome::Outcome;
+use crate::usual::read_usual;
 use relay_action::{ActionKind, Text};
 use relay_json::{Collect, Fields, Gather, Leaf, ReadFault, Scratch, Walk, read_object};
 use std::alloc::{AllocError, Global};
@@ -242,6 +243,17 @@ impl<'t> Gather<'t> for Reply {
 /// text it gives the empty text. All other members are not looked at. The faults are those of
 /// [`ReplyFault`], the first that holds; an error keeps nothing.
 pub fn read_reply(alloc: Global, bytes: &[u8]) -> Result<Vec<Outcome>, ReplyFault>
+    ensures ok { IfOk result (λ v. IsReply bytes.now v.items) }
+    ensures err { IfErr result (λ e. IsFaultOf bytes.now e) }
+{
+    match read_usual(alloc, bytes) {
+        Some(outcomes) => Ok(outcomes),
+        None => parse_reply(alloc, bytes),
+    }
+}
+
+// The outcomes that a reply of any form says.
+fn parse_reply(alloc: Global, bytes: &[u8]) -> Result<Vec<Outcome>, ReplyFault>
     ensures ok { IfOk result (λ v. IsReply bytes.now v.items) }
     ensures err { IfErr result (λ e. IsFaultOf bytes.now e) }
 {

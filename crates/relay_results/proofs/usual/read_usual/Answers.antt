@@ -1,4 +1,4 @@
-use Rattle.relay_results.proofs.UsualReplies.{one_more}
+use Rattle.relay_results.proofs.UsualReplies.{one_more, whole_reply}
 use Rattle.relay_results.proofs.usual.read_usual.Goals as goal
 
 pub entries-preserved : goal.entries-preserved
@@ -8,4 +8,4 @@ entries-preserved c =
     c.entries.invariant c.in-Some.ensures entry.2 entry.1 entry.3
 
 pub returns-then-is_end : goal.returns-then-is_end
-returns-then-is_end c = ?
+returns-then-is_end c = whole_reply c.args.bytes.now c.entries.outcomes.items c.entries.rest.now c.entries.invariant (c.is_end.ensures c.if-is_end.true)

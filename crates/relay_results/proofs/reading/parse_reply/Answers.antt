@@ -1,5 +1,5 @@
 use Rattle.std.proofs.Common.{rules}
-use Rattle.relay_results.proofs.reading.read_reply.Goals as goal
+use Rattle.relay_results.proofs.reading.parse_reply.Goals as goal
 
 pub returns-then-entries-clause-err : goal.returns-then-entries-clause-err
 returns-then-entries-clause-err c = search rules
