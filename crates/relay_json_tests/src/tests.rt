@@ -3,6 +3,7 @@ ghost use Rattle.std.specs.Prelude.{⊤};
 
 use relay_json::{
     Collect, Fields, Gather, Leaf, ReadFault, Scratch, Walk, read_object, read_sole_object,
+    take_decimal,
 };
 use std::alloc::{AllocError, Global};
 use std::test::Fail;
@@ -424,4 +425,30 @@ fn objects_or_leaves(rt: HostRuntime) -> Result<(), Fail> {
         assert!(rt; found.last == last);
     }
     Ok(())
+}
+
+// The number in front of some bytes, and what follows it.
+#[test]
+fn decimals(rt: HostRuntime) {
+    let rows: [(&str, Option<(u64, &str)>); 15] = [
+        ("0", Some((0, ""))),
+        ("7", Some((7, ""))),
+        ("10", Some((10, ""))),
+        ("9,\"x\":1}", Some((9, ",\"x\":1}"))),
+        ("429 ", Some((429, " "))),
+        ("1.5", Some((1, ".5"))),
+        ("01", Some((0, "1"))),
+        ("100000000000000000", Some((100000000000000000, ""))),
+        ("999999999999999999}", Some((999999999999999999, "}"))),
+        ("1000000000000000000", None),
+        ("99999999999999999999", None),
+        ("", None),
+        ("x1", None),
+        ("-1", None),
+        (":", None),
+    ];
+    for (text, front) in rows {
+        let front = front.map(|(number, rest)| (number, rest.as_bytes()));
+        assert!(rt; take_decimal(text.as_bytes()) == front);
+    }
 }
