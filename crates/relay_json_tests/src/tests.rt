@@ -2,8 +2,8 @@
 ghost use Rattle.std.specs.Prelude.{⊤};
 
 use relay_json::{
-    Collect, Fields, Gather, Leaf, ReadFault, Scratch, Walk, read_object, read_sole_object,
-    take_decimal,
+    Collect, Fields, Gather, Leaf, ReadFault, Scratch, Walk, after, plain_text, read_object,
+    read_sole_object, take_decimal, take_plain,
 };
 use std::alloc::{AllocError, Global};
 use std::test::Fail;
@@ -450,5 +450,43 @@ fn decimals(rt: HostRuntime) {
     for (text, front) in rows {
         let front = front.map(|(number, rest)| (number, rest.as_bytes()));
         assert!(rt; take_decimal(text.as_bytes()) == front);
+    }
+}
+
+#[test]
+fn plain_texts(rt: HostRuntime) {
+    let rows: [(&str, Option<&str>, Option<(&str, &str)>); 11] = [
+        ("", Some(""), None),
+        ("a", Some("a"), None),
+        (" ~", Some(" ~"), None),
+        ("\u{1f}", None, None),
+        ("\u{7f}", None, None),
+        ("\u{e4}", None, None),
+        ("a\\", None, None),
+        ("a\"", None, Some(("a", ""))),
+        ("\",\"b\"", None, Some(("", ",\"b\""))),
+        ("a\\\"b", None, None),
+        ("\u{e4}\"", None, None),
+    ];
+    for (text, whole, front) in rows {
+        let bytes = text.as_bytes();
+        let front = front.map(|(text, rest)| (text, rest.as_bytes()));
+        assert!(rt; plain_text(bytes) == whole);
+        assert!(rt; take_plain(bytes) == front);
+    }
+}
+
+#[test]
+fn bytes_in_front(rt: HostRuntime) {
+    let rows: [(&str, &str, Option<&str>); 6] = [
+        ("", "", Some("")),
+        ("ab", "", Some("ab")),
+        ("ab", "a", Some("b")),
+        ("ab", "ab", Some("")),
+        ("ab", "b", None),
+        ("a", "ab", None),
+    ];
+    for (bytes, front, rest) in rows {
+        assert!(rt; after(bytes.as_bytes(), front.as_bytes()) == rest.map(|rest| rest.as_bytes()));
     }
 }

@@ -1,48 +1,24 @@
 -- A line in the usual form says what its parts say.
 use denote.Ref.{Bor}
-use Rattle.std.proofs.Common.{◌≡◌, ℕ, List, [], ◌∷◌, ◌++◌, Option, Some, None, IsUtf8, IsAscii, refl, sym, ap, ◌∙◌, arith, rules, lit≤, codes, append_assoc, append-nil, option_and_then, true, unwrap_or}
-use Rattle.std.proofs.lemmas.Grind.{common_steps}
-use Rattle.std.proofs.lemmas.Str.{IsUtf8-append, IsUtf8-from_ascii}
+use Rattle.std.proofs.Common.{◌≡◌, ℕ, List, [], ◌∷◌, ◌++◌, Option, Some, None, IsUtf8, refl, sym, ap, ◌∙◌, rules, lit≤, codes, append_assoc, append-nil, option_and_then, unwrap_or}
+use Rattle.std.proofs.lemmas.Str.{IsUtf8-append}
 use Rattle.std.specs.Option.{option_or}
 use Rattle.json.specs.Json as json
 use Rattle.json.specs.Lex.{tokens}
-use Rattle.json.specs.Print.{ArePrintable, escape, escape_byte, print, print_from, quoted}
+use Rattle.json.specs.Print.{ArePrintable, escape_byte, print, print_from, quoted}
 use Rattle.json.specs.Tree.{json_tokens}
 use Rattle.json.proofs.Printed.Tokens.{tokens-print}
 use Rattle.json.proofs.Printed.Trees.{value-json_tokens}
 use Rattle.json.proofs.Printed.Utf8.{IsUtf8-are_ascii}
 use Rattle.serde_json.specs.Data.{Data, Members, string, object, member, no_members}
 use Rattle.serde_json.specs.Read.{read, of_json, max_depth}
+use Rattle.relay_json.specs.Plain.{IsPlain}
+use Rattle.relay_json.proofs.PlainTexts.{between_quotes, utf8_plain}
 use Rattle.relay_action.specs.Actions.{kind_name}
 use Rattle.relay_action.specs.declared.action.ActionKind.{ActionKind}
 use Rattle.relay_action.specs.declared.action.ActionKind.TheVariants as action
 use Rattle.relay_ndjson.specs.Metadata.{Says, shown}
-use Rattle.relay_ndjson.specs.Usual.{is_usual_byte, IsUsualText, IsUsualIndex, usual_start, usual_id, usual_line, with_index}
-
--- ---- texts that stand for themselves
-
-usual_byte : (b : ℕ) → is_usual_byte b ≡ true → escape_byte b ≡ b ∷ []
-unfolding escape_byte
-usual_byte b h = grind (arith, common_steps)
-
-usual_head : (b : ℕ) (bs : List ℕ) → IsUsualText (b ∷ bs) → is_usual_byte b ≡ true
-usual_head b bs h = grind (arith, common_steps)
-
-usual_tail : (b : ℕ) (bs : List ℕ) → IsUsualText (b ∷ bs) → IsUsualText bs
-usual_tail b bs h = grind (arith, common_steps)
-
-escape_usual : (text : List ℕ) → IsUsualText text → escape text ≡ text
-escape_usual [] h = refl
-escape_usual (b ∷ bs) h = ap (λ c. c ++ escape bs) (usual_byte b (usual_head b bs h)) ∙ ap (λ cs. b ∷ cs) (escape_usual bs (usual_tail b bs h))
-
-between_quotes : (text rest : List ℕ) → IsUsualText text → quoted text ++ rest ≡ 34 ∷ (text ++ 34 ∷ rest)
-between_quotes text rest h = rw (escape_usual text h) (ap (λ t. 34 ∷ t) (append_assoc text (34 ∷ []) rest))
-
-usual_ascii : (text : List ℕ) → IsUsualText text → IsAscii text
-usual_ascii text h = grind (arith, common_steps)
-
-pub utf8_text : (text : List ℕ) → IsUsualText text → IsUtf8 text
-utf8_text text h = IsUtf8-from_ascii text (usual_ascii text h)
+use Rattle.relay_ndjson.specs.Usual.{IsPlainIndex, usual_start, usual_id, usual_line, with_index}
 
 -- ---- the line as a JSON text
 
@@ -73,7 +49,7 @@ printed action.Index (Some index) id = refl
 printed action.Delete None id = refl
 printed action.Delete (Some index) id = refl
 
-in_pieces : (a : ActionKind) (index : Option (List ℕ)) (id : List ℕ) → IsUsualIndex index → IsUsualText id → strings a index id ≡ usual_line a index id
+in_pieces : (a : ActionKind) (index : Option (List ℕ)) (id : List ℕ) → IsPlainIndex index → IsPlain id → strings a index id ≡ usual_line a index id
 in_pieces a None id h k = ap (λ t. usual_start a ++ (codes "\"_id\":" ++ t)) (between_quotes id (codes "}}") k)
 in_pieces a (Some index) id h k =
     ap (λ t. usual_start a ++ (codes "\"_index\":" ++ (quoted index ++ (codes ",\"_id\":" ++ t)))) (between_quotes id (codes "}}") k)
@@ -88,7 +64,7 @@ reads : (a : ActionKind) (index : Option (List ℕ)) (id : List ℕ) → of_json
 reads a None id = refl
 reads a (Some index) id = refl
 
-tokens_of : (a : ActionKind) (index : Option (List ℕ)) (id : List ℕ) → IsUsualIndex index → IsUsualText id → tokens (usual_line a index id) ≡ json_tokens (line_json a index id)
+tokens_of : (a : ActionKind) (index : Option (List ℕ)) (id : List ℕ) → IsPlainIndex index → IsPlain id → tokens (usual_line a index id) ≡ json_tokens (line_json a index id)
 tokens_of a index id h k =
     ap tokens (sym (printed a index id ∙ in_pieces a index id h k)) ∙ tokens-print (json_tokens (line_json a index id)) (printable a index id)
 
@@ -96,7 +72,7 @@ value_of : (a : ActionKind) (index : Option (List ℕ)) (id : List ℕ) → json
 value_of a None id = ap (json.value max_depth) (sym (append-nil _)) ∙ value-json_tokens (line_json a None id) max_depth [] (lit≤ tt)
 value_of a (Some index) id = ap (json.value max_depth) (sym (append-nil _)) ∙ value-json_tokens (line_json a (Some index) id) max_depth [] (lit≤ tt)
 
-read-usual : (a : ActionKind) (index : Option (List ℕ)) (id : List ℕ) → IsUsualIndex index → IsUsualText id → read (usual_line a index id) ≡ Some (line_data a index id)
+read-usual : (a : ActionKind) (index : Option (List ℕ)) (id : List ℕ) → IsPlainIndex index → IsPlain id → read (usual_line a index id) ≡ Some (line_data a index id)
 read-usual a index id h k =
     ap (λ o. option_and_then of_json (option_and_then (λ p. json.if_last p.0 p.1) o)) (ap (json.value max_depth) (tokens_of a index id h k) ∙ value_of a index id)
     ∙ reads a index id
@@ -107,24 +83,24 @@ utf8_start : (a : ActionKind) → IsUtf8 (usual_start a)
 utf8_start action.Index = IsUtf8-are_ascii (usual_start action.Index) refl
 utf8_start action.Delete = IsUtf8-are_ascii (usual_start action.Delete) refl
 
-utf8_index : (index : Option (List ℕ)) (rest : List ℕ) → IsUsualIndex index → IsUtf8 rest → IsUtf8 (with_index index rest)
+utf8_index : (index : Option (List ℕ)) (rest : List ℕ) → IsPlainIndex index → IsUtf8 rest → IsUtf8 (with_index index rest)
 utf8_index None rest h u = u
 utf8_index (Some index) rest h u =
     let name = codes "\"_index\":\"" in
     let last = codes "\"," in
     IsUtf8-append name (index ++ (last ++ rest)) (IsUtf8-are_ascii name refl)
-    (IsUtf8-append index (last ++ rest) (utf8_text index h) (IsUtf8-append last rest (IsUtf8-are_ascii last refl) u))
+    (IsUtf8-append index (last ++ rest) (utf8_plain index h) (IsUtf8-append last rest (IsUtf8-are_ascii last refl) u))
 
-utf8_id : (id : List ℕ) → IsUsualText id → IsUtf8 (usual_id id)
+utf8_id : (id : List ℕ) → IsPlain id → IsUtf8 (usual_id id)
 utf8_id id k =
     let name = codes "\"_id\":\"" in
     let last = codes "\"}}" in
-    IsUtf8-append name (id ++ last) (IsUtf8-are_ascii name refl) (IsUtf8-append id last (utf8_text id k) (IsUtf8-are_ascii last refl))
+    IsUtf8-append name (id ++ last) (IsUtf8-are_ascii name refl) (IsUtf8-append id last (utf8_plain id k) (IsUtf8-are_ascii last refl))
 
-utf8_line : (a : ActionKind) (index : Option (List ℕ)) (id : List ℕ) → IsUsualIndex index → IsUsualText id → IsUtf8 (usual_line a index id)
+utf8_line : (a : ActionKind) (index : Option (List ℕ)) (id : List ℕ) → IsPlainIndex index → IsPlain id → IsUtf8 (usual_line a index id)
 utf8_line a index id h k = IsUtf8-append (usual_start a) (with_index index (usual_id id)) (utf8_start a) (utf8_index index (usual_id id) h (utf8_id id k))
 
-says_given : (default : Option (List ℕ)) (line : List ℕ) (a : ActionKind) (index id : List ℕ) → line ≡ usual_line a (Some index) id → IsUsualText index → IsUsualText id → Says default line a index id
+says_given : (default : Option (List ℕ)) (line : List ℕ) (a : ActionKind) (index id : List ℕ) → line ≡ usual_line a (Some index) id → IsPlain index → IsPlain id → Says default line a index id
 says_given default line a index id e h k = rw e (
   utf8_line a (Some index) id h k,
   line_data a (Some index) id,
@@ -132,15 +108,15 @@ says_given default line a index id e h k = rw e (
   (metadata (Some index) id, refl, (refl, refl, refl)),
 )
 
-says_default : (default : List ℕ) (line : List ℕ) (a : ActionKind) (id : List ℕ) → line ≡ usual_line a None id → IsUsualText id → Says (Some default) line a default id
+says_default : (default : List ℕ) (line : List ℕ) (a : ActionKind) (id : List ℕ) → line ≡ usual_line a None id → IsPlain id → Says (Some default) line a default id
 says_default default line a id e k = rw e (
-  utf8_line a None id refl k,
+  utf8_line a None id tt k,
   line_data a None id,
-  read-usual a None id refl k,
+  read-usual a None id tt k,
   (metadata None id, refl, (refl, refl, refl)),
 )
 
-pub says_usual : (default given : Option (Bor (List ℕ))) (line : List ℕ) (a : ActionKind) (index : Bor (List ℕ)) (id : List ℕ) → line ≡ usual_line a (shown given) id → IsUsualIndex (shown given) × IsUsualText id → option_or given default ≡ Some index → Says (shown default) line a index.now id
+pub says_usual : (default given : Option (Bor (List ℕ))) (line : List ℕ) (a : ActionKind) (index : Bor (List ℕ)) (id : List ℕ) → line ≡ usual_line a (shown given) id → IsPlainIndex (shown given) × IsPlain id → option_or given default ≡ Some index → Says (shown default) line a index.now id
 says_usual default (Some i) line a index id e h is =
     rw (sym (ap (λ o. (unwrap_or o i).now) is)) (says_given (shown default) line a i.now id e h.0 h.1)
 says_usual (Some d) None line a index id e h is =

@@ -63,18 +63,68 @@ fn operations_and_their_lines(rt: HostRuntime) -> Result<(), Fail> {
 #[test]
 fn forms_of_action_lines(rt: HostRuntime) -> Result<(), Fail> {
     let rows: [(&[u8], &str, &str, Option<&str>); 12] = [
-        (b"{\"index\":{\"_index\":\"c\",\"_id\":\"1\"}}\n{}", "1", "c", Some("{}")),
+        (
+            b"{\"index\":{\"_index\":\"c\",\"_id\":\"1\"}}\n{}",
+            "1",
+            "c",
+            Some("{}"),
+        ),
         (b"{\"index\":{\"_id\":\"1\"}}\n{}", "1", "b", Some("{}")),
-        (b"{\"delete\":{\"_index\":\"c\",\"_id\":\"1\"}}\n", "1", "c", None),
+        (
+            b"{\"delete\":{\"_index\":\"c\",\"_id\":\"1\"}}\n",
+            "1",
+            "c",
+            None,
+        ),
         (b"{\"delete\":{\"_id\":\"1\"}}", "1", "b", None),
-        (b"{\"delete\":{\"_id\":\"1\",\"_index\":\"c\"}}", "1", "c", None),
-        (b" { \"delete\" : {\"_index\":\"c\",\"_id\":\"1\"}}", "1", "c", None),
-        (b"{\"delete\":{\"_index\":\"c\",\"_id\":\"1\"}} ", "1", "c", None),
-        (b"{\"delete\":{\"_index\":\"c\",\"_id\":\"}}\"}}", "}}", "c", None),
-        (b"{\"delete\":{\"_index\":\"c\",\"_id\":\"\\\"\\u0031\"}}", "\"1", "c", None),
-        (b"{\"delete\":{\"_index\":\"\\\\\",\"_id\":\"1\"}}", "1", "\\", None),
-        ("{\"delete\":{\"_index\":\"c\",\"_id\":\"ä\"}}".as_bytes(), "ä", "c", None),
-        ("{\"delete\":{\"_index\":\"ä\",\"_id\":\"1\"}}".as_bytes(), "1", "ä", None),
+        (
+            b"{\"delete\":{\"_id\":\"1\",\"_index\":\"c\"}}",
+            "1",
+            "c",
+            None,
+        ),
+        (
+            b" { \"delete\" : {\"_index\":\"c\",\"_id\":\"1\"}}",
+            "1",
+            "c",
+            None,
+        ),
+        (
+            b"{\"delete\":{\"_index\":\"c\",\"_id\":\"1\"}} ",
+            "1",
+            "c",
+            None,
+        ),
+        (
+            b"{\"delete\":{\"_index\":\"c\",\"_id\":\"}}\"}}",
+            "}}",
+            "c",
+            None,
+        ),
+        (
+            b"{\"delete\":{\"_index\":\"c\",\"_id\":\"\\\"\\u0031\"}}",
+            "\"1",
+            "c",
+            None,
+        ),
+        (
+            b"{\"delete\":{\"_index\":\"\\\\\",\"_id\":\"1\"}}",
+            "1",
+            "\\",
+            None,
+        ),
+        (
+            "{\"delete\":{\"_index\":\"c\",\"_id\":\"ä\"}}".as_bytes(),
+            "ä",
+            "c",
+            None,
+        ),
+        (
+            "{\"delete\":{\"_index\":\"ä\",\"_id\":\"1\"}}".as_bytes(),
+            "1",
+            "ä",
+            None,
+        ),
     ];
     for (text, id, index, source) in rows {
         let mut input = input_of(rt.alloc(), text)?;

@@ -73,11 +73,7 @@ fn is_end(bytes: &[u8]) -> bool
 }
 
 // The head of a reply and its first entry, whose outcome is added; what follows it.
-fn take_first<'t>(
-    alloc: Global,
-    bytes: &'t [u8],
-    outcomes: &mut Vec<Outcome>,
-) -> Option<&'t [u8]>
+fn take_first<'t>(alloc: Global, bytes: &'t [u8], outcomes: &mut Vec<Outcome>) -> Option<&'t [u8]>
     requires { outcomes.old.items ≡ [] }
     ensures { IfSome result (λ rest. HasRead bytes.now outcomes.new.items rest.now) }
 {
@@ -94,11 +90,7 @@ fn take_head(bytes: &[u8]) -> Option<(u64, &[u8])>
 }
 
 // The entry in front, whose outcome is added; what follows it.
-fn take_outcome<'t>(
-    alloc: Global,
-    bytes: &'t [u8],
-    outcomes: &mut Vec<Outcome>,
-) -> Option<&'t [u8]>
+fn take_outcome<'t>(alloc: Global, bytes: &'t [u8], outcomes: &mut Vec<Outcome>) -> Option<&'t [u8]>
     ensures entry { IfSome result (λ rest. (e : EntryModel) × IsUsual e × (bytes.now ≡ entry_text e rest.now)
         × (outcomes.new.items ≡ outcomes.old.items ++ outcome_of e ∷ [])) }
 {

@@ -243,6 +243,136 @@ fn entries(rt: HostRuntime) -> Result<(), Fail> {
     Ok(())
 }
 
+// The outcome of a delete of the document 1 of status 200 and no error is said by a reply in the usual
+// form, and the same by one in another form; a fault is found in both.
+#[test]
+fn forms_of_replies(rt: HostRuntime) -> Result<(), Fail> {
+    let alloc = rt.alloc();
+    let head = "{\"took\":1,\"errors\":false,\"items\":[";
+    let names = "{\"delete\":{\"_index\":\"b\",\"_id\":\"1\",";
+    let done =
+        "\"_version\":1,\"result\":\"deleted\",\"_shards\":{\"total\":2,\"successful\":1,\"failed\":0},";
+    let place = "\"_seq_no\":0,\"_primary_term\":1,\"status\":200}}";
+    let rows: [(&str, &str, &str, &str, &str, Option<ReplyFault>); 16] = [
+        (head, names, done, place, "]}", None),
+        (
+            head,
+            "{\"delete\":{\"_index\":\"b\",\"_type\":\"_doc\",\"_id\":\"1\",",
+            done,
+            place,
+            "]}",
+            None,
+        ),
+        (
+            "{\"took\":1,\"errors\":true,\"items\":[",
+            names,
+            done,
+            place,
+            "]}",
+            None,
+        ),
+        (
+            "{\"took\":1, \"errors\":false,\"items\":[",
+            names,
+            done,
+            place,
+            "]}",
+            None,
+        ),
+        (
+            "{\"errors\":false,\"took\":1,\"items\":[",
+            names,
+            done,
+            place,
+            "]}",
+            None,
+        ),
+        (
+            head,
+            "{\"delete\":{\"_index\":\"\u{e4}\",\"_id\":\"\\u0031\",",
+            done,
+            place,
+            "]}",
+            None,
+        ),
+        (head, names, "\"result\":\"\\n\",", place, "]}", None),
+        (head, names, "\"_version\":1e2,", place, "]}", None),
+        (head, names, done, place, "]} ", None),
+        (head, names, done, place, "],\"ingest_took\":5}", None),
+        (
+            head,
+            names,
+            done,
+            "\"_seq_no\":0,\"_primary_term\":1,\"status\":200,\"x\":1}}",
+            "]}",
+            None,
+        ),
+        (
+            head,
+            names,
+            done,
+            "\"_seq_no\":0,\"_primary_term\":1,\"status\":99}}",
+            "]}",
+            Some(ReplyFault::BadItem(0)),
+        ),
+        (
+            head,
+            names,
+            done,
+            "\"_seq_no\":0,\"_primary_term\":1,\"status\":600}}",
+            "]}",
+            Some(ReplyFault::BadItem(0)),
+        ),
+        (
+            head,
+            names,
+            done,
+            "\"_seq_no\":00,\"_primary_term\":1,\"status\":200}}",
+            "]}",
+            Some(ReplyFault::NotJson),
+        ),
+        (head, names, done, place, "]", Some(ReplyFault::NotJson)),
+        (head, names, done, place, ",]}", Some(ReplyFault::NotJson)),
+    ];
+    for (head, names, done, place, end, fault) in rows {
+        let mut text = String::new(alloc);
+        for part in [head, names, done, place, end] {
+            text.push_str(part)?;
+        }
+        match read_reply(alloc, text.as_bytes()) {
+            Ok(outcomes) => {
+                assert!(rt; fault.is_none() && outcomes.len() == 1);
+                assert!(rt; is_entry(&outcomes[0], ActionKind::Delete, "1", 200, None));
+            }
+            Err(found) => assert!(rt; Some(found) == fault),
+        }
+    }
+    Ok(())
+}
+
+// All entries of a reply in the usual form, in their order.
+#[test]
+fn entries_in_the_usual_form(rt: HostRuntime) -> Result<(), Fail> {
+    let text = b"{\"took\":7,\"errors\":false,\"items\":[\
+        {\"index\":{\"_index\":\"b\",\"_id\":\"1\",\"_version\":5,\"result\":\"created\",\
+        \"_shards\":{\"total\":2,\"successful\":1,\"failed\":0},\"_seq_no\":0,\"_primary_term\":1,\"status\":201}},\
+        {\"delete\":{\"_index\":\"b\",\"_id\":\"2\",\"_version\":6,\"result\":\"not_found\",\
+        \"_shards\":{\"total\":2,\"successful\":2,\"failed\":0},\"_seq_no\":10,\"_primary_term\":1,\"status\":404}},\
+        {\"index\":{\"_index\":\"c\",\"_type\":\"_doc\",\"_id\":\"3\",\"_version\":12345678901,\"result\":\"updated\",\
+        \"_shards\":{\"total\":2,\"successful\":1,\"failed\":1},\"_seq_no\":11,\"_primary_term\":3,\"status\":200}}]}";
+    let rows = [
+        (ActionKind::Index, "1", 201u16),
+        (ActionKind::Delete, "2", 404),
+        (ActionKind::Index, "3", 200),
+    ];
+    let outcomes = read_reply(rt.alloc(), text)?;
+    assert!(rt; outcomes.len() == rows.len());
+    for (outcome, (kind, id, status)) in outcomes.iter().zip(rows) {
+        assert!(rt; is_entry(outcome, kind, id, status, None));
+    }
+    Ok(())
+}
+
 // A reply with the members that an OpenSearch node sends.
 #[test]
 fn reply_of_a_node(rt: HostRuntime) -> Result<(), Fail> {
