@@ -96,6 +96,19 @@ fn fault_of(alloc: Global, text: &[u8]) -> Option<ReadFault> {
     read_object(text, &mut scratch, Told::none()).err()
 }
 
+// The text of a fault is its name.
+#[test]
+fn names_of_faults(rt: HostRuntime) -> Result<(), Fail> {
+    let rows = [
+        (ReadFault::NotJson, "NotJson"),
+        (ReadFault::Memory, "Memory"),
+    ];
+    for (fault, name) in rows {
+        assert_eq!(rt; format!(in rt.alloc(); "{fault}")?.as_str(), name);
+    }
+    Ok(())
+}
+
 // So many openings, a middle and as many closings, between a front and a back.
 fn nested(
     alloc: Global,
@@ -332,7 +345,7 @@ fn numbers_as_integers(rt: HostRuntime) -> Result<(), Fail> {
 // What a value is at its top.
 #[test]
 fn kinds(rt: HostRuntime) -> Result<(), Fail> {
-    let rows: [(&str, Leaf); 8] = [
+    let rows: [(&str, Leaf); 9] = [
         ("{\"a\":null}", Leaf::Null),
         ("{\"a\":true}", Leaf::Bool(true)),
         ("{\"a\":false}", Leaf::Bool(false)),
@@ -341,6 +354,7 @@ fn kinds(rt: HostRuntime) -> Result<(), Fail> {
         ("{\"a\":[1,null,{}]}", Leaf::Array),
         ("{\"a\":\"null\"}", Leaf::String("null")),
         ("{\"a\":-1.50E+2}", Leaf::Number("-1.50E+2")),
+        ("{\"a\":0.00}", Leaf::Number("0.00")),
     ];
     for (text, kind) in rows {
         let mut scratch = Scratch::new(rt.alloc());
@@ -349,6 +363,21 @@ fn kinds(rt: HostRuntime) -> Result<(), Fail> {
         assert_eq!(rt; leaf.is_null(), kind == Leaf::Null);
     }
     Ok(())
+}
+
+// What leaves show that no walk answered: the numbers are out of range, or no JSON.
+#[test]
+fn leaves_alone(rt: HostRuntime) {
+    let leaves = [
+        Leaf::Number("1e999"),
+        Leaf::Number("-2E+308"),
+        Leaf::Number("18446744073709551616"),
+        Leaf::Number(""),
+    ];
+    for leaf in leaves {
+        assert!(rt; !leaf.is_null() && leaf.as_str().is_none());
+        assert!(rt; leaf.as_u64().is_none() && leaf.as_i64().is_none());
+    }
 }
 
 fn of_items(count: usize, integers: [Option<u64>; 4]) -> Option<Integers> {

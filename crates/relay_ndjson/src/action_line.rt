@@ -15,7 +15,8 @@ use relay_json::{ReadFault, Scratch, read_sole_object};
 use simdutf8::compat::from_utf8;
 use std::alloc::Global;
 
-/// The action of a line, and its metadata. The scratch serves one line after another.
+/// The action of a line, and its metadata. The scratch serves one line after another; the fault is
+/// `Memory` only where it had less room than the line has bytes.
 pub fn action_of<'t>(
     line: &'t [u8],
     scratch: &'t mut Scratch,

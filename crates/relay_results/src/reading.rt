@@ -242,6 +242,9 @@ impl<'t> Gather<'t> for Reply {
 /// `type`, cut to the longest front of at most 64 bytes that ends at a character; where it tells no
 /// text it gives the empty text. All other members are not looked at. The faults are those of
 /// [`ReplyFault`], the first that holds; an error keeps nothing.
+///
+/// The room for reading is made here, and no contract sees that memory is refused, so no clause says
+/// that `Memory` comes only then.
 pub fn read_reply(alloc: Global, bytes: &[u8]) -> Result<Vec<Outcome>, ReplyFault>
     ensures ok { IfOk result (λ v. IsReply bytes.now v.items) }
     ensures err { IfErr result (λ e. IsFaultOf bytes.now e) }
