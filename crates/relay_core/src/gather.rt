@@ -1,6 +1,7 @@
 //! The next batch.
 ghost use Rattle.std.specs.Prelude.{◌≡◌, ◌||◌, true, false, fold, take, drop, List, ◌∷◌, ◌+◌, Some, filter, IfOk, IfSome, OnErr, ◌<◌, length, []};
 ghost use Rattle.relay_results.specs.Documents.{document_of, same_document};
+ghost use Rattle.relay_core.specs.declared.gather.TheConstants.{PLACES};
 ghost use Rattle.relay_core.specs.declared.kept.Kept.{Kept};
 ghost use Rattle.relay_core.specs.Walk.{is_later_kept, is_eligible_kept, first_due_kept, is_candidate_kept, item_of_kept, items_of_kept};
 ghost use Rattle.relay_core.specs.State.{sooner};
@@ -79,12 +80,12 @@ pub(crate) fn first_due(held: &[Kept]) -> Option<u64>
 }
 
 // Among how many places documents are marked.
-const PLACES: u64 = 16_384;
+const PLACES: u64 = 65_536;
 
 // The place of a document's mark, by the bytes of its id.
 fn place_of(key: &DocKey) -> usize
     ensures place { result ≡ place_of key.now }
-    ensures within { result < 16384 }
+    ensures within { result < PLACES }
 {
     (hash(key.id().as_bytes()) % PLACES) as usize
 }
@@ -94,9 +95,9 @@ fn place_of(key: &DocKey) -> usize
 fn mark_new(held: &[Kept], i: usize, marks: &mut [bool]) -> bool
     requires within { i < length held.now }
     requires rises { Rises held.now }
-    requires places { length marks.old ≡ 16384 }
+    requires places { length marks.old ≡ PLACES }
     requires marked { AreMarked marks.old (take i held.now) }
-    ensures places { length marks.new ≡ 16384 }
+    ensures places { length marks.new ≡ PLACES }
     ensures marked { AreMarked marks.new (take (i + 1) held.now) }
     ensures first { result ≡ true → (one : Kept) → (rest : List Kept) → drop i held.now ≡ one ∷ rest
         → is_later_kept held.now (document_of one.key) one.version ≡ false }
