@@ -19,6 +19,8 @@ SIZES = (100, 1000)
 # Files, and lanes.
 SHAPES = ((1, 1), (4, 4))
 COUNT = 500
+# Operations that a lane's queue holds: two batches, as many as the plain Rust relay's channel holds of each file.
+CAPACITY = 2 * COUNT
 # Nanoseconds that the server takes for each operation, and what it is called then.
 SERVERS = ((0, "that answers at once"), (4000, "that takes 4 microseconds an operation"))
 # The most that `relay run` is to take of the time of the others with the server that takes its time: the project's goals.
@@ -113,7 +115,7 @@ def write_requests(relay, path, ready):
 
 
 def run_command(relay, port, lanes, paths):
-    return [relay, "run", "--to", "127.0.0.1:%s" % port, "--count", str(COUNT), "--lanes", str(lanes), *paths]
+    return [relay, "run", "--to", "127.0.0.1:%s" % port, "--count", str(COUNT), "--capacity", str(CAPACITY), "--lanes", str(lanes), *paths]
 
 
 def commands(tools, relay, port, lanes, paths, ready):

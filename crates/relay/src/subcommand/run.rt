@@ -113,7 +113,7 @@ pub fn command<'a>(alloc: Global, name: &'static str) -> Result<Command<'a>, All
             1,
             65_536,
             "256",
-            "How many operations wait in front of a lane at most, 1 to 65536",
+            "How many operations wait in front of a lane at most, 1 to 65536; while a lane waits for an answer, files are read on until so many wait",
         ))?
         .arg(number(
             alloc,
