@@ -3,3 +3,4 @@ pub mod Walks
 pub mod Sole
 pub mod Leaves
 pub mod Plain
+pub mod Decimals

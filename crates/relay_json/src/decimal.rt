@@ -1,5 +1,6 @@
 //! A decimal number at the front of some bytes.
-ghost use Rattle.std.specs.Prelude.{◌≡◌, ◌^◌, ◌<◌, ◌++◌, IfSome, decimal};
+ghost use Rattle.std.specs.Prelude.{◌≡◌, ℕ, ◌^◌, ◌<◌, List, ◌++◌, IfSome, IfNone, decimal};
+ghost use Rattle.relay_json.specs.Decimals.{IsWhole};
 
 // The least number of 18 digits.
 const LEAST_OF_18_DIGITS: u64 = 100_000_000_000_000_000;
@@ -9,7 +10,10 @@ const LEAST_OF_18_DIGITS: u64 = 100_000_000_000_000_000;
 ///
 /// `None`: no digit stands in front, or there are more than 18.
 pub fn take_decimal(bytes: &[u8]) -> Option<(u64, &[u8])>
-    ensures { IfSome result (λ d. bytes.now ≡ decimal d.0 ++ d.1.now) }
+    ensures parts { IfSome result (λ d. bytes.now ≡ decimal d.0 ++ d.1.now) }
+    ensures whole { IfSome result (λ d. IsWhole d.0 d.1.now) }
+    ensures none { IfNone result ((n : ℕ) (rest : List ℕ) →
+        bytes.now ≡ decimal n ++ rest → ¬ IsWhole n rest) }
 {
     match bytes {
         [b'0', rest @ ..] => Some((0, rest)),
@@ -23,7 +27,10 @@ pub fn take_decimal(bytes: &[u8]) -> Option<(u64, &[u8])>
 #[inline(always)]
 fn take_digits(front: u64, bytes: &[u8]) -> Option<(u64, &[u8])>
     requires { (0 < front) × (front < 10 ^ 18) }
-    ensures { IfSome result (λ d. decimal front ++ bytes.now ≡ decimal d.0 ++ d.1.now) }
+    ensures parts { IfSome result (λ d. decimal front ++ bytes.now ≡ decimal d.0 ++ d.1.now) }
+    ensures whole { IfSome result (λ d. IsWhole d.0 d.1.now) }
+    ensures none { IfNone result ((n : ℕ) (rest : List ℕ) →
+        decimal front ++ bytes.now ≡ decimal n ++ rest → ¬ IsWhole n rest) }
 {
     let mut number = front;
     let mut rest = bytes;

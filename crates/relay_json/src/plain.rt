@@ -1,5 +1,5 @@
 //! Texts that stand for themselves, and the bytes between them.
-ghost use Rattle.std.specs.Prelude.{◌≡◌, ◌++◌, ◌∷◌, IfSome};
+ghost use Rattle.std.specs.Prelude.{◌≡◌, ◌≢◌, ℕ, List, ◌++◌, ◌∷◌, IfSome, IfNone, MatchOption};
 ghost use Rattle.std.specs.List.{list_all};
 ghost use Rattle.relay_json.specs.Plain.{is_plain_byte, IsPlain};
 
@@ -9,7 +9,8 @@ use std::str;
 /// What follows these bytes, where they stand in front.
 #[inline(always)]
 pub fn after<'t>(bytes: &'t [u8], front: &[u8]) -> Option<&'t [u8]>
-    ensures { IfSome result (λ rest. bytes.now ≡ front.now ++ rest.now) }
+    ensures { MatchOption result ((rest : List ℕ) → bytes.now ≢ front.now ++ rest)
+        (λ rest. bytes.now ≡ front.now ++ rest.now) }
 {
     bytes.strip_prefix(front)
 }
@@ -19,6 +20,7 @@ pub fn after<'t>(bytes: &'t [u8], front: &[u8]) -> Option<&'t [u8]>
 pub fn plain_text(bytes: &[u8]) -> Option<&str>
     ensures same { IfSome result (λ text. text.now ≡ bytes.now) }
     ensures plain { IfSome result (λ text. IsPlain text.now) }
+    ensures none { IfNone result (¬ IsPlain bytes.now) }
 {
     if !is_plain(bytes) {
         return None;
@@ -31,6 +33,8 @@ pub fn plain_text(bytes: &[u8]) -> Option<&str>
 pub fn take_plain(bytes: &[u8]) -> Option<(&str, &[u8])>
     ensures parts { IfSome result (λ t. bytes.now ≡ t.0.now ++ 34 ∷ t.1.now) }
     ensures plain { IfSome result (λ t. IsPlain t.0.now) }
+    ensures none { IfNone result ((text rest : List ℕ) →
+        bytes.now ≡ text ++ 34 ∷ rest → ¬ IsPlain text) }
 {
     let (text, rest) = bytes.split_at(memchr(b'"', bytes)?);
     Some((plain_text(text)?, rest.strip_prefix(b"\"")?))
