@@ -1,6 +1,6 @@
 -- A reply in the usual form says what its entries say.
 use denote.Ref.{Bor}
-use Rattle.std.proofs.Common.{◌≡◌, ℕ, ◌^◌, ◌<◌, ◌≤◌, ◌+◌, ◌%◌, List, [], ◌∷◌, ◌++◌, length, Option, Some, None, IsUtf8, true, false, refl, sym, ap, ◌∙◌, subst, arith, rules, lit≤, codes, decimal, append_assoc, append-nil, length-append, option_and_then}
+use Rattle.std.proofs.Common.{◌≡◌, ℕ, ◌^◌, ◌<◌, ◌≤◌, ◌+◌, ◌%◌, List, [], ◌∷◌, ◌++◌, Option, Some, None, IsUtf8, true, false, refl, sym, ap, ◌∙◌, subst, arith, rules, lit≤, codes, decimal, append_assoc, append-nil, option_and_then}
 use Rattle.std.specs.Prelude.{map}
 use Rattle.std.proofs.lemmas.Grind.{common_steps}
 use Rattle.std.proofs.lemmas.Str.{IsUtf8-append}
@@ -24,8 +24,8 @@ use Rattle.relay_json.specs.Plain.{IsPlain}
 use Rattle.relay_json.proofs.PlainTexts.{between_quotes, utf8_plain}
 use Rattle.relay_results.specs.declared.outcome.Outcome.{Outcome}
 use Rattle.relay_results.specs.declared.usual.Entry.{Entry}
-use Rattle.relay_results.specs.Replies.{IsEntry, AreEntries, IsReply, ReadsAs}
-use Rattle.relay_results.specs.Usual.{start_text, type_text, id_text, document_text, applied_text, shards_text, place_text, entry_text, more_text, head_text, outcome_of, IsPlainType, IsDocument, IsApplied, AreShards, IsPlace, IsUsual, AreUsual, HasRead}
+use Rattle.relay_results.specs.Replies.{IsEntry, AreEntries, IsReply}
+use Rattle.relay_results.specs.Usual.{start_text, type_text, id_text, applied_text, shards_text, place_text, entry_text, more_text, head_text, outcome_of, IsPlainType, IsUsual, AreUsual, HasRead}
 
 -- ---- entries one after another
 
