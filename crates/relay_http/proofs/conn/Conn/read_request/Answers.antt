@@ -1,4 +1,4 @@
-use Rattle.std.proofs.Common.{◌∙◌, ap}
+use Rattle.std.proofs.Common.{◌∙◌, ap, rules}
 use Rattle.relay_http.specs.Connection.{ahead}
 use Rattle.relay_http.proofs.conn.Conn.read_request.Goals as goal
 
@@ -10,3 +10,6 @@ returns-clause-stated g c = λ stream f states whole stands. c.next_request-resu
 
 pub returns-clause-long : goal.returns-clause-long
 returns-clause-long g c = λ stream passes whole stands. c.next_request-result.ensures.long stream passes (ap ahead c.self.view_is ∙ stands)
+
+pub returns-clause-phase : goal.returns-clause-phase
+returns-clause-phase g c = search rules

@@ -1,3 +1,4 @@
+use Rattle.std.proofs.Common.{rules}
 use Rattle.relay_ndjson.specs.Bulk.{text_of}
 use Rattle.relay_http.proofs.WrittenRequests.{request_written}
 use Rattle.relay_http.proofs.conn.Conn.write_request.Goals as goal
@@ -7,3 +8,6 @@ returns-then-not-is_open-clause-message g c = request_written c.args.host.now (t
 
 pub returns-clause-message : goal.returns-clause-message
 returns-clause-message g c = request_written c.args.host.now (text_of c.args.writes.now) c.requires.host c.requires.size
+
+pub returns-clause-phase : goal.returns-clause-phase
+returns-clause-phase g c = search rules
