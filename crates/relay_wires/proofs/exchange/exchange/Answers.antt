@@ -1,4 +1,4 @@
-use Rattle.std.proofs.Common.{◌≤◌, length, ap, arith}
+use Rattle.std.proofs.Common.{◌≤◌, length, ap, arith, rules}
 use Rattle.relay_results.specs.Done.{outcomes_of}
 use Rattle.relay_index.specs.Serving.{under}
 use Rattle.relay_http.specs.Framing.{reply_limit}
@@ -15,3 +15,8 @@ returns-clause-exchanged c ws may is =
     let size : length c.as_str.result.now ≤ reply_limit = omega (arith, same) in
     exchanged ws old new c.args.lost c.in-Ok.answer.0 c.as_str.result.now c.carry_back.result c.if-lost.false size there
     (c.carry_back.ensures.reads (outcomes_of there.replies.items) there.success there.replies.reads_back)
+
+pub returns-then-lost-clause-exchanged : goal.returns-then-lost-clause-exchanged
+returns-then-lost-clause-exchanged c = λ ws may is.
+    let served = c.in-Ok.ensures.served ws may is in
+    search rules
