@@ -136,34 +136,64 @@ fn kinds_of_names(rt: HostRuntime) -> Result<(), Fail> {
     Ok(())
 }
 
-#[test]
-fn copies_equal_their_originals(rt: HostRuntime) -> Result<(), Fail> {
-    let alloc = rt.alloc();
-    let write = Write {
+// A write of a book.
+fn book(alloc: Global) -> Result<Write, Fail> {
+    Ok(Write {
         key: DocKey::new(alloc, "books", "1")?,
         version: 7,
         action: Action::index(alloc, "{}")?,
-    };
+    })
+}
+
+// Whether an action indexes this text.
+fn indexes(action: &Action, text: &str) -> bool {
+    matches!(action, Action::Index(source) if source.text() == text)
+}
+
+// Whether the copy of a write of version 7 is that write.
+fn is_copied(write: &Write) -> Result<bool, AllocError> {
     let copy = write.copy()?;
-    assert!(rt; copy.key == write.key && copy.version == 7);
-    assert!(rt; matches!(&copy.action, Action::Index(source) if source.text() == "{}"));
+    Ok(copy.key == write.key && copy.version == 7 && indexes(&copy.action, "{}"))
+}
+
+#[test]
+fn copies_of_writes_equal_them(rt: HostRuntime) -> Result<(), Fail> {
+    let write = book(rt.alloc())?;
+    assert!(rt; is_copied(&write)?);
+    Ok(())
+}
+
+#[test]
+fn copies_of_deletes_equal_them(rt: HostRuntime) -> Result<(), Fail> {
     assert!(rt; matches!(&Action::delete().copy()?, Action::Delete));
-    assert_eq!(rt; Action::delete().kind(), ActionKind::Delete);
-    let op = Op {
+    assert!(rt; Action::delete().kind() == ActionKind::Delete);
+    Ok(())
+}
+
+// The removal of a book by producer 3, its operation 9.
+fn removal(alloc: Global) -> Result<Op, Fail> {
+    Ok(Op {
         producer: 3,
         number: 9,
-        key: write.key.copy()?,
+        key: DocKey::new(alloc, "books", "1")?,
         action: Action::delete(),
+    })
+}
+
+// Whether the copy of an operation has its name and its document.
+fn is_copied_op(op: &Op) -> Result<bool, AllocError> {
+    let copy = op.copy()?;
+    Ok(copy.name() == op.name() && copy.key == op.key)
+}
+
+#[test]
+fn copies_of_operations_equal_them(rt: HostRuntime) -> Result<(), Fail> {
+    let op = removal(rt.alloc())?;
+    let name = OpName {
+        producer: 3,
+        number: 9,
     };
-    assert_eq!(rt;
-        op.name(),
-        OpName {
-            producer: 3,
-            number: 9
-        }
-    );
-    assert_eq!(rt; op.copy()?.name(), op.name());
-    assert!(rt; op.copy()?.key == write.key);
+    assert!(rt; op.name() == name && is_copied_op(&op)?);
     Ok(())
 }
 

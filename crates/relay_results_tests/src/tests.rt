@@ -167,187 +167,181 @@ fn depth(rt: HostRuntime) -> Result<(), Fail> {
     Ok(())
 }
 
+const ENTRIES: [(&str, u16, Option<&str>, bool); 10] = [
+    (
+        "{\"items\":[{\"index\":{\"_id\":\"1\",\"status\":201}}]}",
+        201,
+        None,
+        true,
+    ),
+    (
+        "{\"items\":[{\"index\":{\"_id\":\"2\",\"status\":201}}]}",
+        201,
+        None,
+        false,
+    ),
+    (
+        "{\"items\":[{\"delete\":{\"_id\":\"1\",\"status\":200}}]}",
+        200,
+        None,
+        false,
+    ),
+    (
+        "{\"items\":[{\"index\":{\"_id\":\"1\",\"status\":200,\"error\":null}}]}",
+        200,
+        None,
+        true,
+    ),
+    (
+        "{\"items\":[{\"index\":{\"_id\":\"1\",\"status\":400,\"error\":\"x\"}}]}",
+        400,
+        Some(""),
+        true,
+    ),
+    (
+        "{\"items\":[{\"index\":{\"_id\":\"1\",\"status\":400,\"error\":{}}}]}",
+        400,
+        Some(""),
+        true,
+    ),
+    (
+        "{\"items\":[{\"index\":{\"_id\":\"1\",\"status\":400,\"error\":{\"type\":7}}}]}",
+        400,
+        Some(""),
+        true,
+    ),
+    (
+        "{\"items\":[{\"index\":{\"_id\":\"1\",\"status\":400,\"error\":{\"type\":\"aaaaaaaaaaaaaaaaaaaaaaaaaaaaaaaaaaaaaaaaaaaaaaaaaaaaaaaaaaaaaaa\u{e9}\"}}}]}",
+        400,
+        Some("aaaaaaaaaaaaaaaaaaaaaaaaaaaaaaaaaaaaaaaaaaaaaaaaaaaaaaaaaaaaaaa"),
+        true,
+    ),
+    (
+        "{\"items\":[{\"index\":{\"_id\":\"1\",\"status\":400,\"error\":{\"type\":\"aaaaaaaaaaaaaaaaaaaaaaaaaaaaaaaaaaaaaaaaaaaaaaaaaaaaaaaaaaaaaa\u{e9}b\"}}}]}",
+        400,
+        Some("aaaaaaaaaaaaaaaaaaaaaaaaaaaaaaaaaaaaaaaaaaaaaaaaaaaaaaaaaaaaaa\u{e9}"),
+        true,
+    ),
+    (
+        "{\"items\":3,\"items\":[{\"index\":{\"_id\":\"2\",\"_id\":\"1\",\"status\":99,\"status\":201}}]}",
+        201,
+        None,
+        true,
+    ),
+];
+
+// Whether a reply has one entry with this status and error, and whether it is one to a request.
+fn says_one_that_fits(
+    alloc: Global,
+    text: &str,
+    status: u16,
+    error: Option<&str>,
+    request: &[Write],
+) -> Result<(bool, bool), ReplyFault> {
+    Ok((
+        says_one(alloc, text, status, error)?,
+        fits(alloc, text, request)?,
+    ))
+}
+
 // What one entry says, and whether the reply is one to an index write of id `1`.
 #[test]
 fn entries(rt: HostRuntime) -> Result<(), Fail> {
-    let alloc = rt.alloc();
-    let request = one_index(alloc)?;
-    let rows: [(&str, u16, Option<&str>, bool); 10] = [
-        (
-            "{\"items\":[{\"index\":{\"_id\":\"1\",\"status\":201}}]}",
-            201,
-            None,
-            true,
-        ),
-        (
-            "{\"items\":[{\"index\":{\"_id\":\"2\",\"status\":201}}]}",
-            201,
-            None,
-            false,
-        ),
-        (
-            "{\"items\":[{\"delete\":{\"_id\":\"1\",\"status\":200}}]}",
-            200,
-            None,
-            false,
-        ),
-        (
-            "{\"items\":[{\"index\":{\"_id\":\"1\",\"status\":200,\"error\":null}}]}",
-            200,
-            None,
-            true,
-        ),
-        (
-            "{\"items\":[{\"index\":{\"_id\":\"1\",\"status\":400,\"error\":\"x\"}}]}",
-            400,
-            Some(""),
-            true,
-        ),
-        (
-            "{\"items\":[{\"index\":{\"_id\":\"1\",\"status\":400,\"error\":{}}}]}",
-            400,
-            Some(""),
-            true,
-        ),
-        (
-            "{\"items\":[{\"index\":{\"_id\":\"1\",\"status\":400,\"error\":{\"type\":7}}}]}",
-            400,
-            Some(""),
-            true,
-        ),
-        (
-            "{\"items\":[{\"index\":{\"_id\":\"1\",\"status\":400,\"error\":{\"type\":\"aaaaaaaaaaaaaaaaaaaaaaaaaaaaaaaaaaaaaaaaaaaaaaaaaaaaaaaaaaaaaaa\u{e9}\"}}}]}",
-            400,
-            Some("aaaaaaaaaaaaaaaaaaaaaaaaaaaaaaaaaaaaaaaaaaaaaaaaaaaaaaaaaaaaaaa"),
-            true,
-        ),
-        (
-            "{\"items\":[{\"index\":{\"_id\":\"1\",\"status\":400,\"error\":{\"type\":\"aaaaaaaaaaaaaaaaaaaaaaaaaaaaaaaaaaaaaaaaaaaaaaaaaaaaaaaaaaaaaa\u{e9}b\"}}}]}",
-            400,
-            Some("aaaaaaaaaaaaaaaaaaaaaaaaaaaaaaaaaaaaaaaaaaaaaaaaaaaaaaaaaaaaaa\u{e9}"),
-            true,
-        ),
-        (
-            "{\"items\":3,\"items\":[{\"index\":{\"_id\":\"2\",\"_id\":\"1\",\"status\":99,\"status\":201}}]}",
-            201,
-            None,
-            true,
-        ),
-    ];
-    for (text, status, error, wanted) in rows {
-        assert!(rt; says_one(alloc, text, status, error)?);
-        assert!(rt; fits(alloc, text, request.as_slice())? == wanted);
+    let request = one_index(rt.alloc())?;
+    for (text, status, error, fit) in &ENTRIES {
+        let said = says_one_that_fits(rt.alloc(), text, *status, *error, &request);
+        assert!(rt; said == Ok((true, *fit)));
     }
-    assert!(rt; read_reply(alloc, b"{\"items\":[]}")?.is_empty());
-    assert!(rt; !fits(alloc, "{\"items\":[]}", request.as_slice())?);
     Ok(())
 }
 
-// The outcome of a delete of the document 1 of status 200 and no error is said by a reply in the usual
-// form, and the same by one in another form; a fault is found in both.
+// A reply without entries is one to no request that has items.
 #[test]
-fn forms_of_replies(rt: HostRuntime) -> Result<(), Fail> {
-    let alloc = rt.alloc();
-    let head = "{\"took\":1,\"errors\":false,\"items\":[";
-    let names = "{\"delete\":{\"_index\":\"b\",\"_id\":\"1\",";
-    let done =
-        "\"_version\":1,\"result\":\"deleted\",\"_shards\":{\"total\":2,\"successful\":1,\"failed\":0},";
-    let place = "\"_seq_no\":0,\"_primary_term\":1,\"status\":200}}";
-    let rows: [(&str, &str, &str, &str, &str, Option<ReplyFault>); 16] = [
-        (head, names, done, place, "]}", None),
-        (
-            head,
-            "{\"delete\":{\"_index\":\"b\",\"_type\":\"_doc\",\"_id\":\"1\",",
-            done,
-            place,
-            "]}",
-            None,
-        ),
-        (
-            "{\"took\":1,\"errors\":true,\"items\":[",
-            names,
-            done,
-            place,
-            "]}",
-            None,
-        ),
-        (
-            "{\"took\":1, \"errors\":false,\"items\":[",
-            names,
-            done,
-            place,
-            "]}",
-            None,
-        ),
-        (
-            "{\"errors\":false,\"took\":1,\"items\":[",
-            names,
-            done,
-            place,
-            "]}",
-            None,
-        ),
-        (
-            head,
-            "{\"delete\":{\"_index\":\"\u{e4}\",\"_id\":\"\\u0031\",",
-            done,
-            place,
-            "]}",
-            None,
-        ),
-        (head, names, "\"result\":\"\\n\",", place, "]}", None),
-        (head, names, "\"_version\":1e2,", place, "]}", None),
-        (head, names, done, place, "]} ", None),
-        (head, names, done, place, "],\"ingest_took\":5}", None),
-        (
-            head,
-            names,
-            done,
-            "\"_seq_no\":0,\"_primary_term\":1,\"status\":200,\"x\":1}}",
-            "]}",
-            None,
-        ),
-        (
-            head,
-            names,
-            done,
-            "\"_seq_no\":0,\"_primary_term\":1,\"status\":99}}",
-            "]}",
-            Some(ReplyFault::BadItem(0)),
-        ),
-        (
-            head,
-            names,
-            done,
-            "\"_seq_no\":0,\"_primary_term\":1,\"status\":600}}",
-            "]}",
-            Some(ReplyFault::BadItem(0)),
-        ),
-        (
-            head,
-            names,
-            done,
-            "\"_seq_no\":00,\"_primary_term\":1,\"status\":200}}",
-            "]}",
-            Some(ReplyFault::NotJson),
-        ),
-        (head, names, done, place, "]", Some(ReplyFault::NotJson)),
-        (head, names, done, place, ",]}", Some(ReplyFault::NotJson)),
-    ];
-    for (head, names, done, place, end, fault) in rows {
-        let mut text = String::new(alloc);
-        for part in [head, names, done, place, end] {
-            text.push_str(part)?;
-        }
-        match read_reply(alloc, text.as_bytes()) {
-            Ok(outcomes) => {
-                assert!(rt; fault.is_none() && outcomes.len() == 1);
-                assert!(rt; is_entry(&outcomes[0], ActionKind::Delete, "1", 200, None));
-            }
-            Err(found) => assert!(rt; Some(found) == fault),
-        }
-    }
+fn no_entries(rt: HostRuntime) -> Result<(), Fail> {
+    let request = one_index(rt.alloc())?;
+    assert!(rt; fits(rt.alloc(), "{\"items\":[]}", &request) == Ok(false));
+    assert!(rt; fits(rt.alloc(), "{\"items\":[]}", &[]) == Ok(true));
     Ok(())
+}
+
+// A reply in the usual form to a delete of the document 1, in five parts.
+const USUAL: [&str; 5] = [
+    "{\"took\":1,\"errors\":false,\"items\":[",
+    "{\"delete\":{\"_index\":\"b\",\"_id\":\"1\",",
+    "\"_version\":1,\"result\":\"deleted\",\"_shards\":{\"total\":2,\"successful\":1,\"failed\":0},",
+    "\"_seq_no\":0,\"_primary_term\":1,\"status\":200}}",
+    "]}",
+];
+
+// The place of a part, what stands there in its stead, and the fault of that reply.
+const FORMS: [(usize, &str, Option<ReplyFault>); 16] = [
+    (4, "]}", None),
+    (
+        1,
+        "{\"delete\":{\"_index\":\"b\",\"_type\":\"_doc\",\"_id\":\"1\",",
+        None,
+    ),
+    (0, "{\"took\":1,\"errors\":true,\"items\":[", None),
+    (0, "{\"took\":1, \"errors\":false,\"items\":[", None),
+    (0, "{\"errors\":false,\"took\":1,\"items\":[", None),
+    (
+        1,
+        "{\"delete\":{\"_index\":\"\u{e4}\",\"_id\":\"\\u0031\",",
+        None,
+    ),
+    (2, "\"result\":\"\\n\",", None),
+    (2, "\"_version\":1e2,", None),
+    (4, "]} ", None),
+    (4, "],\"ingest_took\":5}", None),
+    (
+        3,
+        "\"_seq_no\":0,\"_primary_term\":1,\"status\":200,\"x\":1}}",
+        None,
+    ),
+    (
+        3,
+        "\"_seq_no\":0,\"_primary_term\":1,\"status\":99}}",
+        Some(ReplyFault::BadItem(0)),
+    ),
+    (
+        3,
+        "\"_seq_no\":0,\"_primary_term\":1,\"status\":600}}",
+        Some(ReplyFault::BadItem(0)),
+    ),
+    (
+        3,
+        "\"_seq_no\":00,\"_primary_term\":1,\"status\":200}}",
+        Some(ReplyFault::NotJson),
+    ),
+    (4, "]", Some(ReplyFault::NotJson)),
+    (4, ",]}", Some(ReplyFault::NotJson)),
+];
+
+// The reply with a part in the place of the usual one.
+fn with_part(alloc: Global, place: usize, part: &str) -> Result<String, AllocError> {
+    let mut text = String::new(alloc);
+    for (at, usual) in USUAL.iter().enumerate() {
+        text.push_str(if at == place { part } else { usual })?;
+    }
+    Ok(text)
+}
+
+// Whether a reply with that part says of one delete of the document 1 that its status is 200, with no
+// error.
+fn says_one_delete(alloc: Global, place: usize, part: &str) -> Result<bool, ReplyFault> {
+    let text = with_part(alloc, place, part).map_err(|_| ReplyFault::Memory)?;
+    let outcomes = read_reply(alloc, text.as_bytes())?;
+    Ok(outcomes.len() == 1 && is_entry(&outcomes[0], ActionKind::Delete, "1", 200, None))
+}
+
+// The outcome of a delete is said by a reply in the usual form, and the same by one in another form; a
+// fault is found in both.
+#[test]
+fn forms_of_replies(rt: HostRuntime) {
+    for (place, part, fault) in &FORMS {
+        let said = says_one_delete(rt.alloc(), *place, part);
+        assert!(rt; said == fault.map_or(Ok(true), Err));
+    }
 }
 
 // All entries of a reply in the usual form, in their order.
@@ -588,68 +582,80 @@ fn is_same(a: &Outcome, b: &Outcome) -> bool {
     a.kind == b.kind && a.id == b.id && a.status == b.status && a.error == b.error
 }
 
+// How many outcomes a reply has, by a second call where the first was refused memory.
+fn read_again(alloc: Global, text: &[u8]) -> Result<usize, ReplyFault> {
+    match read_reply(alloc, text) {
+        Err(ReplyFault::Memory) => Ok(read_reply(alloc, text)?.len()),
+        read => Ok(read?.len()),
+    }
+}
+
+// An item at a conflict, by a second call where the first was refused memory.
+fn conflict_again(alloc: Global) -> Result<ItemDone, ActionFault> {
+    match done_of(alloc, ActionKind::Index, 409, DoneResult::Conflict, 0, 0) {
+        Err(ActionFault::Memory) => {
+            done_of(alloc, ActionKind::Index, 409, DoneResult::Conflict, 0, 0)
+        }
+        done => done,
+    }
+}
+
+// An item's outcome, by a second call where the first was refused memory.
+fn outcome_again(alloc: Global, item: &ItemDone) -> Result<Outcome, AllocError> {
+    match item.outcome(alloc) {
+        Ok(outcome) => Ok(outcome),
+        Err(AllocError) => item.outcome(alloc),
+    }
+}
+
+// The reply to items, by a second call where the first was refused memory.
+fn write_again(alloc: Global, items: &[ItemDone]) -> Result<String, AllocError> {
+    match write_reply(alloc, 1, items) {
+        Ok(reply) => Ok(reply),
+        Err(AllocError) => write_reply(alloc, 1, items),
+    }
+}
+
 // Each refused allocation is answered as out of memory, and a second call finds the memory.
 #[test]
 fn refusals(rt: HostRuntime) -> Result<(), Fail> {
-    let alloc = rt.alloc();
     let text =
         b"{\"items\":[{\"index\":{\"_id\":\"1\",\"status\":400,\"error\":{\"type\":\"x\"}}}]}";
-    let outcomes = match read_reply(alloc, text) {
-        Ok(outcomes) => outcomes,
-        Err(fault) => {
-            assert_eq!(rt; fault, ReplyFault::Memory);
-            read_reply(alloc, text)?
-        }
-    };
-    assert_eq!(rt; outcomes.len(), 1);
-    let item = match done_of(alloc, ActionKind::Index, 409, DoneResult::Conflict, 0, 0) {
-        Ok(item) => item,
-        Err(fault) => {
-            assert_eq!(rt; fault, ActionFault::Memory);
-            done_of(alloc, ActionKind::Index, 409, DoneResult::Conflict, 0, 0)?
-        }
-    };
-    let outcome = match item.outcome(alloc) {
-        Ok(outcome) => outcome,
-        Err(AllocError) => item.outcome(alloc)?,
-    };
-    assert_eq!(rt; outcome.id.as_str(), "2");
-    let items = [item];
-    let reply = match write_reply(alloc, 1, &items) {
-        Ok(reply) => reply,
-        Err(AllocError) => write_reply(alloc, 1, &items)?,
-    };
-    assert_eq!(rt;
-        reply.as_str(),
-        "{\"errors\":true,\"items\":[{\"index\":{\"_id\":\"2\",\"_index\":\"b\",\"error\":{\"type\":\"version_conflict_engine_exception\"},\"status\":409}}],\"took\":1}"
+    assert!(rt; read_again(rt.alloc(), text) == Ok(1));
+    let items = [conflict_again(rt.alloc())?];
+    assert!(rt; outcome_again(rt.alloc(), &items[0])?.id.as_str() == "2");
+    let reply = write_again(rt.alloc(), &items)?;
+    assert!(rt;
+        reply.as_str()
+            == "{\"errors\":true,\"items\":[{\"index\":{\"_id\":\"2\",\"_index\":\"b\",\"error\":{\"type\":\"version_conflict_engine_exception\"},\"status\":409}}],\"took\":1}"
     );
     Ok(())
 }
 
+// Whether the outcome of an item of `b/2` with this result says the same with this error.
+fn has_outcome(
+    alloc: Global,
+    became: DoneResult,
+    error: Option<&str>,
+) -> Result<bool, ActionFault> {
+    let item = done_of(alloc, ActionKind::Delete, 404, became, 1, 2)?;
+    let outcome = item.outcome(alloc).map_err(|_| ActionFault::Memory)?;
+    Ok(is_entry(&outcome, ActionKind::Delete, "2", 404, error))
+}
+
+const OUTCOMES: [(DoneResult, Option<&str>); 4] = [
+    (DoneResult::Created, None),
+    (DoneResult::NotFound, None),
+    (
+        DoneResult::Conflict,
+        Some("version_conflict_engine_exception"),
+    ),
+    (DoneResult::Refused, Some("scripted_refusal")),
+];
+
 #[test]
-fn outcomes_of_items(rt: HostRuntime) -> Result<(), Fail> {
-    let alloc = rt.alloc();
-    let rows = [
-        (DoneResult::Created, None),
-        (DoneResult::NotFound, None),
-        (
-            DoneResult::Conflict,
-            Some("version_conflict_engine_exception"),
-        ),
-        (DoneResult::Refused, Some("scripted_refusal")),
-    ];
-    for (became, error) in rows {
-        let outcome = done_of(alloc, ActionKind::Delete, 404, became, 1, 2)?.outcome(alloc)?;
-        let wanted = Outcome {
-            kind: ActionKind::Delete,
-            id: Text::new(alloc, "2")?,
-            status: 404,
-            error: match error {
-                Some(text) => Some(Text::new(alloc, text)?),
-                None => None,
-            },
-        };
-        assert!(rt; is_same(&outcome, &wanted));
+fn outcomes_of_items(rt: HostRuntime) {
+    for (became, error) in &OUTCOMES {
+        assert!(rt; has_outcome(rt.alloc(), *became, *error) == Ok(true));
     }
-    Ok(())
 }
