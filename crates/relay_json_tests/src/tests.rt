@@ -190,80 +190,94 @@ fn numbers_too_large(rt: HostRuntime) {
     }
 }
 
+const DEPTHS: [(&str, &str, usize, &str, &str, Option<ReadFault>); 7] = [
+    ("", "[", 126, "[]", "]", None),
+    ("", "[", 127, "[]", "]", Some(ReadFault::NotJson)),
+    ("", "{\"a\":", 126, "{}", "}", None),
+    ("", "{\"a\":", 127, "{}", "}", Some(ReadFault::NotJson)),
+    ("{\"x\":", "[", 125, "[]", "]", None),
+    ("{\"x\":", "[", 126, "[]", "]", Some(ReadFault::NotJson)),
+    ("{\"x\":", "[", 126, "7", "]", None),
+];
+
 // JSON nests at most 127 deep, also in a member that nobody looks at.
 #[test]
 fn depth(rt: HostRuntime) -> Result<(), Fail> {
     let alloc = rt.alloc();
-    let rows = [
-        ("", "[", 126usize, "[]", "]", None),
-        ("", "[", 127, "[]", "]", Some(ReadFault::NotJson)),
-        ("", "{\"a\":", 126, "{}", "}", None),
-        ("", "{\"a\":", 127, "{}", "}", Some(ReadFault::NotJson)),
-        ("{\"x\":", "[", 125, "[]", "]", None),
-        ("{\"x\":", "[", 126, "[]", "]", Some(ReadFault::NotJson)),
-        ("{\"x\":", "[", 126, "7", "]", None),
-    ];
-    for (front, opening, count, middle, closing, fault) in rows {
-        let text = nested(alloc, front, opening, count, middle, closing)?;
-        assert_eq!(rt; fault_of(alloc, text.as_bytes()), fault);
+    for (front, opening, count, middle, closing, fault) in &DEPTHS {
+        let text = nested(alloc, front, opening, *count, middle, closing)?;
+        assert!(rt; fault_of(alloc, text.as_bytes()) == *fault);
     }
     Ok(())
 }
 
 // The member `a` of a text that is an object.
-fn member_a<'t>(text: &'t str, scratch: &'t mut Scratch) -> Result<Option<Leaf<'t>>, Fail> {
-    match read_object(text.as_bytes(), scratch, Told::none()) {
-        Ok(Some(told)) => Ok(told.a),
-        Ok(None) => Ok(None),
-        Err(_) => Err("a value")?,
+fn member_a<'t>(text: &'t str, scratch: &'t mut Scratch) -> Result<Option<Leaf<'t>>, ReadFault> {
+    match read_object(text.as_bytes(), scratch, Told::none())? {
+        Some(told) => Ok(told.a),
+        None => Ok(None),
     }
 }
+
+// Whether the member `a` of an object is this text.
+fn has_text(alloc: Global, text: &str, found: Option<&str>) -> Result<bool, ReadFault> {
+    let mut scratch = Scratch::new(alloc);
+    let leaf = member_a(text, &mut scratch)?;
+    Ok(leaf.and_then(|leaf| leaf.as_str()) == found)
+}
+
+const MEMBERS: [(&str, Option<&str>); 9] = [
+    ("{\"a\":\"x\"}", Some("x")),
+    ("{\"b\":\"x\",\"a\":\"y\"}", Some("y")),
+    ("{\"a\":\"x\",\"a\":\"y\"}", Some("y")),
+    ("{\"a\":\"x\",\"a\":null}", None),
+    ("{\"\\u0061\":\"z\"}", Some("z")),
+    ("{\"a\":\"x\",\"\\u0061\":\"z\"}", Some("z")),
+    ("{\"a\":\"\\n\\u00e4\"}", Some("\nä")),
+    ("{\"ab\":\"x\"}", None),
+    ("[\"a\"]", None),
+];
 
 // The text of a member, of which the last of its name counts.
 #[test]
-fn members(rt: HostRuntime) -> Result<(), Fail> {
-    let rows: [(&str, Option<&str>); 9] = [
-        ("{\"a\":\"x\"}", Some("x")),
-        ("{\"b\":\"x\",\"a\":\"y\"}", Some("y")),
-        ("{\"a\":\"x\",\"a\":\"y\"}", Some("y")),
-        ("{\"a\":\"x\",\"a\":null}", None),
-        ("{\"\\u0061\":\"z\"}", Some("z")),
-        ("{\"a\":\"x\",\"\\u0061\":\"z\"}", Some("z")),
-        ("{\"a\":\"\\n\\u00e4\"}", Some("\nä")),
-        ("{\"ab\":\"x\"}", None),
-        ("[\"a\"]", None),
-    ];
-    for (text, found) in rows {
-        let mut scratch = Scratch::new(rt.alloc());
-        let leaf = member_a(text, &mut scratch)?;
-        assert_eq!(rt; leaf.and_then(|leaf| leaf.as_str()), found);
+fn members(rt: HostRuntime) {
+    for (text, found) in &MEMBERS {
+        assert!(rt; has_text(rt.alloc(), text, *found) == Ok(true));
     }
-    Ok(())
 }
+
+// Whether a text is an object of so many members with these names.
+fn has_names(
+    alloc: Global,
+    text: &str,
+    count: usize,
+    names: &[&str; 4],
+) -> Result<bool, ReadFault> {
+    let mut scratch = Scratch::new(alloc);
+    match read_object(text.as_bytes(), &mut scratch, Told::none())? {
+        Some(told) => Ok(told.count == count && told.names == *names),
+        None => Ok(false),
+    }
+}
+
+const NAMES: [(&str, usize, [&str; 4]); 5] = [
+    ("{}", 0, [""; 4]),
+    ("{\"a\":1,\"b\":2}", 2, ["a", "b", "", ""]),
+    ("{\"c\":{\"x\":[{}]},\"a\":2}", 2, ["c", "a", "", ""]),
+    ("{\"a\":1,\"\\u0061\":2}", 2, ["a", "a", "", ""]),
+    (
+        "{\"\\u0063\":1,\"\":[1,2],\"d\":null}",
+        3,
+        ["c", "", "d", ""],
+    ),
+];
 
 // The names of members, in their order, a name given twice told twice.
 #[test]
-fn names_of_members(rt: HostRuntime) -> Result<(), Fail> {
-    let rows: [(&str, usize, [&str; 4]); 5] = [
-        ("{}", 0, [""; 4]),
-        ("{\"a\":1,\"b\":2}", 2, ["a", "b", "", ""]),
-        ("{\"c\":{\"x\":[{}]},\"a\":2}", 2, ["c", "a", "", ""]),
-        ("{\"a\":1,\"\\u0061\":2}", 2, ["a", "a", "", ""]),
-        (
-            "{\"\\u0063\":1,\"\":[1,2],\"d\":null}",
-            3,
-            ["c", "", "d", ""],
-        ),
-    ];
-    for (text, count, names) in rows {
-        let mut scratch = Scratch::new(rt.alloc());
-        let told = read_object(text.as_bytes(), &mut scratch, Told::none())
-            .ok()
-            .flatten()
-            .ok_or("an object")?;
-        assert!(rt; told.count == count && told.names == names);
+fn names_of_members(rt: HostRuntime) {
+    for (text, count, names) in &NAMES {
+        assert!(rt; has_names(rt.alloc(), text, *count, names) == Ok(true));
     }
-    Ok(())
 }
 
 // The name of the one member, where its value is an object, and the integer `a` in it.
@@ -300,69 +314,82 @@ fn sole_objects(rt: HostRuntime) -> Result<(), Fail> {
     Ok(())
 }
 
-// Numbers as integers of 64 bits.
+// Numbers as integers of 64 bits, unsigned and signed.
+const INTEGERS: [(&str, Option<u64>, Option<i64>); 12] = [
+    ("{\"a\":0}", Some(0), Some(0)),
+    ("{\"a\":-0}", None, None),
+    ("{\"a\":201}", Some(201), Some(201)),
+    (
+        "{\"a\":9223372036854775808}",
+        Some(9223372036854775808),
+        None,
+    ),
+    (
+        "{\"a\":9999999999999999999}",
+        Some(9999999999999999999),
+        None,
+    ),
+    (
+        "{\"a\":18446744073709551615}",
+        Some(18446744073709551615),
+        None,
+    ),
+    ("{\"a\":18446744073709551616}", None, None),
+    (
+        "{\"a\":-9223372036854775808}",
+        None,
+        Some(-9223372036854775808),
+    ),
+    ("{\"a\":-1}", None, Some(-1)),
+    ("{\"a\":1.0}", None, None),
+    ("{\"a\":1e2}", None, None),
+    ("{\"a\":\"1\"}", None, None),
+];
+
+// The member `a` of an object as an integer of 64 bits, unsigned and signed.
+fn integers_of(alloc: Global, text: &str) -> Result<(Option<u64>, Option<i64>), ReadFault> {
+    let mut scratch = Scratch::new(alloc);
+    let leaf = member_a(text, &mut scratch)?;
+    Ok((
+        leaf.and_then(|leaf| leaf.as_u64()),
+        leaf.and_then(|leaf| leaf.as_i64()),
+    ))
+}
+
 #[test]
-fn numbers_as_integers(rt: HostRuntime) -> Result<(), Fail> {
-    let rows: [(&str, Option<u64>, Option<i64>); 12] = [
-        ("{\"a\":0}", Some(0), Some(0)),
-        ("{\"a\":-0}", None, None),
-        ("{\"a\":201}", Some(201), Some(201)),
-        (
-            "{\"a\":9223372036854775808}",
-            Some(9223372036854775808),
-            None,
-        ),
-        (
-            "{\"a\":9999999999999999999}",
-            Some(9999999999999999999),
-            None,
-        ),
-        (
-            "{\"a\":18446744073709551615}",
-            Some(18446744073709551615),
-            None,
-        ),
-        ("{\"a\":18446744073709551616}", None, None),
-        (
-            "{\"a\":-9223372036854775808}",
-            None,
-            Some(-9223372036854775808),
-        ),
-        ("{\"a\":-1}", None, Some(-1)),
-        ("{\"a\":1.0}", None, None),
-        ("{\"a\":1e2}", None, None),
-        ("{\"a\":\"1\"}", None, None),
-    ];
-    for (text, unsigned, signed) in rows {
-        let mut scratch = Scratch::new(rt.alloc());
-        let leaf = member_a(text, &mut scratch)?;
-        assert_eq!(rt; leaf.and_then(|leaf| leaf.as_u64()), unsigned);
-        assert_eq!(rt; leaf.and_then(|leaf| leaf.as_i64()), signed);
+fn numbers_as_integers(rt: HostRuntime) {
+    for (text, unsigned, signed) in &INTEGERS {
+        assert!(rt; integers_of(rt.alloc(), text) == Ok((*unsigned, *signed)));
     }
-    Ok(())
+}
+
+const KINDS: [(&'static str, Leaf<'static>); 9] = [
+    ("{\"a\":null}", Leaf::Null),
+    ("{\"a\":true}", Leaf::Bool(true)),
+    ("{\"a\":false}", Leaf::Bool(false)),
+    ("{\"a\":{}}", Leaf::Object),
+    ("{\"a\":[]}", Leaf::Array),
+    ("{\"a\":[1,null,{}]}", Leaf::Array),
+    ("{\"a\":\"null\"}", Leaf::String("null")),
+    ("{\"a\":-1.50E+2}", Leaf::Number("-1.50E+2")),
+    ("{\"a\":0.00}", Leaf::Number("0.00")),
+];
+
+// Whether the member `a` of an object is this value, and null just where that is.
+fn has_kind(alloc: Global, text: &str, kind: Leaf) -> Result<bool, ReadFault> {
+    let mut scratch = Scratch::new(alloc);
+    match member_a(text, &mut scratch)? {
+        Some(leaf) => Ok(leaf == kind && leaf.is_null() == (kind == Leaf::Null)),
+        None => Ok(false),
+    }
 }
 
 // What a value is at its top.
 #[test]
-fn kinds(rt: HostRuntime) -> Result<(), Fail> {
-    let rows: [(&str, Leaf); 9] = [
-        ("{\"a\":null}", Leaf::Null),
-        ("{\"a\":true}", Leaf::Bool(true)),
-        ("{\"a\":false}", Leaf::Bool(false)),
-        ("{\"a\":{}}", Leaf::Object),
-        ("{\"a\":[]}", Leaf::Array),
-        ("{\"a\":[1,null,{}]}", Leaf::Array),
-        ("{\"a\":\"null\"}", Leaf::String("null")),
-        ("{\"a\":-1.50E+2}", Leaf::Number("-1.50E+2")),
-        ("{\"a\":0.00}", Leaf::Number("0.00")),
-    ];
-    for (text, kind) in rows {
-        let mut scratch = Scratch::new(rt.alloc());
-        let leaf = member_a(text, &mut scratch)?.ok_or("a member")?;
-        assert!(rt; leaf == kind);
-        assert_eq!(rt; leaf.is_null(), kind == Leaf::Null);
+fn kinds(rt: HostRuntime) {
+    for (text, kind) in &KINDS {
+        assert!(rt; has_kind(rt.alloc(), text, *kind) == Ok(true));
     }
-    Ok(())
 }
 
 // What leaves show that no walk answered: the numbers are out of range, or no JSON.
@@ -432,76 +459,81 @@ impl<'t> Gather<'t> for Last<'t> {
     }
 }
 
-#[test]
-fn objects_or_leaves(rt: HostRuntime) -> Result<(), Fail> {
-    let rows: [(&str, Result<usize, Leaf>); 6] = [
-        ("{\"a\":{}}", Ok(0)),
-        ("{\"a\":7,\"b\":{\"x\":1,\"y\":{\"z\":2}}}", Ok(2)),
-        ("{\"a\":{},\"a\":7}", Err(Leaf::Number("7"))),
-        ("{\"a\":null}", Err(Leaf::Null)),
-        ("{\"a\":[{\"x\":1}]}", Err(Leaf::Array)),
-        ("{\"a\":\"{}\"}", Err(Leaf::String("{}"))),
-    ];
-    for (text, last) in rows {
-        let mut scratch = Scratch::new(rt.alloc());
-        let start = Last {
-            last: Err(Leaf::Null),
-        };
-        let found = read_object(text.as_bytes(), &mut scratch, start)
-            .ok()
-            .flatten()
-            .ok_or("an object")?;
-        assert!(rt; found.last == last);
+// Whether the last member of an object is an object of so many members, or this leaf.
+fn has_last(alloc: Global, text: &str, last: Result<usize, Leaf>) -> Result<bool, ReadFault> {
+    let mut scratch = Scratch::new(alloc);
+    let start = Last {
+        last: Err(Leaf::Null),
+    };
+    match read_object(text.as_bytes(), &mut scratch, start)? {
+        Some(found) => Ok(found.last == last),
+        None => Ok(false),
     }
-    Ok(())
 }
+
+const LASTS: [(&str, Result<usize, Leaf>); 6] = [
+    ("{\"a\":{}}", Ok(0)),
+    ("{\"a\":7,\"b\":{\"x\":1,\"y\":{\"z\":2}}}", Ok(2)),
+    ("{\"a\":{},\"a\":7}", Err(Leaf::Number("7"))),
+    ("{\"a\":null}", Err(Leaf::Null)),
+    ("{\"a\":[{\"x\":1}]}", Err(Leaf::Array)),
+    ("{\"a\":\"{}\"}", Err(Leaf::String("{}"))),
+];
+
+#[test]
+fn objects_or_leaves(rt: HostRuntime) {
+    for (text, last) in &LASTS {
+        assert!(rt; has_last(rt.alloc(), text, *last) == Ok(true));
+    }
+}
+
+const DECIMALS: [(&str, Option<(u64, &str)>); 15] = [
+    ("0", Some((0, ""))),
+    ("7", Some((7, ""))),
+    ("10", Some((10, ""))),
+    ("9,\"x\":1}", Some((9, ",\"x\":1}"))),
+    ("429 ", Some((429, " "))),
+    ("1.5", Some((1, ".5"))),
+    ("01", Some((0, "1"))),
+    ("100000000000000000", Some((100000000000000000, ""))),
+    ("999999999999999999}", Some((999999999999999999, "}"))),
+    ("1000000000000000000", None),
+    ("99999999999999999999", None),
+    ("", None),
+    ("x1", None),
+    ("-1", None),
+    (":", None),
+];
 
 // The number in front of some bytes, and what follows it.
 #[test]
 fn decimals(rt: HostRuntime) {
-    let rows: [(&str, Option<(u64, &str)>); 15] = [
-        ("0", Some((0, ""))),
-        ("7", Some((7, ""))),
-        ("10", Some((10, ""))),
-        ("9,\"x\":1}", Some((9, ",\"x\":1}"))),
-        ("429 ", Some((429, " "))),
-        ("1.5", Some((1, ".5"))),
-        ("01", Some((0, "1"))),
-        ("100000000000000000", Some((100000000000000000, ""))),
-        ("999999999999999999}", Some((999999999999999999, "}"))),
-        ("1000000000000000000", None),
-        ("99999999999999999999", None),
-        ("", None),
-        ("x1", None),
-        ("-1", None),
-        (":", None),
-    ];
-    for (text, front) in rows {
+    for (text, front) in &DECIMALS {
         let front = front.map(|(number, rest)| (number, rest.as_bytes()));
         assert!(rt; take_decimal(text.as_bytes()) == front);
     }
 }
 
+const PLAIN_TEXTS: [(&str, Option<&str>, Option<(&str, &str)>); 11] = [
+    ("", Some(""), None),
+    ("a", Some("a"), None),
+    (" ~", Some(" ~"), None),
+    ("\u{1f}", None, None),
+    ("\u{7f}", None, None),
+    ("\u{e4}", None, None),
+    ("a\\", None, None),
+    ("a\"", None, Some(("a", ""))),
+    ("\",\"b\"", None, Some(("", ",\"b\""))),
+    ("a\\\"b", None, None),
+    ("\u{e4}\"", None, None),
+];
+
 #[test]
 fn plain_texts(rt: HostRuntime) {
-    let rows: [(&str, Option<&str>, Option<(&str, &str)>); 11] = [
-        ("", Some(""), None),
-        ("a", Some("a"), None),
-        (" ~", Some(" ~"), None),
-        ("\u{1f}", None, None),
-        ("\u{7f}", None, None),
-        ("\u{e4}", None, None),
-        ("a\\", None, None),
-        ("a\"", None, Some(("a", ""))),
-        ("\",\"b\"", None, Some(("", ",\"b\""))),
-        ("a\\\"b", None, None),
-        ("\u{e4}\"", None, None),
-    ];
-    for (text, whole, front) in rows {
-        let bytes = text.as_bytes();
+    for (text, whole, front) in &PLAIN_TEXTS {
         let front = front.map(|(text, rest)| (text, rest.as_bytes()));
-        assert!(rt; plain_text(bytes) == whole);
-        assert!(rt; take_plain(bytes) == front);
+        assert!(rt; plain_text(text.as_bytes()) == *whole);
+        assert!(rt; take_plain(text.as_bytes()) == front);
     }
 }
 

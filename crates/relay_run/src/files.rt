@@ -1,5 +1,5 @@
 //! Files of operations to an index: the function behind `relay run`.
-ghost use Rattle.std.specs.Prelude.{◌≡◌, ◌++◌, IfOk, OnOk, IsTrue, false, is_some, length, map, string_bytes, true, vec_len};
+ghost use Rattle.std.specs.Prelude.{◌≡◌, ◌≢◌, ◌⊎◌, ◌++◌, IfOk, OnOk, IsTrue, false, is_some, length, map, string_bytes, true, vec_len};
 ghost use Rattle.relay_core.specs.Limits.{is_valid};
 ghost use Rattle.relay_http.specs.WrittenRequest.{is_host};
 ghost use Rattle.relay_threads.specs.Relay.{NoneOut};
@@ -45,11 +45,15 @@ pub struct RunOptions {
 }
 
 impl RunOptions {
-    /// Whether the config is valid, with a producer for each file, and the address may be named.
+    /// Whether the config is valid, with a producer for each file, and the address may be named: `false`
+    /// only where one of the three does not hold.
     pub fn is_valid(&self) -> bool
         ensures valid { IsTrue result → is_valid self.now.config ≡ true }
         ensures host { IsTrue result → IsTrue (is_host (string_bytes self.now.to)) }
         ensures files { IsTrue result → vec_len self.now.files ≡ self.now.config.producers }
+        ensures refused { result ≡ false → (is_valid self.now.config ≡ false)
+            ⊎ (is_host (string_bytes self.now.to) ≡ false)
+            ⊎ (vec_len self.now.files ≢ self.now.config.producers) }
     {
         self.config.valid()
             && is_host(self.to.as_str())

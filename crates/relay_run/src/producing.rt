@@ -1,5 +1,5 @@
 //! The thread of a producer: it puts the operations of a stream, and closes.
-ghost use Rattle.std.specs.Prelude.{◌≡◌, List, map, option_map, string_bytes, IfOk};
+ghost use Rattle.std.specs.Prelude.{◌≡◌, ◌⊎◌, List, map, option_map, string_bytes, IfErr, IfOk};
 ghost use Rattle.relay_ndjson.specs.Metadata.{shown};
 ghost use Rattle.relay_ndjson.specs.Operations.{Operation};
 ghost use Rattle.relay_producer.specs.Ends.{identities, open_puts};
@@ -159,8 +159,9 @@ pub(crate) fn spawn_producers<R, S>(
 where
     R: Threads + Wait + Copy + Send + 'static,
     S: ByteIn + Drop + Send + 'static,
-    ensures { IfOk result
+    ensures given { IfOk result
         (λ v. map given_to v.items ≡ all_given (shown index.entry) readers.items producers.items) }
+    ensures fault { IfErr result (λ e. (e ≡ StartFault.Memory) ⊎ (e ≡ StartFault.Thread)) }
 {
     let mut threads = Vec::new(alloc);
     let mut readers = readers.into_iter();

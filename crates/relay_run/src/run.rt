@@ -1,5 +1,6 @@
 //! Readers of operations through a relay.
-ghost use Rattle.std.specs.Prelude.{◌≡◌, ℕ, List, IfOk, vec_len};
+ghost use Rattle.std.specs.Prelude.{◌≡◌, ◌≢◌, ◌⊎◌, ◌↔◌, ℕ, List, IfOk, IsErrAnd, false, true, vec_len};
+ghost use Rattle.relay_core.specs.Limits.{is_valid};
 ghost use Rattle.relay_ndjson.specs.Metadata.{shown};
 ghost use Rattle.relay_ndjson.specs.Operations.{Operation};
 ghost use Rattle.relay_queue.specs.Ends.{Queue};
@@ -39,8 +40,9 @@ pub struct Ran<W> {
 /// on its documents, and delivered them: soundly and completely beside each outside that its wire fitted
 /// at the start. Without a summary nothing is said of what was delivered.
 ///
-/// `StartFault`: the relay or a producer's thread could not be started, or there was no memory for what
-/// the threads are given. Threads that were started go on then.
+/// `StartFault`: `BadConfig` where the config is not valid, `WireCount` where there is not a wire and a
+/// pace for each lane; then nothing was started. Else `Thread`: a thread could not be started; `Memory`:
+/// there was no memory for what the threads are given. Threads that were started go on then.
 pub fn run<R, W, P, S>(
     rt: R,
     alloc: Global,
@@ -57,6 +59,9 @@ where
     S: ByteIn + Drop + Send + 'static,
     requires { NoneOut W.out wires.items }
     ensures count { IfOk result (λ r. vec_len r.faults ≡ config.producers) }
+    ensures bad_config { IsErrAnd result (λ e. e ≡ StartFault.BadConfig) ↔ (is_valid config ≡ false) }
+    ensures wire_count { IsErrAnd result (λ e. e ≡ StartFault.WireCount) ↔ ((is_valid config ≡ true)
+        × ((vec_len wires ≢ config.lanes) ⊎ (vec_len paces ≢ config.lanes))) }
     ensures delivered { IfOk result (λ r. (queues : List Queue) × (ops : ℕ → List Operation)
         × AreFedFrom S.left S.failed (shown index.entry) queues ops 0 readers.items r.faults.items
         × IfOk r.end (λ s. AllDelivered W.describes W.fits config (λ p. named p 1 (ops p)) 0
@@ -67,10 +72,7 @@ where
         Err(fault) => return Err(fault),
     };
     let (ended, waiting) = bounded(alloc, 1)?;
-    let threads = match spawn_producers(rt, alloc, readers, index, producers, ended) {
-        Ok(threads) => threads,
-        Err(fault) => return Err(fault),
-    };
+    let threads = spawn_producers(rt, alloc, readers, index, producers, ended)?;
     tick_until_ended(&rt, &waiting, &mut control);
     let (closed, faults) = join_producers(&rt, alloc, threads)?;
     let control = control.close(&rt);

@@ -1,4 +1,4 @@
-use Rattle.std.proofs.Common.{◌≡◌, ◌++◌, ◌∷◌, [], map, ap, ◌∙◌}
+use Rattle.std.proofs.Common.{◌≡◌, ◌++◌, ◌∷◌, [], map, ap, ◌∙◌, inr, refl}
 use Rattle.std.specs.Prelude.{option_map, string_bytes}
 use Rattle.std.specs.Option.{option_flatten}
 use Rattle.std.specs.Vec.Iter.{into_iter_items}
@@ -25,3 +25,6 @@ loop-producer-preserved g c =
     ap (λ l. map given_to l ++ all_given (shown c.args.index) later others) more
     ∙ ap (λ l. l ++ all_given (shown c.args.index) later others) (given_push left failed c.loop-producer.threads.items h)
     ∙ given_more left failed (shown c.args.index) (map given_to c.loop-producer.threads.items) _ (given_to h) rs later _ others c.in-Some.producer (option_flatten next.result) c.in-Some.ensures.steps.0 is r.first r.others c.loop-producer.invariant
+
+pub returns-in-Err-clause-fault : goal.returns-in-Err-clause-fault
+returns-in-Err-clause-fault g c = inr refl

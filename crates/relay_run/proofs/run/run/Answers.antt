@@ -11,7 +11,7 @@ pub finish-requires-clause-count : goal.finish-requires-clause-count
 finish-requires-clause-count g c κs within =
     let left = g.S.ByteStream.left in
     let failed = g.S.ByteStream.failed in
-    let ended = subst (λ (gs : List (Given _)). AllEndFed left failed gs c.in_ok-closed.closed.items c.in_ok-closed.faults.items) c.in-Ok-spawn_producers.ensures c.in_ok-closed.ensures in
+    let ended = subst (λ (gs : List (Given _)). AllEndFed left failed gs c.in_ok-closed.closed.items c.in_ok-closed.faults.items) c.in_ok-threads.ensures.given c.in_ok-closed.ensures in
     let all = all_fed left failed (shown c.args.index) c.in-Ok.started.0.queues 0 c.args.readers.items c.in-Ok.started.1.items c.in_ok-closed.closed.items c.in_ok-closed.faults.items c.in-Ok.ensures.producers ended in
     c.in_ok-closed.closed.ok.0 ∙ count_back _ _ all.identities ∙ sym c.in-Ok.started.1.ok.0 ∙ c.in-Ok.ensures.count
     ∙ sym (ap (λ (k : RelayConfig). k.producers) c.in-Ok.ensures.config)
@@ -20,17 +20,23 @@ pub finish-requires-clause-rows : goal.finish-requires-clause-rows
 finish-requires-clause-rows g c κs within =
     let left = g.S.ByteStream.left in
     let failed = g.S.ByteStream.failed in
-    let ended = subst (λ (gs : List (Given _)). AllEndFed left failed gs c.in_ok-closed.closed.items c.in_ok-closed.faults.items) c.in-Ok-spawn_producers.ensures c.in_ok-closed.ensures in
+    let ended = subst (λ (gs : List (Given _)). AllEndFed left failed gs c.in_ok-closed.closed.items c.in_ok-closed.faults.items) c.in_ok-threads.ensures.given c.in_ok-closed.ensures in
     let all = all_fed left failed (shown c.args.index) c.in-Ok.started.0.queues 0 c.args.readers.items c.in-Ok.started.1.items c.in_ok-closed.closed.items c.in_ok-closed.faults.items c.in-Ok.ensures.producers ended in
     rows_of_all _ c.args.config.producers c.in-Ok.started.1.items c.in_ok-closed.closed.items c.close-control.result
     (sym c.in-Ok.ensures.count ∙ c.in-Ok.started.1.ok.0) c.in-Ok.ensures.producers all.identities
     (control_back _ c.args.config.producers c.in-Ok.started.2 c.tick_until_ended.new.control c.close-control.result c.in-Ok.ensures.control c.tick_until_ended.ensures.same c.close-control.ensures.ends)
 
+pub returns-in-Err-clause-bad_config : goal.returns-in-Err-clause-bad_config
+returns-in-Err-clause-bad_config g c = c.in-Err.ensures.bad_config
+
+pub returns-in-Err-clause-wire_count : goal.returns-in-Err-clause-wire_count
+returns-in-Err-clause-wire_count g c = c.in-Err.ensures.wire_count
+
 pub returns-clause-count : goal.returns-clause-count
 returns-clause-count g c =
     let left = g.S.ByteStream.left in
     let failed = g.S.ByteStream.failed in
-    let ended = subst (λ (gs : List (Given _)). AllEndFed left failed gs c.in_ok-closed.closed.items c.in_ok-closed.faults.items) c.in-Ok-spawn_producers.ensures c.in_ok-closed.ensures in
+    let ended = subst (λ (gs : List (Given _)). AllEndFed left failed gs c.in_ok-closed.closed.items c.in_ok-closed.faults.items) c.in_ok-threads.ensures.given c.in_ok-closed.ensures in
     let all = all_fed left failed (shown c.args.index) c.in-Ok.started.0.queues 0 c.args.readers.items c.in-Ok.started.1.items c.in_ok-closed.closed.items c.in_ok-closed.faults.items c.in-Ok.ensures.producers ended in
     c.in_ok-closed.faults.ok.0 ∙ all.count ∙ sym c.in-Ok.started.1.ok.0 ∙ c.in-Ok.ensures.count
 
@@ -39,7 +45,7 @@ returns-clause-delivered g c =
     let left = g.S.ByteStream.left in
     let failed = g.S.ByteStream.failed in
     let queues = c.in-Ok.started.0.queues in
-    let ended = subst (λ (gs : List (Given _)). AllEndFed left failed gs c.in_ok-closed.closed.items c.in_ok-closed.faults.items) c.in-Ok-spawn_producers.ensures c.in_ok-closed.ensures in
+    let ended = subst (λ (gs : List (Given _)). AllEndFed left failed gs c.in_ok-closed.closed.items c.in_ok-closed.faults.items) c.in_ok-threads.ensures.given c.in_ok-closed.ensures in
     let all = all_fed left failed (shown c.args.index) queues 0 c.args.readers.items c.in-Ok.started.1.items c.in_ok-closed.closed.items c.in_ok-closed.faults.items c.in-Ok.ensures.producers ended in
     let x = fed_and_put left failed (shown c.args.index) queues c.args.readers.items c.in-Ok.started.1.items c.in_ok-closed.closed.items c.in_ok-closed.faults.items all in (
       queues,
