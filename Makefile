@@ -32,7 +32,8 @@ test:
 	python3 tests/gate.py
 	@echo "handing what relay_http writes to the HTTP client and server of Python"
 	@python3 tests/http_fixtures.py > /dev/null
-	@echo "running the built program from the outside"
+	@echo "running the benchmark's tool and the program from the outside"
+	python3 tests/bench_tool.py crates/relay_bench/out/relay_bench
 	python3 tests/run.py crates/relay/out/relay
 
 # Ratios to other programs, measured in one run.

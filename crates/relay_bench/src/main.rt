@@ -12,8 +12,6 @@ mod lane;
 mod queue;
 mod rate;
 mod replies;
-#[cfg(test)]
-mod tests;
 
 use std::process::ExitCode;
 
