@@ -1,34 +1,37 @@
 //! A lane that a schedule is played on, step by step.
 use relay_action::{Action, ActionKind, Body, DocKey, Mail, Op, Text};
 use relay_batch::Limits;
-use relay_core::{Cause, Lane, NotFlying, RelayConfig, Settled, TakeFault};
+use relay_core::{Cause, Lane, NotFlying, RelayConfig, Settled, TakeFault, Totals};
 use relay_results::Outcome;
 use std::alloc::{AllocError, Global};
 use std::test::Fail;
 
-/// One lane and producer, and batches of ten documents and 4,096 bytes that go at once.
+/// Batches of ten documents and 4,096 bytes that go at once.
+pub const LIMITS: Limits = Limits {
+    count: 10,
+    bytes: 4_096,
+    linger: 0,
+};
+
+/// One lane and producer, and those batches.
 pub const CONFIG: RelayConfig = RelayConfig {
     lanes: 1,
     producers: 1,
     capacity: 10,
     max_held: 10,
-    limits: Limits {
-        count: 10,
-        bytes: 4_096,
-        linger: 0,
-    },
+    limits: LIMITS,
     attempts: 3,
     in_flight: 1,
     first_version: 1,
 };
 
-/// The kind, id, status and error of an entry; no text is no error.
+/// An entry of a reply, by its id and status.
 #[derive(Clone, Copy)]
-pub struct Entry<'a> {
-    pub kind: ActionKind,
-    pub id: &'a str,
-    pub status: u16,
-    pub error: &'a str,
+pub enum Entry<'a> {
+    Index(&'a str, u16),
+    /// An index with the error `scripted_refusal`.
+    Failed(&'a str, u16),
+    Delete(&'a str, u16),
 }
 
 /// A step of a schedule, and what comes of it. Counts are applied, already, reported and retried.
@@ -61,14 +64,15 @@ pub enum Step<'a> {
     /// How many are held.
     Held(u32),
     Finished(bool),
+    Totals(Totals),
 }
 
-/// A lane, how many operations were put, and the request last sent.
+// A lane, how many operations were put, and the request last sent.
 #[derive(Drop)]
-pub struct Desk {
-    pub lane: Lane,
-    pub puts: u64,
-    pub last: u64,
+struct Desk {
+    lane: Lane,
+    puts: u64,
+    last: u64,
 }
 
 /// A lane of a config, which has to be valid.
@@ -94,13 +98,8 @@ fn op_of(alloc: Global, number: u64, id: &str, source: &str) -> Result<Op, Fail>
     })
 }
 
-/// Takes a message of a sender. The fault, if it is not taken.
-pub fn take(
-    lane: &mut Lane,
-    sender: u32,
-    number: u64,
-    body: Body,
-) -> Result<Option<TakeFault>, Fail> {
+// Takes a message of a sender. The fault, if it is not taken.
+fn take(lane: &mut Lane, sender: u32, number: u64, body: Body) -> Result<Option<TakeFault>, Fail> {
     if sender >= lane.senders() {
         return Err("no such sender")?;
     }
@@ -127,16 +126,18 @@ pub fn put(
 }
 
 fn outcome_of(alloc: Global, entry: &Entry<'_>) -> Result<Outcome, AllocError> {
-    let id = Text::new(alloc, entry.id)?;
-    let error = if entry.error.is_empty() {
-        None
-    } else {
-        Some(Text::new(alloc, entry.error)?)
+    let (kind, id, status, error) = match *entry {
+        Entry::Index(id, status) => (ActionKind::Index, id, status, None),
+        Entry::Failed(id, status) => {
+            let error = Text::new(alloc, "scripted_refusal")?;
+            (ActionKind::Index, id, status, Some(error))
+        }
+        Entry::Delete(id, status) => (ActionKind::Delete, id, status, None),
     };
     Ok(Outcome {
-        kind: entry.kind,
-        id,
-        status: entry.status,
+        kind,
+        id: Text::new(alloc, id)?,
+        status,
         error,
     })
 }
@@ -149,8 +150,8 @@ fn outcomes_of(alloc: Global, entries: &[Entry<'_>]) -> Result<Vec<Outcome>, Fai
     Ok(outcomes)
 }
 
-/// Whether a request in flight has these ids and versions, in its writes and in its items.
-pub fn carries(lane: &Lane, number: u64, wanted: &[(&str, u64)]) -> bool {
+// Whether a request in flight has these ids and versions, in its writes and in its items.
+fn carries(lane: &Lane, number: u64, wanted: &[(&str, u64)]) -> bool {
     let Some(writes) = lane.writes(number) else {
         return false;
     };
@@ -202,34 +203,46 @@ fn looks(desk: &mut Desk, step: &Step<'_>) -> Result<bool, Fail> {
         Step::DueIn(ticks) => Ok(desk.lane.due_in().unwrap_or(99) == *ticks),
         Step::Held(count) => Ok(desk.lane.held() == *count),
         Step::Finished(wanted) => Ok(desk.lane.finished() == *wanted),
+        Step::Totals(wanted) => Ok(desk.lane.totals() == *wanted),
         _ => Ok(false),
     }
+}
+
+// What a reply of these entries to the request last sent makes of it.
+fn reply(
+    alloc: Global,
+    desk: &mut Desk,
+    entries: &[Entry<'_>],
+) -> Result<Result<Settled, NotFlying>, Fail> {
+    let outcomes = outcomes_of(alloc, entries)?;
+    Ok(desk.lane.reply(desk.last, outcomes))
+}
+
+// Whether no request of this number flies.
+fn is_not_flying(alloc: Global, lane: &mut Lane, number: u64) -> bool {
+    lane.lost(number).is_err()
+        && lane.whole(number, 503).is_err()
+        && lane.reply(number, Vec::new(alloc)).is_err()
+        && lane.writes(number).is_none()
+        && lane.items(number).is_none()
 }
 
 fn answers(alloc: Global, desk: &mut Desk, step: &Step<'_>) -> Result<bool, Fail> {
     let last = desk.last;
     match step {
-        Step::Items(entries, counts) => {
-            let outcomes = outcomes_of(alloc, *entries)?;
-            Ok(are_counts(desk.lane.reply(last, outcomes), counts, true))
-        }
-        Step::NoMatch(entries, counts) => {
-            let outcomes = outcomes_of(alloc, *entries)?;
-            Ok(are_counts(desk.lane.reply(last, outcomes), counts, false))
-        }
+        Step::Items(entries, counts) => Ok(are_counts(reply(alloc, desk, *entries)?, counts, true)),
+        Step::NoMatch(entries, counts) => Ok(are_counts(
+            reply(alloc, desk, *entries)?,
+            counts,
+            false,
+        )),
         Step::Whole(status, counts) if *status != 200 => Ok(are_counts(
             desk.lane.whole(last, *status),
             counts,
             true,
         )),
         Step::Lost(counts) => Ok(are_counts(desk.lane.lost(last), counts, true)),
-        Step::NotFlying => Ok(
-            desk.lane.lost(last).is_err()
-                && desk.lane.whole(last, 503).is_err()
-                && desk.lane.reply(last, Vec::new(alloc)).is_err()
-                && desk.lane.writes(last).is_none()
-                && desk.lane.items(last).is_none(),
-        ),
+        Step::NotFlying => Ok(is_not_flying(alloc, &mut desk.lane, last)),
         _ => looks(desk, step),
     }
 }
@@ -254,18 +267,18 @@ fn plays(alloc: Global, desk: &mut Desk, step: &Step<'_>) -> Result<bool, Fail> 
     }
 }
 
-/// The place of the first step that does not go as it says, and else their number.
-pub fn played(alloc: Global, desk: &mut Desk, steps: &[Step<'_>]) -> Result<usize, Fail> {
-    for i in 0..steps.len() {
-        if !plays(alloc, desk, &steps[i])? {
-            return Ok(i);
+// Whether all steps go as they say, one after another.
+fn played(alloc: Global, desk: &mut Desk, steps: &[Step<'_>]) -> Result<bool, Fail> {
+    for step in steps {
+        if !plays(alloc, desk, step)? {
+            return Ok(false);
         }
     }
-    Ok(steps.len())
+    Ok(true)
 }
 
-/// A desk with a fresh lane.
-pub fn desk_of(alloc: Global, config: RelayConfig) -> Result<Desk, Fail> {
+// A desk with a fresh lane.
+fn desk_of(alloc: Global, config: RelayConfig) -> Result<Desk, Fail> {
     Ok(Desk {
         lane: lane_of(alloc, config)?,
         puts: 0,
@@ -273,9 +286,9 @@ pub fn desk_of(alloc: Global, config: RelayConfig) -> Result<Desk, Fail> {
     })
 }
 
-/// A report as numbers: its operation, the place of its cause in the list of causes, and the status or
-/// the sends that it tells.
-pub fn reported(lane: &Lane, place: usize) -> (u64, u8, u32) {
+// A report as numbers: its operation, the place of its cause in the list of causes, and the status or
+// the sends that it tells.
+fn reported(lane: &Lane, place: usize) -> (u64, u8, u32) {
     match lane.reports().get(place) {
         Some(report) => match &report.cause {
             Cause::Refused { status, .. } => (report.name.number, 1, *status as u32),
@@ -286,4 +299,25 @@ pub fn reported(lane: &Lane, place: usize) -> (u64, u8, u32) {
         },
         None => (0, 0, 0),
     }
+}
+
+// Whether a lane has these reports, in their order, and no others, and gives up as many.
+fn ends_with(lane: Lane, reports: &[(u64, u8, u32)]) -> bool {
+    for i in 0..reports.len() {
+        if reported(&lane, i) != reports[i] {
+            return false;
+        }
+    }
+    lane.reports().len() == reports.len() && lane.into_reports().len() == reports.len()
+}
+
+/// Whether a fresh lane goes through these steps as they say, and has these reports then.
+pub fn goes(
+    alloc: Global,
+    config: RelayConfig,
+    steps: &[Step<'_>],
+    reports: &[(u64, u8, u32)],
+) -> Result<bool, Fail> {
+    let mut desk = desk_of(alloc, config)?;
+    Ok(played(alloc, &mut desk, steps)? && ends_with(desk.lane, reports))
 }

@@ -1,286 +1,254 @@
 //! A lane at its limits.
-use crate::desk::{CONFIG, Entry, Step, desk_of, played, reported};
-use relay_action::ActionKind;
+use crate::desk::{CONFIG, Entry, LIMITS, Step, goes};
 use relay_batch::Limits;
 use relay_core::{RelayConfig, TakeFault};
 use std::test::Fail;
 
 // Each number one below, at and one above its limits.
-#[test]
-fn valid_configs(rt: HostRuntime) -> Result<(), Fail> {
-    let limits = CONFIG.limits;
-    let rows = [
-        (RelayConfig { lanes: 0, ..CONFIG }, false),
-        (RelayConfig { lanes: 8, ..CONFIG }, true),
-        (RelayConfig { lanes: 9, ..CONFIG }, false),
-        (
-            RelayConfig {
-                producers: 0,
-                ..CONFIG
-            },
-            false,
-        ),
-        (
-            RelayConfig {
-                producers: 16,
-                ..CONFIG
-            },
-            true,
-        ),
-        (
-            RelayConfig {
-                producers: 17,
-                ..CONFIG
-            },
-            false,
-        ),
-        (
-            RelayConfig {
-                capacity: 65_536,
-                max_held: 65_536,
-                ..CONFIG
-            },
-            true,
-        ),
-        (
-            RelayConfig {
-                capacity: 65_537,
-                ..CONFIG
-            },
-            false,
-        ),
-        (
-            RelayConfig {
-                max_held: 65_537,
-                ..CONFIG
-            },
-            false,
-        ),
-        (
-            RelayConfig {
-                max_held: 0,
-                ..CONFIG
-            },
-            false,
-        ),
-        (
-            RelayConfig {
-                limits: Limits {
-                    count: 10_000,
-                    bytes: 16_777_216,
-                    linger: 65_535,
-                },
-                ..CONFIG
-            },
-            true,
-        ),
-        (
-            RelayConfig {
-                limits: Limits {
-                    count: 10_001,
-                    ..limits
-                },
-                ..CONFIG
-            },
-            false,
-        ),
-        (
-            RelayConfig {
-                limits: Limits {
-                    bytes: 1_023,
-                    ..limits
-                },
-                ..CONFIG
-            },
-            false,
-        ),
-        (
-            RelayConfig {
-                limits: Limits {
-                    linger: 65_536,
-                    ..limits
-                },
-                ..CONFIG
-            },
-            false,
-        ),
-        (
-            RelayConfig {
-                attempts: 32,
-                ..CONFIG
-            },
-            true,
-        ),
-        (
-            RelayConfig {
-                attempts: 33,
-                ..CONFIG
-            },
-            false,
-        ),
-        (
-            RelayConfig {
-                in_flight: 2,
-                ..CONFIG
-            },
-            false,
-        ),
-        (
-            RelayConfig {
-                first_version: 9_000_000_000_000_000_000,
-                ..CONFIG
-            },
-            true,
-        ),
-        (
-            RelayConfig {
-                first_version: 9_000_000_000_000_000_001,
-                ..CONFIG
-            },
-            false,
-        ),
-    ];
-    for (config, valid) in rows {
-        assert_eq!(rt; config.valid(), valid);
-    }
-    Ok(())
-}
-
-// One operation held, and one version to deal: HeldFull comes before Spent.
-#[test]
-fn held_full_before_spent(rt: HostRuntime) -> Result<(), Fail> {
-    let mut desk = desk_of(
-        rt.alloc(),
+const CONFIGS: [(RelayConfig, bool); 19] = [
+    (RelayConfig { lanes: 0, ..CONFIG }, false),
+    (RelayConfig { lanes: 8, ..CONFIG }, true),
+    (RelayConfig { lanes: 9, ..CONFIG }, false),
+    (
         RelayConfig {
-            max_held: 1,
-            first_version: 9_000_000_000_000_000_000,
+            producers: 0,
             ..CONFIG
         },
-    )?;
-    let gone = [Entry {
-        kind: ActionKind::Delete,
-        id: "1",
-        status: 404,
-        error: "",
-    }];
-    let steps = [
-        Step::Put("1", ""),
-        Step::NotTaken(TakeFault::HeldFull),
-        Step::Sends(&[("1", 9_000_000_000_000_000_000)]),
-        Step::NotTaken(TakeFault::HeldFull),
-        Step::Items(gone.as_slice(), [1, 0, 0, 0]),
-        Step::Put("2", ""),
-        Step::Held(0),
-        Step::SendsNone,
-        Step::Close(0),
-        Step::NotTaken(TakeFault::AfterClose),
-    ];
-    assert_eq!(rt;
-        played(rt.alloc(), &mut desk, steps.as_slice())?,
-        steps.len()
-    );
-    assert_eq!(rt; reported(&desk.lane, 0), (2, 5, 0));
-    Ok(())
-}
-
-// A batch that is not full goes after its linger time, after a flush, or where all have closed.
-#[test]
-fn batches_that_wait(rt: HostRuntime) -> Result<(), Fail> {
-    let config = RelayConfig {
-        limits: Limits {
-            linger: 65_535,
-            ..CONFIG.limits
+        false,
+    ),
+    (
+        RelayConfig {
+            producers: 16,
+            ..CONFIG
         },
-        ..CONFIG
-    };
-    let mut lingers = desk_of(rt.alloc(), config)?;
-    let by_time = [
-        Step::Flush,
-        Step::Put("1", "{}"),
-        Step::SendsNone,
-        Step::DueIn(0),
-        Step::Ticks(65_534),
-        Step::SendsNone,
-        Step::Ticks(1),
-        Step::Sends(&[("1", 1)]),
-    ];
-    assert_eq!(rt;
-        played(rt.alloc(), &mut lingers, by_time.as_slice())?,
-        by_time.len()
-    );
-    let mut flushed = desk_of(rt.alloc(), config)?;
-    let by_flush = [
-        Step::Put("1", "{}"),
-        Step::Flush,
-        Step::Put("2", "{}"),
-        Step::Sends(&[("1", 1), ("2", 2)]),
-        Step::Lost([0, 0, 0, 2]),
-        Step::Put("3", "{}"),
-        Step::SendsNone,
-        Step::Ticks(1),
-        Step::Sends(&[("1", 1), ("2", 2), ("3", 3)]),
-    ];
-    assert_eq!(rt;
-        played(rt.alloc(), &mut flushed, by_flush.as_slice())?,
-        by_flush.len()
-    );
-    let mut closed = desk_of(rt.alloc(), config)?;
-    let by_close = [
-        Step::Put("1", "{}"),
-        Step::Close(0),
-        Step::SendsNone,
-        Step::Close(1),
-        Step::Sends(&[("1", 1)]),
-    ];
-    assert_eq!(rt;
-        played(rt.alloc(), &mut closed, by_close.as_slice())?,
-        by_close.len()
-    );
-    Ok(())
-}
-
-// A batch is closed by its count and by its bytes.
-#[test]
-fn batches_that_are_full(rt: HostRuntime) -> Result<(), Fail> {
-    let mut desk = desk_of(
-        rt.alloc(),
+        true,
+    ),
+    (
+        RelayConfig {
+            producers: 17,
+            ..CONFIG
+        },
+        false,
+    ),
+    (
+        RelayConfig {
+            capacity: 65_536,
+            max_held: 65_536,
+            ..CONFIG
+        },
+        true,
+    ),
+    (
+        RelayConfig {
+            capacity: 65_537,
+            ..CONFIG
+        },
+        false,
+    ),
+    (
+        RelayConfig {
+            max_held: 65_537,
+            ..CONFIG
+        },
+        false,
+    ),
+    (
+        RelayConfig {
+            max_held: 0,
+            ..CONFIG
+        },
+        false,
+    ),
+    (
         RelayConfig {
             limits: Limits {
-                count: 2,
-                bytes: 4_096,
+                count: 10_000,
+                bytes: 16_777_216,
                 linger: 65_535,
             },
             ..CONFIG
         },
-    )?;
-    let two = [
-        Entry {
-            kind: ActionKind::Index,
-            id: "1",
-            status: 200,
-            error: "",
+        true,
+    ),
+    (
+        RelayConfig {
+            limits: Limits {
+                count: 10_001,
+                ..LIMITS
+            },
+            ..CONFIG
         },
-        Entry {
-            kind: ActionKind::Index,
-            id: "2",
-            status: 200,
-            error: "",
+        false,
+    ),
+    (
+        RelayConfig {
+            limits: Limits {
+                bytes: 1_023,
+                ..LIMITS
+            },
+            ..CONFIG
         },
-    ];
-    let steps = [
-        Step::Put("1", "{}"),
-        Step::Put("1", "{}"),
-        Step::SendsNone,
-        Step::Put("2", "{}"),
-        Step::Sends(&[("1", 1), ("2", 3)]),
-        Step::Items(two.as_slice(), [2, 0, 0, 0]),
-        Step::SendsNone,
-        Step::Put("3", "{}"),
-        Step::Sends(&[("1", 2), ("3", 4)]),
-    ];
-    assert_eq!(rt;
-        played(rt.alloc(), &mut desk, steps.as_slice())?,
-        steps.len()
-    );
+        false,
+    ),
+    (
+        RelayConfig {
+            limits: Limits {
+                linger: 65_536,
+                ..LIMITS
+            },
+            ..CONFIG
+        },
+        false,
+    ),
+    (
+        RelayConfig {
+            attempts: 32,
+            ..CONFIG
+        },
+        true,
+    ),
+    (
+        RelayConfig {
+            attempts: 33,
+            ..CONFIG
+        },
+        false,
+    ),
+    (
+        RelayConfig {
+            in_flight: 2,
+            ..CONFIG
+        },
+        false,
+    ),
+    (
+        RelayConfig {
+            first_version: 9_000_000_000_000_000_000,
+            ..CONFIG
+        },
+        true,
+    ),
+    (
+        RelayConfig {
+            first_version: 9_000_000_000_000_000_001,
+            ..CONFIG
+        },
+        false,
+    ),
+];
+
+#[test]
+fn valid_configs(rt: HostRuntime) {
+    for (config, valid) in &CONFIGS {
+        assert!(rt; config.valid() == *valid);
+    }
+}
+
+const ONE_HELD: RelayConfig = RelayConfig {
+    max_held: 1,
+    first_version: 9_000_000_000_000_000_000,
+    ..CONFIG
+};
+
+// One operation held, and one version to deal: HeldFull comes before Spent.
+const HELD_FULL: [Step<'static>; 10] = [
+    Step::Put("1", ""),
+    Step::NotTaken(TakeFault::HeldFull),
+    Step::Sends(&[("1", 9_000_000_000_000_000_000)]),
+    Step::NotTaken(TakeFault::HeldFull),
+    Step::Items(&[Entry::Delete("1", 404)], [1, 0, 0, 0]),
+    Step::Put("2", ""),
+    Step::Held(0),
+    Step::SendsNone,
+    Step::Close(0),
+    Step::NotTaken(TakeFault::AfterClose),
+];
+
+#[test]
+fn held_full_before_spent(rt: HostRuntime) -> Result<(), Fail> {
+    assert!(rt; goes(rt.alloc(), ONE_HELD, &HELD_FULL, &[(2, 5, 0)])?);
+    Ok(())
+}
+
+const LINGERING: RelayConfig = RelayConfig {
+    limits: Limits {
+        linger: 65_535,
+        ..LIMITS
+    },
+    ..CONFIG
+};
+
+// A batch that is not full goes after its linger time.
+const BY_TIME: [Step<'static>; 8] = [
+    Step::Flush,
+    Step::Put("1", "{}"),
+    Step::SendsNone,
+    Step::DueIn(0),
+    Step::Ticks(65_534),
+    Step::SendsNone,
+    Step::Ticks(1),
+    Step::Sends(&[("1", 1)]),
+];
+
+// It goes after a flush, with what was put since; lost, it goes again after its pause, with one more.
+const BY_FLUSH: [Step<'static>; 9] = [
+    Step::Put("1", "{}"),
+    Step::Flush,
+    Step::Put("2", "{}"),
+    Step::Sends(&[("1", 1), ("2", 2)]),
+    Step::Lost([0, 0, 0, 2]),
+    Step::Put("3", "{}"),
+    Step::SendsNone,
+    Step::Ticks(1),
+    Step::Sends(&[("1", 1), ("2", 2), ("3", 3)]),
+];
+
+// It goes where all have closed.
+const BY_CLOSE: [Step<'static>; 5] = [
+    Step::Put("1", "{}"),
+    Step::Close(0),
+    Step::SendsNone,
+    Step::Close(1),
+    Step::Sends(&[("1", 1)]),
+];
+
+const WAITING: [&'static [Step<'static>]; 3] = [&BY_TIME, &BY_FLUSH, &BY_CLOSE];
+
+#[test]
+fn batches_that_wait(rt: HostRuntime) -> Result<(), Fail> {
+    for steps in &WAITING {
+        assert!(rt; goes(rt.alloc(), LINGERING, *steps, &[])?);
+    }
+    Ok(())
+}
+
+const TWO_AT_ONCE: RelayConfig = RelayConfig {
+    limits: Limits {
+        count: 2,
+        bytes: 4_096,
+        linger: 65_535,
+    },
+    ..CONFIG
+};
+
+// A batch is closed by its count and by its bytes.
+const FULL_BATCHES: [Step<'static>; 9] = [
+    Step::Put("1", "{}"),
+    Step::Put("1", "{}"),
+    Step::SendsNone,
+    Step::Put("2", "{}"),
+    Step::Sends(&[("1", 1), ("2", 3)]),
+    Step::Items(
+        &[Entry::Index("1", 200), Entry::Index("2", 200)],
+        [2, 0, 0, 0],
+    ),
+    Step::SendsNone,
+    Step::Put("3", "{}"),
+    Step::Sends(&[("1", 2), ("3", 4)]),
+];
+
+#[test]
+fn batches_that_are_full(rt: HostRuntime) -> Result<(), Fail> {
+    assert!(rt; goes(rt.alloc(), TWO_AT_ONCE, &FULL_BATCHES, &[])?);
     Ok(())
 }

@@ -16,40 +16,51 @@ const FULL: RelayConfig = RelayConfig {
     ..CONFIG
 };
 
-// Takes 65,536 operations, of one document or of as many, and one more. What became of that one, how many
-// are held, and how many the next request carries.
-fn filled(alloc: Global, distinct: bool) -> Result<(Option<TakeFault>, u32, usize), Fail> {
-    let mut lane = lane_of(alloc, FULL)?;
+// Puts a delete of a document. Whether it was taken.
+fn is_put(alloc: Global, lane: &mut Lane, number: u64, document: u64) -> Result<bool, Fail> {
+    let id = format!(in alloc; "{document}")?;
+    Ok(put(alloc, lane, number, id.as_str(), "")?.is_none())
+}
+
+// How many writes the next request carries; 0 where there is none.
+fn carried(lane: &mut Lane) -> Result<usize, AllocError> {
+    match lane.request()? {
+        Some(number) => Ok(lane.writes(number).map_or(0, |writes| writes.len())),
+        None => Ok(0),
+    }
+}
+
+// A lane takes 65,536 operations, of one document or of as many, and one more. What became of that one, how
+// many are held, and how many the next request carries.
+fn filled(
+    alloc: Global,
+    lane: &mut Lane,
+    distinct: bool,
+) -> Result<(Option<TakeFault>, u32, usize), Fail> {
     for number in 0..65_536u64 {
         let document = if distinct { number } else { 0 };
-        let id = format!(in alloc; "{document}")?;
-        if put(alloc, &mut lane, number, id.as_str(), "")?.is_some() {
+        if !is_put(alloc, lane, number, document)? {
             return Err("not taken")?;
         }
     }
-    let more = put(alloc, &mut lane, 65_536, "more", "")?;
+    let more = put(alloc, lane, 65_536, "more", "")?;
     lane.flush();
-    let carried = match lane.request()? {
-        Some(number) => match lane.writes(number) {
-            Some(writes) => writes.len(),
-            None => 0,
-        },
-        None => 0,
-    };
-    Ok((more, lane.held(), carried))
+    Ok((more, lane.held(), carried(lane)?))
 }
 
 #[test]
 fn of_one_document(rt: HostRuntime) -> Result<(), Fail> {
+    let mut lane = lane_of(rt.alloc(), FULL)?;
     let wanted = (Some(TakeFault::HeldFull), 65_536, 1);
-    assert!(rt; filled(rt.alloc(), false)? == wanted);
+    assert!(rt; filled(rt.alloc(), &mut lane, false)? == wanted);
     Ok(())
 }
 
 #[test]
 fn of_as_many_documents(rt: HostRuntime) -> Result<(), Fail> {
+    let mut lane = lane_of(rt.alloc(), FULL)?;
     let wanted = (Some(TakeFault::HeldFull), 65_536, 10);
-    assert!(rt; filled(rt.alloc(), true)? == wanted);
+    assert!(rt; filled(rt.alloc(), &mut lane, true)? == wanted);
     Ok(())
 }
 
@@ -80,27 +91,38 @@ fn begun(alloc: Global) -> Result<(Lane, Mail), Fail> {
     Ok((lane, mail))
 }
 
+// Takes a message, once more where memory was refused the first time, which is to have changed nothing.
+fn takes(lane: &mut Lane, mail: Mail) -> bool {
+    if mail.sender >= lane.senders() {
+        return false;
+    }
+    match lane.take(mail) {
+        Ok(()) => true,
+        Err((fault, back)) => {
+            fault == TakeFault::Memory
+                && lane.held() == 0
+                && lane.totals().taken == 0
+                && back.sender < lane.senders()
+                && lane.take(back).is_ok()
+        }
+    }
+}
+
+// Whether the first request goes, by a second call where the first was refused memory and changed nothing.
+fn sends(lane: &mut Lane) -> bool {
+    match lane.request() {
+        Ok(number) => number == Some(1),
+        Err(AllocError) => {
+            lane.totals().requests == 0 && lane.due_in() == Some(0) && lane.request() == Ok(Some(1))
+        }
+    }
+}
+
 // Whichever allocation is refused, a call that answers so has changed nothing, and goes the next time.
 #[test]
 fn refusals(rt: HostRuntime) -> Result<(), Fail> {
     let (mut lane, mail) = begun(rt.alloc())?;
-    if mail.sender >= lane.senders() {
-        return Err("no such sender")?;
-    }
-    if let Err((fault, back)) = lane.take(mail) {
-        assert!(rt; fault == TakeFault::Memory && lane.held() == 0 && lane.totals().taken == 0);
-        if back.sender >= lane.senders() {
-            return Err("no such sender")?;
-        }
-        assert!(rt; lane.take(back).is_ok());
-    }
-    match lane.request() {
-        Ok(number) => assert!(rt; number == Some(1)),
-        Err(AllocError) => {
-            assert!(rt; lane.totals().requests == 0 && lane.due_in() == Some(0));
-            assert!(rt; lane.request()? == Some(1));
-        }
-    }
+    assert!(rt; takes(&mut lane, mail) && sends(&mut lane));
     assert!(rt; lane.held() == 1 && lane.due_in().is_none());
     Ok(())
 }

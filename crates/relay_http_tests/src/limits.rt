@@ -3,8 +3,7 @@ ghost use Rattle.std.specs.Prelude.{◌<◌};
 
 use crate::reading::{PIECES, Reply, reads_reply};
 use relay_http::HttpFault;
-use std::alloc::Global;
-use std::test::Fail;
+use std::alloc::{AllocError, Global};
 
 // The first text, so many times the second, and the third.
 fn repeated(
@@ -13,7 +12,7 @@ fn repeated(
     many: &[u8],
     times: usize,
     last: &[u8],
-) -> Result<Vec<u8>, Fail> {
+) -> Result<Vec<u8>, AllocError> {
     let mut text = first.to_vec(alloc)?;
     for _ in 0..times {
         text.extend_from_slice(many)?;
@@ -26,158 +25,164 @@ fn repeated(
 type Row<'a> = (&'a [u8], &'a [u8], usize, &'a [u8], Reply<'a>);
 
 // Whether the text of a row is read so.
-fn is_read(alloc: Global, row: Row, piece: usize) -> Result<bool, Fail>
+fn is_read(alloc: Global, row: Row, piece: usize) -> Result<bool, AllocError>
     requires { 0 < piece }
 {
     let text = repeated(alloc, row.0, row.1, row.2, row.3)?;
     reads_reply(alloc, text.as_slice(), piece, row.4)
 }
 
-#[test]
-fn heads_at_their_limits(rt: HostRuntime) -> Result<(), Fail> {
-    // 20 bytes, those that are repeated, and 23 bytes to the end of the head: 16,384 with 16,341 of them
-    let rows: [Row; 7] = [
-        (
-            b"HTTP/1.1 200 OK\r\nX: ",
-            b"a",
-            16_341,
-            b"\r\nContent-Length: 2\r\n\r\nok",
-            Ok((200, b"ok", true)),
-        ),
-        (
-            b"HTTP/1.1 200 OK\r\nX: ",
-            b"a",
-            16_342,
-            b"\r\nContent-Length: 2\r\n\r\nok",
-            Err(HttpFault::HeadLong),
-        ),
-        (
-            b"HTTP/1.1 200 OK\r\nX: ",
-            b"a",
-            16_364,
-            b"",
-            Err(HttpFault::HeadLong),
-        ),
-        (
-            b"HTTP/1.1 200 OK\r\nX: ",
-            b"a",
-            16_363,
-            b"",
-            Err(HttpFault::Ended),
-        ),
-        (
-            b"HTTP/1.1 200 OK\r\n",
-            b"X: a\r\n",
-            63,
-            b"Content-Length: 2\r\n\r\nok",
-            Ok((200, b"ok", true)),
-        ),
-        (
-            b"HTTP/1.1 200 OK\r\n",
-            b"X: a\r\n",
-            64,
-            b"Content-Length: 2\r\n\r\nok",
-            Err(HttpFault::HeadLong),
-        ),
-        (
-            b"",
-            b"\n",
-            16_384,
-            b"HTTP/1.1 200 OK\r\nContent-Length: 2\r\n\r\nok",
-            Err(HttpFault::HeadLong),
-        ),
-    ];
-    for piece in [7, 100_000] {
-        for row in rows {
-            assert!(rt; is_read(rt.alloc(), row, piece)?);
+// Whether the text of each row is read so.
+fn are_read(alloc: Global, rows: &[Row], piece: usize) -> Result<bool, AllocError>
+    requires { 0 < piece }
+{
+    for row in rows {
+        if !is_read(alloc, *row, piece)? {
+            return Ok(false);
         }
     }
-    Ok(())
+    Ok(true)
 }
 
+// 20 bytes, those that are repeated, and 23 bytes to the end of the head: 16,384 with 16,341 of them
+const HEADS: &[Row] = &[
+    (
+        b"HTTP/1.1 200 OK\r\nX: ",
+        b"a",
+        16_341,
+        b"\r\nContent-Length: 2\r\n\r\nok",
+        Ok((200, b"ok", true)),
+    ),
+    (
+        b"HTTP/1.1 200 OK\r\nX: ",
+        b"a",
+        16_342,
+        b"\r\nContent-Length: 2\r\n\r\nok",
+        Err(HttpFault::HeadLong),
+    ),
+    (
+        b"HTTP/1.1 200 OK\r\nX: ",
+        b"a",
+        16_364,
+        b"",
+        Err(HttpFault::HeadLong),
+    ),
+    (
+        b"HTTP/1.1 200 OK\r\nX: ",
+        b"a",
+        16_363,
+        b"",
+        Err(HttpFault::Ended),
+    ),
+    (
+        b"HTTP/1.1 200 OK\r\n",
+        b"X: a\r\n",
+        63,
+        b"Content-Length: 2\r\n\r\nok",
+        Ok((200, b"ok", true)),
+    ),
+    (
+        b"HTTP/1.1 200 OK\r\n",
+        b"X: a\r\n",
+        64,
+        b"Content-Length: 2\r\n\r\nok",
+        Err(HttpFault::HeadLong),
+    ),
+    (
+        b"",
+        b"\n",
+        16_384,
+        b"HTTP/1.1 200 OK\r\nContent-Length: 2\r\n\r\nok",
+        Err(HttpFault::HeadLong),
+    ),
+];
+
 #[test]
-fn interim_heads_at_their_limit(rt: HostRuntime) -> Result<(), Fail> {
-    let rows: [Row; 3] = [
-        (
-            b"",
-            b"HTTP/1.1 102 Processing\r\n\r\n",
-            8,
-            b"HTTP/1.1 204 \r\n\r\n",
-            Ok((204, b"", true)),
-        ),
-        (
-            b"",
-            b"HTTP/1.1 102 Processing\r\n\r\n",
-            9,
-            b"HTTP/1.1 204 \r\n\r\n",
-            Err(HttpFault::TooManyInterim),
-        ),
-        (
-            b"",
-            b"HTTP/1.1 102 Processing\r\n\r\n",
-            8,
-            b"",
-            Err(HttpFault::Ended),
-        ),
-    ];
+fn heads_at_their_limits(rt: HostRuntime) {
+    for piece in [7, 100_000] {
+        assert!(rt; are_read(rt.alloc(), HEADS, piece) == Ok(true));
+    }
+}
+
+const INTERIM_HEADS: &[Row] = &[
+    (
+        b"",
+        b"HTTP/1.1 102 Processing\r\n\r\n",
+        8,
+        b"HTTP/1.1 204 \r\n\r\n",
+        Ok((204, b"", true)),
+    ),
+    (
+        b"",
+        b"HTTP/1.1 102 Processing\r\n\r\n",
+        9,
+        b"HTTP/1.1 204 \r\n\r\n",
+        Err(HttpFault::TooManyInterim),
+    ),
+    (
+        b"",
+        b"HTTP/1.1 102 Processing\r\n\r\n",
+        8,
+        b"",
+        Err(HttpFault::Ended),
+    ),
+];
+
+#[test]
+fn interim_heads_at_their_limit(rt: HostRuntime) {
     for piece in PIECES {
-        for row in rows {
-            assert!(rt; is_read(rt.alloc(), row, piece)?);
-        }
+        assert!(rt; are_read(rt.alloc(), INTERIM_HEADS, piece) == Ok(true));
     }
-    Ok(())
 }
 
+const CHUNKS: &[Row] = &[
+    (
+        b"HTTP/1.1 200 OK\r\nTransfer-Encoding: chunked\r\n\r\n2;",
+        b"a",
+        252,
+        b"\r\nok\r\n0\r\n\r\n",
+        Ok((200, b"ok", true)),
+    ),
+    (
+        b"HTTP/1.1 200 OK\r\nTransfer-Encoding: chunked\r\n\r\n2;",
+        b"a",
+        253,
+        b"\r\nok\r\n0\r\n\r\n",
+        Err(HttpFault::HeadLong),
+    ),
+    (
+        b"HTTP/1.1 200 OK\r\nTransfer-Encoding: chunked\r\n\r\n0\r\n",
+        b"X: a\r\n",
+        64,
+        b"\r\n",
+        Ok((200, b"", true)),
+    ),
+    (
+        b"HTTP/1.1 200 OK\r\nTransfer-Encoding: chunked\r\n\r\n0\r\n",
+        b"X: a\r\n",
+        65,
+        b"\r\n",
+        Err(HttpFault::HeadLong),
+    ),
+    (
+        b"HTTP/1.1 200 OK\r\nTransfer-Encoding: chunked\r\n\r\n0\r\nX: ",
+        b"a",
+        16_377,
+        b"\r\n\r\n",
+        Ok((200, b"", true)),
+    ),
+    (
+        b"HTTP/1.1 200 OK\r\nTransfer-Encoding: chunked\r\n\r\n0\r\nX: ",
+        b"a",
+        16_378,
+        b"\r\n\r\n",
+        Err(HttpFault::HeadLong),
+    ),
+];
+
 #[test]
-fn chunks_at_their_limits(rt: HostRuntime) -> Result<(), Fail> {
-    let rows: [Row; 6] = [
-        (
-            b"HTTP/1.1 200 OK\r\nTransfer-Encoding: chunked\r\n\r\n2;",
-            b"a",
-            252,
-            b"\r\nok\r\n0\r\n\r\n",
-            Ok((200, b"ok", true)),
-        ),
-        (
-            b"HTTP/1.1 200 OK\r\nTransfer-Encoding: chunked\r\n\r\n2;",
-            b"a",
-            253,
-            b"\r\nok\r\n0\r\n\r\n",
-            Err(HttpFault::HeadLong),
-        ),
-        (
-            b"HTTP/1.1 200 OK\r\nTransfer-Encoding: chunked\r\n\r\n0\r\n",
-            b"X: a\r\n",
-            64,
-            b"\r\n",
-            Ok((200, b"", true)),
-        ),
-        (
-            b"HTTP/1.1 200 OK\r\nTransfer-Encoding: chunked\r\n\r\n0\r\n",
-            b"X: a\r\n",
-            65,
-            b"\r\n",
-            Err(HttpFault::HeadLong),
-        ),
-        (
-            b"HTTP/1.1 200 OK\r\nTransfer-Encoding: chunked\r\n\r\n0\r\nX: ",
-            b"a",
-            16_377,
-            b"\r\n\r\n",
-            Ok((200, b"", true)),
-        ),
-        (
-            b"HTTP/1.1 200 OK\r\nTransfer-Encoding: chunked\r\n\r\n0\r\nX: ",
-            b"a",
-            16_378,
-            b"\r\n\r\n",
-            Err(HttpFault::HeadLong),
-        ),
-    ];
+fn chunks_at_their_limits(rt: HostRuntime) {
     for piece in [7, 100_000] {
-        for row in rows {
-            assert!(rt; is_read(rt.alloc(), row, piece)?);
-        }
+        assert!(rt; are_read(rt.alloc(), CHUNKS, piece) == Ok(true));
     }
-    Ok(())
 }

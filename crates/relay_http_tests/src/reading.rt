@@ -3,8 +3,7 @@ ghost use Rattle.std.specs.Prelude.{◌<◌};
 
 use relay_action::MemStream;
 use relay_http::{Conn, HttpFault, HttpReply, HttpRequest};
-use std::alloc::Global;
-use std::test::Fail;
+use std::alloc::{AllocError, Global};
 
 /// How many bytes come at a time in the tests: one, a few, and all.
 pub const PIECES: [usize; 3] = [1, 7, 100_000];
@@ -15,15 +14,29 @@ pub type Reply<'a> = Result<(u16, &'a [u8], bool), HttpFault>;
 /// What a request says (whether it is one for the bulk API, body, whether another may follow), or its fault.
 pub type Request<'a> = Result<Option<(bool, &'a [u8], bool)>, HttpFault>;
 
-/// A connection over bytes that come so many at a time, and whose stream takes 1,000 bytes.
-pub fn over(alloc: Global, bytes: &[u8], piece: usize) -> Result<Conn<MemStream>, Fail>
+/// A connection over bytes that come so many at a time, whose stream takes so many bytes, and of which
+/// one call fails; 0 is none of them.
+pub fn over_failing(
+    alloc: Global,
+    bytes: &[u8],
+    piece: usize,
+    room: usize,
+    fail_at: u64,
+) -> Result<Conn<MemStream>, AllocError>
     requires { 0 < piece }
 {
-    let stream = MemStream::new(alloc, bytes.to_vec(alloc)?, 1000, piece, 0)?;
+    let stream = MemStream::new(alloc, bytes.to_vec(alloc)?, room, piece, fail_at)?;
     match Conn::new(alloc, stream) {
         Ok(conn) => Ok(conn),
-        Err((failed, _)) => Err(Fail::from(failed)),
+        Err((failed, _)) => Err(failed),
     }
+}
+
+/// A connection over bytes that come so many at a time, and whose stream takes 1,000 bytes.
+pub fn over(alloc: Global, bytes: &[u8], piece: usize) -> Result<Conn<MemStream>, AllocError>
+    requires { 0 < piece }
+{
+    over_failing(alloc, bytes, piece, 1000, 0)
 }
 
 // Whether what was read is this reply.
@@ -65,18 +78,35 @@ pub fn gives_request(alloc: Global, conn: &mut Conn<MemStream>, wanted: Request)
     is_request(&read, wanted)
 }
 
+// Whether the next reply is this one, and the connection is broken after a fault and after a reply that
+// does not keep it.
+fn leaves_reply(alloc: Global, conn: &mut Conn<MemStream>, wanted: Reply) -> bool {
+    let lasts = matches!(wanted, Ok((_, _, true)));
+    gives_reply(alloc, conn, wanted)
+        && (lasts || gives_reply(alloc, conn, Err(HttpFault::Broken)))
+        && conn.is_open() == lasts
+}
+
+// Whether the next request is this one, and nothing more is read after a fault and after a request that
+// does not keep the connection.
+fn leaves_request(alloc: Global, conn: &mut Conn<MemStream>, wanted: Request) -> bool {
+    let lasts = matches!(wanted, Ok(Some((_, _, true))) | Ok(None));
+    gives_request(alloc, conn, wanted)
+        && (lasts || gives_request(alloc, conn, Err(HttpFault::Broken)))
+        && conn.is_open() == lasts
+}
+
 /// Whether these bytes are read as this reply, and the connection is broken after a fault and after a
 /// reply that does not keep it.
-pub fn reads_reply(alloc: Global, bytes: &[u8], piece: usize, wanted: Reply) -> Result<bool, Fail>
+pub fn reads_reply(
+    alloc: Global,
+    bytes: &[u8],
+    piece: usize,
+    wanted: Reply,
+) -> Result<bool, AllocError>
     requires { 0 < piece }
 {
-    let mut conn = over(alloc, bytes, piece)?;
-    let lasts = matches!(wanted, Ok((_, _, true)));
-    Ok(
-        gives_reply(alloc, &mut conn, wanted)
-            && (lasts || gives_reply(alloc, &mut conn, Err(HttpFault::Broken)))
-            && conn.is_open() == lasts,
-    )
+    Ok(leaves_reply(alloc, &mut over(alloc, bytes, piece)?, wanted))
 }
 
 /// Whether these bytes are read as this request, and nothing more is read after a fault and after a
@@ -86,14 +116,76 @@ pub fn reads_request(
     bytes: &[u8],
     piece: usize,
     wanted: Request,
-) -> Result<bool, Fail>
+) -> Result<bool, AllocError>
     requires { 0 < piece }
 {
-    let mut conn = over(alloc, bytes, piece)?;
-    let lasts = matches!(wanted, Ok(Some((_, _, true))) | Ok(None));
-    Ok(
-        gives_request(alloc, &mut conn, wanted)
-            && (lasts || gives_request(alloc, &mut conn, Err(HttpFault::Broken)))
-            && conn.is_open() == lasts,
-    )
+    Ok(leaves_request(alloc, &mut over(alloc, bytes, piece)?, wanted))
+}
+
+/// Whether each row is read as its reply, in pieces of each size.
+pub fn reads_replies(alloc: Global, rows: &[(&[u8], Reply)]) -> Result<bool, AllocError> {
+    for piece in PIECES {
+        for (bytes, wanted) in rows {
+            if !reads_reply(alloc, *bytes, piece, *wanted)? {
+                return Ok(false);
+            }
+        }
+    }
+    Ok(true)
+}
+
+/// Whether each row is read as its request, in pieces of each size.
+pub fn reads_requests(alloc: Global, rows: &[(&[u8], Request)]) -> Result<bool, AllocError> {
+    for piece in PIECES {
+        for (bytes, wanted) in rows {
+            if !reads_request(alloc, *bytes, piece, *wanted)? {
+                return Ok(false);
+            }
+        }
+    }
+    Ok(true)
+}
+
+// Whether the next replies are these.
+fn gives_each_reply(alloc: Global, conn: &mut Conn<MemStream>, wanted: &[Reply]) -> bool {
+    for reply in wanted {
+        if !gives_reply(alloc, conn, *reply) {
+            return false;
+        }
+    }
+    true
+}
+
+// Whether the next requests are these.
+fn gives_each_request(alloc: Global, conn: &mut Conn<MemStream>, wanted: &[Request]) -> bool {
+    for request in wanted {
+        if !gives_request(alloc, conn, *request) {
+            return false;
+        }
+    }
+    true
+}
+
+/// Whether these bytes are read as these replies, one after another.
+pub fn gives_replies(
+    alloc: Global,
+    bytes: &[u8],
+    piece: usize,
+    wanted: &[Reply],
+) -> Result<bool, AllocError>
+    requires { 0 < piece }
+{
+    Ok(gives_each_reply(alloc, &mut over(alloc, bytes, piece)?, wanted))
+}
+
+/// Whether these bytes are read as these requests, one after another.
+pub fn gives_requests(
+    alloc: Global,
+    bytes: &[u8],
+    piece: usize,
+    wanted: &[Request],
+) -> Result<bool, AllocError>
+    requires { 0 < piece }
+{
+    Ok(gives_each_request(alloc, &mut over(alloc, bytes, piece)?, wanted))
 }

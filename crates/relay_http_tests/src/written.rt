@@ -1,13 +1,14 @@
 //! Requests and answers as they are written, and what they leave of the connection.
-ghost use Rattle.std.specs.Prelude.{◌≤◌, length};
+ghost use Rattle.std.specs.Prelude.{◌≤◌, length, IsTrue};
 ghost use Rattle.relay_ndjson.specs.Bulk.{text_of};
 ghost use Rattle.relay_http.specs.WrittenAnswer.{IsAnswerStatus};
+ghost use Rattle.relay_http.specs.WrittenRequest.{is_host};
 
 use crate::reading::{gives_reply, gives_request, over};
 use relay_action::{Action, DocKey, MemStream, Write};
 use relay_http::{Conn, HttpFault, is_host};
 use relay_ndjson::bulk_len;
-use std::alloc::Global;
+use std::alloc::{AllocError, Global};
 use std::test::Fail;
 
 // A delete with version 2.
@@ -26,36 +27,47 @@ fn was_written(conn: Conn<MemStream>, wanted: &[u8]) -> bool {
     conn.into_stream().written() == wanted
 }
 
+// Whether a request to this host with these writes is written as these bytes, and leaves the connection
+// open.
+fn is_request(
+    alloc: Global,
+    host: &str,
+    writes: &[Write],
+    wanted: &[u8],
+) -> Result<bool, AllocError>
+    requires host { IsTrue (is_host host.now) }
+    requires size { length (text_of writes.now) ≤ 1000 }
+{
+    let mut conn = over(alloc, b"", 5)?;
+    let done = conn.write_request(alloc, host, writes).is_ok();
+    Ok(done && conn.is_open() && was_written(conn, wanted))
+}
+
 #[test]
 fn a_request(rt: HostRuntime) -> Result<(), Fail> {
     let writes = one_write(rt.alloc())?;
     assert!(rt; writes.len() == 1 && bulk_len(writes.as_slice()) == 78);
-    let mut conn = over(rt.alloc(), b"", 5)?;
     assert!(rt;
-        conn.write_request(rt.alloc(), "127.0.0.1:9200", writes.as_slice())
-            .is_ok()
-    );
-    assert!(rt; conn.is_open());
-    assert!(rt;
-        was_written(
-            conn,
+        is_request(
+            rt.alloc(),
+            "127.0.0.1:9200",
+            writes.as_slice(),
             b"POST /_bulk HTTP/1.1\r\nHost: 127.0.0.1:9200\r\nContent-Type: application/x-ndjson\r\nContent-Length: 78\r\n\r\n{\"delete\":{\"_id\":\"2\",\"_index\":\"books\",\"version\":2,\"version_type\":\"external\"}}\n"
-        )
+        ) == Ok(true)
     );
     Ok(())
 }
 
 #[test]
-fn a_request_without_writes(rt: HostRuntime) -> Result<(), Fail> {
-    let mut conn = over(rt.alloc(), b"", 5)?;
-    assert!(rt; conn.write_request(rt.alloc(), "a", &[]).is_ok());
+fn a_request_without_writes(rt: HostRuntime) {
     assert!(rt;
-        was_written(
-            conn,
+        is_request(
+            rt.alloc(),
+            "a",
+            &[],
             b"POST /_bulk HTTP/1.1\r\nHost: a\r\nContent-Type: application/x-ndjson\r\nContent-Length: 0\r\n\r\n"
-        )
+        ) == Ok(true)
     );
-    Ok(())
 }
 
 // Whether a request with these writes, one without any and an answer are written one after another.
@@ -89,7 +101,7 @@ fn is_answer(
     body: &str,
     keep: bool,
     wanted: &[u8],
-) -> Result<bool, Fail>
+) -> Result<bool, AllocError>
     requires status { IsAnswerStatus status }
     requires size { length body.now ≤ 1000 }
 {
@@ -99,7 +111,7 @@ fn is_answer(
 }
 
 #[test]
-fn answers(rt: HostRuntime) -> Result<(), Fail> {
+fn answers(rt: HostRuntime) {
     let alloc = rt.alloc();
     assert!(rt;
         is_answer(
@@ -108,7 +120,7 @@ fn answers(rt: HostRuntime) -> Result<(), Fail> {
             "ok",
             true,
             b"HTTP/1.1 200 OK\r\nContent-Type: application/json\r\nContent-Length: 2\r\n\r\nok"
-        )?
+        ) == Ok(true)
     );
     assert!(rt;
         is_answer(
@@ -117,7 +129,7 @@ fn answers(rt: HostRuntime) -> Result<(), Fail> {
             "ok",
             false,
             b"HTTP/1.1 503 Service Unavailable\r\nContent-Type: application/json\r\nContent-Length: 2\r\nConnection: close\r\n\r\nok"
-        )?
+        ) == Ok(true)
     );
     assert!(rt;
         is_answer(
@@ -126,7 +138,7 @@ fn answers(rt: HostRuntime) -> Result<(), Fail> {
             "ok",
             true,
             b"HTTP/1.1 418 \r\nContent-Type: application/json\r\nContent-Length: 2\r\n\r\nok"
-        )?
+        ) == Ok(true)
     );
     assert!(rt;
         is_answer(
@@ -135,13 +147,12 @@ fn answers(rt: HostRuntime) -> Result<(), Fail> {
             "\u{e9}",
             true,
             b"HTTP/1.1 400 Bad Request\r\nContent-Type: application/json\r\nContent-Length: 2\r\n\r\n\xc3\xa9"
-        )?
+        ) == Ok(true)
     );
-    Ok(())
 }
 
 // What is written where a request was read before it, and what the connection may carry then.
-fn answers_to(alloc: Global, request: &[u8]) -> Result<(bool, bool), Fail> {
+fn answers_to(alloc: Global, request: &[u8]) -> Result<(bool, bool), AllocError> {
     let mut conn = over(alloc, request, 5)?;
     let read = conn.read_request(alloc).is_ok();
     let done = conn.write_answer(alloc, 200, "ok", true).is_ok();
@@ -153,43 +164,52 @@ fn answers_to(alloc: Global, request: &[u8]) -> Result<(bool, bool), Fail> {
     Ok((read && done && says_close, open))
 }
 
+const CLOSING: &[(&[u8], (bool, bool))] = &[
+    (
+        b"POST /_bulk HTTP/1.1\r\nConnection: close\r\n\r\n",
+        (true, false),
+    ),
+    (b"POST /_bulk HTTP/1.0\r\n\r\n", (true, false)),
+    (b"POST /_bulk HTTP/1.1\r\n\r\n", (false, true)),
+];
+
 #[test]
-fn an_answer_closes_where_the_request_does(rt: HostRuntime) -> Result<(), Fail> {
-    let alloc = rt.alloc();
-    assert!(rt;
-        answers_to(alloc, b"POST /_bulk HTTP/1.1\r\nConnection: close\r\n\r\n")? == (true, false)
-    );
-    assert!(rt; answers_to(alloc, b"POST /_bulk HTTP/1.0\r\n\r\n")? == (true, false));
-    assert!(rt; answers_to(alloc, b"POST /_bulk HTTP/1.1\r\n\r\n")? == (false, true));
-    Ok(())
+fn an_answer_closes_where_the_request_does(rt: HostRuntime) {
+    for (request, wanted) in CLOSING {
+        assert!(rt; answers_to(rt.alloc(), *request) == Ok(*wanted));
+    }
+}
+
+// Whether nothing can be written to a connection or read of it any more.
+fn carries_nothing(alloc: Global, conn: &mut Conn<MemStream>) -> bool {
+    conn.write_answer(alloc, 200, "", true) == Err(HttpFault::Broken)
+        && conn.write_request(alloc, "a", &[]) == Err(HttpFault::Broken)
+        && gives_reply(alloc, conn, Err(HttpFault::Broken))
+        && gives_request(alloc, conn, Err(HttpFault::Broken))
 }
 
 #[test]
 fn a_broken_connection_carries_nothing(rt: HostRuntime) -> Result<(), Fail> {
-    let alloc = rt.alloc();
-    let mut conn = over(alloc, b"HTTP/1.1 200 OK\r\n\r\n", 5)?;
-    assert!(rt; conn.write_answer(alloc, 200, "", false).is_ok());
-    assert!(rt; conn.write_answer(alloc, 200, "", true) == Err(HttpFault::Broken));
-    assert!(rt; conn.write_request(alloc, "a", &[]) == Err(HttpFault::Broken));
-    assert!(rt; gives_reply(alloc, &mut conn, Err(HttpFault::Broken)));
-    assert!(rt; gives_request(alloc, &mut conn, Err(HttpFault::Broken)));
+    let mut conn = over(rt.alloc(), b"HTTP/1.1 200 OK\r\n\r\n", 5)?;
+    assert!(rt; conn.write_answer(rt.alloc(), 200, "", false).is_ok());
+    assert!(rt; carries_nothing(rt.alloc(), &mut conn));
     Ok(())
 }
 
+const HOSTS: &[(&str, bool)] = &[
+    ("127.0.0.1:9200", true),
+    ("[::1]:9200", true),
+    ("!~", true),
+    ("", false),
+    ("a b", false),
+    ("a\r\nX: y", false),
+    ("\u{e9}", false),
+    ("\u{7f}", false),
+];
+
 #[test]
-fn hosts(rt: HostRuntime) -> Result<(), Fail> {
-    let rows = [
-        ("127.0.0.1:9200", true),
-        ("[::1]:9200", true),
-        ("!~", true),
-        ("", false),
-        ("a b", false),
-        ("a\r\nX: y", false),
-        ("\u{e9}", false),
-        ("\u{7f}", false),
-    ];
-    for row in rows {
-        assert!(rt; is_host(row.0) == row.1);
+fn hosts(rt: HostRuntime) {
+    for (host, wanted) in HOSTS {
+        assert!(rt; is_host(*host) == *wanted);
     }
-    Ok(())
 }

@@ -1,7 +1,9 @@
 //! A wire that loses every request, and describes what stands outside: that it was sent, and lost.
-use crate::desk::{CONFIG, NO_PAUSES, closes, desk_of, puts};
+ghost use Rattle.std.specs.Prelude.{◌≡◌, None};
+
+use crate::desk::{CONFIG, Desk, NO_PAUSES, closes, desk_of, puts};
 use relay_action::Write;
-use relay_lane::{Cause, Wire, WireFault, WireReply, drain};
+use relay_lane::{Cause, Lane, Wire, WireFault, WireReply, drain};
 use std::test::Fail;
 
 #[derive(Drop)]
@@ -34,19 +36,31 @@ impl Wire for Losing {
     }
 }
 
+// Drains a lane that is closed. Whether it had memory enough.
+fn drains(desk: &mut Desk, wire: &mut Losing) -> bool
+    requires { wire.old.flying ≡ None }
+{
+    let mut pace = NO_PAUSES;
+    desk.lane.closed() && drain(&mut desk.lane, wire, &mut pace).is_ok()
+}
+
+// Whether each report says that an operation was given up after three sends.
+fn gave_up(lane: &Lane) -> bool {
+    for report in lane.reports() {
+        if !matches!(&report.cause, Cause::GaveUp { sends: 3 }) {
+            return false;
+        }
+    }
+    true
+}
+
 // It loses each request, and so reports each operation.
 #[test]
 fn loses(rt: HostRuntime) -> Result<(), Fail> {
     let mut desk = desk_of(rt.alloc(), CONFIG).ok_or("not valid")?;
     let mut wire = Losing { flying: None };
-    let mut pace = NO_PAUSES;
     assert!(rt; puts(rt.alloc(), &mut desk, 1, "1", "{}") && closes(&mut desk));
-    if desk.lane.closed() {
-        drain(&mut desk.lane, &mut wire, &mut pace)?;
-    }
-    assert!(rt; desk.lane.finished() && desk.lane.totals().requests == 3);
-    for report in desk.lane.reports() {
-        assert!(rt; matches!(&report.cause, Cause::GaveUp { sends: 3 }));
-    }
+    assert!(rt; drains(&mut desk, &mut wire));
+    assert!(rt; desk.lane.finished() && desk.lane.totals().requests == 3 && gave_up(&desk.lane));
     Ok(())
 }

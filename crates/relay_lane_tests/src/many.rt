@@ -6,8 +6,8 @@ use crate::wires::{IndexWire, Way, count_applied, wire_of};
 use relay_action::{Action, DocKey, Write};
 use relay_batch::Limits;
 use relay_index::Index;
-use relay_lane::{RelayConfig, drain, make_room, pump};
-use std::alloc::Global;
+use relay_lane::{RelayConfig, Totals, drain, make_room, pump};
+use std::alloc::{AllocError, Global};
 use std::test::Fail;
 
 const OPERATIONS: u64 = 10_000;
@@ -30,6 +30,13 @@ fn document_of(number: u64) -> u64
     (number.wrapping_mul(2_654_435_761) >> 7) % 100
 }
 
+// Puts an operation whose source is its number. Whether it was taken.
+fn puts_number(alloc: Global, desk: &mut Desk, number: u64) -> Result<bool, AllocError> {
+    let id = format!(in alloc; "{}", document_of(number))?;
+    let source = format!(in alloc; "{number}")?;
+    Ok(puts(alloc, desk, number, id.as_str(), source.as_str()))
+}
+
 // Takes an operation, after room was made for it where there was none, and sends what is ready.
 fn step(
     alloc: Global,
@@ -37,22 +44,20 @@ fn step(
     wire: &mut IndexWire,
     pace: &mut Notes,
     number: u64,
-) -> Result<bool, Fail>
+) -> Result<bool, AllocError>
     requires { wire.old.flying ≡ None }
     ensures { wire.new.flying ≡ None }
 {
     if desk.lane.held() == desk.lane.max_held() {
         make_room(&mut desk.lane, wire, pace)?;
     }
-    let id = format!(in alloc; "{}", document_of(number))?;
-    let source = format!(in alloc; "{number}")?;
-    let taken = puts(alloc, desk, number, id.as_str(), source.as_str());
+    let taken = puts_number(alloc, desk, number)?;
     pump(&mut desk.lane, wire)?;
     Ok(taken)
 }
 
 // All of them are taken, and the lane is drained.
-fn played(alloc: Global, desk: &mut Desk, wire: &mut IndexWire) -> Result<bool, Fail>
+fn played(alloc: Global, desk: &mut Desk, wire: &mut IndexWire) -> Result<bool, AllocError>
     requires { wire.old.flying ≡ None }
 {
     let mut pace = NO_PAUSES;
@@ -69,6 +74,12 @@ fn played(alloc: Global, desk: &mut Desk, wire: &mut IndexWire) -> Result<bool, 
     Ok(desk.lane.finished())
 }
 
+// The key of a document. `None`: there was no memory for it.
+fn key_of(alloc: Global, document: u64) -> Option<DocKey> {
+    let id = format!(in alloc; "{document}").ok()?;
+    DocKey::new(alloc, "b", id.as_str()).ok()
+}
+
 fn has_source(write: &Write, source: &str) -> bool {
     match &write.action {
         Action::Index(found) => found.text() == source,
@@ -76,37 +87,62 @@ fn has_source(write: &Write, source: &str) -> bool {
     }
 }
 
+// Whether an operation is the one that an index applied to its document at this place. `None`: it applied
+// none there, or there was no memory to look.
+fn is_applied(alloc: Global, index: &Index, number: u64, place: usize) -> Option<bool> {
+    let source = format!(in alloc; "{number}").ok()?;
+    let key = key_of(alloc, document_of(number))?;
+    let write = index.applied(&key).get(place)?;
+    Some(write.version == number && has_source(write, source.as_str()))
+}
+
 // The index applied to each document its operations, in their order, each once.
-fn is_as_put(alloc: Global, index: &Index) -> Result<bool, Fail> {
+fn is_as_put(alloc: Global, index: &Index) -> bool {
     let mut places = [0usize; 100];
     for number in 1..OPERATIONS + 1 {
         let document = document_of(number);
-        let id = format!(in alloc; "{document}")?;
-        let source = format!(in alloc; "{number}")?;
-        let key = DocKey::new(alloc, "b", id.as_str())?;
         let place = places[document as usize];
-        match index.applied(&key).get(place) {
-            Some(write) if write.version == number && has_source(write, source.as_str()) => {
-                places[document as usize] = place.saturating_add(1);
-            }
-            _ => return Ok(false),
+        if is_applied(alloc, index, number, place) != Some(true) {
+            return false;
         }
+        places[document as usize] = place.saturating_add(1);
     }
-    Ok(count_applied(alloc, index)? == OPERATIONS as usize)
+    count_applied(alloc, index) == Ok(OPERATIONS as usize)
+}
+
+// What the operations come to. `None`: not all were taken and drained, one is reported, or the index is not as
+// they were put.
+fn totals_of(alloc: Global, desk: &mut Desk, wire: &mut IndexWire) -> Option<Totals>
+    requires { wire.old.flying ≡ None }
+{
+    if played(alloc, desk, wire) == Ok(true)
+        && desk.lane.reports().is_empty()
+        && is_as_put(alloc, &wire.index)
+    {
+        Some(desk.lane.totals())
+    } else {
+        None
+    }
+}
+
+// The same of a lane of its own, over a wire that fails by a seed.
+fn seeded(alloc: Global) -> Option<Totals> {
+    totals_of(
+        alloc,
+        &mut desk_of(alloc, MANY)?,
+        &mut wire_of(alloc, Way::Seeded),
+    )
 }
 
 // All ended as applied, some by an earlier request, and none is reported.
 #[test]
 fn ten_thousand(rt: HostRuntime) -> Result<(), Fail> {
-    let mut desk = desk_of(rt.alloc(), MANY).ok_or("not valid")?;
-    let mut wire = wire_of(rt.alloc(), Way::Seeded);
-    assert!(rt; played(rt.alloc(), &mut desk, &mut wire)?);
-    let totals = desk.lane.totals();
-    assert!(rt; totals.taken == OPERATIONS && desk.lane.reports().is_empty());
+    let totals = seeded(rt.alloc()).ok_or("not played")?;
     assert!(rt;
-        totals.already > 0 && totals.applied.saturating_add(totals.already) == OPERATIONS,
+        totals.taken == OPERATIONS
+            && totals.already > 0
+            && totals.applied.saturating_add(totals.already) == OPERATIONS,
         "{totals:?}"
     );
-    assert!(rt; is_as_put(rt.alloc(), &wire.index)?);
     Ok(())
 }

@@ -34,8 +34,12 @@ fn run_one(alloc: Global, index: &mut Index, write: &Write) -> Result<Outcome, A
     done.outcome(alloc)
 }
 
-// Runs the items of a request, in their order.
-fn run_all(alloc: Global, index: &mut Index, writes: &[Write]) -> Result<Vec<Outcome>, AllocError>
+/// Runs the items of a request, in their order. `AllocError`: some of them were run.
+pub fn run_all(
+    alloc: Global,
+    index: &mut Index,
+    writes: &[Write],
+) -> Result<Vec<Outcome>, AllocError>
     ensures { (o : Outside) (number : ℕ) → Shows o index.old
         → IsSent number writes.now o
         → RanOne number 0 index.new o (entries_of result) }
@@ -97,23 +101,44 @@ fn drains(desk: &mut Desk, wire: &mut Telling) -> bool
     drain(&mut desk.lane, wire, &mut pace).is_ok()
 }
 
+// A wire with an empty index.
+fn empty(alloc: Global) -> Telling
+    ensures { result.flying ≡ None }
+{
+    Telling {
+        alloc,
+        index: Index::new(alloc),
+        flying: None,
+        reply: Vec::new(alloc),
+        sends: 0,
+    }
+}
+
+// Puts three operations of one document, and closes. Whether the lane is closed.
+fn closes_with_three(alloc: Global, desk: &mut Desk) -> bool {
+    for number in 1..4u64 {
+        if !puts(alloc, desk, number, "1", "{}") {
+            return false;
+        }
+    }
+    closes(desk)
+}
+
+// Whether three operations of one document are sent by five requests, and applied once each.
+fn applies_once(alloc: Global, desk: &mut Desk, wire: &mut Telling) -> bool
+    requires { wire.old.flying ≡ None }
+{
+    closes_with_three(alloc, desk)
+        && drains(desk, wire)
+        && desk.lane.finished()
+        && desk.lane.totals().requests == 5
+        && count_applied(alloc, &wire.index) == Ok(3)
+}
+
 // Every other reply is lost, and all is applied once.
 #[test]
 fn tells(rt: HostRuntime) -> Result<(), Fail> {
     let mut desk = desk_of(rt.alloc(), CONFIG).ok_or("not valid")?;
-    let mut wire = Telling {
-        alloc: rt.alloc(),
-        index: Index::new(rt.alloc()),
-        flying: None,
-        reply: Vec::new(rt.alloc()),
-        sends: 0,
-    };
-    for number in 1..4u64 {
-        assert!(rt; puts(rt.alloc(), &mut desk, number, "1", "{}"));
-    }
-    closes(&mut desk);
-    assert!(rt; drains(&mut desk, &mut wire));
-    assert!(rt; desk.lane.finished() && desk.lane.totals().requests == 5);
-    assert!(rt; count_applied(rt.alloc(), &wire.index)? == 3);
+    assert!(rt; applies_once(rt.alloc(), &mut desk, &mut empty(rt.alloc())));
     Ok(())
 }

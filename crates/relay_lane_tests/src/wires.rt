@@ -2,8 +2,9 @@
 ghost use Rattle.std.specs.Prelude.{◌≡◌, None};
 ghost use Rattle.relay_lane.specs.Wires.{IsReply};
 
+use crate::telling::run_all;
 use relay_action::{ActionKind, Text, Write};
-use relay_index::{Choice, Index};
+use relay_index::Index;
 use relay_lane::{Wire, WireFault, WireReply};
 use relay_results::Outcome;
 use std::alloc::{AllocError, Global};
@@ -63,15 +64,6 @@ pub fn wire_of(alloc: Global, way: Way) -> IndexWire
         sends: 0,
         seed: 1,
     }
-}
-
-// Runs each write once, in order. `AllocError`: some of them were run.
-fn run_all(alloc: Global, index: &mut Index, writes: &[Write]) -> Result<Vec<Outcome>, AllocError> {
-    let mut outcomes = Vec::with_capacity(alloc, writes.len())?;
-    for write in writes {
-        outcomes.push(index.run(write, Choice::Run)?.outcome(alloc)?)?;
-    }
-    Ok(outcomes)
 }
 
 // What becomes of the request with this count.

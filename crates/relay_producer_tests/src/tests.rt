@@ -1,5 +1,6 @@
 //! What producers and the control send, and what they find gone. Each run is tried once more where an
 //! allocation was refused.
+ghost use Rattle.std.specs.Prelude.{◌<◌, ◌≤◌};
 
 use crate::lanes::{Lanes, Said, document, make, takes};
 use relay_action::{Action, OpName};
@@ -115,25 +116,60 @@ fn takes_all<R: Wait>(rt: &R, all: &mut Vec<LaneTake>) -> bool {
     good
 }
 
-// Two producers put to each of 8 lanes, in turn from both ends, and the control sends to all.
-fn send_to_eight<R: Wait>(rt: &R, alloc: Global) -> Result<bool, AllocError> {
+// Two producers and the control of the same lanes.
+#[derive(Drop)]
+struct Senders {
+    first: Producer,
+    second: Producer,
+    control: Control,
+}
+
+// So many lanes of 16 places, and their senders.
+fn start(alloc: Global, lanes: u32) -> Result<(Vec<LaneTake>, Senders), AllocError>
+    requires { (0 < lanes) × (lanes ≤ 8) }
+{
     let Lanes {
-        mut takes,
+        takes,
         first,
         second,
         control,
-    } = make(alloc, 8, 16)?;
-    let mut first = Producer::new(alloc, 0, first)?;
-    let mut second = Producer::new(alloc, 1, second)?;
-    let mut control = Control::new(alloc, 2, control)?;
-    let mut good = puts_all(rt, alloc, &mut first, 0, false);
-    good = good && puts_all(rt, alloc, &mut second, 1, true);
-    good = good && (control.tick(rt), control.flush(rt)) == (8, 8);
-    good = good && (first.gone(), second.gone(), control.gone()) == (0, 0, 0);
+    } = make(alloc, lanes, 16)?;
+    let first = Producer::new(alloc, 0, first)?;
+    let second = Producer::new(alloc, 1, second)?;
+    let control = Control::new(alloc, 2, control)?;
+    Ok((
+        takes,
+        Senders {
+            first,
+            second,
+            control,
+        },
+    ))
+}
+
+// Whether two producers put to each of 8 lanes, in turn from both ends, the control sends to all, and each
+// of the three closes without a lane that is gone.
+fn send_to_all<R: Wait>(rt: &R, alloc: Global, senders: Senders) -> bool {
+    let Senders {
+        mut first,
+        mut second,
+        mut control,
+    } = senders;
+    let put = puts_all(rt, alloc, &mut first, 0, false)
+        && puts_all(rt, alloc, &mut second, 1, true);
+    let told = (control.tick(rt), control.flush(rt)) == (8, 8);
+    let open = (first.gone(), second.gone(), control.gone());
     let first = first.close(rt).gone();
     let second = second.close(rt).gone();
     let control = control.close(rt).gone();
-    Ok(good && (first, second, control) == (0, 0, 0) && takes_all(rt, &mut takes))
+    put && told && open == (0, 0, 0) && (first, second, control) == (0, 0, 0)
+}
+
+// Whether all do, and each taker finds its part.
+fn send_to_eight<R: Wait>(rt: &R, alloc: Global) -> Result<bool, AllocError> {
+    let (mut takes, senders) = start(alloc, 8)?;
+    let sent = send_to_all(rt, alloc, senders);
+    Ok(sent && takes_all(rt, &mut takes))
 }
 
 #[test]
@@ -161,38 +197,43 @@ fn goes_round<R: Wait>(rt: &R, alloc: Global, producer: &mut Producer) -> bool {
         && producer.gone() == 1
 }
 
-// The second of two lanes is gone: one producer finds it so at a put, the control at a tick, and the
-// other producer at its close.
-fn send_to_one_of_two<R: Wait>(rt: &R, alloc: Global) -> Result<bool, AllocError> {
-    let Lanes {
-        mut takes,
-        first,
+// Whether the second of two lanes is found gone: by one producer at a put, by the control at a tick, and by
+// the other producer at its close.
+fn find_gone<R: Wait>(rt: &R, alloc: Global, senders: Senders) -> bool {
+    let Senders {
+        mut first,
         second,
-        control,
-    } = make(alloc, 2, 16)?;
-    let mut first = Producer::new(alloc, 0, first)?;
-    let second = Producer::new(alloc, 1, second)?;
-    let mut control = Control::new(alloc, 2, control)?;
-    let mut good = takes.pop().is_some();
-    good = good && goes_round(rt, alloc, &mut first);
+        mut control,
+    } = senders;
+    let found = goes_round(rt, alloc, &mut first);
     let first = first.close(rt).gone();
-    good = good && (control.tick(rt), control.gone(), control.flush(rt)) == (1, 1, 1);
+    let told = (control.tick(rt), control.gone(), control.flush(rt)) == (1, 1, 1);
     let control = control.close(rt).gone();
-    good = good && second.gone() == 0;
+    let unknown = second.gone() == 0;
     let second = second.close(rt).gone();
-    let Some(mut take) = takes.pop() else {
-        return Ok(false);
-    };
-    let rows = [
-        (0u32, 1u64, Said::Put(1)),
-        (0, 2, Said::Put(2)),
-        (0, 3, Said::Done),
-        (2, 1, Said::Tick),
-        (2, 2, Said::Flush),
-        (2, 3, Said::Done),
-        (1, 1, Said::Done),
-    ];
-    Ok(good && (first, second, control) == (1, 1, 1) && takes_rows(rt, &mut take, &rows))
+    found && told && unknown && (first, second, control) == (1, 1, 1)
+}
+
+// What the first lane's taker finds.
+const FIRST_LANE: [(u32, u64, Said); 7] = [
+    (0, 1, Said::Put(1)),
+    (0, 2, Said::Put(2)),
+    (0, 3, Said::Done),
+    (2, 1, Said::Tick),
+    (2, 2, Said::Flush),
+    (2, 3, Said::Done),
+    (1, 1, Said::Done),
+];
+
+// Whether they do where the taker of the second lane is dropped, and the other one finds what was sent.
+fn send_to_one_of_two<R: Wait>(rt: &R, alloc: Global) -> Result<bool, AllocError> {
+    let (mut takes, senders) = start(alloc, 2)?;
+    let dropped = takes.pop().is_some();
+    let found = find_gone(rt, alloc, senders);
+    Ok(match takes.first_mut() {
+        Some(take) => dropped && found && takes_rows(rt, take, &FIRST_LANE),
+        None => false,
+    })
 }
 
 #[test]

@@ -120,6 +120,26 @@ fn start_all<R: Threads + Wait + Clock + Copy + Send + 'static>(
     Ok(threads)
 }
 
+// Whether a message, which is to be the next one of its sender, is its Done; none where it is not the next.
+fn is_done(mail: &Mail, next: &mut Vec<u64>, count: u64) -> Option<bool> {
+    let number = next.get_mut(mail.sender as usize)?;
+    if !is_message(mail, *number, count) {
+        return None;
+    }
+    *number = number.saturating_add(1);
+    Some(mail.number > count)
+}
+
+// Takes a message, and answers the same of it.
+fn take_one<R: Wait>(rt: &R, take: &mut LaneTake, next: &mut Vec<u64>, count: u64) -> Option<bool>
+    ensures { take.new.queue ≡ take.old.queue }
+{
+    match take.take(rt) {
+        Ok(mail) => is_done(&mail, next, count),
+        Err(Gone) => None,
+    }
+}
+
 // Takes until each sender has closed, and tells whether each message was the next one of its sender.
 fn take_all<R: Wait>(rt: &R, take: &mut LaneTake, next: &mut Vec<u64>, count: u64) -> bool
     ensures { take.new.queue ≡ take.old.queue }
@@ -129,19 +149,11 @@ fn take_all<R: Wait>(rt: &R, take: &mut LaneTake, next: &mut Vec<u64>, count: u6
         if open == 0 {
             return true;
         }
-        let Ok(mail) = take.take(rt) else {
-            return false;
-        };
-        let Some(number) = next.get_mut(mail.sender as usize) else {
-            return false;
-        };
-        if !is_message(&mail, *number, count) {
-            return false;
+        match take_one(rt, take, next, count) {
+            Some(true) => open = open.saturating_sub(1),
+            Some(false) => {}
+            None => return false,
         }
-        if *number > count {
-            open = open.saturating_sub(1);
-        }
-        *number = number.saturating_add(1);
     }
     unreachable!()
 }
@@ -249,82 +261,121 @@ fn made(alloc: Global, capacity: u32, senders: u32) -> Result<(LaneTake, Vec<Lan
     }
 }
 
+// What a message says.
+#[derive(Clone, Copy, PartialEq, Eq)]
+enum Said {
+    Put,
+    Tick,
+    Flush,
+    Done,
+}
+
+fn said_of(body: &Body) -> Said {
+    match body {
+        Body::Put(_) => Said::Put,
+        Body::Tick => Said::Tick,
+        Body::Flush => Said::Flush,
+        Body::Done => Said::Done,
+    }
+}
+
+// The sender and the number of the next message, and what it says; none where all senders are gone.
+fn next_of<R: Wait>(rt: &R, take: &mut LaneTake) -> Option<(u32, u64, Said)> {
+    match take.take(rt) {
+        Ok(mail) => Some((mail.sender, mail.number, said_of(&mail.body))),
+        Err(Gone) => None,
+    }
+}
+
+// Whether a taker takes these messages, one after another, and then finds all senders gone.
+fn takes<R: Wait>(rt: &R, take: &mut LaneTake, rows: &[(u32, u64, Said)]) -> bool {
+    for row in rows {
+        if next_of(rt, take) != Some(*row) {
+            return false;
+        }
+    }
+    next_of(rt, take).is_none()
+}
+
+// Whether a sender puts a tick and a flush as its first two messages, and closes.
+fn closes_after_two<R: Wait>(rt: &R, mut put: LanePut) -> bool {
+    let first = put.put(rt, Body::Tick).ok();
+    let second = put.put(rt, Body::Flush).ok();
+    put.close(rt).is_ok() && (first, second) == (Some(1), Some(2))
+}
+
+// Whether each sender does.
+fn close_after_two<R: Wait>(rt: &R, puts: Vec<LanePut>) -> bool {
+    let mut good = true;
+    for put in puts {
+        good = closes_after_two(rt, put) && good;
+    }
+    good
+}
+
 #[test]
 fn in_one_thread(rt: HostRuntime) -> Result<(), Fail> {
     let (mut take, puts) = made(rt.alloc(), 65_536, 1)?;
-    for mut put in puts {
-        assert_eq!(rt; put.put(&rt, Body::Tick).ok(), Some(1));
-        assert_eq!(rt; put.put(&rt, Body::Flush).ok(), Some(2));
-        assert!(rt; put.close(&rt).is_ok());
-    }
-    assert!(rt;
-        matches!(
-            &take.take(&rt),
-            Ok(Mail {
-                sender: 0,
-                number: 1,
-                body: Body::Tick
-            })
-        )
-    );
-    assert!(rt;
-        matches!(
-            &take.take(&rt),
-            Ok(Mail {
-                sender: 0,
-                number: 2,
-                body: Body::Flush
-            })
-        )
-    );
-    assert!(rt;
-        matches!(
-            &take.take(&rt),
-            Ok(Mail {
-                sender: 0,
-                number: 3,
-                body: Body::Done
-            })
-        )
-    );
-    assert!(rt; matches!(&take.take(&rt), Err(Gone)));
+    let rows = [(0, 1, Said::Tick), (0, 2, Said::Flush), (0, 3, Said::Done)];
+    assert!(rt; close_after_two(&rt, puts) && takes(&rt, &mut take, &rows));
     Ok(())
+}
+
+// What a put gives back that finds the taker gone.
+fn given_back<R: Wait>(rt: &R, put: &mut LanePut, body: Body) -> Option<Said>
+    requires { body ≢ Body.Done }
+{
+    match put.put(rt, body) {
+        Err((PutRefusal::Gone, back)) => Some(said_of(&back)),
+        _ => None,
+    }
+}
+
+// Whether a sender finds the taker gone when it puts, when it closes, and when it puts after that.
+fn finds_gone<R: Wait>(rt: &R, mut put: LanePut) -> bool {
+    if given_back(rt, &mut put, Body::Flush) != Some(Said::Flush) {
+        return false;
+    }
+    match put.close(rt) {
+        Ok(_) => false,
+        Err((Gone, mut back)) => given_back(rt, &mut back, Body::Tick) == Some(Said::Tick),
+    }
+}
+
+// How many senders find the taker gone, where all do.
+fn count_gone<R: Wait>(rt: &R, puts: Vec<LanePut>) -> Option<usize> {
+    let count = puts.len();
+    for put in puts {
+        if !finds_gone(rt, put) {
+            return None;
+        }
+    }
+    Some(count)
 }
 
 #[test]
 fn after_the_taker(rt: HostRuntime) -> Result<(), Fail> {
     let (take, puts) = made(rt.alloc(), 3, 2)?;
     drop(take.end());
-    assert_eq!(rt; puts.len(), 2);
-    for mut put in puts {
-        assert!(rt;
-            matches!(
-                &put.put(&rt, Body::Flush),
-                Err((PutRefusal::Gone, Body::Flush))
-            )
-        );
-        let Err((Gone, mut back)) = put.close(&rt) else {
-            panic!(rt; "a close without a taker");
-        };
-        assert!(rt;
-            matches!(
-                &back.put(&rt, Body::Tick),
-                Err((PutRefusal::Gone, Body::Tick))
-            )
-        );
-    }
+    assert!(rt; count_gone(&rt, puts) == Some(2));
     Ok(())
 }
 
+// Whether each sender puts a tick as its first message, and is dropped then.
+fn put_one_each<R: Wait>(rt: &R, puts: Vec<LanePut>) -> bool {
+    let mut good = true;
+    for mut put in puts {
+        good = good && put.put(rt, Body::Tick).ok() == Some(1);
+    }
+    good
+}
+
+// The end of the senders is found again and again.
 #[test]
 fn after_the_senders(rt: HostRuntime) -> Result<(), Fail> {
     let (mut take, puts) = made(rt.alloc(), 4, 2)?;
-    for mut put in puts {
-        assert_eq!(rt; put.put(&rt, Body::Tick).ok(), Some(1));
-    }
-    assert!(rt; matches!(&take.take(&rt), Ok(Mail { sender: 0, .. })));
-    assert!(rt; matches!(&take.take(&rt), Ok(Mail { sender: 1, .. })));
-    assert!(rt; matches!(&take.take(&rt), Err(Gone)));
-    assert!(rt; matches!(&take.take(&rt), Err(Gone)));
+    let rows = [(0, 1, Said::Tick), (1, 1, Said::Tick)];
+    assert!(rt; put_one_each(&rt, puts) && takes(&rt, &mut take, &rows));
+    assert!(rt; next_of(&rt, &mut take).is_none());
     Ok(())
 }

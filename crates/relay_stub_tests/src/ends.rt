@@ -4,7 +4,6 @@ use relay_action::MemStream;
 use relay_commands::exit::Exit;
 use relay_stub::command::{StubFault, exit_of_stub, stub};
 use std::alloc::Global;
-use std::test::Fail;
 
 const DELETES: &[u8] =
     b"POST /_bulk HTTP/1.1\r\nHost: h\r\nContent-Length: 297\r\n\r\n{\"delete\":{\"_id\":\"2\",\"_index\":\"b\",\"version\":1,\"version_type\":\"external\"}}\n{\"delete\":{\"_id\":\"3\",\"_index\":\"b\",\"version\":2,\"version_type\":\"external\"}}\n{\"delete\":{\"_id\":\"10\",\"_index\":\"b\",\"version\":3,\"version_type\":\"external\"}}\n{\"delete\":{\"_id\":\"9\",\"_index\":\"a\",\"version\":4,\"version_type\":\"external\"}}\n";
@@ -35,36 +34,46 @@ fn ends(
     Some((result, desk.served(1) && writer.written() == wanted))
 }
 
+// How many connections are asked for, the room for output, what is written, and how it ends.
+const ENDS: &[(u64, usize, &[u8], Result<(), StubFault>)] = &[
+    (1, 1000, LINES, Ok(())),
+    (1, 64, LINES, Ok(())),
+    (
+        1,
+        30,
+        b"applied a/9 4 delete\napplied b",
+        Err(StubFault::Write { sent: 30 }),
+    ),
+    (2, 1000, b"", Err(StubFault::Accept)),
+];
+
 #[test]
-fn lists_or_fails(rt: HostRuntime) -> Result<(), Fail> {
-    let rows: [(u64, usize, &[u8], Result<(), StubFault>); 4] = [
-        (1, 1000, LINES, Ok(())),
-        (1, 64, LINES, Ok(())),
-        (1, 30, &LINES[..30], Err(StubFault::Write { sent: 30 })),
-        (2, 1000, b"", Err(StubFault::Accept)),
-    ];
-    for (requests, room, wanted, answer) in rows {
+fn lists_or_fails(rt: HostRuntime) {
+    for (requests, room, wanted, answer) in ENDS {
         assert!(rt;
-            ends(rt.alloc(), requests, room, wanted) == Some((answer, true)),
+            ends(rt.alloc(), *requests, *room, *wanted) == Some((*answer, true)),
             "{answer:?}"
         );
     }
-    Ok(())
 }
 
-#[test]
-fn statuses(rt: HostRuntime) -> Result<(), Fail> {
-    let rows = [
-        (StubFault::Accept, Exit::Device, "accept failed"),
-        (StubFault::Write { sent: 1 }, Exit::Device, "write failed"),
-        (StubFault::Memory, Exit::Memory, "out of memory"),
-    ];
-    for (fault, exit, said) in rows {
-        let text = format!(in rt.alloc(); "{fault}")?;
-        assert!(rt;
-            exit_of_stub(fault) == exit && text.as_str() == said,
-            "{said}"
-        );
+// Whether a fault ends the command with this status, and is printed as this.
+fn is_told(alloc: Global, fault: StubFault, exit: Exit, said: &str) -> bool {
+    match format!(in alloc; "{fault}") {
+        Ok(text) => exit_of_stub(fault) == exit && text.as_str() == said,
+        Err(_) => false,
     }
-    Ok(())
+}
+
+const STATUSES: &[(StubFault, Exit, &str)] = &[
+    (StubFault::Accept, Exit::Device, "accept failed"),
+    (StubFault::Write { sent: 1 }, Exit::Device, "write failed"),
+    (StubFault::Memory, Exit::Memory, "out of memory"),
+];
+
+#[test]
+fn statuses(rt: HostRuntime) {
+    for (fault, exit, said) in STATUSES {
+        assert!(rt; is_told(rt.alloc(), *fault, *exit, *said), "{said}");
+    }
 }

@@ -1,10 +1,9 @@
 //! Connections that are served one after another.
 use crate::desk::{Visit, script_of, serves};
-use relay_index::Index;
+use relay_index::{Index, Script};
 use relay_stub::ServeError;
 use relay_stub::listing::listing;
 use std::alloc::Global;
-use std::test::Fail;
 
 // A delete of document 1 with version 5.
 const DELETE: &[u8] =
@@ -101,12 +100,25 @@ fn leaves_by(
     answer: Result<(), ServeError>,
     lines: &str,
 ) -> bool {
+    match script_of(alloc, refusals) {
+        Some(script) => serves_and_lists(alloc, visits, piece, requests, script, answer, lines),
+        None => false,
+    }
+}
+
+// The same by this script.
+fn serves_and_lists(
+    alloc: Global,
+    visits: &[Visit<'_>],
+    piece: usize,
+    requests: u64,
+    mut script: Script,
+    answer: Result<(), ServeError>,
+    lines: &str,
+) -> bool {
     let mut index = Index::new(alloc);
-    let Some(mut script) = script_of(alloc, refusals) else {
-        return false;
-    };
-    let result = serves(alloc, visits, piece, requests, &mut index, &mut script);
-    result == Some(answer) && lists(alloc, &index, lines)
+    serves(alloc, visits, piece, requests, &mut index, &mut script) == Some(answer)
+        && lists(alloc, &index, lines)
 }
 
 // Whether these are the lines of the index.
@@ -119,40 +131,47 @@ fn lists(alloc: Global, index: &Index, lines: &str) -> bool {
 
 const ONE: &str = "applied b/1 5 delete\n";
 
+// What comes on a connection, what is written to it, and the lines of the index then.
+const SINGLE: &[(&[u8], &[u8], &str)] = &[
+    (DELETE, NOT_FOUND, ONE),
+    (OLD, NOT_FOUND, ONE),
+    (CLOSING, NOT_FOUND, ONE),
+    // The second request of a connection is not read.
+    (TWICE, NOT_FOUND, ONE),
+    // No bulk body, and no bulk request.
+    (BROKEN_BODY, NOT_JSON, ""),
+    (GET, NOT_BULK, ""),
+    (ELSEWHERE, NOT_BULK, ""),
+    // No request.
+    (b"", b"", ""),
+    (b"garbage\r\n\r\n", b"", ""),
+    (
+        b"POST /_bulk HTTP/1.1\r\nContent-Length: 5\r\n\r\n{}\n",
+        b"",
+        "",
+    ),
+    (GZIP, b"", ""),
+];
+
 #[test]
-fn single_requests(rt: HostRuntime) -> Result<(), Fail> {
-    let rows: [(&[u8], &[u8], &str); 11] = [
-        (DELETE, NOT_FOUND, ONE),
-        (OLD, NOT_FOUND, ONE),
-        (CLOSING, NOT_FOUND, ONE),
-        // The second request of a connection is not read.
-        (TWICE, NOT_FOUND, ONE),
-        // No bulk body, and no bulk request.
-        (BROKEN_BODY, NOT_JSON, ""),
-        (GET, NOT_BULK, ""),
-        (ELSEWHERE, NOT_BULK, ""),
-        // No request.
-        (b"", b"", ""),
-        (b"garbage\r\n\r\n", b"", ""),
-        (
-            b"POST /_bulk HTTP/1.1\r\nContent-Length: 5\r\n\r\n{}\n",
-            b"",
-            "",
-        ),
-        (GZIP, b"", ""),
-    ];
-    for (input, wanted, lines) in rows {
+fn single_requests(rt: HostRuntime) {
+    for (input, wanted, lines) in SINGLE {
         assert!(rt;
-            leaves(rt.alloc(), &[visit(input, wanted)], 1, &[], Ok(()), lines),
+            leaves(
+                rt.alloc(),
+                &[visit(*input, *wanted)],
+                1,
+                &[],
+                Ok(()),
+                *lines
+            ),
             "{lines}"
         );
     }
-    Ok(())
 }
 
 #[test]
-fn one_after_another(rt: HostRuntime) -> Result<(), Fail> {
-    let alloc = rt.alloc();
+fn one_after_another(rt: HostRuntime) {
     let visits = [
         visit(DELETE, NOT_FOUND),
         visit(b"garbage\r\n\r\n", b""),
@@ -161,14 +180,12 @@ fn one_after_another(rt: HostRuntime) -> Result<(), Fail> {
         visit(LATER, LATER_ANSWER),
     ];
     let lines = "applied b/0 1 index\napplied b/1 5 delete\napplied b/1 6 delete\n";
-    assert!(rt; leaves(alloc, &visits, 5, &[], Ok(()), lines));
-    Ok(())
+    assert!(rt; leaves(rt.alloc(), &visits, 5, &[], Ok(()), lines));
 }
 
 // Places count over all requests, and those that are not bulk have none.
 #[test]
-fn refusals(rt: HostRuntime) -> Result<(), Fail> {
-    let alloc = rt.alloc();
+fn refusals(rt: HostRuntime) {
     let visits = [
         visit(DELETE, REFUSED),
         visit(GET, NOT_BULK),
@@ -177,13 +194,12 @@ fn refusals(rt: HostRuntime) -> Result<(), Fail> {
         visit(LATER, LATER_REFUSED),
     ];
     let lines = "applied b/1 5 delete\napplied b/1 6 delete\n";
-    assert!(rt; leaves(alloc, &visits, 5, &[(1, 429), (5, 503)], Ok(()), lines));
-    Ok(())
+    assert!(rt; leaves(rt.alloc(), &visits, 5, &[(1, 429), (5, 503)], Ok(()), lines));
 }
 
 // No more are accepted than are asked for; where there are fewer, the last call of the listener fails.
 #[test]
-fn as_many_as_asked_for(rt: HostRuntime) -> Result<(), Fail> {
+fn as_many_as_asked_for(rt: HostRuntime) {
     let alloc = rt.alloc();
     let none: [Visit<'_>; 0] = [];
     assert!(rt; leaves(alloc, &none, 0, &[], Ok(()), ""));
@@ -191,32 +207,29 @@ fn as_many_as_asked_for(rt: HostRuntime) -> Result<(), Fail> {
     let one = [visit(DELETE, NOT_FOUND)];
     assert!(rt; leaves(alloc, &one, 1, &[], Ok(()), ONE));
     assert!(rt; leaves(alloc, &one, u64::MAX, &[], Err(ServeError::Accept), ONE));
-    Ok(())
 }
 
-// The answer has 221 bytes. A writer that takes fewer has its front, the run stays, and the next is served.
+// Whether a writer that takes so many bytes of an answer has its front, the run stays, and the next
+// connection is served.
+fn stays_cut_at(alloc: Global, room: usize) -> bool {
+    let Some(wanted) = NOT_FOUND.get(..room) else {
+        return false;
+    };
+    let cut = Visit {
+        input: DELETE,
+        room,
+        fail_at: 0,
+        wanted,
+    };
+    leaves(alloc, &[cut, visit(DELETE, CONFLICT)], 2, &[], Ok(()), ONE)
+}
+
+// The answer has 221 bytes.
 #[test]
-fn answers_cut_short(rt: HostRuntime) -> Result<(), Fail> {
+fn answers_cut_short(rt: HostRuntime) {
     for room in [0usize, 1, 100, 220] {
-        let cut = Visit {
-            input: DELETE,
-            room,
-            fail_at: 0,
-            wanted: &NOT_FOUND[..room],
-        };
-        assert!(rt;
-            leaves(
-                rt.alloc(),
-                &[cut, visit(DELETE, CONFLICT)],
-                2,
-                &[],
-                Ok(()),
-                ONE
-            ),
-            "{room}"
-        );
+        assert!(rt; stays_cut_at(rt.alloc(), room), "{room}");
     }
-    Ok(())
 }
 
 // One call of the first connection fails: a read, and nothing is run, or the write of the answer, and the
@@ -228,19 +241,13 @@ fn fails_at(alloc: Global, fail_at: u64) -> bool {
         fail_at,
         wanted: b"",
     };
-    let mut index = Index::new(alloc);
-    let Some(mut script) = script_of(alloc, &[]) else {
-        return false;
-    };
-    let served = serves(alloc, &[failing], 4096, 1, &mut index, &mut script);
     let lines = if fail_at == 1 { "" } else { ONE };
-    served == Some(Ok(())) && lists(alloc, &index, lines)
+    leaves_by(alloc, &[failing], 4096, 1, &[], Ok(()), lines)
 }
 
 #[test]
-fn each_call_fails_in_turn(rt: HostRuntime) -> Result<(), Fail> {
+fn each_call_fails_in_turn(rt: HostRuntime) {
     for fail_at in 1..=2u64 {
         assert!(rt; fails_at(rt.alloc(), fail_at), "{fail_at}");
     }
-    Ok(())
 }

@@ -7,7 +7,6 @@ use relay_lane::{Pace, Wire, WireFault, WireReply};
 use relay_results::Outcome;
 use std::alloc::{AllocError, Global};
 use std::mem;
-use std::test::Fail;
 
 /// A wire that runs a request when it is sent, and loses the reply to the first one. It describes
 /// nothing.
@@ -34,11 +33,16 @@ pub fn wire_of(alloc: Global) -> MemoryWire
     }
 }
 
+// Runs a write. `AllocError`: it was run, or it was not.
+fn run_one(alloc: Global, index: &mut Index, write: &Write) -> Result<Outcome, AllocError> {
+    index.run(write, Choice::Run)?.outcome(alloc)
+}
+
 // Runs each write once, in order. `AllocError`: some of them were run.
 fn run_all(alloc: Global, index: &mut Index, writes: &[Write]) -> Result<Vec<Outcome>, AllocError> {
     let mut outcomes = Vec::with_capacity(alloc, writes.len())?;
     for write in writes {
-        outcomes.push(index.run(write, Choice::Run)?.outcome(alloc)?)?;
+        outcomes.push(run_one(alloc, index, write)?)?;
     }
     Ok(outcomes)
 }
@@ -110,28 +114,53 @@ fn is_number(write: &Write, source: &str) -> bool {
     }
 }
 
-/// Whether the index applied to each document of a producer its operations, each once and in order.
-pub fn is_as_put(alloc: Global, index: &Index, producer: u32, count: u64) -> Result<bool, Fail> {
-    let mut places = [0usize; 10];
-    for number in 1..count.saturating_add(1) {
-        let key = key_of(alloc, producer, number).ok_or("no memory")?;
-        let source = format!(in alloc; "{number}")?;
-        let place = places[(number % DOCUMENTS) as usize];
-        match index.applied(&key).get(place) {
-            Some(write) if is_number(write, source.as_str()) => {
-                places[(number % DOCUMENTS) as usize] = place.saturating_add(1);
-            }
-            _ => return Ok(false),
-        }
+// Whether the write at this place stores this text.
+fn has_at(writes: &[Write], place: u64, source: &str) -> bool {
+    match writes.get(place as usize) {
+        Some(write) => is_number(write, source),
+        None => false,
     }
-    Ok(true)
 }
 
-/// How many writes an index applied.
-pub fn count_applied(alloc: Global, index: &Index) -> Result<usize, AllocError> {
+// Whether the write at this place of an operation's document is that operation.
+fn is_applied(
+    alloc: Global,
+    index: &Index,
+    producer: u32,
+    number: u64,
+    place: u64,
+) -> Option<bool> {
+    let key = key_of(alloc, producer, number)?;
+    let source = format!(in alloc; "{number}").ok()?;
+    Some(has_at(index.applied(&key), place, source.as_str()))
+}
+
+// Whether the index applied to each document of a producer its operations, each once and in order.
+fn is_as_put(alloc: Global, index: &Index, producer: u32, count: u64) -> Option<bool> {
+    for sent in 0..count {
+        let number = sent.saturating_add(1);
+        if !is_applied(alloc, index, producer, number, sent / DOCUMENTS)? {
+            return Some(false);
+        }
+    }
+    Some(true)
+}
+
+// How many writes an index applied.
+fn count_applied(alloc: Global, index: &Index) -> Result<usize, AllocError> {
     let mut count = 0usize;
     for key in &index.keys(alloc)? {
         count = count.saturating_add(index.applied(key).len());
     }
     Ok(count)
+}
+
+/// Whether an index applied what two producers put: the operations 1 to 100 of each, and nothing else.
+pub fn is_whole(alloc: Global, index: &Index) -> Option<bool> {
+    for producer in 0..2u32 {
+        if !is_as_put(alloc, index, producer, 100)? {
+            return Some(false);
+        }
+    }
+    Some(count_applied(alloc, index).ok()? == 200)
 }

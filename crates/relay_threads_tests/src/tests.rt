@@ -1,7 +1,7 @@
 //! A lane's thread beside the threads of its senders.
 ghost use Rattle.std.specs.Prelude.{◌≢◌, IfSome};
 
-use crate::memory::{AtOnce, MemoryWire, action_of, count_applied, is_as_put, key_of, wire_of};
+use crate::memory::{AtOnce, MemoryWire, action_of, is_whole, key_of, wire_of};
 use relay_action::{Body, Op};
 use relay_batch::Limits;
 use relay_lane::{Lane, RelayConfig};
@@ -41,6 +41,19 @@ fn body_of(alloc: Global, producer: u32, number: u64) -> Option<Body>
     }))
 }
 
+// Puts so many operations. Whether all were put.
+fn put_all<R: Wait>(rt: &R, alloc: Global, put: &mut LanePut, sender: u32, count: u64) -> bool {
+    for sent in 0..count {
+        let Some(body) = body_of(alloc, sender, sent.saturating_add(1)) else {
+            return false;
+        };
+        if put.put(rt, body).is_err() {
+            return false;
+        }
+    }
+    true
+}
+
 // Puts so many operations, and closes where this is wanted. Whether all went well.
 fn send_all<R: Wait>(
     rt: &R,
@@ -50,15 +63,11 @@ fn send_all<R: Wait>(
     count: u64,
     closes: bool,
 ) -> bool {
-    for sent in 0..count {
-        let Some(body) = body_of(alloc, sender, sent.saturating_add(1)) else {
-            return false;
-        };
-        if put.put(rt, body).is_err() {
-            return false;
-        }
+    let all = put_all(rt, alloc, &mut put, sender, count);
+    if !all || !closes {
+        return all;
     }
-    !closes || put.close(rt).is_ok()
+    put.close(rt).is_ok()
 }
 
 // A thread for each sender: the producers put so many operations each, and the control none.
@@ -90,31 +99,31 @@ fn run<R: Threads + Wait + Copy + Send + 'static>(
     Ok(run_lane(&rt, take, lane, wire_of(alloc), AtOnce))
 }
 
+// Whether a lane took 200 operations, applied them all, lost a reply, and knows how many requests its wire sent.
+fn all_applied(end: &LaneEnd<MemoryWire>) -> bool {
+    let totals = end.lane.totals();
+    totals.taken == 200
+        && totals.already > 0
+        && totals.applied.saturating_add(totals.already) == 200
+        && totals.requests == end.wire.sends
+        && end.lane.reports().is_empty()
+}
+
 #[test]
 fn all_are_delivered(rt: HostRuntime) -> Result<(), Fail> {
     let end = run(rt, rt.alloc(), 100, true)?;
-    assert!(rt; end.kind == LaneEndKind::Finished);
     let totals = end.lane.totals();
     assert!(rt;
-        totals.taken == 200 && end.lane.reports().is_empty(),
+        end.kind == LaneEndKind::Finished && all_applied(&end),
         "{totals:?}"
     );
-    assert!(rt;
-        totals.already > 0 && totals.applied.saturating_add(totals.already) == 200,
-        "{totals:?}"
-    );
-    assert!(rt; totals.requests == end.wire.sends);
-    assert!(rt; count_applied(rt.alloc(), &end.wire.index)? == 200);
-    for producer in 0..2u32 {
-        assert!(rt; is_as_put(rt.alloc(), &end.wire.index, producer, 100)?);
-    }
+    assert!(rt; is_whole(rt.alloc(), &end.wire.index) == Some(true));
     Ok(())
 }
 
 #[test]
 fn senders_that_do_not_close(rt: HostRuntime) -> Result<(), Fail> {
     let end = run(rt, rt.alloc(), 3, false)?;
-    assert!(rt; end.kind == LaneEndKind::Gone);
-    assert!(rt; end.lane.totals().taken == 6);
+    assert!(rt; end.kind == LaneEndKind::Gone && end.lane.totals().taken == 6);
     Ok(())
 }

@@ -7,7 +7,6 @@ use crate::asking::{Told, asks};
 use crate::streams::{Wired, wired};
 use relay_lane::{Wire, WireFault};
 use std::alloc::Global;
-use std::test::Fail;
 
 // A reply after which the connection may be used again, two of these, and one after which it may not.
 const KEPT: &[u8] = b"HTTP/1.1 503 Busy\r\nContent-Length: 0\r\n\r\n";
@@ -33,34 +32,34 @@ const NOT_SENT: Told = Told::Fault(WireFault::Send);
 
 const LOST: Told = Told::Fault(WireFault::Lost);
 
+const DIALS: &[(&[&[u8]], usize, usize, (Told, Told))] = &[
+    // A kept connection is used again: the second dial would fail.
+    (&[KEPT_TWICE], 1000, 2, (Told::Whole(503), Told::Whole(502))),
+    (&[KEPT, KEPT], 1000, 0, (Told::Whole(503), LOST)),
+    // One that is closed is not: the second request is dialled for.
+    (&[CLOSED], 1000, 0, (Told::Whole(503), NOT_SENT)),
+    (
+        &[CLOSED, KEPT],
+        1000,
+        0,
+        (Told::Whole(503), Told::Whole(503)),
+    ),
+    // After a lost reply it is not used again.
+    (&[b"", KEPT], 1000, 0, (LOST, Told::Whole(503))),
+    // The first dial fails, and the second.
+    (&[KEPT], 1000, 1, (NOT_SENT, Told::Whole(503))),
+    (&[CLOSED, KEPT], 1000, 2, (Told::Whole(503), NOT_SENT)),
+    // The request has 180 bytes; a stream that takes fewer fails.
+    (&[KEPT, KEPT], 180, 0, (Told::Whole(503), NOT_SENT)),
+    (&[KEPT_TWICE, KEPT], 179, 0, (NOT_SENT, NOT_SENT)),
+];
+
 #[test]
-fn used_again_or_dialled(rt: HostRuntime) -> Result<(), Fail> {
-    let rows: [(&[&[u8]], usize, usize, (Told, Told)); 9] = [
-        // A kept connection is used again: the second dial would fail.
-        (&[KEPT_TWICE], 1000, 2, (Told::Whole(503), Told::Whole(502))),
-        (&[KEPT, KEPT], 1000, 0, (Told::Whole(503), LOST)),
-        // One that is closed is not: the second request is dialled for.
-        (&[CLOSED], 1000, 0, (Told::Whole(503), NOT_SENT)),
-        (
-            &[CLOSED, KEPT],
-            1000,
-            0,
-            (Told::Whole(503), Told::Whole(503)),
-        ),
-        // After a lost reply it is not used again.
-        (&[b"", KEPT], 1000, 0, (LOST, Told::Whole(503))),
-        // The first dial fails, and the second.
-        (&[KEPT], 1000, 1, (NOT_SENT, Told::Whole(503))),
-        (&[CLOSED, KEPT], 1000, 2, (Told::Whole(503), NOT_SENT)),
-        // The request has 180 bytes; a stream that takes fewer fails.
-        (&[KEPT, KEPT], 180, 0, (Told::Whole(503), NOT_SENT)),
-        (&[KEPT_TWICE, KEPT], 179, 0, (NOT_SENT, NOT_SENT)),
-    ];
-    for (inputs, room, fail_at, wanted) in rows {
+fn used_again_or_dialled(rt: HostRuntime) {
+    for (inputs, room, fail_at, wanted) in DIALS {
         assert!(rt;
-            twice(rt.alloc(), inputs, room, fail_at) == wanted,
+            twice(rt.alloc(), *inputs, *room, *fail_at) == *wanted,
             "{wanted:?}"
         );
     }
-    Ok(())
 }

@@ -74,6 +74,14 @@ fn puts(alloc: Global, desk: &mut Desk, number: u64, id: &str) -> bool {
     }
 }
 
+// Puts a delete of the document whose id is this number. Whether it was taken.
+fn puts_number(alloc: Global, desk: &mut Desk, number: u64) -> bool {
+    match format!(in alloc; "{number}") {
+        Ok(id) => puts(alloc, desk, number, id.as_str()),
+        Err(_) => false,
+    }
+}
+
 // The producer and the control close. Whether the lane is closed.
 fn closes(desk: &mut Desk) -> bool {
     sends(desk, 0, Body::Done) && sends(desk, 1, Body::Done) && desk.lane.closed()
@@ -88,8 +96,7 @@ pub fn filled(alloc: Global, count: u64) -> Option<Desk> {
         lane: Lane::new(alloc, CONFIG).ok()?,
     };
     for number in 1..=count {
-        let id = format!(in alloc; "{number}").ok()?;
-        if !puts(alloc, &mut desk, number, id.as_str()) {
+        if !puts_number(alloc, &mut desk, number) {
             return None;
         }
     }

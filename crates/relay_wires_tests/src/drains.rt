@@ -57,13 +57,17 @@ fn looped(alloc: Global, lost: u64) -> Option<LoopWire>
     Some(wire)
 }
 
-// What deletes of so many documents come to, where the reply to one number is lost, and how many writes the index
-// applied.
-fn in_memory(alloc: Global, count: u64, lost: u64) -> Option<(Came, usize)> {
-    let mut wire = looped(alloc, lost)?;
-    let mut desk = filled(alloc, count)?;
-    let came = drained(&mut desk, &mut wire)?;
+// What a drain in memory comes to, and how many writes the index applied.
+fn came_to(alloc: Global, desk: &mut Desk, wire: &mut LoopWire) -> Option<(Came, usize)>
+    requires { wire.old.out ≡ [] }
+{
+    let came = drained(desk, wire)?;
     Some((came, count_applied(alloc, wire.index()).ok()?))
+}
+
+// The same of deletes of so many documents, where the reply to one number is lost.
+fn in_memory(alloc: Global, count: u64, lost: u64) -> Option<(Came, usize)> {
+    came_to(alloc, &mut filled(alloc, count)?, &mut looped(alloc, lost)?)
 }
 
 // What deletes of three documents come to over streams with these bytes.

@@ -4,7 +4,6 @@ use crate::asking::{Told, asks};
 use crate::streams::wired;
 use relay_lane::WireFault;
 use std::alloc::Global;
-use std::test::Fail;
 
 // What a delete is told by these bytes.
 fn told_by(alloc: Global, bytes: &[u8]) -> Told {
@@ -15,75 +14,75 @@ fn told_by(alloc: Global, bytes: &[u8]) -> Told {
     }
 }
 
+const REPLIES: &[(&[u8], Told)] = &[
+    (
+        b"HTTP/1.1 200 OK\r\nContent-Length: 47\r\n\r\n{\"items\":[{\"delete\":{\"_id\":\"2\",\"status\":404}}]}",
+        Told::Entries(1, 404),
+    ),
+    (
+        b"HTTP/1.1 100 Continue\r\n\r\nHTTP/1.1 200 OK\r\nTransfer-Encoding: chunked\r\n\r\n5\r\n{\"ite\r\n7\r\nms\":[]}\r\n0\r\n\r\n",
+        Told::Entries(0, 0),
+    ),
+    (
+        b"HTTP/1.0 200 OK\r\n\r\n{\"items\":[]}",
+        Told::Entries(0, 0),
+    ),
+    (
+        b"HTTP/1.1 200 OK\r\nContent-Length: 0\r\n\r\n",
+        Told::Fault(WireFault::Unreadable),
+    ),
+    (
+        b"HTTP/1.1 200 OK\r\nContent-Length: 11\r\n\r\n{\"items\":3}",
+        Told::Fault(WireFault::Unreadable),
+    ),
+    (
+        b"HTTP/1.1 200 OK\r\nContent-Length: 44\r\n\r\n{\"items\":[{\"index\":{\"_id\":5,\"status\":201}}]}",
+        Told::Fault(WireFault::Unreadable),
+    ),
+    (
+        b"HTTP/1.1 201 Created\r\nContent-Length: 12\r\n\r\n{\"items\":[]}",
+        Told::Whole(201),
+    ),
+    (b"HTTP/1.1 204 No Content\r\n\r\n", Told::Whole(204)),
+    (
+        b"HTTP/1.1 401 Unauthorized\r\nContent-Length: 0\r\n\r\n",
+        Told::Whole(401),
+    ),
+    (
+        b"HTTP/1.1 429 Too Many Requests\r\nContent-Length: 3\r\n\r\nlow",
+        Told::Whole(429),
+    ),
+    (
+        b"HTTP/1.1 503 Service Unavailable\r\n\r\n",
+        Told::Whole(503),
+    ),
+    (b"", Told::Fault(WireFault::Lost)),
+    (
+        b"HTTP/1.1 200 OK\r\nContent-Length: 12\r\n\r\n{\"items\":[]",
+        Told::Fault(WireFault::Lost),
+    ),
+    (
+        b"HTTP/1.1 101 Switching Protocols\r\n\r\n",
+        Told::Fault(WireFault::Lost),
+    ),
+    (
+        b"HTTP/1.1 200 OK\r\nContent-Length: 67108865\r\n\r\n",
+        Told::Fault(WireFault::Lost),
+    ),
+    (
+        b"HTTP/1.1 200 OK\r\nContent-Encoding: gzip\r\nContent-Length: 0\r\n\r\n",
+        Told::Fault(WireFault::Lost),
+    ),
+    (
+        b"HTTP/1.1 200 OK\r\nTransfer-Encoding: chunked\r\nContent-Length: 0\r\n\r\n",
+        Told::Fault(WireFault::Lost),
+    ),
+    (b"HTTP/1.1 600 None\r\n\r\n", Told::Fault(WireFault::Lost)),
+];
+
 #[test]
-fn replies(rt: HostRuntime) -> Result<(), Fail> {
-    let rows: [(&[u8], Told); 18] = [
-        (
-            b"HTTP/1.1 200 OK\r\nContent-Length: 47\r\n\r\n{\"items\":[{\"delete\":{\"_id\":\"2\",\"status\":404}}]}",
-            Told::Entries(1, 404),
-        ),
-        (
-            b"HTTP/1.1 100 Continue\r\n\r\nHTTP/1.1 200 OK\r\nTransfer-Encoding: chunked\r\n\r\n5\r\n{\"ite\r\n7\r\nms\":[]}\r\n0\r\n\r\n",
-            Told::Entries(0, 0),
-        ),
-        (
-            b"HTTP/1.0 200 OK\r\n\r\n{\"items\":[]}",
-            Told::Entries(0, 0),
-        ),
-        (
-            b"HTTP/1.1 200 OK\r\nContent-Length: 0\r\n\r\n",
-            Told::Fault(WireFault::Unreadable),
-        ),
-        (
-            b"HTTP/1.1 200 OK\r\nContent-Length: 11\r\n\r\n{\"items\":3}",
-            Told::Fault(WireFault::Unreadable),
-        ),
-        (
-            b"HTTP/1.1 200 OK\r\nContent-Length: 44\r\n\r\n{\"items\":[{\"index\":{\"_id\":5,\"status\":201}}]}",
-            Told::Fault(WireFault::Unreadable),
-        ),
-        (
-            b"HTTP/1.1 201 Created\r\nContent-Length: 12\r\n\r\n{\"items\":[]}",
-            Told::Whole(201),
-        ),
-        (b"HTTP/1.1 204 No Content\r\n\r\n", Told::Whole(204)),
-        (
-            b"HTTP/1.1 401 Unauthorized\r\nContent-Length: 0\r\n\r\n",
-            Told::Whole(401),
-        ),
-        (
-            b"HTTP/1.1 429 Too Many Requests\r\nContent-Length: 3\r\n\r\nlow",
-            Told::Whole(429),
-        ),
-        (
-            b"HTTP/1.1 503 Service Unavailable\r\n\r\n",
-            Told::Whole(503),
-        ),
-        (b"", Told::Fault(WireFault::Lost)),
-        (
-            b"HTTP/1.1 200 OK\r\nContent-Length: 12\r\n\r\n{\"items\":[]",
-            Told::Fault(WireFault::Lost),
-        ),
-        (
-            b"HTTP/1.1 101 Switching Protocols\r\n\r\n",
-            Told::Fault(WireFault::Lost),
-        ),
-        (
-            b"HTTP/1.1 200 OK\r\nContent-Length: 67108865\r\n\r\n",
-            Told::Fault(WireFault::Lost),
-        ),
-        (
-            b"HTTP/1.1 200 OK\r\nContent-Encoding: gzip\r\nContent-Length: 0\r\n\r\n",
-            Told::Fault(WireFault::Lost),
-        ),
-        (
-            b"HTTP/1.1 200 OK\r\nTransfer-Encoding: chunked\r\nContent-Length: 0\r\n\r\n",
-            Told::Fault(WireFault::Lost),
-        ),
-        (b"HTTP/1.1 600 None\r\n\r\n", Told::Fault(WireFault::Lost)),
-    ];
-    for (bytes, wanted) in rows {
-        assert!(rt; told_by(rt.alloc(), bytes) == wanted, "{wanted:?}");
+fn replies(rt: HostRuntime) {
+    for (bytes, wanted) in REPLIES {
+        assert!(rt; told_by(rt.alloc(), *bytes) == *wanted, "{wanted:?}");
     }
-    Ok(())
 }

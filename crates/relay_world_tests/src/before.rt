@@ -15,19 +15,31 @@ fn key_of(alloc: Global, id: &str) -> Result<DocKey, Fail> {
     Ok(DocKey::new(alloc, "b", id)?)
 }
 
+/// An index deletes a document under version 5.
+fn delete_at_five(alloc: Global, index: &mut Index, id: &str) -> Result<(), Fail> {
+    let write = Write {
+        key: key_of(alloc, id)?,
+        version: 5,
+        action: Action::delete(),
+    };
+    index.run(&write, Choice::Run)?;
+    Ok(())
+}
+
 /// An index that has version 5 of the documents 1 and 2, both deleted.
 fn index_at_five(alloc: Global) -> Result<Index, Fail> {
     let mut index = Index::new(alloc);
     for id in ["1", "2"] {
-        let write = Write {
-            key: key_of(alloc, id)?,
-            version: 5,
-            action: Action::delete(),
-        };
-        index.run(&write, Choice::Run)?;
+        delete_at_five(alloc, &mut index, id)?;
     }
     Ok(index)
 }
+
+/// A first version above those of that index.
+const SIX: RelayConfig = RelayConfig {
+    first_version: 6,
+    ..THREE
+};
 
 /// Whether the versions of an index are below the first one that is dealt.
 fn is_below(config: RelayConfig, index: &Index) -> bool
@@ -73,49 +85,82 @@ fn has_none(alloc: Global, world: &World, id: &str) -> Result<bool, Fail> {
     Ok(world.applied(&key_of(alloc, id)?).is_empty())
 }
 
+/// Whether a world has no documents of its own, and nothing of document 1 was applied.
+fn is_fresh(alloc: Global, world: &World) -> Result<bool, Fail> {
+    Ok(has_none(alloc, world, "1")? && world.keys()?.is_empty())
+}
+
+/// Whether document 1 is put, taken, sent and created.
+fn creates_one(alloc: Global, world: &mut World) -> Result<bool, Fail> {
+    Ok(
+        sends_one(alloc, world)?
+            && accepts(world, &Event::Take(0))
+            && accepts(world, &Event::Send(0))
+            && status_of_run(world) == 201,
+    )
+}
+
+/// Whether a fresh world writes document 1, and has that alone then.
+fn has_only_its_own(alloc: Global, world: &mut World) -> Result<bool, Fail> {
+    Ok(
+        is_fresh(alloc, world)?
+            && creates_one(alloc, world)?
+            && has_one(alloc, world)?
+            && has_none(alloc, world, "2")?,
+    )
+}
+
+/// Whether a world over that index does, of a first version above those stored.
+fn goes_above(alloc: Global) -> Result<bool, Fail> {
+    let index = index_at_five(alloc)?;
+    match world_over(alloc, SIX, index)? {
+        Some(mut world) => has_only_its_own(alloc, &mut world),
+        None => Ok(false),
+    }
+}
+
 // What stood there before is neither applied by it nor among its documents.
 #[test]
 fn only_its_own(rt: HostRuntime) -> Result<(), Fail> {
-    let alloc = rt.alloc();
-    let config = RelayConfig {
-        first_version: 6,
-        ..THREE
-    };
-    let mut world = world_over(alloc, config, index_at_five(alloc)?)?.ok_or("not below")?;
-    assert!(rt; has_none(alloc, &world, "1")? && world.keys()?.is_empty());
-    assert!(rt; sends_one(alloc, &mut world)?);
-    assert!(rt; accepts(&mut world, &Event::Take(0)) && accepts(&mut world, &Event::Send(0)));
-    assert!(rt; status_of_run(&mut world) == 201);
-    assert!(rt; has_one(alloc, &world)? && has_none(alloc, &world, "2")?);
+    assert!(rt; goes_above(rt.alloc())?);
     Ok(())
+}
+
+/// Whether there is a world over that index whose first version is stored already.
+fn goes_below(alloc: Global) -> Result<bool, Fail> {
+    let index = index_at_five(alloc)?;
+    Ok(world_over(alloc, THREE, index)?.is_some())
 }
 
 // A first version that is stored already is refused before there is a world.
 #[test]
 fn stored_at_the_first(rt: HostRuntime) -> Result<(), Fail> {
-    let alloc = rt.alloc();
-    assert!(rt; world_over(alloc, THREE, index_at_five(alloc)?)?.is_none());
+    assert!(rt; !goes_below(rt.alloc())?);
     Ok(())
 }
 
-/// A lane that took one put of document 1.
-fn lane_with_one(alloc: Global) -> Result<Lane, Fail> {
-    let mut lane = Lane::new(alloc, THREE)?;
-    let op = Op {
+/// The first operation of producer 0: a delete of document 1.
+fn delete_of_one(alloc: Global) -> Result<Op, Fail> {
+    Ok(Op {
         producer: 0,
         number: 1,
         key: key_of(alloc, "1")?,
         action: Action::delete(),
-    };
+    })
+}
+
+/// Whether a lane takes that operation.
+fn takes_one(alloc: Global, lane: &mut Lane) -> Result<bool, Fail> {
+    if lane.senders() == 0 {
+        return Ok(false);
+    }
+    let op = delete_of_one(alloc)?;
     let mail = Mail {
         sender: 0,
         number: 1,
         body: Body::Put(op),
     };
-    if lane.take(mail).is_err() {
-        return Err("not taken")?;
-    }
-    Ok(lane)
+    Ok(lane.take(mail).is_ok())
 }
 
 /// The next request, or 0.
@@ -163,16 +208,35 @@ fn lost_and_run(alloc: Global, lane: &mut Lane, index: &mut Index) -> Result<(u3
     already_by(alloc, lane, second, outcome)
 }
 
+/// How many writes of document 1 an index applied.
+fn count_one(alloc: Global, index: &Index) -> Result<usize, Fail> {
+    Ok(index.applied(&key_of(alloc, "1")?).len())
+}
+
+/// Whether the operation is settled as applied before, with nothing held or reported, and document 1 has one
+/// write all the same.
+fn is_taken_for_applied(alloc: Global, lane: &mut Lane, index: &mut Index) -> Result<bool, Fail> {
+    Ok(
+        takes_one(alloc, lane)?
+            && lost_and_run(alloc, lane, index)? == (1, 0)
+            && lane.held() == 0
+            && lane.reports().is_empty()
+            && count_one(alloc, index)? == 1,
+    )
+}
+
+/// Whether it is so over an index that has a version above the first one dealt.
+fn goes_without_the_condition(alloc: Global) -> Result<bool, Fail> {
+    let mut index = index_at_five(alloc)?;
+    let mut lane = Lane::new(alloc, THREE)?;
+    is_taken_for_applied(alloc, &mut lane, &mut index)
+}
+
 // Why the versions of an index have to be below the first one dealt: here 5 is stored and 1 is dealt. The repeat
 // meets a conflict with the foreign version, which a lane takes for its own: the operation counts as applied, and
 // the index never applied it.
 #[test]
 fn lost_without_the_condition(rt: HostRuntime) -> Result<(), Fail> {
-    let alloc = rt.alloc();
-    let mut index = index_at_five(alloc)?;
-    let mut lane = lane_with_one(alloc)?;
-    assert!(rt; lost_and_run(alloc, &mut lane, &mut index)? == (1, 0));
-    assert!(rt; lane.held() == 0 && lane.reports().is_empty());
-    assert!(rt; index.applied(&key_of(alloc, "1")?).len() == 1);
+    assert!(rt; goes_without_the_condition(rt.alloc())?);
     Ok(())
 }

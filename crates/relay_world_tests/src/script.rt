@@ -113,17 +113,20 @@ fn world_of(alloc: Global, config: RelayConfig) -> Result<World, Fail> {
     Ok(World::new(alloc, config, Index::new(alloc))?)
 }
 
-/// Plays rows; the place of the first row, from 1, that is answered otherwise, or 0.
-fn played(alloc: Global, world: &mut World, rows: &[(Row<'_>, Says)]) -> Result<usize, Fail> {
-    let mut place: usize = 0;
+/// Whether the event of a row is answered so.
+fn answers(alloc: Global, world: &mut World, row: &Row<'_>, says: Says) -> Result<bool, Fail> {
+    let event = event_of(alloc, row)?;
+    Ok(is_said(world.step(&event)?, says))
+}
+
+/// Plays rows. Whether each is answered as it says.
+fn played(alloc: Global, world: &mut World, rows: &[(Row<'_>, Says)]) -> Result<bool, Fail> {
     for (row, says) in rows {
-        place = place.saturating_add(1);
-        let event = event_of(alloc, row)?;
-        if !is_said(world.step(&event)?, *says) {
-            return Ok(place);
+        if !answers(alloc, world, row, *says)? {
+            return Ok(false);
         }
     }
-    Ok(0)
+    Ok(true)
 }
 
 /// Whether an event was accepted.
@@ -187,7 +190,19 @@ fn ends_with(
     Ok(good)
 }
 
-/// Whether a world of a config answers these rows as they say, and then ends so.
+/// Whether a world answers these rows as they say, and then ends so.
+fn plays_to(
+    alloc: Global,
+    world: &mut World,
+    rows: &[(Row<'_>, Says)],
+    applied: &[(&str, &[u64])],
+    reports: &[Given],
+    finished: bool,
+) -> Result<bool, Fail> {
+    Ok(played(alloc, world, rows)? && ends_with(alloc, world, applied, reports, finished)?)
+}
+
+/// Whether a fresh world of a config does.
 pub fn lasts(
     alloc: Global,
     config: RelayConfig,
@@ -197,41 +212,47 @@ pub fn lasts(
     finished: bool,
 ) -> Result<bool, Fail> {
     let mut world = world_of(alloc, config)?;
-    if played(alloc, &mut world, rows)? > 0 {
-        return Ok(false);
-    }
-    ends_with(alloc, &world, applied, reports, finished)
+    plays_to(alloc, &mut world, rows, applied, reports, finished)
 }
 
 /// The same, with one row more at the end, after which it is not finished.
-pub fn lasts_with(
+pub fn lasts_with<'a>(
     alloc: Global,
     config: RelayConfig,
-    rows: &[(Row<'_>, Says)],
-    last: (Row<'_>, Says),
+    rows: &[(Row<'a>, Says)],
+    last: (Row<'a>, Says),
     applied: &[(&str, &[u64])],
     reports: &[Given],
 ) -> Result<bool, Fail> {
-    let mut world = world_of(alloc, config)?;
-    if played(alloc, &mut world, rows)? > 0 || played(alloc, &mut world, &[last])? > 0 {
-        return Ok(false);
-    }
-    ends_with(alloc, &world, applied, reports, false)
+    let mut all = Vec::from_slice(alloc, rows)?;
+    all.push(last)?;
+    lasts(alloc, config, all.as_slice(), applied, reports, false)
 }
 
-/// How many events of these rows are accepted in one run, and how many refused.
+/// The events of rows.
+fn events_of(alloc: Global, rows: &[(Row<'_>, Says)]) -> Result<Vec<Event>, Fail> {
+    let mut events = Vec::with_capacity(alloc, rows.len())?;
+    for (row, _) in rows {
+        events.push(event_of(alloc, row)?)?;
+    }
+    Ok(events)
+}
+
+/// How many events a world accepts in one run, and how many it refuses.
+fn counts_of_run(world: &mut World, events: &[Event]) -> Result<(u64, u64), Fail> {
+    match world.run(events) {
+        Ok(end) => Ok((end.done, end.refused)),
+        Err(_) => Err("out of memory")?,
+    }
+}
+
+/// How many events of these rows a fresh world of a config accepts in one run, and how many it refuses.
 pub fn run_of(
     alloc: Global,
     config: RelayConfig,
     rows: &[(Row<'_>, Says)],
 ) -> Result<(u64, u64), Fail> {
-    let mut events = Vec::with_capacity(alloc, rows.len())?;
-    for (row, _) in rows {
-        events.push(event_of(alloc, row)?)?;
-    }
+    let events = events_of(alloc, rows)?;
     let mut world = world_of(alloc, config)?;
-    match world.run(events.as_slice()) {
-        Ok(end) => Ok((end.done, end.refused)),
-        Err(_) => Err("out of memory")?,
-    }
+    counts_of_run(&mut world, events.as_slice())
 }
