@@ -1,9 +1,10 @@
 //! The command line.
 use crate::report::{out_of_memory, usage};
-use crate::subcommand::Subcommand;
+use crate::subcommand::{command_of, run_subcommand};
 use clap::error::ErrorKind;
 use clap::{ArgMatches, Command, Error};
 use relay_commands::exit::Exit;
+use relay_commands::subcommand::Subcommand;
 use std::alloc::{AllocError, Global};
 use std::net::Net;
 use std::rt::Env;
@@ -69,7 +70,7 @@ fn relay_command<'a>(alloc: Global) -> Result<Command<'a>, AllocError> {
         .about(ABOUT)
         .subcommand_required(true);
     for subcommand in Subcommand::ALL {
-        command = command.subcommand(subcommand.command(alloc)?)?;
+        command = command.subcommand(command_of(subcommand, alloc)?)?;
     }
     Ok(command)
 }
@@ -83,7 +84,7 @@ where
         return Exit::Usage;
     };
     match Subcommand::named(name) {
-        Some(subcommand) => subcommand.run(rt, host, matches),
+        Some(subcommand) => run_subcommand(subcommand, rt, host, matches),
         None => Exit::Usage,
     }
 }

@@ -9,8 +9,6 @@ pub mod batch;
 pub mod batcher;
 pub mod item;
 pub mod offer;
-#[cfg(test)]
-mod tests;
 
 pub use batch::Batch;
 pub use batcher::Batcher;

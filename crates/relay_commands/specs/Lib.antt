@@ -7,3 +7,4 @@ pub mod Sending
 pub mod Passing
 pub mod Pieces
 pub mod Cuts
+pub mod Subcommands

@@ -7,8 +7,6 @@
 
 pub mod flight;
 pub mod full;
-#[cfg(test)]
-mod tests;
 
 pub use flight::Flight;
 pub use full::Full;

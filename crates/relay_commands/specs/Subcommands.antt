@@ -1,7 +1,7 @@
 -- The subcommands, and the word of each on the command line.
 use Rattle.std.specs.Prelude.{ℕ, List, bytes_eq, codes, Option, None, Some, if◌then◌else◌}
-use Rattle.relay.specs.declared.subcommand.Subcommand.{Subcommand}
-use Rattle.relay.specs.declared.subcommand.Subcommand.TheVariants.{Lines, Apply, Run, Stub, World}
+use Rattle.relay_commands.specs.declared.subcommand.Subcommand.{Subcommand}
+use Rattle.relay_commands.specs.declared.subcommand.Subcommand.TheVariants.{Lines, Apply, Run, Stub, World}
 
 -- the word of a subcommand
 abbrev pub word_of : Subcommand → List ℕ

@@ -1,0 +1,5 @@
+//! The tests of `relay_batch`: what batches hold, and when they are offered to, closed and ready.
+#![tactic(auto)]
+
+#[cfg(test)]
+mod tests;

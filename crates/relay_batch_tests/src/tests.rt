@@ -1,0 +1,312 @@
+//! Offers and readiness at the limits, and what a closed batch holds.
+use relay_action::OpName;
+use relay_batch::{BatchItem, Batcher, Limits, Offer, Room};
+use std::alloc::{AllocError, Global};
+use std::test::Fail;
+
+// An item of a document, with so many bytes.
+fn item(doc: u64, bytes: u64, taken_at: u64) -> BatchItem {
+    BatchItem {
+        name: OpName {
+            producer: 0,
+            number: doc,
+        },
+        doc,
+        version: doc,
+        bytes,
+        taken_at,
+    }
+}
+
+// The limits of the first table.
+const LIMITS: Limits = Limits {
+    count: 3,
+    bytes: 1024,
+    linger: 5,
+};
+
+// Whether items taken at tick 10, offered by document and bytes, are answered so.
+fn answers(batcher: &mut Batcher, offers: &[(u64, u64, Offer)]) -> Result<bool, AllocError> {
+    let mut same = true;
+    for (doc, bytes, answer) in offers {
+        same &= batcher.offer(item(*doc, *bytes, 10))? == *answer;
+    }
+    Ok(same)
+}
+
+// Whether a batch is ready at a tick after offers that are answered so; `None`: they are not.
+fn ready_after(
+    alloc: Global,
+    limits: Limits,
+    offers: &[(u64, u64, Offer)],
+    now: u64,
+) -> Result<Option<bool>, AllocError> {
+    let mut batcher = Batcher::new(alloc, limits);
+    if answers(&mut batcher, offers)? {
+        return Ok(Some(batcher.ready(now)));
+    }
+    Ok(None)
+}
+
+const OFFERS: &[(&[(u64, u64, Offer)], bool)] = &[
+    // As many bytes, and as many items, as the limits say.
+    (
+        &[
+            (1, 400, Offer::Added),
+            (2, 400, Offer::Added),
+            (3, 224, Offer::Added),
+            (4, 0, Offer::Closed),
+        ],
+        true,
+    ),
+    // One byte too many, of an offer that leaves the batch open for a smaller one.
+    (
+        &[
+            (1, 400, Offer::Added),
+            (2, 400, Offer::Added),
+            (3, 225, Offer::Closed),
+            (4, 223, Offer::Added),
+        ],
+        true,
+    ),
+    // One item alone may have more bytes than the limit.
+    (
+        &[
+            (1, 5000, Offer::Added),
+            (2, 0, Offer::Closed),
+            (3, 1, Offer::Closed),
+            (1, 1, Offer::Busy),
+        ],
+        true,
+    ),
+    // Busy comes before Closed.
+    (
+        &[
+            (1, 400, Offer::Added),
+            (1, 400, Offer::Busy),
+            (1, 5000, Offer::Busy),
+            (2, 623, Offer::Added),
+        ],
+        false,
+    ),
+    // Busy comes before Closed also where the count is reached.
+    (
+        &[
+            (1, 0, Offer::Added),
+            (2, 0, Offer::Added),
+            (3, 0, Offer::Added),
+            (2, 0, Offer::Busy),
+        ],
+        true,
+    ),
+];
+
+#[test]
+fn offers_and_readiness(rt: HostRuntime) {
+    for (offers, ready) in OFFERS {
+        assert!(rt; ready_after(rt.alloc(), LIMITS, offers, 10) == Ok(Some(*ready)));
+    }
+}
+
+const BYTES: &[(u64, Offer, Offer)] = &[
+    (1024, Offer::Closed, Offer::Closed),
+    (u64::MAX, Offer::Added, Offer::Closed),
+    (u64::MAX - 1, Offer::Closed, Offer::Closed),
+    (0, Offer::Closed, Offer::Closed),
+];
+
+// The greatest number of bytes, then none, then one.
+#[test]
+fn bytes_have_no_end(rt: HostRuntime) {
+    for (bytes, none, one) in BYTES {
+        let limits = Limits {
+            count: 10,
+            bytes: *bytes,
+            linger: 5,
+        };
+        let offers = [(1, u64::MAX, Offer::Added), (2, 0, *none), (3, 1, *one)];
+        assert!(rt; ready_after(rt.alloc(), limits, &offers, 10) == Ok(Some(true)));
+    }
+}
+
+const LINGERING: &[(u32, u64, u64, bool)] = &[
+    (5, 10, 15, true),
+    (5, 10, 14, false),
+    (5, 10, 9, false),
+    (0, 10, 10, true),
+    (0, 10, 9, false),
+    (0, u64::MAX, 0, false),
+    (65_535, u64::MAX, u64::MAX, false),
+    (65_535, u64::MAX - 65_534, u64::MAX, false),
+    (65_535, u64::MAX - 65_535, u64::MAX, true),
+    (u32::MAX, 0, 4_294_967_295, true),
+    (u32::MAX, 0, 4_294_967_294, false),
+];
+
+// Whether a batch of an item taken at a tick, and one taken at 0, is ready; `None`: the empty batch was, or
+// an item was not added.
+fn ready_of_two(
+    alloc: Global,
+    linger: u32,
+    taken_at: u64,
+    now: u64,
+) -> Result<Option<bool>, AllocError> {
+    let limits = Limits {
+        count: 3,
+        bytes: 1024,
+        linger,
+    };
+    let mut batcher = Batcher::new(alloc, limits);
+    if batcher.ready(now)
+        || batcher.offer(item(1, 400, taken_at))? != Offer::Added
+        || batcher.offer(item(2, 400, 0))? != Offer::Added
+    {
+        return Ok(None);
+    }
+    Ok(Some(batcher.ready(now)))
+}
+
+// Items that no other limit makes ready.
+#[test]
+fn lingering(rt: HostRuntime) {
+    for (linger, taken_at, now, ready) in LINGERING {
+        let told = ready_of_two(rt.alloc(), *linger, *taken_at, *now);
+        assert!(rt; told == Ok(Some(*ready)));
+    }
+}
+
+#[test]
+fn a_count_of_none_closes_every_offer(rt: HostRuntime) -> Result<(), Fail> {
+    let limits = Limits {
+        count: 0,
+        bytes: 1024,
+        linger: 0,
+    };
+    let mut batcher = Batcher::new(rt.alloc(), limits);
+    let offers = [(1, 0, Offer::Closed), (1, 5000, Offer::Closed)];
+    assert!(rt; answers(&mut batcher, &offers)? && !batcher.ready(u64::MAX));
+    assert!(rt; batcher.close().is_none());
+    Ok(())
+}
+
+// Whether a closed batch holds these items, and no others.
+fn holds(batcher: Batcher, items: &[BatchItem]) -> bool {
+    match batcher.close() {
+        Some(batch) => batch.items() == items,
+        None => false,
+    }
+}
+
+#[test]
+fn a_closed_batch_holds_what_was_added(rt: HostRuntime) -> Result<(), Fail> {
+    let offers = [
+        (7, 400, Offer::Added),
+        (7, 1, Offer::Busy),
+        (2, 625, Offer::Closed),
+        (5, 624, Offer::Added),
+    ];
+    let mut batcher = Batcher::new(rt.alloc(), LIMITS);
+    assert!(rt; answers(&mut batcher, &offers)?);
+    assert!(rt; holds(batcher, &[item(7, 400, 10), item(5, 624, 10)]));
+    Ok(())
+}
+
+#[test]
+fn an_empty_batch_is_not_closed(rt: HostRuntime) {
+    assert!(rt; Batcher::new(rt.alloc(), LIMITS).close().is_none());
+}
+
+// Whether a batch takes ten thousand items, the documents from 0 on, and is ready with the last of them
+// alone.
+fn takes_ten_thousand(batcher: &mut Batcher) -> Result<bool, AllocError> {
+    let mut same = true;
+    for doc in 0..10_000u64 {
+        same &= !batcher.ready(0);
+        same &= batcher.offer(item(doc, 1_677, 0))? == Offer::Added;
+    }
+    Ok(same && batcher.ready(0))
+}
+
+// Whether a closed batch holds ten thousand items, from the first document to the last.
+fn holds_ten_thousand(batcher: Batcher) -> bool {
+    match batcher.close() {
+        Some(batch) => {
+            let items = batch.items();
+            items.len() == 10_000
+                && items.first() == Some(&item(0, 1_677, 0))
+                && items.last() == Some(&item(9_999, 1_677, 0))
+        }
+        None => false,
+    }
+}
+
+#[test]
+fn ten_thousand_items(rt: HostRuntime) -> Result<(), Fail> {
+    let limits = Limits {
+        count: 10_000,
+        bytes: 16_777_216,
+        linger: 65_535,
+    };
+    let mut batcher = Batcher::new(rt.alloc(), limits);
+    assert!(rt; takes_ten_thousand(&mut batcher)?);
+    let offers = [(10_000, 0, Offer::Closed), (9_999, 0, Offer::Busy)];
+    assert!(rt; answers(&mut batcher, &offers)?);
+    assert!(rt; holds_ten_thousand(batcher));
+    Ok(())
+}
+
+const ROOMS: &[(&[(u64, u64, Offer)], u32, u64)] = &[
+    (&[], 3, 1024),
+    (&[(1, 400, Offer::Added)], 2, 624),
+    (&[(1, 1024, Offer::Added)], 2, 0),
+    (&[(1, 5000, Offer::Added)], 2, 0),
+    (
+        &[
+            (1, 1, Offer::Added),
+            (2, 1, Offer::Added),
+            (3, 1, Offer::Added),
+        ],
+        0,
+        1021,
+    ),
+];
+
+// What is left of the limits after offers that are answered so; `None`: they are not.
+fn room_after(alloc: Global, offers: &[(u64, u64, Offer)]) -> Result<Option<Room>, AllocError> {
+    let mut batcher = Batcher::new(alloc, LIMITS);
+    if answers(&mut batcher, offers)? {
+        return Ok(Some(batcher.room()));
+    }
+    Ok(None)
+}
+
+// What is left of the limits.
+#[test]
+fn room_of_a_batch(rt: HostRuntime) {
+    for (offers, items, bytes) in ROOMS {
+        let room = Room {
+            items: *items,
+            bytes: *bytes,
+        };
+        assert!(rt; room_after(rt.alloc(), offers) == Ok(Some(room)));
+    }
+}
+
+// Whether an item is added, at the second offer where the first is refused memory, and then the batch was
+// as before.
+fn is_added(batcher: &mut Batcher) -> Result<bool, AllocError> {
+    match batcher.offer(item(1, 1024, 10)) {
+        Ok(answer) => Ok(answer == Offer::Added),
+        Err(AllocError) => {
+            Ok(!batcher.ready(u64::MAX) && batcher.offer(item(1, 1024, 10))? == Offer::Added)
+        }
+    }
+}
+
+// A refused allocation is answered as out of memory, and the batch is as before.
+#[test]
+fn refusals(rt: HostRuntime) -> Result<(), Fail> {
+    let mut batcher = Batcher::new(rt.alloc(), LIMITS);
+    assert!(rt; is_added(&mut batcher)? && batcher.ready(10));
+    Ok(())
+}

@@ -1,0 +1,56 @@
+//! The subcommands of the program, and their words on the command line.
+ghost use Rattle.std.specs.Prelude.{◌≡◌};
+ghost use Rattle.relay_commands.specs.Subcommands.{subcommand_of, word_of};
+
+/// What the program can be told to do.
+#[derive(Clone, Copy, Debug, PartialEq, Eq)]
+pub enum Subcommand {
+    /// `relay lines`.
+    Lines,
+    /// `relay apply`.
+    Apply,
+    /// `relay run`.
+    Run,
+    /// `relay stub`.
+    Stub,
+    /// `relay world`.
+    World,
+}
+
+impl Subcommand {
+    /// All of them, in the order of the help.
+    pub const ALL: [Subcommand; 5] = [
+        Subcommand::Lines,
+        Subcommand::Apply,
+        Subcommand::Run,
+        Subcommand::Stub,
+        Subcommand::World,
+    ];
+
+    /// Its word on the command line.
+    pub fn name(self) -> &'static str
+        ensures { result.now ≡ word_of self }
+    {
+        match self {
+            Subcommand::Lines => "lines",
+            Subcommand::Apply => "apply",
+            Subcommand::Run => "run",
+            Subcommand::Stub => "stub",
+            Subcommand::World => "world",
+        }
+    }
+
+    /// The subcommand of this word. `None`: no subcommand has it.
+    pub fn named(name: &str) -> Option<Subcommand>
+        ensures { result ≡ subcommand_of name.now }
+    {
+        match name {
+            "lines" => Some(Subcommand::Lines),
+            "apply" => Some(Subcommand::Apply),
+            "run" => Some(Subcommand::Run),
+            "stub" => Some(Subcommand::Stub),
+            "world" => Some(Subcommand::World),
+            _ => None,
+        }
+    }
+}

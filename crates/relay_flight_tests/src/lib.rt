@@ -1,0 +1,5 @@
+//! The tests of `relay_flight`: numbers, room and settling of batches in flight.
+#![tactic(auto)]
+
+#[cfg(test)]
+mod tests;
