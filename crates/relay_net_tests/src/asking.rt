@@ -5,8 +5,10 @@ ghost use Rattle.relay_ndjson.specs.Bulk.{text_of};
 
 use relay_action::{Action, DocKey, StdStream, Write};
 use relay_http::is_host;
+use relay_index::{Index, Script};
 use relay_ndjson::bulk_len;
 use relay_net::{TcpDial, TcpListen};
+use relay_stub::stub_serve;
 use relay_wires::{HttpWire, Wire, WireFault, WireReply};
 use std::alloc::Global;
 use std::net::Net;
@@ -59,6 +61,17 @@ pub fn asks<W: Wire>(alloc: Global, wire: &mut W, version: u64) -> Option<u16>
         return None;
     }
     status_of(wire.receive(1))
+}
+
+/// Serves so many connections with an index that refuses nothing. Whether they were served.
+pub fn serves_with<R: Net>(
+    alloc: Global,
+    listener: &mut TcpListen<R>,
+    requests: u64,
+    index: &mut Index,
+) -> bool {
+    let mut script = Script::new(alloc);
+    stub_serve(alloc, listener, requests, index, &mut script).is_ok()
 }
 
 /// The address of a listener as text.

@@ -1,15 +1,13 @@
 //! A server in a thread of its own.
 ghost use Rattle.std.specs.Prelude.{◌≡◌, []};
 
-use crate::asking::{address_of, asks, wired};
-use relay_index::{Index, Script};
+use crate::asking::{address_of, asks, serves_with, wired};
+use relay_index::Index;
 use relay_net::TcpListen;
-use relay_stub::stub_serve;
 use relay_wires::Wire;
 use std::alloc::Global;
 use std::net::{Net, TcpListener, TcpStream};
 use std::sync::Wait;
-use std::test::Fail;
 use std::thread;
 use std::thread::Threads;
 
@@ -27,10 +25,10 @@ fn count(alloc: Global, index: &Index) -> usize {
 // How many writes an index applied that served so many connections.
 fn serves<R: Net>(alloc: Global, mut listener: TcpListen<R>, requests: u64) -> usize {
     let mut index = Index::new(alloc);
-    let mut script = Script::new(alloc);
-    match stub_serve(alloc, &mut listener, requests, &mut index, &mut script) {
-        Ok(()) => count(alloc, &index),
-        Err(_) => 0,
+    if serves_with(alloc, &mut listener, requests, &mut index) {
+        count(alloc, &index)
+    } else {
+        0
     }
 }
 
@@ -64,8 +62,7 @@ where
 }
 
 #[test]
-fn a_server_in_a_thread(rt: HostRuntime) -> Result<(), Fail> {
+fn a_server_in_a_thread(rt: HostRuntime) {
     let wanted = Some(([Some(404), Some(409), Some(404)], 2));
     assert!(rt; asks_beside(rt, rt.alloc()) == wanted);
-    Ok(())
 }

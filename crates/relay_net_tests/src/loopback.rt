@@ -1,21 +1,12 @@
 //! Sockets of the loopback.
 ghost use Rattle.std.specs.Prelude.{◌≡◌, []};
 
-use crate::asking::{address_of, sends, status_of, wired};
-use relay_index::{Index, Script};
+use crate::asking::{address_of, sends, serves_with, status_of, wired};
+use relay_index::Index;
 use relay_net::{TcpDial, TcpListen};
-use relay_stub::stub_serve;
 use relay_wires::{Dial, Wire};
 use std::alloc::Global;
 use std::net::Net;
-use std::test::Fail;
-
-// Serves one connection with a fresh index. Whether it was served.
-fn serves<R: Net>(alloc: Global, listener: &mut TcpListen<R>) -> bool {
-    let mut index = Index::new(alloc);
-    let mut script = Script::new(alloc);
-    stub_serve(alloc, listener, 1, &mut index, &mut script).is_ok()
-}
 
 // The status of a delete over a wire to a listener. The request is small enough to wait in the socket until
 // the connection is taken.
@@ -26,7 +17,7 @@ fn exchange<R: Net, W: Wire>(
 ) -> Option<u16>
     requires { W.out wire.old ≡ [] }
 {
-    if !sends(alloc, wire, 2) || !serves(alloc, listener) {
+    if !sends(alloc, wire, 2) || !serves_with(alloc, listener, 1, &mut Index::new(alloc)) {
         return None;
     }
     status_of(wire.receive(1))
@@ -41,9 +32,8 @@ fn asks<R: Net + Copy>(alloc: Global, net: R) -> Option<u16> {
 }
 
 #[test]
-fn a_request_over_a_socket(rt: HostRuntime) -> Result<(), Fail> {
+fn a_request_over_a_socket(rt: HostRuntime) {
     assert!(rt; asks(rt.alloc(), rt) == Some(404));
-    Ok(())
 }
 
 // Whether a connection to this address is made.
@@ -78,23 +68,25 @@ fn with_and_without<R: Net>(alloc: Global, net: &R) -> bool {
 }
 
 #[test]
-fn with_and_without_a_listener(rt: HostRuntime) -> Result<(), Fail> {
+fn with_and_without_a_listener(rt: HostRuntime) {
     assert!(rt; with_and_without(rt.alloc(), &rt));
-    Ok(())
 }
 
+const NO_ADDRESSES: &[&str] = &[
+    "",
+    ":",
+    "127.0.0.1",
+    "127.0.0.1:",
+    "127.0.0.1:65536",
+    "no host:1",
+];
+
 #[test]
-fn no_addresses(rt: HostRuntime) -> Result<(), Fail> {
-    for address in [
-        "",
-        ":",
-        "127.0.0.1",
-        "127.0.0.1:",
-        "127.0.0.1:65536",
-        "no host:1",
-    ] {
-        assert!(rt; dials(rt.alloc(), &rt, address) == Some(false), "{address}");
-        assert!(rt; TcpListen::bind(&rt, address).is_err(), "{address}");
+fn no_addresses(rt: HostRuntime) {
+    for address in NO_ADDRESSES {
+        assert!(rt;
+            around(rt.alloc(), &rt, *address) == (Some(false), false),
+            "{address}"
+        );
     }
-    Ok(())
 }
