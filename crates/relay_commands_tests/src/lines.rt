@@ -2,8 +2,7 @@
 use relay_action::{ActionFault, MemStream};
 use relay_commands::lines::{LinesFault, lines};
 use relay_ndjson::{InputFault, LineKind};
-use std::alloc::Global;
-use std::test::Fail;
+use std::alloc::{AllocError, Global};
 
 const TWO: &[u8] =
     b"{\"index\":{\"_index\":\"books\",\"_id\":\"1\"}}\n{\"title\": \"Emma\"}\n{\"delete\":{\"_id\":\"2\",\"_index\":\"books\"}}\n";
@@ -15,94 +14,144 @@ fn at(line: u64, kind: LineKind) -> Result<u64, LinesFault> {
     Err(LinesFault::Input(InputFault { line, kind }))
 }
 
+// The streams of one call: an input to read, and room for what is written.
+#[derive(Drop)]
+struct Streams {
+    reader: MemStream,
+    writer: MemStream,
+}
+
+impl Streams {
+    // What `lines` answers from a first version on.
+    fn run(
+        &mut self,
+        alloc: Global,
+        default_index: Option<&str>,
+        first: u64,
+    ) -> Result<u64, LinesFault> {
+        let first = first.min(9_000_000_000_000_000_000);
+        let Streams { reader, writer } = self;
+        lines(alloc, reader, writer, default_index, first)
+    }
+
+    // How long what was written is, where it is a front of TWO_LINES.
+    fn length(&self) -> Option<u64> {
+        let written = self.writer.written();
+        TWO_LINES
+            .starts_with(written)
+            .then_some(written.len() as u64)
+    }
+}
+
+// The streams of an input in pieces of so many bytes, and of so much room, which is written in pieces too,
+// where a call of the reader and one of the writer fail (0: none).
+fn streams_of(
+    alloc: Global,
+    input: (&[u8], u64, u64),
+    output: (usize, u64, u64),
+) -> Result<Streams, AllocError> {
+    let (text, piece, read_fails) = input;
+    let (room, write_piece, write_fails) = output;
+    let text = text.to_vec(alloc)?;
+    Ok(Streams {
+        reader: MemStream::new(alloc, text, 0, piece.max(1) as usize, read_fails)?,
+        writer: MemStream::new(
+            alloc,
+            Vec::new(alloc),
+            room,
+            write_piece.max(1) as usize,
+            write_fails,
+        )?,
+    })
+}
+
 // Whether `lines` answers so for an input in pieces, and writes this.
 fn gives(
     alloc: Global,
     input: &[u8],
-    settings: (Option<&str>, u64, usize),
+    settings: (Option<&str>, u64, u64),
     answer: Result<u64, LinesFault>,
     written: &[u8],
-) -> Result<bool, Fail> {
+) -> Result<bool, AllocError> {
     let (default_index, first, piece) = settings;
-    let mut reader = MemStream::new(alloc, input.to_vec(alloc)?, 0, piece.max(1), 0)?;
-    let mut writer = MemStream::new(alloc, Vec::new(alloc), 1_000_000, piece.max(1), 0)?;
-    let first = first.min(9_000_000_000_000_000_000);
-    let found = lines(alloc, &mut reader, &mut writer, default_index, first);
-    Ok(found == answer && writer.written() == written)
+    let mut streams = streams_of(alloc, (input, piece, 0), (1_000_000, piece, 0))?;
+    let found = streams.run(alloc, default_index, first);
+    Ok(found == answer && streams.writer.written() == written)
 }
 
 #[test]
-fn two_operations(rt: HostRuntime) -> Result<(), Fail> {
+fn two_operations(rt: HostRuntime) {
     assert!(rt; TWO_LINES.len() == 173);
-    for piece in [1usize, 7, 100_000] {
-        assert!(rt; gives(rt.alloc(), TWO, (None, 1, piece), Ok(2), TWO_LINES)?);
+    for piece in [1u64, 7, 100_000] {
+        assert!(rt; gives(rt.alloc(), TWO, (None, 1, piece), Ok(2), TWO_LINES) == Ok(true));
     }
-    Ok(())
+}
+
+const WORKED: &[(&[u8], Option<&str>, Result<u64, LinesFault>, &[u8])] = &[
+    (b"", None, Ok(0), b""),
+    (
+        b"{\"index\":{\"_index\":\"books\",\"_id\":\"1\"}}\n{\"a\":1}",
+        None,
+        Ok(1),
+        b"{\"index\":{\"_id\":\"1\",\"_index\":\"books\",\"version\":1,\"version_type\":\"external\"}}\n{\"a\":1}\n",
+    ),
+    (
+        b"{\"delete\":{\"_id\":7}}\n{\"delete\":{\"_id\":\"a\\\"\\u0001\\n\"}}\n",
+        Some("b"),
+        Ok(2),
+        b"{\"delete\":{\"_id\":\"7\",\"_index\":\"b\",\"version\":1,\"version_type\":\"external\"}}\n{\"delete\":{\"_id\":\"a\\\"\\u0001\\n\",\"_index\":\"b\",\"version\":2,\"version_type\":\"external\"}}\n",
+    ),
+    (
+        b"{\"delete\":{\"_id\":\"1\"}}\n",
+        None,
+        Err(LinesFault::Input(InputFault {
+            line: 1,
+            kind: LineKind::MissingIndex,
+        })),
+        b"",
+    ),
+    (
+        b"{\"delete\":{\"_id\":\"1\"}}\n",
+        Some(""),
+        Err(LinesFault::Input(InputFault {
+            line: 1,
+            kind: LineKind::Action(ActionFault::IndexEmpty),
+        })),
+        b"",
+    ),
+    (
+        b"{\"delete\":{\"_id\":\"1\",\"_index\":\"b\"}}\n{",
+        None,
+        Err(LinesFault::Input(InputFault {
+            line: 2,
+            kind: LineKind::NotJson,
+        })),
+        b"{\"delete\":{\"_id\":\"1\",\"_index\":\"b\",\"version\":1,\"version_type\":\"external\"}}\n",
+    ),
+];
+
+#[test]
+fn worked_rows(rt: HostRuntime) {
+    for (input, index, answer, written) in WORKED {
+        let found = gives(rt.alloc(), *input, (*index, 1, 5), *answer, *written);
+        assert!(rt; found == Ok(true));
+    }
 }
 
 #[test]
-fn worked_rows(rt: HostRuntime) -> Result<(), Fail> {
-    let rows: [(&[u8], Option<&str>, Result<u64, LinesFault>, &[u8]); 6] = [
-        (b"", None, Ok(0), b""),
-        (
-            b"{\"index\":{\"_index\":\"books\",\"_id\":\"1\"}}\n{\"a\":1}",
-            None,
-            Ok(1),
-            b"{\"index\":{\"_id\":\"1\",\"_index\":\"books\",\"version\":1,\"version_type\":\"external\"}}\n{\"a\":1}\n",
-        ),
-        (
-            b"{\"delete\":{\"_id\":7}}\n{\"delete\":{\"_id\":\"a\\\"\\u0001\\n\"}}\n",
-            Some("b"),
-            Ok(2),
-            b"{\"delete\":{\"_id\":\"7\",\"_index\":\"b\",\"version\":1,\"version_type\":\"external\"}}\n{\"delete\":{\"_id\":\"a\\\"\\u0001\\n\",\"_index\":\"b\",\"version\":2,\"version_type\":\"external\"}}\n",
-        ),
-        (
-            b"{\"delete\":{\"_id\":\"1\"}}\n",
-            None,
-            at(1, LineKind::MissingIndex),
-            b"",
-        ),
-        (
-            b"{\"delete\":{\"_id\":\"1\"}}\n",
-            Some(""),
-            at(1, LineKind::Action(ActionFault::IndexEmpty)),
-            b"",
-        ),
-        (
-            b"{\"delete\":{\"_id\":\"1\",\"_index\":\"b\"}}\n{",
-            None,
-            at(2, LineKind::NotJson),
-            b"{\"delete\":{\"_id\":\"1\",\"_index\":\"b\",\"version\":1,\"version_type\":\"external\"}}\n",
-        ),
-    ];
-    for (input, index, answer, written) in rows {
-        assert!(rt; gives(rt.alloc(), input, (index, 1, 5), answer, written)?);
-    }
-    Ok(())
-}
-
-#[test]
-fn versions_end(rt: HostRuntime) -> Result<(), Fail> {
+fn versions_end(rt: HostRuntime) {
+    let last = 9_000_000_000_000_000_000;
     let input =
         b"{\"delete\":{\"_id\":\"1\",\"_index\":\"b\"}}\n{\"delete\":{\"_id\":\"2\",\"_index\":\"b\"}}\n";
     let written =
         b"{\"delete\":{\"_id\":\"1\",\"_index\":\"b\",\"version\":9000000000000000000,\"version_type\":\"external\"}}\n";
-    let answer = Err(LinesFault::VersionsSpent { line: 2 });
-    assert!(rt;
-        gives(
-            rt.alloc(),
-            input,
-            (None, 9_000_000_000_000_000_000, 9),
-            answer,
-            written
-        )?
-    );
-    Ok(())
+    let spent = Err(LinesFault::VersionsSpent { line: 2 });
+    assert!(rt; gives(rt.alloc(), input, (None, last, 9), spent, written) == Ok(true));
 }
 
 // The line that is being read once so many bytes of TWO were, and how long the text of the operations is that
 // are whole by then.
-fn reached(read: u64) -> (u64, usize) {
+fn reached(read: u64) -> (u64, u64) {
     match read {
         0..39 => (1, 0),
         39..57 => (2, 0),
@@ -111,14 +160,23 @@ fn reached(read: u64) -> (u64, usize) {
     }
 }
 
+// What `lines` answers for TWO, and how long what it writes is, where that is a front of TWO_LINES. Both are
+// in pieces of so many bytes, and a call of each fails (0: none).
+fn of_two(
+    alloc: Global,
+    reads: (u64, u64),
+    writes: (u64, u64),
+) -> Result<(Result<u64, LinesFault>, Option<u64>), AllocError> {
+    let mut streams = streams_of(alloc, (TWO, reads.0, reads.1), (200, writes.0, writes.1))?;
+    let answer = streams.run(alloc, None, 1);
+    Ok((answer, streams.length()))
+}
+
 // Whether `lines` answers right for TWO in pieces, where the reader's call of this number fails: with the line
 // that was being read, once the text of the operations that were whole by then went out; or, where the call is
 // not made, with both.
-fn is_right_at_read(alloc: Global, piece: u64, fail_at: u64) -> Result<bool, Fail> {
+fn is_right_at_read(alloc: Global, piece: u64, fail_at: u64) -> bool {
     let piece = piece.max(1);
-    let mut reader = MemStream::new(alloc, TWO.to_vec(alloc)?, 0, piece as usize, fail_at)?;
-    let mut writer = MemStream::new(alloc, Vec::new(alloc), 200, 50, 0)?;
-    let found = lines(alloc, &mut reader, &mut writer, None, 1);
     let reads = 97u64.div_ceil(piece);
     let (line, length) = reached(piece.saturating_mul(fail_at.saturating_sub(1)));
     let answer = if fail_at > reads + 1 {
@@ -126,21 +184,19 @@ fn is_right_at_read(alloc: Global, piece: u64, fail_at: u64) -> Result<bool, Fai
     } else {
         at(line, LineKind::Read)
     };
-    let written = writer.written();
-    Ok(found == answer && written.len() == length && TWO_LINES.starts_with(written))
+    of_two(alloc, (piece, fail_at), (50, 0)) == Ok((answer, Some(length)))
 }
 
 // Each call of the reader fails in turn, also in one-byte pieces.
 #[test]
-fn each_read_fails_in_turn(rt: HostRuntime) -> Result<(), Fail> {
+fn each_read_fails_in_turn(rt: HostRuntime) {
     assert!(rt; TWO.len() == 97);
     for (piece, fail_at) in (1..120u64).flat_map(|fail_at| [(1u64, fail_at), (9, fail_at)]) {
         assert!(rt;
-            is_right_at_read(rt.alloc(), piece, fail_at)?,
+            is_right_at_read(rt.alloc(), piece, fail_at),
             "{piece} {fail_at}"
         );
     }
-    Ok(())
 }
 
 // How many bytes go out in so many calls of a writer in pieces: the first text alone, since a delete at the end
@@ -156,29 +212,24 @@ fn sent_in(calls: u64, piece: u64) -> u64 {
 
 // Whether `lines` answers right for TWO, where the writer's call of this number fails: exactly the bytes before
 // it went out; or, where the call is not made, all.
-fn is_right_at_write(alloc: Global, piece: u64, fail_at: u64) -> Result<bool, Fail> {
+fn is_right_at_write(alloc: Global, piece: u64, fail_at: u64) -> bool {
     let piece = piece.max(1);
-    let mut reader = MemStream::new(alloc, TWO.to_vec(alloc)?, 0, 1000, 0)?;
-    let mut writer = MemStream::new(alloc, Vec::new(alloc), 200, piece as usize, fail_at)?;
-    let found = lines(alloc, &mut reader, &mut writer, None, 1);
     let sent = sent_in(fail_at.saturating_sub(1), piece);
     let answer = if sent < 173 {
         Err(LinesFault::Write { sent })
     } else {
         Ok(2)
     };
-    let written = writer.written();
-    Ok(found == answer && written.len() as u64 == sent && TWO_LINES.starts_with(written))
+    of_two(alloc, (1000, 0), (piece, fail_at)) == Ok((answer, Some(sent)))
 }
 
 // Each call of the writer fails in turn, also in one-byte pieces.
 #[test]
-fn each_write_fails_in_turn(rt: HostRuntime) -> Result<(), Fail> {
+fn each_write_fails_in_turn(rt: HostRuntime) {
     for (piece, fail_at) in (1..180u64).flat_map(|fail_at| [(1u64, fail_at), (20, fail_at)]) {
         assert!(rt;
-            is_right_at_write(rt.alloc(), piece, fail_at)?,
+            is_right_at_write(rt.alloc(), piece, fail_at),
             "{piece} {fail_at}"
         );
     }
-    Ok(())
 }

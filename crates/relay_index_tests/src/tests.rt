@@ -1,15 +1,18 @@
 //! Runs of writes, look-ups, and bodies of bulk requests.
 ghost use Rattle.relay_index.specs.Choices.{MayChoose};
 
-use relay_action::{Action, DocKey, Write};
+use relay_action::{Action, ActionFault, DocKey, Write};
 use relay_index::{Choice, Index, Script, may_refuse};
-use relay_results::{DoneResult, read_reply, write_reply};
+use relay_results::{DoneResult, ItemDone, Outcome, read_reply, write_reply};
 use std::alloc::{AllocError, Global};
-use std::process::Abort;
 use std::test::Fail;
 
-// A write of a document of index `b`; `None` for its source is a delete.
-fn write_of(alloc: Global, id: &str, version: u64, source: Option<&str>) -> Result<Write, Fail> {
+/// The id, the version and the source of a write of a document of index `b`; `None` for its source is a
+/// delete.
+type Row<'r> = (&'r str, u64, Option<&'r str>);
+
+fn write_of(alloc: Global, row: Row) -> Result<Write, ActionFault> {
+    let (id, version, source) = row;
     let action = match source {
         Some(text) => Action::index(alloc, text)?,
         None => Action::delete(),
@@ -21,46 +24,50 @@ fn write_of(alloc: Global, id: &str, version: u64, source: Option<&str>) -> Resu
     })
 }
 
-// Runs a write, and compares its status, result, stored version and sequence number.
-fn runs(
-    rt: &impl Abort,
-    alloc: Global,
-    index: &mut Index,
-    write: (&str, u64, Option<&str>),
-    choice: Choice,
-    wanted: (u16, DoneResult, u64, u64),
-) -> Result<(), Fail>
+/// The status, the result, the stored version and the sequence number of a write that was run.
+type Said = (u16, DoneResult, u64, u64);
+
+// What an index says of a write, where it says so of its document.
+fn said_of(index: &mut Index, write: &Write, choice: Choice) -> Option<Said>
     requires { MayChoose choice }
 {
-    let (id, version, source) = write;
-    let done = index.run(&write_of(alloc, id, version, source)?, choice)?;
-    assert_eq!(rt; done.key.id(), id);
-    assert_eq!(rt; (done.status, done.result, done.version, done.seq), wanted);
-    Ok(())
+    match index.run(write, choice) {
+        Ok(done) if done.key == write.key => {
+            Some((done.status, done.result, done.version, done.seq))
+        }
+        _ => None,
+    }
 }
+
+// What an index says of the write of a row.
+fn run(alloc: Global, index: &mut Index, row: Row, choice: Choice) -> Option<Said>
+    requires { MayChoose choice }
+{
+    match write_of(alloc, row) {
+        Ok(write) => said_of(index, &write, choice),
+        Err(_) => None,
+    }
+}
+
+const RUNS: &[(Row<'static>, Said)] = &[
+    (("2", 5, None), (404, DoneResult::NotFound, 5, 0)),
+    (("2", 4, Some("{}")), (409, DoneResult::Conflict, 0, 0)),
+    (("2", 5, None), (409, DoneResult::Conflict, 0, 0)),
+    (("2", 6, Some("{}")), (201, DoneResult::Created, 6, 1)),
+    (("2", 7, Some("[]")), (200, DoneResult::Updated, 7, 2)),
+    (("1", 0, Some("{}")), (201, DoneResult::Created, 0, 3)),
+    (("2", 9, None), (200, DoneResult::Deleted, 9, 4)),
+    (("2", 8, Some("{}")), (409, DoneResult::Conflict, 0, 0)),
+    (("2", 10, None), (404, DoneResult::NotFound, 10, 5)),
+];
 
 // The table of what becomes of a write, one line after another.
 #[test]
-fn writes_that_run(rt: HostRuntime) -> Result<(), Fail> {
+fn writes_that_run(rt: HostRuntime) {
     let mut index = Index::new(rt.alloc());
-    let rows = [
-        (
-            ("2", 5u64, None),
-            (404u16, DoneResult::NotFound, 5u64, 0u64),
-        ),
-        (("2", 4, Some("{}")), (409, DoneResult::Conflict, 0, 0)),
-        (("2", 5, None), (409, DoneResult::Conflict, 0, 0)),
-        (("2", 6, Some("{}")), (201, DoneResult::Created, 6, 1)),
-        (("2", 7, Some("[]")), (200, DoneResult::Updated, 7, 2)),
-        (("1", 0, Some("{}")), (201, DoneResult::Created, 0, 3)),
-        (("2", 9, None), (200, DoneResult::Deleted, 9, 4)),
-        (("2", 8, Some("{}")), (409, DoneResult::Conflict, 0, 0)),
-        (("2", 10, None), (404, DoneResult::NotFound, 10, 5)),
-    ];
-    for (write, wanted) in rows {
-        runs(&rt, rt.alloc(), &mut index, write, Choice::Run, wanted)?;
+    for (row, said) in RUNS {
+        assert!(rt; run(rt.alloc(), &mut index, *row, Choice::Run) == Some(*said));
     }
-    Ok(())
 }
 
 // The statuses at the ends of what may be a refusal, and the two within that are none.
@@ -82,252 +89,286 @@ fn statuses_of_refusals(rt: HostRuntime) {
 
 // A refused write changes nothing: its version runs afterwards.
 #[test]
-fn writes_that_are_refused(rt: HostRuntime) -> Result<(), Fail> {
+fn writes_that_are_refused(rt: HostRuntime) {
     let mut index = Index::new(rt.alloc());
-    let write = ("2", 7u64, Some("{}"));
-    let refused = (429u16, DoneResult::Refused, 0u64, 0u64);
-    let created = (201, DoneResult::Created, 7, 0);
-    runs(
-        &rt,
-        rt.alloc(),
-        &mut index,
-        write,
-        Choice::Refuse(429),
-        refused,
-    )?;
-    runs(&rt, rt.alloc(), &mut index, write, Choice::Run, created)
+    let row = ("2", 7, Some("{}"));
+    let refused = run(rt.alloc(), &mut index, row, Choice::Refuse(429));
+    let created = run(rt.alloc(), &mut index, row, Choice::Run);
+    assert!(rt;
+        refused == Some((429, DoneResult::Refused, 0, 0))
+            && created == Some((201, DoneResult::Created, 7, 0))
+    );
 }
 
-// Compares the version and the source of a document, and how many writes it applied.
-fn looks_up(
-    rt: &impl Abort,
-    alloc: Global,
-    index: &Index,
-    id: &str,
-    wanted: (Option<u64>, Option<&str>, usize),
-) -> Result<(), Fail> {
-    let key = DocKey::new(alloc, "b", id)?;
-    let (version, source, count) = wanted;
-    assert_eq!(rt; index.version(&key), version);
-    assert_eq!(rt; index.source(&key), source);
-    assert_eq!(rt; index.applied(&key).len(), count);
-    Ok(())
+// Whether an index runs the writes of these rows.
+fn runs_all(alloc: Global, index: &mut Index, rows: &[Row]) -> bool {
+    let mut good = true;
+    for row in rows {
+        good = good && run(alloc, index, *row, Choice::Run).is_some();
+    }
+    good
 }
+
+// The version and the source of a document, and how many writes it applied.
+fn look_up<'i>(
+    alloc: Global,
+    index: &'i Index,
+    id: &str,
+) -> Result<(Option<u64>, Option<&'i str>, usize), ActionFault> {
+    let key = DocKey::new(alloc, "b", id)?;
+    Ok((
+        index.version(&key),
+        index.source(&key),
+        index.applied(&key).len(),
+    ))
+}
+
+const WRITES: &[Row<'static>] = &[
+    ("1", 3, Some("{}")),
+    ("3", 9, Some("[1]")),
+    ("2", 4, Some("{}")),
+    ("2", 5, None),
+    ("1", 2, None),
+];
+
+const LOOK_UPS: &[(&str, (Option<u64>, Option<&str>, usize))] = &[
+    ("1", (Some(3), Some("{}"), 1)),
+    ("2", (Some(5), None, 2)),
+    ("3", (Some(9), Some("[1]"), 1)),
+    ("4", (None, None, 0)),
+];
 
 // A document that is live, one that was deleted, one that was replaced, and one that never was.
 #[test]
-fn look_ups(rt: HostRuntime) -> Result<(), Fail> {
-    let alloc = rt.alloc();
-    let mut index = Index::new(alloc);
-    assert_eq!(rt; index.highest(), None);
-    let writes = [
-        ("1", 3u64, Some("{}")),
-        ("3", 9, Some("[1]")),
-        ("2", 4, Some("{}")),
-        ("2", 5, None),
-        ("1", 2, None),
-    ];
-    for (id, version, source) in writes {
-        let _ = index.run(&write_of(alloc, id, version, source)?, Choice::Run)?;
+fn look_ups(rt: HostRuntime) {
+    let mut index = Index::new(rt.alloc());
+    let before = index.highest();
+    let ran = runs_all(rt.alloc(), &mut index, WRITES);
+    assert!(rt; ran && before.is_none() && index.highest() == Some(9));
+    for (id, wanted) in LOOK_UPS {
+        assert!(rt; look_up(rt.alloc(), &index, *id) == Ok(*wanted));
     }
-    assert_eq!(rt; index.highest(), Some(9));
-    let rows = [
-        ("1", (Some(3u64), Some("{}"), 1usize)),
-        ("2", (Some(5), None, 2)),
-        ("3", (Some(9), Some("[1]"), 1)),
-        ("4", (None, None, 0)),
-    ];
-    for (id, wanted) in rows {
-        looks_up(&rt, alloc, &index, id, wanted)?;
-    }
-    Ok(())
 }
 
-// Deletes a document twice with one version.
-fn deletes_twice(alloc: Global, index: &mut Index, name: &str, id: &str) -> Result<(), Fail> {
+// Whether an index runs the delete of a document twice with one version.
+fn deletes_twice(alloc: Global, index: &mut Index, name: &str, id: &str) -> bool {
+    let Ok(key) = DocKey::new(alloc, name, id) else {
+        return false;
+    };
     let write = Write {
-        key: DocKey::new(alloc, name, id)?,
+        key,
         version: 1,
         action: Action::delete(),
     };
-    let _ = index.run(&write, Choice::Run)?;
-    let _ = index.run(&write, Choice::Run)?;
-    Ok(())
+    said_of(index, &write, Choice::Run).is_some() && said_of(index, &write, Choice::Run).is_some()
 }
+
+// Whether documents have these index names and ids.
+fn are(keys: &[DocKey], wanted: &[(&str, &str)]) -> bool {
+    let mut good = keys.len() == wanted.len();
+    for (key, (name, id)) in keys.iter().zip(wanted) {
+        good = good && key.index() == *name && key.id() == *id;
+    }
+    good
+}
+
+// Whether the documents of an index are these, in this order.
+fn has_keys(alloc: Global, index: &Index, wanted: &[(&str, &str)]) -> Result<bool, AllocError> {
+    let keys = index.keys(alloc)?;
+    Ok(are(&keys, wanted))
+}
+
+const DELETES: &[(&str, &str)] = &[
+    ("ba", "1"),
+    ("b", "z"),
+    ("b", "10"),
+    ("\u{e9}", "1"),
+    ("b", "9"),
+    ("B", "1"),
+];
+
+const IN_ORDER: &[(&str, &str)] = &[
+    ("B", "1"),
+    ("b", "10"),
+    ("b", "9"),
+    ("b", "z"),
+    ("ba", "1"),
+    ("\u{e9}", "1"),
+];
 
 // Documents stand in byte order, a name before those that it begins, and each once.
 #[test]
-fn documents_in_order(rt: HostRuntime) -> Result<(), Fail> {
-    let alloc = rt.alloc();
-    let mut index = Index::new(alloc);
-    assert!(rt; index.keys(alloc)?.is_empty());
-    for (name, id) in [
-        ("ba", "1"),
-        ("b", "z"),
-        ("b", "10"),
-        ("\u{e9}", "1"),
-        ("b", "9"),
-        ("B", "1"),
-    ] {
-        deletes_twice(alloc, &mut index, name, id)?;
+fn documents_in_order(rt: HostRuntime) {
+    let mut index = Index::new(rt.alloc());
+    assert!(rt; has_keys(rt.alloc(), &index, &[]) == Ok(true));
+    for (name, id) in DELETES {
+        assert!(rt; deletes_twice(rt.alloc(), &mut index, *name, *id));
     }
-    let keys = index.keys(alloc)?;
-    let wanted = [
-        ("B", "1"),
-        ("b", "10"),
-        ("b", "9"),
-        ("b", "z"),
-        ("ba", "1"),
-        ("\u{e9}", "1"),
-    ];
-    assert_eq!(rt; keys.len(), wanted.len());
-    for (key, pair) in keys.iter().zip(wanted) {
-        assert_eq!(rt; (key.index(), key.id()), pair);
+    assert!(rt; has_keys(rt.alloc(), &index, IN_ORDER) == Ok(true));
+}
+
+// The item of a write of the document `2`.
+fn item_of(
+    alloc: Global,
+    index: &mut Index,
+    version: u64,
+    source: Option<&str>,
+) -> Result<ItemDone, Fail> {
+    let write = write_of(alloc, ("2", version, source))?;
+    Ok(index.run(&write, Choice::Run)?)
+}
+
+// The items of a write, of a delete with its version, and of a delete with the next one.
+fn items_of(alloc: Global, index: &mut Index) -> Result<Vec<ItemDone>, Fail> {
+    let mut items = Vec::new(alloc);
+    items.push(item_of(alloc, index, 5, Some("{}"))?)?;
+    items.push(item_of(alloc, index, 5, None)?)?;
+    items.push(item_of(alloc, index, 6, None)?)?;
+    Ok(items)
+}
+
+// What is read from the reply to items.
+fn read_of_reply(alloc: Global, items: &[ItemDone]) -> Result<Vec<Outcome>, Fail> {
+    let text = write_reply(alloc, 0, items)?;
+    Ok(read_reply(alloc, text.as_str().as_bytes())?)
+}
+
+// Whether what was read is the outcome of an item.
+fn is_outcome(alloc: Global, item: &ItemDone, read: &Outcome) -> Result<bool, AllocError> {
+    let told = item.outcome(alloc)?;
+    let named = read.kind == told.kind && read.id == told.id;
+    Ok(named && read.status == told.status && read.error == told.error)
+}
+
+// Whether what was read is the outcome of each item.
+fn are_outcomes(alloc: Global, items: &[ItemDone], read: &[Outcome]) -> Result<bool, AllocError> {
+    let mut good = items.len() == read.len();
+    for (item, outcome) in items.iter().zip(read) {
+        good = good && is_outcome(alloc, item, outcome)?;
     }
-    Ok(())
+    Ok(good)
 }
 
 // What is read from the reply to items is the outcome of each.
 #[test]
 fn outcomes(rt: HostRuntime) -> Result<(), Fail> {
-    let alloc = rt.alloc();
-    let mut index = Index::new(alloc);
-    let mut items = Vec::new(alloc);
-    for (version, source) in [(5u64, Some("{}")), (5, None), (6, None)] {
-        items.push(index.run(&write_of(alloc, "2", version, source)?, Choice::Run)?)?;
-    }
-    let text = write_reply(alloc, 0, items.as_slice())?;
-    let outcomes = read_reply(alloc, text.as_str().as_bytes())?;
-    assert_eq!(rt; outcomes.len(), items.len());
-    for (item, read) in items.iter().zip(outcomes.as_slice()) {
-        let told = item.outcome(alloc)?;
-        assert_eq!(rt; (read.kind, read.status), (told.kind, told.status));
-        assert!(rt; read.id == told.id);
-        assert!(rt; read.error == told.error);
-    }
+    let items = items_of(rt.alloc(), &mut Index::new(rt.alloc()))?;
+    let read = read_of_reply(rt.alloc(), &items)?;
+    assert!(rt; items.len() == 3 && are_outcomes(rt.alloc(), &items, &read) == Ok(true));
     Ok(())
 }
 
-// A text in which each `;` stands for a line end.
-fn lines_of(alloc: Global, text: &str) -> Result<Vec<u8>, AllocError> {
-    let mut bytes = Vec::new(alloc);
-    for byte in text.as_bytes() {
-        bytes.push(if *byte == b';' { b'\n' } else { *byte })?;
-    }
-    Ok(bytes)
-}
-
-// Serves a body in which each `;` stands for a line end, and compares status and text.
+// Whether an index under a script answers a body with this status and this text.
 fn serves(
-    rt: &impl Abort,
     alloc: Global,
     index: &mut Index,
     script: &mut Script,
     body: &str,
-    wanted: (u16, &str),
-) -> Result<(), Fail> {
-    let bytes = lines_of(alloc, body)?;
-    let (status, text) = index.serve_body(alloc, bytes.as_slice(), script)?;
-    assert_eq!(rt; status, wanted.0);
-    assert_eq!(rt; text.as_str(), wanted.1);
-    Ok(())
+    status: u16,
+    text: &str,
+) -> bool {
+    match index.serve_body(alloc, body.as_bytes(), script) {
+        Ok(answer) => answer.0 == status && answer.1.as_str() == text,
+        Err(_) => false,
+    }
 }
 
-// Serves it to an index that has applied nothing, under a script that refuses nothing.
-fn serves_first(rt: &impl Abort, alloc: Global, body: &str, text: &str) -> Result<(), Fail> {
+// Whether an index that has applied nothing answers a body with this text, under a script that refuses
+// nothing.
+fn serves_first(alloc: Global, body: &str, text: &str) -> bool {
     let mut index = Index::new(alloc);
     let mut script = Script::new(alloc);
-    serves(rt, alloc, &mut index, &mut script, body, (200, text))
+    serves(alloc, &mut index, &mut script, body, 200, text)
 }
+
+const BODIES: &[(&str, &str)] = &[
+    ("", "{\"errors\":false,\"items\":[],\"took\":0}"),
+    (
+        "{\"delete\":{\"_id\":\"2\",\"_index\":\"b\",\"version\":5,\"version_type\":\"external\"}}\n",
+        "{\"errors\":false,\"items\":[{\"delete\":{\"_id\":\"2\",\"_index\":\"b\",\"_seq_no\":0,\"_version\":5,\"result\":\"not_found\",\"status\":404}}],\"took\":0}",
+    ),
+    (
+        "{\"delete\":{\"_id\":\"2\",\"_index\":\"b\",\"version\":5,\"version_type\":\"external\"}}\n\
+        {\"index\":{\"_id\":\"2\",\"_index\":\"b\",\"version\":4,\"version_type\":\"external\"}}\n{\"a\":1}\n\
+        {\"index\":{\"_id\":\"2\",\"_index\":\"b\",\"version\":6,\"version_type\":\"external\"}}\n{\"a\":2}\n",
+        "{\"errors\":true,\"items\":[\
+        {\"delete\":{\"_id\":\"2\",\"_index\":\"b\",\"_seq_no\":0,\"_version\":5,\"result\":\"not_found\",\"status\":404}},\
+        {\"index\":{\"_id\":\"2\",\"_index\":\"b\",\"error\":{\"type\":\"version_conflict_engine_exception\"},\"status\":409}},\
+        {\"index\":{\"_id\":\"2\",\"_index\":\"b\",\"_seq_no\":1,\"_version\":6,\"result\":\"created\",\"status\":201}}],\"took\":0}",
+    ),
+];
 
 // No bytes; one delete; and behind it index actions of the same document with a lower and a higher
 // version.
 #[test]
-fn bodies(rt: HostRuntime) -> Result<(), Fail> {
-    let rows = [
-        ("", "{\"errors\":false,\"items\":[],\"took\":0}"),
-        (
-            "{\"delete\":{\"_id\":\"2\",\"_index\":\"b\",\"version\":5,\"version_type\":\"external\"}};",
-            "{\"errors\":false,\"items\":[{\"delete\":{\"_id\":\"2\",\"_index\":\"b\",\"_seq_no\":0,\"_version\":5,\"result\":\"not_found\",\"status\":404}}],\"took\":0}",
-        ),
-        (
-            "{\"delete\":{\"_id\":\"2\",\"_index\":\"b\",\"version\":5,\"version_type\":\"external\"}};\
-            {\"index\":{\"_id\":\"2\",\"_index\":\"b\",\"version\":4,\"version_type\":\"external\"}};{\"a\":1};\
-            {\"index\":{\"_id\":\"2\",\"_index\":\"b\",\"version\":6,\"version_type\":\"external\"}};{\"a\":2};",
-            "{\"errors\":true,\"items\":[\
-            {\"delete\":{\"_id\":\"2\",\"_index\":\"b\",\"_seq_no\":0,\"_version\":5,\"result\":\"not_found\",\"status\":404}},\
-            {\"index\":{\"_id\":\"2\",\"_index\":\"b\",\"error\":{\"type\":\"version_conflict_engine_exception\"},\"status\":409}},\
-            {\"index\":{\"_id\":\"2\",\"_index\":\"b\",\"_seq_no\":1,\"_version\":6,\"result\":\"created\",\"status\":201}}],\"took\":0}",
-        ),
-    ];
-    for (body, text) in rows {
-        serves_first(&rt, rt.alloc(), body, text)?;
+fn bodies(rt: HostRuntime) {
+    for (body, text) in BODIES {
+        assert!(rt; serves_first(rt.alloc(), *body, *text));
     }
-    Ok(())
 }
+
+// Whether an index that has applied nothing answers these bodies so, one after another, under a script; and
+// the highest version afterwards.
+fn serves_all(
+    alloc: Global,
+    script: &mut Script,
+    rows: &[(&str, u16, &str)],
+) -> (bool, Option<u64>) {
+    let mut index = Index::new(alloc);
+    let mut good = true;
+    for (body, status, text) in rows {
+        good = good && serves(alloc, &mut index, script, *body, *status, *text);
+    }
+    (good, index.highest())
+}
+
+const SCRIPTED: &[(&str, u16, &str)] = &[
+    (
+        "{\"delete\":{\"_id\":\"1\",\"_index\":\"b\",\"version\":1,\"version_type\":\"external\"}}\n\
+        {\"delete\":{\"_id\":\"2\",\"_index\":\"b\",\"version\":2,\"version_type\":\"external\"}}\n",
+        200,
+        "{\"errors\":true,\"items\":[\
+        {\"delete\":{\"_id\":\"1\",\"_index\":\"b\",\"_seq_no\":0,\"_version\":1,\"result\":\"not_found\",\"status\":404}},\
+        {\"delete\":{\"_id\":\"2\",\"_index\":\"b\",\"error\":{\"type\":\"scripted_refusal\"},\"status\":429}}],\"took\":0}",
+    ),
+    (
+        "{\"delete\":{\"_id\":\"2\",\"_index\":\"b\",\"version\":2,\"version_type\":\"external\"}}\n",
+        200,
+        "{\"errors\":false,\"items\":[{\"delete\":{\"_id\":\"2\",\"_index\":\"b\",\"_seq_no\":1,\"_version\":2,\"result\":\"not_found\",\"status\":404}}],\"took\":0}",
+    ),
+];
 
 // A script counts its places over all bodies, and the last status of a place holds.
 #[test]
-fn scripted(rt: HostRuntime) -> Result<(), Fail> {
-    let alloc = rt.alloc();
-    let mut index = Index::new(alloc);
-    let mut script = Script::new(alloc);
-    script.refuse(2, 503)?;
-    script.refuse(2, 429)?;
-
-    let rows = [
-        (
-            "{\"delete\":{\"_id\":\"1\",\"_index\":\"b\",\"version\":1,\"version_type\":\"external\"}};\
-            {\"delete\":{\"_id\":\"2\",\"_index\":\"b\",\"version\":2,\"version_type\":\"external\"}};",
-            "{\"errors\":true,\"items\":[\
-            {\"delete\":{\"_id\":\"1\",\"_index\":\"b\",\"_seq_no\":0,\"_version\":1,\"result\":\"not_found\",\"status\":404}},\
-            {\"delete\":{\"_id\":\"2\",\"_index\":\"b\",\"error\":{\"type\":\"scripted_refusal\"},\"status\":429}}],\"took\":0}",
-        ),
-        (
-            "{\"delete\":{\"_id\":\"2\",\"_index\":\"b\",\"version\":2,\"version_type\":\"external\"}};",
-            "{\"errors\":false,\"items\":[{\"delete\":{\"_id\":\"2\",\"_index\":\"b\",\"_seq_no\":1,\"_version\":2,\"result\":\"not_found\",\"status\":404}}],\"took\":0}",
-        ),
-    ];
-    for (body, text) in rows {
-        serves(&rt, alloc, &mut index, &mut script, body, (200, text))?;
-    }
-    Ok(())
+fn scripted(rt: HostRuntime) {
+    let mut script = Script::new(rt.alloc());
+    let known = script.refuse(2, 503).is_ok() && script.refuse(2, 429).is_ok();
+    assert!(rt; known && serves_all(rt.alloc(), &mut script, SCRIPTED) == (true, Some(2)));
 }
+
+const REJECTED: &[(&str, u16, &str)] = &[
+    (
+        "{\"delete\":{\"_id\":\"1\",\"_index\":\"b\",\"version\":1,\"version_type\":\"external\"}}\n\
+        {\"index\":{\"_id\":\"2\",\"_index\":\"b\",\"version\":2,\"version_type\":\"external\"}}\n{\"a\":1}",
+        400,
+        "{\"error\":{\"line\":3,\"type\":\"NoFinalNewline\"},\"status\":400}",
+    ),
+    (
+        "{\"delete\":{\"_id\":\"\",\"_index\":\"b\",\"version\":1,\"version_type\":\"external\"}}\n",
+        400,
+        "{\"error\":{\"line\":1,\"type\":\"IdEmpty\"},\"status\":400}",
+    ),
+    (
+        "{\"delete\":{\"_id\":\"1\",\"_index\":\"b\",\"version\":1,\"version_type\":\"external\"}}\n",
+        200,
+        "{\"errors\":true,\"items\":[{\"delete\":{\"_id\":\"1\",\"_index\":\"b\",\"error\":{\"type\":\"scripted_refusal\"},\"status\":503}}],\"took\":0}",
+    ),
+];
 
 // A body with a fault runs nothing, not even the writes before the fault, and counts no place.
 #[test]
-fn rejected_bodies(rt: HostRuntime) -> Result<(), Fail> {
-    let alloc = rt.alloc();
-    let mut index = Index::new(alloc);
-    let mut script = Script::new(alloc);
-    script.refuse(1, 503)?;
-    let rows = [
-        (
-            "{\"delete\":{\"_id\":\"1\",\"_index\":\"b\",\"version\":1,\"version_type\":\"external\"}};\
-            {\"index\":{\"_id\":\"2\",\"_index\":\"b\",\"version\":2,\"version_type\":\"external\"}};{\"a\":1}",
-            (
-                400u16,
-                "{\"error\":{\"line\":3,\"type\":\"NoFinalNewline\"},\"status\":400}",
-            ),
-        ),
-        (
-            "{\"delete\":{\"_id\":\"\",\"_index\":\"b\",\"version\":1,\"version_type\":\"external\"}};",
-            (
-                400,
-                "{\"error\":{\"line\":1,\"type\":\"IdEmpty\"},\"status\":400}",
-            ),
-        ),
-        (
-            "{\"delete\":{\"_id\":\"1\",\"_index\":\"b\",\"version\":1,\"version_type\":\"external\"}};",
-            (
-                200,
-                "{\"errors\":true,\"items\":[{\"delete\":{\"_id\":\"1\",\"_index\":\"b\",\"error\":{\"type\":\"scripted_refusal\"},\"status\":503}}],\"took\":0}",
-            ),
-        ),
-    ];
-    for (body, wanted) in rows {
-        serves(&rt, alloc, &mut index, &mut script, body, wanted)?;
-    }
-    assert_eq!(rt; index.highest(), None);
-    Ok(())
+fn rejected_bodies(rt: HostRuntime) {
+    let mut script = Script::new(rt.alloc());
+    let known = script.refuse(1, 503).is_ok();
+    assert!(rt; known && serves_all(rt.alloc(), &mut script, REJECTED) == (true, None));
 }

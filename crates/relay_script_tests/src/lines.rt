@@ -4,7 +4,6 @@ use relay_script::config_line::read_config;
 use relay_script::event_line::{LineFault, read_event};
 use relay_world::Event;
 use std::alloc::Global;
-use std::test::Fail;
 
 /// The ten numbers of a config.
 fn numbers(config: RelayConfig) -> [u64; 10] {
@@ -23,11 +22,10 @@ fn numbers(config: RelayConfig) -> [u64; 10] {
 }
 
 #[test]
-fn configs(rt: HostRuntime) -> Result<(), Fail> {
+fn configs(rt: HostRuntime) {
     let config = read_config(rt.alloc(), b"world 2 3 4 05 6 1027 8 9 1 10");
     assert!(rt; config.is_ok_and(|config| numbers(config) == [2, 3, 4, 5, 6, 1027, 8, 9, 1, 10]));
     assert!(rt; read_config(rt.alloc(), b"world 2 3 4 5 6 7 8 9 1 10") == Err(LineFault::Bad));
-    Ok(())
 }
 
 /// The numbers of an event, with that of its kind in front; of a put the producer and the lengths of its texts.
@@ -61,26 +59,26 @@ fn is_event(alloc: Global, line: &[u8], wanted: [u64; 4]) -> bool {
     }
 }
 
+const EVENTS: &[(&[u8], [u64; 4])] = &[
+    (b"put 7 ab c index {\"a\": 1}", [1, 7, 2, 1]),
+    (b"put 0 a bcd delete", [1, 0, 1, 3]),
+    (b"close 4294967295 2", [2, 4294967295, 2, 0]),
+    (b"tick 3", [3, 3, 0, 0]),
+    (b"flush 4", [4, 4, 0, 0]),
+    (b"take 005", [5, 5, 0, 0]),
+    (b"send 6", [6, 6, 0, 0]),
+    (b"run 7 8 429", [7, 7, 8, 0]),
+    (b"reply 9 1 2 3", [8, 9, 3, 0]),
+    (b"whole 10 503", [9, 10, 503, 0]),
+    (
+        b"lost 18446744073709551615",
+        [10, 18446744073709551615, 0, 0],
+    ),
+];
+
 #[test]
-fn events(rt: HostRuntime) -> Result<(), Fail> {
-    let rows: [(&[u8], [u64; 4]); 11] = [
-        (b"put 7 ab c index {\"a\": 1}", [1, 7, 2, 1]),
-        (b"put 0 a bcd delete", [1, 0, 1, 3]),
-        (b"close 4294967295 2", [2, 4294967295, 2, 0]),
-        (b"tick 3", [3, 3, 0, 0]),
-        (b"flush 4", [4, 4, 0, 0]),
-        (b"take 005", [5, 5, 0, 0]),
-        (b"send 6", [6, 6, 0, 0]),
-        (b"run 7 8 429", [7, 7, 8, 0]),
-        (b"reply 9 1 2 3", [8, 9, 3, 0]),
-        (b"whole 10 503", [9, 10, 503, 0]),
-        (
-            b"lost 18446744073709551615",
-            [10, 18446744073709551615, 0, 0],
-        ),
-    ];
-    for (line, wanted) in rows {
-        assert!(rt; is_event(rt.alloc(), line, wanted));
+fn events(rt: HostRuntime) {
+    for (line, wanted) in EVENTS {
+        assert!(rt; is_event(rt.alloc(), *line, *wanted));
     }
-    Ok(())
 }
