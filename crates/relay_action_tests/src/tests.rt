@@ -15,125 +15,149 @@ fn letters(alloc: Global, count: usize) -> Result<String, AllocError> {
     Ok(text)
 }
 
+// Whether a text holds these letters, equals its copy and differs from another.
+fn is_text(alloc: Global, letters: &str, other: &str) -> Result<bool, AllocError> {
+    let text = Text::new(alloc, letters)?;
+    Ok(text.as_str() == letters && text.copy()? == text && Text::new(alloc, other)? != text)
+}
+
+// Whether a list holds these items, and gives them up.
+fn is_list(alloc: Global, items: &[u8]) -> Result<bool, AllocError> {
+    let list = List::of(items.to_vec(alloc)?);
+    Ok(list.as_slice() == items && list.into_vec().as_slice() == items)
+}
+
 #[test]
-fn texts_and_lists_hold_what_they_were_given(rt: HostRuntime) -> Result<(), Fail> {
-    let text = Text::new(rt.alloc(), "b")?;
-    assert_eq!(rt; text.as_str(), "b");
-    assert!(rt; text.copy()? == text);
-    assert!(rt; Text::new(rt.alloc(), "c")? != text);
-    let list = List::of([3u8, 1].to_vec(rt.alloc())?);
-    assert_eq!(rt; list.as_slice(), [3, 1].as_slice());
-    assert_eq!(rt; list.into_vec().as_slice(), [3, 1].as_slice());
-    Ok(())
+fn texts_and_lists_hold_what_they_were_given(rt: HostRuntime) {
+    assert!(rt; is_text(rt.alloc(), "b", "c") == Ok(true));
+    assert!(rt; is_list(rt.alloc(), &[3, 1]) == Ok(true));
+}
+
+// Whether a text of so many letters holds them, equals its copy, and is the empty one just where there are none.
+fn is_text_of(alloc: Global, length: usize) -> Result<bool, AllocError> {
+    let letters = letters(alloc, length)?;
+    let text = Text::new(alloc, letters.as_str())?;
+    let is_empty = text == Text::empty();
+    Ok(text.as_str() == letters.as_str() && text.copy()? == text && is_empty == (length == 0))
 }
 
 // A text keeps its bytes where they lie in the value, and where they do not.
 #[test]
-fn texts_of_all_lengths(rt: HostRuntime) -> Result<(), Fail> {
-    let alloc = rt.alloc();
+fn texts_of_all_lengths(rt: HostRuntime) {
     for length in [0usize, 1, 37, 38, 39, 600] {
-        let letters = letters(alloc, length)?;
-        let text = Text::new(alloc, letters.as_str())?;
-        assert!(rt; text.as_str() == letters.as_str() && text.copy()? == text);
-        assert!(rt; (text == Text::empty()) == (length == 0));
+        assert!(rt; is_text_of(rt.alloc(), length) == Ok(true));
     }
-    Ok(())
 }
 
+// Whether a key has this index and this id, and equals its copy.
+fn is_key(alloc: Global, index: &str, id: &str) -> Result<bool, ActionFault> {
+    let key = DocKey::new(alloc, index, id)?;
+    let copy = key.copy().map_err(|_| ActionFault::Memory)?;
+    Ok(key.index() == index && key.id() == id && copy == key)
+}
+
+// The same of an index and an id of so many letters.
+fn is_key_of(alloc: Global, index: usize, id: usize) -> Result<bool, ActionFault> {
+    let index = letters(alloc, index).map_err(|_| ActionFault::Memory)?;
+    let id = letters(alloc, id).map_err(|_| ActionFault::Memory)?;
+    is_key(alloc, index.as_str(), id.as_str())
+}
+
+const KEYS: &[(usize, usize, Result<bool, ActionFault>)] = &[
+    (1, 1, Ok(true)),
+    (255, 512, Ok(true)),
+    (0, 1, Err(ActionFault::IndexEmpty)),
+    (0, 0, Err(ActionFault::IndexEmpty)),
+    (256, 0, Err(ActionFault::IndexLong)),
+    (256, 1, Err(ActionFault::IndexLong)),
+    (1, 0, Err(ActionFault::IdEmpty)),
+    (255, 513, Err(ActionFault::IdLong)),
+];
+
 #[test]
-fn keys_at_their_limits(rt: HostRuntime) -> Result<(), Fail> {
-    let alloc = rt.alloc();
-    let rows = [
-        (1usize, 1usize, None),
-        (255, 512, None),
-        (0, 1, Some(ActionFault::IndexEmpty)),
-        (0, 0, Some(ActionFault::IndexEmpty)),
-        (256, 0, Some(ActionFault::IndexLong)),
-        (256, 1, Some(ActionFault::IndexLong)),
-        (1, 0, Some(ActionFault::IdEmpty)),
-        (255, 513, Some(ActionFault::IdLong)),
-    ];
-    for (index, id, fault) in rows {
-        let index = letters(alloc, index)?;
-        let id = letters(alloc, id)?;
-        match DocKey::new(alloc, index.as_str(), id.as_str()) {
-            Ok(key) => {
-                assert_eq!(rt; fault, None);
-                assert_eq!(rt; key.index(), index.as_str());
-                assert_eq!(rt; key.id(), id.as_str());
-                assert!(rt; key.copy()? == key);
-            }
-            Err(found) => assert_eq!(rt; fault, Some(found)),
-        }
+fn keys_at_their_limits(rt: HostRuntime) {
+    for (index, id, answer) in KEYS {
+        assert!(rt; is_key_of(rt.alloc(), *index, *id) == *answer);
     }
-    Ok(())
+}
+
+const NAMES: &[(ActionFault, &str)] = &[
+    (ActionFault::IndexEmpty, "IndexEmpty"),
+    (ActionFault::IndexLong, "IndexLong"),
+    (ActionFault::IdEmpty, "IdEmpty"),
+    (ActionFault::IdLong, "IdLong"),
+    (ActionFault::SourceEmpty, "SourceEmpty"),
+    (ActionFault::SourceLong, "SourceLong"),
+    (ActionFault::SourceNewline, "SourceNewline"),
+    (ActionFault::Memory, "Memory"),
+];
+
+// Whether a fault has this name and is printed by it.
+fn is_named(alloc: Global, fault: ActionFault, name: &str) -> Result<bool, AllocError> {
+    Ok(fault.name() == name && format!(in alloc; "{fault}")?.as_str() == name)
 }
 
 // A fault is printed by its name.
 #[test]
-fn names_of_faults(rt: HostRuntime) -> Result<(), Fail> {
-    let rows = [
-        (ActionFault::IndexEmpty, "IndexEmpty"),
-        (ActionFault::IndexLong, "IndexLong"),
-        (ActionFault::IdEmpty, "IdEmpty"),
-        (ActionFault::IdLong, "IdLong"),
-        (ActionFault::SourceEmpty, "SourceEmpty"),
-        (ActionFault::SourceLong, "SourceLong"),
-        (ActionFault::SourceNewline, "SourceNewline"),
-        (ActionFault::Memory, "Memory"),
-    ];
-    for (fault, name) in rows {
-        assert_eq!(rt; fault.name(), name);
-        assert_eq!(rt; format!(in rt.alloc(); "{fault}")?.as_str(), name);
+fn names_of_faults(rt: HostRuntime) {
+    for (fault, name) in NAMES {
+        assert!(rt; is_named(rt.alloc(), *fault, name) == Ok(true));
     }
-    Ok(())
 }
 
-#[test]
-fn sources_at_their_limits(rt: HostRuntime) -> Result<(), Fail> {
-    let alloc = rt.alloc();
-    let full = letters(alloc, 1_048_576)?;
-    let long = letters(alloc, 1_048_577)?;
-    let rows = [
-        (full.as_str(), None),
-        (long.as_str(), Some(ActionFault::SourceLong)),
-        ("", Some(ActionFault::SourceEmpty)),
-        ("a\rb", Some(ActionFault::SourceNewline)),
-        ("a\nb", Some(ActionFault::SourceNewline)),
-        ("no JSON", None),
-    ];
-    for (text, fault) in rows {
-        match Action::index(alloc, text) {
-            Ok(action) => {
-                assert_eq!(rt; fault, None);
-                assert_eq!(rt; action.kind(), ActionKind::Index);
-                if let Action::Index(source) = &action {
-                    assert!(rt; source.text() == text);
-                    assert!(rt; source.copy()?.text() == text);
-                }
-            }
-            Err(found) => assert_eq!(rt; fault, Some(found)),
-        }
+// Whether an action indexes this text, and so does the copy of its source.
+fn indexes(action: &Action, text: &str) -> Result<bool, AllocError> {
+    match action {
+        Action::Index(source) => Ok(source.text() == text && source.copy()?.text() == text),
+        Action::Delete => Ok(false),
     }
-    Ok(())
 }
+
+// The same of the action that is made of a text.
+fn is_source(alloc: Global, text: &str) -> Result<bool, ActionFault> {
+    let action = Action::index(alloc, text)?;
+    let same = indexes(&action, text).map_err(|_| ActionFault::Memory)?;
+    Ok(same && action.kind() == ActionKind::Index)
+}
+
+// The same of a source of so many letters.
+fn is_source_of(alloc: Global, length: usize) -> Result<bool, ActionFault> {
+    let text = letters(alloc, length).map_err(|_| ActionFault::Memory)?;
+    is_source(alloc, text.as_str())
+}
+
+const SOURCES: &[(&str, Result<bool, ActionFault>)] = &[
+    ("", Err(ActionFault::SourceEmpty)),
+    ("a\rb", Err(ActionFault::SourceNewline)),
+    ("a\nb", Err(ActionFault::SourceNewline)),
+    ("no JSON", Ok(true)),
+];
+
+#[test]
+fn sources_at_their_limits(rt: HostRuntime) {
+    for (text, answer) in SOURCES {
+        assert!(rt; is_source(rt.alloc(), text) == *answer);
+    }
+    assert!(rt; is_source_of(rt.alloc(), 1_048_576) == Ok(true));
+    assert!(rt; is_source_of(rt.alloc(), 1_048_577) == Err(ActionFault::SourceLong));
+}
+
+const KINDS: &[(&str, Option<ActionKind>)] = &[
+    ("index", Some(ActionKind::Index)),
+    ("delete", Some(ActionKind::Delete)),
+    ("create", None),
+    ("update", None),
+    ("Index", None),
+    ("indexes", None),
+    ("", None),
+];
 
 // OpenSearch has four names; the relay takes two of them, as they are spelled.
 #[test]
-fn kinds_of_names(rt: HostRuntime) -> Result<(), Fail> {
-    let rows = [
-        ("index", Some(ActionKind::Index)),
-        ("delete", Some(ActionKind::Delete)),
-        ("create", None),
-        ("update", None),
-        ("Index", None),
-        ("indexes", None),
-        ("", None),
-    ];
-    for (name, kind) in rows {
-        assert_eq!(rt; ActionKind::named(name), kind);
+fn kinds_of_names(rt: HostRuntime) {
+    for (name, kind) in KINDS {
+        assert!(rt; ActionKind::named(name) == *kind);
     }
-    Ok(())
 }
 
 // A write of a book.
@@ -145,15 +169,10 @@ fn book(alloc: Global) -> Result<Write, Fail> {
     })
 }
 
-// Whether an action indexes this text.
-fn indexes(action: &Action, text: &str) -> bool {
-    matches!(action, Action::Index(source) if source.text() == text)
-}
-
 // Whether the copy of a write of version 7 is that write.
 fn is_copied(write: &Write) -> Result<bool, AllocError> {
     let copy = write.copy()?;
-    Ok(copy.key == write.key && copy.version == 7 && indexes(&copy.action, "{}"))
+    Ok(copy.key == write.key && copy.version == 7 && indexes(&copy.action, "{}")?)
 }
 
 #[test]
@@ -197,22 +216,27 @@ fn copies_of_operations_equal_them(rt: HostRuntime) -> Result<(), Fail> {
     Ok(())
 }
 
+// A key, by a second call where the first was refused memory.
+fn key_again(alloc: Global) -> Result<DocKey, ActionFault> {
+    match DocKey::new(alloc, "books", "1") {
+        Err(ActionFault::Memory) => DocKey::new(alloc, "books", "1"),
+        made => made,
+    }
+}
+
+// Whether the copy of a key, where there is memory for it, equals it.
+fn is_copied_key(key: &DocKey) -> bool {
+    match key.copy() {
+        Ok(copy) => copy == *key,
+        Err(AllocError) => true,
+    }
+}
+
 // Each refused allocation is answered as out of memory, and nothing else changes.
 #[test]
 fn refusals(rt: HostRuntime) -> Result<(), Fail> {
-    let alloc = rt.alloc();
-    let key = match DocKey::new(alloc, "books", "1") {
-        Ok(key) => key,
-        Err(fault) => {
-            assert_eq!(rt; fault, ActionFault::Memory);
-            DocKey::new(alloc, "books", "1")?
-        }
-    };
-    match key.copy() {
-        Ok(copy) => assert!(rt; copy == key),
-        Err(AllocError) => {}
-    }
-    assert!(rt; key.index() == "books" && key.id() == "1");
+    let key = key_again(rt.alloc())?;
+    assert!(rt; is_copied_key(&key) && key.index() == "books" && key.id() == "1");
     Ok(())
 }
 
@@ -225,37 +249,49 @@ fn copy_piece<S: ByteIn + ByteOut>(stream: &mut S) -> usize {
     }
 }
 
-#[test]
-fn pieces(rt: HostRuntime) -> Result<(), Fail> {
-    let input = b"abcdef".to_vec(rt.alloc())?;
-    let mut stream = MemStream::new(rt.alloc(), input, 5, 3, 4)?;
-    assert_eq!(rt; copy_piece(&mut stream), 3);
-    assert_eq!(rt; copy_piece(&mut stream), 0);
-    assert_eq!(rt; stream.written(), b"abc".as_slice());
-    assert_eq!(rt; stream.write(b"xyz"), Ok(2));
-    assert_eq!(rt; stream.write(b"xyz"), Err(StreamFailed));
-    assert_eq!(rt; stream.written(), b"abcxy".as_slice());
-    Ok(())
+// Whether a stream of six bytes in pieces of three, whose fourth call fails, is copied and written so.
+fn goes_in_pieces(alloc: Global) -> Result<bool, AllocError> {
+    let mut stream = MemStream::new(alloc, b"abcdef".to_vec(alloc)?, 5, 3, 4)?;
+    Ok(
+        copy_piece(&mut stream) == 3
+            && copy_piece(&mut stream) == 0
+            && stream.written() == b"abc".as_slice()
+            && stream.write(b"xyz") == Ok(2)
+            && stream.write(b"xyz") == Err(StreamFailed)
+            && stream.written() == b"abcxy".as_slice(),
+    )
 }
 
-// Of ten bytes in pieces of three, each call in turn is the one that fails.
 #[test]
-fn each_call_fails_in_turn(rt: HostRuntime) -> Result<(), Fail> {
-    for fail_at in 1..6u64 {
-        let mut stream = MemStream::new(rt.alloc(), Vec::new(rt.alloc()), 10, 3, fail_at)?;
-        let sent = write_all(&mut stream, b"0123456789");
-        let wanted = match fail_at {
-            1 => Err(0),
-            2 => Err(3),
-            3 => Err(6),
-            4 => Err(9),
-            _ => Ok(()),
-        };
-        assert_eq!(rt; sent, wanted);
-        let count = sent.err().unwrap_or(10);
-        assert_eq!(rt; Some(stream.written()), b"0123456789".get(..count));
+fn pieces(rt: HostRuntime) {
+    assert!(rt; goes_in_pieces(rt.alloc()) == Ok(true));
+}
+
+const TEN: &[u8] = b"0123456789";
+
+// The call that fails, and what is sent of ten bytes in pieces of three.
+const SENT: &[(u64, Result<(), usize>)] = &[
+    (1, Err(0)),
+    (2, Err(3)),
+    (3, Err(6)),
+    (4, Err(9)),
+    (5, Ok(())),
+];
+
+// Whether so much is sent, and no more is written.
+fn is_sent(alloc: Global, fail_at: u64, sent: Result<(), usize>) -> Result<bool, AllocError> {
+    let mut stream = MemStream::new(alloc, Vec::new(alloc), 10, 3, fail_at)?;
+    let found = write_all(&mut stream, TEN);
+    let count = sent.err().unwrap_or(10);
+    Ok(found == sent && TEN.get(..count) == Some(stream.written()))
+}
+
+// Each call in turn is the one that fails.
+#[test]
+fn each_call_fails_in_turn(rt: HostRuntime) {
+    for (fail_at, sent) in SENT {
+        assert!(rt; is_sent(rt.alloc(), *fail_at, *sent) == Ok(true));
     }
-    Ok(())
 }
 
 // A reader and a writer of std, and their end and their want of room.
@@ -275,23 +311,27 @@ fn streams_of_std(rt: HostRuntime) -> Result<(), Fail> {
     Ok(())
 }
 
-// The ids 0 to 7 of one index.
+// The lanes of the ids 0 to 7 of one index, of eight lanes.
+const LANES: &[(&str, u32)] = &[
+    ("0", 6),
+    ("1", 1),
+    ("2", 0),
+    ("3", 3),
+    ("4", 2),
+    ("5", 5),
+    ("6", 4),
+    ("7", 7),
+];
+
+// The lane of an id, of eight and of one.
+fn lanes_of(alloc: Global, id: &str) -> Result<(u32, u32), ActionFault> {
+    let key = DocKey::new(alloc, "books", id)?;
+    Ok((lane_of(&key, 8), lane_of(&key, 1)))
+}
+
 #[test]
-fn lanes_of_documents(rt: HostRuntime) -> Result<(), Fail> {
-    let rows = [
-        ("0", 6u32),
-        ("1", 1),
-        ("2", 0),
-        ("3", 3),
-        ("4", 2),
-        ("5", 5),
-        ("6", 4),
-        ("7", 7),
-    ];
-    for (id, lane) in rows {
-        let key = DocKey::new(rt.alloc(), "books", id)?;
-        assert_eq!(rt; lane_of(&key, 8), lane);
-        assert_eq!(rt; lane_of(&key, 1), 0);
+fn lanes_of_documents(rt: HostRuntime) {
+    for (id, lane) in LANES {
+        assert!(rt; lanes_of(rt.alloc(), id) == Ok((*lane, 0)));
     }
-    Ok(())
 }
