@@ -81,71 +81,71 @@ fn fits(alloc: Global, text: &str, request: &[Write]) -> Result<bool, ReplyFault
     Ok(matches(outcomes.as_slice(), request))
 }
 
+const FAULTS: &[(&[u8], ReplyFault)] = &[
+    (b"", ReplyFault::NotJson),
+    (b"{\"items\":[{\"index\":{\"_id\":\"1", ReplyFault::NotJson),
+    (b"\xff", ReplyFault::NotJson),
+    (b"{\"items\":[]} x", ReplyFault::NotJson),
+    (b"{\"took\":1e999,\"items\":[]}", ReplyFault::NotJson),
+    (b"[]", ReplyFault::NoItems),
+    (b"{}", ReplyFault::NoItems),
+    (b"{\"items\":3}", ReplyFault::NoItems),
+    (b"{\"items\":{}}", ReplyFault::NoItems),
+    (b"{\"items\":[],\"items\":null}", ReplyFault::NoItems),
+    (
+        b"{\"items\":[{\"index\":{\"_id\":5,\"status\":201}}]}",
+        ReplyFault::BadItem(0),
+    ),
+    (
+        b"{\"items\":[{\"index\":{\"_id\":\"1\"}}]}",
+        ReplyFault::BadItem(0),
+    ),
+    (
+        b"{\"items\":[{\"index\":{\"status\":201}}]}",
+        ReplyFault::BadItem(0),
+    ),
+    (
+        b"{\"items\":[{\"create\":{\"_id\":\"1\",\"status\":201}}]}",
+        ReplyFault::BadItem(0),
+    ),
+    (b"{\"items\":[{\"index\":201}]}", ReplyFault::BadItem(0)),
+    (b"{\"items\":[{}]}", ReplyFault::BadItem(0)),
+    (b"{\"items\":[7]}", ReplyFault::BadItem(0)),
+    (
+        b"{\"items\":[{\"index\":{\"_id\":\"1\",\"status\":201},\"delete\":{\"_id\":\"1\",\"status\":200}}]}",
+        ReplyFault::BadItem(0),
+    ),
+    (
+        b"{\"items\":[{\"delete\":{\"_id\":\"1\",\"status\":100}},{\"index\":{\"_id\":\"1\",\"status\":99}}]}",
+        ReplyFault::BadItem(1),
+    ),
+    (
+        b"{\"items\":[{\"delete\":{\"_id\":\"1\",\"status\":599}},{\"index\":{\"_id\":\"1\",\"status\":600}}]}",
+        ReplyFault::BadItem(1),
+    ),
+    (
+        b"{\"items\":[{\"index\":{\"_id\":\"1\",\"status\":201.0}}]}",
+        ReplyFault::BadItem(0),
+    ),
+    (
+        b"{\"items\":[{\"index\":{\"_id\":\"1\",\"status\":-1}}]}",
+        ReplyFault::BadItem(0),
+    ),
+    (
+        b"{\"items\":[{\"index\":{\"_id\":\"1\",\"status\":\"201\"}}]}",
+        ReplyFault::BadItem(0),
+    ),
+    (
+        b"{\"items\":[{\"index\":{\"_id\":\"1\",\"status\":201,\"status\":null}},5]}",
+        ReplyFault::BadItem(0),
+    ),
+];
+
 #[test]
-fn faults(rt: HostRuntime) -> Result<(), Fail> {
-    let rows: [(&[u8], ReplyFault); 24] = [
-        (b"", ReplyFault::NotJson),
-        (b"{\"items\":[{\"index\":{\"_id\":\"1", ReplyFault::NotJson),
-        (b"\xff", ReplyFault::NotJson),
-        (b"{\"items\":[]} x", ReplyFault::NotJson),
-        (b"{\"took\":1e999,\"items\":[]}", ReplyFault::NotJson),
-        (b"[]", ReplyFault::NoItems),
-        (b"{}", ReplyFault::NoItems),
-        (b"{\"items\":3}", ReplyFault::NoItems),
-        (b"{\"items\":{}}", ReplyFault::NoItems),
-        (b"{\"items\":[],\"items\":null}", ReplyFault::NoItems),
-        (
-            b"{\"items\":[{\"index\":{\"_id\":5,\"status\":201}}]}",
-            ReplyFault::BadItem(0),
-        ),
-        (
-            b"{\"items\":[{\"index\":{\"_id\":\"1\"}}]}",
-            ReplyFault::BadItem(0),
-        ),
-        (
-            b"{\"items\":[{\"index\":{\"status\":201}}]}",
-            ReplyFault::BadItem(0),
-        ),
-        (
-            b"{\"items\":[{\"create\":{\"_id\":\"1\",\"status\":201}}]}",
-            ReplyFault::BadItem(0),
-        ),
-        (b"{\"items\":[{\"index\":201}]}", ReplyFault::BadItem(0)),
-        (b"{\"items\":[{}]}", ReplyFault::BadItem(0)),
-        (b"{\"items\":[7]}", ReplyFault::BadItem(0)),
-        (
-            b"{\"items\":[{\"index\":{\"_id\":\"1\",\"status\":201},\"delete\":{\"_id\":\"1\",\"status\":200}}]}",
-            ReplyFault::BadItem(0),
-        ),
-        (
-            b"{\"items\":[{\"delete\":{\"_id\":\"1\",\"status\":100}},{\"index\":{\"_id\":\"1\",\"status\":99}}]}",
-            ReplyFault::BadItem(1),
-        ),
-        (
-            b"{\"items\":[{\"delete\":{\"_id\":\"1\",\"status\":599}},{\"index\":{\"_id\":\"1\",\"status\":600}}]}",
-            ReplyFault::BadItem(1),
-        ),
-        (
-            b"{\"items\":[{\"index\":{\"_id\":\"1\",\"status\":201.0}}]}",
-            ReplyFault::BadItem(0),
-        ),
-        (
-            b"{\"items\":[{\"index\":{\"_id\":\"1\",\"status\":-1}}]}",
-            ReplyFault::BadItem(0),
-        ),
-        (
-            b"{\"items\":[{\"index\":{\"_id\":\"1\",\"status\":\"201\"}}]}",
-            ReplyFault::BadItem(0),
-        ),
-        (
-            b"{\"items\":[{\"index\":{\"_id\":\"1\",\"status\":201,\"status\":null}},5]}",
-            ReplyFault::BadItem(0),
-        ),
-    ];
-    for (text, fault) in rows {
-        assert_eq!(rt; fault_of(rt.alloc(), text), Some(fault));
+fn faults(rt: HostRuntime) {
+    for (text, fault) in FAULTS {
+        assert!(rt; fault_of(rt.alloc(), *text) == Some(*fault));
     }
-    Ok(())
 }
 
 // JSON nests at most 127 deep, also in a member that nobody looks at.
@@ -441,56 +441,49 @@ fn matching(rt: HostRuntime) -> Result<(), Fail> {
     Ok(())
 }
 
+// A kind, a status, whether there is an error, the sends, the attempts and the most of them, and the verdict.
+const VERDICTS: &[(ActionKind, u16, bool, u32, u32, u32, ItemVerdict)] = &[
+    (ActionKind::Index, 200, false, 1, 1, 3, ItemVerdict::Applied),
+    (ActionKind::Index, 299, false, 5, 5, 3, ItemVerdict::Applied),
+    (ActionKind::Index, 199, false, 1, 1, 3, ItemVerdict::Refused),
+    (ActionKind::Index, 300, false, 1, 1, 3, ItemVerdict::Refused),
+    (ActionKind::Index, 201, true, 1, 1, 3, ItemVerdict::Refused),
+    (
+        ActionKind::Delete,
+        404,
+        false,
+        1,
+        1,
+        3,
+        ItemVerdict::Applied,
+    ),
+    (ActionKind::Delete, 404, true, 1, 1, 3, ItemVerdict::Refused),
+    (ActionKind::Index, 404, false, 1, 1, 3, ItemVerdict::Refused),
+    (ActionKind::Index, 409, true, 1, 1, 3, ItemVerdict::Conflict),
+    (ActionKind::Index, 409, true, 2, 1, 3, ItemVerdict::Already),
+    (
+        ActionKind::Delete,
+        409,
+        false,
+        2,
+        2,
+        3,
+        ItemVerdict::Already,
+    ),
+    (ActionKind::Index, 429, true, 1, 2, 3, ItemVerdict::Retry),
+    (ActionKind::Index, 429, true, 3, 3, 3, ItemVerdict::GaveUp),
+    (ActionKind::Index, 503, true, 9, 2, 3, ItemVerdict::Retry),
+    (ActionKind::Index, 503, false, 9, 4, 3, ItemVerdict::GaveUp),
+    (ActionKind::Index, 413, true, 1, 1, 3, ItemVerdict::Refused),
+    (ActionKind::Index, 400, true, 1, 1, 3, ItemVerdict::Refused),
+    (ActionKind::Index, 502, true, 1, 1, 3, ItemVerdict::Refused),
+];
+
 #[test]
-fn verdicts(rt: HostRuntime) -> Result<(), Fail> {
-    let rows = [
-        (
-            ActionKind::Index,
-            200u16,
-            false,
-            1u32,
-            1u32,
-            3u32,
-            ItemVerdict::Applied,
-        ),
-        (ActionKind::Index, 299, false, 5, 5, 3, ItemVerdict::Applied),
-        (ActionKind::Index, 199, false, 1, 1, 3, ItemVerdict::Refused),
-        (ActionKind::Index, 300, false, 1, 1, 3, ItemVerdict::Refused),
-        (ActionKind::Index, 201, true, 1, 1, 3, ItemVerdict::Refused),
-        (
-            ActionKind::Delete,
-            404,
-            false,
-            1,
-            1,
-            3,
-            ItemVerdict::Applied,
-        ),
-        (ActionKind::Delete, 404, true, 1, 1, 3, ItemVerdict::Refused),
-        (ActionKind::Index, 404, false, 1, 1, 3, ItemVerdict::Refused),
-        (ActionKind::Index, 409, true, 1, 1, 3, ItemVerdict::Conflict),
-        (ActionKind::Index, 409, true, 2, 1, 3, ItemVerdict::Already),
-        (
-            ActionKind::Delete,
-            409,
-            false,
-            2,
-            2,
-            3,
-            ItemVerdict::Already,
-        ),
-        (ActionKind::Index, 429, true, 1, 2, 3, ItemVerdict::Retry),
-        (ActionKind::Index, 429, true, 3, 3, 3, ItemVerdict::GaveUp),
-        (ActionKind::Index, 503, true, 9, 2, 3, ItemVerdict::Retry),
-        (ActionKind::Index, 503, false, 9, 4, 3, ItemVerdict::GaveUp),
-        (ActionKind::Index, 413, true, 1, 1, 3, ItemVerdict::Refused),
-        (ActionKind::Index, 400, true, 1, 1, 3, ItemVerdict::Refused),
-        (ActionKind::Index, 502, true, 1, 1, 3, ItemVerdict::Refused),
-    ];
-    for (kind, status, has_error, sends, attempts, max, wanted) in rows {
-        assert!(rt; verdict(kind, status, has_error, sends, attempts, max) == wanted);
+fn verdicts(rt: HostRuntime) {
+    for (kind, status, has_error, sends, attempts, max, wanted) in VERDICTS {
+        assert!(rt; verdict(*kind, *status, *has_error, *sends, *attempts, *max) == *wanted);
     }
-    Ok(())
 }
 
 // What the index did with an item of `b/2`.
