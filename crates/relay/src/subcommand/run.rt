@@ -47,22 +47,99 @@ where operations were reported; of several with the first of 4, 3, 2 and 5.
 Every version that the index has stored for these documents has to be below --first, and nobody else may
 write them meanwhile.";
 
-// An option that is a number in a range.
-fn number<'a>(
-    alloc: Global,
+// An option that is a number from `least` to `most`.
+struct NumberOption {
     name: &'static str,
     least: u64,
     most: u64,
     default: &'static str,
     help: &'static str,
-) -> Arg<'a> {
-    Arg::new(alloc, name)
-        .long(name)
+}
+
+// Those of `relay run`, in the order of its help.
+const NUMBERS: &[NumberOption] = &[
+    NumberOption {
+        name: "first",
+        least: 1,
+        most: 9_000_000_000_000_000_000,
+        default: "1",
+        help: "The version that each lane gives first, from 1 to 9000000000000000000",
+    },
+    NumberOption {
+        name: "lanes",
+        least: 1,
+        most: 8,
+        default: "1",
+        help: "How many lanes, 1 to 8, each with a connection of its own",
+    },
+    NumberOption {
+        name: "capacity",
+        least: 1,
+        most: 65_536,
+        default: "256",
+        help: "How many operations wait in front of a lane at most, 1 to 65536; while a lane waits for an answer, files are read on until so many wait",
+    },
+    NumberOption {
+        name: "held",
+        least: 1,
+        most: 65_536,
+        default: "1024",
+        help: "How many operations a lane holds at most, sent or to be sent, 1 to 65536",
+    },
+    NumberOption {
+        name: "count",
+        least: 1,
+        most: 10_000,
+        default: "500",
+        help: "How many operations a request has at most, 1 to 10000",
+    },
+    NumberOption {
+        name: "bytes",
+        least: 1_024,
+        most: 16_777_216,
+        default: "1048576",
+        help: "How many bytes the body of a request has at most, 1024 to 16777216; one operation alone may have more",
+    },
+    NumberOption {
+        name: "linger",
+        least: 0,
+        most: 65_535,
+        default: "2",
+        help: "How long a request waits to be filled, in ticks of 100 ms, 0 to 65535",
+    },
+    NumberOption {
+        name: "attempts",
+        least: 1,
+        most: 32,
+        default: "8",
+        help: "How many requests carry an operation at most, 1 to 32",
+    },
+    NumberOption {
+        name: "flying",
+        least: 1,
+        most: 1,
+        default: "1",
+        help: "How many requests of a lane are out at a time: 1 is all that there is yet",
+    },
+];
+
+fn number<'a>(alloc: Global, option: &NumberOption) -> Arg<'a> {
+    Arg::new(alloc, option.name)
+        .long(option.name)
         .value_name("N")
         .action(ArgAction::Set)
-        .value_parser(ValueParser::unsigned(least, most))
-        .default_value(default)
-        .help(help)
+        .value_parser(ValueParser::unsigned(option.least, option.most))
+        .default_value(option.default)
+        .help(option.help)
+}
+
+// The command with these options.
+fn with_numbers<'a>(alloc: Global, command: Command<'a>) -> Result<Command<'a>, AllocError> {
+    let mut command = command;
+    for option in NUMBERS {
+        command = command.arg(number(alloc, option))?;
+    }
+    Ok(command)
 }
 
 /// Its help and its options.
@@ -86,84 +163,12 @@ pub fn command<'a>(alloc: Global, name: &'static str) -> Result<Command<'a>, All
         .num_args(1..=16)
         .required(true)
         .help("Files of operations, 1 to 16, each read by a producer of its own");
-    Command::new(alloc, name)
+    let command = Command::new(alloc, name)
         .about(ABOUT)
         .long_about(LONG_ABOUT)
         .arg(to)?
-        .arg(index)?
-        .arg(number(
-            alloc,
-            "first",
-            1,
-            9_000_000_000_000_000_000,
-            "1",
-            "The version that each lane gives first, from 1 to 9000000000000000000",
-        ))?
-        .arg(number(
-            alloc,
-            "lanes",
-            1,
-            8,
-            "1",
-            "How many lanes, 1 to 8, each with a connection of its own",
-        ))?
-        .arg(number(
-            alloc,
-            "capacity",
-            1,
-            65_536,
-            "256",
-            "How many operations wait in front of a lane at most, 1 to 65536; while a lane waits for an answer, files are read on until so many wait",
-        ))?
-        .arg(number(
-            alloc,
-            "held",
-            1,
-            65_536,
-            "1024",
-            "How many operations a lane holds at most, sent or to be sent, 1 to 65536",
-        ))?
-        .arg(number(
-            alloc,
-            "count",
-            1,
-            10_000,
-            "500",
-            "How many operations a request has at most, 1 to 10000",
-        ))?
-        .arg(number(
-            alloc,
-            "bytes",
-            1_024,
-            16_777_216,
-            "1048576",
-            "How many bytes the body of a request has at most, 1024 to 16777216; one operation alone may have more",
-        ))?
-        .arg(number(
-            alloc,
-            "linger",
-            0,
-            65_535,
-            "2",
-            "How long a request waits to be filled, in ticks of 100 ms, 0 to 65535",
-        ))?
-        .arg(number(
-            alloc,
-            "attempts",
-            1,
-            32,
-            "8",
-            "How many requests carry an operation at most, 1 to 32",
-        ))?
-        .arg(number(
-            alloc,
-            "flying",
-            1,
-            1,
-            "1",
-            "How many requests of a lane are out at a time: 1 is all that there is yet",
-        ))?
-        .arg(files)
+        .arg(index)?;
+    with_numbers(alloc, command)?.arg(files)
 }
 
 // The number of an option, whose default and range the command line has.
