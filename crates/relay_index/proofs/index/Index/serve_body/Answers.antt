@@ -1,8 +1,8 @@
-use Rattle.std.proofs.Common.{inl, inr, ℕ, List, refl, string_bytes}
-use Rattle.std.proofs.lemmas.Result.{IfOk-weaker}
+use Rattle.std.proofs.Common.{inl, inr, ℕ, List, refl, subst, string_bytes}
+use Rattle.std.proofs.lemmas.Result.{IfOk-weaker, err_from_is_err_and}
 use Rattle.relay_ndjson.specs.declared.kind.BulkFault.{BulkFault}
 use Rattle.relay_ndjson.specs.Bodies.{IsBulkFault}
-use Rattle.relay_index.specs.Serving.{Server, Answer, under, answer_of, IsRejection, Answers}
+use Rattle.relay_index.specs.Serving.{Server, Answer, under, answer_of, IsRejection, Answers, Replies, RunsFirst}
 use Rattle.relay_index.proofs.index.Index.serve_body.Goals as goal
 
 -- a fault other than that memory ran out breaks the body, and its answer is that of the body
@@ -22,3 +22,26 @@ returns-in-Err-clause-answered c =
     IfOk-weaker c.reject.result _ _
     (λ answer is. rejected c.args.body.now (under c.args.self.now c.args.script.now) c.in-Err.fault (answer_of answer.0 (string_bytes answer.1)) c.in-Err.ensures.err is)
     c.reject.ensures.ok
+
+pub returns-clause-answered : goal.returns-clause-answered
+returns-clause-answered c =
+    let old = under c.args.self.now c.args.script.now in
+    let new = under c.serve_writes.new.self c.serve_writes.new.script in
+    inl (record {
+      writes = c.in-Ok.writes.items;
+      reads = c.in-Ok.ensures.ok;
+      success = refl;
+      replies = subst (λ ws. Replies old ws (string_bytes c.in_ok-text.text) new) c.as_slice.ensures.value c.in_ok-text.ensures.ok;
+    })
+
+pub returns-in_err-text-clause-stopped : goal.returns-in_err-text-clause-stopped
+returns-in_err-text-clause-stopped c =
+    let old = under c.args.self.now c.args.script.now in
+    let new = under c.serve_writes.new.self c.serve_writes.new.script in
+    let p = err_from_is_err_and c.from_residual.result c.from_residual.ensures.1 in
+    rw (p.1, p.2)
+    (inr (record {
+      writes = c.in-Ok.writes.items;
+      reads = c.in-Ok.ensures.ok;
+      first = subst (λ ws. RunsFirst c.in_err-text.field-0.0.ran old ws new) c.as_slice.ensures.value c.in_err-text.ensures.err;
+    }))
