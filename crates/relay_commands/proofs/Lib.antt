@@ -1,3 +1,4 @@
+mod Answered
 pub mod Taken
 pub mod Written
 pub mod Streaming
