@@ -13,6 +13,7 @@ pub mod Fronts
 pub mod Exclusion
 pub mod Totality
 pub mod TwoLines
+mod Feeds
 mod LineEnds
 pub mod Versioning
 pub mod Bodies

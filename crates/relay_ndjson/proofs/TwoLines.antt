@@ -1,9 +1,10 @@
 -- Two line feeds after a byte that ends no line.
-use Rattle.std.proofs.Common.{◌≡◌, ◌↔◌, ℕ, ◌+◌, ◌-◌, ◌<◌, ◌≤◌, List, length, take, drop, get_or, Option, None, Some, is_some, IsTrue, true, false, ◌==◌, refl, ap, sym, ◌∙◌, arith, inl, inr}
+use Rattle.std.proofs.Common.{◌≡◌, ◌↔◌, ℕ, ◌+◌, ◌-◌, ◌<◌, ◌≤◌, List, length, take, drop, get_or, None, Some, Bool, IsTrue, true, false, ◌==◌, ap, sym, ◌∙◌, arith, inl, inr}
 use Rattle.std.proofs.lemmas.Grind.{common_steps}
 use Rattle.std.proofs.lemmas.List.{take_rest}
 use Rattle.memchr.specs.Find.{IsFirstByte, is_byte}
 use Rattle.relay_action.specs.Limits.{is_line_end}
+use Rattle.relay_ndjson.specs.Lines.{HoldsFeedFrom}
 use Rattle.relay_ndjson.specs.Reading.{HoldsTwoLines}
 use Rattle.relay_ndjson.proofs.Totality.{decide_le}
 
@@ -56,21 +57,14 @@ first_from bytes s e f m h is =
 feed_at : (bytes : List ℕ) (s e : ℕ) → IsFirstByte (is_byte 10) (rest bytes s) (Some e) → get_or bytes (s + e) 0 ≡ 10
 feed_at bytes s e m = sym (at_rest bytes s e) ∙ feed_of (get_or (rest bytes s) e 0) m.1
 
-pub two_lines : (bytes : List ℕ) (s e : ℕ) (r : Option ℕ) → s < length bytes → is_line_end (get_or bytes s 0) ≡ false → ((k : ℕ) → k < s → is_line_end (get_or bytes k 0) ≡ true) → IsFirstByte (is_byte 10) (rest bytes s) (Some e) → IsFirstByte (is_byte 10) (rest bytes (s + e + 1)) r → IsTrue (is_some r) ↔ HoldsTwoLines bytes
-two_lines bytes s e None h ne first m n = (
-  λ t. cc,
-  λ p.
-      let low = from_start bytes s p.0 first p.6 in
-      let mid = first_from bytes s e p.1 m (omega (arith, low, p.3)) p.7 in
-      absurd (none_from bytes (s + e + 1) p.2 n (omega (arith, mid, p.4)) p.5 p.8),
-)
-two_lines bytes s e (Some k) h ne first m n =
+pub two_lines : (bytes : List ℕ) (s e : ℕ) (more : Bool) → s < length bytes → is_line_end (get_or bytes s 0) ≡ false → ((k : ℕ) → k < s → is_line_end (get_or bytes k 0) ≡ true) → IsFirstByte (is_byte 10) (rest bytes s) (Some e) → (IsTrue more ↔ HoldsFeedFrom (s + e + 1) bytes) → IsTrue more ↔ HoldsTwoLines bytes
+two_lines bytes s e more h ne first m n =
     let at = feed_at bytes s e m in
-    let more : s < s + e =
+    let after : s < s + e =
     elim (decide_le 1 e) [ inl h ↦ omega (arith, h) | inr h ↦ (let z : s + e ≡ s = omega (arith, h) in absurd (no_feed (get_or bytes s 0) ne (sym (ap (λ k. get_or bytes k 0) z) ∙ at))) ]
-    in
-    let inside = n.0.high in
-    let count = length-rest bytes (s + e + 1) in (
-      λ t. (s, s + e, s + e + 1 + k, more, omega arith, omega (arith, inside, count), ne, at, feed_at bytes (s + e + 1) k n),
-      λ p. refl,
+    in (
+      λ t. (let f = n.0 t in (s, s + e, f.0, after, omega (arith, f.1), f.2, ne, at, f.3)),
+      λ p.
+          let low = from_start bytes s p.0 first p.6 in
+          let mid = first_from bytes s e p.1 m (omega (arith, low, p.3)) p.7 in n.1 (p.2, omega (arith, mid, p.4), p.5, p.8),
     )

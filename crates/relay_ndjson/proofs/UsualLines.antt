@@ -1,6 +1,6 @@
 -- A line in the usual form says what its parts say.
 use denote.Ref.{Bor}
-use Rattle.std.proofs.Common.{◌≡◌, ℕ, List, [], ◌∷◌, ◌++◌, Option, Some, None, IsUtf8, refl, sym, ap, ◌∙◌, rules, lit≤, codes, append_assoc, append-nil, option_and_then, unwrap_or}
+use Rattle.std.proofs.Common.{◌≡◌, ℕ, List, [], ◌++◌, Option, Some, None, IsUtf8, refl, sym, ap, ◌∙◌, rules, lit≤, codes, append-nil, option_and_then, unwrap_or}
 use Rattle.std.proofs.lemmas.Str.{IsUtf8-append}
 use Rattle.std.specs.Option.{option_or}
 use Rattle.json.specs.Json as json

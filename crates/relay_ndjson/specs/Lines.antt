@@ -17,6 +17,15 @@ piece_limit = 65536
 abbrev pub IsUnbroken : List ℕ → Type 0
 IsUnbroken bytes = list_any (λ b. b == 10) bytes ≡ false
 
+-- so far behind the front stands the end of the last line among the first so many bytes, 0 where none of them is a line feed
+abbrev pub EndsLinesAt : ℕ → ℕ → List ℕ → Type 0
+EndsLinesAt ends to bytes =
+    (ends ≤ to) × (0 < ends → slice_index bytes (ends - 1) ≡ 10) × ((k : ℕ) → ends ≤ k → k < to → slice_index bytes k ≢ 10)
+
+-- a line feed stands at this place or after it
+abbrev pub HoldsFeedFrom : ℕ → List ℕ → Type 0
+HoldsFeedFrom start bytes = (feed : ℕ) × (start ≤ feed) × (feed < length bytes) × (slice_index bytes feed ≡ 10)
+
 -- raw is what stands before a line feed: the text, and maybe one carriage return
 abbrev pub IsRaw : List ℕ → List ℕ → Type 0
 IsRaw text raw = (raw ≡ text ++ 13 ∷ []) ⊎ ((raw ≡ text) × (slice_index raw (length raw - 1) ≢ 13))

@@ -239,16 +239,17 @@ impl Lines {
 }
 
 /// Whether a byte that ends no line stands there, and two line feeds after it.
-pub fn holds_two_lines(bytes: &[u8]) -> bool
-    ensures { IsTrue result ↔ HoldsTwoLines bytes.now }
+pub fn holds_two_lines(piece: &Piece) -> bool
+    ensures { IsTrue result ↔ HoldsTwoLines piece.now }
 {
+    let bytes = piece.held();
     let Some(start) = text_start(bytes) else {
         return false;
     };
     let Some(end) = memchr(b'\n', &bytes[start..]) else {
         return false;
     };
-    memchr(b'\n', &bytes[start + end + 1..]).is_some()
+    piece.holds_feed_from(start + end + 1)
 }
 
 // Whether a line with these bytes added is longer than a line may be, whatever follows them.

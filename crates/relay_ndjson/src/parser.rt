@@ -113,7 +113,7 @@ impl<'a> Parser<'a> {
     pub fn is_ready(&self) -> bool
         ensures { IsTrue result ↔ HoldsTwoLines self.now.held }
     {
-        holds_two_lines(self.lines.piece.held())
+        holds_two_lines(&self.lines.piece)
     }
 
     /// The number of the action line that was given last, 0 before the first. A fault does not change it.

@@ -2,10 +2,11 @@
 ghost use Rattle.std.specs.Prelude.{◌≡◌, ◌≢◌, ◌<◌, ◌≤◌, ◌↔◌, [], length, drop, vec_len, IsTrue, IfOk, IfErr, OnOk, OnErr};
 ghost use Rattle.std.specs.Bool.{OnTrue, OnFalse};
 ghost use Rattle.std.specs.Io.KnownBytes.{prepend_known, IsAtEnd};
-ghost use Rattle.relay_ndjson.specs.Lines.{piece_limit};
+ghost use Rattle.relay_ndjson.specs.Lines.{piece_limit, EndsLinesAt, HoldsFeedFrom};
 ghost use Rattle.relay_ndjson.specs.Steps.{IsFillFault, failed_by};
 
 use crate::kind::LineKind;
+use memchr::memrchr;
 use relay_action::ByteIn;
 use std::alloc::{AllocError, Global};
 use std::marker::Model;
@@ -21,6 +22,8 @@ pub struct Piece {
     bytes: Vec<u8>,
     from: usize,
     to: usize,
+    // How far the last line that ends in what was read reaches, 0 where none ends there.
+    ends: usize,
 }
 
 impl Model for Piece {
@@ -30,9 +33,10 @@ impl Model for Piece {
 
     ghost view = { λ p. take (p.to - p.from) (drop p.from p.bytes.items) };
 
-    ghost use Rattle.relay_ndjson.specs.Lines.{piece_limit};
+    ghost use Rattle.relay_ndjson.specs.Lines.{piece_limit, EndsLinesAt};
 
-    ghost invariant = { λ p. (p.from ≤ p.to) × (p.to ≤ vec_len p.bytes) × (vec_len p.bytes ≤ piece_limit) };
+    ghost invariant = { λ p. (p.from ≤ p.to) × (p.to ≤ vec_len p.bytes) × (vec_len p.bytes ≤ piece_limit)
+        × EndsLinesAt p.ends p.to p.bytes.items };
 }
 
 // Room for a piece.
@@ -40,6 +44,16 @@ fn make_room(alloc: Global) -> Result<Vec<u8>, AllocError>
     ensures { IfOk result (λ bytes. vec_len bytes ≡ piece_limit) }
 {
     vec![in alloc; 0; PIECE]
+}
+
+// How far the last line that ends there reaches, 0 where none does.
+fn last_end(bytes: &[u8]) -> usize
+    ensures { EndsLinesAt result (length bytes.now) bytes.now }
+{
+    match memrchr(b'\n', bytes) {
+        Some(feed) => feed + 1,
+        None => 0,
+    }
 }
 
 impl Piece {
@@ -52,6 +66,7 @@ impl Piece {
             bytes: Vec::new(alloc),
             from: 0,
             to: 0,
+            ends: 0,
         }
     }
 
@@ -67,6 +82,14 @@ impl Piece {
         ensures { IsTrue result ↔ (self.now ≡ []) }
     {
         self.from == self.to
+    }
+
+    /// Whether a line ends at this place of the bytes that were not used yet, or after it. No byte is
+    /// looked at: the last end was sought when they were read.
+    pub fn holds_feed_from(&self, start: usize) -> bool
+        ensures { IsTrue result ↔ HoldsFeedFrom start self.now }
+    {
+        start < self.ends.saturating_sub(self.from)
     }
 
     /// Uses the first bytes.
@@ -96,9 +119,11 @@ impl Piece {
         }
         self.from = 0;
         self.to = 0;
+        self.ends = 0;
         match reader.read(self.bytes.as_mut_slice()) {
             Ok(count) => {
                 self.to = count;
+                self.ends = last_end(&self.bytes[..count]);
                 Ok(())
             }
             Err(_) => Err(LineKind::Read),
