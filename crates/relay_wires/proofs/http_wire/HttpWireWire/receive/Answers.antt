@@ -1,6 +1,6 @@
-use Rattle.std.proofs.Common.{◌≡◌, length, sym, ap, subst, ◌∙◌, arith}
+use Rattle.std.proofs.Common.{◌≡◌, length, refl, sym, ap, subst, string_bytes, ◌∙◌, arith}
 use Rattle.relay_wires.specs.Numbered.{besides}
-use Rattle.relay_wires.specs.Carriers.{Carrier, AllOutOpen}
+use Rattle.relay_wires.specs.Carriers.{Carrier, AllOutOpen, Brings}
 use Rattle.relay_wires.proofs.Numbers.{found-Mem, numbers-besides, length-besides}
 use Rattle.relay_wires.proofs.Opened.{open_found, open_besides}
 use Rattle.relay_wires.proofs.http_wire.HttpWireWire.receive.Goals as goal
@@ -37,3 +37,25 @@ unreachable-requires g c =
 
 pub returns-clause-out : goal.returns-clause-out
 returns-clause-out g c = rw (c.take.ensures.besides, ← c.self.view_is) (numbers-besides c.args.number c.self.inside.out.items)
+
+pub returns-clause-brings : goal.returns-clause-brings
+returns-clause-brings g c =
+    let b = c.bring.ensures.brings in
+    let old : Carrier = record {
+      host = string_bytes c.self.inside.host;
+      most = c.self.inside.most;
+      out = c.self.inside.out.items;
+      free = c.self.inside.free.items;
+      failed = g.D.Dial.failed c.self.inside.dial;
+    } in
+    let new : Carrier = record old { out = c.take.new.out.items; free = c.bring.new.free.items } in
+    let brings : Brings c.args.number old new c.bring.result = record {
+      connection = c.in-Some.conn;
+      out_on = sym c.take.ensures.found ∙ c.in-Some.is;
+      left = b.left;
+      read = b.read;
+      reads = b.reads;
+      told = b.told;
+      after = rw (c.take.ensures.besides, b.free) refl;
+    } in
+    subst (λ (w : Carrier). Brings c.args.number w new c.bring.result) c.self.view_is brings
