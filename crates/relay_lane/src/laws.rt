@@ -14,7 +14,7 @@ pub fn lanes_begin()
 {}
 
 /// What turns add up to: the requests and the ticks that they are, within what the lane might send; and a
-/// call that is made again after want of memory goes on from where the first one stopped.
+/// call that is made again after lack of memory goes on from where the first one stopped.
 pub fn turns_add_up()
     ensures keep { TurnsKeep }
     ensures on { WorksOn }

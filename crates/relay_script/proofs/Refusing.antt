@@ -39,7 +39,7 @@ no_id text index rest b w key more h =
     let same = same_cut text index key.index rest h.middle b h.index in
     uncut h.middle key.id more (subst (λ (t : List ℕ). IsWord t) same.1 w) h.id
 
--- two words that a document has are at fault for want of memory alone
+-- two words that a document has are at fault for lack of memory alone
 memory_alone : (index id : List ℕ) (key : DocKey) (e : ActionFault) → index ≡ key.index → id ≡ key.id → e ≡ unwrap_or (key_fault index id) action.Memory → fault_of e ≡ fault.Memory
 memory_alone index id key e i d f =
     let none : key_fault index id ≡ None = rw (i, d) (key_none key.index key.id key.index_ok key.id_ok) in

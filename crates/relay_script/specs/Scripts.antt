@@ -128,7 +128,7 @@ IsScript front left before after result =
     Runs front left before after result ⊎ (HasNoWorld front before after result × ReadsOn front left)
 
 -- Which calls failed: of the reader one where the answer is a failed read, of the writer one where it is a failed write;
--- a failed write may follow a failed read or want of memory.
+-- a failed write may follow a failed read or lack of memory.
 abbrev pub FailsOnce : ℕ → ℕ → ℕ → ℕ → Result Unit ScriptFault → Type 0
 FailsOnce old new before after (Err fault.Read) = OneFails old new × NoneFails before after
 FailsOnce old new before after (Err fault.Write) = OneAtMost old new × OneFails before after

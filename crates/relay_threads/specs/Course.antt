@@ -31,7 +31,7 @@ KnowsOpen closed heard = (sender : ℕ) → sender < length closed → slice_ind
 abbrev pub OneIsOpen : ℕ → List Mail → Type 0
 OneIsOpen senders taken = (sender : ℕ) × (sender < senders) × (¬ HasDone (mail_of sender taken))
 
--- Of the messages that were taken from the queue the lane heard all, but for want of memory maybe the last one, an operation.
+-- Of the messages that were taken from the queue the lane heard all, but for lack of memory maybe the last one, an operation.
 pub record Heard (kind : LaneEndKind) (taken heard : List Mail) : Type 0 where
   pub missed : List Mail
   pub all : taken ≡ heard ++ missed

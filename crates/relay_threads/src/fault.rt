@@ -16,7 +16,7 @@ pub enum StartFault {
     /// There was no memory for a queue, a lane or a handle.
     #[error("Memory")]
     Memory,
-    /// A thread could not be started, for want of memory too. When this comes is not promised.
+    /// A thread could not be started, for lack of memory too. When this comes is not promised.
     #[error("Thread")]
     Thread,
 }

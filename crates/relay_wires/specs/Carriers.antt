@@ -95,7 +95,7 @@ pub record Reads (c d : Connection) (r : Result HttpReply HttpFault) : Type 0 wh
   pub failed : d.failed ≡ failed_reading r c.failed
   pub written : d.written ≡ c.written
 
--- a fault of a connection that reads is a lost reply, but for want of memory
+-- a fault of a connection that reads is a lost reply, but for lack of memory
 abbrev pub fault_received : HttpFault → WireFault
 fault_received http.Malformed = fault.Lost
 fault_received http.HeadLong = fault.Lost

@@ -60,7 +60,7 @@ abbrev pub is_lost : ℕ → Loop → Bool
 is_lost number w = list_any (λ n. n == number) w.lost
 
 -- What becomes of a request with these writes. Its entries, or the loss of its reply: all items were run, once each and in
--- their order; the reply is lost where that was asked for, or where it is too long. Want of memory: the first items were
+-- their order; the reply is lost where that was asked for, or where it is too long. Lack of memory: the first items were
 -- run so, and no more. Nothing else is answered.
 abbrev pub Exchanged : Bool → List Write → Server → Server → Result WireReply WireFault → Type 0
 Exchanged lost ws old new (Ok (reply.Items outcomes)) =
