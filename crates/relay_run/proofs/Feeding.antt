@@ -1,5 +1,5 @@
 -- What was put is what was taken.
-use Rattle.std.proofs.Common.{◌≡◌, ℕ, List, [], ◌∷◌, ◌++◌, Result, Err, refl, sym, subst, ap, ◌∙◌}
+use Rattle.std.proofs.Common.{◌≡◌, ℕ, List, [], ◌∷◌, ◌++◌, Result, Ok, Err, refl, sym, subst, ap, ◌∙◌}
 use Rattle.relay_ndjson.specs.declared.parser.Phase.TheVariants as phase
 use Rattle.relay_ndjson.specs.Operations.{Operation}
 use Rattle.relay_ndjson.specs.Reading.{Reading, Takes}
@@ -8,7 +8,9 @@ use Rattle.relay_commands.proofs.Taken.{takes_more}
 use Rattle.relay_producer.specs.States.{ProducerState, after_put}
 use Rattle.relay_run.specs.declared.feed.FeedFault.{FeedFault}
 use Rattle.relay_run.specs.declared.feed.FeedFault.TheVariants as fault
-use Rattle.relay_run.specs.Feeding.{after_puts, Puts, Stops, Feeds}
+use Rattle.relay_run.specs.declared.feed.Next.{Next}
+use Rattle.relay_run.specs.declared.feed.Next.TheVariants as next
+use Rattle.relay_run.specs.Feeding.{after_puts, Puts, Stops, Feeds, FeedsNext}
 
 -- operations were taken of an open input, and put one after another
 pub record Fed (old now : Reading) (before after : ProducerState) : Type 0 where
@@ -35,6 +37,11 @@ fed_more old now next p q r n op h t e = record {
 pub fed_stops : (old now new : Reading) (p q after : ProducerState) (result : Result Unit FeedFault) → Fed old now p q → Stops now new q after result → Feeds old new p after result
 fed_stops old now new p q after result h s =
     record { ops = h.ops; rest = now; taken = h.taken; stops = subst (λ (x : ProducerState). Stops now new x after result) h.fed s }
+
+-- the end of the input stops the feeding
+pub fed_ends : (old now new : Reading) (p q after : ProducerState) (n : Next) → n ≡ next.Ended → FeedsNext now new q after (Ok n) → Fed old now p q → Feeds old new p after (Ok tt)
+fed_ends old now new p q after n is e h =
+    fed_stops old now new p q after (Ok tt) h (subst (λ (x : Next). FeedsNext now new q after (Ok x)) is e)
 
 -- a put that is refused stops the feeding
 pub refused_stops : (old new : Reading) (p q : ProducerState) (n : ℕ) (op : Operation) (e : FeedFault) → Takes old new n op → Puts op.0 op.1 p q (Err e) → Stops old new p q (Err e)

@@ -1,6 +1,7 @@
 -- The texts of a run, file by file and lane by lane.
-use Rattle.std.proofs.Common.{◌≡◌, ℕ, ◌+◌, ◌<◌, Bool, List, ◌∷◌, ◌++◌, length, drop, get_or, sym, ap, ◌∙◌, append_assoc}
-use Rattle.std.specs.Prelude.{Option}
+use Rattle.std.proofs.Common.{◌≡◌, ℕ, ◌+◌, ◌<◌, Bool, if◌then◌else◌, Ok, Err, OnOk, List, ◌∷◌, ◌++◌, length, drop, get_or, sym, ap, ◌∙◌, append_assoc}
+use Rattle.std.specs.Prelude.{Option, Result, is_ok}
+use Rattle.std.specs.declared.alloc.AllocError.{AllocError}
 use Rattle.std.proofs.lemmas.List.{drop_more}
 use Rattle.relay_core.specs.declared.report.Report.{Report}
 use Rattle.relay_ndjson.specs.Operations.{counted}
@@ -11,6 +12,12 @@ use Rattle.relay_run.specs.Faults.{file_fault, said_of, worse_by, faults_text, e
 use Rattle.relay_run.specs.Outcomes.{total, reports_of}
 
 -- ---- files
+
+-- a line of which the front was added, and the last part where there was memory
+pub ended_line : (r : Result Unit AllocError) (new mid text name file end line : List ℕ) → new ≡ (if is_ok r then mid ++ end else mid) → mid ≡ text ++ name → name ≡ file
+    → file ++ end ≡ line → OnOk r (new ≡ text ++ line)
+ended_line (Ok x) new mid text name file end line n m f l = n ∙ ap (λ t. t ++ end) m ∙ append_assoc text name end ∙ ap (λ t. text ++ (t ++ end)) f ∙ ap (λ t. text ++ t) l
+ended_line (Err e) new mid text name file end line n m f l = tt
 
 -- what is said of one file more
 pub said_on : (files : List (List ℕ)) (opened : List Bool) (stops : List (Option FeedFault)) (place : ℕ) (file : List ℕ) (d : Bool) (e : Option FeedFault) (text new all : List ℕ)

@@ -1,6 +1,6 @@
 use Rattle.std.proofs.Common.{Err, ap, ◌∙◌}
 use Rattle.relay_producer.specs.States.{ProducerState}
-use Rattle.relay_run.proofs.Feeding.{fed_more, fed_stops}
+use Rattle.relay_run.proofs.Feeding.{fed_more, fed_stops, fed_ends}
 use Rattle.relay_run.proofs.feed.feed.Goals as goal
 
 pub operations-preserved : goal.operations-preserved
@@ -11,6 +11,10 @@ operations-preserved g c =
       same = c.in-Ok-Put.ensures.same ∙ c.operations.invariant.same;
       producer = ap (λ (s : ProducerState). s.producer) next.4 ∙ c.operations.invariant.producer;
     }
+
+pub returns-in-Ok-Ended-clause-feeds : goal.returns-in-Ok-Ended-clause-feeds
+returns-in-Ok-Ended-clause-feeds g c =
+    fed_ends _ _ _ _ _ _ c.in-Ok-Ended.field-0 c.in-Ok-Ended.field-0-is c.in-Ok-Ended.ensures.next c.operations.invariant.fed
 
 pub returns-in-Err-clause-feeds : goal.returns-in-Err-clause-feeds
 returns-in-Err-clause-feeds g c = fed_stops _ _ _ _ _ _ (Err c.in-Err.fault) c.operations.invariant.fed c.in-Err.ensures.next
