@@ -3,7 +3,7 @@
 
 # Builds the program, proved.
 build:
-	@echo "proving and building the program and the libraries that it stands on, one after another; the first time takes some minutes"
+	@echo "proving and building the program and the libraries that it stands on, one after another; the first time takes three quarters of an hour"
 	@cd crates/relay && rt run -- --version
 
 # Shows the program's main job on the examples.
