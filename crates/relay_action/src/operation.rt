@@ -5,21 +5,26 @@ use crate::action::Action;
 use crate::key::DocKey;
 use std::alloc::AllocError;
 
-/// The name of an operation: who put it, and as which of its operations, counted from 1 over all lanes.
+/// The name of an operation: in which epoch it was put, who put it, and as which of its operations in
+/// that epoch, counted from 1 over all lanes.
 #[derive(Clone, Copy, Debug, PartialEq, Eq)]
 pub struct OpName {
+    /// The epoch in which it was put.
+    pub epoch: u32,
     /// The producer, from 0.
     pub producer: u32,
-    /// Which of its operations this is, from 1.
+    /// Which of its operations of the epoch this is, from 1.
     pub number: u64,
 }
 
 /// An operation of a producer.
 #[derive(Debug, Drop)]
 pub struct Op {
+    /// The epoch in which it was put.
+    pub epoch: u32,
     /// The producer, from 0.
     pub producer: u32,
-    /// Which of its operations this is, from 1.
+    /// Which of its operations of the epoch this is, from 1.
     pub number: u64,
     /// The document.
     pub key: DocKey,
@@ -30,14 +35,16 @@ pub struct Op {
 impl Op {
     /// The operation's name.
     pub fn name(&self) -> OpName
-        ensures { result ≡ record { producer = self.now.producer; number = self.now.number } }
+        ensures { result ≡ record { epoch = self.now.epoch; producer = self.now.producer; number = self.now.number } }
     {
         let Op {
+            epoch,
             producer,
             number,
             ..
         } = self;
         OpName {
+            epoch: *epoch,
             producer: *producer,
             number: *number,
         }
@@ -48,6 +55,7 @@ impl Op {
         ensures { IfOk result (λ o. o ≡ self.now) }
     {
         Ok(Op {
+            epoch: self.epoch,
             producer: self.producer,
             number: self.number,
             key: self.key.copy()?,

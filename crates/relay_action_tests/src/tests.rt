@@ -192,6 +192,7 @@ fn copies_of_deletes_equal_them(rt: HostRuntime) -> Result<(), Fail> {
 // The removal of a book by producer 3, its operation 9.
 fn removal(alloc: Global) -> Result<Op, Fail> {
     Ok(Op {
+        epoch: 0,
         producer: 3,
         number: 9,
         key: DocKey::new(alloc, "books", "1")?,
@@ -209,6 +210,7 @@ fn is_copied_op(op: &Op) -> Result<bool, AllocError> {
 fn copies_of_operations_equal_them(rt: HostRuntime) -> Result<(), Fail> {
     let op = removal(rt.alloc())?;
     let name = OpName {
+        epoch: 0,
         producer: 3,
         number: 9,
     };
