@@ -1,19 +1,20 @@
 -- What a fate says of the answer that it comes from.
-use Rattle.std.proofs.Common.{◌≡◌, ℕ, zero, suc, ◌+◌, ◌<◌, ◌≤◌, List, [], ◌∷◌, Option, Some, None, Bool, true, false, refl, sym, ap, ◌∙◌, subst, arith}
-use Rattle.std.specs.Prelude.{nat_lt, nat_le, if◌then◌else◌, ◌&&◌, is_some, slice_get, not}
+use Rattle.std.proofs.Common.{◌≡◌, ℕ, zero, suc, ◌+◌, ◌<◌, ◌≤◌, List, [], ◌∷◌, Option, Some, None, Bool, true, false, refl, sym, ap, ◌∙◌, subst, ⊎_elim, arith}
+use Rattle.std.specs.Prelude.{nat_lt, nat_le, if◌then◌else◌, ◌&&◌, ◌||◌, ◌/◌, is_some, slice_get, length, not}
 use borrow.Author.Tests.{ltb-true, ltb-false, leb-true, leb-false}
+use Rattle.std.proofs.lemmas.Bool.{le-leb}
 use Rattle.relay_action.specs.declared.action.ActionKind.{ActionKind}
 use Rattle.relay_action.specs.declared.write.Write.{Write}
 use Rattle.relay_results.specs.declared.cause.Cause.TheVariants as cause
 use Rattle.relay_results.specs.declared.outcome.Outcome.{Outcome}
 use Rattle.relay_results.specs.declared.decide.ItemVerdict.{ItemVerdict}
 use Rattle.relay_results.specs.declared.decide.ItemVerdict.TheVariants as verdict
-use Rattle.relay_results.specs.Verdicts.{is_2xx, is_absent, is_success, is_conflict, is_retried_item, is_retried_whole}
+use Rattle.relay_results.specs.Verdicts.{is_2xx, is_absent, is_success, is_conflict, is_retried_item, is_retried_whole, is_too_large, is_halved}
 use Rattle.relay_results.specs.Matching.{matches}
 use Rattle.relay_results.specs.Outside.{Answer, Unanswered, Items, Whole, Lost, Ran, WasRun, EachWasRun, IsHonest}
-use Rattle.relay_results.specs.Fates.{Fate, Flies, Retried, Reported, Tries, tried_again, fate, fate_of_entry, fate_of_verdict, HasEntry, is_retried_entry}
+use Rattle.relay_results.specs.Fates.{Fate, Flies, Retried, Halved, Reported, Tries, tried_again, fate, fate_of_entry, fate_of_verdict, HasEntry, IsRetried, is_retried_entry}
 use Rattle.relay_results.specs.Laws.{Says, FateSays, AnswersEndFlight, RetriedHasTries, HonestEntryWasRun}
-use Rattle.relay_results.proofs.Lists.{some_same}
+use Rattle.relay_results.proofs.Lists.{some_same, equal, true_or_false, and_left, and_right}
 use Rattle.relay_results.proofs.Excluded.{by_lines, refused_whatever}
 
 if_case : (P : Fate → Type 0) (b : Bool) (x y : Fate) → (b ≡ true → P x) → (b ≡ false → P y) → P (if b then x else y)
@@ -54,7 +55,7 @@ success_absent kind status false true eb h = rw (sym eb) refl
 success_absent kind status false false eb h = rw (sym eb) h
 
 entry_says : (t : Tries) (ws : List Write) (place : ℕ) (kind : ActionKind) (os : List Outcome) (found : Option Outcome) → slice_get os place ≡ found → matches os ws ≡ true → Says t ws place kind (Items os) (fate_of_entry t kind found)
-entry_says t ws place kind os None e m = by_tried (Says t ws place kind (Items os)) t (λ lt. (lt, λ _. ap is_retried_entry e)) (λ le. (refl, le, λ _. ap is_retried_entry e))
+entry_says t ws place kind os None e m = by_tried (Says t ws place kind (Items os)) t (λ lt. (lt, (λ _. ap is_retried_entry e), refl)) (λ le. (refl, le, (λ _. ap is_retried_entry e), refl))
 entry_says t ws place kind os (Some o) e m =
     let entry : HasEntry ws place (Items os) o = record { entries = os; answer = refl; matching = m; entry = e } in
     by_verdict (λ v. Says t ws place kind (Items os) (fate_of_verdict t o v))
@@ -63,24 +64,45 @@ entry_says t ws place kind os (Some o) e m =
     (λ s. (o, entry, success_absent kind o.status (is_some o.error) (is_2xx o.status) refl s))
     (λ s twice. (leb-true _ _ twice, (o, entry, s)))
     (λ s few. (leb-false _ _ few, (o, entry, s)))
-    (λ s some. (ltb-true _ _ some, λ _. ap is_retried_entry e ∙ s))
-    (λ s none. (refl, ltb-false _ _ none, λ _. ap is_retried_entry e ∙ s))
+    (λ s some. (ltb-true _ _ some, (λ _. ap is_retried_entry e ∙ s), refl))
+    (λ s none. (refl, ltb-false _ _ none, (λ _. ap is_retried_entry e ∙ s), refl))
     (λ s. (o, entry, refused_whatever kind o.status (is_some o.error) t.sends t.attempts t.max s, refl, refl))
 
 items_say : (t : Tries) (ws : List Write) (place : ℕ) (kind : ActionKind) (os : List Outcome) (b : Bool) → matches os ws ≡ b → Says t ws place kind (Items os) (if b then fate_of_entry t kind (slice_get os place) else tried_again t)
 items_say t ws place kind os true m = entry_says t ws place kind os (slice_get os place) refl m
-items_say t ws place kind os false m = by_tried (Says t ws place kind (Items os)) t (λ lt. (lt, λ y. absurd (cc (y, m)))) (λ le. (refl, le, λ y. absurd (cc (y, m))))
+items_say t ws place kind os false m = by_tried (Says t ws place kind (Items os)) t (λ lt. (lt, (λ y. absurd (cc (y, m))), refl)) (λ le. (refl, le, (λ y. absurd (cc (y, m))), refl))
+
+-- what is tried again as it is was not too large
+small_retried : (status : ℕ) → is_retried_whole status ≡ true → is_too_large status ≡ false
+small_retried status y = ⊎_elim {C = is_too_large status ≡ false}
+    (λ t. let e = ap is_retried_whole (equal status 413 t) in absurd (cc (y, e)))
+    (λ f. f)
+    (true_or_false (is_too_large status))
+
+whole_says : (t : Tries) (ws : List Write) (place : ℕ) (kind : ActionKind) (s : ℕ) → Says t ws place kind (Whole s) (if is_halved (length ws) s then Halved (length ws / 2) else if is_retried_whole s then tried_again t else Reported (cause.Request s))
+whole_says t ws place kind s =
+    if_case (Says t ws place kind (Whole s)) (is_halved (length ws) s) _ _
+    (λ y. (ap Whole (equal s 413 (and_left _ _ y)), leb-true _ _ (and_right (is_too_large s) _ y), refl))
+    (λ n. if_case (Says t ws place kind (Whole s)) (is_retried_whole s) _ _
+    (λ y.
+    let again = ap (λ b. b || is_retried_whole s) n ∙ y in
+    let small = small_retried s y in
+    by_tried (Says t ws place kind (Whole s)) t (λ lt. (lt, again, small)) (λ le. (refl, le, again, small)))
+    (λ y. (refl, ap (λ b. b || is_retried_whole s) n ∙ y)))
 
 pub fate_says : FateSays
 fate_says t ws place kind Unanswered = refl
 fate_says t ws place kind (Items os) = items_say t ws place kind os (matches os ws) refl
-fate_says t ws place kind (Whole s) =
-    if_case (Says t ws place kind (Whole s)) (is_retried_whole s) _ _ (λ y. by_tried (Says t ws place kind (Whole s)) t (λ lt. (lt, y)) (λ le. (refl, le, y))) (λ y. (refl, y))
-fate_says t ws place kind Lost = by_tried (Says t ws place kind Lost) t (λ lt. (lt, tt)) (λ le. (refl, le, tt))
+fate_says t ws place kind (Whole s) = whole_says t ws place kind s
+fate_says t ws place kind Lost = by_tried (Says t ws place kind Lost) t (λ lt. (lt, tt, refl)) (λ le. (refl, le, tt, refl))
 
 -- what it says where it is this fate
 pub says_as : (t : Tries) (ws : List Write) (place : ℕ) (kind : ActionKind) (a : Answer) (f : Fate) → fate t ws place kind a ≡ f → Says t ws place kind a f
 says_as t ws place kind a f e = subst (λ x. Says t ws place kind a x) e (fate_says t ws place kind a)
+
+-- a request that is halved is sent again
+pub halved_retried : (ws : List Write) (place : ℕ) (a : Answer) → a ≡ Whole 413 → 2 ≤ length ws → IsRetried ws place a
+halved_retried ws place a e some = subst (λ b. IsRetried ws place b) (sym e) (ap (λ b. b || is_retried_whole 413) (le-leb 2 (length ws) some))
 
 pub answers_end : AnswersEndFlight
 answers_end t ws place kind a answered e = answered (says_as t ws place kind a Flies e)

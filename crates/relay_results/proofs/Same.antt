@@ -71,13 +71,17 @@ same_write-self x = and-true _ _ ((Decides-eqb x.version x.version).1 refl) (and
 
 pub same_name-true : (a b : OpName) → same_name a b ≡ true → a ≡ b
 same_name-true a b h =
-    let q = both (a.producer == b.producer) (a.number == b.number) h in
+    let p = both (a.epoch == b.epoch) ((a.producer == b.producer) && (a.number == b.number)) h in
+    let q = both (a.producer == b.producer) (a.number == b.number) p.1 in
+    let d : a.epoch ≡ b.epoch = eqb-true a.epoch b.epoch p.0 in
     let e : a.producer ≡ b.producer = eqb-true a.producer b.producer q.0 in
     let f : a.number ≡ b.number = eqb-true a.number b.number q.1 in
-    λ i. record { producer = e i; number = f i }
+    λ i. record { epoch = d i; producer = e i; number = f i }
 
 pub same_name-self : (a : OpName) → same_name a a ≡ true
-same_name-self a = and-true _ _ ((Decides-eqb a.producer a.producer).1 refl) ((Decides-eqb a.number a.number).1 refl)
+same_name-self a =
+    and-true _ _ ((Decides-eqb a.epoch a.epoch).1 refl)
+    (and-true _ _ ((Decides-eqb a.producer a.producer).1 refl) ((Decides-eqb a.number a.number).1 refl))
 
 pub names_equal : NamesEqual
 names_equal a b = (same_name-true a b, λ e. ap (same_name a) (sym e) ∙ same_name-self a)

@@ -57,11 +57,11 @@ same_write x y =
 
 -- the name of an operation
 abbrev pub name_of : Op → OpName
-name_of o = record { producer = o.producer; number = o.number }
+name_of o = record { epoch = o.epoch; producer = o.producer; number = o.number }
 
 -- the two names are one
 abbrev pub same_name : OpName → OpName → Bool
-same_name a b = (a.producer == b.producer) && (a.number == b.number)
+same_name a b = (a.epoch == b.epoch) && ((a.producer == b.producer) && (a.number == b.number))
 
 -- the two operations have one name, one document and one action
 abbrev pub same_op : Op → Op → Bool

@@ -1,5 +1,5 @@
 -- What the answer of a request makes of the operations that it carried.
-use Rattle.std.specs.Prelude.{◌≡◌, ℕ, List, [], Option, Some, None, is_some, unwrap_or, slice_get, Bool, true, if◌then◌else◌, nat_lt}
+use Rattle.std.specs.Prelude.{◌≡◌, ℕ, List, [], Option, Some, None, is_some, unwrap_or, slice_get, length, ◌/◌, Bool, true, false, if◌then◌else◌, nat_lt}
 use Rattle.relay_action.specs.declared.action.ActionKind.{ActionKind}
 use Rattle.relay_action.specs.declared.write.Write.{Write}
 use Rattle.relay_results.specs.declared.cause.Cause.{Cause}
@@ -7,17 +7,19 @@ use Rattle.relay_results.specs.declared.cause.Cause.TheVariants as cause
 use Rattle.relay_results.specs.declared.outcome.Outcome.{Outcome}
 use Rattle.relay_results.specs.declared.decide.ItemVerdict.{ItemVerdict}
 use Rattle.relay_results.specs.declared.decide.ItemVerdict.TheVariants as verdict
-use Rattle.relay_results.specs.Verdicts.{verdict_of, is_retried_item, is_retried_whole}
+use Rattle.relay_results.specs.Verdicts.{verdict_of, is_retried_item, is_retried_whole, is_too_large, is_halved, is_sent_again}
 use Rattle.relay_results.specs.Matching.{matches}
 use Rattle.relay_results.specs.Outside.{Answer, Unanswered, Items, Whole, Lost}
 
 -- What becomes of an operation: it still flies; it ends as applied, now or by an earlier request; it waits to be sent
--- again; or it ends with a report.
+-- again; it waits to be sent in requests of at most so many items, and this one does not count as a try; or it ends with a
+-- report.
 pub data Fate : Type 0 where
   Flies : Fate
   Applied : Fate
   Already : Fate
   Retried : Fate
+  Halved : ℕ → Fate
   Reported : Cause → Fate
 
 -- where an operation stands when its answer comes: how many requests carried it, how many of them count as tries, and
@@ -48,11 +50,15 @@ abbrev pub fate_of_entry : Tries → ActionKind → Option Outcome → Fate
 fate_of_entry t kind None = tried_again t
 fate_of_entry t kind (Some o) = fate_of_item t kind o
 
--- of a whole request: a lost reply and one that does not match are the same, and 429, 502, 503 and 504 are tried again
+-- of a whole request: a lost reply and one that does not match are the same, 413 halves two items or more, and 429, 502, 503
+-- and 504 are tried again
 abbrev pub fate : Tries → List Write → ℕ → ActionKind → Answer → Fate
 fate t ws place kind Unanswered = Flies
 fate t ws place kind (Items os) = if matches os ws then fate_of_entry t kind (slice_get os place) else tried_again t
-fate t ws place kind (Whole status) = if is_retried_whole status then tried_again t else Reported (cause.Request status)
+fate t ws place kind (Whole status) =
+    if is_halved (length ws) status then Halved (length ws / 2)
+    else if is_retried_whole status then tried_again t
+    else Reported (cause.Request status)
 fate t ws place kind Lost = tried_again t
 
 -- ---- what an answer says
@@ -72,5 +78,12 @@ is_retried_entry (Some o) = is_retried_item o.status
 abbrev pub IsRetried : List Write → ℕ → Answer → Type 0
 IsRetried ws place Unanswered = ⊥
 IsRetried ws place (Items os) = matches os ws ≡ true → is_retried_entry (slice_get os place) ≡ true
-IsRetried ws place (Whole status) = is_retried_whole status ≡ true
+IsRetried ws place (Whole status) = is_sent_again (length ws) status ≡ true
 IsRetried ws place Lost = Unit {0}
+
+-- the request was too large, so that it does not count as a try
+abbrev pub says_too_large : Answer → Bool
+says_too_large Unanswered = false
+says_too_large (Items os) = false
+says_too_large (Whole status) = is_too_large status
+says_too_large Lost = false

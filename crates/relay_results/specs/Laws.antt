@@ -1,5 +1,5 @@
 -- What the definitions rule out, and what follows from them.
-use Rattle.std.specs.Prelude.{◌⊎◌, ◌++◌, ◌≡◌, ◌≢◌, ℕ, ◌<◌, ◌≤◌, List, [], ◌∷◌, Some, Bool, true, false, is_some, unwrap_or}
+use Rattle.std.specs.Prelude.{◌⊎◌, ◌++◌, ◌≡◌, ◌≢◌, ℕ, ◌<◌, ◌≤◌, ◌/◌, List, [], ◌∷◌, length, Some, Bool, true, false, is_some, unwrap_or}
 use Rattle.relay_action.specs.Lanes.{lane_of_document}
 use Rattle.relay_action.specs.declared.action.ActionKind.{ActionKind}
 use Rattle.relay_action.specs.declared.key.DocKey.{DocKey}
@@ -10,14 +10,14 @@ use Rattle.relay_results.specs.declared.outcome.Outcome.{Outcome}
 use Rattle.relay_results.specs.declared.reading.ReplyFault.{ReplyFault}
 use Rattle.relay_results.specs.declared.reading.ReplyFault.TheVariants as fault
 use Rattle.relay_results.specs.declared.decide.ItemVerdict.TheVariants as verdict
-use Rattle.relay_results.specs.Verdicts.{verdict_of, IsRefused, is_conflict, is_retried_whole, is_success}
+use Rattle.relay_results.specs.Verdicts.{verdict_of, IsRefused, is_conflict, is_sent_again, is_success}
 use Rattle.relay_results.specs.Replies.{IsReply, IsFaultOf}
 use Rattle.relay_results.specs.Words.{Mem}
 use Rattle.relay_results.specs.Documents.{Document, document_of, lane_of, same_name}
 use Rattle.relay_results.specs.Matching.{matches}
 use Rattle.relay_results.specs.Numbers.{from_one, from_zero}
 use Rattle.relay_results.specs.Outside.{Answer, Unanswered, Items, Whole, Ran, RunOutcome, Outside, WasRun, IsHonest, write_at, MayRun, IsRefusal, IsOutcomeOf, is_applied, is_above, Event, MayHappen, after, IsStep, Continues}
-use Rattle.relay_results.specs.Fates.{Fate, Flies, Applied, Already, Retried, Reported, Tries, fate, HasEntry, IsRetried}
+use Rattle.relay_results.specs.Fates.{Fate, Flies, Applied, Already, Retried, Halved, Reported, Tries, fate, HasEntry, IsRetried, says_too_large}
 
 -- ---- answers
 
@@ -41,15 +41,16 @@ Says t ws place kind a Flies = a ≡ Unanswered
 Says t ws place kind a Applied =
     (o : Outcome) × HasEntry ws place a o × (is_success kind o.status (is_some o.error) ≡ true)
 Says t ws place kind a Already = (2 ≤ t.sends) × ((o : Outcome) × HasEntry ws place a o × (is_conflict o.status ≡ true))
-Says t ws place kind a Retried = (t.attempts < t.max) × IsRetried ws place a
+Says t ws place kind a Retried = (t.attempts < t.max) × IsRetried ws place a × (says_too_large a ≡ false)
+Says t ws place kind a (Halved cap) = (a ≡ Whole 413) × (2 ≤ length ws) × (cap ≡ length ws / 2)
 Says t ws place kind a (Reported (cause.Refused status error)) =
     (o : Outcome) × HasEntry ws place a o
     × IsRefused kind o.status (is_some o.error) × (o.status ≡ status) × (unwrap_or o.error [] ≡ error)
-Says t ws place kind a (Reported (cause.Request status)) = (a ≡ Whole status) × (is_retried_whole status ≡ false)
+Says t ws place kind a (Reported (cause.Request status)) = (a ≡ Whole status) × (is_sent_again (length ws) status ≡ false)
 Says t ws place kind a (Reported cause.Conflict) =
     (t.sends < 2) × ((o : Outcome) × HasEntry ws place a o × (is_conflict o.status ≡ true))
 Says t ws place kind a (Reported (cause.GaveUp sends)) =
-    (sends ≡ t.sends) × (t.max ≤ t.attempts) × IsRetried ws place a
+    (sends ≡ t.sends) × (t.max ≤ t.attempts) × IsRetried ws place a × (says_too_large a ≡ false)
 Says t ws place kind a (Reported cause.Spent) = ⊥
 
 abbrev pub FateSays : Type 0
@@ -63,7 +64,7 @@ AnswersEndFlight =
     (t : Tries) (ws : List Write) (place : ℕ) (kind : ActionKind) (a : Answer) → a ≢ Unanswered →
     fate t ws place kind a ≢ Flies
 
--- what is tried again has tries left
+-- what is tried again as it is has tries left
 abbrev pub RetriedHasTries : Type 0
 RetriedHasTries =
     (t : Tries) (ws : List Write) (place : ℕ) (kind : ActionKind) (a : Answer) →

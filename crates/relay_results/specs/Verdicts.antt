@@ -30,6 +30,18 @@ is_retried_item status = (status == 429) || (status == 503)
 abbrev pub is_retried_whole : ℕ → Bool
 is_retried_whole status = ((status == 429) || (status == 502)) || ((status == 503) || (status == 504))
 
+-- the request is too large (RFC 9110, section 15.5.14)
+abbrev pub is_too_large : ℕ → Bool
+is_too_large status = status == 413
+
+-- a request of so many items is too large, and is halved: it has two or more
+abbrev pub is_halved : ℕ → ℕ → Bool
+is_halved items status = is_too_large status && nat_le 2 items
+
+-- what a request of so many items carries is sent again, in halves or as it is
+abbrev pub is_sent_again : ℕ → ℕ → Bool
+is_sent_again items status = is_halved items status || is_retried_whole status
+
 -- a line of a table: its condition, and what stands beside it
 pub record Line (A : Type 0) : Type 0 where
   pub holds : Bool

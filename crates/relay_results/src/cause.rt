@@ -12,7 +12,8 @@ pub enum Cause {
         /// The type of the item's error; no text where it tells none.
         kind: Text,
     },
-    /// Its request as a whole was answered by a status that is not tried again.
+    /// Its request as a whole was answered by a status that is not tried again; 413 is one where the
+    /// request had no other item.
     Request {
         /// That status.
         status: u16,

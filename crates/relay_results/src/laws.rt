@@ -25,7 +25,7 @@ pub fn answers_exclude()
 {}
 
 /// What becomes of an operation says which answer it had; an answer ends its flight, and what is tried
-/// again has tries left.
+/// again has tries left, but where its request was too large and is halved.
 pub fn fates_say()
     ensures answer { FateSays }
     ensures ends { AnswersEndFlight }
