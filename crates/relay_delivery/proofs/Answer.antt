@@ -1,26 +1,26 @@
 -- An answer settles a request of a lane.
-use Rattle.std.proofs.Common.{◌≡◌, ◌≢◌, ℕ, ◌+◌, ◌≤◌, List, ◌++◌, Option, Some, true, refl, sym, ap, ◌∙◌, subst, ⊎_elim, inl, inr, arith, length-append}
-use Rattle.std.specs.Prelude.{◌⊎◌, slice_get, is_some}
+use Rattle.std.proofs.Common.{◌≡◌, ◌≢◌, ℕ, ◌+◌, ◌-◌, ◌≤◌, List, ◌++◌, Option, Some, true, refl, sym, ap, ◌∙◌, subst, ⊎_elim, inl, inr, arith, Bool, false, length-append}
+use Rattle.std.specs.Prelude.{◌⊎◌, ◌&&◌, not, slice_get, is_some}
 use Rattle.relay_action.specs.Actions.{kind_of}
 use Rattle.relay_action.specs.declared.write.Write.{Write}
 use Rattle.relay_action.specs.declared.operation.Op.{Op}
 use Rattle.relay_results.specs.declared.outcome.Outcome.{Outcome}
-use Rattle.relay_results.specs.Words.{Mem, update, count}
+use Rattle.relay_results.specs.Words.{Mem, update, count, one_if}
 use Rattle.relay_results.specs.Documents.{Document, document_of, write_for}
 use Rattle.relay_results.specs.Verdicts.{is_success}
 use Rattle.relay_results.specs.Outside.{Answer, Unanswered, Request, Ran, RunOutcome, Outside, WasRun, IsHonest, MayAnswer, is_applied}
-use Rattle.relay_results.specs.Fates.{Fate, Flies, Applied, Already, Retried, Reported, Tries, IsRetried, HasEntry}
+use Rattle.relay_results.specs.Fates.{Fate, Flies, Applied, Already, Retried, Halved, Reported, Tries, IsRetried, HasEntry, says_too_large}
 use Rattle.relay_results.specs.declared.cause.Cause.{Cause}
 use Rattle.relay_results.specs.Laws.{Says}
 use Rattle.relay_results.specs.declared.cause.Cause.TheVariants as cause
-use Rattle.relay_delivery.specs.Causes.{carries, CarriedAt, IsAnswered, IsTrueOf}
+use Rattle.relay_delivery.specs.Causes.{carries, is_try, CarriedAt, IsAnswered, IsTrueOf}
 use Rattle.relay_results.proofs.Same.{same_write-self}
-use Rattle.relay_delivery.specs.Machine.{Config, Core, Held, Place, Report, write_of, report_on, landed, kept, reported, writes_or, settle, how_many, is_applied_fate, is_already_fate}
-use Rattle.relay_results.proofs.Fates.{says_as, honest_entry}
-use Rattle.relay_results.proofs.Lists.{equal, equal_or_not, at-Mem, Mem-cases, Mem-left, Mem-right, at-update-cases, at-update_same, at-update_other, count-update, count-append, count_some, some_same}
+use Rattle.relay_delivery.specs.Machine.{Config, Core, Held, Place, Report, write_of, report_on, landed, halved, kept, reported, writes_or, settle, how_many, is_applied_fate, is_already_fate}
+use Rattle.relay_results.proofs.Fates.{says_as, halved_retried, honest_entry}
+use Rattle.relay_results.proofs.Lists.{equal, equal_or_not, at-Mem, Mem-cases, Mem-left, Mem-right, at-update-cases, at-update_same, at-update_other, true_or_false, count-update, count-update_at, count-append, count_some, some_same}
 use Rattle.relay_delivery.proofs.Facts.{IsSent, HeldFact, RunFact, IndexFact, ReportFact, IsSomewhere, CoreFacts, is_report_as}
-use Rattle.relay_delivery.proofs.Dealt.{write_once, of_held, with_answer, sent_answered, carries_at}
-use Rattle.relay_delivery.proofs.Fates.{turn, kept-from, reported-from, goes_to, count-settled, totals-settled, rising-settled, IsAway, IsHere, away_or_here}
+use Rattle.relay_delivery.proofs.Dealt.{write_once, of_held, with_answer, sent_answered, carries_at, carried_at}
+use Rattle.relay_delivery.proofs.Fates.{turn, StaysAs, kept_as, kept_is, kept_version, kept-from, reported-from, goes_to, count-settled, totals-settled, rising-settled, IsAway, IsHere, away_or_here}
 
 -- what a run of a write says
 record RunSays (stored : Document → Option ℕ) (applied : Document → List Write) (w : Write) (o : RunOutcome) : Type 0 where
@@ -69,6 +69,50 @@ module _ (g : Config) (past : Write → Type 0) (c : Core) (f : CoreFacts g past
   no_answer : (place : ℕ) → IsRetried q.writes place q.answer → ⊥
   no_answer place r = subst (λ b. IsRetried q.writes place b) unanswered r
 
+  -- ---- tries
+
+  -- the answered request counts before as it carries, and afterwards where it was not too large
+  tries-counted : (w : Write) → count (is_try w) new + one_if (carries w q && true) ≡ count (is_try w) requests + one_if (carries w q && not (says_too_large a))
+  tries-counted w =
+      let e = count-update_at (is_try w) number (with_answer a) c.outside.requests q stands in
+      let before = ap (λ b. one_if (carries w q && not (says_too_large b))) unanswered in
+      omega (arith, e, before)
+
+  one_of_both : (b x : Bool) → (one_if (b && x) ≤ one_if (b && true)) × (one_if (b && true) ≤ one_if (b && x) + 1)
+  one_of_both true true = (omega arith, omega arith)
+  one_of_both true false = (omega arith, omega arith)
+  one_of_both false x = (omega arith, omega arith)
+
+  -- one try less at most
+  tries-one_less : (w : Write) → count (is_try w) requests ≤ count (is_try w) new + 1
+  tries-one_less w =
+      let e = tries-counted w in
+      let b = one_of_both (carries w q) (not (says_too_large a)) in
+      let l = b.1 in omega (arith, e, l)
+
+  -- and none where it was not too large, or does not carry the write
+  tries-stay_small : (w : Write) → says_too_large a ≡ false → count (is_try w) new ≡ count (is_try w) requests
+  tries-stay_small w small =
+      let e = tries-counted w in
+      let n = ap (λ b. one_if (carries w q && not b)) small in
+      omega (arith, e, n)
+
+  tries-stay_apart : (w : Write) → carries w q ≡ false → count (is_try w) new ≡ count (is_try w) requests
+  tries-stay_apart w none =
+      let e = tries-counted w in
+      let n = ap (λ b. one_if (b && not (says_too_large a))) none in
+      let m = ap (λ b. one_if (b && true)) none in
+      omega (arith, e, n, m)
+
+  -- what flies elsewhere it does not carry
+  not_carried : (h : Held) → Mem h c.held → IsAway g number q.writes a h → carries (write_of h) q ≡ false
+  not_carried h m w = ⊎_elim {C = carries (write_of h) q ≡ false}
+      (λ t.
+      let k = carried_at requests number q (write_of h) stands t in
+      absurd (⊎_elim {C = ⊥} (λ z. no_answer k.0 z) (λ e. w.elsewhere k.0 e) ((f.held h m).retried number k.0 q k.1)))
+      (λ e. e)
+      (true_or_false (carries (write_of h) q))
+
   -- ---- held operations
 
   held-stays : (h : Held) → Mem h c.held → IsAway g number q.writes a h → HeldFact g c.taken new h
@@ -77,7 +121,7 @@ module _ (g : Config) (past : Write → Type 0) (c : Core) (f : CoreFacts g past
       record {
         dealt = k.dealt;
         sends = same-counts (write_of h) ∙ k.sends;
-        attempts = k.attempts;
+        attempts = let e = tries-stay_apart (write_of h) (not_carried h m w) in let n = k.attempts in omega (arith, e, n);
         retried = λ i place p y. ⊎_elim
             (λ l. k.retried i place p (record { write = y.write; sent = l.1; stands = y.stands; same = y.same }))
             (λ r. ⊎_elim
@@ -107,9 +151,6 @@ module _ (g : Config) (past : Write → Type 0) (c : Core) (f : CoreFacts g past
       ((f.held h m).retried number place q (carried_before (write_of h) i place p y r.0 r.1)))
       (new_cases i p y.sent)
 
-  tries : Held → Tries
-  tries h = record { sends = h.sends; attempts = h.attempts; max = g.max }
-
   abbrev SaysOf : Held → ℕ → Fate → Type 0
   SaysOf h place t = Says (record { sends = h.sends; attempts = h.attempts; max = g.max }) q.writes place (kind_of h.op.action) a t
 
@@ -123,8 +164,21 @@ module _ (g : Config) (past : Write → Type 0) (c : Core) (f : CoreFacts g past
       record {
         dealt = k.dealt;
         sends = same-counts (write_of h) ∙ k.sends;
-        attempts = k.attempts;
+        attempts = let e = tries-stay_small (write_of h) (says h w Retried t).2 in let n = k.attempts in omega (arith, e, n);
         retried = λ i place p y. inl (others_retried h m w (says h w Retried t).1 i place p y);
+        flying = λ at e. absurd (cc);
+        last = λ x s doc. k.last x (sent_answered c.outside.requests number a x s) doc;
+      }
+
+  held-halved : (h : Held) → Mem h c.held → (w : IsHere g number q.writes a h) (cap : ℕ) → turn g number q.writes a h ≡ Halved cap → HeldFact g c.taken new (halved cap h)
+  held-halved h m w cap t =
+      let k = f.held h m in
+      let s = says h w (Halved cap) t in
+      record {
+        dealt = k.dealt;
+        sends = same-counts (write_of h) ∙ k.sends;
+        attempts = let e = tries-one_less (write_of h) in let n = k.attempts in omega (arith, e, n);
+        retried = λ i place p y. inl (others_retried h m w (halved_retried q.writes w.place a s.0 s.1) i place p y);
         flying = λ at e. absurd (cc);
         last = λ x s doc. k.last x (sent_answered c.outside.requests number a x s) doc;
       }
@@ -208,7 +262,7 @@ module _ (g : Config) (past : Write → Type 0) (c : Core) (f : CoreFacts g past
     status_is = s.3;
     error_is = s.4;
   }
-  new_cause h m w (cause.Request status) s = (record { number = number; place = w.place; request = with_answer a q; carried = carried_here h m w; answer = s.0 }, s.1)
+  new_cause h m w (cause.Request status) s = record { number = number; place = w.place; request = with_answer a q; carried = carried_here h m w; answer = s.0; final = s.1 }
   new_cause h m w cause.Conflict s =
       let some = count_some (carries (write_of h)) (with_answer a q) new (at-Mem new number (with_answer a q) new_here) (carries_at new number w.place (with_answer a q) (write_of h) (carried_here h m w)) in
       let k = (f.held h m).sends in
@@ -217,7 +271,7 @@ module _ (g : Config) (past : Write → Type 0) (c : Core) (f : CoreFacts g past
       record { once = omega arith; outcome = s.1.0; answered = answered_here h m w s.1.0 s.1.1; conflict = s.1.2 }
   new_cause h m w (cause.GaveUp n) s = record {
     exactly = same-counts (write_of h) ∙ (f.held h m).sends ∙ sym s.0;
-    enough = let x = (f.held h m).attempts in let y = s.1 in let z = s.0 in omega (arith, x, y, z);
+    enough = let x = (f.held h m).attempts in let y = s.1 in let e = tries-stay_small (write_of h) s.3 in omega (arith, x, y, e);
     each = others_retried h m w s.2;
   }
   new_cause h m w cause.Spent s = s
@@ -235,20 +289,23 @@ module _ (g : Config) (past : Write → Type 0) (c : Core) (f : CoreFacts g past
 
   cause-stays : (max : ℕ) (w : Write) (e : Cause) → IsTrueOf max c.outside w e → IsTrueOf max later w e
   cause-stays max w (cause.Refused status error) h = record { outcome = h.outcome; answered = answered-stays w h.outcome h.answered; refused = h.refused; status_is = h.status_is; error_is = h.error_is }
-  cause-stays max w (cause.Request status) h = (
-    record {
-      number = h.0.number;
-      place = h.0.place;
-      request = h.0.request;
-      carried = record { write = h.0.carried.write; sent = other_stays h.0.number h.0.request h.0.carried.sent (λ e. absurd (cc (e, h.0.answer))); stands = h.0.carried.stands; same = h.0.carried.same };
-      answer = h.0.answer;
-    },
-    h.1,
-  )
+  cause-stays max w (cause.Request status) h = record {
+    number = h.number;
+    place = h.place;
+    request = h.request;
+    carried = record { write = h.carried.write; sent = other_stays h.number h.request h.carried.sent (λ e. absurd (cc (e, h.answer))); stands = h.carried.stands; same = h.carried.same };
+    answer = h.answer;
+    final = h.final;
+  }
   cause-stays max w cause.Conflict h = record { once = same-counts w ∙ h.once; outcome = h.outcome; answered = answered-stays w h.outcome h.answered; conflict = h.conflict }
   cause-stays max w (cause.GaveUp n) h = record {
     exactly = same-counts w ∙ h.exactly;
-    enough = h.enough;
+    enough =
+        let none = ⊎_elim {C = carries w q ≡ false}
+        (λ t. let k = carried_at requests number q w stands t in absurd (no_answer k.0 (h.each number k.0 q k.1)))
+        (λ e. e)
+        (true_or_false (carries w q)) in
+        let e = tries-stay_apart w none in let n = h.enough in omega (arith, e, n);
     each = λ i place p y. ⊎_elim
         (λ l. h.each i place p (record { write = y.write; sent = l.1; stands = y.stands; same = y.same }))
         (λ r. absurd (no_answer place (h.each number place q (carried_before w i place p y r.0 r.1))))
@@ -261,10 +318,14 @@ module _ (g : Config) (past : Write → Type 0) (c : Core) (f : CoreFacts g past
   abbrev held_after : List Held
   held_after = kept g number q.writes a c.held
 
-  kept_of : (k : Held) → Mem k (kept g number q.writes a c.held) → (h : Held) × Mem h c.held × ((turn g number q.writes a h ≡ Flies) ⊎ (turn g number q.writes a h ≡ Retried)) × (k.version ≡ h.version)
+  kept_of : (k : Held) → Mem k (kept g number q.writes a c.held) → (h : Held) × Mem h c.held × StaysAs (turn g number q.writes a h) h k × (k.version ≡ h.version)
   kept_of k m =
       let h = kept-from g number q.writes a c.held k m in
-      (h.0, h.1, ⊎_elim (λ y. inl y.0) (λ y. inr y.0) h.2, ⊎_elim {C = k.version ≡ h.0.version} (λ y. ap (λ (z : Held). z.version) y.1) (λ y. ap (λ (z : Held). z.version) y.1) h.2)
+      (h.0, h.1, h.2, kept_version (turn g number q.writes a h.0) h.0 k h.2)
+
+  -- what stays held is not reported
+  not_reported : (t : Fate) (h k : Held) (e : Cause) → StaysAs t h k → t ≡ Reported e → ⊥
+  not_reported t h k e s r = ⊎_elim {C = ⊥} (λ y. let z = y.0 in cc (z, r)) (λ s. ⊎_elim {C = ⊥} (λ y. let z = y.0 in cc (z, r)) (λ y. let z = y.1 in cc (z, r)) s) s
 
   report-stays : (r : Report) → ReportFact g c.taken c.held c.outside r → ReportFact g c.taken (kept g number q.writes a c.held) later r
   report-stays r x = ⊎_elim
@@ -293,7 +354,7 @@ module _ (g : Config) (past : Write → Type 0) (c : Core) (f : CoreFacts g past
             let j = kept_of k mk in
             let same = f.alone j.0 h j.1 m (sym j.3 ∙ v) in
             let tj = ap (turn g number q.writes a) same ∙ t in
-            ⊎_elim {C = ⊥} (λ y. cc (y, tj)) (λ y. cc (y, tj)) j.2;
+            not_reported (turn g number q.writes a j.0) j.0 k e j.2 tj;
         cause = new_cause h m w e (says h w (Reported e) t);
       }))
       (away_or_here g number q.writes a h)
@@ -328,10 +389,16 @@ module _ (g : Config) (past : Write → Type 0) (c : Core) (f : CoreFacts g past
       (λ w. subst (λ z. HeldFact g c.taken new z) (sym y.1) (held-stays h.0 h.1 w))
       (λ w. absurd (answered (says h.0 w Flies y.0)))
       (away_or_here g number q.writes a h.0))
+      (λ s. ⊎_elim
       (λ y. ⊎_elim
       (λ w. absurd (cc (y.0, w.stays)))
       (λ w. subst (λ z. HeldFact g c.taken new z) (sym y.1) (held-landed h.0 h.1 w y.0))
       (away_or_here g number q.writes a h.0))
+      (λ y. ⊎_elim
+      (λ w. absurd (cc (y.1, w.stays)))
+      (λ w. subst (λ z. HeldFact g c.taken new z) (sym y.2) (held-halved h.0 h.1 w y.0 y.1))
+      (away_or_here g number q.writes a h.0))
+      s)
       h.2
 
   alone_kept : (k l : Held) → Mem k (kept g number q.writes a c.held) → Mem l (kept g number q.writes a c.held) → k.version ≡ l.version → k ≡ l
@@ -344,16 +411,7 @@ module _ (g : Config) (past : Write → Type 0) (c : Core) (f : CoreFacts g past
       let vh : k.version ≡ h.0.version = hk.3 in
       let vj : l.version ≡ j.0.version = hl.3 in
       let same : h.0 ≡ j.0 = f.alone h.0 j.0 h.1 j.1 (sym vh ∙ e ∙ vj) in
-      ⊎_elim
-      (λ y. ⊎_elim
-      (λ z. y.1 ∙ same ∙ sym z.1)
-      (λ z. absurd (cc (ap (turn g number q.writes a) same, y.0, z.0)))
-      j.2)
-      (λ y. ⊎_elim
-      (λ z. absurd (cc (ap (turn g number q.writes a) same, y.0, z.0)))
-      (λ z. y.1 ∙ ap landed same ∙ sym z.1)
-      j.2)
-      h.2
+      kept_is (turn g number q.writes a h.0) h.0 k h.2 ∙ ap (λ (z : Held). kept_as (turn g number q.writes a z) z) same ∙ sym (kept_is (turn g number q.writes a j.0) j.0 l j.2)
 
   somewhere : (place : ℕ) (o : Op) → slice_get c.taken place ≡ Some o → IsSomewhere g c o place → IsSomewhere g settled_core o place
   somewhere place o s x = ⊎_elim

@@ -13,7 +13,7 @@ use Rattle.relay_delivery.proofs.Facts.{CoreFacts}
 use Rattle.relay_delivery.proofs.Dealt.{dealt_before}
 use Rattle.relay_delivery.proofs.Take.{is_new_held}
 use Rattle.relay_delivery.proofs.Send.{launched_op, launched_version, launched_here}
-use Rattle.relay_delivery.proofs.Fates.{kept-from}
+use Rattle.relay_delivery.proofs.Fates.{turn, kept-from, kept_version, kept_op}
 use Rattle.relay_delivery.proofs.Keeps.{none_past, fresh_facts, step_keeps, facts_of}
 
 abbrev FliesFirst : List Held → Type 0
@@ -67,8 +67,8 @@ answer_first : (g : Config) (number : ℕ) (ws : List Write) (a : Answer) (hs : 
 answer_first g number ws a hs first h j f mh mj flies doc =
     let x = kept-from g number ws a hs h mh in
     let y = kept-from g number ws a hs j mj in
-    let vy : j.version ≡ y.0.version = ⊎_elim {C = j.version ≡ y.0.version} (λ z. ap (λ (k : Held). k.version) z.1) (λ z. ap (λ (k : Held). k.version) z.1) y.2 in
-    let oy : j.op ≡ y.0.op = ⊎_elim {C = j.op ≡ y.0.op} (λ z. ap (λ (k : Held). k.op) z.1) (λ z. ap (λ (k : Held). k.op) z.1) y.2 in
+    let vy = kept_version (turn g number ws a y.0) y.0 j y.2 in
+    let oy = kept_op (turn g number ws a y.0) y.0 j y.2 in
     ⊎_elim {C = h.version ≤ j.version}
     (λ z.
     let same = z.1 in
@@ -76,7 +76,10 @@ answer_first g number ws a hs first h j f mh mj flies doc =
     let le = first x.0 y.0 f x.1 y.1 (sym (ap (λ (k : Held). k.flies) same) ∙ flies) doc' in
     let vx = ap (λ (k : Held). k.version) same in
     omega (arith, vx, vy, le))
-    (λ z. let e = ap (λ (k : Held). k.flies) z.1 in absurd (cc (e, flies)))
+    (λ z. ⊎_elim {C = h.version ≤ j.version}
+    (λ y. let e = ap (λ (k : Held). k.flies) y.1 in absurd (cc (e, flies)))
+    (λ y. let e = ap (λ (k : Held). k.flies) y.2 in absurd (cc (e, flies)))
+    z)
     x.2
 
 -- ---- steps
@@ -94,7 +97,7 @@ steps_first g (s ∷ ss) c facts first may = steps_first g ss (step g s c) (step
 pub earliest_flies : EarliestFlies
 earliest_flies g c r =
     subst (λ (d : Core). FliesFirst d.held) r.reached
-    (steps_first g r.steps r.start (fresh_facts g r.start r.fresh) (λ h j f mh mj flies doc. absurd (subst (λ hs. Mem h hs) r.fresh.held mh)) r.may)
+    (steps_first g r.steps r.start (fresh_facts g none_past (λ w m. m) r.start r.fresh) (λ h j f mh mj flies doc. absurd (subst (λ hs. Mem h hs) r.fresh.held mh)) r.may)
 
 pub one_flies : OneFlies
 one_flies g c r h j f k mh mj fh fj doc =

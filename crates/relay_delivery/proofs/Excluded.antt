@@ -1,23 +1,25 @@
 -- What the definitions rule out.
-use Rattle.std.proofs.Common.{◌≡◌, ◌≢◌, ◌∙◌, ℕ, ◌≤◌, inl, inr, arith, lit<, List, [], ◌∷◌, Option, Some, None, Bool, true, false, refl, ap, sym, subst, ⊎_elim}
-use Rattle.std.specs.Prelude.{◌⊎◌, unwrap_or, is_some, not, ◌&&◌, nat_le, nat_lt, if◌then◌else◌}
+use Rattle.std.proofs.Common.{◌≡◌, ◌≢◌, ◌∙◌, ℕ, ◌+◌, ◌≤◌, inl, inr, arith, lit<, List, [], ◌∷◌, Option, Some, None, Bool, true, false, refl, ap, sym, subst, ⊎_elim}
+use Rattle.std.specs.Prelude.{◌⊎◌, unwrap_or, is_some, not, length, ◌||◌, ◌&&◌, nat_le, nat_lt, if◌then◌else◌}
 use Rattle.relay_action.specs.declared.write.Write.{Write}
 use Rattle.relay_action.specs.declared.operation.OpName.{OpName}
 use Rattle.relay_results.specs.declared.cause.Cause.{Cause}
 use Rattle.relay_results.specs.declared.cause.Cause.TheVariants as cause
 use Rattle.relay_results.specs.Documents.{write_for, same_op}
-use Rattle.relay_results.specs.Outside.{Items, Request, Outside}
+use Rattle.relay_results.specs.Outside.{Items, Whole, Lost, Request, Outside}
 use Rattle.relay_action.specs.Actions.{kind_of}
 use Rattle.relay_results.specs.declared.decide.ItemVerdict.TheVariants as verdict
-use Rattle.relay_results.specs.Verdicts.{is_2xx, is_absent, is_conflict, is_retried_item}
+use Rattle.relay_results.specs.Verdicts.{is_2xx, is_absent, is_conflict, is_retried_item, is_retried_whole, is_halved}
+use Rattle.relay_results.specs.Fates.{says_too_large}
 use Rattle.relay_results.proofs.Excluded.{by_lines}
 use Rattle.relay_results.proofs.Lists.{apart_tests, equal, none_some, some_same, count_some, at-Mem}
 use Rattle.relay_results.proofs.Same.{same_write-self, same_op-true, same_op-self, same_op-joined}
-use Rattle.relay_delivery.specs.Causes.{carries, CarriedAt, IsTrueOf, IsTrueDealt, IsTrueCause, Terms}
+use Rattle.relay_delivery.specs.Causes.{carries, is_try, CarriedAt, IsTrueOf, IsTrueDealt, IsTrueCause, Terms}
 use Rattle.relay_action.specs.declared.operation.Op.{Op}
-use Rattle.relay_delivery.specs.Schedules.{entry}
-use Rattle.relay_delivery.specs.Laws.{request, NoneOfOtherDocument, NoneUnaccepted, NotGivenUpWhenSettled, NotRefusedWithoutStatus, NotRefusedWithoutError, NotRefusedWhenBusy, NotReportedUnsent, NotRejectedWithoutAnswer, NotRejectedWhenRetried, NoConflictWithoutRun, NoneReportedTwice, NoneReportedUntaken, AssignsTwo, NotAssignedTwice}
-use Rattle.relay_results.specs.Words.{count}
+use Rattle.relay_delivery.specs.Schedules.{entry, terms}
+use Rattle.relay_results.proofs.Fates.{halved_retried}
+use Rattle.relay_delivery.specs.Laws.{request, NoneOfOtherDocument, NoneUnaccepted, NotGivenUpWhenSettled, NotRefusedWithoutStatus, NotRefusedWithoutError, NotRefusedWhenBusy, NotReportedUnsent, NotRejectedWithoutAnswer, NotRejectedWhenRetried, NotGivenUpForHalves, NotRejectedWhenHalved, NoConflictWithoutRun, NoneReportedTwice, NoneReportedUntaken, AssignsTwo, NotAssignedTwice}
+use Rattle.relay_results.specs.Words.{count, one_if}
 use Rattle.relay_delivery.proofs.Dealt.{carries_at}
 use Rattle.relay_delivery.proofs.Played.{apart, matches-one, entry-self}
 
@@ -83,11 +85,25 @@ not_busy o dealt t s status error busy h =
 some_carried : (requests : List Request) (w : Write) (number place : ℕ) (q : Request) → CarriedAt requests w number place q → 1 ≤ count (carries w) requests
 some_carried requests w number place q c = count_some (carries w) q requests (at-Mem requests number q c.sent) (carries_at requests number place q w c)
 
+-- what counts as a try carried it
+one_try : (b c : Bool) → one_if (b && c) ≤ one_if b
+one_try true true = omega arith
+one_try true false = omega arith
+one_try false c = omega arith
+
+fewer_tries : (w : Write) (qs : List Request) → count (is_try w) qs ≤ count (carries w) qs
+fewer_tries w [] = omega arith
+fewer_tries w (q ∷ qs) = let r = fewer_tries w qs in let o = one_try (carries w q) (not (says_too_large q.answer)) in omega arith
+
+or_right : (b c : Bool) → c ≡ true → (b || c) ≡ true
+or_right true c t = refl
+or_right false c t = t
+
 unsent_of : (max : ℕ) (s : Outside) (w : Write) (c : Cause) → 1 ≤ max → count (carries w) s.requests ≡ 0 → IsTrueOf max s w c → ⊥
 unsent_of max s w (cause.Refused status error) some none h = let a = h.answered in let n = some_carried s.requests w a.number a.place a.request a.carried in omega (arith, n, none)
-unsent_of max s w (cause.Request status) some none h = let a = h.0 in let n = some_carried s.requests w a.number a.place a.request a.carried in omega (arith, n, none)
+unsent_of max s w (cause.Request status) some none h = let a = h in let n = some_carried s.requests w a.number a.place a.request a.carried in omega (arith, n, none)
 unsent_of max s w cause.Conflict some none h = let n = h.once in omega (arith, n, none)
-unsent_of max s w (cause.GaveUp sends) some none h = let n = h.exactly in let e = h.enough in omega (arith, n, e, none, some)
+unsent_of max s w (cause.GaveUp sends) some none h = let e = h.enough in let l = fewer_tries w s.requests in omega (arith, e, l, none, some)
 unsent_of max s w cause.Spent some none h = h
 
 pub not_unsent : NotReportedUnsent
@@ -98,13 +114,38 @@ not_unsent o v t s c some none h = ⊎_elim
 
 pub not_unanswered : NotRejectedWithoutAnswer
 not_unanswered o dealt t s status none h =
-    let a = (not_spent t s o dealt (cause.Request status) (λ e. cc) h).of_write.0 in
+    let a = (not_spent t s o dealt (cause.Request status) (λ e. cc) h).of_write in
     none a.number a.request a.carried.sent a.answer
 
 pub not_retried : NotRejectedWhenRetried
 not_retried o dealt t s status again h =
-    let n = (not_spent t s o dealt (cause.Request status) (λ e. cc) h).of_write.1 in
-    apart_tests (sym n ∙ again)
+    let a = (not_spent t s o dealt (cause.Request status) (λ e. cc) h).of_write in
+    apart_tests (sym a.final ∙ or_right (is_halved (length a.request.writes) status) (is_retried_whole status) again)
+
+-- two of the three do not count
+counted_once : (a b c : Bool) → one_if (a && false) + (one_if (b && false) + (one_if (c && true) + 0)) ≤ 1
+counted_once true true true = omega arith
+counted_once true true false = omega arith
+counted_once true false true = omega arith
+counted_once true false false = omega arith
+counted_once false true true = omega arith
+counted_once false true false = omega arith
+counted_once false false true = omega arith
+counted_once false false false = omega arith
+
+pub not_for_halves : NotGivenUpForHalves
+not_for_halves o v deals taken sends x y runs h =
+    let w : Write = write_for o v in
+    let g = of_version (terms 2 deals taken) _ o v (cause.GaveUp sends) (λ e. cc) h in
+    let n = g.enough in
+    let l = counted_once (carries w (request (w ∷ x ∷ y ∷ []) (Whole 413))) (carries w (request (w ∷ x ∷ []) (Whole 413))) (carries w (request (w ∷ []) Lost)) in
+    omega (arith, n, l)
+
+pub not_when_halved : NotRejectedWhenHalved
+not_when_halved o dealt t s two h =
+    let a = (not_spent t s o dealt (cause.Request 413) (λ e. cc) h).of_write in
+    let some = two a.number a.request a.carried.sent in
+    apart_tests (sym a.final ∙ halved_retried a.request.writes 0 (Whole 413) refl some)
 
 pub no_conflict : NoConflictWithoutRun
 no_conflict o dealt t s none h =

@@ -8,7 +8,7 @@ use Rattle.relay_results.specs.Words.{Mem, count}
 use Rattle.relay_results.specs.Documents.{Document, document_of, name_of, write_for, same_name}
 use Rattle.relay_results.specs.Outside.{Unanswered, Request, Ran, Outside, is_applied}
 use Rattle.relay_results.specs.declared.cause.Cause.TheVariants.{Spent}
-use Rattle.relay_delivery.specs.Causes.{carries, CarriedAt, IsTrueOf}
+use Rattle.relay_delivery.specs.Causes.{carries, is_try, CarriedAt, IsTrueOf}
 use Rattle.relay_results.specs.Fates.{IsRetried}
 use Rattle.relay_delivery.specs.Machine.{Config, Core, Held, Place, Report, write_of}
 
@@ -42,7 +42,7 @@ pub record IsFlying (requests : List Request) (w : Write) (f : Place) : Type 0 w
 pub record HeldFact (g : Config) (taken : List Op) (requests : List Request) (h : Held) : Type 0 where
   pub dealt : IsDealt g taken h.op h.version
   pub sends : count (carries (write_of h)) requests ≡ h.sends
-  pub attempts : h.attempts ≤ h.sends  -- tries count as sends
+  pub attempts : h.attempts ≤ count (is_try (write_of h)) requests
   -- each request that carried it was answered by an answer that is tried again, but for the one in which it flies
   pub retried : (number place : ℕ) (q : Request) → CarriedAt requests (write_of h) number place q
       → IsRetried q.writes place q.answer ⊎ (h.flies ≡ Some (record { request = number; place = place }))

@@ -8,24 +8,65 @@ use Rattle.relay_results.specs.declared.cause.Cause.{Cause}
 use Rattle.relay_results.specs.Words.{Mem, count, one_if}
 use Rattle.relay_results.specs.Documents.{name_of, same_name}
 use Rattle.relay_results.specs.Outside.{Answer}
-use Rattle.relay_results.specs.Fates.{Fate, Flies, Applied, Already, Retried, Reported, fate}
+use Rattle.relay_results.specs.Fates.{Fate, Flies, Applied, Already, Retried, Halved, Reported, fate}
 use Rattle.relay_results.proofs.Lists.{equal, equal_test, some_same, Mem-cases, Mem-left, Mem-right, Mem-one, count-append}
 use Rattle.relay_results.proofs.Fates.{retried_tries}
-use Rattle.relay_delivery.specs.Machine.{Config, Held, Place, Report, report_on, fate_of, landed, kept_one, reported_one, kept, reported, is_applied_fate, is_already_fate, how_many}
+use Rattle.relay_delivery.specs.Machine.{Config, Held, Place, Report, report_on, fate_of, landed, halved, kept_one, reported_one, kept, reported, is_applied_fate, is_already_fate, how_many}
 use Rattle.relay_delivery.proofs.Facts.{AreRising, is_held_as, is_report_as}
 
-kept_head : (t : Fate) (h k : Held) → Mem k (kept_one t h) → ((t ≡ Flies) × (k ≡ h)) ⊎ ((t ≡ Retried) × (k ≡ landed h))
+-- what stays held of one: as it is, or waiting again, or waiting under a cap
+abbrev pub StaysAs : Fate → Held → Held → Type 0
+StaysAs t h k = ((t ≡ Flies) × (k ≡ h)) ⊎ (((t ≡ Retried) × (k ≡ landed h)) ⊎ ((cap : ℕ) × (t ≡ Halved cap) × (k ≡ halved cap h)))
+
+abbrev pub kept_as : Fate → Held → Held
+kept_as Flies h = h
+kept_as Applied h = h
+kept_as Already h = h
+kept_as Retried h = landed h
+kept_as (Halved cap) h = halved cap h
+kept_as (Reported e) h = h
+
+pub kept_is : (t : Fate) (h k : Held) → StaysAs t h k → k ≡ kept_as t h
+kept_is t h k s = ⊎_elim {C = k ≡ kept_as t h}
+    (λ y. y.1 ∙ ap (λ f. kept_as f h) (sym y.0))
+    (λ s. ⊎_elim {C = k ≡ kept_as t h} (λ y. y.1 ∙ ap (λ f. kept_as f h) (sym y.0)) (λ y. y.2 ∙ ap (λ f. kept_as f h) (sym y.1)) s)
+    s
+
+as_version : (t : Fate) (h : Held) → (kept_as t h).version ≡ h.version
+as_version Flies h = refl
+as_version Applied h = refl
+as_version Already h = refl
+as_version Retried h = refl
+as_version (Halved cap) h = refl
+as_version (Reported e) h = refl
+
+as_op : (t : Fate) (h : Held) → (kept_as t h).op ≡ h.op
+as_op Flies h = refl
+as_op Applied h = refl
+as_op Already h = refl
+as_op Retried h = refl
+as_op (Halved cap) h = refl
+as_op (Reported e) h = refl
+
+pub kept_version : (t : Fate) (h k : Held) → StaysAs t h k → k.version ≡ h.version
+kept_version t h k s = ap (λ (z : Held). z.version) (kept_is t h k s) ∙ as_version t h
+
+pub kept_op : (t : Fate) (h k : Held) → StaysAs t h k → k.op ≡ h.op
+kept_op t h k s = ap (λ (z : Held). z.op) (kept_is t h k s) ∙ as_op t h
+
+kept_head : (t : Fate) (h k : Held) → Mem k (kept_one t h) → StaysAs t h k
 kept_head Flies h k m = inl (refl, Mem-one k h m)
 kept_head Applied h k m = elim m [ ]
 kept_head Already h k m = elim m [ ]
-kept_head Retried h k m = inr (refl, Mem-one k (landed h) m)
+kept_head Retried h k m = inr (inl (refl, Mem-one k (landed h) m))
+kept_head (Halved cap) h k m = inr (inr (cap, refl, Mem-one k (halved cap h) m))
 kept_head (Reported e) h k m = elim m [ ]
 
 module _ (g : Config) (number : ℕ) (ws : List Write) (a : Answer) where
   abbrev pub turn : Held → Fate
   turn h = fate_of g number ws a h h.flies
 
-  pub kept-from : (hs : List Held) (k : Held) → Mem k (kept g number ws a hs) → (h : Held) × Mem h hs × (((turn h ≡ Flies) × (k ≡ h)) ⊎ ((turn h ≡ Retried) × (k ≡ landed h)))
+  pub kept-from : (hs : List Held) (k : Held) → Mem k (kept g number ws a hs) → (h : Held) × Mem h hs × StaysAs (turn h) h k
   kept-from [] k m = elim m [ ]
   kept-from (h ∷ hs) k m = ⊎_elim
       (λ l. (h, inl refl, kept_head (turn h) h k l))
@@ -37,6 +78,7 @@ module _ (g : Config) (number : ℕ) (ws : List Write) (a : Answer) where
   reported_head Applied h r m = elim m [ ]
   reported_head Already h r m = elim m [ ]
   reported_head Retried h r m = elim m [ ]
+  reported_head (Halved cap) h r m = elim m [ ]
   reported_head (Reported e) h r m = (e, refl, Mem-one r (report_on h.op e) m)
 
   pub reported-from : (hs : List Held) (r : Report) → Mem r (reported g number ws a hs) → (h : Held) × Mem h hs × ((e : Cause) × (turn h ≡ Reported e) × (r ≡ report_on h.op e))
@@ -55,6 +97,7 @@ module _ (g : Config) (number : ℕ) (ws : List Write) (a : Answer) where
   goes_head Applied h e = inr (inl (inl e))
   goes_head Already h e = inr (inl (inr e))
   goes_head Retried h e = inl (landed h, inl refl, refl)
+  goes_head (Halved cap) h e = inl (halved cap h, inl refl, refl)
   goes_head (Reported cause) h e = inr (inr (cause, inl refl))
 
   goes_left : (h : Held) (ks ks' : List Held) (rs rs' : List Report) → GoesTo h ks rs → GoesTo h (ks ++ ks') (rs ++ rs')
@@ -76,6 +119,7 @@ module _ (g : Config) (number : ℕ) (ws : List Write) (a : Answer) where
   count_head n Applied h = omega arith
   count_head n Already h = omega arith
   count_head n Retried h = omega arith
+  count_head n (Halved cap) h = omega arith
   count_head n (Reported e) h = omega arith
 
   -- none is held or reported twice for it
@@ -93,6 +137,7 @@ module _ (g : Config) (number : ℕ) (ws : List Write) (a : Answer) where
   rising_head Applied h ks above r = r
   rising_head Already h ks above r = r
   rising_head Retried h ks above r = (above, r)
+  rising_head (Halved cap) h ks above r = (above, r)
   rising_head (Reported e) h ks above r = r
 
   pub rising-settled : (hs : List Held) → AreRising hs → AreRising (kept g number ws a hs)
@@ -100,7 +145,7 @@ module _ (g : Config) (number : ℕ) (ws : List Write) (a : Answer) where
   rising-settled (h ∷ hs) r = rising_head (turn h) h (kept g number ws a hs)
       (λ k m.
       let j = kept-from hs k m in
-      let v : k.version ≡ j.0.version = ⊎_elim {C = k.version ≡ j.0.version} (λ y. ap (λ (z : Held). z.version) y.1) (λ y. ap (λ (z : Held). z.version) y.1) j.2 in
+      let v = kept_version (turn j.0) j.0 k j.2 in
       let lt = r.0 j.0 j.1 in omega (arith, v, lt))
       (rising-settled hs r.1)
 
@@ -109,6 +154,7 @@ module _ (g : Config) (number : ℕ) (ws : List Write) (a : Answer) where
   totals_head Applied h = refl
   totals_head Already h = refl
   totals_head Retried h = refl
+  totals_head (Halved cap) h = refl
   totals_head (Reported e) h = refl
 
   -- each operation stays held, is done or is reported

@@ -11,14 +11,14 @@ use Rattle.relay_results.specs.Words.{Mem, IsSubsequence, AllDistinct}
 use Rattle.relay_results.specs.Documents.{document_of, same_document, name_of}
 use Rattle.relay_results.specs.Outside.{Answer, Unanswered, Request, Ran, Outside, Event, IsOpening, MayRun, MayAnswer, after, after_all, AllMayHappen}
 use Rattle.relay_results.specs.Outside as outside
-use Rattle.relay_results.specs.Fates.{Fate, Flies, Applied, Already, Retried, Reported}
+use Rattle.relay_results.specs.Fates.{Fate, Flies, Applied, Already, Retried, Halved, Reported}
 use Rattle.relay_results.proofs.Same.{same_document-self}
 use Rattle.relay_results.proofs.Steps.{step_runs_item}
-use Rattle.relay_delivery.specs.Machine.{Config, Core, Held, Place, Step, Takes, Sends, Runs, Answers, held_if, spent_if, launched, fate_of, kept_one, kept, reported, how_many, is_applied_fate, is_already_fate, writes_or, step, IsEligible, MaySend, MayStep, CameAbout}
+use Rattle.relay_delivery.specs.Machine.{Config, Core, Held, Place, Step, Takes, Sends, Runs, Answers, held_if, spent_if, launched, fate_of, kept_one, kept, reported, how_many, is_applied_fate, is_already_fate, writes_or, step, KeepsCaps, IsEligible, MaySend, MayStep, CameAbout}
 use Rattle.relay_delivery.specs.Lane.{Entry, Flying, State, held_of, entry_if, taken_op, waits, is_candidate, candidates, launched_entry, writes_of_all, sent, kept_entry, kept_entries, is_other, settled, IsOf, writes_at, is_flying, answered, Fits, FreshFits, ClockFits, TakeFits, SendFits, RunFits, AnswerFits, SoundWhereItFits, CompleteWhereItFits, TotalWhereItFits, WritesWhereItFits, EarliestWhereItFits, OneFliesWhereItFits, tries_of, SendTakesTry, AnswerGivesNoTry}
 use Rattle.relay_delivery.specs.Delivery.{attributed, IsSound, IsComplete, IsDealtWrite}
 use Rattle.relay_delivery.specs.Bound.{tries_left}
-use Rattle.relay_delivery.proofs.Bounded.{within_tries_left, left-kept}
+use Rattle.relay_delivery.proofs.Bounded.{within_tries_left, left-kept, all_tries}
 use Rattle.relay_delivery.proofs.Earliest.{earliest_flies, one_flies}
 use Rattle.relay_results.proofs.Lists.{true_or_false, and_left, and_right, and_both, not_true, equal_test, any_false, at-left, at-last, at-update_other, Mem-cases, Mem-one, Mem-map, map-Mem, Mem-filter, sub_joined, filter_sub, Mem-sub, AllDistinct-sub, sub-map, length-update, equal}
 use Rattle.relay_delivery.proofs.Facts.{AreRising, CoreFacts}
@@ -73,7 +73,7 @@ distinct_versions (h ∷ hs) r = (
   distinct_versions hs r.1,
 )
 
-module _ (s : State) (c : Core) (chosen : List Entry) (part : IsSubsequence chosen (candidates s)) (is : IsOf s c) (facts : CoreFacts s.config none_past c) where
+module _ (past : Write → Type 0) (s : State) (c : Core) (chosen : List Entry) (part : IsSubsequence chosen (candidates s)) (within : KeepsCaps (held_of chosen)) (is : IsOf s c) (facts : CoreFacts s.config past c) where
   among : IsSubsequence (held_of chosen) c.held
   among = subst (λ hs. IsSubsequence (held_of chosen) hs) is.held
       (sub-map (λ (e : Entry). e.held) chosen s.held (sub_joined chosen (candidates s) s.held part (filter_sub (is_candidate s) s.held)))
@@ -103,9 +103,10 @@ module _ (s : State) (c : Core) (chosen : List Entry) (part : IsSubsequence chos
     eligible = eligible;
     distinct = AllDistinct-sub (map (λ (h : Held). h.version) (held_of chosen)) (map (λ (h : Held). h.version) c.held) (distinct_versions c.held facts.in_rise)
         (sub-map (λ (h : Held). h.version) (held_of chosen) c.held among);
+    caps = within;
   }
 
-held_launched : (n : ℕ) (hs : List Held) (es : List Entry) → held_of (map (launched_entry n hs) es) ≡ map (launched n hs) (held_of es)
+pub held_launched : (n : ℕ) (hs : List Held) (es : List Entry) → held_of (map (launched_entry n hs) es) ≡ map (launched n hs) (held_of es)
 held_launched n hs [] = refl
 held_launched n hs (e ∷ es) = ap (λ xs. launched n hs e.held ∷ xs) (held_launched n hs es)
 
@@ -131,9 +132,9 @@ send_is_of s c chosen is =
     }
 
 pub send_fits : SendFits
-send_fits s chosen taken out part f =
+send_fits s chosen taken out part within f =
     next s (sent s chosen) taken taken out (after (outside.Sends (writes_of_all chosen)) out) f (Sends (held_of chosen)) refl
-    (may_send s f.core chosen part f.is_of (facts_of s.config f.core f.came_about)) (send_is_of s f.core chosen f.is_of) f.took
+    (may_send none_past s f.core chosen part within f.is_of (facts_of s.config f.core f.came_about)) (send_is_of s f.core chosen f.is_of) f.took
     (ap (after (outside.Sends (writes_of_all chosen))) f.outside)
 
 -- ---- runs
@@ -163,9 +164,10 @@ held_kept_one clock Flies e = refl
 held_kept_one clock Applied e = refl
 held_kept_one clock Already e = refl
 held_kept_one clock Retried e = refl
+held_kept_one clock (Halved cap) e = refl
 held_kept_one clock (Reported cause) e = refl
 
-held_kept : (g : Config) (clock number : ℕ) (ws : List Write) (a : Answer) (es : List Entry) → held_of (kept_entries g clock number ws a es) ≡ kept g number ws a (held_of es)
+pub held_kept : (g : Config) (clock number : ℕ) (ws : List Write) (a : Answer) (es : List Entry) → held_of (kept_entries g clock number ws a es) ≡ kept g number ws a (held_of es)
 held_kept g clock number ws a [] = refl
 held_kept g clock number ws a (e ∷ es) =
     map-append (λ (x : Entry). x.held) (kept_entry clock (fate_of g number ws a e.held e.held.flies) e) (kept_entries g clock number ws a es)
@@ -295,9 +297,9 @@ some_chosen [] some e = some refl
 some_chosen (e ∷ es) some q = let n = ap length q in absurd (omega (arith, n))
 
 pub send_takes_try : SendTakesTry
-send_takes_try s chosen taken out some ne part f =
+send_takes_try s chosen taken out some ne part within f =
     let is = f.is_of in
-    let n = within_tries_left s.config f.core (Sends (held_of chosen) ∷ []) some f.came_about (may_send s f.core chosen part is (facts_of s.config f.core f.came_about), tt) (some_chosen chosen ne, tt) in
+    let n = within_tries_left s.config f.core (Sends (held_of chosen) ∷ []) some f.came_about (may_send none_past s f.core chosen part within is (facts_of s.config f.core f.came_about), tt) (some_chosen chosen ne, tt) in
     let longer = length-append f.core.outside.requests (record { writes = writes_of_all chosen; answer = Unanswered } ∷ []) in
     let new : List Request = record { writes = writes_of_all chosen; answer = Unanswered } ∷ [] in
     let one : length new ≡ 1 = refl in
@@ -307,8 +309,12 @@ send_takes_try s chosen taken out some ne part f =
     omega (arith, n, longer, one, now, before)
 
 pub answer_gives_no_try : AnswerGivesNoTry
-answer_gives_no_try s number a =
+answer_gives_no_try s number a taken out some flies f =
+    let c = f.core in
+    let is = f.is_of in
     let ws = writes_at (from_zero number) s.flying in
-    let e = ap (tries_left s.config.max) (held_kept s.config s.clock (from_zero number) ws a s.held) in
-    let le = left-kept s.config (from_zero number) ws a (held_of s.held) in
-    omega (arith, e, le)
+    let e = ap (tries_left s.config.max) (held_kept s.config s.clock (from_zero number) ws a s.held ∙ ap (kept s.config (from_zero number) ws a) is.held) in
+    let q : Request = record { writes = ws; answer = Unanswered } in
+    let le = left-kept s.config c.outside.requests (from_zero number) q (flies_unanswered s c number flies is) a c.held (all_tries s.config c some f.came_about) in
+    let before = ap (tries_left s.config.max) is.held in
+    omega (arith, e, le, before)

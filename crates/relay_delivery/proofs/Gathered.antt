@@ -1,5 +1,5 @@
--- What is promised of several lanes over one index, and how their acts lead on.
-use Rattle.std.proofs.Common.{◌≡◌, ℕ, List, [], ◌∷◌, ◌++◌, Some, Bool, true, false, ◌==◌, refl, sym, ap, ◌∙◌, subst, ⊎_elim, inl, inr}
+-- A run of a lane's item is a step of the one outside.
+use Rattle.std.proofs.Common.{◌≡◌, ℕ, [], ◌∷◌, ◌++◌, Some, Bool, true, false, ◌==◌, refl, sym, ap, ◌∙◌, subst, ⊎_elim, inl, inr}
 use Rattle.std.specs.Prelude.{◌⊎◌, slice_get, option_and_then, if◌then◌else◌}
 use Rattle.relay_action.specs.declared.write.Write.{Write}
 use Rattle.relay_results.specs.Documents.{Document, document_of}
@@ -8,68 +8,14 @@ use Rattle.relay_results.specs.Laws.{GrowsBy, RunsItem}
 use Rattle.relay_results.proofs.Lists.{equal, equal_test, at-Mem}
 use Rattle.relay_results.proofs.Steps.{step_runs_item}
 use Rattle.relay_delivery.specs.Machine.{Config, Core, Runs, step}
-use Rattle.relay_delivery.specs.Delivery.{terms_of}
-use Rattle.relay_delivery.specs.Together.{Origin, Together, Act, RunsAt, run_at, act, MayAct, acts_of, AllMayAct, outside_of, SoundTogether, CompleteTogether, FreshTogether, ActTogether, TogetherMay, TogetherRuns}
+use Rattle.relay_delivery.specs.Together.{Origin, Together, RunsAt, run_at, act, MayAct, outside_of}
 use Rattle.relay_delivery.proofs.Dealt.{sent_by}
 use Rattle.relay_delivery.proofs.Run.{found_at}
-use Rattle.relay_delivery.proofs.Keeps.{own_sent}
-use Rattle.relay_delivery.proofs.Joined.{lane_sound, attribution, in_order, versions, assignment, true_report, in_one_lane, all_complete}
-use Rattle.relay_delivery.proofs.Sharing.{TogetherFacts, of_lane, true_all, happens_in_lanes, facts_together}
-
-pub sound_together : SoundTogether
-sound_together g lane_of s c =
-    let f = facts_together g lane_of s c in
-    record {
-      attribution = attribution g lane_of s.lanes f.lanes;
-      in_order = in_order g lane_of s.lanes f.lanes;
-      versions = versions g lane_of s.lanes f.lanes;
-      assignment = assignment g lane_of s.lanes f.lanes;
-      true_reports = λ l r m.
-          let x = true_report g lane_of s.lanes f.lanes l r m in
-          record {
-            op = x.op;
-            producer = x.producer;
-            was_accepted = x.was_accepted;
-            of_lane = x.of_lane;
-            name = x.name;
-            document = x.document;
-            cause = true_all g lane_of s f l (terms_of g (s.lanes.lane l).taken) x.op x.of_lane (versions g lane_of s.lanes f.lanes x.op) r.cause x.cause;
-          };
-      once = λ l. (lane_sound g lane_of s.lanes f.lanes l).once;
-      in_one_lane = in_one_lane g lane_of s.lanes f.lanes;
-    }
-
-pub complete_together : CompleteTogether
-complete_together g lane_of s c done = all_complete g lane_of s.lanes (facts_together g lane_of s c).lanes done
-
-pub together_may : TogetherMay
-together_may g lane_of s c = happens_in_lanes g lane_of s (facts_together g lane_of s c)
-
--- ---- acts one after another
-
-pub fresh_together : FreshTogether
-fresh_together g lane_of s fresh = record { start = s; fresh = fresh; acts = []; may = tt; reached = refl }
-
-acts_more : (g : Config) (lane_of : Document → ℕ) (xs : List Act) (x : Act) (s : Together) → acts_of g lane_of (xs ++ x ∷ []) s ≡ act g lane_of x (acts_of g lane_of xs s)
-acts_more g lane_of [] x s = refl
-acts_more g lane_of (y ∷ xs) x s = acts_more g lane_of xs x (act g lane_of y s)
-
-may_more : (g : Config) (lane_of : Document → ℕ) (xs : List Act) (x : Act) (s : Together) → AllMayAct g lane_of xs s → MayAct x (acts_of g lane_of xs s) → AllMayAct g lane_of (xs ++ x ∷ []) s
-may_more g lane_of [] x s all may = (may, tt)
-may_more g lane_of (y ∷ xs) x s all may = (all.0, may_more g lane_of xs x (act g lane_of y s) all.1 may)
-
-pub act_together : ActTogether
-act_together g lane_of s x c may = record {
-  start = c.start;
-  fresh = c.fresh;
-  acts = c.acts ++ x ∷ [];
-  may = may_more g lane_of c.acts x c.start c.may (subst (λ t. MayAct x t) (sym c.reached) may);
-  reached = acts_more g lane_of c.acts x c.start ∙ ap (act g lane_of x) c.reached;
-}
+use Rattle.relay_delivery.proofs.Sharing.{TogetherFacts, sent_lane}
 
 -- ---- a run of a lane's item is a step of the one outside
 
-module _ (g : Config) (lane_of : Document → ℕ) (s : Together) (f : TogetherFacts g lane_of s) (i place : ℕ) (o : RunOutcome) (from : Origin) (may : MayAct (RunsAt i place o from) s) where
+module _ (g : Config) (lane_of : Document → ℕ) (past : ℕ → Write → Type 0) (s : Together) (f : TogetherFacts g lane_of past s) (i place : ℕ) (o : RunOutcome) (from : Origin) (may : MayAct g (RunsAt i place o from) s) where
   abbrev old : ℕ → Core
   old l = s.lanes.lane l
 
@@ -79,7 +25,7 @@ module _ (g : Config) (lane_of : Document → ℕ) (s : Together) (f : TogetherF
   abbrev ran_core : Core
   ran_core = step g (Runs (run_at from.number place o)) (s.lanes.lane from.lane)
 
-  w : Write
+  pub w : Write
   w = may.1.write
 
   item : RunsItem (s.lanes.lane from.lane).outside ran_core.outside (run_at from.number place o) w
@@ -90,8 +36,7 @@ module _ (g : Config) (lane_of : Document → ℕ) (s : Together) (f : TogetherF
   unfolding w
   its_lane =
       let q = found_at (slice_get (s.lanes.lane from.lane).outside.requests from.number) place may.1.write may.1.sent in
-      of_lane g lane_of s.lanes f.lanes from.lane may.1.write
-      (own_sent g (s.lanes.lane from.lane) (f.lanes.lane from.lane) may.1.write (sent_by (s.lanes.lane from.lane).outside.requests from.number q.0 may.1.write q.1 (at-Mem q.0.writes place may.1.write q.2)))
+      sent_lane g lane_of past s.lanes f.lanes from.lane may.1.write (sent_by (s.lanes.lane from.lane).outside.requests from.number q.0 may.1.write q.1 (at-Mem q.0.writes place may.1.write q.2))
 
   its_item : write_at s.sent i place ≡ Some w
   unfolding w
@@ -140,7 +85,7 @@ module _ (g : Config) (lane_of : Document → ℕ) (s : Together) (f : TogetherF
   grows_by true e a = grown_here (document_of w.key) its_lane (item.grows a)
   grows_by false e a = let t = equal_test (lane_of (document_of w.key)) from.lane its_lane in absurd (cc (t, e))
 
-  runs_once : RunsItem (outside_of lane_of s) (outside_of lane_of (act g lane_of (RunsAt i place o from) s)) (run_at i place o) w
+  pub runs_once : RunsItem (outside_of lane_of s) (outside_of lane_of (act g lane_of (RunsAt i place o from) s)) (run_at i place o) w
   runs_once = record {
     item = its_item;
     requests = refl;
@@ -152,6 +97,3 @@ module _ (g : Config) (lane_of : Document → ℕ) (s : Together) (f : TogetherF
         (goes_by k (lane_of k == from.lane) refl);
     grows = λ a. let d = grows_by (lane_of (document_of w.key) == from.lane) refl a in record { applied = d.0; of_document = d.1; above = d.2; stored = d.3 };
   }
-
-pub together_runs : TogetherRuns
-together_runs g lane_of s i place o from c may = (w g lane_of s (facts_together g lane_of s c) i place o from may, runs_once g lane_of s (facts_together g lane_of s c) i place o from may)

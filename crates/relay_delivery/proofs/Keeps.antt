@@ -15,9 +15,9 @@ use Rattle.relay_delivery.proofs.Answer.{answer_keeps}
 abbrev pub none_past : Write → Type 0
 none_past w = ⊥
 
-pub fresh_facts : (g : Config) (c : Core) → IsFresh g c → CoreFacts g none_past c
-fresh_facts g c s = record {
-  past_below = λ w m. absurd m;
+pub fresh_facts : (g : Config) (past : Write → Type 0) → ((w : Write) → past w → ⊥) → (c : Core) → IsFresh g c → CoreFacts g past c
+fresh_facts g past none c s = record {
+  past_below = λ w m. absurd (none w m);
   held = λ h m. absurd (none_in c.held h s.held m);
   alone = λ h j m mj e. absurd (none_in c.held h s.held m);
   in_rise = subst (λ hs. AreRising hs) (sym s.held) tt;
@@ -59,7 +59,7 @@ steps_keep g past (s ∷ ss) c f may = steps_keep g past ss (step g s c) (step_k
 
 -- what came about has them
 pub facts_of : (g : Config) (c : Core) → CameAbout g c → CoreFacts g none_past c
-facts_of g c r = subst (λ d. CoreFacts g none_past d) r.reached (steps_keep g none_past r.steps r.start (fresh_facts g r.start r.fresh) r.may)
+facts_of g c r = subst (λ d. CoreFacts g none_past d) r.reached (steps_keep g none_past r.steps r.start (fresh_facts g none_past (λ w m. m) r.start r.fresh) r.may)
 
 -- then each write that was sent is of an operation that was taken
 pub own_sent : (g : Config) (c : Core) (f : CoreFacts g none_past c) (w : Write) → IsSent c.outside.requests w → IsOfOne g c.taken w

@@ -4,6 +4,7 @@ pub mod Take
 pub mod Run
 pub mod Send
 pub mod Fates
+pub mod Halving
 pub mod Answer
 pub mod Ordered
 pub mod Keeps
@@ -21,4 +22,8 @@ pub mod Joined
 pub mod Sharing
 pub mod Gathered
 pub mod OneOutside
+pub mod Numbered
 pub mod Lives
+pub mod Parts
+pub mod Accounts
+pub mod Naming

@@ -1,66 +1,111 @@
 -- What holds over incarnations: the facts of the running one, where the past is what earlier ones sent.
-use Rattle.std.proofs.Common.{◌≡◌, ℕ, ◌+◌, ◌<◌, ◌≤◌, List, [], ◌∷◌, ◌++◌, refl, sym, ap, subst, ⊎_elim, inl, inr, arith}
-use Rattle.std.specs.Prelude.{◌⊎◌}
+use Rattle.std.proofs.Common.{◌≡◌, ℕ, ◌+◌, ◌<◌, ◌≤◌, List, [], ◌∷◌, ◌++◌, refl, sym, ◌∙◌, subst, ⊎_elim, inl, inr, arith}
+use Rattle.std.specs.Prelude.{map, filter}
 use Rattle.relay_action.specs.declared.write.Write.{Write}
 use Rattle.relay_action.specs.declared.operation.Op.{Op}
-use Rattle.relay_results.specs.Words.{Mem}
-use Rattle.relay_delivery.specs.Machine.{Config, Core, IsFresh}
-use Rattle.relay_delivery.specs.Restarts.{Incarnation, Life, born, running, Happening, Steps, Restarts, happen, MayBe, lived, AllMayBe, FallsInto, EachFalls}
-use Rattle.relay_results.proofs.Lists.{Mem-left, Mem-last, Mem-push_cases}
-use Rattle.relay_delivery.proofs.Facts.{IsOfOne, IsSent, IsRising, CoreFacts}
-use Rattle.relay_delivery.proofs.Ordered.{ops-in_order, ops-same}
-use Rattle.relay_delivery.proofs.Keeps.{fresh_facts, step_keeps}
+use Rattle.relay_results.specs.Words.{Mem, AllDistinct, IsSubsequence}
+use Rattle.relay_results.specs.Documents.{Document, document_of, name_of}
+use Rattle.relay_results.proofs.Lists.{at-Mem, Mem-at, Mem-left, Mem-last, Mem-push_cases}
+use Rattle.relay_delivery.specs.Attribution.{is_from}
+use Rattle.relay_delivery.specs.Machine.{Config}
+use Rattle.relay_delivery.specs.Together.{Together}
+use Rattle.relay_delivery.specs.Restarts.{Incarnation, incarnation_of, Life, born, restarted_core, restarted_lanes, Happening, Acts, Restarts, happen, IsAbove, MayBe, lived, AllMayBe, CameAboutTogether}
+use Rattle.relay_delivery.proofs.Facts.{IsOfOne, IsSent, CoreFacts}
+use Rattle.relay_delivery.proofs.Queues.{LanesFacts, taken_distinct, was_accepted}
+use Rattle.relay_delivery.proofs.Joined.{taken_order}
+use Rattle.relay_delivery.proofs.Sharing.{TogetherFacts, act_keeps, start_shared}
 
--- a write of one of these incarnations
-pub record IsOfThese (ps : List Incarnation) (w : Write) : Type 0 where
+-- a write of a lane in one of these incarnations
+pub record IsOfThese (ps : List Incarnation) (l : ℕ) (w : Write) : Type 0 where
   pub which : Incarnation
   pub among : Mem which ps
-  pub of_one : IsOfOne which.config which.taken w
+  pub of_one : IsOfOne which.config (which.taken l) w
 
-abbrev pub end_of : Incarnation → ℕ
-end_of p = p.config.first + p.config.deals
+-- of an incarnation, whether it runs or has ended
+pub record IncarnationFacts (lane_of : Document → ℕ) (p : Incarnation) : Type 0 where
+  pub distinct : (l : ℕ) → AllDistinct (map name_of (p.taken l))
+  pub was_accepted : (l : ℕ) (o : Op) → Mem o (p.taken l) → Mem o (p.accepted o.producer) × (lane_of (document_of o.key) ≡ l)
+  pub order : (l q : ℕ) → IsSubsequence (filter (is_from q) (p.taken l)) (p.accepted q)
+  pub epoch : (q : ℕ) (o : Op) → Mem o (p.accepted q) → o.epoch ≡ p.config.epoch
 
--- each begins where all earlier ones end, or later; and all end at or before a version
-abbrev pub AreAbove : List Incarnation → ℕ → Type 0
+-- each is above those before it, and this one above all
+abbrev pub AreAbove : List Incarnation → Config → Type 0
 AreAbove [] top = Unit {0}
-AreAbove (p ∷ ps) top = (end_of p ≤ top) × ((q : Incarnation) → Mem q ps → end_of p ≤ q.config.first) × AreAbove ps top
+AreAbove (p ∷ ps) top = IsAbove p.config top × ((q : Incarnation) → Mem q ps → IsAbove p.config q.config) × AreAbove ps top
 
-pub record LifeFacts (l : Life) : Type 0 where
-  pub core : CoreFacts l.config (IsOfThese l.ended) l.core
-  pub ordered : AreAbove l.ended l.config.first
+pub record LifeFacts (lane_of : Document → ℕ) (l : Life) : Type 0 where
+  pub together : TogetherFacts l.config lane_of (IsOfThese l.ended) l.together
+  pub above : AreAbove l.ended l.config
+  pub each : (p : Incarnation) → Mem p l.ended → IncarnationFacts lane_of p
 
-ends_below : (ps : List Incarnation) (top : ℕ) → AreAbove ps top → (p : Incarnation) → Mem p ps → end_of p ≤ top
-ends_below [] top a p m = absurd m
-ends_below (q ∷ ps) top a p m = ⊎_elim {C = end_of p ≤ top} (λ e. subst (λ (x : Incarnation). end_of x ≤ top) (sym e) a.0) (λ r. ends_below ps top a.2 p r) m
+-- ---- the one that runs
 
-version_below : (g : Config) (taken : List Op) (w : Write) → IsOfOne g taken w → (g.first ≤ w.version) × (w.version < g.first + g.deals)
-version_below g taken w a = let v = a.dealt.version in let n = a.dealt.within in (omega (arith, v), omega (arith, v, n))
+pub running_facts : (g : Config) (lane_of : Document → ℕ) (past : ℕ → Write → Type 0) (s : Together) → TogetherFacts g lane_of past s → IncarnationFacts lane_of (incarnation_of g s)
+running_facts g lane_of past s f = record {
+  distinct = λ l. taken_distinct g lane_of past s.lanes f.lanes l;
+  was_accepted = λ l o m. was_accepted g lane_of past s.lanes f.lanes l o m;
+  order = λ l q. taken_order g lane_of past s.lanes f.lanes l q;
+  epoch = λ q o m. let at = Mem-at o (s.lanes.accepted q) m in f.lanes.epochs q at.0 o at.1;
+}
 
-AreAbove-more : (ps : List Incarnation) (top top' : ℕ) (p : Incarnation) → AreAbove ps top → p.config.first ≡ top → end_of p ≤ top' → AreAbove (ps ++ p ∷ []) top'
-AreAbove-more [] top top' p a e le = (le, (λ q m. absurd m), tt)
-AreAbove-more (q ∷ ps) top top' p a e le = (
-  (let x = a.0 in omega (arith, x, e, le)),
-  (λ r m. ⊎_elim {C = end_of q ≤ r.config.first} (λ o. a.1 r o) (λ d. let f = ap (λ (x : Incarnation). x.config.first) d in let x = a.0 in omega (arith, f, x, e)) (Mem-push_cases r ps p m)),
-  AreAbove-more ps top top' p a.2 e le,
+-- ---- incarnations one above the other
+
+above_on : (a b c : Config) → IsAbove a b → IsAbove b c → IsAbove a c
+above_on a b c x y =
+    let e = x.epoch in
+    let f = y.epoch in
+    let v = x.versions in
+    let u = y.versions in
+    record { epoch = omega (arith, e, f); versions = omega (arith, v, u) }
+
+pub above_more : (ps : List Incarnation) (p : Incarnation) (top : Config) → AreAbove ps p.config → IsAbove p.config top → AreAbove (ps ++ p ∷ []) top
+above_more [] p top a up = (up, (λ q m. absurd m), tt)
+above_more (q ∷ ps) p top a up = (
+  above_on q.config p.config top a.0 up,
+  (λ r m. ⊎_elim {C = IsAbove q.config r.config} (λ o. a.1 r o) (λ e. subst (λ (x : Incarnation). IsAbove q.config x.config) (sym e) a.0) (Mem-push_cases r ps p m)),
+  above_more ps p top a.2 up,
 )
 
-restart_keeps : (l : Life) (f : LifeFacts l) (g : Config) → l.config.first + l.config.deals ≤ g.first → LifeFacts (happen (Restarts g) l)
-restart_keeps l f g le =
-    let c = f.core in
-    let this : Incarnation = record { config = l.config; taken = l.core.taken } in
-    let known : (w : Write) → IsSent l.core.outside.requests w → IsOfThese (l.ended ++ this ∷ []) w = λ w s. ⊎_elim
-    (λ one. record { which = this; among = Mem-last l.ended this; of_one = one })
-    (λ old. record { which = old.which; among = Mem-left old.which l.ended (this ∷ []) old.among; of_one = old.of_one })
-    (c.sent w s) in
-    let above : AreAbove (l.ended ++ this ∷ []) g.first = AreAbove-more l.ended l.config.first g.first this f.ordered refl le in
-    let low : (w : Write) → IsOfThese (l.ended ++ this ∷ []) w → w.version < g.first = λ w a. let e = ends_below (l.ended ++ this ∷ []) g.first above a.which a.among in let v = version_below a.which.config a.which.taken w a.of_one in omega (arith, e, v.1) in
-    record {
-      core = record {
-        past_below = low;
+ends_below : (ps : List Incarnation) (top : Config) → AreAbove ps top → (p : Incarnation) → Mem p ps → p.config.first + p.config.deals ≤ top.first
+ends_below [] top a p m = absurd m
+ends_below (q ∷ ps) top a p m = ⊎_elim {C = p.config.first + p.config.deals ≤ top.first} (λ e. subst (λ (x : Incarnation). x.config.first + x.config.deals ≤ top.first) (sym e) a.0.versions) (λ r. ends_below ps top a.2 p r) m
+
+pub version_within : (g : Config) (taken : List Op) (w : Write) → IsOfOne g taken w → (g.first ≤ w.version) × (w.version < g.first + g.deals)
+version_within g taken w a = let v = a.dealt.version in let n = a.dealt.within in (omega (arith, v), omega (arith, v, n))
+
+-- ---- a restart
+
+module _ (lane_of : Document → ℕ) (life : Life) (f : LifeFacts lane_of life) (g : Config) (up : IsAbove life.config g) where
+  abbrev this : Incarnation
+  this = incarnation_of life.config life.together
+
+  abbrev ended_now : List Incarnation
+  ended_now = life.ended ++ this ∷ []
+
+  above_now : AreAbove ended_now g
+  above_now = above_more life.ended this g f.above up
+
+  -- what a lane sent is of one of them
+  known : (l : ℕ) (w : Write) → IsSent (life.together.lanes.lane l).outside.requests w → IsOfThese ended_now l w
+  known l w s = ⊎_elim
+      (λ one. record { which = this; among = Mem-last life.ended this; of_one = one })
+      (λ old. record { which = old.which; among = Mem-left old.which life.ended (this ∷ []) old.among; of_one = old.of_one })
+      ((f.together.lanes.lane l).sent w s)
+
+  low : (l : ℕ) (w : Write) → IsOfThese ended_now l w → w.version < g.first
+  low l w a =
+      let e = ends_below ended_now g above_now a.which a.among in
+      let v = version_within a.which.config (a.which.taken l) w a.of_one in omega (arith, e, v.1)
+
+  core_now : (l : ℕ) → CoreFacts g (IsOfThese ended_now l) (restarted_core (life.together.lanes.lane l))
+  core_now l =
+      let c = f.together.lanes.lane l in
+      record {
+        past_below = low l;
         held = λ h m. absurd m;
         alone = λ h j m k e. absurd m;
         in_rise = tt;
-        sent = λ w s. inr (known w s);
+        sent = λ w s. inr (known l w s);
         runs = c.runs;
         index = λ k. record {
           sent = (c.index k).sent;
@@ -68,7 +113,7 @@ restart_keeps l f g le =
           rising = (c.index k).rising;
           above = (c.index k).above;
           from = λ u e. ⊎_elim
-              (λ lt. inl (omega (arith, lt, le)))
+              (λ lt. inl (let v = up.versions in omega (arith, lt, v)))
               (λ w. inr w)
               ((c.index k).from u e);
         };
@@ -76,117 +121,62 @@ restart_keeps l f g le =
         apart = λ n. omega arith;
         totals = refl;
         nothing_lost = λ place o s. absurd (cc);
-      };
-      ordered = above;
-    }
+      }
 
-happen_keeps : (l : Life) (f : LifeFacts l) (h : Happening) → MayBe h l → LifeFacts (happen h l)
-happen_keeps l f (Steps s) may = record { core = step_keeps l.config (IsOfThese l.ended) l.core f.core s may; ordered = f.ordered }
-happen_keeps l f (Restarts g) may = restart_keeps l f g may
+  each_now : (p : Incarnation) → Mem p ended_now → IncarnationFacts lane_of p
+  each_now p m = ⊎_elim {C = IncarnationFacts lane_of p}
+      (λ old. f.each p old)
+      (λ e. subst (λ x. IncarnationFacts lane_of x) (sym e) (running_facts life.config lane_of (IsOfThese life.ended) life.together f.together))
+      (Mem-push_cases p life.ended this m)
 
-pub all_keep : (hs : List Happening) (l : Life) → LifeFacts l → AllMayBe hs l → LifeFacts (lived hs l)
-all_keep [] l f may = f
-all_keep (h ∷ hs) l f may = all_keep hs (happen h l) (happen_keeps l f h may.0) may.1
+  lanes_now : LanesFacts g lane_of (IsOfThese ended_now) (restarted_lanes life.together.lanes)
+  lanes_now = record {
+    lane = core_now;
+    of_past = λ l x a. its_lane l x a;
+    order = λ l p. refl;
+    numbers = λ p i o e. absurd (cc);
+    epochs = λ p i o e. absurd (cc);
+  }
+    where
+      its_lane : (l : ℕ) (x : Write) → IsOfThese ended_now l x → lane_of (document_of x.key) ≡ l
+      its_lane l x a =
+          let d = a.of_one.dealt in
+          let o = (each_now a.which a.among).was_accepted l a.of_one.op (at-Mem (a.which.taken l) d.place a.of_one.op d.stands) in
+          (λ i. lane_of (document_of (a.of_one.write i).key)) ∙ o.1
 
--- ---- the parts
+  restart_keeps : LifeFacts lane_of (happen lane_of (Restarts g) life)
+  restart_keeps = record {
+    together = record {
+      lanes = lanes_now;
+      same = λ i from e. let p = f.together.same i from e in record { request = p.request; here = p.here; there = p.there };
+      each = f.together.each;
+      once = f.together.once;
+      as_long = f.together.as_long;
+      ran = λ l r m. let p = f.together.ran l r m in record { number = p.number; origin = p.origin; among = p.among };
+      back = λ r m. let p = f.together.back r m in record { from = p.from; origin = p.origin; among = p.among };
+      counted = f.together.counted;
+    };
+    above = above_now;
+    each = each_now;
+  }
 
-record IsCut (p : Incarnation) (ps : List Incarnation) (ws : List Write) : Type 0 where
-  front : List Write
-  rest : List Write
-  joined : ws ≡ front ++ rest
-  of_first : (w : Write) → Mem w front → IsOfOne p.config p.taken w
-  of_rest : (w : Write) → Mem w rest → IsOfThese ps w
-  rising_front : IsRising front
-  rising_rest : IsRising rest
+-- ---- all that happens
 
-of_cases : (p : Incarnation) (ps : List Incarnation) (w : Write) → IsOfThese (p ∷ ps) w → IsOfOne p.config p.taken w ⊎ IsOfThese ps w
-of_cases p ps w a = ⊎_elim
-    (λ e. inl (subst (λ (x : Incarnation). IsOfOne x.config x.taken w) e a.of_one))
-    (λ r. inr (record { which = a.which; among = r; of_one = a.of_one }))
-    a.among
+pub happen_keeps : (lane_of : Document → ℕ) (l : Life) → LifeFacts lane_of l → (h : Happening) → MayBe h l → LifeFacts lane_of (happen lane_of h l)
+happen_keeps lane_of l f (Acts a) may = record { together = act_keeps l.config lane_of (IsOfThese l.ended) l.together f.together a may.0; above = f.above; each = f.each }
+happen_keeps lane_of l f (Restarts g) may = restart_keeps lane_of l f g may
 
--- after a write of a later incarnation none of this one stands
-all_later : (p : Incarnation) (ps : List Incarnation) (low : ℕ) (ws : List Write) → ((w : Write) → Mem w ws → low < w.version) → end_of p ≤ low → ((w : Write) → Mem w ws → IsOfThese (p ∷ ps) w) → (w : Write) → Mem w ws → IsOfThese ps w
-all_later p ps low ws above le each w m = ⊎_elim
-    (λ one. let v = version_below p.config p.taken w one in let a = above w m in absurd (omega (arith, v.1, a, le)))
-    (λ r. r)
-    (of_cases p ps w (each w m))
+all_keep : (lane_of : Document → ℕ) (hs : List Happening) (l : Life) → LifeFacts lane_of l → AllMayBe lane_of hs l → LifeFacts lane_of (lived lane_of hs l)
+all_keep lane_of [] l f may = f
+all_keep lane_of (h ∷ hs) l f may = all_keep lane_of hs (happen lane_of h l) (happen_keeps lane_of l f h may.0) may.1
 
-cut : (p : Incarnation) (ps : List Incarnation) (top : ℕ) → AreAbove (p ∷ ps) top → (ws : List Write) → IsRising ws → ((w : Write) → Mem w ws → IsOfThese (p ∷ ps) w) → IsCut p ps ws
-cut p ps top a [] r each = record { front = []; rest = []; joined = refl; of_first = λ w m. absurd m; of_rest = λ w m. absurd m; rising_front = tt; rising_rest = tt }
-cut p ps top a (w ∷ ws) r each = ⊎_elim
-    (λ one.
-    let c = cut p ps top a ws r.1 (λ x m. each x (inr m)) in
-    record {
-      front = w ∷ c.front;
-      rest = c.rest;
-      joined = ap (λ xs. w ∷ xs) c.joined;
-      of_first = λ x m. ⊎_elim (λ e. subst (λ z. IsOfOne p.config p.taken z) (sym e) one) (λ y. c.of_first x y) m;
-      of_rest = c.of_rest;
-      rising_front = ((λ x m. r.0 x (subst (λ xs. Mem x xs) (sym c.joined) (Mem-left x c.front c.rest m))), c.rising_front);
-      rising_rest = c.rising_rest;
-    })
-    (λ later.
-    let v = version_below later.which.config later.which.taken w later.of_one in
-    let le = a.1 later.which later.among in
-    record {
-      front = [];
-      rest = w ∷ ws;
-      joined = refl;
-      of_first = λ x m. absurd m;
-      of_rest = λ x m. ⊎_elim
-          (λ e. subst (λ z. IsOfThese ps z) (sym e) later)
-          (λ y. all_later p ps w.version ws r.0 (omega (arith, v.0, le)) (λ z n. each z (inr n)) x y)
-          m;
-      rising_front = tt;
-      rising_rest = r;
-    })
-    (of_cases p ps w (each w (inl refl)))
+pub facts_of_life : (g : Config) (lane_of : Document → ℕ) (ended : List Incarnation) (s : Together) → CameAboutTogether g lane_of ended s → LifeFacts lane_of (record { ended = ended; config = g; together = s })
+facts_of_life g lane_of ended s c =
+    subst (λ l. LifeFacts lane_of l) c.reached (all_keep lane_of c.happenings (born c.first c.start) (record {
+      together = start_shared c.first lane_of (IsOfThese []) (λ l x a. absurd a.among) c.start c.fresh;
+      above = tt;
+      each = λ p m. absurd m;
+    }) c.may)
 
-no_member : (ws : List Write) → ((w : Write) → Mem w ws → ⊥) → ws ≡ []
-no_member [] none = refl
-no_member (w ∷ ws) none = absurd (none w (inl refl))
-
-falls : (ps : List Incarnation) (top : ℕ) → AreAbove ps top → (ws : List Write) → IsRising ws → ((w : Write) → Mem w ws → IsOfThese ps w) → FallsInto ps ws
-falls [] top a ws r each = no_member ws (λ w m. absurd ((each w m).among))
-falls (p ∷ ps) top a ws r each =
-    let c = cut p ps top a ws r each in (
-      c.front,
-      c.rest,
-      c.joined,
-      record { in_order = ops-in_order p.config p.taken c.front c.rising_front c.of_first; actions = ops-same p.config p.taken c.front c.of_first },
-      falls ps top a.2 c.rest c.rising_rest c.of_rest,
-    )
-
--- the first incarnation has no past
-born_facts : (g : Config) (c : Core) → IsFresh g c → LifeFacts (born g c)
-born_facts g c s =
-    let f = fresh_facts g c s in
-    record {
-      core = record {
-        past_below = λ w a. absurd a.among;
-        held = f.held;
-        alone = f.alone;
-        in_rise = f.in_rise;
-        sent = λ w y. ⊎_elim (λ one. inl one) (λ old. absurd old) (f.sent w y);
-        runs = f.runs;
-        index = f.index;
-        reports = f.reports;
-        apart = f.apart;
-        totals = f.totals;
-        nothing_lost = f.nothing_lost;
-      };
-      ordered = tt;
-    }
-
-pub each_falls : EachFalls
-each_falls g c hs s may k =
-    let l = lived hs (born g c) in
-    let f = all_keep hs (born g c) (born_facts g c s) may in
-    let this = running l in
-    falls (l.ended ++ this ∷ []) (l.config.first + l.config.deals) (AreAbove-more l.ended l.config.first (l.config.first + l.config.deals) this f.ordered refl (omega arith))
-    (l.core.outside.applied k) (f.core.index k).rising
-    (λ w m. ⊎_elim
-    (λ one. record { which = this; among = Mem-last l.ended this; of_one = one })
-    (λ old. record { which = old.which; among = Mem-left old.which l.ended (this ∷ []) old.among; of_one = old.of_one })
-    (f.core.sent w ((f.core.index k).sent w m)))
+pub facts_together : (g : Config) (lane_of : Document → ℕ) (ended : List Incarnation) (s : Together) → CameAboutTogether g lane_of ended s → TogetherFacts g lane_of (IsOfThese ended) s
+facts_together g lane_of ended s c = (facts_of_life g lane_of ended s c).together

@@ -8,20 +8,18 @@ use Rattle.relay_results.specs.Outside.{Answer, Unanswered, Request, writes_of, 
 use Rattle.relay_results.specs.Outside as outside
 use Rattle.relay_results.proofs.Lists.{equal, equal_test, at-Mem, some_same}
 use Rattle.relay_results.proofs.Same.{same_document-true}
-use Rattle.relay_results.proofs.Steps.{continues_itself, continues_on}
 use Rattle.relay_delivery.specs.Machine.{Config, Core, Held, Sends, Runs, Answers, write_of, step}
 use Rattle.relay_delivery.specs.Lanes.{Move}
-use Rattle.relay_delivery.specs.Together.{Origin, Together, Act, Plain, SendsFrom, RunsAt, AnswersAt, run_at, act, IsPlain, MayAct, acts_of, AllMayAct, outside_of, TogetherContinues}
+use Rattle.relay_delivery.specs.Together.{Origin, Together, Act, Plain, SendsFrom, RunsAt, AnswersAt, run_at, act, IsPlain, MayAct, outside_of}
 use Rattle.relay_delivery.proofs.Dealt.{sent_by}
 use Rattle.relay_delivery.proofs.Run.{found_at}
-use Rattle.relay_delivery.proofs.Keeps.{own_sent}
-use Rattle.relay_delivery.proofs.Sharing.{TogetherFacts, of_lane, plain_outside, act_keeps, start_shared}
+use Rattle.relay_delivery.proofs.Sharing.{TogetherFacts, sent_lane, plain_outside}
 
 -- one event that leads to what stands there now
 by_event : (old new : Outside) (e : Event) → MayHappen e old → new ≡ after e old → Continues old new
 by_event old new e may reached = record { events = e ∷ []; may = (may, tt); reached = reached }
 
-module _ (g : Config) (lane_of : Document → ℕ) (s : Together) (f : TogetherFacts g lane_of s) where
+module _ (g : Config) (lane_of : Document → ℕ) (past : ℕ → Write → Type 0) (s : Together) (f : TogetherFacts g lane_of past s) where
   abbrev shown : ℕ → Outside
   shown l = (s.lanes.lane l).outside
 
@@ -94,7 +92,7 @@ module _ (g : Config) (lane_of : Document → ℕ) (s : Together) (f : TogetherF
   honest_here i from ws (outside.Whole status) origin h = h
   honest_here i from ws outside.Lost origin h = h
 
-  answer_continues : (i : ℕ) (a : Answer) (from : Origin) → MayAct (AnswersAt i a from) s → Continues (outside_of lane_of s) (outside_of lane_of (act g lane_of (AnswersAt i a from) s))
+  answer_continues : (i : ℕ) (a : Answer) (from : Origin) → MayAct g (AnswersAt i a from) s → Continues (outside_of lane_of s) (outside_of lane_of (act g lane_of (AnswersAt i a from) s))
   answer_continues i a from may =
       let c = step g (Answers from.number a) (s.lanes.lane from.lane) in
       let p = f.same i from may.0 in
@@ -111,7 +109,7 @@ module _ (g : Config) (lane_of : Document → ℕ) (s : Together) (f : TogetherF
 
   -- ---- a run
 
-  module _ (i place : ℕ) (o : RunOutcome) (from : Origin) (may : MayAct (RunsAt i place o from) s) where
+  module _ (i place : ℕ) (o : RunOutcome) (from : Origin) (may : MayAct g (RunsAt i place o from) s) where
     abbrev w : Write
     w = may.1.write
 
@@ -124,8 +122,7 @@ module _ (g : Config) (lane_of : Document → ℕ) (s : Together) (f : TogetherF
     its_lane : lane_of (document_of w.key) ≡ from.lane
     its_lane =
         let q = found_at (slice_get (shown from.lane).requests from.number) place w may.1.sent in
-        of_lane g lane_of s.lanes f.lanes from.lane w
-        (own_sent g (s.lanes.lane from.lane) (f.lanes.lane from.lane) w (sent_by (shown from.lane).requests from.number q.0 w q.1 (at-Mem q.0.writes place w q.2)))
+        sent_lane g lane_of past s.lanes f.lanes from.lane w (sent_by (shown from.lane).requests from.number q.0 w q.1 (at-Mem q.0.writes place w q.2))
 
     its_item : write_at s.sent i place ≡ Some w
     its_item =
@@ -221,28 +218,10 @@ module _ (g : Config) (lane_of : Document → ℕ) (s : Together) (f : TogetherF
         ∙ now_is was
         ∙ ap (ran_of (outside_of lane_of s) (run_at i place o)) (sym its_item))
 
--- ---- acts one after another
+-- ---- any act
 
-act_continues : (g : Config) (lane_of : Document → ℕ) (s : Together) (f : TogetherFacts g lane_of s) (x : Act) → MayAct x s → Continues (outside_of lane_of s) (outside_of lane_of (act g lane_of x s))
-act_continues g lane_of s f (Plain m) may = plain_continues g lane_of s f m may.0
-act_continues g lane_of s f (SendsFrom l chosen) may = send_continues g lane_of s f l chosen
-act_continues g lane_of s f (RunsAt i place o from) may = run_continues g lane_of s f i place o from may
-act_continues g lane_of s f (AnswersAt i a from) may = answer_continues g lane_of s f i a from may
-
-acts_continue : (g : Config) (lane_of : Document → ℕ) (xs : List Act) (s : Together) → TogetherFacts g lane_of s → AllMayAct g lane_of xs s → Continues (outside_of lane_of s) (outside_of lane_of (acts_of g lane_of xs s))
-acts_continue g lane_of [] s f may = continues_itself (outside_of lane_of s)
-acts_continue g lane_of (x ∷ xs) s f may =
-    continues_on (outside_of lane_of s) (outside_of lane_of (act g lane_of x s)) (outside_of lane_of (acts_of g lane_of xs (act g lane_of x s)))
-    (act_continues g lane_of s f x may.0)
-    (acts_continue g lane_of xs (act g lane_of x s) (act_keeps g lane_of s f x may.0) may.1)
-
-pub together_continues : TogetherContinues
-together_continues g lane_of s c =
-    let fresh = c.fresh in
-    record {
-      start = outside_of lane_of c.start;
-      opening = record { requests = fresh.sent; runs = fresh.runs; applied = λ k. (fresh.lanes.lane (lane_of k)).opening.applied k };
-      below = λ k u e. (fresh.lanes.lane (lane_of k)).below k u e;
-      continues = subst (λ t. Continues (outside_of lane_of c.start) (outside_of lane_of t)) c.reached
-          (acts_continue g lane_of c.acts c.start (start_shared g lane_of c.start fresh) c.may);
-    }
+pub act_continues : (g : Config) (lane_of : Document → ℕ) (past : ℕ → Write → Type 0) (s : Together) (f : TogetherFacts g lane_of past s) (x : Act) → MayAct g x s → Continues (outside_of lane_of s) (outside_of lane_of (act g lane_of x s))
+act_continues g lane_of past s f (Plain m) may = plain_continues g lane_of past s f m may.0
+act_continues g lane_of past s f (SendsFrom l chosen) may = send_continues g lane_of past s f l chosen
+act_continues g lane_of past s f (RunsAt i place o from) may = run_continues g lane_of past s f i place o from may
+act_continues g lane_of past s f (AnswersAt i a from) may = answer_continues g lane_of past s f i a from may

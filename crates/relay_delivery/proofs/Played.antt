@@ -1,6 +1,6 @@
 -- The worked schedules.
 use Rattle.std.proofs.Common.{◌≡◌, ◌++◌, ◌+◌, ◌<◌, ◌≤◌, ℕ, zero, suc, List, [], ◌∷◌, Option, Some, None, Bool, true, false, refl, ap, sym, ◌∙◌, subst, arith, inl, inr, lit<, lit≤}
-use Rattle.std.specs.Prelude.{filter, if◌then◌else◌, slice_get}
+use Rattle.std.specs.Prelude.{filter, if◌then◌else◌, slice_get, ◌&&◌}
 use Rattle.relay_results.specs.declared.cause.Cause.{Cause}
 use Rattle.relay_action.specs.declared.key.DocKey.{DocKey}
 use Rattle.relay_action.specs.declared.action.Source.{Source}
@@ -17,14 +17,14 @@ use Rattle.relay_results.specs.Outside.{is_above, Answer, Unanswered, Items, Who
 use Rattle.relay_delivery.specs.Attribution.{IsAttribution, is_from}
 use Rattle.relay_delivery.specs.Causes.{carries, CarriedAt, IsAnswered, IsTrueOf, IsTrueDealt}
 use Rattle.relay_results.specs.Fates.{IsRetried}
-use Rattle.relay_delivery.specs.Schedules.{op, accepted_of, ran, failed, entry, failed_entry, conflict, busy, refusal, Plays, LostThenAlready, LateRunChangesNothing, RunTwice, answered_whole, RefusedOrRejected, BusyThenNext, GivenUpAndApplied, ThreeThenOne}
+use Rattle.relay_delivery.specs.Schedules.{op, accepted_of, ran, failed, entry, failed_entry, conflict, busy, refusal, Plays, LostThenAlready, LateRunChangesNothing, RunTwice, answered_whole, RefusedOrRejected, BusyThenNext, GivenUpAndApplied, ThreeThenOne, HalvedThenAlone}
 use Rattle.relay_results.proofs.Lists.{apart_tests, none_some, some_same, sub_itself}
 use Rattle.relay_results.proofs.Same.{bytes_eq-self, same_document-self, same_write-self, same_kind-Decides, and-true}
 
 -- ---- attributions
 
 abbrev name_of_number : ℕ → OpName
-name_of_number n = record { producer = 0; number = n }
+name_of_number n = record { epoch = 0; producer = 0; number = n }
 
 pub attribution_none : (accepted : ℕ → List Op) (k : Document) → IsAttribution accepted k [] []
 attribution_none accepted k = record {
@@ -266,16 +266,14 @@ rejected key source =
       })),
       whole key source 401 (λ e. apart 200 401 (sym e) (lit< tt)),
       refl,
-      inl (dealt_one (
-        record {
-          number = 0;
-          place = 0;
-          request = record { writes = w ∷ []; answer = Whole 401 };
-          carried = record { write = w; sent = refl; stands = refl; same = same_write-self w };
-          answer = refl;
-        },
-        refl,
-      )),
+      inl (dealt_one (record {
+        number = 0;
+        place = 0;
+        request = record { writes = w ∷ []; answer = Whole 401 };
+        carried = record { write = w; sent = refl; stands = refl; same = same_write-self w };
+        answer = refl;
+        final = refl;
+      })),
       whole key source 503 (λ e. apart 200 503 (sym e) (lit< tt)),
       refl,
     )
@@ -380,7 +378,7 @@ given_up key source =
       refl,
       inl (dealt_one (record {
         exactly = ap (λ b. one_if b + (one_if b + 0)) (carries_self w Lost);
-        enough = lit≤ tt;
+        enough = (let n = ap (λ b. one_if (b && true) + (one_if (b && true) + 0)) (carries_self w Lost) in omega (arith, n));
         each = lost_each w x _ refl;
       })),
       rw (bytes_eq-self key.id) refl,
@@ -452,4 +450,66 @@ three k l m source other kl lm km =
       rw (bytes_eq-self k.id, bytes_eq-self l.id, bytes_eq-self m.id) refl,
       rw (bytes_eq-self k.id, bytes_eq-self l.id, bytes_eq-self m.id) refl,
       rw (bytes_eq-self l.id) refl,
+    )
+
+-- ---- a request that is too large
+
+-- a request of both is halved, one for another write does not count, and the last is lost
+halved_each : (w x : Write) → same_write x w ≡ false → (number place : ℕ) (q : Request)
+    → CarriedAt (record { writes = w ∷ x ∷ []; answer = Whole 413 } ∷ record { writes = w ∷ []; answer = Whole 413 } ∷ record { writes = x ∷ []; answer = Lost } ∷ []) x number place q → IsRetried q.writes place q.answer
+halved_each w x other zero place q h =
+    let e : record { writes = w ∷ x ∷ []; answer = Whole 413 } ≡ q = some_same _ q h.sent in subst (λ (r : Request). IsRetried r.writes place r.answer) e refl
+halved_each w x other (suc zero) place q h =
+    let e : record { writes = w ∷ []; answer = Whole 413 } ≡ q = some_same _ q h.sent in
+    absurd (not_carried x w h.write place other (ap (λ (r : Request). slice_get r.writes place) e ∙ h.stands) h.same)
+halved_each w x other (suc (suc zero)) place q h =
+    let e : record { writes = x ∷ []; answer = Lost } ≡ q = some_same _ q h.sent in subst (λ (r : Request). IsRetried r.writes place r.answer) e tt
+halved_each w x other (suc (suc (suc n))) place q h = let t = h.sent in cc
+
+too_large : ◌≡◌ {A = ℕ} 413 200 → ⊥
+too_large e = apart 200 413 (sym e) (lit< tt)
+
+pub halved_alone : HalvedThenAlone
+halved_alone k l =
+    let w : Write = write_for (op 1 k Delete) 1 in
+    let x : Write = write_for (op 2 l Delete) 2 in (
+      record {
+        may = (
+          tt,
+          (
+            record { request = record { writes = w ∷ x ∷ []; answer = Unanswered }; sent = refl; open_yet = refl; honest = too_large },
+            (
+              tt,
+              (
+                record { request = one_request w; sent = refl; open_yet = refl; honest = too_large },
+                (tt, (record { request = one_request x; sent = refl; open_yet = refl; honest = tt }, tt)),
+              ),
+            ),
+          ),
+        );
+        applied = refl;
+        attribution = attribution_none _ _;
+        in_order = λ p. tt;
+      },
+      refl,
+      refl,
+      refl,
+      refl,
+      inl (dealt_one (record {
+        number = 1;
+        place = 0;
+        request = record { writes = w ∷ []; answer = Whole 413 };
+        carried = record { write = w; sent = refl; stands = refl; same = same_write-self w };
+        answer = refl;
+        final = refl;
+      })),
+      inl (record {
+        version = 2;
+        is_dealt = refl;
+        of_write = record {
+          exactly = ap (λ b. one_if b + (0 + (one_if b + 0))) (carries_self x Lost);
+          enough = (let n = ap (λ b. one_if (b && false) + (0 + (one_if (b && true) + 0))) (carries_self x Lost) in omega (arith, n));
+          each = halved_each w x refl;
+        };
+      }),
     )

@@ -2,6 +2,7 @@
 use Rattle.std.proofs.Common.{◌≡◌, ℕ, zero, suc, ◌+◌, List, [], ◌∷◌, ◌++◌, length, Some, Bool, true, false, ◌==◌, refl, sym, ap, ◌∙◌, subst, ⊎_elim, arith, append_assoc, append-nil}
 use Rattle.std.specs.Prelude.{slice_get, map, filter, if◌then◌else◌}
 use Rattle.std.proofs.lemmas.List.Elements.{filter-append}
+use Rattle.relay_action.specs.declared.write.Write.{Write}
 use Rattle.relay_action.specs.declared.operation.Op.{Op}
 use Rattle.relay_action.specs.declared.operation.OpName.{OpName}
 use Rattle.relay_results.specs.Words.{Mem, AllDistinct}
@@ -11,15 +12,18 @@ use Rattle.relay_delivery.specs.Machine.{Config, Core, Step, Takes, Sends, Runs,
 use Rattle.relay_delivery.specs.Lanes.{Lanes, Move, Puts, Closes, Fetches, Steps, fetched, move, IsInner, MayPut, MayMove, IsStart}
 use Rattle.relay_results.proofs.Lists.{true_or_false, equal, equal_test, at-cases, Mem-at, Mem-left, Mem-map, map-Mem, Mem-filter, filter-Mem, distinct_places, at-map, some_same, filter_sub, AllDistinct-sub, sub-map, none_at}
 use Rattle.relay_delivery.proofs.Facts.{CoreFacts}
-use Rattle.relay_delivery.proofs.Keeps.{none_past, fresh_facts, step_keeps}
+use Rattle.relay_delivery.proofs.Keeps.{fresh_facts, step_keeps}
 
 abbrev pub is_for : (Document → ℕ) → ℕ → Op → Bool
 is_for lane_of l o = lane_of (document_of o.key) == l
 
-pub record LanesFacts (g : Config) (lane_of : Document → ℕ) (w : Lanes) : Type 0 where
-  pub lane : (l : ℕ) → CoreFacts g none_past (w.lane l)
+-- what holds of lanes and queues; by lane, the past is what earlier incarnations sent there
+pub record LanesFacts (g : Config) (lane_of : Document → ℕ) (past : ℕ → Write → Type 0) (w : Lanes) : Type 0 where
+  pub lane : (l : ℕ) → CoreFacts g (past l) (w.lane l)
+  pub of_past : (l : ℕ) (x : Write) → past l x → lane_of (document_of x.key) ≡ l
   pub order : (l p : ℕ) → filter (is_from p) ((w.lane l).taken ++ w.queue l) ≡ filter (is_for lane_of l) (w.accepted p)
   pub numbers : (p i : ℕ) (o : Op) → slice_get (w.accepted p) i ≡ Some o → (o.producer ≡ p) × (o.number ≡ i + 1)
+  pub epochs : (p i : ℕ) (o : Op) → slice_get (w.accepted p) i ≡ Some o → o.epoch ≡ g.epoch
 
 -- ---- filters
 
@@ -31,7 +35,7 @@ filter-push p xs x b e = filter-append p xs (x ∷ []) ∙ ap (λ ys. filter p x
 
 -- ---- an operation is put
 
-module _ (g : Config) (lane_of : Document → ℕ) (w : Lanes) (f : LanesFacts g lane_of w) (o : Op) (may : MayPut w o) where
+module _ (g : Config) (lane_of : Document → ℕ) (past : ℕ → Write → Type 0) (w : Lanes) (f : LanesFacts g lane_of past w) (o : Op) (may : MayPut g w o) where
   mine : ℕ
   mine = lane_of (document_of o.key)
 
@@ -70,19 +74,28 @@ module _ (g : Config) (lane_of : Document → ℕ) (w : Lanes) (f : LanesFacts g
       (at-cases (w.accepted p) o i x s)
   put_numbers p i x false e s = f.numbers p i x s
 
-  pub put_keeps : LanesFacts g lane_of (move g lane_of (Puts o) w)
+  put_epochs : (p i : ℕ) (x : Op) (c : Bool) → slice_get (if c then w.accepted p ++ o ∷ [] else w.accepted p) i ≡ Some x → x.epoch ≡ g.epoch
+  put_epochs p i x true s = ⊎_elim
+      (λ l. f.epochs p i x l)
+      (λ r. ap (λ (z : Op). z.epoch) r.1 ∙ may.epoch)
+      (at-cases (w.accepted p) o i x s)
+  put_epochs p i x false s = f.epochs p i x s
+
+  pub put_keeps : LanesFacts g lane_of past (move g lane_of (Puts o) w)
   put_keeps = record {
     lane = f.lane;
+    of_past = f.of_past;
     order = λ l p. put_order l p (l == lane_of (document_of o.key)) (p == o.producer) refl refl;
     numbers = λ p i x s. put_numbers p i x (p == o.producer) refl s;
+    epochs = λ p i x s. put_epochs p i x (p == o.producer) s;
   }
 
 -- ---- a lane's step
 
-module _ (g : Config) (lane_of : Document → ℕ) (w : Lanes) (f : LanesFacts g lane_of w) (l : ℕ) where
-  lane_by : (c : Core) → CoreFacts g none_past c → (m : ℕ) (b : Bool) → CoreFacts g none_past (if b then c else w.lane m)
-  lane_by c k m true = k
-  lane_by c k m false = f.lane m
+module _ (g : Config) (lane_of : Document → ℕ) (past : ℕ → Write → Type 0) (w : Lanes) (f : LanesFacts g lane_of past w) (l : ℕ) where
+  lane_by : (c : Core) → CoreFacts g (past l) c → (m : ℕ) (b : Bool) → (m == l) ≡ b → CoreFacts g (past m) (if b then c else w.lane m)
+  lane_by c k m true e = subst (λ n. CoreFacts g (past n) c) (sym (equal m l e)) k
+  lane_by c k m false e = f.lane m
 
   same_taken : (c : Core) → c.taken ≡ (w.lane l).taken → (m p : ℕ) (b : Bool) → (m == l) ≡ b → filter (is_from p) ((if b then c else w.lane m).taken ++ w.queue m) ≡ filter (is_for lane_of m) (w.accepted p)
   same_taken c same m p true e =
@@ -96,11 +109,13 @@ module _ (g : Config) (lane_of : Document → ℕ) (w : Lanes) (f : LanesFacts g
   inner_taken (Runs r) c i = refl
   inner_taken (Answers number a) c i = refl
 
-  pub inner_keeps : (s : Step) → IsInner s → MayStep s (w.lane l) → LanesFacts g lane_of (move g lane_of (Steps l s) w)
+  pub inner_keeps : (s : Step) → IsInner s → MayStep s (w.lane l) → LanesFacts g lane_of past (move g lane_of (Steps l s) w)
   inner_keeps s i may = record {
-    lane = λ m. lane_by (step g s (w.lane l)) (step_keeps g none_past (w.lane l) (f.lane l) s may) m (m == l);
+    lane = λ m. lane_by (step g s (w.lane l)) (step_keeps g (past l) (w.lane l) (f.lane l) s may) m (m == l) refl;
+    of_past = f.of_past;
     order = λ m p. same_taken (step g s (w.lane l)) (inner_taken s (w.lane l) i) m p (m == l) refl;
     numbers = f.numbers;
+    epochs = f.epochs;
   }
 
   fetch_order : (o : Op) (os : List Op) → w.queue l ≡ o ∷ os → (m p : ℕ) (b : Bool) → (m == l) ≡ b
@@ -111,30 +126,36 @@ module _ (g : Config) (lane_of : Document → ℕ) (w : Lanes) (f : LanesFacts g
       ∙ f.order l p ∙ ap (λ n. filter (is_for lane_of n) (w.accepted p)) (sym em)
   fetch_order o os q m p false e = f.order m p
 
-  pub fetch_keeps : (q : List Op) → w.queue l ≡ q → LanesFacts g lane_of (fetched g l w q)
+  pub fetch_keeps : (q : List Op) → w.queue l ≡ q → LanesFacts g lane_of past (fetched g l w q)
   fetch_keeps [] e = f
   fetch_keeps (o ∷ os) e = record {
-    lane = λ m. lane_by (step g (Takes o) (w.lane l)) (step_keeps g none_past (w.lane l) (f.lane l) (Takes o) tt) m (m == l);
+    lane = λ m. lane_by (step g (Takes o) (w.lane l)) (step_keeps g (past l) (w.lane l) (f.lane l) (Takes o) tt) m (m == l) refl;
+    of_past = f.of_past;
     order = λ m p. fetch_order o os e m p (m == l) refl;
     numbers = f.numbers;
+    epochs = f.epochs;
   }
 
-pub move_keeps : (g : Config) (lane_of : Document → ℕ) (w : Lanes) (f : LanesFacts g lane_of w) (m : Move) → MayMove m w → LanesFacts g lane_of (move g lane_of m w)
-move_keeps g lane_of w f (Puts o) may = put_keeps g lane_of w f o may
-move_keeps g lane_of w f (Closes p) may = record { lane = f.lane; order = f.order; numbers = f.numbers }
-move_keeps g lane_of w f (Fetches l) may = fetch_keeps g lane_of w f l (w.queue l) refl
-move_keeps g lane_of w f (Steps l s) may = inner_keeps g lane_of w f l s may.0 may.1
+pub move_keeps : (g : Config) (lane_of : Document → ℕ) (past : ℕ → Write → Type 0) (w : Lanes) (f : LanesFacts g lane_of past w) (m : Move) → MayMove g m w → LanesFacts g lane_of past (move g lane_of m w)
+move_keeps g lane_of past w f (Puts o) may = put_keeps g lane_of past w f o may
+move_keeps g lane_of past w f (Closes p) may = record { lane = f.lane; of_past = f.of_past; order = f.order; numbers = f.numbers; epochs = f.epochs }
+move_keeps g lane_of past w f (Fetches l) may = fetch_keeps g lane_of past w f l (w.queue l) refl
+move_keeps g lane_of past w f (Steps l s) may = inner_keeps g lane_of past w f l s may.0 may.1
 
-pub start_facts : (g : Config) (lane_of : Document → ℕ) (w : Lanes) → IsStart g w → LanesFacts g lane_of w
-start_facts g lane_of w s = record {
-  lane = λ l. fresh_facts g (w.lane l) (s.lane l);
-  order = λ l p. (λ i. filter (is_from p) ((s.lane l).taken i ++ s.queue l i)) ∙ sym (ap (filter (is_for lane_of l)) (s.accepted p));
-  numbers = λ p i o e. absurd (none_at (w.accepted p) i o (s.accepted p) e);
-}
+-- where nothing was sent before
+module _ (g : Config) (lane_of : Document → ℕ) (past : ℕ → Write → Type 0) (none : (l : ℕ) (x : Write) → past l x → ⊥) (w : Lanes) (s : IsStart g w) where
+  pub start_facts : LanesFacts g lane_of past w
+  start_facts = record {
+    lane = λ l. fresh_facts g (past l) (none l) (w.lane l) (s.lane l);
+    of_past = λ l x m. absurd (none l x m);
+    order = λ l p. (λ i. filter (is_from p) ((s.lane l).taken i ++ s.queue l i)) ∙ sym (ap (filter (is_for lane_of l)) (s.accepted p));
+    numbers = λ p i o e. absurd (none_at (w.accepted p) i o (s.accepted p) e);
+    epochs = λ p i o e. absurd (none_at (w.accepted p) i o (s.accepted p) e);
+  }
 
 -- ---- names
 
-module _ (g : Config) (lane_of : Document → ℕ) (w : Lanes) (f : LanesFacts g lane_of w) where
+module _ (g : Config) (lane_of : Document → ℕ) (past : ℕ → Write → Type 0) (w : Lanes) (f : LanesFacts g lane_of past w) where
   distinct_from : (xs : List Op) (n : ℕ) → ((i : ℕ) (o : Op) → slice_get xs i ≡ Some o → o.number ≡ n + i + 1) → AllDistinct (map name_of xs)
   distinct_from [] n h = tt
   distinct_from (x ∷ xs) n h = (

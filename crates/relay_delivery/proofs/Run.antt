@@ -42,7 +42,7 @@ answered-more s runs stored applied w o more a = record {
 cause-more : (max : ℕ) (s : Outside) (runs : List Ran) (stored : Document → Option ℕ) (applied : Document → List Write) (w : Write) (c : Cause) → ((r : Ran) → Mem r s.runs → Mem r runs)
     → IsTrueOf max s w c → IsTrueOf max (record { requests = s.requests; runs = runs; stored = stored; before = s.before; applied = applied }) w c
 cause-more max s runs stored applied w (cause.Refused status error) more h = record { outcome = h.outcome; answered = answered-more s runs stored applied w h.outcome more h.answered; refused = h.refused; status_is = h.status_is; error_is = h.error_is }
-cause-more max s runs stored applied w (cause.Request status) more h = (record { number = h.0.number; place = h.0.place; request = h.0.request; carried = h.0.carried; answer = h.0.answer }, h.1)
+cause-more max s runs stored applied w (cause.Request status) more h = record { number = h.number; place = h.place; request = h.request; carried = h.carried; answer = h.answer; final = h.final }
 cause-more max s runs stored applied w cause.Conflict more h = record { once = h.once; outcome = h.outcome; answered = answered-more s runs stored applied w h.outcome more h.answered; conflict = h.conflict }
 cause-more max s runs stored applied w (cause.GaveUp sends) more h = h
 cause-more max s runs stored applied w cause.Spent more h = h

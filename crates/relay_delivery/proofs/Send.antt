@@ -1,6 +1,6 @@
 -- A lane sends a request.
 use Rattle.std.proofs.Common.{◌≡◌, ℕ, suc, ◌≤◌, List, [], ◌∷◌, ◌++◌, length, Option, Some, None, Bool, true, false, ◌==◌, refl, sym, ap, ◌∙◌, subst, ⊎_elim, inl, inr, arith}
-use Rattle.std.specs.Prelude.{slice_get, option_map, if◌then◌else◌, map}
+use Rattle.std.specs.Prelude.{slice_get, option_map, if◌then◌else◌, map, ◌&&◌}
 use Rattle.relay_action.specs.declared.write.Write.{Write}
 use Rattle.relay_action.specs.declared.operation.Op.{Op}
 use Rattle.relay_action.specs.declared.operation.OpName.{OpName}
@@ -10,7 +10,7 @@ use Rattle.relay_results.specs.Documents.{Document, document_of, write_for}
 use Rattle.relay_results.specs.Outside.{Request, Unanswered, Ran, Outside}
 use Rattle.relay_results.specs.declared.cause.Cause.{Cause}
 use Rattle.relay_results.specs.declared.cause.Cause.TheVariants as cause
-use Rattle.relay_delivery.specs.Causes.{carries, CarriedAt, IsAnswered, IsTrueOf}
+use Rattle.relay_delivery.specs.Causes.{carries, is_try, CarriedAt, IsAnswered, IsTrueOf}
 use Rattle.relay_results.proofs.Same.{same_write-true}
 use Rattle.relay_delivery.specs.Machine.{Config, Core, Held, write_of, place_of, launched_at, launched, send, MaySend}
 use Rattle.relay_results.proofs.Lists.{true_or_false, equal, equal_test, at-left, at-last, at-cases, at-Mem, at-map, map-at, Mem-map, map-Mem, count-push, distinct_places, some_same}
@@ -70,7 +70,7 @@ length-map : {A B : Type 0} (f : A → B) (xs : List A) → length (map f xs) �
 length-map f [] = refl
 length-map f (x ∷ xs) = ap suc (length-map f xs)
 
-rising-sent : (n : ℕ) (chosen hs : List Held) → AreRising hs → AreRising (map (launched n chosen) hs)
+pub rising-sent : (n : ℕ) (chosen hs : List Held) → AreRising hs → AreRising (map (launched n chosen) hs)
 rising-sent n chosen [] r = tt
 rising-sent n chosen (h ∷ hs) r = (
   (λ z m.
@@ -84,7 +84,7 @@ rising-sent n chosen (h ∷ hs) r = (
 count-sent : (o : OpName) (n : ℕ) (chosen hs : List Held) → count (is_held_as o) (map (launched n chosen) hs) ≡ count (is_held_as o) hs
 count-sent o n chosen [] = refl
 count-sent o n chosen (h ∷ hs) =
-    let e = ap (λ (x : Op). one_if (is_held_as o (record { op = x; version = h.version; sends = 0; attempts = 0; flies = None }))) (launched_op n h (place_of h.version chosen)) in
+    let e = ap (λ (x : Op). one_if (is_held_as o (record { op = x; version = h.version; sends = 0; attempts = 0; cap = 0; flies = None }))) (launched_op n h (place_of h.version chosen)) in
     let r = count-sent o n chosen hs in omega arith
 
 -- ---- the new request
@@ -165,7 +165,7 @@ module _ (g : Config) (past : Write → Type 0) (c : Core) (f : CoreFacts g past
       record {
         dealt = k.dealt;
         sends = let x = count-push (carries (write_of h)) requests new in let o = ap one_if carried in let s = k.sends in omega arith;
-        attempts = let s = k.attempts in omega arith;
+        attempts = let x = count-push (is_try (write_of h)) requests new in let o = ap (λ b. one_if (b && true)) carried in let s = k.attempts in omega arith;
         retried = λ number p q y. ⊎_elim
             (λ old. ⊎_elim
             (λ r. inl r)
@@ -191,7 +191,7 @@ module _ (g : Config) (past : Write → Type 0) (c : Core) (f : CoreFacts g past
       record {
         dealt = k.dealt;
         sends = let x = count-push (carries (write_of h)) requests new in let o = ap one_if carried in let s = k.sends in omega arith;
-        attempts = k.attempts;
+        attempts = let x = count-push (is_try (write_of h)) requests new in let s = k.attempts in omega arith;
         retried = λ number p q y. ⊎_elim
             (λ old. k.retried number p q (record { write = y.write; sent = old; stands = y.stands; same = y.same }))
             (λ d.
@@ -224,20 +224,18 @@ module _ (g : Config) (past : Write → Type 0) (c : Core) (f : CoreFacts g past
 
   cause-sent : (max : ℕ) (w : Write) (e : Cause) → carries w new ≡ false → IsTrueOf max c.outside w e → IsTrueOf max later w e
   cause-sent max w (cause.Refused status error) nc h = record { outcome = h.outcome; answered = answered-sent w h.outcome h.answered; refused = h.refused; status_is = h.status_is; error_is = h.error_is }
-  cause-sent max w (cause.Request status) nc h = (
-    record {
-      number = h.0.number;
-      place = h.0.place;
-      request = h.0.request;
-      carried = record { write = h.0.carried.write; sent = at-left requests (new ∷ []) h.0.number h.0.request h.0.carried.sent; stands = h.0.carried.stands; same = h.0.carried.same };
-      answer = h.0.answer;
-    },
-    h.1,
-  )
+  cause-sent max w (cause.Request status) nc h = record {
+    number = h.number;
+    place = h.place;
+    request = h.request;
+    carried = record { write = h.carried.write; sent = at-left requests (new ∷ []) h.number h.request h.carried.sent; stands = h.carried.stands; same = h.carried.same };
+    answer = h.answer;
+    final = h.final;
+  }
   cause-sent max w cause.Conflict nc h = record { once = (let e = count-push (carries w) requests new in let o = ap one_if nc in let k = h.once in omega arith); outcome = h.outcome; answered = answered-sent w h.outcome h.answered; conflict = h.conflict }
   cause-sent max w (cause.GaveUp sends) nc h = record {
     exactly = let e = count-push (carries w) requests new in let o = ap one_if nc in let k = h.exactly in omega arith;
-    enough = h.enough;
+    enough = let e = count-push (is_try w) requests new in let k = h.enough in omega arith;
     each = λ number place q y. ⊎_elim
         (λ old. h.each number place q (record { write = y.write; sent = old; stands = y.stands; same = y.same }))
         (λ d.

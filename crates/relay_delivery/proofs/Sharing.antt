@@ -10,18 +10,18 @@ use Rattle.relay_results.specs.Outside.{Answer, Unanswered, Request, writes_of, 
 use Rattle.relay_results.specs.Outside as outside
 use Rattle.relay_results.specs.declared.cause.Cause.{Cause}
 use Rattle.relay_results.specs.declared.cause.Cause.TheVariants as cause
-use Rattle.relay_delivery.specs.Causes.{Terms, carries, CarriedAt, IsAnswered, IsTrueOf, IsTrueCause}
+use Rattle.relay_delivery.specs.Causes.{Terms, carries, is_try, CarriedAt, IsAnswered, IsTrueOf, IsTrueCause}
 use Rattle.relay_results.proofs.Same.{same_write-true}
 use Rattle.relay_results.proofs.Steps.{step_runs_item}
 use Rattle.relay_delivery.specs.Machine.{Config, Core, Held, Takes, Sends, Runs, Answers, write_of, step, MaySend}
 use Rattle.relay_delivery.specs.Lanes.{Lanes, Move, Puts, Closes, Fetches, Steps, fetched, move}
-use Rattle.relay_delivery.specs.Together.{Origin, Together, Act, Plain, SendsFrom, RunsAt, AnswersAt, run_at, act, IsPlain, MayAct, acts_of, AllMayAct, IsFreshTogether, CameAboutTogether, outside_of, HappensInLanes}
-use Rattle.relay_results.proofs.Lists.{true_or_false, equal, equal_test, equal_or_not, at-left, at-last, at-cases, at-within, at-Mem, Mem-left, Mem-last, Mem-map, Mem-push_cases, at-update-cases, at-update_same, at-update_other, length-update, none_at, count-push, count-update, some_same}
-use Rattle.relay_delivery.proofs.Facts.{IsOfOne}
-use Rattle.relay_delivery.proofs.Dealt.{with_answer, carried_at, of_held, sent_by}
+use Rattle.relay_delivery.specs.Together.{Origin, Together, Act, Plain, SendsFrom, RunsAt, AnswersAt, run_at, act, IsPlain, MayAct, IsFreshTogether, outside_of}
+use Rattle.relay_delivery.specs.Accounted.{HappensInLanes}
+use Rattle.relay_results.proofs.Lists.{true_or_false, equal, equal_test, equal_or_not, at-left, at-last, at-cases, at-within, at-Mem, Mem-left, Mem-last, Mem-map, Mem-push_cases, at-update-cases, at-update_same, at-update_other, length-update, none_at, count-push, count-update_at, some_same, and_left}
+use Rattle.relay_delivery.proofs.Facts.{IsOfOne, IsSent}
+use Rattle.relay_delivery.proofs.Dealt.{with_answer, carried_at, of_held, sent_by, sent_at}
 use Rattle.relay_delivery.proofs.Run.{found_at}
 use Rattle.relay_delivery.proofs.Queues.{LanesFacts, start_facts, move_keeps, was_accepted}
-use Rattle.relay_delivery.proofs.Keeps.{own_sent}
 
 abbrev pub requests_at : Together → ℕ → List Request
 requests_at s l = (s.lanes.lane l).outside.requests
@@ -44,28 +44,37 @@ pub record IsBack (s : Together) (r : Ran) : Type 0 where
   pub origin : slice_get s.origins r.request ≡ Some from
   pub among : Mem (record { request = from.number; place = r.place; outcome = r.outcome }) (runs_at s from.lane)
 
-pub record TogetherFacts (g : Config) (lane_of : Document → ℕ) (s : Together) : Type 0 where
-  pub lanes : LanesFacts g lane_of s.lanes
+-- requests of this kind carry the write
+abbrev pub AreAmong : Write → (Request → Bool) → Type 0
+AreAmong x p = (q : Request) → p q ≡ true → carries x q ≡ true
+
+pub record TogetherFacts (g : Config) (lane_of : Document → ℕ) (past : ℕ → Write → Type 0) (s : Together) : Type 0 where
+  pub lanes : LanesFacts g lane_of past s.lanes
   pub same : (i : ℕ) (from : Origin) → slice_get s.origins i ≡ Some from → SameRequest s i from
   pub each : (l n : ℕ) (q : Request) → slice_get (requests_at s l) n ≡ Some q → (i : ℕ) × (slice_get s.origins i ≡ Some (record { lane = l; number = n }))
   pub once : (i j : ℕ) (from : Origin) → slice_get s.origins i ≡ Some from → slice_get s.origins j ≡ Some from → i ≡ j
   pub as_long : length s.origins ≡ length s.sent
   pub ran : (l : ℕ) (r : Ran) → Mem r (runs_at s l) → HasRun s l r
   pub back : (r : Ran) → Mem r s.runs → IsBack s r
-  pub counted : (x : Write) → count (carries x) s.sent ≡ count (carries x) (requests_at s (lane_of (document_of x.key)))
+  -- of those that carry a write as many of a kind stand among all requests as among those of its lane
+  pub counted : (x : Write) (p : Request → Bool) → AreAmong x p → count p s.sent ≡ count p (requests_at s (lane_of (document_of x.key)))
 
 -- what stands in a request of a lane is of a document of that lane
-module _ (g : Config) (lane_of : Document → ℕ) (w : Lanes) (f : LanesFacts g lane_of w) where
+module _ (g : Config) (lane_of : Document → ℕ) (past : ℕ → Write → Type 0) (w : Lanes) (f : LanesFacts g lane_of past w) where
   pub of_lane : (l : ℕ) (x : Write) → IsOfOne g (w.lane l).taken x → lane_of (document_of x.key) ≡ l
   of_lane l x a =
-      let o = was_accepted g lane_of w f l a.op (at-Mem (w.lane l).taken a.dealt.place a.op a.dealt.stands) in
+      let o = was_accepted g lane_of past w f l a.op (at-Mem (w.lane l).taken a.dealt.place a.op a.dealt.stands) in
       ap (λ (z : Write). lane_of (document_of z.key)) a.write ∙ o.1
+
+  -- and so is what a lane ever sent
+  pub sent_lane : (l : ℕ) (x : Write) → IsSent (w.lane l).outside.requests x → lane_of (document_of x.key) ≡ l
+  sent_lane l x s = ⊎_elim (λ one. of_lane l x one) (λ old. f.of_past l x old) ((f.lane l).sent x s)
 
 -- ---- lanes that change neither requests nor runs
 
-module _ (g : Config) (lane_of : Document → ℕ) (s : Together) (f : TogetherFacts g lane_of s) (w : Lanes) (facts : LanesFacts g lane_of w)
+module _ (g : Config) (lane_of : Document → ℕ) (past : ℕ → Write → Type 0) (s : Together) (f : TogetherFacts g lane_of past s) (w : Lanes) (facts : LanesFacts g lane_of past w)
     (requests : (l : ℕ) → (w.lane l).outside.requests ≡ (s.lanes.lane l).outside.requests) (runs : (l : ℕ) → (w.lane l).outside.runs ≡ (s.lanes.lane l).outside.runs) where
-  plain_keeps : TogetherFacts g lane_of (record { lanes = w; sent = s.sent; origins = s.origins; runs = s.runs })
+  plain_keeps : TogetherFacts g lane_of past (record { lanes = w; sent = s.sent; origins = s.origins; runs = s.runs })
   plain_keeps = record {
     lanes = facts;
     same = λ i from e. let p = f.same i from e in record { request = p.request; here = p.here; there = ap (λ qs. slice_get qs from.number) (requests from.lane) ∙ p.there };
@@ -74,7 +83,7 @@ module _ (g : Config) (lane_of : Document → ℕ) (s : Together) (f : TogetherF
     as_long = f.as_long;
     ran = λ l r m. let p = f.ran l r (subst (λ rs. Mem r rs) (runs l) m) in record { number = p.number; origin = p.origin; among = p.among };
     back = λ r m. let p = f.back r m in record { from = p.from; origin = p.origin; among = subst (λ rs. Mem (record { request = p.from.number; place = r.place; outcome = r.outcome }) rs) (sym (runs p.from.lane)) p.among };
-    counted = λ x. f.counted x ∙ ap (count (carries x)) (sym (requests (lane_of (document_of x.key))));
+    counted = λ x p of. f.counted x p of ∙ ap (count p) (sym (requests (lane_of (document_of x.key))));
   }
 
 lane_same : (w : Lanes) (l m : ℕ) (c : Core) (b : Bool) → (m == l) ≡ b → c.outside ≡ (w.lane l).outside → (if b then c else w.lane m).outside ≡ (w.lane m).outside
@@ -93,7 +102,7 @@ plain_outside g lane_of (Steps n x) p w l = absurd p
 
 -- ---- a lane sends
 
-module _ (g : Config) (lane_of : Document → ℕ) (s : Together) (f : TogetherFacts g lane_of s) (l : ℕ) (chosen : List Held) (may : MaySend (s.lanes.lane l) chosen) where
+module _ (g : Config) (lane_of : Document → ℕ) (past : ℕ → Write → Type 0) (s : Together) (f : TogetherFacts g lane_of past s) (l : ℕ) (chosen : List Held) (may : MaySend (s.lanes.lane l) chosen) where
   new : Request
   new = record { writes = map write_of chosen; answer = Unanswered }
 
@@ -167,17 +176,17 @@ module _ (g : Config) (lane_of : Document → ℕ) (s : Together) (f : TogetherF
       let y = Mem-map write_of k.1.write chosen (at-Mem (map write_of chosen) k.0 k.1.write k.1.stands) in
       let el = may.eligible y.0 y.1 in
       let a = of_held g (s.lanes.lane l).taken (requests_at s l) y.0 ((f.lanes.lane l).held y.0 el.is_held) in
-      let o = of_lane g lane_of s.lanes f.lanes l (write_of y.0) a in
+      let o = of_lane g lane_of past s.lanes f.lanes l (write_of y.0) a in
       ap lane_of ((same_write-true x k.1.write k.1.same).document) ∙ ap (λ (z : Write). lane_of (document_of z.key)) y.2 ∙ o
 
-  count_by : (x : Write) (m : ℕ) (b : Bool) → lane_of (document_of x.key) ≡ m → (m == l) ≡ b → count (carries x) s.sent ≡ count (carries x) (requests_at s m) → count (carries x) (s.sent ++ new ∷ []) ≡ count (carries x) (if b then requests_at s m ++ new ∷ [] else requests_at s m)
-  count_by x m true em e old = let a = count-push (carries x) s.sent new in let b = count-push (carries x) (requests_at s m) new in omega (arith, a, b, old)
-  count_by x m false em e old =
-      let none : carries x new ≡ false = ⊎_elim (λ t. let t' = equal_test m l (sym em ∙ carries_here x t) in absurd (cc (t', e))) (λ z. z) (true_or_false (carries x new)) in
-      let a = count-push (carries x) s.sent new in
+  count_by : (x : Write) (p : Request → Bool) → AreAmong x p → (m : ℕ) (b : Bool) → lane_of (document_of x.key) ≡ m → (m == l) ≡ b → count p s.sent ≡ count p (requests_at s m) → count p (s.sent ++ new ∷ []) ≡ count p (if b then requests_at s m ++ new ∷ [] else requests_at s m)
+  count_by x p of m true em e old = let a = count-push p s.sent new in let b = count-push p (requests_at s m) new in omega (arith, a, b, old)
+  count_by x p of m false em e old =
+      let none : p new ≡ false = ⊎_elim (λ t. let t' = equal_test m l (sym em ∙ carries_here x (of new t)) in absurd (cc (t', e))) (λ z. z) (true_or_false (p new)) in
+      let a = count-push p s.sent new in
       let o = ap one_if none in omega (arith, a, o, old)
 
-  send_keeps_all : LanesFacts g lane_of (move g lane_of (Steps l (Sends chosen)) s.lanes) → TogetherFacts g lane_of later
+  send_keeps_all : LanesFacts g lane_of past (move g lane_of (Steps l (Sends chosen)) s.lanes) → TogetherFacts g lane_of past later
   unfolding later new here
   send_keeps_all facts = record {
     lanes = facts;
@@ -187,12 +196,12 @@ module _ (g : Config) (lane_of : Document → ℕ) (s : Together) (f : TogetherF
     as_long = let a = length-append s.origins (here ∷ []) in let b = length-append s.sent (new ∷ []) in let c = f.as_long in omega (arith, a, b, c);
     ran = λ m r k. let p = f.ran m r (subst (λ rs. Mem r rs) (lane_runs m (m == l) refl) k) in record { number = p.number; origin = at-left s.origins (here ∷ []) p.number (record { lane = m; number = r.request }) p.origin; among = p.among };
     back = λ r k. let p = f.back r k in record { from = p.from; origin = at-left s.origins (here ∷ []) r.request p.from p.origin; among = subst (λ rs. Mem (record { request = p.from.number; place = r.place; outcome = r.outcome }) rs) (sym (lane_runs p.from.lane (p.from.lane == l) refl)) p.among };
-    counted = λ x. count_by x (lane_of (document_of x.key)) (lane_of (document_of x.key) == l) refl refl (f.counted x) ∙ ap (count (carries x)) (sym (requests_later (lane_of (document_of x.key))));
+    counted = λ x p of. count_by x p of (lane_of (document_of x.key)) (lane_of (document_of x.key) == l) refl refl (f.counted x p of) ∙ ap (count p) (sym (requests_later (lane_of (document_of x.key))));
   }
 
 -- ---- a request is answered
 
-module _ (g : Config) (lane_of : Document → ℕ) (s : Together) (f : TogetherFacts g lane_of s) (i : ℕ) (a : Answer) (from : Origin) (origin : slice_get s.origins i ≡ Some from) where
+module _ (g : Config) (lane_of : Document → ℕ) (past : ℕ → Write → Type 0) (s : Together) (f : TogetherFacts g lane_of past s) (i : ℕ) (a : Answer) (from : Origin) (origin : slice_get s.origins i ≡ Some from) where
   after_answer : Together
   after_answer = act g lane_of (AnswersAt i a from) s
 
@@ -243,11 +252,30 @@ module _ (g : Config) (lane_of : Document → ℕ) (s : Together) (f : TogetherF
       (at-update-cases from.number (with_answer a) (requests_at s m) n q at)
   answer_each m n q false e at = f.each m n q at
 
-  answer_count : (x : Write) (m : ℕ) (b : Bool) → count (carries x) s.sent ≡ count (carries x) (requests_at s m) → count (carries x) (update i (with_answer a) s.sent) ≡ count (carries x) (if b then update from.number (with_answer a) (requests_at s m) else requests_at s m)
-  answer_count x m true old = count-update (carries x) i (with_answer a) s.sent (λ p. refl) ∙ old ∙ sym (count-update (carries x) from.number (with_answer a) (requests_at s m) (λ p. refl))
-  answer_count x m false old = count-update (carries x) i (with_answer a) s.sent (λ p. refl) ∙ old
+  -- a request of the lane carries documents of the lane alone
+  carries_there : (q : Request) (x : Write) → slice_get (requests_at s from.lane) from.number ≡ Some q → carries x q ≡ true → lane_of (document_of x.key) ≡ from.lane
+  carries_there q x e t =
+      let k = carried_at (requests_at s from.lane) from.number q x e t in
+      ap lane_of ((same_write-true x k.1.write k.1.same).document) ∙ sent_lane g lane_of past s.lanes f.lanes from.lane k.1.write (sent_at (requests_at s from.lane) from.number k.0 q x k.1)
 
-  answer_keeps_all : LanesFacts g lane_of (move g lane_of (Steps from.lane (Answers from.number a)) s.lanes) → TogetherFacts g lane_of after_answer
+  answer_count : (x : Write) (p : Request → Bool) → AreAmong x p → (m : ℕ) (b : Bool) → lane_of (document_of x.key) ≡ m → (m == from.lane) ≡ b → count p s.sent ≡ count p (requests_at s m) → count p (update i (with_answer a) s.sent) ≡ count p (if b then update from.number (with_answer a) (requests_at s m) else requests_at s m)
+  answer_count x p of m true em e old =
+      let q = f.same i from origin in
+      let there = ap (λ n. slice_get (requests_at s n) from.number) (equal m from.lane e) ∙ q.there in
+      let u = count-update_at p i (with_answer a) s.sent q.request q.here in
+      let v = count-update_at p from.number (with_answer a) (requests_at s m) q.request there in
+      omega (arith, u, v, old)
+  answer_count x p of m false em e old =
+      let q = f.same i from origin in
+      let apart : carries x q.request ≡ true → ⊥ = λ t. let t' = equal_test m from.lane (sym em ∙ carries_there q.request x q.there t) in cc (t', e) in
+      let before : p q.request ≡ false = ⊎_elim (λ t. absurd (apart (of q.request t))) (λ z. z) (true_or_false (p q.request)) in
+      let now : p (with_answer a q.request) ≡ false = ⊎_elim (λ t. absurd (apart (of (with_answer a q.request) t))) (λ z. z) (true_or_false (p (with_answer a q.request))) in
+      let u = count-update_at p i (with_answer a) s.sent q.request q.here in
+      let b = ap one_if before in
+      let n = ap one_if now in
+      omega (arith, u, b, n, old)
+
+  answer_keeps_all : LanesFacts g lane_of past (move g lane_of (Steps from.lane (Answers from.number a)) s.lanes) → TogetherFacts g lane_of past after_answer
   unfolding after_answer
   answer_keeps_all facts = record {
     lanes = facts;
@@ -257,7 +285,7 @@ module _ (g : Config) (lane_of : Document → ℕ) (s : Together) (f : TogetherF
     as_long = f.as_long ∙ sym (length-update i (with_answer a) s.sent);
     ran = λ m r k. let p = f.ran m r (subst (λ rs. Mem r rs) (answered_runs m (m == from.lane) refl) k) in record { number = p.number; origin = p.origin; among = p.among };
     back = λ r k. let p = f.back r k in record { from = p.from; origin = p.origin; among = subst (λ rs. Mem (record { request = p.from.number; place = r.place; outcome = r.outcome }) rs) (sym (answered_runs p.from.lane (p.from.lane == from.lane) refl)) p.among };
-    counted = λ x. answer_count x (lane_of (document_of x.key)) (lane_of (document_of x.key) == from.lane) (f.counted x) ∙ ap (count (carries x)) (sym (requests_answered (lane_of (document_of x.key))));
+    counted = λ x p of. answer_count x p of (lane_of (document_of x.key)) (lane_of (document_of x.key) == from.lane) refl refl (f.counted x p of) ∙ ap (count p) (sym (requests_answered (lane_of (document_of x.key))));
   }
 
 -- ---- an item is run
@@ -269,7 +297,7 @@ logged o r w false = refl
 run_logged : (o : Outside) (r : Ran) → MayRun o r → (after (outside.Runs r) o).runs ≡ o.runs ++ r ∷ []
 run_logged o r may = ap (λ w. (ran_of o r w).runs) may.sent ∙ logged o r may.write (is_applied may.write r.outcome)
 
-module _ (g : Config) (lane_of : Document → ℕ) (s : Together) (f : TogetherFacts g lane_of s) (i place : ℕ) (outcome : RunOutcome) (from : Origin) (origin : slice_get s.origins i ≡ Some from)
+module _ (g : Config) (lane_of : Document → ℕ) (past : ℕ → Write → Type 0) (s : Together) (f : TogetherFacts g lane_of past s) (i place : ℕ) (outcome : RunOutcome) (from : Origin) (origin : slice_get s.origins i ≡ Some from)
     (may : MayRun (s.lanes.lane from.lane).outside (run_at from.number place outcome)) where
   after_run : Together
   after_run = act g lane_of (RunsAt i place outcome from) s
@@ -312,7 +340,7 @@ module _ (g : Config) (lane_of : Document → ℕ) (s : Together) (f : TogetherF
       (λ d. subst (λ x. IsBack after_run x) (sym d) (record { from = from; origin = origin; among = new_run (from.lane == from.lane) refl }))
       (Mem-push_cases r s.runs (record { request = i; place = place; outcome = outcome }) k)
 
-  run_keeps_all : LanesFacts g lane_of (move g lane_of (Steps from.lane (Runs (run_at from.number place outcome))) s.lanes) → TogetherFacts g lane_of after_run
+  run_keeps_all : LanesFacts g lane_of past (move g lane_of (Steps from.lane (Runs (run_at from.number place outcome))) s.lanes) → TogetherFacts g lane_of past after_run
   unfolding after_run
   run_keeps_all facts = record {
     lanes = facts;
@@ -322,34 +350,30 @@ module _ (g : Config) (lane_of : Document → ℕ) (s : Together) (f : TogetherF
     as_long = f.as_long;
     ran = λ m r k. run_ran m r (m == from.lane) refl k;
     back = run_back;
-    counted = λ x. f.counted x ∙ ap (count (carries x)) (sym (requests_run (lane_of (document_of x.key))));
+    counted = λ x p of. f.counted x p of ∙ ap (count p) (sym (requests_run (lane_of (document_of x.key))));
   }
 
 -- ---- any act
 
-pub act_keeps : (g : Config) (lane_of : Document → ℕ) (s : Together) (f : TogetherFacts g lane_of s) (x : Act) → MayAct x s → TogetherFacts g lane_of (act g lane_of x s)
+pub act_keeps : (g : Config) (lane_of : Document → ℕ) (past : ℕ → Write → Type 0) (s : Together) (f : TogetherFacts g lane_of past s) (x : Act) → MayAct g x s → TogetherFacts g lane_of past (act g lane_of x s)
 unfolding later after_run after_answer
-act_keeps g lane_of s f (Plain m) may =
+act_keeps g lane_of past s f (Plain m) may =
     let w = move g lane_of m s.lanes in
-    plain_keeps g lane_of s f w (move_keeps g lane_of s.lanes f.lanes m may.1) (λ l. ap (λ (o : Outside). o.requests) (plain_outside g lane_of m may.0 s.lanes l)) (λ l. ap (λ (o : Outside). o.runs) (plain_outside g lane_of m may.0 s.lanes l))
-act_keeps g lane_of s f (SendsFrom l chosen) may = send_keeps_all g lane_of s f l chosen may (move_keeps g lane_of s.lanes f.lanes (Steps l (Sends chosen)) (tt, may))
-act_keeps g lane_of s f (RunsAt i place outcome from) may = run_keeps_all g lane_of s f i place outcome from may.0 may.1 (move_keeps g lane_of s.lanes f.lanes (Steps from.lane (Runs (run_at from.number place outcome))) (tt, may.1))
-act_keeps g lane_of s f (AnswersAt i a from) may = answer_keeps_all g lane_of s f i a from may.0 (move_keeps g lane_of s.lanes f.lanes (Steps from.lane (Answers from.number a)) (tt, may.1))
+    plain_keeps g lane_of past s f w (move_keeps g lane_of past s.lanes f.lanes m may.1) (λ l. ap (λ (o : Outside). o.requests) (plain_outside g lane_of m may.0 s.lanes l)) (λ l. ap (λ (o : Outside). o.runs) (plain_outside g lane_of m may.0 s.lanes l))
+act_keeps g lane_of past s f (SendsFrom l chosen) may = send_keeps_all g lane_of past s f l chosen may (move_keeps g lane_of past s.lanes f.lanes (Steps l (Sends chosen)) (tt, may))
+act_keeps g lane_of past s f (RunsAt i place outcome from) may = run_keeps_all g lane_of past s f i place outcome from may.0 may.1 (move_keeps g lane_of past s.lanes f.lanes (Steps from.lane (Runs (run_at from.number place outcome))) (tt, may.1))
+act_keeps g lane_of past s f (AnswersAt i a from) may = answer_keeps_all g lane_of past s f i a from may.0 (move_keeps g lane_of past s.lanes f.lanes (Steps from.lane (Answers from.number a)) (tt, may.1))
 
-pub acts_keep : (g : Config) (lane_of : Document → ℕ) (xs : List Act) (s : Together) → TogetherFacts g lane_of s → AllMayAct g lane_of xs s → TogetherFacts g lane_of (acts_of g lane_of xs s)
-acts_keep g lane_of [] s f may = f
-acts_keep g lane_of (x ∷ xs) s f may = acts_keep g lane_of xs (act g lane_of x s) (act_keeps g lane_of s f x may.0) may.1
-
-pub start_shared : (g : Config) (lane_of : Document → ℕ) (s : Together) → IsFreshTogether g s → TogetherFacts g lane_of s
-start_shared g lane_of s h = record {
-  lanes = start_facts g lane_of s.lanes h.lanes;
+pub start_shared : (g : Config) (lane_of : Document → ℕ) (past : ℕ → Write → Type 0) → ((l : ℕ) (x : Write) → past l x → ⊥) → (s : Together) → IsFreshTogether g s → TogetherFacts g lane_of past s
+start_shared g lane_of past none s h = record {
+  lanes = start_facts g lane_of past none s.lanes h.lanes;
   same = λ i o e. absurd (none_at s.origins i o h.origins e);
   each = λ l n q e. absurd (none_at (requests_at s l) n q ((h.lanes.lane l).opening.requests) e);
   once = λ i j o a b. absurd (none_at s.origins i o h.origins a);
   as_long = ap length h.origins ∙ sym (ap length h.sent);
   ran = λ l r m. absurd (subst (λ rs. Mem r rs) ((h.lanes.lane l).opening.runs) m);
   back = λ r m. absurd (subst (λ rs. Mem r rs) h.runs m);
-  counted = λ x. ap (count (carries x)) h.sent ∙ sym (ap (count (carries x)) ((h.lanes.lane (lane_of (document_of x.key))).opening.requests));
+  counted = λ x p of. ap (count p) h.sent ∙ sym (ap (count p) ((h.lanes.lane (lane_of (document_of x.key))).opening.requests));
 }
 
 -- ---- a cause that is true of a lane's requests is true of all
@@ -359,7 +383,7 @@ at_some [] n lt = absurd (omega (arith, lt))
 at_some (x ∷ xs) zero lt = (x, refl)
 at_some (x ∷ xs) (suc n) lt = at_some xs n (omega (arith, lt))
 
-module _ (g : Config) (lane_of : Document → ℕ) (s : Together) (f : TogetherFacts g lane_of s) (l : ℕ) where
+module _ (g : Config) (lane_of : Document → ℕ) (past : ℕ → Write → Type 0) (s : Together) (f : TogetherFacts g lane_of past s) (l : ℕ) where
   abbrev own : Outside
   own = (s.lanes.lane l).outside
 
@@ -374,8 +398,8 @@ module _ (g : Config) (lane_of : Document → ℕ) (s : Together) (f : TogetherF
       let p = f.same i o.0 o.1 in
       let eq : p.request ≡ q = some_same p.request q (sym p.here ∙ k.sent) in
       let there : slice_get (requests_at s o.0.lane) o.0.number ≡ Some q = p.there ∙ ap Some eq in
-      let one = own_sent g (s.lanes.lane o.0.lane) (f.lanes.lane o.0.lane) k.write (sent_by (requests_at s o.0.lane) o.0.number q k.write there (at-Mem q.writes place k.write k.stands)) in
-      let el' : o.0.lane ≡ l = sym (of_lane g lane_of s.lanes f.lanes o.0.lane k.write one) ∙ sym (ap lane_of ((same_write-true w k.write k.same).document)) ∙ el in
+      let its = sent_lane g lane_of past s.lanes f.lanes o.0.lane k.write (sent_by (requests_at s o.0.lane) o.0.number q k.write there (at-Mem q.writes place k.write k.stands)) in
+      let el' : o.0.lane ≡ l = sym its ∙ sym (ap lane_of ((same_write-true w k.write k.same).document)) ∙ el in
       record { number = o.0.number; carried = record { write = k.write; sent = subst (λ n. slice_get (requests_at s n) o.0.number ≡ Some q) el' there; stands = k.stands; same = k.same } }
 
   record IsGlobal (n : ℕ) (q : Request) : Type 0 where
@@ -404,17 +428,20 @@ module _ (g : Config) (lane_of : Document → ℕ) (s : Together) (f : TogetherF
       }
 
   count_all : (w : Write) → lane_of (document_of w.key) ≡ l → count (carries w) s.sent ≡ count (carries w) (requests_at s l)
-  count_all w el = f.counted w ∙ ap (λ n. count (carries w) (requests_at s n)) el
+  count_all w el = f.counted w (carries w) (λ q t. t) ∙ ap (λ n. count (carries w) (requests_at s n)) el
+
+  tries_all : (w : Write) → lane_of (document_of w.key) ≡ l → count (is_try w) s.sent ≡ count (is_try w) (requests_at s l)
+  tries_all w el = f.counted w (is_try w) (λ q t. and_left _ _ t) ∙ ap (λ n. count (is_try w) (requests_at s n)) el
 
   cause_all : (max : ℕ) (w : Write) → lane_of (document_of w.key) ≡ l → (e : Cause) → IsTrueOf max own w e → IsTrueOf max (outside_of lane_of s) w e
   cause_all max w el (cause.Refused status error) h = record { outcome = h.outcome; answered = answered_all w h.outcome h.answered; refused = h.refused; status_is = h.status_is; error_is = h.error_is }
   cause_all max w el (cause.Request status) h =
-      let i = global h.0.number h.0.request h.0.carried.sent in
-      (record { number = i.number; place = h.0.place; request = h.0.request; carried = record { write = h.0.carried.write; sent = i.sent; stands = h.0.carried.stands; same = h.0.carried.same }; answer = h.0.answer }, h.1)
+      let i = global h.number h.request h.carried.sent in
+      record { number = i.number; place = h.place; request = h.request; carried = record { write = h.carried.write; sent = i.sent; stands = h.carried.stands; same = h.carried.same }; answer = h.answer; final = h.final }
   cause_all max w el cause.Conflict h = record { once = count_all w el ∙ h.once; outcome = h.outcome; answered = answered_all w h.outcome h.answered; conflict = h.conflict }
   cause_all max w el (cause.GaveUp n) h = record {
     exactly = count_all w el ∙ h.exactly;
-    enough = h.enough;
+    enough = let e = tries_all w el in let n = h.enough in omega (arith, e, n);
     each = λ i place q k. let x = local w el i place q k in h.each x.number place q x.carried;
   }
   cause_all max w el cause.Spent h = h
@@ -427,19 +454,18 @@ module _ (g : Config) (lane_of : Document → ℕ) (s : Together) (f : TogetherF
 
 -- ---- what may happen outside all lanes may happen in the lane of its origin
 
-module _ (g : Config) (lane_of : Document → ℕ) (s : Together) (f : TogetherFacts g lane_of s) where
+module _ (g : Config) (lane_of : Document → ℕ) (past : ℕ → Write → Type 0) (s : Together) (f : TogetherFacts g lane_of past s) where
   its_origin : (i : ℕ) (q : Request) → slice_get s.sent i ≡ Some q → (from : Origin) × (slice_get s.origins i ≡ Some from)
   its_origin i q e = let lt = at-within s.sent i q e in at_some s.origins i (let n = f.as_long in omega (arith, lt, n))
 
   may_run_there : (i place : ℕ) (outcome : RunOutcome) (from : Origin) → slice_get s.origins i ≡ Some from
-      → MayRun (outside_of lane_of s) (record { request = i; place = place; outcome = outcome }) → MayAct (RunsAt i place outcome from) s
+      → MayRun (outside_of lane_of s) (record { request = i; place = place; outcome = outcome }) → MayAct g (RunsAt i place outcome from) s
   may_run_there i place outcome from origin may =
       let q = found_at (slice_get s.sent i) place may.write may.sent in
       let p = f.same i from origin in
       let eq : p.request ≡ q.0 = some_same p.request q.0 (sym p.here ∙ q.1) in
       let there : slice_get (requests_at s from.lane) from.number ≡ Some q.0 = p.there ∙ ap Some eq in
-      let one = own_sent g (s.lanes.lane from.lane) (f.lanes.lane from.lane) may.write (sent_by (requests_at s from.lane) from.number q.0 may.write there (at-Mem q.0.writes place may.write q.2)) in
-      let el = of_lane g lane_of s.lanes f.lanes from.lane may.write one in (
+      let el = sent_lane g lane_of past s.lanes f.lanes from.lane may.write (sent_by (requests_at s from.lane) from.number q.0 may.write there (at-Mem q.0.writes place may.write q.2)) in (
         origin,
         record {
           write = may.write;
@@ -471,7 +497,7 @@ module _ (g : Config) (lane_of : Document → ℕ) (s : Together) (f : TogetherF
   honest_there i from ws (outside.Whole status) origin h = h
   honest_there i from ws outside.Lost origin h = h
 
-  may_answer_there : (i : ℕ) (a : Answer) (from : Origin) → slice_get s.origins i ≡ Some from → MayAnswer (outside_of lane_of s) i a → MayAct (AnswersAt i a from) s
+  may_answer_there : (i : ℕ) (a : Answer) (from : Origin) → slice_get s.origins i ≡ Some from → MayAnswer (outside_of lane_of s) i a → MayAct g (AnswersAt i a from) s
   may_answer_there i a from origin may =
       let p = f.same i from origin in
       let eq : p.request ≡ may.request = some_same p.request may.request (sym p.here ∙ may.sent) in (
@@ -479,8 +505,5 @@ module _ (g : Config) (lane_of : Document → ℕ) (s : Together) (f : TogetherF
         record { request = may.request; sent = p.there ∙ ap Some eq; open_yet = may.open_yet; honest = honest_there i from may.request.writes a origin may.honest },
       )
 
-  pub happens_in_lanes : HappensInLanes lane_of s
+  pub happens_in_lanes : HappensInLanes g lane_of s
   happens_in_lanes = record { origin = its_origin; runs = may_run_there; answers = may_answer_there }
-
-pub facts_together : (g : Config) (lane_of : Document → ℕ) (s : Together) → CameAboutTogether g lane_of s → TogetherFacts g lane_of s
-facts_together g lane_of s c = subst (λ t. TogetherFacts g lane_of t) c.reached (acts_keep g lane_of c.acts c.start (start_shared g lane_of c.start c.fresh) c.may)

@@ -1,6 +1,6 @@
 -- What holds at every moment says that all is accounted for.
-use Rattle.std.proofs.Common.{◌≡◌, ℕ, List, [], ◌∷◌, ◌++◌, Option, Some, refl, sym, ap, ◌∙◌, subst, ⊎_elim, inl, inr, arith}
-use Rattle.std.specs.Prelude.{slice_get, map}
+use Rattle.std.proofs.Common.{◌≡◌, ℕ, List, [], ◌∷◌, ◌++◌, Some, refl, sym, ap, ◌∙◌, subst, ⊎_elim, inl, inr, arith}
+use Rattle.std.specs.Prelude.{◌⊎◌, slice_get, map}
 use Rattle.relay_action.specs.declared.write.Write.{Write}
 use Rattle.relay_action.specs.declared.operation.Op.{Op}
 use Rattle.relay_results.specs.Words.{Mem, AllDistinct, IsSubsequence}
@@ -16,6 +16,65 @@ use Rattle.relay_delivery.proofs.Ordered.{ops-in_order, ops-same, op-of, of-op}
 use Rattle.relay_delivery.proofs.Versions.{version_in, version_of, is_assignment, none_over}
 use Rattle.relay_delivery.proofs.Names.{taken_once, reported_once}
 use Rattle.relay_delivery.proofs.Keeps.{none_past, facts_of, own_sent}
+
+-- an operation that was taken was applied
+pub record IsAppliedAs (g : Config) (c : Core) (o : Op) : Type 0 where
+  pub write : Write
+  pub is_in : Mem write (c.outside.applied (document_of o.key))
+  pub one : IsOfOne g c.taken write
+  pub op : one.op ≡ o
+
+-- ---- whatever the past
+
+module _ (g : Config) (past : Write → Type 0) (c : Core) (f : CoreFacts g past c) (distinct : AllDistinct (map name_of c.taken)) where
+  dealt_version : (o : Op) (v : ℕ) → IsDealt g c.taken o v → version_in g.first g.deals c.taken o ≡ Some v
+  dealt_version o v d = version_of c.taken g.first g.deals d.place o distinct d.stands d.within ∙ ap Some (sym d.version)
+
+  true_spent : (r : Report) → SpentFact g c.taken r → IsTrueReport g c.taken c.outside (version_in g.first g.deals c.taken) r
+  true_spent r s = record {
+    op = s.op;
+    was_taken = at-Mem c.taken s.place s.op s.stands;
+    name = s.name;
+    document = s.document;
+    cause = inr (record {
+      cause_is = s.cause;
+      never_sent = λ v e. absurd (none_over g.first g.deals c.taken s.op s.place v distinct s.stands s.past e);
+      over = let w = at-within c.taken s.place s.op s.stands in let p = s.past in omega (arith, w, p);
+    });
+  }
+
+  true_cause : (r : Report) → CauseFact g c.taken c.held c.outside r → IsTrueReport g c.taken c.outside (version_in g.first g.deals c.taken) r
+  true_cause r s = record {
+    op = s.op;
+    was_taken = at-Mem c.taken s.dealt.place s.op s.dealt.stands;
+    name = s.name;
+    document = s.document;
+    cause = inl (record { version = s.version; is_dealt = dealt_version s.op s.version s.dealt; of_write = s.cause });
+  }
+
+  pub reports_true : (r : Report) → Mem r c.reports → IsTrueReport g c.taken c.outside (version_in g.first g.deals c.taken) r
+  reports_true r m = ⊎_elim (λ s. true_spent r s) (λ s. true_cause r s) (f.reports r m)
+
+  pub reports_once : AllDistinct (map (λ (r : Report). r.name) c.reports)
+  reports_once = reported_once c.reports (λ n. let a = f.apart n in let b = taken_once c.taken distinct n in omega (arith, a, b))
+
+  -- where nothing is held, each operation that was taken was applied or is reported
+  pub accounted : c.held ≡ [] → (o : Op) → Mem o c.taken → IsAppliedAs g c o ⊎ Mem (name_of o) (map (λ (r : Report). r.name) c.reports)
+  accounted none o m =
+      let at = Mem-at o c.taken m in
+      ⊎_elim
+      (λ h. absurd (subst (λ hs. Mem h.held_op hs) none h.is_in))
+      (λ z. ⊎_elim
+      (λ y.
+      let a : IsOfOne g c.taken y.write = ⊎_elim (λ one. one) (λ old. let lt = f.past_below y.write old in let u = y.version in absurd (omega (arith, lt, u))) (f.sent y.write ((f.index (document_of o.key)).sent y.write y.is_in)) in
+      let place : a.dealt.place ≡ at.0 = (let v = a.dealt.version in let u = y.version in omega (arith, v, u)) in
+      let same : a.op ≡ o = some_same a.op o (sym a.dealt.stands ∙ ap (slice_get c.taken) place ∙ at.1) in
+      inl (record { write = y.write; is_in = y.is_in; one = a; op = same }))
+      (λ p. inr (subst (λ n. Mem n (map (λ (r : Report). r.name) c.reports)) p.name (map-Mem (λ (r : Report). r.name) p.report c.reports p.is_in)))
+      z)
+      (f.nothing_lost at.0 o at.1)
+
+-- ---- where nothing is of the past
 
 module _ (g : Config) (c : Core) (f : CoreFacts g none_past c) (distinct : AllDistinct (map name_of c.taken)) where
   of_one : (k : Document) (w : Write) → Mem w (c.outside.applied k) → IsOfOne g c.taken w
@@ -37,65 +96,21 @@ module _ (g : Config) (c : Core) (f : CoreFacts g none_past c) (distinct : AllDi
   in_order : (k : Document) → IsInProducerOrder (taken_of c.taken) (attributed g c.taken c.outside k)
   in_order k p = sub-filter (is_from p) (attributed g c.taken c.outside k) c.taken (ops_sub k)
 
-  versions : Op → Option ℕ
-  versions = version_in g.first g.deals c.taken
-
-  dealt_version : (o : Op) (v : ℕ) → IsDealt g c.taken o v → versions o ≡ Some v
-  unfolding versions
-  dealt_version o v d = version_of c.taken g.first g.deals d.place o distinct d.stands d.within ∙ ap Some (sym d.version)
-
-  true_spent : (r : Report) → SpentFact g c.taken r → IsTrueReport g c.taken c.outside versions r
-  unfolding versions
-  true_spent r s = record {
-    op = s.op;
-    was_taken = at-Mem c.taken s.place s.op s.stands;
-    name = s.name;
-    document = s.document;
-    cause = inr (record {
-      cause_is = s.cause;
-      never_sent = λ v e. absurd (none_over g.first g.deals c.taken s.op s.place v distinct s.stands s.past e);
-      over = let w = at-within c.taken s.place s.op s.stands in let p = s.past in omega (arith, w, p);
-    });
-  }
-
-  true_cause : (r : Report) → CauseFact g c.taken c.held c.outside r → IsTrueReport g c.taken c.outside versions r
-  true_cause r s = record {
-    op = s.op;
-    was_taken = at-Mem c.taken s.dealt.place s.op s.dealt.stands;
-    name = s.name;
-    document = s.document;
-    cause = inl (record { version = s.version; is_dealt = dealt_version s.op s.version s.dealt; of_write = s.cause });
-  }
-
-  pub reports_true : (r : Report) → Mem r c.reports → IsTrueReport g c.taken c.outside (version_in g.first g.deals c.taken) r
-  unfolding versions
-  reports_true r m = ⊎_elim (λ s. true_spent r s) (λ s. true_cause r s) (f.reports r m)
-
   pub sound : IsSound g c.taken c.reports c.outside (attributed g c.taken c.outside)
-  unfolding versions
   sound = record {
     attribution = attribution;
     in_order = in_order;
-    versions = versions;
+    versions = version_in g.first g.deals c.taken;
     assignment = is_assignment g.first g.deals c.taken;
-    true_reports = λ r m. ⊎_elim (λ s. true_spent r s) (λ s. true_cause r s) (f.reports r m);
-    once = reported_once c.reports (λ n. let a = f.apart n in let b = taken_once c.taken distinct n in omega (arith, a, b));
+    true_reports = reports_true g none_past c f distinct;
+    once = reports_once g none_past c f distinct;
   }
 
   pub complete : c.held ≡ [] → IsComplete c.taken c.reports (attributed g c.taken c.outside)
-  complete none o m =
-      let at = Mem-at o c.taken m in
-      ⊎_elim
-      (λ h. absurd (subst (λ hs. Mem h.held_op hs) none h.is_in))
-      (λ z. ⊎_elim
-      (λ y.
-      let a = of_one (document_of o.key) y.write y.is_in in
-      let place : a.dealt.place ≡ at.0 = (let v = a.dealt.version in let u = y.version in omega (arith, v, u)) in
-      let same : a.op ≡ o = some_same a.op o (sym a.dealt.stands ∙ ap (slice_get c.taken) place ∙ at.1) in
-      inl (subst (λ p. Mem p (attributed g c.taken c.outside (document_of o.key))) same (of-op g c.taken (c.outside.applied (document_of o.key)) y.write y.is_in a)))
-      (λ p. inr (subst (λ n. Mem n (map (λ (r : Report). r.name) c.reports)) p.name (map-Mem (λ (r : Report). r.name) p.report c.reports p.is_in)))
-      z)
-      (f.nothing_lost at.0 o at.1)
+  complete none o m = ⊎_elim
+      (λ y. inl (subst (λ p. Mem p (attributed g c.taken c.outside (document_of o.key))) y.op (of-op g c.taken (c.outside.applied (document_of o.key)) y.write y.is_in y.one)))
+      (λ p. inr p)
+      (accounted g none_past c f distinct none o m)
 
 pub sound_always : SoundAlways
 sound_always g c r distinct = sound g c (facts_of g c r) distinct

@@ -26,6 +26,7 @@ may_one : (c : Core) (h : Held) → c.held ≡ h ∷ [] → h.flies ≡ None →
 may_one c h eh w = record {
   eligible = λ k m. elim m [ inl e ↦ subst (λ x. IsEligible c.held x) (sym e) (subst (λ hs. IsEligible hs h) (sym eh) (alone h w h)) | inr f ↦ absurd f ];
   distinct = (λ m. m, tt);
+  caps = λ more. absurd (omega (arith, more));
 }
 
 abbrev one_request : Write → Request
@@ -137,6 +138,7 @@ first_of_two c o p eh = record {
     | inr f ↦ absurd f
   ];
   distinct = (λ m. m, tt);
+  caps = λ more. absurd (omega (arith, more));
 }
 
 pub earlier_first : EarlierOnesFirst

@@ -1,5 +1,5 @@
 -- Whose writes the index applied, and in which order.
-use Rattle.std.specs.Prelude.{◌≡◌, ℕ, List, [], ◌∷◌, Bool, ◌==◌, map, filter}
+use Rattle.std.specs.Prelude.{◌≡◌, ℕ, ◌≤◌, List, [], ◌∷◌, Bool, ◌==◌, map, filter}
 use Rattle.relay_action.specs.declared.write.Write.{Write}
 use Rattle.relay_action.specs.declared.operation.Op.{Op}
 use Rattle.relay_results.specs.Words.{Mem, IsSubsequence, AllDistinct}
@@ -27,3 +27,12 @@ is_from p o = o.producer == p
 -- the operations of each producer stand in the order in which it put them
 abbrev pub IsInProducerOrder : (ℕ → List Op) → List Op → Type 0
 IsInProducerOrder accepted ops = (p : ℕ) → IsSubsequence (filter (is_from p) ops) (accepted p)
+
+-- those of one epoch
+abbrev pub is_in : ℕ → Op → Bool
+is_in e o = o.epoch == e
+
+-- the operations of an earlier epoch stand before those of every later one
+abbrev pub AreByEpoch : List Op → Type 0
+AreByEpoch [] = Unit {0}
+AreByEpoch (o ∷ os) = ((p : Op) → Mem p os → o.epoch ≤ p.epoch) × AreByEpoch os

@@ -1,8 +1,7 @@
 -- When the cause of a report is true.
-use Rattle.std.specs.Prelude.{◌≡◌, ◌⊎◌, ℕ, ◌+◌, ◌-◌, ◌^◌, ◌<◌, ◌≤◌, min, List, [], Option, Some, is_some, unwrap_or, slice_get, Bool, true, false}
+use Rattle.std.specs.Prelude.{◌≡◌, ◌⊎◌, ℕ, ◌+◌, ◌-◌, ◌^◌, ◌<◌, ◌≤◌, min, List, [], length, Option, Some, is_some, unwrap_or, slice_get, Bool, true, false, ◌&&◌, not}
 use Rattle.std.specs.List.{list_any}
 use Rattle.relay_action.specs.Actions.{kind_of}
-use Rattle.relay_action.specs.Limits.{last_version}
 use Rattle.relay_action.specs.declared.write.Write.{Write}
 use Rattle.relay_action.specs.declared.operation.Op.{Op}
 use Rattle.relay_results.specs.declared.cause.Cause.{Cause}
@@ -10,9 +9,9 @@ use Rattle.relay_results.specs.declared.cause.Cause.TheVariants as cause
 use Rattle.relay_results.specs.declared.outcome.Outcome.{Outcome}
 use Rattle.relay_results.specs.Words.{count}
 use Rattle.relay_results.specs.Documents.{document_of, same_write, same_op, write_for}
-use Rattle.relay_results.specs.Verdicts.{IsRefused, is_conflict, is_retried_whole}
+use Rattle.relay_results.specs.Verdicts.{IsRefused, is_conflict, is_sent_again}
 use Rattle.relay_results.specs.Outside.{Whole, Request, Outside, WasRun}
-use Rattle.relay_results.specs.Fates.{HasEntry, IsRetried}
+use Rattle.relay_results.specs.Fates.{HasEntry, IsRetried, says_too_large}
 
 -- ---- the version assignment
 
@@ -22,17 +21,17 @@ IsAssignment versions =
     (a b : Op) (v : ℕ) → versions a ≡ Some v → versions b ≡ Some v → document_of a.key ≡ document_of b.key
     → same_op a b ≡ true
 
--- how many versions a lane deals that begins with this one
-abbrev pub deals_from : ℕ → ℕ
-deals_from first = min (2 ^ 56) (last_version + 1 - first)
-
 -- ---- what was carried and answered
 
 -- a request carried the write: its document, its version and its action
 abbrev pub carries : Write → Request → Bool
 carries w q = list_any (same_write w) q.writes
 
--- it did at this place
+-- it did, and does not say that it was too large: it counts as a try
+abbrev pub is_try : Write → Request → Bool
+is_try w q = carries w q && not (says_too_large q.answer)
+
+-- a request carried it at this place
 pub record CarriedAt (requests : List Request) (w : Write) (number place : ℕ) (q : Request) : Type 0 where
   pub write : Write
   pub sent : slice_get requests number ≡ Some q
@@ -49,13 +48,14 @@ pub record IsAnswered (s : Outside) (w : Write) (o : Outcome) : Type 0 where
   pub says : HasEntry request.writes place request.answer o
   pub ran : WasRun s.runs number place o
 
--- a request that carried the write was answered as a whole with this status
+-- a request that carried the write was answered as a whole with this status, and what it carried is not sent again for that
 pub record IsAnsweredWhole (s : Outside) (w : Write) (status : ℕ) : Type 0 where
   pub number : ℕ
   pub place : ℕ
   pub request : Request
   pub carried : CarriedAt s.requests w number place request
   pub answer : request.answer ≡ Whole status
+  pub final : is_sent_again (length request.writes) status ≡ false
 
 -- ---- true causes
 
@@ -74,18 +74,17 @@ pub record IsTrueConflict (s : Outside) (w : Write) : Type 0 where
   pub answered : IsAnswered s w outcome
   pub conflict : is_conflict outcome.status ≡ true
 
--- GaveUp: exactly so many requests carried it, as many as tries were allowed at least, and to each came an answer that is
--- tried again.
+-- GaveUp: exactly so many requests carried it; those of them that were not answered as too large are as many as tries were
+-- allowed at least; and to each came an answer after which it is sent again.
 pub record GaveUpAfter (requests : List Request) (w : Write) (max sends : ℕ) : Type 0 where
   pub exactly : count (carries w) requests ≡ sends
-  pub enough : max ≤ sends
+  pub enough : max ≤ count (is_try w) requests
   pub each : (number place : ℕ) (q : Request) → CarriedAt requests w number place q → IsRetried q.writes place q.answer
 
--- The cause is true of a write that was dealt a version, of which so many tries were allowed. Request: it was answered as
--- a whole with this status, which is not tried again.
+-- The cause is true of a write that was dealt a version, of which so many tries were allowed.
 abbrev pub IsTrueOf : ℕ → Outside → Write → Cause → Type 0
 IsTrueOf max s w (cause.Refused status error) = IsTrueRefusal s w status error
-IsTrueOf max s w (cause.Request status) = IsAnsweredWhole s w status × (is_retried_whole status ≡ false)
+IsTrueOf max s w (cause.Request status) = IsAnsweredWhole s w status
 IsTrueOf max s w cause.Conflict = IsTrueConflict s w
 IsTrueOf max s w (cause.GaveUp sends) = GaveUpAfter s.requests w max sends
 IsTrueOf max s w cause.Spent = ⊥

@@ -8,8 +8,8 @@ use Rattle.relay_results.specs.Words.{Mem, IsSubsequence}
 use Rattle.relay_results.specs.Numbers.{from_one, from_zero}
 use Rattle.relay_results.specs.Documents.{Document, document_of, same_document}
 use Rattle.relay_results.specs.Outside.{Answer, Unanswered, Request, Ran, Outside, Sends, Runs, Answers, IsOpening, MayRun, MayAnswer, after}
-use Rattle.relay_results.specs.Fates.{Fate, Flies, Applied, Already, Retried, Reported}
-use Rattle.relay_delivery.specs.Machine.{Config, Core, Held, Place, Report, write_of, held_at, spent_if, launched, landed, fate_of, reported, how_many, is_applied_fate, is_already_fate, CameAbout}
+use Rattle.relay_results.specs.Fates.{Fate, Flies, Applied, Already, Retried, Halved, Reported}
+use Rattle.relay_delivery.specs.Machine.{Config, Core, Held, Place, Report, write_of, held_at, spent_if, launched, landed, halved, KeepsCaps, fate_of, reported, how_many, is_applied_fate, is_already_fate, CameAbout}
 use Rattle.relay_delivery.specs.Delivery.{HasDistinctNames, IsSound, IsComplete, attributed, IsDealtWrite}
 use Rattle.relay_delivery.specs.Bound.{tries_left}
 
@@ -99,6 +99,7 @@ kept_entry clock Flies e = e ∷ []
 kept_entry clock Applied e = []
 kept_entry clock Already e = []
 kept_entry clock Retried e = record { held = landed e.held; bytes = e.bytes; taken_at = e.taken_at; due = backoff clock e.held.attempts } ∷ []
+kept_entry clock (Halved cap) e = record { held = halved cap e.held; bytes = e.bytes; taken_at = e.taken_at; due = clock } ∷ []
 kept_entry clock (Reported cause) e = []
 
 abbrev pub kept_entries : Config → ℕ → ℕ → List Write → Answer → List Entry → List Entry
@@ -170,10 +171,11 @@ ClockFits = (s : State) (clock : ℕ) (taken : List Op) (out : Outside) → Fits
 abbrev pub TakeFits : Type 0
 TakeFits = (s : State) (o : Op) (bytes : ℕ) (taken : List Op) (out : Outside) → Fits s taken out → Fits (taken_op s o bytes) (taken ++ o ∷ []) out
 
--- some of the candidates are sent
+-- some of the candidates are sent, which keep their caps
 abbrev pub SendFits : Type 0
 SendFits =
-    (s : State) (chosen : List Entry) (taken : List Op) (out : Outside) → IsSubsequence chosen (candidates s) → Fits s taken out →
+    (s : State) (chosen : List Entry) (taken : List Op) (out : Outside) → IsSubsequence chosen (candidates s) →
+    KeepsCaps (held_of chosen) → Fits s taken out →
     Fits (sent s chosen) taken (after (Sends (writes_of_all chosen)) out)
 
 -- an item is run meanwhile
@@ -225,7 +227,7 @@ OneFliesWhereItFits =
 
 -- ---- how many requests it sends
 
--- the tries that are left to what it holds
+-- the tries that are left to what it holds, and the halvings
 abbrev pub tries_of : State → ℕ
 tries_of s = tries_left s.config.max (held_of s.held)
 
@@ -233,7 +235,9 @@ tries_of s = tries_left s.config.max (held_of s.held)
 abbrev pub SendTakesTry : Type 0
 SendTakesTry =
     (s : State) (chosen : List Entry) (taken : List Op) (out : Outside) → 0 < s.config.max → chosen ≢ [] →
-    IsSubsequence chosen (candidates s) → Fits s taken out → tries_of (sent s chosen) + 1 ≤ tries_of s
+    IsSubsequence chosen (candidates s) → KeepsCaps (held_of chosen) → Fits s taken out → tries_of (sent s chosen) + 1 ≤ tries_of s
 
 abbrev pub AnswerGivesNoTry : Type 0
-AnswerGivesNoTry = (s : State) (number : ℕ) (a : Answer) → tries_of (answered s number a) ≤ tries_of s
+AnswerGivesNoTry =
+    (s : State) (number : ℕ) (a : Answer) (taken : List Op) (out : Outside) → 0 < s.config.max → is_flying number s ≡ true →
+    Fits s taken out → tries_of (answered s number a) ≤ tries_of s

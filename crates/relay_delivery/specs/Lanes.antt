@@ -48,8 +48,9 @@ move g lane_of (Closes p) w = record { accepted = w.accepted; closed = changed w
 move g lane_of (Fetches l) w = fetched g l w (w.queue l)
 move g lane_of (Steps l s) w = record { accepted = w.accepted; closed = w.closed; queue = w.queue; lane = changed w.lane l (step g s (w.lane l)) }
 
--- the next operation of a producer that has not closed
-pub record MayPut (w : Lanes) (o : Op) : Type 0 where
+-- the next operation of a producer that has not closed, in the epoch that runs
+pub record MayPut (g : Config) (w : Lanes) (o : Op) : Type 0 where
+  pub epoch : o.epoch ≡ g.epoch
   pub open_yet : w.closed o.producer ≡ false
   pub number : o.number ≡ length (w.accepted o.producer) + 1
 
@@ -60,11 +61,11 @@ IsInner (Sends chosen) = Unit {0}
 IsInner (Runs r) = Unit {0}
 IsInner (Answers number a) = Unit {0}
 
-abbrev pub MayMove : Move → Lanes → Type 0
-MayMove (Puts o) w = MayPut w o
-MayMove (Closes p) w = Unit {0}
-MayMove (Fetches l) w = Unit {0}
-MayMove (Steps l s) w = IsInner s × MayStep s (w.lane l)
+abbrev pub MayMove : Config → Move → Lanes → Type 0
+MayMove g (Puts o) w = MayPut g w o
+MayMove g (Closes p) w = Unit {0}
+MayMove g (Fetches l) w = Unit {0}
+MayMove g (Steps l s) w = IsInner s × MayStep s (w.lane l)
 
 abbrev pub moves_of : Config → (Document → ℕ) → List Move → Lanes → Lanes
 moves_of g lane_of [] w = w
@@ -72,7 +73,7 @@ moves_of g lane_of (m ∷ ms) w = moves_of g lane_of ms (move g lane_of m w)
 
 abbrev pub AllMayMove : Config → (Document → ℕ) → List Move → Lanes → Type 0
 AllMayMove g lane_of [] w = Unit {0}
-AllMayMove g lane_of (m ∷ ms) w = MayMove m w × AllMayMove g lane_of ms (move g lane_of m w)
+AllMayMove g lane_of (m ∷ ms) w = MayMove g m w × AllMayMove g lane_of ms (move g lane_of m w)
 
 -- nothing was accepted or queued, and each lane is fresh
 pub record IsStart (g : Config) (w : Lanes) : Type 0 where

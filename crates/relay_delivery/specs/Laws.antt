@@ -1,5 +1,5 @@
 -- What the definitions of attribution, of true causes and of soundness rule out.
-use Rattle.std.specs.Prelude.{◌⊎◌, ◌^◌, ◌≡◌, ◌≢◌, ℕ, ◌≤◌, List, [], ◌∷◌, slice_get, Option, Some, None, false, if◌then◌else◌, true}
+use Rattle.std.specs.Prelude.{◌⊎◌, ◌≡◌, ◌≢◌, ℕ, ◌≤◌, List, [], ◌∷◌, length, slice_get, Option, Some, None, false, if◌then◌else◌, true}
 use Rattle.relay_action.specs.declared.write.Write.{Write}
 use Rattle.relay_action.specs.declared.operation.Op.{Op}
 use Rattle.relay_results.specs.declared.cause.Cause.{Cause}
@@ -11,7 +11,7 @@ use Rattle.relay_results.specs.Outside.{Answer, Items, Whole, Lost, Request, Ran
 use Rattle.relay_delivery.specs.Attribution.{IsAttribution, IsInProducerOrder}
 use Rattle.relay_delivery.specs.Machine.{Config, Report}
 use Rattle.relay_delivery.specs.Delivery.{IsSound}
-use Rattle.relay_delivery.specs.Causes.{Terms, carries, IsTrueCause, IsAssignment, deals_from}
+use Rattle.relay_delivery.specs.Causes.{Terms, carries, IsTrueCause, IsAssignment}
 use Rattle.relay_delivery.specs.Schedules.{entry, terms, nothing, end_of, Plays}
 
 -- one operation is attributed to two applied writes
@@ -112,6 +112,20 @@ NotRejectedWhenRetried =
     (o : Op) (dealt : Option ℕ) (t : Terms) (s : Outside) (status : ℕ) → is_retried_whole status ≡ true →
     IsTrueCause t s o dealt (cause.Request status) → ⊥
 
+-- of three requests that carried it two were too large: one counts as a try
+abbrev pub NotGivenUpForHalves : Type 0
+NotGivenUpForHalves = (o : Op) (v deals taken sends : ℕ) (x y : Write) (runs : List Ran) →
+    let w = write_for o v in
+    let requests = request (w ∷ x ∷ y ∷ []) (Whole 413) ∷ request (w ∷ x ∷ []) (Whole 413) ∷ request (w ∷ []) Lost ∷ [] in
+    IsTrueCause (terms 2 deals taken) (sent requests runs) o (Some v) (cause.GaveUp sends) → ⊥
+
+-- no request had it alone
+abbrev pub NotRejectedWhenHalved : Type 0
+NotRejectedWhenHalved =
+    (o : Op) (dealt : Option ℕ) (t : Terms) (s : Outside) →
+    ((number : ℕ) (q : Request) → slice_get s.requests number ≡ Some q → 2 ≤ length q.writes) →
+    IsTrueCause t s o dealt (cause.Request 413) → ⊥
+
 -- no run met a conflict
 abbrev pub NoConflictWithoutRun : Type 0
 NoConflictWithoutRun =
@@ -162,7 +176,3 @@ abbrev pub PlaysFromOpening : Type 0
 PlaysFromOpening =
     (accepted : List Op) (events : List Event) (k : Document) (ws : List Write) (ops : List Op) →
     Plays accepted events k ws ops → IsOpening nothing × Continues nothing (end_of events)
-
--- a lane that begins with version 1 deals 2^56 versions, and one that begins with the last version deals one
-abbrev pub DealsVersions : Type 0
-DealsVersions = (deals_from 1 ≡ 2 ^ 56) × (deals_from 9000000000000000000 ≡ 1)

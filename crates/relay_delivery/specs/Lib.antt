@@ -4,9 +4,11 @@ pub mod Machine
 pub mod Delivery
 pub mod Bound
 pub mod Lane
+pub mod Numbered
 pub mod Lanes
 pub mod Together
 pub mod Restarts
+pub mod Accounted
 pub mod Schedules
 pub mod Worked
 pub mod Laws

@@ -1,6 +1,6 @@
 -- A lane as delivery sees it, beside what stands outside: what it took, what it holds and what it reported. It has no
--- clock, batch, limit or queue: they only decide which of these steps are made, and when.
-use Rattle.std.specs.Prelude.{◌≡◌, ℕ, suc, ◌+◌, ◌<◌, ◌≤◌, List, [], ◌∷◌, ◌++◌, Option, Some, None, option_map, slice_get, Bool, true, false, ◌==◌, nat_lt, if◌then◌else◌, map, length}
+-- clock, batch or queue, and of all limits only the caps: the others only decide which of these steps are made, and when.
+use Rattle.std.specs.Prelude.{◌≡◌, ℕ, suc, ◌+◌, ◌-◌, ◌*◌, ◌^◌, ◌<◌, ◌≤◌, List, [], ◌∷◌, ◌++◌, Option, Some, None, option_map, slice_get, Bool, true, false, ◌==◌, nat_lt, if◌then◌else◌, map, length}
 use Rattle.relay_action.specs.Actions.{kind_of}
 use Rattle.relay_action.specs.declared.write.Write.{Write}
 use Rattle.relay_action.specs.declared.operation.Op.{Op}
@@ -11,15 +11,26 @@ use Rattle.relay_results.specs.Words.{Mem, AllDistinct, count}
 use Rattle.relay_results.specs.Documents.{Document, document_of, name_of, write_for}
 use Rattle.relay_results.specs.Outside.{Answer, Request, writes_of, Ran, Outside, IsOpening, MayRun, MayAnswer, after}
 use Rattle.relay_results.specs.Outside as outside
-use Rattle.relay_results.specs.Fates.{Fate, Flies, Applied, Already, Retried, Reported, fate}
+use Rattle.relay_results.specs.Fates.{Fate, Flies, Applied, Already, Retried, Halved, Reported, fate}
 
 -- ---- what a lane has
 
--- the first version that it deals, how many it deals, and how many tries an operation has
+-- the epoch in which it runs, the first version that it deals, how many it deals, how many tries an operation has, and
+-- the cap that it begins with
 pub record Config : Type 0 where
+  pub epoch : ℕ
   pub first : ℕ
   pub deals : ℕ
   pub max : ℕ
+  pub cap : ℕ
+
+-- the first version of an epoch: a version is the epoch times 2^40, and a count from 1
+abbrev pub first_in : ℕ → ℕ
+first_in epoch = epoch * 2 ^ 40 + 1
+
+-- a lane of this epoch deals so many versions, and its operations have so many tries and begin with this cap
+abbrev pub in_epoch : ℕ → ℕ → ℕ → ℕ → Config
+in_epoch epoch deals max cap = record { epoch = epoch; first = first_in epoch; deals = deals; max = max; cap = cap }
 
 -- the version that is dealt at a place of what is taken
 abbrev pub version_at : Config → ℕ → ℕ
@@ -31,12 +42,13 @@ pub record Place : Type 0 where
   pub place : ℕ
 
 -- an operation that is neither done nor reported: the version that it was dealt, how many requests carried it, how many of
--- them count as tries, and where it flies, if it does
+-- them count as tries, how many operations a request may have with it, unless it stands alone, and where it flies, if it does
 pub record Held : Type 0 where
   pub op : Op
   pub version : ℕ
   pub sends : ℕ
   pub attempts : ℕ
+  pub cap : ℕ
   pub flies : Option Place
 
 abbrev pub write_of : Held → Write
@@ -63,7 +75,7 @@ pub record Core : Type 0 where
 -- ---- an operation is taken
 
 abbrev pub held_at : Config → ℕ → Op → Held
-held_at g place o = record { op = o; version = version_at g place; sends = 0; attempts = 0; flies = None }
+held_at g place o = record { op = o; version = version_at g place; sends = 0; attempts = 0; cap = g.cap; flies = None }
 
 -- it is held where a version is left for it, and else reported
 abbrev pub held_if : Bool → Config → ℕ → Op → List Held
@@ -92,10 +104,15 @@ pub record IsEligible (held : List Held) (h : Held) : Type 0 where
   pub waits : h.flies ≡ None
   pub first : (j : Held) → Mem j held → document_of j.op.key ≡ document_of h.op.key → h.version ≤ j.version
 
--- any eligible operations may be sent as one request, in any order
+-- two operations or more are at most as many as the cap of each
+abbrev pub KeepsCaps : List Held → Type 0
+KeepsCaps chosen = 1 < length chosen → (h : Held) → Mem h chosen → length chosen ≤ h.cap
+
+-- any eligible operations may be sent as one request, in any order, if they keep their caps
 pub record MaySend (c : Core) (chosen : List Held) : Type 0 where
   pub eligible : (h : Held) → Mem h chosen → IsEligible c.held h
   pub distinct : AllDistinct (map (λ (h : Held). h.version) chosen)
+  pub caps : KeepsCaps chosen
 
 -- the place among them of the operation with a version
 abbrev pub place_of : ℕ → List Held → Option ℕ
@@ -110,6 +127,7 @@ launched_at number h (Some place) = record {
   version = h.version;
   sends = h.sends + 1;
   attempts = h.attempts + 1;
+  cap = h.cap;
   flies = Some (record { request = number; place = place });
 }
 
@@ -138,13 +156,18 @@ fate_of g number ws a h (Some f) =
 
 -- it waits to be sent again
 abbrev pub landed : Held → Held
-landed h = record { op = h.op; version = h.version; sends = h.sends; attempts = h.attempts; flies = None }
+landed h = record { op = h.op; version = h.version; sends = h.sends; attempts = h.attempts; cap = h.cap; flies = None }
+
+-- it waits to be sent under this cap, and its try is given back
+abbrev pub halved : ℕ → Held → Held
+halved cap h = record { op = h.op; version = h.version; sends = h.sends; attempts = h.attempts - 1; cap = cap; flies = None }
 
 abbrev pub kept_one : Fate → Held → List Held
 kept_one Flies h = h ∷ []
 kept_one Applied h = []
 kept_one Already h = []
 kept_one Retried h = landed h ∷ []
+kept_one (Halved cap) h = halved cap h ∷ []
 kept_one (Reported cause) h = []
 
 abbrev pub reported_one : Fate → Held → List Report
@@ -152,6 +175,7 @@ reported_one Flies h = []
 reported_one Applied h = []
 reported_one Already h = []
 reported_one Retried h = []
+reported_one (Halved cap) h = []
 reported_one (Reported cause) h = report_on h.op cause ∷ []
 
 abbrev pub kept : Config → ℕ → List Write → Answer → List Held → List Held
@@ -167,6 +191,7 @@ is_applied_fate Flies = false
 is_applied_fate Applied = true
 is_applied_fate Already = false
 is_applied_fate Retried = false
+is_applied_fate (Halved cap) = false
 is_applied_fate (Reported cause) = false
 
 abbrev pub is_already_fate : Fate → Bool
@@ -174,6 +199,7 @@ is_already_fate Flies = false
 is_already_fate Applied = false
 is_already_fate Already = true
 is_already_fate Retried = false
+is_already_fate (Halved cap) = false
 is_already_fate (Reported cause) = false
 
 abbrev pub how_many : (Fate → Bool) → Config → ℕ → List Write → Answer → List Held → ℕ

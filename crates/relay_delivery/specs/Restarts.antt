@@ -1,68 +1,97 @@
--- Restarts: a lane begins anew beside what stands outside, where requests of earlier incarnations may still arrive.
-use Rattle.std.specs.Prelude.{◌≡◌, ◌+◌, ◌≤◌, List, [], ◌∷◌, ◌++◌}
-use Rattle.relay_action.specs.declared.write.Write.{Write}
+-- Restarts: incarnations one after another over one index, each in an epoch above all earlier ones, while requests that
+-- earlier ones sent may still be run.
+use Rattle.std.specs.Prelude.{◌≡◌, ℕ, ◌+◌, ◌^◌, ◌<◌, ◌≤◌, List, [], ◌∷◌, ◌++◌, false, length}
 use Rattle.relay_action.specs.declared.operation.Op.{Op}
-use Rattle.relay_results.specs.Words.{IsSubsequence}
+use Rattle.relay_results.specs.Words.{Mem}
 use Rattle.relay_results.specs.Documents.{Document}
-use Rattle.relay_delivery.specs.Attribution.{SameActions}
-use Rattle.relay_delivery.specs.Machine.{Config, Core, Step, step, MayStep, IsFresh}
-use Rattle.relay_delivery.specs.Delivery.{ops_of}
+use Rattle.relay_delivery.specs.Machine.{Config, Core, in_epoch}
+use Rattle.relay_delivery.specs.Lanes.{Lanes}
+use Rattle.relay_delivery.specs.Together.{Together, Act, Plain, SendsFrom, RunsAt, AnswersAt, act, MayAct, IsFreshTogether}
 
--- what an incarnation dealt from, and what it took
+-- What is known of an incarnation: by what it deals, what was accepted in it from each producer, what each of its lanes
+-- took, and how many requests there are, with those of earlier ones.
 pub record Incarnation : Type 0 where
   pub config : Config
-  pub taken : List Op
+  pub accepted : ℕ → List Op
+  pub taken : ℕ → List Op
+  pub sent : ℕ
 
--- the incarnations that ended, the first one first, and the one that runs
+abbrev pub incarnation_of : Config → Together → Incarnation
+incarnation_of g s = record { config = g; accepted = s.lanes.accepted; taken = λ l. (s.lanes.lane l).taken; sent = length s.sent }
+
+-- the incarnations that ended, the first one first, and what stands of the one that runs
 pub record Life : Type 0 where
   pub ended : List Incarnation
   pub config : Config
-  pub core : Core
+  pub together : Together
 
-abbrev pub born : Config → Core → Life
-born g c = record { ended = []; config = g; core = c }
+abbrev pub born : Config → Together → Life
+born g s = record { ended = []; config = g; together = s }
 
-abbrev pub running : Life → Incarnation
-running l = record { config = l.config; taken = l.core.taken }
+-- all incarnations, the one that runs the last
+abbrev pub with_running : List Incarnation → Config → Together → List Incarnation
+with_running ended g s = ended ++ incarnation_of g s ∷ []
 
--- the running one makes a step, or a new one begins
-pub data Happening : Type 0 where
-  Steps : Step → Happening
-  Restarts : Config → Happening
+-- ---- a restart
 
 -- what was taken, held and reported is gone, and what stands outside stays
-abbrev pub restarted : Core → Core
-restarted c = record { taken = []; held = []; reports = []; applied = 0; already = 0; outside = c.outside }
+abbrev pub restarted_core : Core → Core
+restarted_core c = record { taken = []; held = []; reports = []; applied = 0; already = 0; outside = c.outside }
 
-abbrev pub happen : Happening → Life → Life
-happen (Steps s) l = record { ended = l.ended; config = l.config; core = step l.config s l.core }
-happen (Restarts g) l = record { ended = l.ended ++ running l ∷ []; config = g; core = restarted l.core }
+-- queues, accepted lists and closings start anew
+abbrev pub restarted_lanes : Lanes → Lanes
+restarted_lanes w = record { accepted = λ p. []; closed = λ p. false; queue = λ l. []; lane = λ l. restarted_core (w.lane l) }
 
--- a new incarnation begins above all versions that the one before it may deal
+-- requests keep their counts and their origins, and the runs stay
+abbrev pub restarted : Together → Together
+restarted s = record { lanes = restarted_lanes s.lanes; sent = s.sent; origins = s.origins; runs = s.runs }
+
+-- ---- what happens
+
+-- the one that runs makes an act, or it ends and a new one begins
+pub data Happening : Type 0 where
+  Acts : Act → Happening
+  Restarts : Config → Happening
+
+abbrev pub happen : (Document → ℕ) → Happening → Life → Life
+happen lane_of (Acts a) l = record { ended = l.ended; config = l.config; together = act l.config lane_of a l.together }
+happen lane_of (Restarts g) l = record { ended = with_running l.ended l.config l.together; config = g; together = restarted l.together }
+
+-- an answer is taken for a request of the incarnation that runs alone
+abbrev pub IsOfNow : List Incarnation → Act → Type 0
+IsOfNow ended (Plain m) = Unit {0}
+IsOfNow ended (SendsFrom l chosen) = Unit {0}
+IsOfNow ended (RunsAt request place outcome from) = Unit {0}
+IsOfNow ended (AnswersAt request a from) = (p : Incarnation) → Mem p ended → p.sent ≤ request
+
+-- a new incarnation has a higher epoch, and deals versions above all that the one before it may deal
+pub record IsAbove (old new : Config) : Type 0 where
+  pub epoch : old.epoch < new.epoch
+  pub versions : old.first + old.deals ≤ new.first
+
+-- so it is where epochs rise, and a lane deals fewer than 2^40 versions
+abbrev pub EpochsAreAbove : Type 0
+EpochsAreAbove = (e f deals more max least cap other : ℕ) → e < f → deals < 2 ^ 40 → IsAbove (in_epoch e deals max cap) (in_epoch f more least other)
+
 abbrev pub MayBe : Happening → Life → Type 0
-MayBe (Steps s) l = MayStep s l.core
-MayBe (Restarts g) l = l.config.first + l.config.deals ≤ g.first
+MayBe (Acts a) l = MayAct l.config a l.together × IsOfNow l.ended a
+MayBe (Restarts g) l = IsAbove l.config g
 
-abbrev pub lived : List Happening → Life → Life
-lived [] l = l
-lived (h ∷ hs) l = lived hs (happen h l)
+-- one after another
+abbrev pub lived : (Document → ℕ) → List Happening → Life → Life
+lived lane_of [] l = l
+lived lane_of (h ∷ hs) l = lived lane_of hs (happen lane_of h l)
 
-abbrev pub AllMayBe : List Happening → Life → Type 0
-AllMayBe [] l = Unit {0}
-AllMayBe (h ∷ hs) l = MayBe h l × AllMayBe hs (happen h l)
+abbrev pub AllMayBe : (Document → ℕ) → List Happening → Life → Type 0
+AllMayBe lane_of [] l = Unit {0}
+AllMayBe lane_of (h ∷ hs) l = MayBe h l × AllMayBe lane_of hs (happen lane_of h l)
 
--- the writes are those of a subsequence of what an incarnation took, with the same actions
-pub record IsPart (p : Incarnation) (ws : List Write) : Type 0 where
-  pub in_order : IsSubsequence (ops_of p.config.first p.taken ws) p.taken
-  pub actions : SameActions (ops_of p.config.first p.taken ws) ws
-
--- writes fall into parts, one for each incarnation, in their order
-abbrev pub FallsInto : List Incarnation → List Write → Type 0
-FallsInto [] ws = ws ≡ []
-FallsInto (p ∷ ps) ws = (front : List Write) × (rest : List Write) × (ws ≡ front ++ rest) × IsPart p front × FallsInto ps rest
-
--- so do the writes applied to each document, over any number of restarts, whatever arrives late
-abbrev pub EachFalls : Type 0
-EachFalls =
-    (g : Config) (c : Core) (hs : List Happening) → IsFresh g c → AllMayBe hs (born g c) → (k : Document) →
-    FallsInto ((lived hs (born g c)).ended ++ running (lived hs (born g c)) ∷ []) ((lived hs (born g c)).core.outside.applied k)
+-- These incarnations ended, and what stands of the one that deals by this config came about: by acts and restarts that may
+-- be, from fresh lanes on.
+pub record CameAboutTogether (g : Config) (lane_of : Document → ℕ) (ended : List Incarnation) (s : Together) : Type 0 where
+  pub first : Config
+  pub start : Together
+  pub fresh : IsFreshTogether first start
+  pub happenings : List Happening
+  pub may : AllMayBe lane_of happenings (born first start)
+  pub reached : lived lane_of happenings (born first start) ≡ record { ended = ended; config = g; together = s }

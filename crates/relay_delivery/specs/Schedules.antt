@@ -29,7 +29,7 @@ end_of events = after_all events nothing
 
 -- an operation of producer 0 with this number
 abbrev pub op : ℕ → DocKey → Action → Op
-op number key action = record { producer = 0; number = number; key = key; action = action }
+op number key action = record { epoch = 0; producer = 0; number = number; key = key; action = action }
 
 -- the accepted lists, where these operations were accepted in this order
 abbrev pub accepted_of : List Op → ℕ → List Op
@@ -211,3 +211,27 @@ ThreeThenOne = (k l m : DocKey) (source other : Source) →
     × becomes (tried 1 3) (w ∷ x ∷ y ∷ []) 1 (Index other) three of.Retried
     × becomes (tried 1 3) (w ∷ x ∷ y ∷ []) 2 Delete three of.Applied
     × becomes (tried 2 3) (x ∷ []) 0 (Index other) (Items (entry x 201 ∷ [])) of.Applied
+
+-- ---- a request that is too large
+
+-- a request of two items is too large and is halved; alone, one is too large still and is reported, and the reply of the
+-- other is lost, which was its one try
+abbrev pub halved_then_alone : Write → Write → List Event
+halved_then_alone w x =
+    Sends (w ∷ x ∷ []) ∷ Answers 0 (Whole 413)
+    ∷ Sends (w ∷ []) ∷ Answers 1 (Whole 413)
+    ∷ Sends (x ∷ []) ∷ Answers 2 Lost
+    ∷ []
+
+abbrev pub HalvedThenAlone : Type 0
+HalvedThenAlone = (k l : DocKey) →
+    let o = op 1 k Delete in let p = op 2 l Delete in
+    let w = write_for o 1 in let x = write_for p 2 in
+    let second : Tries = record { sends = 2; attempts = 1; max = 1 } in
+    Plays (o ∷ p ∷ []) (halved_then_alone w x) (document_of k) [] []
+    × becomes (tried 1 1) (w ∷ x ∷ []) 0 Delete (Whole 413) (of.Halved 1)
+    × becomes (tried 1 1) (w ∷ x ∷ []) 1 Delete (Whole 413) (of.Halved 1)
+    × becomes second (w ∷ []) 0 Delete (Whole 413) (of.Reported (cause.Request 413))
+    × becomes second (x ∷ []) 0 Delete Lost (of.Reported (cause.GaveUp 2))
+    × IsTrueCause (terms 1 1000 2) (end_of (halved_then_alone w x)) o (Some 1) (cause.Request 413)
+    × IsTrueCause (terms 1 1000 2) (end_of (halved_then_alone w x)) p (Some 2) (cause.GaveUp 2)

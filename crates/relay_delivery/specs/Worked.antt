@@ -17,9 +17,9 @@ use Rattle.relay_delivery.specs.Schedules.{op, accepted_of, nothing, end_of, ran
 
 -- ---- the words of a schedule
 
--- versions from 1, and three tries
+-- versions from 1, three tries, and requests of two operations at most
 abbrev pub config : Config
-config = record { first = 1; deals = 10; max = 3 }
+config = record { epoch = 0; first = 1; deals = 10; max = 3; cap = 2 }
 
 -- a lane that took nothing, beside an outside
 abbrev pub begun : Outside → Core
@@ -27,7 +27,7 @@ begun out = record { taken = []; held = []; reports = []; applied = 0; already =
 
 -- an operation as it is held, under a version and after so many sends, all of them tries
 abbrev pub waiting : Op → ℕ → ℕ → Held
-waiting o version sends = record { op = o; version = version; sends = sends; attempts = sends; flies = None }
+waiting o version sends = record { op = o; version = version; sends = sends; attempts = sends; cap = 2; flies = None }
 
 -- taken, sent, applied and lost, sent again, and answered by a conflict
 abbrev pub lost_then_conflict : Op → List Step

@@ -1,8 +1,8 @@
 //! Worked schedules meet the definitions, and what none may do does not. These functions do nothing;
 //! their contracts are the laws.
-ghost use Rattle.relay_delivery.specs.Schedules.{LostThenAlready, LateRunChangesNothing, RunTwice, RefusedOrRejected, NoVersionLeft, BusyThenNext, GivenUpAndApplied, ThreeThenOne};
+ghost use Rattle.relay_delivery.specs.Schedules.{LostThenAlready, LateRunChangesNothing, RunTwice, RefusedOrRejected, NoVersionLeft, BusyThenNext, GivenUpAndApplied, ThreeThenOne, HalvedThenAlone};
 ghost use Rattle.relay_delivery.specs.Worked.{MachineWorks, StoredVersionsBelow, EarlierOnesFirst, OneVersionForAllTries};
-ghost use Rattle.relay_delivery.specs.Laws.{NoneTwice, NoneOutOfOrder, NoneOfOtherAction, NoneOfOtherDocument, NoneUnaccepted, NoneLeftOut, NotGivenUpAfterOne, NotGivenUpWhenSettled, NoConflictAfterTwo, NotRefusedWithoutStatus, NotRefusedWithoutError, NotSpentWithinLimit, NotRefusedWhenBusy, NotReportedUnsent, NotRejectedWithoutAnswer, NotRejectedWhenRetried, NoConflictWithoutRun, NoneReportedTwice, NoneReportedUntaken, AssignsTwo, NotAssignedTwice, PlaysFromOpening, DealsVersions};
+ghost use Rattle.relay_delivery.specs.Laws.{NoneTwice, NoneOutOfOrder, NoneOfOtherAction, NoneOfOtherDocument, NoneUnaccepted, NoneLeftOut, NotGivenUpAfterOne, NotGivenUpWhenSettled, NoConflictAfterTwo, NotRefusedWithoutStatus, NotRefusedWithoutError, NotSpentWithinLimit, NotRefusedWhenBusy, NotReportedUnsent, NotRejectedWithoutAnswer, NotRejectedWhenRetried, NotGivenUpForHalves, NotRejectedWhenHalved, NoConflictWithoutRun, NoneReportedTwice, NoneReportedUntaken, AssignsTwo, NotAssignedTwice, PlaysFromOpening};
 
 /// Worked schedules of one operation meet the definitions: applied and lost, then a conflict with
 /// its own version; run late, after its repeat; run twice; refused, or rejected with its whole
@@ -17,18 +17,17 @@ pub fn schedules_of_one()
 
 /// Worked schedules of several operations meet the definitions: retried before the next of its
 /// document is sent; given up, and applied all the same before the next; three documents in one
-/// request.
+/// request; a request that is too large and is halved.
 pub fn schedules_of_several()
     ensures busy { BusyThenNext }
     ensures given_up { GivenUpAndApplied }
     ensures three { ThreeThenOne }
+    ensures halved { HalvedThenAlone }
 {}
 
-/// A schedule begins where nothing was sent, and a lane deals the versions from its first to the last,
-/// at most 2^56.
+/// A schedule begins where nothing was sent.
 pub fn schedules_begin()
     ensures opening { PlaysFromOpening }
-    ensures deals { DealsVersions }
 {}
 
 /// A lane's own schedule: an operation is applied and lost, sent again, and ends by a conflict with its
@@ -68,6 +67,8 @@ pub fn causes_exclude()
     ensures unsent { NotReportedUnsent }
     ensures unanswered { NotRejectedWithoutAnswer }
     ensures retried { NotRejectedWhenRetried }
+    ensures halves { NotGivenUpForHalves }
+    ensures halved { NotRejectedWhenHalved }
     ensures no_conflict { NoConflictWithoutRun }
 {}
 

@@ -2,9 +2,10 @@
 ghost use Rattle.relay_delivery.specs.Delivery.{SoundAlways, CompleteAtTheEnd, TotalAlways, WritesAreDealt, EarliestFlies, OneFlies, ContinuesAlways, FreshCameAbout, StepCameAbout};
 ghost use Rattle.relay_delivery.specs.Bound.{WithinTriesLeft, FewRequests};
 ghost use Rattle.relay_delivery.specs.Lane.{FreshFits, ClockFits, TakeFits, SendFits, RunFits, AnswerFits, SoundWhereItFits, CompleteWhereItFits, TotalWhereItFits, WritesWhereItFits, EarliestWhereItFits, OneFliesWhereItFits, SendTakesTry, AnswerGivesNoTry};
-ghost use Rattle.relay_delivery.specs.Restarts.{EachFalls};
 ghost use Rattle.relay_delivery.specs.Lanes.{NothingAfterClose};
-ghost use Rattle.relay_delivery.specs.Together.{SoundTogether, CompleteTogether, FreshTogether, ActTogether, TogetherMay, TogetherRuns, TogetherContinues};
+ghost use Rattle.relay_delivery.specs.Numbered.{TakesOn, CandidatesOn, SendsOn, WritesOn, SettlesOn, FliesOn, AnswersOn};
+ghost use Rattle.relay_delivery.specs.Restarts.{EpochsAreAbove};
+ghost use Rattle.relay_delivery.specs.Accounted.{SoundTogether, CompleteTogether, FreshTogether, ActTogether, RestartTogether, TogetherMay, TogetherRuns, TogetherContinues, ActsKeepNames, RestartsKeepNames};
 
 /// After any steps of a lane and of what stands outside it, from a fresh lane on: the writes that the
 /// index applied are those of distinct operations that the lane took, each producer's in its order;
@@ -32,13 +33,6 @@ pub fn steps_lead_on()
     ensures step { StepCameAbout }
 {}
 
-/// Over any number of restarts, with requests of earlier incarnations still arriving, the writes applied
-/// to a document fall into parts, one for each incarnation in their order, each of them those of
-/// operations that it took, in the order in which it took them.
-pub fn restarts_keep_order()
-    ensures { EachFalls }
-{}
-
 /// A lane that takes nothing more sends at most as many requests as its held operations have tries
 /// left, so at most as many as it holds, times the tries.
 pub fn requests_are_bounded()
@@ -55,6 +49,18 @@ pub fn calls_are_steps()
     ensures send { SendFits }
     ensures run { RunFits }
     ensures answer { AnswerFits }
+{}
+
+/// A lane that counts its requests anew after a restart makes, numbered on from those before, the same
+/// calls.
+pub fn requests_are_numbered_on()
+    ensures take { TakesOn }
+    ensures candidates { CandidatesOn }
+    ensures send { SendsOn }
+    ensures writes { WritesOn }
+    ensures settle { SettlesOn }
+    ensures flies { FliesOn }
+    ensures answer { AnswersOn }
 {}
 
 /// What is promised of a lane and an outside that it fits: delivery, the counts, what is sent, and that
@@ -75,24 +81,35 @@ pub fn requests_take_tries()
     ensures answer { AnswerGivesNoTry }
 {}
 
-/// Several lanes over one index, each with its own documents: after any puts, closes, takes and steps,
-/// the writes that the index applied are those of distinct accepted operations, each producer's in its
-/// order, and each report has a true cause; when nothing is queued or held, each accepted operation was
-/// applied or is reported.
+/// Several lanes over one index, each with its own documents: after any puts, closes, takes and steps, and
+/// after any number of restarts with requests of earlier incarnations still arriving, the writes that the
+/// index applied are those of distinct accepted operations, in each incarnation each producer's in its
+/// order, and those of an earlier incarnation before those of every later one. Of the last incarnation
+/// each report has a true cause; when nothing is queued or held, each operation that was accepted in it
+/// was applied or is reported.
 pub fn lanes_together_deliver()
     ensures sound { SoundTogether }
     ensures complete { CompleteTogether }
 {}
 
-/// Fresh lanes have come about, and each act leads on. What may happen outside all lanes may happen in
+/// Fresh lanes have come about, and each act and each restart leads on. What may happen outside all lanes may happen in
 /// one of them; a run of a lane's item is one step of the one outside and changes nothing of another
 /// document; the one outside came of an opening, by events that may happen; and nothing is accepted from
 /// a producer that has closed.
 pub fn acts_lead_on()
     ensures fresh { FreshTogether }
     ensures act { ActTogether }
+    ensures restart { RestartTogether }
+    ensures above { EpochsAreAbove }
     ensures may { TogetherMay }
     ensures runs { TogetherRuns }
     ensures outside { TogetherContinues }
     ensures closed { NothingAfterClose }
+{}
+
+/// To which operations the applied writes of a document are attributed no act changes but a run that
+/// applies one more, and no restart.
+pub fn names_stay()
+    ensures act { ActsKeepNames }
+    ensures restart { RestartsKeepNames }
 {}

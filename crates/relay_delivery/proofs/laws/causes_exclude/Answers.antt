@@ -1,4 +1,4 @@
-use Rattle.relay_delivery.proofs.Excluded.{settled, without_status, without_error, not_busy, not_unsent, not_unanswered, not_retried, no_conflict}
+use Rattle.relay_delivery.proofs.Excluded.{settled, without_status, without_error, not_busy, not_unsent, not_unanswered, not_retried, not_for_halves, not_when_halved, no_conflict}
 use Rattle.relay_delivery.proofs.laws.causes_exclude.Goals as goal
 
 pub returns-clause-settled : goal.returns-clause-settled
@@ -24,3 +24,9 @@ returns-clause-retried c = not_retried
 
 pub returns-clause-no_conflict : goal.returns-clause-no_conflict
 returns-clause-no_conflict c = no_conflict
+
+pub returns-clause-halves : goal.returns-clause-halves
+returns-clause-halves c = not_for_halves
+
+pub returns-clause-halved : goal.returns-clause-halved
+returns-clause-halved c = not_when_halved

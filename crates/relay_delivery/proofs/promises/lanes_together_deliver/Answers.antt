@@ -1,4 +1,4 @@
-use Rattle.relay_delivery.proofs.Gathered.{sound_together, complete_together}
+use Rattle.relay_delivery.proofs.Accounts.{sound_together, complete_together}
 use Rattle.relay_delivery.proofs.promises.lanes_together_deliver.Goals as goal
 
 pub returns-clause-sound : goal.returns-clause-sound
