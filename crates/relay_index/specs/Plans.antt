@@ -1,5 +1,5 @@
 -- Scripts of refusals.
-use Rattle.std.specs.Prelude.{ℕ, List, [], Option, None, Some, option_map, ◌==◌}
+use Rattle.std.specs.Prelude.{ℕ, List, [], Option, None, Some, option_map, Bool, true, nat_le, ◌==◌}
 use Rattle.std.specs.Map.{lookup}
 use Rattle.relay_action.specs.Streams.{one_more}
 use Rattle.relay_index.specs.declared.choice.Choice.{Choice}
@@ -11,10 +11,11 @@ use Rattle.relay_index.specs.declared.refusal.Refusal.{Refusal}
 pub record Plan : Type 0 where
   pub refusals : List (ℕ × Refusal)
   pub ran : ℕ
+  pub limit : Option ℕ
 
 -- no item is refused, and none was run
 abbrev pub unscripted : Plan
-unscripted = record { refusals = []; ran = 0 }
+unscripted = record { refusals = []; ran = 0; limit = None }
 
 -- the status that the item at a place is refused with, if it is
 abbrev pub refusal_at : Plan → ℕ → Option ℕ
@@ -27,6 +28,18 @@ choice_by (Some status) = Refuse status
 
 abbrev pub choice_at : Plan → Choice
 choice_at plan = choice_by (refusal_at plan (one_more plan.ran))
+
+-- a body of so many bytes is taken
+abbrev pub takes_by : Option ℕ → ℕ → Bool
+takes_by None bytes = true
+takes_by (Some most) bytes = nat_le bytes most
+
+abbrev pub takes : Plan → ℕ → Bool
+takes plan bytes = takes_by plan.limit bytes
+
+-- from now on a body has this many bytes at most
+abbrev pub limited : ℕ → Plan → Plan
+limited most plan = record plan { limit = Some most }
 
 -- one more item was run
 abbrev pub stepped : Plan → Plan

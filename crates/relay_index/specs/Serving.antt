@@ -1,5 +1,5 @@
 -- What an index does with the writes of a request, under a script.
-use Rattle.std.specs.Prelude.{◌≡◌, ◌≢◌, ◌⊎◌, ℕ, ◌≤◌, List, [], ◌∷◌, take, length, codes}
+use Rattle.std.specs.Prelude.{◌≡◌, ◌≢◌, ◌⊎◌, ℕ, ◌≤◌, List, [], ◌∷◌, take, length, codes, true, false}
 use Rattle.serde_json.specs.Data.{Data, number, string, object, unsigned, member, no_members}
 use Rattle.serde_json.specs.Written.{compact_text}
 use Rattle.relay_action.specs.declared.write.Write.{Write}
@@ -13,7 +13,7 @@ use Rattle.relay_results.specs.Done.{outcomes_of, reply_text}
 use Rattle.relay_results.specs.Replies.{IsReply}
 use Rattle.relay_index.specs.States.{State}
 use Rattle.relay_index.specs.Runs.{RunsOne}
-use Rattle.relay_index.specs.Plans.{Plan, choice_at, stepped}
+use Rattle.relay_index.specs.Plans.{Plan, choice_at, takes, stepped}
 
 -- An index beside the script that it runs items under.
 pub record Server : Type 0 where
@@ -70,10 +70,27 @@ pub record IsRejection (fault : BulkFault) (answer : Answer) : Type 0 where
   pub failure : answer.status ≡ 400
   pub text_of : answer.text ≡ fault_text fault.line (name_of fault.kind)
 
+-- ---- a body that is too large
+
+-- the text that says so, with its keys in byte order
+abbrev pub too_large_data : Data
+too_large_data =
+    object (member (codes "error") (object (member (codes "type") (string (codes "TooLarge")) no_members))
+    (member (codes "status") (number (unsigned 413)) no_members))
+
+unfoldable pub too_large_text : List ℕ
+too_large_text = compact_text too_large_data
+
+-- the answer to it
+pub record IsTooLarge (answer : Answer) : Type 0 where
+  pub failure : answer.status ≡ 413
+  pub text_of : answer.text ≡ too_large_text
+
 -- ---- the body of a request
 
 -- the body is a bulk request: 200, and the reply once all its writes were run
 pub record Serves (body : List ℕ) (old : Server) (answer : Answer) (new : Server) : Type 0 where
+  pub within : takes old.script (length body) ≡ true
   pub writes : List Write
   pub reads : IsBulk body writes
   pub success : answer.status ≡ 200
@@ -81,6 +98,7 @@ pub record Serves (body : List ℕ) (old : Server) (answer : Answer) (new : Serv
 
 -- the body is none: 400, and the text that names the first line that is at fault; nothing is run
 pub record Rejects (body : List ℕ) (old : Server) (answer : Answer) (new : Server) : Type 0 where
+  pub within : takes old.script (length body) ≡ true
   pub line : ℕ
   pub kind : LineKind
   pub breaks : BreaksBulk body line kind
@@ -88,8 +106,14 @@ pub record Rejects (body : List ℕ) (old : Server) (answer : Answer) (new : Ser
   pub text_of : answer.text ≡ fault_text line (name_of kind)
   pub stays : new ≡ old
 
+-- the script's limit is below its length: 413; nothing is read or run
+pub record RefusesLength (body : List ℕ) (old : Server) (answer : Answer) (new : Server) : Type 0 where
+  pub over : takes old.script (length body) ≡ false
+  pub too_large : IsTooLarge answer
+  pub stays : new ≡ old
+
 abbrev pub Answers : List ℕ → Server → Answer → Server → Type 0
-Answers body old answer new = Serves body old answer new ⊎ Rejects body old answer new
+Answers body old answer new = Serves body old answer new ⊎ (Rejects body old answer new ⊎ RefusesLength body old answer new)
 
 -- memory ran out while the body was read or its fault was written: nothing is run
 pub record RunsNone (ran : ℕ) (old new : Server) : Type 0 where

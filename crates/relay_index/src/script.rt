@@ -1,7 +1,7 @@
 //! Scripts of refusals.
 ghost use Rattle.std.specs.Prelude.{◌≡◌, ◌==◌, ℕ, Some, OnOk, OnErr, if◌then◌else◌};
 ghost use Rattle.relay_index.specs.Choices.{MayRefuse, MayChoose};
-ghost use Rattle.relay_index.specs.Plans.{unscripted, refusal_at, choice_at, stepped};
+ghost use Rattle.relay_index.specs.Plans.{unscripted, refusal_at, choice_at, limited, takes, stepped};
 
 use crate::choice::Choice;
 use crate::refusal::Refusal;
@@ -10,11 +10,13 @@ use std::alloc::{AllocError, Global};
 use std::marker::Model;
 
 /// Which items an index refuses, by their places among all items that are run under the script. It
-/// counts those items. Contracts see it as the refusals and that count.
+/// counts those items. It may limit the bytes of a body, too. Contracts see it as the refusals, that count
+/// and that limit.
 #[derive(Drop)]
 pub struct Script {
     refusals: IndexMap<u64, Refusal>,
     ran: u64,
+    limit: Option<u64>,
 }
 
 impl Model for Script {
@@ -22,7 +24,7 @@ impl Model for Script {
 
     ghost Value = { Plan };
 
-    ghost view = { λ s. record { refusals = s.refusals.entries; ran = s.ran } };
+    ghost view = { λ s. record { refusals = s.refusals.entries; ran = s.ran; limit = s.limit } };
 }
 
 impl Script {
@@ -33,6 +35,7 @@ impl Script {
         Script {
             refusals: IndexMap::new(alloc),
             ran: 0,
+            limit: None,
         }
     }
 
@@ -47,10 +50,29 @@ impl Script {
         ensures refused { OnOk result ((p : ℕ) →
             refusal_at self.new p ≡ (if place == p then Some status else refusal_at self.old p)) }
         ensures ran { self.new.ran ≡ self.old.ran }
+        ensures limit { self.new.limit ≡ self.old.limit }
         ensures err { OnErr result (self.new ≡ self.old) }
     {
         self.refusals.insert(place, Refusal { status })?;
         Ok(())
+    }
+
+    /// A body of more bytes than this is answered 413 from now on, and nothing of it is read. It takes no
+    /// memory.
+    pub fn too_large(&mut self, max: u64)
+        ensures { self.new ≡ limited max self.old }
+    {
+        self.limit = Some(max);
+    }
+
+    // Whether a body of so many bytes is taken.
+    pub(crate) fn takes(&self, bytes: usize) -> bool
+        ensures { result ≡ takes self.now bytes }
+    {
+        match self.limit {
+            Some(most) => bytes as u64 <= most,
+            None => true,
+        }
     }
 
     // What becomes of the item that is run next.

@@ -1,7 +1,7 @@
 //! Bulk requests served.
 ghost use Rattle.std.specs.Prelude.{◌≡◌, IfOk, IfErr, string_bytes};
 ghost use Rattle.serde_json.specs.View.{view};
-ghost use Rattle.relay_index.specs.Serving.{under, answer_of, RunsAll, RunsFirst, Replies, fault_data, fault_text, IsRejection, Answers, StopsAfter};
+ghost use Rattle.relay_index.specs.Serving.{under, answer_of, RunsAll, RunsFirst, Replies, fault_data, fault_text, too_large_data, too_large_text, IsRejection, IsTooLarge, Answers, StopsAfter};
 
 use crate::index::Index;
 use crate::script::Script;
@@ -48,6 +48,35 @@ fn reject(alloc: Global, fault: BulkFault) -> Result<(u16, String), ServeFault>
     }
     match write_fault(alloc, fault.line, fault.kind.name()) {
         Ok(text) => Ok((400, text)),
+        Err(_) => Err(ServeFault { ran: 0 }),
+    }
+}
+
+// What says that a body is too large.
+fn too_large_value(alloc: Global) -> Result<Value, AllocError>
+    ensures { IfOk result (λ v. view v ≡ too_large_data) }
+{
+    let status = 413u64;
+    json!(in alloc; {"error": {"type": "TooLarge"}, "status": status})
+}
+
+// Its text.
+#[tactic(auto, unfolding(crate::specs::Serving::too_large_text))]
+fn write_too_large(alloc: Global) -> Result<String, AllocError>
+    ensures { IfOk result (λ s. string_bytes s ≡ too_large_text) }
+{
+    let value = too_large_value(alloc)?;
+    let text = value.to_string(alloc)?;
+    Ok(text)
+}
+
+// The answer to a body that is too large, unless memory ran out.
+fn refuse_length(alloc: Global) -> Result<(u16, String), ServeFault>
+    ensures ok { IfOk result (λ answer. IsTooLarge (answer_of answer.0 (string_bytes answer.1))) }
+    ensures err { IfErr result (λ e. e.ran ≡ 0) }
+{
+    match write_too_large(alloc) {
+        Ok(text) => Ok((413, text)),
         Err(_) => Err(ServeFault { ran: 0 }),
     }
 }
@@ -111,7 +140,9 @@ impl Index {
     /// Serves the body of a bulk request: runs its writes once each, in their order, each with what the
     /// script has for its place, and gives the status of the answer and its text.
     ///
-    /// The answer is 200 and the reply, with `took` 0. To a body that is no bulk request it is 400 and
+    /// To a body of more bytes than the script takes the answer is 413 and
+    /// `{"error":{"type":"TooLarge"},"status":413}`; then no line is read and nothing is run. Else the
+    /// answer is 200 and the reply, with `took` 0. To a body that is no bulk request it is 400 and
     /// `{"error":{"line":N,"type":"KIND"},"status":400}`, with the first line that is at fault and the
     /// name of its kind; then nothing is run, and index and script are as before.
     ///
@@ -129,6 +160,9 @@ impl Index {
         ensures stopped { IfErr result (λ e.
             StopsAfter e.ran body.now (under self.old script.old) (under self.new script.new)) }
     {
+        if !script.takes(body.len()) {
+            return refuse_length(alloc);
+        }
         let writes = match read_bulk(alloc, body) {
             Ok(writes) => writes,
             Err(fault) => return reject(alloc, fault),
