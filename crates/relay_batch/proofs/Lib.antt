@@ -1,2 +1,2 @@
-pub mod Highest
+pub mod Documents
 pub mod Added

@@ -1,7 +1,7 @@
 -- A batch that is gathered: which answer an offer gets, and when the batch is ready.
-use Rattle.std.specs.Prelude.{ℕ, ◌≤◌, ◌+◌, ◌-◌, Bool, false, ◌||◌, ◌&&◌, ◌==◌, nat_lt, nat_le, if◌then◌else◌, List, [], ◌∷◌, ◌++◌, length, Result, Ok, Err}
+use Rattle.std.specs.Prelude.{ℕ, ◌≤◌, ◌+◌, ◌-◌, min, Bool, false, ◌||◌, ◌&&◌, ◌==◌, nat_lt, nat_le, if◌then◌else◌, List, [], ◌∷◌, ◌++◌, length, Result, Ok, Err}
 use Rattle.std.specs.List.{list_any}
-use Rattle.relay_batch.specs.Batches.{bytes_of}
+use Rattle.relay_batch.specs.Batches.{bytes_of, count_of}
 use Rattle.relay_batch.specs.declared.item.Limits.{Limits}
 use Rattle.relay_batch.specs.declared.item.BatchItem.{BatchItem}
 use Rattle.relay_batch.specs.declared.item.Room.{Room}
@@ -17,9 +17,13 @@ pub record Gathering : Type 0 where
 abbrev pub holds_document : ℕ → List BatchItem → Bool
 holds_document doc items = list_any (λ i. i.doc == doc) items
 
--- there are as many items as the limit says, or more
+-- there are as many items as the limit or one of their caps says, or more
 abbrev pub is_count_reached : Gathering → Bool
-is_count_reached g = nat_le g.limits.count (length g.items)
+is_count_reached g = nat_le (count_of g.limits.count g.items) (length g.items)
+
+-- something stands in the batch, and one item more that has this cap would pass the limit or a cap
+abbrev pub passes_count : Gathering → ℕ → Bool
+passes_count g cap = nat_lt 0 (length g.items) && nat_le (min (count_of g.limits.count g.items) cap) (length g.items)
 
 -- something stands in the batch, and this many bytes more would pass the limit
 abbrev pub passes_bytes : Gathering → ℕ → Bool
@@ -29,7 +33,7 @@ passes_bytes g bytes = nat_lt 0 (length g.items) && nat_lt g.limits.bytes (bytes
 abbrev pub answer_to : BatchItem → Gathering → Offer
 answer_to item g =
     if holds_document item.doc g.items then Busy
-    else if is_count_reached g || passes_bytes g item.bytes then Closed
+    else if passes_count g item.cap || passes_bytes g item.bytes then Closed
     else Added
 
 -- what an offer leaves: where the answer is Added the item stands at the end, and nothing else changes it
@@ -50,11 +54,6 @@ is_ready now g =
     nat_lt 0 (length g.items)
     && (is_count_reached g || nat_le g.limits.bytes (bytes_of g.items) || is_lingered g.limits.linger now g.items)
 
--- what is left of the limits
+-- what is left of the limits and the caps
 abbrev pub room_of : Gathering → Room
-room_of g = record { items = g.limits.count - length g.items; bytes = g.limits.bytes - bytes_of g.items }
-
--- private: no item's document has a greater number
-abbrev pub AreUpTo : ℕ → List BatchItem → Type 0
-AreUpTo highest [] = Unit {0}
-AreUpTo highest (i ∷ is) = (i.doc ≤ highest) × AreUpTo highest is
+room_of g = record { items = count_of g.limits.count g.items - length g.items; bytes = g.limits.bytes - bytes_of g.items }

@@ -1,11 +1,14 @@
 //! The batch that a lane gathers.
 ghost use Rattle.std.specs.Prelude.{◌≡◌, ◌+◌, [], MatchOption, OnErr, IfOk, None, Some, if◌then◌else◌};
+ghost use Rattle.std.specs.Prelude.{◌≤◌, nat_eq};
+ghost use Rattle.indexmap.specs.IndexSet.{insert_key, spare};
 ghost use Rattle.relay_batch.specs.Batches.{IsBatch, bytes_of};
-ghost use Rattle.relay_batch.specs.Gathering.{holds_document, is_count_reached, passes_bytes, answer_to, after_offer, is_ready, room_of, AreUpTo};
+ghost use Rattle.relay_batch.specs.Gathering.{holds_document, is_count_reached, passes_count, passes_bytes, answer_to, after_offer, is_ready, room_of};
 
 use crate::batch::Batch;
 use crate::item::{BatchItem, Limits, Room};
 use crate::offer::Offer;
+use indexmap::IndexSet;
 use std::alloc::{AllocError, Global};
 use std::marker::Model;
 
@@ -15,14 +18,16 @@ pub struct Batcher {
     limits: Limits,
     held: Vec<BatchItem>,
     total: u64,
-    // No item's document has a greater number.
-    highest: u64,
+    // The least of the limit's count and the caps of the items.
+    most: u32,
+    // The documents of the items.
+    documents: IndexSet<u64>,
 }
 
 impl Model for Batcher {
-    ghost use Rattle.std.specs.Prelude.{◌≡◌};
-    ghost use Rattle.relay_batch.specs.Batches.{IsBatch, bytes_of};
-    ghost use Rattle.relay_batch.specs.Gathering.{Gathering, AreUpTo};
+    ghost use Rattle.std.specs.Prelude.{◌≡◌, map};
+    ghost use Rattle.relay_batch.specs.Batches.{IsBatch, bytes_of, count_of};
+    ghost use Rattle.relay_batch.specs.Gathering.{Gathering};
 
     ghost Value = { Gathering };
 
@@ -31,17 +36,17 @@ impl Model for Batcher {
     ghost invariant = { λ b. record {
       batch : IsBatch b.limits b.held.items;
       total : b.total ≡ bytes_of b.held.items;
-      highest : AreUpTo b.highest b.held.items;
+      most : b.most ≡ count_of b.limits.count b.held.items;
+      documents : b.documents.keys ≡ map (λ i. i.doc) b.held.items;
     } };
 }
 
-// Whether an item of the document stands among the items, of which none has a greater number than the
-// highest: where documents are offered in rising number none is looked at.
-fn is_held(items: &[BatchItem], highest: u64, doc: u64) -> bool
-    requires { AreUpTo highest items.now }
-    ensures { result ≡ holds_document doc items.now }
+// A document enters the set, which has room for it.
+fn note(documents: &mut IndexSet<u64>, doc: u64)
+    requires { 1 ≤ spare documents.old }
+    ensures { documents.new.keys ≡ insert_key nat_eq documents.old.keys doc }
 {
-    doc <= highest && items.iter().any(|item| item.doc == doc)
+    let _ = documents.insert(doc);
 }
 
 impl Batcher {
@@ -53,15 +58,30 @@ impl Batcher {
             limits,
             held: Vec::new(alloc),
             total: 0,
-            highest: 0,
+            most: limits.count,
+            documents: IndexSet::new(alloc),
         }
     }
 
-    // Whether the batch has as many items as its limit says.
+    // Whether an item of the document stands in the batch.
+    fn holds(&self, doc: u64) -> bool
+        ensures { result ≡ holds_document doc self.now.items }
+    {
+        self.documents.contains(&doc)
+    }
+
+    // Whether the batch has as many items as its limit or one of their caps says.
     fn is_full(&self) -> bool
         ensures { result ≡ is_count_reached self.now }
     {
-        self.held.len() >= self.limits.count as usize
+        self.held.len() >= self.most as usize
+    }
+
+    // Whether something stands in the batch, and it has no room for an item with this cap.
+    fn is_full_for(&self, cap: u32) -> bool
+        ensures { result ≡ passes_count self.now cap }
+    {
+        !self.held.is_empty() && self.held.len() >= self.most.min(cap) as usize
     }
 
     // The bytes of the batch with so many more, unless they pass the limit.
@@ -86,24 +106,26 @@ impl Batcher {
         ensures refused { OnErr result (answer_to item self.old ≡ Offer.Added) }
         ensures after { self.new ≡ after_offer item self.old result }
     {
-        if is_held(self.held.as_slice(), self.highest, item.doc) {
+        if self.holds(item.doc) {
             return Ok(Offer::Busy);
         }
-        if self.is_full() {
+        if self.is_full_for(item.cap) {
             return Ok(Offer::Closed);
         }
         let Some(total) = self.total_with(item.bytes) else {
             return Ok(Offer::Closed);
         };
+        self.documents.reserve(1)?;
         self.held.push(item)?;
+        note(&mut self.documents, item.doc);
         self.total = total;
-        self.highest = self.highest.max(item.doc);
+        self.most = self.most.min(item.cap);
         Ok(Offer::Added)
     }
 
     /// Whether the batch is to be sent when the clock stands at `now`, in ticks: it is not empty, and it
-    /// has as many items as its limit says or as many bytes or more, or its first item's `taken_at` and
-    /// the linger time together are at or below `now`. They are added as numbers without end, so no
+    /// has as many items as its limit or one of their caps says, or as many bytes as its limit or more, or
+    /// its first item's `taken_at` and the linger time together are at or below `now`. They are added as numbers without end, so no
     /// clock is refused, not even one before the item was taken. It takes no memory.
     pub fn ready(&self, now: u64) -> bool
         ensures { result ≡ is_ready now self.now }
@@ -120,13 +142,13 @@ impl Batcher {
         }
     }
 
-    /// What the batch has room for until it reaches its limits: the items and the bytes that it has fewer
-    /// than they say, 0 where it has as many or more. It takes no memory.
+    /// What the batch has room for until it reaches its limits and the caps of its items: the items and
+    /// the bytes that it has fewer than they say, 0 where it has as many or more. It takes no memory.
     pub fn room(&self) -> Room
         ensures { result ≡ room_of self.now }
     {
         Room {
-            items: (self.limits.count as usize).saturating_sub(self.held.len()) as u32,
+            items: (self.most as usize).saturating_sub(self.held.len()) as u32,
             bytes: self.limits.bytes.saturating_sub(self.total),
         }
     }

@@ -1,10 +1,10 @@
 //! What a batch is made of, and its limits.
 use relay_action::OpName;
 
-/// The limits of a batch. No value is refused here: with a `count` of 0 every offer is closed.
+/// The limits of a batch. No value is refused here: an empty batch takes any item.
 #[derive(Clone, Copy, Debug, PartialEq, Eq)]
 pub struct Limits {
-    /// The most items of a batch.
+    /// The most items of a batch of two items or more, beside the caps of its items.
     pub count: u32,
     /// The most bytes of a batch of two items or more. One item alone may have more.
     pub bytes: u64,
@@ -32,6 +32,8 @@ pub struct BatchItem {
     pub version: u64,
     /// How many bytes its lines have in the request's text.
     pub bytes: u64,
+    /// The most items of a batch of two items or more that it stands in.
+    pub cap: u32,
     /// The lane's clock when the operation was taken, in ticks.
     pub taken_at: u64,
 }

@@ -8,12 +8,14 @@ use std::test::Fail;
 fn item(doc: u64, bytes: u64, taken_at: u64) -> BatchItem {
     BatchItem {
         name: OpName {
+            epoch: 0,
             producer: 0,
             number: doc,
         },
         doc,
         version: doc,
         bytes,
+        cap: 10_000,
         taken_at,
     }
 }
@@ -176,16 +178,16 @@ fn lingering(rt: HostRuntime) {
 }
 
 #[test]
-fn a_count_of_none_closes_every_offer(rt: HostRuntime) -> Result<(), Fail> {
+fn a_count_of_none_takes_one(rt: HostRuntime) -> Result<(), Fail> {
     let limits = Limits {
         count: 0,
         bytes: 1024,
         linger: 0,
     };
     let mut batcher = Batcher::new(rt.alloc(), limits);
-    let offers = [(1, 0, Offer::Closed), (1, 5000, Offer::Closed)];
-    assert!(rt; answers(&mut batcher, &offers)? && !batcher.ready(u64::MAX));
-    assert!(rt; batcher.close().is_none());
+    let offers = [(1, 5000, Offer::Added), (2, 0, Offer::Closed)];
+    assert!(rt; answers(&mut batcher, &offers)? && batcher.ready(0));
+    assert!(rt; batcher.close().is_some());
     Ok(())
 }
 
@@ -308,5 +310,26 @@ fn is_added(batcher: &mut Batcher) -> Result<bool, AllocError> {
 fn refusals(rt: HostRuntime) -> Result<(), Fail> {
     let mut batcher = Batcher::new(rt.alloc(), LIMITS);
     assert!(rt; is_added(&mut batcher)? && batcher.ready(10));
+    Ok(())
+}
+
+// An item with a cap.
+fn capped(doc: u64, cap: u32) -> BatchItem {
+    BatchItem {
+        cap,
+        ..item(doc, 100, 10)
+    }
+}
+
+#[test]
+fn caps_close_a_batch(rt: HostRuntime) -> Result<(), Fail> {
+    let mut batcher = Batcher::new(rt.alloc(), LIMITS);
+    assert!(rt; batcher.offer(capped(1, 2))? == Offer::Added && !batcher.ready(10));
+    assert!(rt; batcher.offer(capped(2, 1))? == Offer::Closed);
+    assert!(rt; batcher.offer(capped(3, 3))? == Offer::Added && batcher.ready(10));
+    assert!(rt; batcher.offer(capped(4, 3))? == Offer::Closed && batcher.room().items == 0);
+    let mut alone = Batcher::new(rt.alloc(), LIMITS);
+    assert!(rt; alone.offer(capped(1, 0))? == Offer::Added && alone.ready(10));
+    assert!(rt; alone.offer(capped(2, 3))? == Offer::Closed);
     Ok(())
 }
