@@ -9,12 +9,14 @@ use std::test::Fail;
 fn item(doc: u64) -> BatchItem {
     BatchItem {
         name: OpName {
+            epoch: 0,
             producer: 0,
             number: doc,
         },
         doc,
         version: doc,
         bytes: 100,
+        cap: 10,
         taken_at: 0,
     }
 }
