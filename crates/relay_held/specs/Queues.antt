@@ -1,0 +1,171 @@
+-- The held list, and the queues of documents that it is made of.
+use Rattle.std.specs.Prelude.{◌≡◌, ℕ, ◌+◌, ◌<◌, List, [], ◌∷◌, ◌++◌, Option, Some, None, unwrap_or, Bool, true, false, cond, not, ◌&&◌, nat_lt, nat_le, min, map, filter, length, drop, slice_get, if◌then◌else◌}
+use Rattle.std.specs.List.{list_any}
+use Rattle.std.specs.Map.{lookup, keys_of}
+use Rattle.relay_action.specs.declared.key.DocKey.{DocKey}
+use Rattle.relay_results.specs.Documents.{Document, document_of, same_document}
+use Rattle.relay_held.specs.declared.kept.Kept.{Kept}
+use Rattle.relay_held.specs.declared.held.Head.{Head}
+use Rattle.relay_held.specs.Kept.{waits_here}
+
+-- ---- the held list
+
+abbrev pub AllAbove : ℕ → List Kept → Type 0
+AllAbove v [] = Unit {0}
+AllAbove v (h ∷ hs) = (v < h.version) × AllAbove v hs
+
+-- versions rise
+abbrev pub Rises : List Kept → Type 0
+Rises [] = Unit {0}
+Rises (h ∷ hs) = AllAbove h.version hs × Rises hs
+
+abbrev pub AllUnder : ℕ → List Kept → Type 0
+AllUnder v [] = Unit {0}
+AllUnder v (h ∷ hs) = (h.version < v) × AllUnder v hs
+
+abbrev pub same_key : DocKey → DocKey → Bool
+same_key a b = same_document (document_of a) (document_of b)
+
+-- it is an operation of the document
+abbrev pub is_of : DocKey → Kept → Bool
+is_of k h = same_key k h.key
+
+-- the first of a document
+abbrev pub first_of : DocKey → List Kept → Option Kept
+first_of k [] = None
+first_of k (h ∷ hs) = if is_of k h then Some h else first_of k hs
+
+-- the first of a document is changed
+abbrev pub with_first : DocKey → (Kept → Kept) → List Kept → List Kept
+with_first k f [] = []
+with_first k f (h ∷ hs) = if is_of k h then f h ∷ hs else h ∷ with_first k f hs
+
+-- the first of a document is gone
+abbrev pub without_first : DocKey → List Kept → List Kept
+without_first k [] = []
+without_first k (h ∷ hs) = if is_of k h then hs else h ∷ without_first k hs
+
+abbrev pub on_first : (Kept → Kept) → List Kept → List Kept
+on_first f [] = []
+on_first f (h ∷ hs) = f h ∷ hs
+
+abbrev pub is_later_kept : List Kept → Document → ℕ → Bool
+is_later_kept hs k version = list_any (λ (h : Kept). same_document (document_of h.key) k && nat_lt h.version version) hs
+
+abbrev pub is_candidate_kept : List Kept → ℕ → Kept → Bool
+is_candidate_kept hs clock h = waits_here h.flies && (nat_le h.due clock && not (is_later_kept hs (document_of h.key) h.version))
+
+abbrev pub is_eligible_kept : List Kept → Kept → Bool
+is_eligible_kept hs h = waits_here h.flies && not (is_later_kept hs (document_of h.key) h.version)
+
+abbrev pub sooner : ℕ → Option ℕ → Option ℕ
+sooner due None = Some due
+sooner due (Some other) = Some (min due other)
+
+abbrev pub first_due_kept : List Kept → Option ℕ
+first_due_kept [] = None
+first_due_kept (h ∷ hs) = sooner h.due (first_due_kept hs)
+
+abbrev pub AllWait : List Kept → Type 0
+AllWait [] = Unit {0}
+AllWait (h ∷ hs) = (h.flies ≡ None) × AllWait hs
+
+-- what stands behind the first of a document waits
+abbrev pub OnlyFirstsFly : List Kept → Type 0
+OnlyFirstsFly hs = (k : DocKey) → AllWait (drop 1 (filter (is_of k) hs))
+
+-- how many documents these are
+abbrev pub distinct : List Document → ℕ
+distinct [] = 0
+distinct (d ∷ ds) = if list_any (same_document d) ds then distinct ds else distinct ds + 1
+
+abbrev pub documents : List Kept → List Document
+documents hs = map (λ (h : Kept). document_of h.key) hs
+
+-- ---- what callers see
+
+-- what is held, in rising version; and the documents, in an order that only says where each is found
+pub record Holding : Type 0 where
+  pub list : List Kept
+  pub order : List DocKey
+
+-- the document at this place has this one for its first
+pub record IsHead (s : Holding) (d : Head) (h : Kept) : Type 0 where
+  pub key : DocKey
+  pub at : slice_get s.order d.at ≡ Some key
+  pub of : is_of key h ≡ true
+  pub first : first_of key s.list ≡ Some h
+  pub version : d.version ≡ h.version
+
+-- so it is one for one
+abbrev pub AreHeads : Holding → List Head → List Kept → Type 0
+AreHeads s [] [] = Unit {0}
+AreHeads s [] (h ∷ hs) = ⊥
+AreHeads s (d ∷ ds) [] = ⊥
+AreHeads s (d ∷ ds) (h ∷ hs) = IsHead s d h × AreHeads s ds hs
+
+abbrev pub candidates_kept : List Kept → ℕ → List Kept
+candidates_kept hs clock = filter (is_candidate_kept hs clock) hs
+
+-- ---- private: who is due, document by document
+
+abbrev pub is_due : ℕ → Kept → Bool
+is_due clock h = waits_here h.flies && nat_le h.due clock
+
+abbrev pub head_if : ℕ → ℕ → Option Kept → List Head
+head_if clock i None = []
+head_if clock i (Some h) = if is_due clock h then record { version = h.version; at = i } ∷ [] else []
+
+abbrev pub due_from : ℕ → ℕ → List (DocKey × List Kept) → List Head
+due_from clock i [] = []
+due_from clock i (e ∷ es) = head_if clock i (slice_get e.1 0) ++ due_from clock (i + 1) es
+
+-- ---- private: the queues
+
+-- the first of each document, where it waits
+abbrev pub waiting_if : Option Kept → List Kept
+waiting_if None = []
+waiting_if (Some h) = if waits_here h.flies then h ∷ [] else []
+
+abbrev pub waiting_heads : List (DocKey × List Kept) → List Kept
+waiting_heads [] = []
+waiting_heads (e ∷ es) = waiting_if (slice_get e.1 0) ++ waiting_heads es
+
+abbrev pub with_due : Option Kept → Option ℕ → Option ℕ
+with_due None first = first
+with_due (Some h) first = if waits_here h.flies then sooner h.due first else first
+
+abbrev pub insert_one : Kept → List Kept → List Kept
+insert_one x [] = x ∷ []
+insert_one x (h ∷ hs) = if nat_lt x.version h.version then x ∷ h ∷ hs else h ∷ insert_one x hs
+
+abbrev pub inserted : List Kept → List Kept → List Kept
+inserted [] hs = hs
+inserted (x ∷ xs) hs = insert_one x (inserted xs hs)
+
+-- all queues together, in rising version
+abbrev pub merged : List (DocKey × List Kept) → List Kept
+merged [] = []
+merged (e ∷ es) = inserted e.1 (merged es)
+
+abbrev pub queue_of : List (DocKey × List Kept) → DocKey → List Kept
+queue_of es k = unwrap_or (lookup (same_key k) es) []
+
+-- the queue of each document is what is held of it
+pub record IsMerge (es : List (DocKey × List Kept)) (hs : List Kept) : Type 0 where
+  pub rises : Rises hs
+  pub queues : (k : DocKey) → queue_of es k ≡ filter (is_of k) hs
+
+-- no queue is empty
+pub record NoneEmpty (es : List (DocKey × List Kept)) : Type 0 where
+  pub filled : (k : DocKey) (q : List Kept) → lookup (same_key k) es ≡ Some q → 0 < length q
+
+pub record IsHolding (es : List (DocKey × List Kept)) (n : ℕ) : Type 0 where
+  pub merge : IsMerge es (merged es)
+  pub counted : n ≡ length (merged es)
+  pub behind : OnlyFirstsFly (merged es)
+  pub filled : NoneEmpty es
+
+-- the queue of one document is another one now, and each other document has the queue that it had
+pub record Changes (es fs : List (DocKey × List Kept)) (key : DocKey) (q : List Kept) : Type 0 where
+  pub queues : (k : DocKey) → queue_of fs k ≡ cond (same_key key k) q (queue_of es k)

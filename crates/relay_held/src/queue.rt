@@ -1,0 +1,139 @@
+//! The queue of one document.
+ghost use Rattle.std.specs.Prelude.{◌≡◌, ◌++◌, ◌∷◌, [], ◌<◌, Some, None, drop, slice_get, OnOk, OnErr, IfErr, IfSome, IfNone, length};
+ghost use Rattle.relay_held.specs.Kept.{launch_one, back_at, halved_at};
+ghost use Rattle.relay_held.specs.Queues.{on_first};
+
+use crate::held::NotHeld;
+use crate::kept::{Kept, Spot};
+use relay_action::Write;
+use std::alloc::Global;
+use std::collections::VecDeque;
+use std::marker::Model;
+use std::mem::replace;
+
+/// The held operations of one document, at least one, in rising version.
+#[derive(Debug, Drop)]
+pub struct Queue {
+    head: Kept,
+    behind: VecDeque<Kept>,
+}
+
+impl Model for Queue {
+    ghost use Rattle.std.specs.Prelude.{List, ◌∷◌};
+    ghost use Rattle.relay_held.specs.declared.kept.Kept.{Kept};
+
+    ghost Value = { List Kept };
+
+    ghost view = { λ q. q.head ∷ q.behind.items };
+}
+
+fn one_more(n: u32) -> u32
+    ensures { result ≡ Rattle.relay_held.specs.Kept.more n }
+{
+    if n < u32::MAX { n + 1 } else { n }
+}
+
+fn send_one(one: &mut Kept, number: u64, place: u64) -> Option<Write>
+    ensures sent { one.new ≡ launch_one number place one.old }
+    ensures write { result ≡ one.old.write }
+{
+    one.sends = one_more(one.sends);
+    one.attempts = one_more(one.attempts);
+    one.flies = Some(Spot {
+        request: number,
+        place,
+    });
+    one.write.take()
+}
+
+fn land_one(one: &mut Kept, due: u64, write: Write)
+    ensures { one.new ≡ back_at due write one.old }
+{
+    one.flies = None;
+    one.due = due;
+    one.write = Some(write);
+}
+
+fn halve_one(one: &mut Kept, due: u64, cap: u32, write: Write)
+    ensures { one.new ≡ halved_at due cap write one.old }
+{
+    one.flies = None;
+    one.attempts = one.attempts.saturating_sub(1);
+    one.cap = cap;
+    one.due = due;
+    one.write = Some(write);
+}
+
+impl Queue {
+    /// The queue of one operation. It takes no memory.
+    pub(crate) fn of(alloc: Global, one: Kept) -> Queue
+        ensures { result ≡ one ∷ [] }
+    {
+        Queue {
+            head: one,
+            behind: VecDeque::new(alloc),
+        }
+    }
+
+    /// One more comes last.
+    pub(crate) fn push(&mut self, one: Kept) -> Result<(), NotHeld>
+        ensures ok { OnOk result (self.new ≡ self.old ++ one ∷ []) }
+        ensures err { OnErr result (self.new ≡ self.old) }
+        ensures back { IfErr result (λ e. e.one ≡ one) }
+    {
+        match self.behind.push_back(one) {
+            Ok(()) => Ok(()),
+            Err(failed) => Err(NotHeld { one: failed.value }),
+        }
+    }
+
+    /// The first.
+    pub(crate) fn head(&self) -> &Kept
+        ensures { self.now ≡ result.now ∷ drop 1 self.now }
+    {
+        &self.head
+    }
+
+    /// The first is sent, and its write is taken out.
+    pub(crate) fn launch(&mut self, number: u64, place: u64) -> Option<Write>
+        ensures sent { self.new ≡ on_first (launch_one number place) self.old }
+        ensures write { IfSome (slice_get self.old 0) (λ h. result ≡ h.write) }
+    {
+        send_one(&mut self.head, number, place)
+    }
+
+    /// The first waits again.
+    pub(crate) fn land(&mut self, due: u64, write: Write)
+        ensures { self.new ≡ on_first (back_at due write) self.old }
+    {
+        land_one(&mut self.head, due, write);
+    }
+
+    /// The first waits again under this cap, and its try is given back.
+    pub(crate) fn halve(&mut self, due: u64, cap: u32, write: Write)
+        ensures { self.new ≡ on_first (halved_at due cap write) self.old }
+    {
+        halve_one(&mut self.head, due, cap, write);
+    }
+
+    /// Takes the first out, unless it is the last one.
+    pub(crate) fn next(&mut self) -> Option<Kept>
+        ensures some { IfSome result (λ h. self.old ≡ h ∷ self.new) }
+        ensures left { 0 < length self.new }
+        ensures none { IfNone result (drop 1 self.old ≡ []) }
+        ensures unchanged { IfNone result (self.new ≡ self.old) }
+    {
+        match self.behind.pop_front() {
+            Some(second) => Some(replace(&mut self.head, second)),
+            None => None,
+        }
+    }
+
+    /// The first, where it is the last one.
+    pub(crate) fn into_head(self) -> Kept
+        ensures { self ≡ result ∷ drop 1 self }
+    {
+        let Queue { head, .. } = self;
+        head
+    }
+}

@@ -1,0 +1,11 @@
+//! Tests of relay_held.
+#![tactic(auto)]
+
+#[cfg(test)]
+mod calls;
+#[cfg(test)]
+mod desk;
+#[cfg(test)]
+mod rows;
+#[cfg(test)]
+mod sequences;
