@@ -9,7 +9,7 @@ use Rattle.std.proofs.lemmas.List.{length-map}
 use Rattle.relay_results.specs.Words.{IsSubsequence}
 use Rattle.relay_results.proofs.Lists.{and_left}
 use Rattle.relay_delivery.specs.Lane.{candidates}
-use Rattle.relay_core.specs.declared.kept.Kept.{Kept}
+use Rattle.relay_held.specs.declared.kept.Kept.{Kept}
 use Rattle.relay_core.specs.Rule.{item_of, chosen, offered, closes, goes, batch_if, batch_of}
 use Rattle.relay_core.specs.Walk.{is_candidate_kept, item_of_kept}
 use Rattle.relay_core.specs.State.{State, all_closed, gathering, next_entries, next_batch}

@@ -1,5 +1,5 @@
 -- The invariant after an answer.
-use Rattle.std.proofs.Common.{◌≡◌, ℕ, ◌+◌, ◌-◌, ◌<◌, ◌≤◌, List, [], ◌∷◌, ◌++◌, Option, Some, None, Bool, true, false, ◌==◌, ◌&&◌, ◌||◌, refl, sym, ap, ◌∙◌, subst, ⊎_elim, arith, drop}
+use Rattle.std.proofs.Common.{◌≡◌, ℕ, ◌+◌, ◌-◌, ◌<◌, ◌≤◌, List, [], ◌∷◌, ◌++◌, Option, Some, None, Bool, true, false, ◌==◌, ◌&&◌, ◌||◌, refl, sym, ap, ◌∙◌, subst, ⊎_elim, arith, drop, length}
 use Rattle.std.specs.Prelude.{if◌then◌else◌, not, nat_lt, nat_le, slice_get, filter, is_some}
 use borrow.Author.Tests.{ltb-true}
 use Rattle.relay_action.specs.declared.write.Write.{Write}
@@ -8,17 +8,22 @@ use Rattle.relay_batch.specs.declared.item.BatchItem.{BatchItem}
 use Rattle.relay_results.specs.declared.outcome.Outcome.{Outcome}
 use Rattle.relay_results.specs.declared.decide.ItemVerdict.{ItemVerdict}
 use Rattle.relay_results.specs.declared.decide.ItemVerdict.TheVariants as verdict
-use Rattle.relay_results.specs.Fates.{Fate, Flies, Applied, Already, Retried, Reported, Tries, fate_of_entry, fate_of_verdict}
+use Rattle.relay_results.specs.Fates.{Fate, Flies, Applied, Already, Retried, Halved, Reported, Tries, fate_of_entry, fate_of_verdict}
 use Rattle.relay_results.specs.Documents.{is_delete}
 use Rattle.relay_results.specs.Verdicts.{verdict_of}
 use Rattle.relay_delivery.specs.Lane.{backoff}
 use Rattle.relay_results.proofs.Lists.{true_or_false, equal, equal_test, and_right}
-use Rattle.relay_core.specs.declared.kept.Kept.{Kept}
+use Rattle.relay_held.specs.declared.kept.Kept.{Kept}
+use Rattle.relay_core.specs.declared.fates.Way.{Way}
 use Rattle.relay_core.specs.declared.kept.Sent.{Sent}
+use Rattle.relay_held.specs.declared.kept.Spot.{Spot}
+use Rattle.relay_core.specs.declared.fates.Way.TheVariants as way
+use Rattle.relay_delivery.specs.Bound.{halvings}
+use Rattle.relay_delivery.proofs.Halving.{halvings-half}
 use Rattle.relay_core.specs.Walk.{flies_here, fate_or, fate_met, met_maybe, kept_walk}
-use Rattle.relay_core.specs.Memory.{has_number, writes_in, without, Given, further, rest_if, IsMet, IsWriteOf, IsKept, AllKept, IsReadable, Carries, tries_left, AllAbove, AllUnder, Rises, NoneTwice, SameNumbers}
+use Rattle.relay_core.specs.Memory.{has_number, writes_in, without, Given, further, rest_if, IsMet, IsWriteOf, IsHome, IsKept, AllKept, IsReadable, Carries, HasRoom, AreFew, IsHalf, tries_left, AllAbove, AllUnder, Rises, NoneTwice, SameNumbers}
 use Rattle.relay_core.proofs.Settling.{rest_drop, met_ends, settles}
-use Rattle.relay_core.proofs.Keeping.{or_false, without_other, carries_past}
+use Rattle.relay_core.proofs.Keeping.{or_false, without_other, elsewhere, given_any, carries_past}
 
 -- ---- versions
 
@@ -28,6 +33,7 @@ above_met clock v Flies h (Some w) rest lt a = (lt, a)
 above_met clock v Applied h (Some w) rest lt a = a
 above_met clock v Already h (Some w) rest lt a = a
 above_met clock v Retried h (Some w) rest lt a = (lt, a)
+above_met clock v (Halved cap) h (Some w) rest lt a = (lt, a)
 above_met clock v (Reported c) h (Some w) rest lt a = a
 
 under_met : (clock v : ℕ) (x : Fate) (h : Kept) (w : Option Write) (rest : List Kept) → h.version < v → AllUnder v rest → AllUnder v (met_maybe clock x w (h ∷ []) ++ rest)
@@ -36,6 +42,7 @@ under_met clock v Flies h (Some w) rest lt a = (lt, a)
 under_met clock v Applied h (Some w) rest lt a = a
 under_met clock v Already h (Some w) rest lt a = a
 under_met clock v Retried h (Some w) rest lt a = (lt, a)
+under_met clock v (Halved cap) h (Some w) rest lt a = (lt, a)
 under_met clock v (Reported c) h (Some w) rest lt a = a
 
 rises_met : (clock : ℕ) (x : Fate) (h : Kept) (w : Option Write) (rest : List Kept) → AllAbove h.version rest → Rises rest → Rises (met_maybe clock x w (h ∷ []) ++ rest)
@@ -44,9 +51,10 @@ rises_met clock Flies h (Some w) rest a r = (a, r)
 rises_met clock Applied h (Some w) rest a r = r
 rises_met clock Already h (Some w) rest a r = r
 rises_met clock Retried h (Some w) rest a r = (a, r)
+rises_met clock (Halved cap) h (Some w) rest a r = (a, r)
 rises_met clock (Reported c) h (Some w) rest a r = r
 
-module _ (max clock n : ℕ) (whole : Option ℕ) where
+module _ (max clock n : ℕ) (whole : Way) where
   step : Kept → List Kept → List Write → List Outcome → Bool → List Kept
   step h hs ws os b = if b then met_maybe clock (fate_met max whole h os) (slice_get ws 0) (h ∷ []) ++ kept_walk hs max clock n whole (drop 1 ws) (drop 1 os) else h ∷ kept_walk hs max clock n whole ws os
 
@@ -76,23 +84,59 @@ module _ (max clock n : ℕ) (whole : Option ℕ) where
 
 -- ---- tries
 
-left_met : (clock max : ℕ) (x : Fate) (h : Kept) (w : Option Write) (rest : List Kept) → tries_left max (met_maybe clock x w (h ∷ []) ++ rest) ≤ (max - h.attempts) + tries_left max rest
-left_met clock max x h None rest = omega arith
-left_met clock max Flies h (Some w) rest = omega arith
-left_met clock max Applied h (Some w) rest = omega arith
-left_met clock max Already h (Some w) rest = omega arith
-left_met clock max Retried h (Some w) rest = omega arith
-left_met clock max (Reported c) h (Some w) rest = omega arith
+-- where it is halved a cap falls
+abbrev Falls : Fate → Kept → Type 0
+Falls x h = (cap : ℕ) → x ≡ Halved cap → halvings cap + 1 ≤ halvings h.cap
+
+left_met : (clock max : ℕ) (x : Fate) (h : Kept) (w : Option Write) (rest : List Kept) → Falls x h → tries_left max (met_maybe clock x w (h ∷ []) ++ rest) ≤ (max - h.attempts) + halvings h.cap + tries_left max rest
+left_met clock max x h None rest f = omega arith
+left_met clock max Flies h (Some w) rest f = omega arith
+left_met clock max Applied h (Some w) rest f = omega arith
+left_met clock max Already h (Some w) rest f = omega arith
+left_met clock max Retried h (Some w) rest f = omega arith
+left_met clock max (Halved cap) h (Some w) rest f = let l = f cap refl in omega (arith, l)
+left_met clock max (Reported c) h (Some w) rest f = omega arith
+
+again_halves : (t : Tries) (b : Bool) (cap : ℕ) → (if b then Retried else Reported (Rattle.relay_results.specs.declared.cause.Cause.TheVariants.GaveUp t.sends)) ≡ Halved cap → ⊥
+again_halves t true cap e = cc
+again_halves t false cap e = cc
+
+verdict_halves : (t : Tries) (o : Outcome) (v : ItemVerdict) (cap : ℕ) → fate_of_verdict t o v ≡ Halved cap → ⊥
+verdict_halves t o verdict.Applied cap e = cc
+verdict_halves t o verdict.Already cap e = cc
+verdict_halves t o verdict.Conflict cap e = cc
+verdict_halves t o verdict.Retry cap e = cc
+verdict_halves t o verdict.GaveUp cap e = cc
+verdict_halves t o verdict.Refused cap e = cc
+
+-- an entry halves nothing
+entry_halves : (t : Tries) (kind : ActionKind) (o : Option Outcome) (cap : ℕ) → fate_of_entry t kind o ≡ Halved cap → ⊥
+entry_halves t kind None cap e = again_halves t (nat_lt t.attempts t.max) cap e
+entry_halves t kind (Some o) cap e = verdict_halves t o (verdict_of kind o.status (is_some o.error) t.sends t.attempts t.max) cap e
+
+way_halves : (whole : Way) (len : ℕ) (f : Fate) (h : Kept) → ((cap : ℕ) → f ≡ Halved cap → ⊥) → IsHalf whole len → (1 < len → len ≤ h.cap) → Falls (fate_or whole f) h
+way_halves way.ByEntry len f h none half room cap e = absurd (none cap e)
+way_halves (way.Reported status) len f h none half room cap e = absurd (cc)
+way_halves (way.Halved n) len f h none half room cap e =
+    let some = half.0 in
+    let le = room (omega (arith, some)) in
+    let l = halvings-half len h.cap some le in
+    let same : n ≡ cap = cc in
+    subst (λ x. halvings x + 1 ≤ halvings h.cap) same (subst (λ x. halvings x + 1 ≤ halvings h.cap) (sym half.1) l)
+
+falls_here : (max len : ℕ) (whole : Way) (h : Kept) (os : List Outcome) → IsHalf whole len → (1 < len → len ≤ h.cap) → Falls (fate_met max whole h os) h
+falls_here max len whole h os half room =
+    way_halves whole len (fate_of_entry (record { sends = h.sends; attempts = h.attempts; max = max }) h.kind (slice_get os 0)) h (entry_halves (record { sends = h.sends; attempts = h.attempts; max = max }) h.kind (slice_get os 0)) half room
 
 -- an answer leaves no more tries
-pub left_walk : (max clock n : ℕ) (whole : Option ℕ) (hs : List Kept) (ws : List Write) (os : List Outcome) → tries_left max (kept_walk hs max clock n whole ws os) ≤ tries_left max hs
-left_walk max clock n whole [] ws os = omega arith
-left_walk max clock n whole (h ∷ hs) ws os = ⊎_elim {C = tries_left max (kept_walk (h ∷ hs) max clock n whole ws os) ≤ tries_left max (h ∷ hs)}
+pub left_walk : (max clock n len : ℕ) (whole : Way) (hs : List Kept) (ws : List Write) (os : List Outcome) → IsHalf whole len → HasRoom n len hs → tries_left max (kept_walk hs max clock n whole ws os) ≤ tries_left max hs
+left_walk max clock n len whole [] ws os half r = omega arith
+left_walk max clock n len whole (h ∷ hs) ws os half r = ⊎_elim {C = tries_left max (kept_walk (h ∷ hs) max clock n whole ws os) ≤ tries_left max (h ∷ hs)}
     (λ t. let e = ap (λ b. tries_left max (if b then met_maybe clock (fate_met max whole h os) (slice_get ws 0) (h ∷ []) ++ kept_walk hs max clock n whole (drop 1 ws) (drop 1 os) else h ∷ kept_walk hs max clock n whole ws os)) t in
-    let m = left_met clock max (fate_met max whole h os) h (slice_get ws 0) (kept_walk hs max clock n whole (drop 1 ws) (drop 1 os)) in
-    let ih = left_walk max clock n whole hs (drop 1 ws) (drop 1 os) in omega (arith, e, m, ih))
+    let m = left_met clock max (fate_met max whole h os) h (slice_get ws 0) (kept_walk hs max clock n whole (drop 1 ws) (drop 1 os)) (falls_here max len whole h os half (subst (λ b. Given b (1 < len → len ≤ h.cap)) t r.0)) in
+    let ih = left_walk max clock n len whole hs (drop 1 ws) (drop 1 os) half r.1 in omega (arith, e, m, ih))
     (λ t. let e = ap (λ b. tries_left max (if b then met_maybe clock (fate_met max whole h os) (slice_get ws 0) (h ∷ []) ++ kept_walk hs max clock n whole (drop 1 ws) (drop 1 os) else h ∷ kept_walk hs max clock n whole ws os)) t in
-    let ih = left_walk max clock n whole hs ws os in omega (arith, e, ih))
+    let ih = left_walk max clock n len whole hs ws os half r.1 in omega (arith, e, ih))
     (true_or_false (flies_here n h.flies))
 
 verdict_retry : (a b c d e f : Bool) → (if a then verdict.Applied else if b then verdict.Applied else if c then verdict.Already else if d then verdict.Conflict else if e then verdict.Retry else if f then verdict.GaveUp else verdict.Refused) ≡ verdict.Retry → e ≡ true
@@ -116,10 +160,11 @@ again_tries : (t : Tries) (b : Bool) → (if b then Retried else Reported (Rattl
 again_tries t true e = refl
 again_tries t false e = absurd (cc)
 
-pub retried_tries : (t : Tries) (kind : ActionKind) (whole : Option ℕ) (o : Option Outcome) → fate_or whole (fate_of_entry t kind o) ≡ Retried → t.attempts < t.max
-retried_tries t kind (Some status) o e = absurd (cc)
-retried_tries t kind None None e = ltb-true _ _ (again_tries t (nat_lt t.attempts t.max) e)
-retried_tries t kind None (Some o) e = ltb-true _ _ (and_right (o.status == 429 || o.status == 503) (nat_lt t.attempts t.max) (verdict_retry
+pub retried_tries : (t : Tries) (kind : ActionKind) (whole : Way) (o : Option Outcome) → fate_or whole (fate_of_entry t kind o) ≡ Retried → t.attempts < t.max
+retried_tries t kind (way.Reported status) o e = absurd (cc)
+retried_tries t kind (way.Halved cap) o e = absurd (cc)
+retried_tries t kind way.ByEntry None e = ltb-true _ _ (again_tries t (nat_lt t.attempts t.max) e)
+retried_tries t kind way.ByEntry (Some o) e = ltb-true _ _ (and_right (o.status == 429 || o.status == 503) (nat_lt t.attempts t.max) (verdict_retry
     (not (is_some o.error) && (nat_le 200 o.status && nat_lt o.status 300))
     (not (is_some o.error) && (is_delete kind && o.status == 404))
     (o.status == 409 && nat_le 2 t.sends)
@@ -169,16 +214,31 @@ gone_without (x ∷ xs) r o = ⊎_elim {C = has_number r (without (x ∷ xs) r) 
 due_most : (clock attempts : ℕ) → backoff clock attempts ≤ 18446744073709551615
 due_most clock attempts = omega arith
 
-met_kept : (max next clock : ℕ) (x : Fate) (h : Kept) (w : Write) (rest : List Kept) → IsKept max next h → IsWriteOf h w → (x ≡ Retried → h.attempts < max) → AllKept max next rest → AllKept max next (met_maybe clock x (Some w) (h ∷ []) ++ rest)
-met_kept max next clock Flies h w rest k i t r = (k, r)
-met_kept max next clock Applied h w rest k i t r = r
-met_kept max next clock Already h w rest k i t r = r
-met_kept max next clock Retried h w rest k i t r = (record { home = (record { key = i.key; version = i.version; kind = i.kind; bytes = i.bytes }, t refl); sends = k.sends; due = due_most clock h.attempts }, r)
-met_kept max next clock (Reported c) h w rest k i t r = r
+met_kept : (max next clock : ℕ) → clock ≤ 18446744073709551615 → (x : Fate) (h : Kept) (w : Write) (rest : List Kept) → IsKept max next h → IsWriteOf h w → (x ≡ Retried → h.attempts < max) → 0 < max → h.attempts ≤ max → Falls x h → AllKept max next rest → AllKept max next (met_maybe clock x (Some w) (h ∷ []) ++ rest)
+met_kept max next clock ends Flies h w rest k i t some most f r = (k, r)
+met_kept max next clock ends Applied h w rest k i t some most f r = r
+met_kept max next clock ends Already h w rest k i t some most f r = r
+met_kept max next clock ends Retried h w rest k i t some most f r = (record { home = (record { key = i.key; version = i.version; kind = i.kind; bytes = i.bytes }, t refl); sends = k.sends; due = due_most clock h.attempts }, r)
+met_kept max next clock ends (Halved cap) h w rest k i t some most f r = (
+  record {
+    home = (record { key = i.key; version = i.version; kind = i.kind; bytes = i.bytes }, omega (arith, some, most));
+    sends = (let l = f cap refl in let s = k.sends in omega (arith, l, s));
+    due = ends;
+  },
+  r,
+)
+met_kept max next clock ends (Reported c) h w rest k i t some most f r = r
 
-pub all_kept_walk : (max clock n next : ℕ) (whole : Option ℕ) (hs : List Kept) (p : ℕ) (ws : List Write) (os : List Outcome) → Carries n p hs ws → AllKept max next hs → AllKept max next (kept_walk hs max clock n whole ws os)
-all_kept_walk max clock n next whole [] p ws os c k = tt
-all_kept_walk max clock n next whole (h ∷ hs) p ws os c k = ⊎_elim {C = AllKept max next (kept_walk (h ∷ hs) max clock n whole ws os)}
+-- what flies has no more tries than it may
+most_tries : (max next n p : ℕ) (h : Kept) (w : Option Write) (s : Option Spot) → IsHome max next h w s → s ≡ Some (record { request = n; place = p }) → h.attempts ≤ max
+most_tries max next n p h (Some w) None k e = absurd (cc)
+most_tries max next n p h (Some w) (Some s) k e = absurd k
+most_tries max next n p h None None k e = absurd k
+most_tries max next n p h None (Some s) k e = k.1
+
+pub all_kept_walk : (max clock n next len : ℕ) → 0 < max → clock ≤ 18446744073709551615 → (whole : Way) → IsHalf whole len → (hs : List Kept) (p : ℕ) (ws : List Write) (os : List Outcome) → HasRoom n len hs → Carries n p hs ws → AllKept max next hs → AllKept max next (kept_walk hs max clock n whole ws os)
+all_kept_walk max clock n next len some ends whole half [] p ws os r c k = tt
+all_kept_walk max clock n next len some ends whole half (h ∷ hs) p ws os r c k = ⊎_elim {C = AllKept max next (kept_walk (h ∷ hs) max clock n whole ws os)}
     (λ t.
     let m : IsMet n p h ws = subst (λ b. Given b (IsMet n p h ws)) t c.0 in
     let more : Carries n (p + 1) hs (drop 1 ws) = subst (λ vs. Carries n (p + 1) hs vs) (rest_drop ws) (subst (λ b. Carries n (further b p) hs (rest_if b ws)) t c.1) in
@@ -186,11 +246,12 @@ all_kept_walk max clock n next whole (h ∷ hs) p ws os c k = ⊎_elim {C = AllK
     let rest = kept_walk hs max clock n whole (drop 1 ws) (drop 1 os) in
     subst (λ b. AllKept max next (if b then met_maybe clock x (slice_get ws 0) (h ∷ []) ++ rest else h ∷ kept_walk hs max clock n whole ws os)) (sym t)
     (subst (λ o. AllKept max next (met_maybe clock x o (h ∷ []) ++ rest)) (sym (ap (λ xs. slice_get xs 0) m.found))
-    (met_kept max next clock x h m.write rest k.0 m.matches (retried_tries (record { sends = h.sends; attempts = h.attempts; max = max }) h.kind whole (slice_get os 0)) (all_kept_walk max clock n next whole hs (p + 1) (drop 1 ws) (drop 1 os) more k.1))))
+    (met_kept max next clock ends x h m.write rest k.0 m.matches (retried_tries (record { sends = h.sends; attempts = h.attempts; max = max }) h.kind whole (slice_get os 0)) some (most_tries max next n p h h.write h.flies k.0.home m.spot)
+    (falls_here max len whole h os half (subst (λ b. Given b (1 < len → len ≤ h.cap)) t r.0)) (all_kept_walk max clock n next len some ends whole half hs (p + 1) (drop 1 ws) (drop 1 os) r.1 more k.1))))
     (λ t.
     let more : Carries n p hs ws = subst (λ b. Carries n (further b p) hs (rest_if b ws)) t c.1 in
     subst (λ b. AllKept max next (if b then met_maybe clock (fate_met max whole h os) (slice_get ws 0) (h ∷ []) ++ kept_walk hs max clock n whole (drop 1 ws) (drop 1 os) else h ∷ kept_walk hs max clock n whole ws os)) (sym t)
-    (k.0, all_kept_walk max clock n next whole hs p ws os more k.1))
+    (k.0, all_kept_walk max clock n next len some ends whole half hs p ws os r.1 more k.1))
     (true_or_false (flies_here n h.flies))
 
 none_met : (n p clock : ℕ) (x : Fate) (h : Kept) (w : Option Write) (rest : List Kept) → settles x ≡ true → Carries n p rest [] → Carries n p (met_maybe clock x w (h ∷ []) ++ rest) []
@@ -199,9 +260,10 @@ none_met n p clock Flies h (Some w) rest t c = absurd (cc)
 none_met n p clock Applied h (Some w) rest t c = c
 none_met n p clock Already h (Some w) rest t c = c
 none_met n p clock Retried h (Some w) rest t c = (tt, c)
+none_met n p clock (Halved cap) h (Some w) rest t c = (tt, c)
 none_met n p clock (Reported cause) h (Some w) rest t c = c
 
-pub carries_none : (max clock n : ℕ) (whole : Option ℕ) (hs : List Kept) (p : ℕ) (ws : List Write) (os : List Outcome) → Carries n p (kept_walk hs max clock n whole ws os) []
+pub carries_none : (max clock n : ℕ) (whole : Way) (hs : List Kept) (p : ℕ) (ws : List Write) (os : List Outcome) → Carries n p (kept_walk hs max clock n whole ws os) []
 carries_none max clock n whole [] p ws os = refl
 carries_none max clock n whole (h ∷ hs) p ws os = ⊎_elim {C = Carries n p (kept_walk (h ∷ hs) max clock n whole ws os) []}
     (λ t.
@@ -212,7 +274,7 @@ carries_none max clock n whole (h ∷ hs) p ws os = ⊎_elim {C = Carries n p (k
     (subst (λ b. Given b (IsMet n p h []) × Carries n (further b p) (kept_walk hs max clock n whole ws os) (rest_if b [])) (sym t) (tt, carries_none max clock n whole hs p ws os)))
     (true_or_false (flies_here n h.flies))
 
-pub carries_after : (max clock n : ℕ) (whole : Option ℕ) (hs : List Kept) (ws : List Write) (os : List Outcome) (fs : List Sent) → NoneTwice fs → ((m : ℕ) → Carries m 0 hs (writes_in fs m)) → (m : ℕ) → Carries m 0 (kept_walk hs max clock n whole ws os) (writes_in (without fs n) m)
+pub carries_after : (max clock n : ℕ) (whole : Way) (hs : List Kept) (ws : List Write) (os : List Outcome) (fs : List Sent) → NoneTwice fs → ((m : ℕ) → Carries m 0 hs (writes_in fs m)) → (m : ℕ) → Carries m 0 (kept_walk hs max clock n whole ws os) (writes_in (without fs n) m)
 carries_after max clock n whole hs ws os fs once all m = ⊎_elim {C = Carries m 0 (kept_walk hs max clock n whole ws os) (writes_in (without fs n) m)}
     (λ t.
     let e : m ≡ n = equal m n t in
@@ -221,13 +283,60 @@ carries_after max clock n whole hs ws os fs once all m = ⊎_elim {C = Carries m
     (λ t. subst (λ vs. Carries m 0 (kept_walk hs max clock n whole ws os) vs) (sym (without_other fs n m t)) (carries_past max clock n m whole t hs 0 ws os (writes_in fs m) (all m)))
     (true_or_false (m == n))
 
-pub readable_after : (max clock n next : ℕ) (whole : Option ℕ) (os : List Outcome) (hs hs' : List Kept) (fs fs' : List Sent) → hs' ≡ kept_walk hs max clock n whole (writes_in fs n) os → fs' ≡ without fs n → IsReadable max next hs fs → IsReadable max next hs' fs'
-readable_after max clock n next whole os hs hs' fs fs' e d r =
+-- ---- caps
+
+room_none : (n : ℕ) (hs : List Kept) → HasRoom n 0 hs
+room_none n [] = tt
+room_none n (h ∷ hs) = (given_any (flies_here n h.flies) (λ more. absurd (omega (arith, more))), room_none n hs)
+
+-- what flies elsewhere keeps its room
+met_room : (n m len clock : ℕ) (x : Fate) (h : Kept) (w : Option Write) (rest : List Kept) → flies_here m h.flies ≡ false → HasRoom m len rest → HasRoom m len (met_maybe clock x w (h ∷ []) ++ rest)
+met_room n m len clock x h None rest other r = r
+met_room n m len clock Flies h (Some w) rest other r = (subst (λ b. Given b (1 < len → len ≤ h.cap)) (sym other) tt, r)
+met_room n m len clock Applied h (Some w) rest other r = r
+met_room n m len clock Already h (Some w) rest other r = r
+met_room n m len clock Retried h (Some w) rest other r = (tt, r)
+met_room n m len clock (Halved cap) h (Some w) rest other r = (tt, r)
+met_room n m len clock (Reported c) h (Some w) rest other r = r
+
+room_past : (max clock n m len : ℕ) (whole : Way) → (m == n) ≡ false → (hs : List Kept) (ws : List Write) (os : List Outcome) → HasRoom m len hs → HasRoom m len (kept_walk hs max clock n whole ws os)
+room_past max clock n m len whole ne [] ws os r = tt
+room_past max clock n m len whole ne (h ∷ hs) ws os r = ⊎_elim {C = HasRoom m len (kept_walk (h ∷ hs) max clock n whole ws os)}
+    (λ t. subst (λ b. HasRoom m len (if b then met_maybe clock (fate_met max whole h os) (slice_get ws 0) (h ∷ []) ++ kept_walk hs max clock n whole (drop 1 ws) (drop 1 os) else h ∷ kept_walk hs max clock n whole ws os)) (sym t)
+    (met_room n m len clock (fate_met max whole h os) h (slice_get ws 0) _ (elsewhere h.flies n m t ne) (room_past max clock n m len whole ne hs (drop 1 ws) (drop 1 os) r.1)))
+    (λ t. subst (λ b. HasRoom m len (if b then met_maybe clock (fate_met max whole h os) (slice_get ws 0) (h ∷ []) ++ kept_walk hs max clock n whole (drop 1 ws) (drop 1 os) else h ∷ kept_walk hs max clock n whole ws os)) (sym t)
+    (r.0, room_past max clock n m len whole ne hs ws os r.1))
+    (true_or_false (flies_here n h.flies))
+
+room_after : (max clock n : ℕ) (whole : Way) (hs : List Kept) (ws : List Write) (os : List Outcome) (fs : List Sent) → NoneTwice fs → ((m : ℕ) → HasRoom m (length (writes_in fs m)) hs) → (m : ℕ) → HasRoom m (length (writes_in (without fs n) m)) (kept_walk hs max clock n whole ws os)
+room_after max clock n whole hs ws os fs once all m = ⊎_elim {C = HasRoom m (length (writes_in (without fs n) m)) (kept_walk hs max clock n whole ws os)}
+    (λ t. subst (λ vs. HasRoom m (length vs) (kept_walk hs max clock n whole ws os)) (sym (ap (writes_in (without fs n)) (equal m n t) ∙ writes_absent (without fs n) n (gone_without fs n once))) (room_none m (kept_walk hs max clock n whole ws os)))
+    (λ t. subst (λ vs. HasRoom m (length vs) (kept_walk hs max clock n whole ws os)) (sym (without_other fs n m t)) (room_past max clock n m (length (writes_in fs m)) whole t hs ws os (all m)))
+    (true_or_false (m == n))
+
+few_without : (fs : List Sent) (n : ℕ) → AreFew fs → AreFew (without fs n)
+few_without [] n f = tt
+few_without (x ∷ fs) n f = ⊎_elim {C = AreFew (without (x ∷ fs) n)}
+    (λ t. subst (λ b. AreFew (if b then fs else x ∷ without fs n)) (sym t) f.1)
+    (λ t. subst (λ b. AreFew (if b then fs else x ∷ without fs n)) (sym t) (f.0, few_without fs n f.1))
+    (true_or_false (x.number == n))
+
+pub few_in : (fs : List Sent) (n : ℕ) → AreFew fs → length (writes_in fs n) ≤ 4294967295
+few_in [] n f = omega arith
+few_in (x ∷ fs) n f = ⊎_elim {C = length (writes_in (x ∷ fs) n) ≤ 4294967295}
+    (λ t. subst (λ b. length (if b then x.writes.items else writes_in fs n) ≤ 4294967295) (sym t) f.0)
+    (λ t. subst (λ b. length (if b then x.writes.items else writes_in fs n) ≤ 4294967295) (sym t) (few_in fs n f.1))
+    (true_or_false (x.number == n))
+
+pub readable_after : (max clock n next : ℕ) → 0 < max → clock ≤ 18446744073709551615 → (whole : Way) (os : List Outcome) (hs hs' : List Kept) (fs fs' : List Sent) → hs' ≡ kept_walk hs max clock n whole (writes_in fs n) os → fs' ≡ without fs n → IsHalf whole (length (writes_in fs n)) → IsReadable max next hs fs → IsReadable max next hs' fs'
+readable_after max clock n next some ends whole os hs hs' fs fs' e d half r =
     subst (λ xs. IsReadable max next xs fs') (sym e) (subst (λ ys. IsReadable max next (kept_walk hs max clock n whole (writes_in fs n) os) ys) (sym d) (record {
-      kept = all_kept_walk max clock n next whole hs 0 (writes_in fs n) os (r.carries n) r.kept;
+      kept = all_kept_walk max clock n next (length (writes_in fs n)) some ends whole half hs 0 (writes_in fs n) os (r.caps n) (r.carries n) r.kept;
       rises = rises_walk max clock n whole hs (writes_in fs n) os r.rises;
       once = once_without fs n r.once;
       carries = carries_after max clock n whole hs (writes_in fs n) os fs r.once r.carries;
+      caps = room_after max clock n whole hs (writes_in fs n) os fs r.once r.caps;
+      few = few_without fs n r.few;
     }))
 
 -- ---- beside the batches

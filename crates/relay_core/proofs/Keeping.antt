@@ -3,12 +3,13 @@ use Rattle.std.proofs.Common.{◌≡◌, ℕ, List, [], ◌∷◌, ◌++◌, Opt
 use Rattle.std.specs.Prelude.{if◌then◌else◌, not, map, slice_get, filter}
 use Rattle.relay_action.specs.declared.write.Write.{Write}
 use Rattle.relay_results.specs.declared.outcome.Outcome.{Outcome}
-use Rattle.relay_results.specs.Fates.{Fate, Flies, Applied, Already, Retried, Reported}
+use Rattle.relay_results.specs.Fates.{Fate, Flies, Applied, Already, Retried, Halved, Reported}
 use Rattle.relay_delivery.specs.Lane.{is_other}
 use Rattle.relay_results.proofs.Lists.{true_or_false, equal, equal_test}
-use Rattle.relay_core.specs.declared.kept.Kept.{Kept}
+use Rattle.relay_held.specs.declared.kept.Kept.{Kept}
+use Rattle.relay_core.specs.declared.fates.Way.{Way}
 use Rattle.relay_core.specs.declared.kept.Sent.{Sent}
-use Rattle.relay_core.specs.declared.kept.Spot.{Spot}
+use Rattle.relay_held.specs.declared.kept.Spot.{Spot}
 use Rattle.relay_core.specs.Walk.{flies_here, fate_met, met_maybe, kept_walk}
 use Rattle.relay_core.specs.Memory.{has_number, writes_in, without, flying_of, Given, further, rest_if, IsMet, Carries, NoneTwice}
 
@@ -22,7 +23,11 @@ without_other (x ∷ xs) n m t = ⊎_elim {C = writes_in (without (x ∷ xs) n) 
     (λ u. ap (λ b. writes_in (if b then xs else x ∷ without xs n) m) u ∙ ap (λ ws. if x.number == m then x.writes.items else ws) (without_other xs n m t))
     (true_or_false (x.number == n))
 
-elsewhere : (p : Option Spot) (n m : ℕ) → flies_here n p ≡ true → (m == n) ≡ false → flies_here m p ≡ false
+pub given_any : {X : Type 0} (b : Bool) → X → Given b X
+given_any true x = x
+given_any false x = tt
+
+pub elsewhere : (p : Option Spot) (n m : ℕ) → flies_here n p ≡ true → (m == n) ≡ false → flies_here m p ≡ false
 elsewhere None n m t ne = refl
 elsewhere (Some s) n m t ne = ⊎_elim {C = (s.request == m) ≡ false} (λ v. let k = equal_test m n (sym (equal s.request m v) ∙ equal s.request n t) in absurd (cc)) (λ v. v) (true_or_false (s.request == m))
 
@@ -36,9 +41,10 @@ met_past max clock n m p Flies h (Some w) rest vs ne t c =
 met_past max clock n m p Applied h (Some w) rest vs ne t c = c
 met_past max clock n m p Already h (Some w) rest vs ne t c = c
 met_past max clock n m p Retried h (Some w) rest vs ne t c = (tt, c)
+met_past max clock n m p (Halved cap) h (Some w) rest vs ne t c = (tt, c)
 met_past max clock n m p (Reported cause) h (Some w) rest vs ne t c = c
 
-pub carries_past : (max clock n m : ℕ) (whole : Option ℕ) → (m == n) ≡ false → (hs : List Kept) (p : ℕ) (ws : List Write) (os : List Outcome) (vs : List Write) → Carries m p hs vs
+pub carries_past : (max clock n m : ℕ) (whole : Way) → (m == n) ≡ false → (hs : List Kept) (p : ℕ) (ws : List Write) (os : List Outcome) (vs : List Write) → Carries m p hs vs
     → Carries m p (kept_walk hs max clock n whole ws os) vs
 carries_past max clock n m whole ne [] p ws os vs c = c
 carries_past max clock n m whole ne (h ∷ hs) p ws os vs c = ⊎_elim {C = Carries m p (kept_walk (h ∷ hs) max clock n whole ws os) vs}

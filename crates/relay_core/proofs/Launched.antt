@@ -1,15 +1,16 @@
 -- A batch is sent: the held list as it is read afterwards, and what is kept.
-use Rattle.std.proofs.Common.{◌≡◌, ℕ, ◌+◌, ◌<◌, ◌≤◌, List, [], ◌∷◌, ◌++◌, length, Option, Some, None, true, false, ◌==◌, refl, sym, ap, subst, ⊎_elim, inl, inr, arith, drop}
+use Rattle.std.proofs.Common.{◌≡◌, ℕ, ◌+◌, ◌<◌, ◌≤◌, List, [], ◌∷◌, ◌++◌, length, length-append, Option, Bool, Some, None, true, false, ◌==◌, refl, sym, ap, subst, ⊎_elim, inl, inr, arith, drop}
 use Rattle.std.specs.Prelude.{if◌then◌else◌, map, option_to_list}
 use Rattle.std.proofs.lemmas.Bool.{lt-ltb}
 use Rattle.relay_action.specs.declared.write.Write.{Write}
 use Rattle.relay_batch.specs.declared.item.BatchItem.{BatchItem}
 use Rattle.relay_results.specs.Words.{IsSubsequence}
 use Rattle.relay_results.proofs.Lists.{true_or_false, equal, equal_test, and_right}
-use Rattle.relay_core.specs.declared.kept.Kept.{Kept}
-use Rattle.relay_core.specs.declared.kept.Spot.{Spot}
+use Rattle.relay_held.specs.declared.kept.Kept.{Kept}
+use Rattle.relay_held.specs.declared.kept.Spot.{Spot}
 use Rattle.relay_core.specs.Walk.{flies_here, item_of_kept, more, is_next, launch_one, launched_kept, freight}
-use Rattle.relay_core.specs.Memory.{IsHome, IsKept, AllKept, AllAbove, AllUnder, Rises, Given, further, rest_if, IsMet, Carries, tries_left}
+use Rattle.relay_core.specs.Memory.{IsHome, IsKept, AllKept, AllAbove, AllUnder, Rises, Given, further, rest_if, IsMet, Carries, HasRoom, tries_left}
+use Rattle.relay_core.proofs.Keeping.{given_any}
 use Rattle.relay_core.proofs.Launching.{AllWait, Home, home_of, above_sub, waits_none, is_its, is_later_one}
 
 -- ---- versions
@@ -58,7 +59,7 @@ kept_launched : (max n p : ℕ) (h : Kept) → max ≤ 32 → IsKept max n h →
 kept_launched max n p h le k o =
     let a = more_is h.attempts (omega (arith, o.tries, le)) in
     let s = more_is h.sends (omega (arith, o.tries, le, k.sends)) in
-    record { home = (omega arith, omega (arith, a, o.tries)); sends = omega (arith, a, s, k.sends); due = k.due }
+    record { home = (omega arith, omega (arith, a, o.tries)); sends = (let y = k.sends in omega (arith, a, s, y)); due = k.due }
 
 pub all_launched : (max n : ℕ) (hs : List Kept) (p : ℕ) (is : List BatchItem) → max ≤ 32 → AllKept max n hs → AllKept max (n + 1) (launched_kept hs n p is)
 all_launched max n [] p is le a = tt
@@ -101,7 +102,7 @@ fewer_left max n (h ∷ hs) p one ps le a r (inr s) w =
     let e = ap (λ b. tries_left max (if b then launch_one n p h ∷ launched_kept hs n (p + 1) (map item_of_kept ps) else h ∷ launched_kept hs n p (item_of_kept one ∷ map item_of_kept ps))) t in
     let ih = fewer_left max n hs p one ps le a.1 r.1 s w in omega (arith, e, ih)
 
--- ---- what is carried
+-- ---- caps
 
 -- none flies in a request that is still to come
 not_yet : (max n : ℕ) (h : Kept) (w : Option Write) (s : Option Spot) → IsHome max n h w s → flies_here n s ≡ false
@@ -109,6 +110,65 @@ not_yet max n h (Some w) None k = refl
 not_yet max n h (Some w) (Some s) k = absurd k
 not_yet max n h None None k = refl
 not_yet max n h None (Some s) k = ⊎_elim {C = (s.request == n) ≡ false} (λ t. let e = equal s.request n t in absurd (omega (arith, e, k.0))) (λ f. f) (true_or_false (s.request == n))
+
+other_number : (n m : ℕ) → (m == n) ≡ false → (n == m) ≡ false
+other_number n m ne = ⊎_elim {C = (n == m) ≡ false} (λ t. let k = equal_test m n (sym (equal n m t)) in absurd (cc)) (λ f. f) (true_or_false (n == m))
+
+freight_few : (hs : List Kept) (is : List BatchItem) → length (freight hs is) ≤ length is
+freight_few [] is = omega arith
+freight_few (h ∷ hs) is = ⊎_elim {C = length (freight (h ∷ hs) is) ≤ length is}
+    (λ t. let e = ap (λ b. length (if b then option_to_list h.write ++ freight hs (drop 1 is) else freight hs is)) t in
+    let n = length-append (option_to_list h.write) (freight hs (drop 1 is)) in
+    let o = one_at_most h.write in
+    let some = next_some is h t in
+    let ih = freight_few hs (drop 1 is) in omega (arith, e, n, o, some, ih))
+    (λ t. let e = ap (λ b. length (if b then option_to_list h.write ++ freight hs (drop 1 is) else freight hs is)) t in
+    let ih = freight_few hs is in omega (arith, e, ih))
+    (true_or_false (is_next is h))
+  where
+    one_at_most : (w : Option Write) → length (option_to_list w) ≤ 1
+    one_at_most None = omega arith
+    one_at_most (Some w) = omega arith
+
+    next_some : (is : List BatchItem) (h : Kept) → is_next is h ≡ true → length (drop 1 is) + 1 ≤ length is
+    next_some [] h t = absurd (cc)
+    next_some (i ∷ is) h t = omega arith
+
+pub freight_fits : (hs : List Kept) (is : List BatchItem) → length (freight hs is) ≤ length is
+freight_fits hs is = freight_few hs is
+
+-- a size that the caps of these keep
+abbrev pub AllCap : ℕ → List Kept → Type 0
+AllCap len [] = Unit {0}
+AllCap len (p ∷ ps) = (1 < len → len ≤ p.cap) × AllCap len ps
+
+pub room_new : (max n len : ℕ) (hs ps : List Kept) (p : ℕ) → AllKept max n hs → Rises hs → IsSubsequence ps hs → AllWait ps → AllCap len ps → HasRoom n len (launched_kept hs n p (map item_of_kept ps))
+room_new max n len [] ps p a r s w c = tt
+room_new max n len (h ∷ hs) [] p a r s w c = (
+  subst (λ b. Given b (1 < len → len ≤ h.cap)) (sym (not_yet max n h h.write h.flies a.0.home)) tt,
+  room_new max n len hs [] p a.1 r.1 tt tt tt,
+)
+room_new max n len (h ∷ hs) (one ∷ ps) p a r (inl s) w c =
+    subst (λ (x : Kept). (x.flies ≡ None) → (1 < len → len ≤ x.cap) → HasRoom n len (launched_kept (h ∷ hs) n p (item_of_kept x ∷ map item_of_kept ps))) (sym s.0)
+    (λ none cap.
+    subst (λ b. HasRoom n len (if b then launch_one n p h ∷ launched_kept hs n (p + 1) (map item_of_kept ps) else h ∷ launched_kept hs n p (item_of_kept h ∷ map item_of_kept ps))) (sym (is_its h (map item_of_kept ps) none))
+    (given_any (n == n) cap, room_new max n len hs ps (p + 1) a.1 r.1 s.1 w.1 c.1))
+    w.0 c.0
+room_new max n len (h ∷ hs) (one ∷ ps) p a r (inr s) w c =
+    subst (λ b. HasRoom n len (if b then launch_one n p h ∷ launched_kept hs n (p + 1) (map item_of_kept ps) else h ∷ launched_kept hs n p (item_of_kept one ∷ map item_of_kept ps))) (sym (is_later_one one h (map item_of_kept ps) (above_sub h.version (one ∷ ps) hs s r.0).0))
+    (subst (λ b. Given b (1 < len → len ≤ h.cap)) (sym (not_yet max n h h.write h.flies a.0.home)) tt, room_new max n len hs (one ∷ ps) p a.1 r.1 s w c)
+
+-- the others keep their room
+pub room_other : (n m len : ℕ) (hs : List Kept) (p : ℕ) (is : List BatchItem) → (m == n) ≡ false → HasRoom m len hs → HasRoom m len (launched_kept hs n p is)
+room_other n m len [] p is ne r = tt
+room_other n m len (h ∷ hs) p is ne r = ⊎_elim {C = HasRoom m len (launched_kept (h ∷ hs) n p is)}
+    (λ t. subst (λ b. HasRoom m len (if b then launch_one n p h ∷ launched_kept hs n (p + 1) (drop 1 is) else h ∷ launched_kept hs n p is)) (sym t)
+    (subst (λ b. Given b (1 < len → len ≤ h.cap)) (sym (other_number n m ne)) tt, room_other n m len hs (p + 1) (drop 1 is) ne r.1))
+    (λ t. subst (λ b. HasRoom m len (if b then launch_one n p h ∷ launched_kept hs n (p + 1) (drop 1 is) else h ∷ launched_kept hs n p is)) (sym t)
+    (r.0, room_other n m len hs p is ne r.1))
+    (true_or_false (is_next is h))
+
+-- ---- what is carried
 
 step_carries : (n p : ℕ) (h : Kept) (hs : List Kept) (ws : List Write) → flies_here n h.flies ≡ false → Carries n p hs ws → Carries n p (h ∷ hs) ws
 step_carries n p h hs ws t c = subst (λ b. Given b (IsMet n p h ws) × Carries n (further b p) hs (rest_if b ws)) (sym t) (tt, c)
@@ -127,9 +187,6 @@ carries_new max n (h ∷ hs) p is a = ⊎_elim {C = Carries n p (launched_kept (
     subst (λ b. Carries n p (if b then launch_one n p h ∷ launched_kept hs n (p + 1) (drop 1 is) else h ∷ launched_kept hs n p is) (if b then option_to_list h.write ++ freight hs (drop 1 is) else freight hs is)) (sym t)
     (step_carries n p h (launched_kept hs n p is) (freight hs is) (not_yet max n h h.write h.flies a.0.home) (carries_new max n hs p is a.1)))
     (true_or_false (is_next is h))
-
-other_number : (n m : ℕ) → (m == n) ≡ false → (n == m) ≡ false
-other_number n m ne = ⊎_elim {C = (n == m) ≡ false} (λ t. let k = equal_test m n (sym (equal n m t)) in absurd (cc)) (λ f. f) (true_or_false (n == m))
 
 -- the others carry what they carried
 pub carries_other : (max n m : ℕ) (hs : List Kept) (p : ℕ) (is : List BatchItem) (q : ℕ) (ws : List Write) → (m == n) ≡ false → Carries m q hs ws → Carries m q (launched_kept hs n p is) ws

@@ -10,8 +10,8 @@ use Rattle.relay_results.specs.Words.{IsSubsequence}
 use Rattle.relay_results.proofs.Lists.{true_or_false, equal, equal_test, and_left, filter_sub, sub_joined, Mem-sub, Mem-filter}
 use Rattle.relay_delivery.specs.Machine.{write_of}
 use Rattle.relay_delivery.specs.Lane.{Entry, writes_of_all}
-use Rattle.relay_core.specs.declared.kept.Kept.{Kept}
-use Rattle.relay_core.specs.declared.kept.Spot.{Spot}
+use Rattle.relay_held.specs.declared.kept.Kept.{Kept}
+use Rattle.relay_held.specs.declared.kept.Spot.{Spot}
 use Rattle.relay_core.specs.Rule.{by_answer, chosen, item_of, offered, with_item}
 use Rattle.relay_core.specs.Walk.{waits_here, is_candidate_kept, item_of_kept, is_next, freight}
 use Rattle.relay_core.specs.Memory.{write_found, action_or, held_seen, entry_of, entries, IsWriteOf, IsHome, IsKept, AllKept, AllAbove, Rises}

@@ -1,13 +1,15 @@
 pub mod Tying
+pub mod Batched
 pub mod Flights
 pub mod Launching
 pub mod Launched
 pub mod Sending
 pub mod Forming
-pub mod Steps
+pub mod Going
+pub mod Entering
+pub mod Passing
 pub mod Saying
 pub mod Valid
-pub mod Swaps
 pub mod Reading
 pub mod Settling
 pub mod Keeping
@@ -16,4 +18,5 @@ pub mod Taken
 pub mod Weighed
 pub mod Weighing
 pub mod Quiet
-pub mod Marks
+pub mod Looking
+pub mod Shown

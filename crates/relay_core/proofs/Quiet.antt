@@ -1,6 +1,6 @@
 -- Until when no batch can be due.
 use Rattle.std.proofs.Common.{◌≡◌, ℕ, ◌+◌, ◌-◌, ◌<◌, ◌≤◌, List, [], ◌∷◌, ◌++◌, length, None, Bool, true, false, ◌&&◌, ◌||◌, refl, sym, ap, ◌∙◌, subst, arith, length-append}
-use Rattle.std.specs.Prelude.{if◌then◌else◌, not, nat_lt, nat_le, map, filter}
+use Rattle.std.specs.Prelude.{if◌then◌else◌, not, nat_lt, nat_le, min, map, filter}
 use Rattle.std.proofs.lemmas.Bool.{ltb-true, lt-ltb, lt-leb, leb-false}
 use Rattle.std.proofs.lemmas.List.{map-append, append-nil}
 use Rattle.std.proofs.lemmas.List.Elements.{filter-append}
@@ -10,12 +10,12 @@ use Rattle.relay_batch.specs.declared.item.Limits.{Limits}
 use Rattle.relay_batch.specs.declared.item.Room.{Room}
 use Rattle.relay_batch.specs.declared.offer.Offer.{Offer}
 use Rattle.relay_batch.specs.declared.offer.Offer.TheVariants.{Busy, Closed, Added}
-use Rattle.relay_batch.specs.Batches.{bytes_of}
-use Rattle.relay_batch.specs.Gathering.{Gathering, answer_to, holds_document, is_count_reached, passes_bytes, is_lingered, is_ready, room_of}
-use Rattle.relay_batch.proofs.Added.{or_none, and_none}
+use Rattle.relay_batch.specs.Batches.{bytes_of, count_of}
+use Rattle.relay_batch.specs.Gathering.{Gathering, answer_to, holds_document, is_count_reached, passes_count, passes_bytes, is_lingered, is_ready, room_of}
+use Rattle.relay_batch.proofs.Added.{or_none, and_none, count-more}
 use Rattle.relay_results.specs.Documents.{Document, document_of, same_document}
 use Rattle.relay_results.proofs.Lists.{and_left, and_right}
-use Rattle.relay_core.specs.declared.kept.Kept.{Kept}
+use Rattle.relay_held.specs.declared.kept.Kept.{Kept}
 use Rattle.relay_core.specs.Rule.{by_answer, with_item, offered, closes, is_marked, batch_if, batch_of}
 use Rattle.relay_core.specs.Walk.{waits_here, is_later_kept, is_candidate_kept, item_of_kept, items_of_kept}
 use Rattle.relay_core.specs.Memory.{AllUnder}
@@ -63,7 +63,7 @@ offered_limits (i ∷ is) g = by_limits (answer_to i g) g.limits (offered is g) 
 
 record Waits (clock mark : ℕ) (limits : Limits) (room : Room) (g : Gathering) : Type 0 where
   pub some : 0 < length g.items
-  pub items : length g.items + room.items ≤ limits.count
+  pub items : length g.items + room.items ≤ count_of limits.count g.items
   pub bytes : bytes_of g.items + room.bytes ≤ limits.bytes
   pub young : is_lingered limits.linger clock g.items ≡ false
   pub unmarked : is_marked mark g.items ≡ false
@@ -85,14 +85,19 @@ waits_on clock mark bytes limits room g w = record {
   unmarked = w.unmarked;
 }
 
-waits_with : (clock mark : ℕ) (limits : Limits) (room : Room) (g : Gathering) (j : BatchItem) → 0 < room.items → j.bytes < room.bytes → Waits clock mark limits room g
+-- the caps take nothing from below the count
+pub count_most : (count : ℕ) (is : List BatchItem) → count_of count is ≤ count
+count_most count [] = omega arith
+count_most count (i ∷ is) = let r = count_most count is in omega (arith, r)
+
+waits_with : (clock mark : ℕ) (limits : Limits) (room : Room) (g : Gathering) (j : BatchItem) → limits.count ≤ j.cap → 0 < room.items → j.bytes < room.bytes → Waits clock mark limits room g
     → Waits clock mark limits (record { items = room.items - 1; bytes = room.bytes - j.bytes }) (with_item j g)
-waits_with clock mark limits room g j one fits w =
+waits_with clock mark limits room g j wide one fits w =
     let n = length-append g.items (j ∷ []) in
     let sum = sum_by_push (λ (x : BatchItem). x.bytes) g.items j in
     record {
       some = (let a = w.some in omega (arith, n));
-      items = (let a = w.items in omega (arith, n, one));
+      items = (let a = w.items in let k = count-more limits.count g.items j in let l = count_most limits.count g.items in omega (arith, n, one, k, l, wide));
       bytes = (let a = w.bytes in omega (arith, sum, fits));
       young = first_lingers limits.linger clock g.items (j ∷ []) w.some ∙ w.young;
       unmarked = first_marked mark g.items (j ∷ []) w.some ∙ w.unmarked;
@@ -105,13 +110,13 @@ right_none : (a b : Bool) → b ≡ false → (a && b) ≡ false
 right_none true b e = e
 right_none false b e = refl
 
-stays_open : (clock mark : ℕ) (limits : Limits) (room : Room) (g : Gathering) (j : BatchItem) → g.limits ≡ limits → 0 < room.items → j.bytes < room.bytes → Waits clock mark limits room g
-    → (is_count_reached g || passes_bytes g j.bytes) ≡ false
-stays_open clock mark limits room g j same one fits w =
-    let counts = ap (λ (l : Limits). l.count) same in
+stays_open : (clock mark : ℕ) (limits : Limits) (room : Room) (g : Gathering) (j : BatchItem) → g.limits ≡ limits → limits.count ≤ j.cap → 0 < room.items → j.bytes < room.bytes → Waits clock mark limits room g
+    → (passes_count g j.cap || passes_bytes g j.bytes) ≡ false
+stays_open clock mark limits room g j same wide one fits w =
+    let counts = ap (λ (l : Limits). count_of l.count g.items) same in
     let weighs = ap (λ (l : Limits). l.bytes) same in
-    none_of (is_count_reached g) (passes_bytes g j.bytes)
-    (lt-leb g.limits.count (length g.items) (let a = w.items in omega (arith, counts, one)))
+    none_of (passes_count g j.cap) (passes_bytes g j.bytes)
+    (right_none (nat_lt 0 (length g.items)) _ (lt-leb (min (count_of g.limits.count g.items) j.cap) (length g.items) (let a = w.items in let l = count_most limits.count g.items in omega (arith, counts, one, l, wide))))
     (right_none (nat_lt 0 (length g.items)) (nat_lt g.limits.bytes (bytes_of g.items + j.bytes)) (ltb_no g.limits.bytes (bytes_of g.items + j.bytes) (let a = w.bytes in omega (arith, weighs, fits))))
 
 -- what one offer makes of it, where it is not Closed
@@ -130,14 +135,14 @@ quiet_on clock mark bytes all_closed limits is room q =
     let w = waits_on clock mark bytes limits room (offered is (empty limits)) (waiting clock mark all_closed limits is room q) in
     record { some = w.some; lasts = q.lasts; items = w.items; bytes = w.bytes; young = w.young; unmarked = w.unmarked; still_open = q.still_open }
 
-pub quiet_with : (clock mark : ℕ) (all_closed : Bool) (limits : Limits) (is : List BatchItem) (j : BatchItem) (room : Room) → 0 < room.items → j.bytes < room.bytes → IsQuiet clock mark all_closed limits is room
+pub quiet_with : (clock mark : ℕ) (all_closed : Bool) (limits : Limits) (is : List BatchItem) (j : BatchItem) (room : Room) → limits.count ≤ j.cap → 0 < room.items → j.bytes < room.bytes → IsQuiet clock mark all_closed limits is room
     → IsQuiet clock mark all_closed limits (is ++ j ∷ []) (record { items = room.items - 1; bytes = room.bytes - j.bytes })
-quiet_with clock mark all_closed limits is j room one fits q =
+quiet_with clock mark all_closed limits is j room wide one fits q =
     let g = offered is (empty limits) in
     let w = waiting clock mark all_closed limits is room q in
     let less_room : Room = record { items = room.items - 1; bytes = room.bytes - j.bytes } in
-    let shut = stays_open clock mark limits room g j (offered_limits is (empty limits)) one fits w in
-    let step = one_offer (Waits clock mark limits less_room) g j (holds_document j.doc g.items) (is_count_reached g || passes_bytes g j.bytes) shut (waits_on clock mark j.bytes limits room g w) (waits_with clock mark limits room g j one fits w) in
+    let shut = stays_open clock mark limits room g j (offered_limits is (empty limits)) wide one fits w in
+    let step = one_offer (Waits clock mark limits less_room) g j (holds_document j.doc g.items) (passes_count g j.cap || passes_bytes g j.bytes) shut (waits_on clock mark j.bytes limits room g w) (waits_with clock mark limits room g j wide one fits w) in
     let now = subst (Waits clock mark limits less_room) (sym (offered_more is j (empty limits) q.lasts)) step.0 in
     record { some = now.some; lasts = closes_more is j (empty limits) q.lasts ∙ step.1; items = now.items; bytes = now.bytes; young = now.young; unmarked = now.unmarked; still_open = q.still_open }
 
@@ -156,7 +161,7 @@ quiet_none clock mark all_closed limits is room roomy q =
     let one = ltb-true 0 room.items (and_left (nat_lt 0 room.items) (nat_lt 0 room.bytes) roomy) in
     let some = ltb-true 0 room.bytes (and_right (nat_lt 0 room.items) (nat_lt 0 room.bytes) roomy) in
     none_goes (nat_lt 0 (length g.items)) (is_count_reached g) (nat_le g.limits.bytes (bytes_of g.items)) (is_lingered g.limits.linger clock g.items) (closes is (empty limits)) (is_marked mark g.items) all_closed g.items
-    (lt-leb g.limits.count (length g.items) (let a = q.items in let counts = ap (λ (l : Limits). l.count) same in omega (arith, counts, one)))
+    (lt-leb (count_of g.limits.count g.items) (length g.items) (let a = q.items in let counts = ap (λ (l : Limits). count_of l.count g.items) same in omega (arith, counts, one)))
     (lt-leb g.limits.bytes (bytes_of g.items) (let a = q.bytes in let weighs = ap (λ (l : Limits). l.bytes) same in omega (arith, weighs, some)))
     (ap (λ (l : Limits). is_lingered l.linger clock g.items) same ∙ q.young)
     q.lasts q.unmarked q.still_open
@@ -192,20 +197,20 @@ items_more hs h clock b u e =
     ap (map item_of_kept) (filter-append (is_candidate_kept (hs ++ h ∷ []) clock) hs (h ∷ []) ∙ (λ i. candidates_same hs h clock hs u i ++ filter_one (is_candidate_kept (hs ++ h ∷ []) clock) h b e i))
     ∙ map-append item_of_kept (filter (is_candidate_kept hs clock) hs) (one_if b h)
 
-quiet_by : (clock mark : ℕ) (all_closed : Bool) (limits : Limits) (is : List BatchItem) (h : Kept) (room : Room) (b : Bool) → 0 < room.items → h.bytes < room.bytes → IsQuiet clock mark all_closed limits is room
+quiet_by : (clock mark : ℕ) (all_closed : Bool) (limits : Limits) (is : List BatchItem) (h : Kept) (room : Room) (b : Bool) → limits.count ≤ h.cap → 0 < room.items → h.bytes < room.bytes → IsQuiet clock mark all_closed limits is room
     → IsQuiet clock mark all_closed limits (is ++ map item_of_kept (one_if b h)) (record { items = room.items - 1; bytes = room.bytes - h.bytes })
-quiet_by clock mark all_closed limits is h room true one fits q = quiet_with clock mark all_closed limits is (item_of_kept h) room one fits q
-quiet_by clock mark all_closed limits is h room false one fits q =
+quiet_by clock mark all_closed limits is h room true wide one fits q = quiet_with clock mark all_closed limits is (item_of_kept h) room wide one fits q
+quiet_by clock mark all_closed limits is h room false wide one fits q =
     subst (λ xs. IsQuiet clock mark all_closed limits xs (record { items = room.items - 1; bytes = room.bytes - h.bytes })) (sym (append-nil is)) (quiet_on clock mark h.bytes all_closed limits is room q)
 
 left_over : (b : Bool) (one two : Room) → is_roomy (if b then one else two) ≡ true → is_roomy two ≡ false → (b ≡ true) × (is_roomy one ≡ true)
 left_over true one two e none = (refl, e)
 left_over false one two e none = absurd (cc)
 
-pub quiet_taken : (clock mark : ℕ) (all_closed : Bool) (limits : Limits) (hs hs' : List Kept) (h : Kept) (room : Room) → hs' ≡ hs ++ h ∷ [] → AllUnder h.version hs
+pub quiet_taken : (clock mark : ℕ) (all_closed : Bool) (limits : Limits) (hs hs' : List Kept) (h : Kept) (room : Room) → hs' ≡ hs ++ h ∷ [] → limits.count ≤ h.cap → AllUnder h.version hs
     → (is_roomy room ≡ true → IsQuiet clock mark all_closed limits (items_of_kept hs clock hs) room)
     → is_roomy (less h.bytes room) ≡ true → IsQuiet clock mark all_closed limits (items_of_kept hs' clock hs') (less h.bytes room)
-quiet_taken clock mark all_closed limits hs hs' h room e u quiet roomy =
+quiet_taken clock mark all_closed limits hs hs' h room e wide u quiet roomy =
     let on : Room = record { items = room.items - 1; bytes = room.bytes - h.bytes } in
     let t = left_over (nat_lt h.bytes room.bytes) on no_room roomy refl in
     let fits = ltb-true h.bytes room.bytes t.0 in
@@ -215,7 +220,7 @@ quiet_taken clock mark all_closed limits hs hs' h room e u quiet roomy =
     subst (λ xs. IsQuiet clock mark all_closed limits (items_of_kept xs clock xs) (less h.bytes room)) (sym e)
     (subst (λ b. IsQuiet clock mark all_closed limits (items_of_kept (hs ++ h ∷ []) clock (hs ++ h ∷ [])) (if b then on else no_room)) (sym t.0)
     (subst (λ xs. IsQuiet clock mark all_closed limits xs on) (sym (items_more hs h clock (is_candidate_kept (hs ++ h ∷ []) clock h) u refl))
-    (quiet_by clock mark all_closed limits (items_of_kept hs clock hs) h room (is_candidate_kept (hs ++ h ∷ []) clock h) one fits (quiet was))))
+    (quiet_by clock mark all_closed limits (items_of_kept hs clock hs) h room (is_candidate_kept (hs ++ h ∷ []) clock h) wide one fits (quiet was))))
 
 -- ---- what was gathered is not asked for
 
@@ -231,13 +236,13 @@ pub quiet_of : (clock mark : ℕ) (all_closed : Bool) (limits : Limits) (is : Li
 quiet_of clock mark all_closed limits is room ready shut marked some left is_r is_s is_m none =
     let g = offered is (empty limits) in
     let same = offered_limits is (empty limits) in
-    let counts = ap (λ (l : Limits). l.count) same in
+    let counts = ap (λ (l : Limits). count_of l.count g.items) same in
     let weighs = ap (λ (l : Limits). l.bytes) same in
     let a = or_none ready (shut || (marked || all_closed)) none in
     let b = or_none shut (marked || all_closed) a.1 in
     let d = or_none marked all_closed b.1 in
     let unready = or_all (is_count_reached g) (nat_le g.limits.bytes (bytes_of g.items)) (is_lingered g.limits.linger clock g.items) (and_none (nat_lt 0 (length g.items)) _ (sym is_r ∙ a.0) (lt-ltb 0 (length g.items) some)) in
-    let few = leb-false g.limits.count (length g.items) unready.0 in
+    let few = leb-false (count_of g.limits.count g.items) (length g.items) unready.0 in
     let light = leb-false g.limits.bytes (bytes_of g.items) unready.1 in
     let left_items = ap (λ (r : Room). r.items) left in
     let left_bytes = ap (λ (r : Room). r.bytes) left in

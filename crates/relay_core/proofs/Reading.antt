@@ -8,8 +8,8 @@ use Rattle.relay_core.specs.State.{State, is_eligible, first_due, sooner, due_in
 use Rattle.relay_delivery.specs.Lane as delivery
 use Rattle.relay_delivery.specs.Lane.{Entry, Flying, writes_at, held_of, waits, is_later, is_candidate, candidates}
 use Rattle.relay_results.proofs.Lists.{true_or_false, equal, equal_test}
-use Rattle.relay_core.specs.declared.kept.Kept.{Kept}
-use Rattle.relay_core.specs.declared.kept.Spot.{Spot}
+use Rattle.relay_held.specs.declared.kept.Kept.{Kept}
+use Rattle.relay_held.specs.declared.kept.Spot.{Spot}
 use Rattle.relay_core.specs.declared.kept.Sent.{Sent}
 use Rattle.relay_core.specs.Rule.{item_of}
 use Rattle.relay_core.specs.Walk.{waits_here, is_later_kept, is_eligible_kept, first_due_kept, is_candidate_kept, item_of_kept, items_of_kept}

@@ -1,19 +1,37 @@
 -- What an answer says of each operation.
-use Rattle.std.proofs.Common.{◌≡◌, ℕ, List, [], Option, Some, None, Bool, true, false, refl, sym, ap, ◌∙◌}
-use Rattle.std.specs.Prelude.{slice_get, if◌then◌else◌}
+use Rattle.std.proofs.Common.{◌≡◌, ℕ, List, [], Option, Some, None, Bool, true, false, refl, sym, ap, ◌∙◌, subst}
+use Rattle.std.specs.Prelude.{slice_get, if◌then◌else◌, length, ◌/◌}
 use Rattle.relay_action.specs.declared.action.ActionKind.{ActionKind}
 use Rattle.relay_action.specs.declared.write.Write.{Write}
 use Rattle.relay_results.specs.declared.cause.Cause.TheVariants as cause
 use Rattle.relay_results.specs.Outside.{Whole}
-use Rattle.relay_results.specs.Verdicts.{is_retried_whole}
-use Rattle.relay_results.specs.Fates.{Reported, Tries, tried_again, fate_of_entry}
+use Rattle.relay_results.specs.Verdicts.{is_retried_whole, is_too_large, is_halved}
+use Rattle.relay_results.specs.Fates.{Reported, Halved, Tries, tried_again, fate_of_entry}
 use Rattle.relay_results.specs.declared.outcome.Outcome.{Outcome}
 use Rattle.relay_core.specs.Walk.{fate_or}
-use Rattle.relay_core.specs.Memory.{SaysAs}
+use Rattle.relay_core.specs.Memory.{SaysAs, IsHalf}
+use Rattle.relay_core.specs.declared.fates.Way.TheVariants as way
+use Rattle.std.proofs.lemmas.Bool.{leb-true}
+use Rattle.relay_results.proofs.Lists.{and_right}
+use Rattle.relay_core.specs.declared.fates.Way.{Way}
 
-by_status : (b : Bool) (status : ℕ) (t : Tries) (p : ℕ) (kind : ActionKind) (os : List Outcome) → os ≡ [] → (if b then tried_again t else Reported (cause.Request status)) ≡ fate_or (if b then None else Some status) (fate_of_entry t kind (slice_get os p))
-by_status true status t p kind os e = ap (λ xs. fate_of_entry t kind (slice_get xs p)) (sym e)
-by_status false status t p kind os e = refl
+by_status : (half again : Bool) (cap status : ℕ) (t : Tries) (p : ℕ) (kind : ActionKind) (os : List Outcome) → os ≡ []
+    → (if half then Halved cap else if again then tried_again t else Reported (cause.Request status)) ≡ fate_or (if half then way.Halved cap else if again then way.ByEntry else way.Reported status) (fate_of_entry t kind (slice_get os p))
+by_status true again cap status t p kind os e = refl
+by_status false true cap status t p kind os e = ap (λ xs. fate_of_entry t kind (slice_get xs p)) (sym e)
+by_status false false cap status t p kind os e = refl
 
-pub whole_says : (ws : List Write) (status : ℕ) (whole : Option ℕ) (os : List Outcome) → whole ≡ (if is_retried_whole status then None else Some status) → os ≡ [] → SaysAs (Whole status) ws whole os
-whole_says ws status whole os e n t p kind = by_status (is_retried_whole status) status t p kind os n ∙ ap (λ x. fate_or x (fate_of_entry t kind (slice_get os p))) (sym e)
+-- what the status of a whole request of so many items says of each
+abbrev pub way_by : ℕ → ℕ → Way
+way_by items status = if is_halved items status then way.Halved (items / 2) else if is_retried_whole status then way.ByEntry else way.Reported status
+
+pub whole_says : (ws : List Write) (status : ℕ) (whole : Way) (os : List Outcome) → whole ≡ way_by (length ws) status → os ≡ [] → SaysAs (Whole status) ws whole os
+whole_says ws status whole os e n t p kind = by_status (is_halved (length ws) status) (is_retried_whole status) (length ws / 2) status t p kind os n ∙ ap (λ x. fate_or x (fate_of_entry t kind (slice_get os p))) (sym e)
+
+half_by : (half again : Bool) (items status : ℕ) → is_halved items status ≡ half → IsHalf (if half then way.Halved (items / 2) else if again then way.ByEntry else way.Reported status) items
+half_by true again items status e = (leb-true _ _ (and_right (is_too_large status) _ e), refl)
+half_by false true items status e = tt
+half_by false false items status e = tt
+
+pub whole_halves : (items status : ℕ) (whole : Way) → whole ≡ way_by items status → IsHalf whole items
+whole_halves items status whole e = subst (λ w. IsHalf w items) (sym e) (half_by (is_halved items status) (is_retried_whole status) items status refl)

@@ -8,9 +8,9 @@ use Rattle.relay_results.specs.Words.{Mem, IsSubsequence}
 use Rattle.relay_results.proofs.Lists.{true_or_false, equal, equal_test}
 use Rattle.relay_delivery.specs.Machine.{Held, place_of, launched_at}
 use Rattle.relay_delivery.specs.Lane.{held_of, launched_entry}
-use Rattle.relay_core.specs.declared.kept.Kept.{Kept}
+use Rattle.relay_held.specs.declared.kept.Kept.{Kept}
 use Rattle.relay_core.specs.declared.kept.Sent.{Sent}
-use Rattle.relay_core.specs.declared.kept.Spot.{Spot}
+use Rattle.relay_held.specs.declared.kept.Spot.{Spot}
 use Rattle.relay_core.specs.Walk.{item_of_kept, launch_one, launched_kept}
 use Rattle.relay_core.specs.Memory.{has_number, writes_in, write_found, action_or, held_seen, entry_of, entries, place_at, IsHome, IsKept, AllKept, AllAbove, Rises, NoneTwice, SameNumbers}
 use Rattle.relay_core.proofs.Launching.{AllWait, loads, Home, home_of, above_sub, is_its, is_later_one}
@@ -72,7 +72,7 @@ stays_seen : (max n : ℕ) (f f' : ℕ → List Write) (h : Kept) (chosen : List
     → entry_of f' h ≡ launched_entry n chosen (entry_of f h)
 stays_seen max n f f' h chosen same k none =
     (λ i. record {
-      held = record { op = record { producer = h.name.producer; number = h.name.number; key = h.key; action = action_or (found_same max n f f' h h.write h.flies same k.home i) }; version = h.version; sends = h.sends; attempts = h.attempts; flies = option_map place_at h.flies };
+      held = record { op = record { epoch = h.name.epoch; producer = h.name.producer; number = h.name.number; key = h.key; action = action_or (found_same max n f f' h h.write h.flies same k.home i) }; version = h.version; sends = h.sends; attempts = h.attempts; cap = h.cap; flies = option_map place_at h.flies };
       bytes = h.bytes;
       taken_at = h.taken_at;
       due = h.due;
@@ -85,13 +85,13 @@ goes_seen max n f f' h chosen p le k o got at =
     let a = more_is h.attempts (omega (arith, o.tries, le)) in
     let s = more_is h.sends (omega (arith, o.tries, le, k.sends)) in
     (λ i. record {
-      held = record { op = record { producer = h.name.producer; number = h.name.number; key = h.key; action = action_or (got i) }; version = h.version; sends = s i; attempts = a i; flies = Some (record { request = n; place = p }) };
+      held = record { op = record { epoch = h.name.epoch; producer = h.name.producer; number = h.name.number; key = h.key; action = action_or (got i) }; version = h.version; sends = s i; attempts = a i; cap = h.cap; flies = Some (record { request = n; place = p }) };
       bytes = h.bytes;
       taken_at = h.taken_at;
       due = h.due;
     })
     ∙ (λ i. record {
-      held = record { op = record { producer = h.name.producer; number = h.name.number; key = h.key; action = action_or (write_found (sym o.found i) h.flies f) }; version = h.version; sends = h.sends + 1; attempts = h.attempts + 1; flies = Some (record { request = n; place = p }) };
+      held = record { op = record { epoch = h.name.epoch; producer = h.name.producer; number = h.name.number; key = h.key; action = action_or (write_found (sym o.found i) h.flies f) }; version = h.version; sends = h.sends + 1; attempts = h.attempts + 1; cap = h.cap; flies = Some (record { request = n; place = p }) };
       bytes = h.bytes;
       taken_at = h.taken_at;
       due = h.due;

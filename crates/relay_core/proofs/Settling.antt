@@ -1,5 +1,5 @@
 -- What an answer makes of the held list, as it is read.
-use Rattle.std.proofs.Common.{◌≡◌, ℕ, zero, suc, ◌+◌, List, [], ◌∷◌, ◌++◌, Option, Some, None, Bool, true, false, ◌==◌, refl, sym, ap, ◌∙◌, subst, ⊎_elim, arith, drop}
+use Rattle.std.proofs.Common.{◌≡◌, ℕ, zero, suc, ◌+◌, ◌-◌, List, [], ◌∷◌, ◌++◌, Option, Some, None, Bool, true, false, ◌==◌, refl, sym, ap, ◌∙◌, subst, ⊎_elim, arith, drop}
 use Rattle.std.specs.Prelude.{if◌then◌else◌, nat_lt, slice_get, option_map}
 use Rattle.relay_action.specs.Actions.{kind_of}
 use Rattle.relay_action.specs.declared.write.Write.{Write}
@@ -11,12 +11,14 @@ use Rattle.relay_results.specs.Words.{one_if}
 use Rattle.relay_results.specs.Documents.{document_of}
 use Rattle.relay_results.specs.Outside.{Answer}
 use Rattle.relay_results.specs.declared.cause.Cause.TheVariants as cause
-use Rattle.relay_results.specs.Fates.{Fate, Flies, Applied, Already, Retried, Reported, Tries, tried_again, fate, fate_of_entry, fate_of_verdict}
+use Rattle.relay_results.specs.Fates.{Fate, Flies, Applied, Already, Retried, Halved, Reported, Tries, tried_again, fate, fate_of_entry, fate_of_verdict}
 use Rattle.relay_delivery.specs.Machine.{Config, fate_of, reported_one, reported, how_many}
 use Rattle.relay_delivery.specs.Lane.{Entry, held_of, kept_entry, kept_entries}
 use Rattle.relay_results.proofs.Lists.{true_or_false, equal_test}
-use Rattle.relay_core.specs.declared.kept.Kept.{Kept}
-use Rattle.relay_core.specs.declared.kept.Spot.{Spot}
+use Rattle.relay_held.specs.declared.kept.Kept.{Kept}
+use Rattle.relay_core.specs.declared.fates.Way.{Way}
+use Rattle.relay_core.specs.declared.fates.Way.TheVariants as way
+use Rattle.relay_held.specs.declared.kept.Spot.{Spot}
 use Rattle.relay_core.specs.Walk.{flies_here, fate_or, fate_met, met_list, met_maybe, reports_list, reports_maybe, tally, tally_maybe, kept_walk, reports_walk, tally_walk}
 use Rattle.relay_core.specs.Memory.{place_at, write_found, action_or, held_seen, entry_of, entries, Given, further, rest_if, IsMet, Carries, IsHome, IsKept, AllKept, SaysAs}
 
@@ -26,6 +28,7 @@ settles Flies = false
 settles Applied = true
 settles Already = true
 settles Retried = true
+settles (Halved cap) = true
 settles (Reported c) = true
 
 again_if : (t : Tries) (b : Bool) → nat_lt t.attempts t.max ≡ b → settles (tried_again t) ≡ true
@@ -44,11 +47,12 @@ entry_settles : (t : Tries) (kind : ActionKind) (o : Option Outcome) → settles
 entry_settles t kind None = again_if t (nat_lt t.attempts t.max) refl
 entry_settles t kind (Some o) = verdict_settles t o _
 
-or_settles : (whole : Option ℕ) (f : Fate) → settles f ≡ true → settles (fate_or whole f) ≡ true
-or_settles None f e = e
-or_settles (Some status) f e = refl
+or_settles : (whole : Way) (f : Fate) → settles f ≡ true → settles (fate_or whole f) ≡ true
+or_settles way.ByEntry f e = e
+or_settles (way.Reported status) f e = refl
+or_settles (way.Halved cap) f e = refl
 
-pub met_ends : (max : ℕ) (whole : Option ℕ) (h : Kept) (os : List Outcome) → settles (fate_met max whole h os) ≡ true
+pub met_ends : (max : ℕ) (whole : Way) (h : Kept) (os : List Outcome) → settles (fate_met max whole h os) ≡ true
 met_ends max whole h os = or_settles whole (fate_of_entry (record { sends = h.sends; attempts = h.attempts; max = max }) h.kind (slice_get os 0)) (entry_settles (record { sends = h.sends; attempts = h.attempts; max = max }) h.kind (slice_get os 0))
 
 -- ---- what is read of one that flies, and of one that does not
@@ -88,7 +92,7 @@ tally_is : (b : Bool) → tally b ≡ one_if b
 tally_is true = refl
 tally_is false = refl
 
-module _ (g : Config) (clock n next : ℕ) (whole : Option ℕ) (all : List Write) (given : List Outcome) (a : Answer) (f f' : ℕ → List Write)
+module _ (g : Config) (clock n next : ℕ) (whole : Way) (all : List Write) (given : List Outcome) (a : Answer) (f f' : ℕ → List Write)
     (says : SaysAs a all whole given) (here : f n ≡ all) (same : (m : ℕ) → (m == n) ≡ false → f' m ≡ f m) where
   tries : Kept → Tries
   tries h = record { sends = h.sends; attempts = h.attempts; max = g.max }
@@ -118,7 +122,7 @@ module _ (g : Config) (clock n next : ℕ) (whole : Option ℕ) (all : List Writ
 
   entry_there : (h : Kept) → flies_here n h.flies ≡ false → entry_of f' h ≡ entry_of f h
   entry_there h t = λ i. record {
-    held = record { op = record { producer = h.name.producer; number = h.name.number; key = h.key; action = action_or (found_there h.write h.flies t i) }; version = h.version; sends = h.sends; attempts = h.attempts; flies = option_map place_at h.flies };
+    held = record { op = record { epoch = h.name.epoch; producer = h.name.producer; number = h.name.number; key = h.key; action = action_or (found_there h.write h.flies t i) }; version = h.version; sends = h.sends; attempts = h.attempts; cap = h.cap; flies = option_map place_at h.flies };
     bytes = h.bytes;
     taken_at = h.taken_at;
     due = h.due;
@@ -129,10 +133,16 @@ module _ (g : Config) (clock n next : ℕ) (whole : Option ℕ) (all : List Writ
   one_met h w Applied t e = refl
   one_met h w Already t e = refl
   one_met h w Retried t e = λ i. record {
-    held = record { op = record { producer = h.name.producer; number = h.name.number; key = h.key; action = sym e i }; version = h.version; sends = h.sends; attempts = h.attempts; flies = None };
+    held = record { op = record { epoch = h.name.epoch; producer = h.name.producer; number = h.name.number; key = h.key; action = sym e i }; version = h.version; sends = h.sends; attempts = h.attempts; cap = h.cap; flies = None };
     bytes = h.bytes;
     taken_at = h.taken_at;
     due = Rattle.relay_delivery.specs.Lane.backoff clock h.attempts;
+  } ∷ []
+  one_met h w (Halved cap) t e = λ i. record {
+    held = record { op = record { epoch = h.name.epoch; producer = h.name.producer; number = h.name.number; key = h.key; action = sym e i }; version = h.version; sends = h.sends; attempts = h.attempts - 1; cap = cap; flies = None };
+    bytes = h.bytes;
+    taken_at = h.taken_at;
+    due = clock;
   } ∷ []
   one_met h w (Reported c) t e = refl
 
@@ -141,6 +151,7 @@ module _ (g : Config) (clock n next : ℕ) (whole : Option ℕ) (all : List Writ
   one_reported h w Applied e = refl
   one_reported h w Already e = refl
   one_reported h w Retried e = refl
+  one_reported h w (Halved cap) e = refl
   one_reported h w (Reported c) e = λ i. record { name = h.name; document = document_of (e i); cause = c } ∷ []
 
   -- the parts of one that flies

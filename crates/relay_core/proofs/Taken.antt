@@ -1,5 +1,5 @@
 -- An operation is taken.
-use Rattle.std.proofs.Common.{◌≡◌, ℕ, suc, ◌+◌, ◌-◌, ◌<◌, ◌≤◌, List, [], ◌∷◌, ◌++◌, length, true, false, refl, sym, ap, subst, ⊎_elim, arith}
+use Rattle.std.proofs.Common.{◌≡◌, ℕ, suc, ◌+◌, ◌-◌, ◌^◌, ◌<◌, ◌≤◌, List, [], ◌∷◌, ◌++◌, length, true, false, refl, sym, ap, subst, ⊎_elim, arith}
 use Rattle.std.specs.Prelude.{nat_lt, Result, Ok, Err, is_ok, OnOk}
 use borrow.Author.Tests.{ltb-true}
 use Rattle.relay_action.specs.declared.write.Write.{Write}
@@ -8,12 +8,14 @@ use Rattle.relay_ndjson.specs.Bulk.{write_text}
 use Rattle.relay_results.specs.Documents.{write_for}
 use Rattle.relay_delivery.specs.Lane.{State, entry_at}
 use Rattle.relay_results.proofs.Lists.{true_or_false}
-use Rattle.relay_core.specs.declared.kept.Kept.{Kept}
+use Rattle.relay_held.specs.declared.kept.Kept.{Kept}
 use Rattle.relay_core.specs.declared.kept.Sent.{Sent}
 use Rattle.relay_core.specs.Walk.{flies_here}
-use Rattle.relay_core.specs.Memory.{kept_new, entry_of, entries, writes_in, Given, further, rest_if, IsMet, Carries, IsKept, AllKept, AllAbove, AllUnder, Rises, IsReadable, tries_left}
+use Rattle.relay_core.specs.Memory.{kept_new, entry_of, entries, writes_in, Given, further, rest_if, IsMet, Carries, IsKept, AllKept, AllAbove, AllUnder, Rises, HasRoom, IsReadable, tries_left}
+use Rattle.relay_delivery.specs.Bound.{halvings}
+use Rattle.relay_delivery.proofs.Halving.{halvings_few}
 
-pub entries_new : (s : State) (hs : List Kept) (f : ℕ → List Write) (o : Op) (bytes : ℕ) → entries (hs ++ kept_new o (s.config.first + s.taken) bytes s.clock ∷ []) f ≡ entries hs f ++ entry_at s o bytes ∷ []
+pub entries_new : (s : State) (hs : List Kept) (f : ℕ → List Write) (o : Op) (bytes : ℕ) → entries (hs ++ kept_new o (s.config.first + s.taken) bytes s.clock s.config.cap ∷ []) f ≡ entries hs f ++ entry_at s o bytes ∷ []
 entries_new s [] f o bytes = refl
 entries_new s (h ∷ hs) f o bytes = ap (λ es. entry_of f h ∷ es) (entries_new s hs f o bytes)
 
@@ -41,12 +43,18 @@ carries_more : (n p : ℕ) (hs : List Kept) (h : Kept) (ws : List Write) → fli
 carries_more n p [] h ws t c = subst (λ b. Given b (IsMet n p h ws) × (rest_if b ws ≡ [])) (sym t) (tt, c)
 carries_more n p (g ∷ hs) h ws t c = (c.0, carries_more n (further (flies_here n g.flies) p) hs h (rest_if (flies_here n g.flies) ws) t c.1)
 
-pub readable_more : (max next v bytes clock : ℕ) (hs hs' : List Kept) (fs : List Sent) (o : Op) → 1 ≤ max → clock ≤ 18446744073709551615 → bytes ≡ length (write_text (write_for o v)) → hs' ≡ hs ++ kept_new o v bytes clock ∷ [] → AllUnder v hs → IsReadable max next hs fs → IsReadable max next hs' fs
-readable_more max next v bytes clock hs hs' fs o le ends weighed e u r = subst (λ xs. IsReadable max next xs fs) (sym e) (record {
-  kept = kept_more max next hs (kept_new o v bytes clock) r.kept (record { home = (record { key = refl; version = refl; kind = refl; bytes = weighed }, omega (arith, le)); sends = omega arith; due = ends });
-  rises = rises_more hs (kept_new o v bytes clock) r.rises u;
+room_more : (n len : ℕ) (hs : List Kept) (h : Kept) → flies_here n h.flies ≡ false → HasRoom n len hs → HasRoom n len (hs ++ h ∷ [])
+room_more n len [] h t r = (subst (λ b. Given b (1 < len → len ≤ h.cap)) (sym t) tt, tt)
+room_more n len (g ∷ hs) h t r = (r.0, room_more n len hs h t r.1)
+
+pub readable_more : (max next v bytes clock cap : ℕ) (hs hs' : List Kept) (fs : List Sent) (o : Op) → 1 ≤ max → cap < 2 ^ 14 → clock ≤ 18446744073709551615 → bytes ≡ length (write_text (write_for o v)) → hs' ≡ hs ++ kept_new o v bytes clock cap ∷ [] → AllUnder v hs → IsReadable max next hs fs → IsReadable max next hs' fs
+readable_more max next v bytes clock cap hs hs' fs o le low ends weighed e u r = subst (λ xs. IsReadable max next xs fs) (sym e) (record {
+  kept = kept_more max next hs (kept_new o v bytes clock cap) r.kept (record { home = (record { key = refl; version = refl; kind = refl; bytes = weighed }, omega (arith, le)); sends = (let l = halvings_few 14 cap low in omega (arith, l)); due = ends });
+  rises = rises_more hs (kept_new o v bytes clock cap) r.rises u;
   once = r.once;
-  carries = λ n. carries_more n 0 hs (kept_new o v bytes clock) (writes_in fs n) refl (r.carries n);
+  carries = λ n. carries_more n 0 hs (kept_new o v bytes clock cap) (writes_in fs n) refl (r.carries n);
+  caps = λ n. room_more n (length (writes_in fs n)) hs (kept_new o v bytes clock cap) refl (r.caps n);
+  few = r.few;
 })
 
 pub entries_length : (hs : List Kept) (f : ℕ → List Write) → length (entries hs f) ≡ length hs
@@ -61,7 +69,7 @@ pub with_none : {A : Type 0} (xs : List A) → xs ≡ xs ++ []
 with_none [] = refl
 with_none (x ∷ xs) = ap (λ ys. x ∷ ys) (with_none xs)
 
-pub left_more : (max : ℕ) (hs : List Kept) (h : Kept) → tries_left max (hs ++ h ∷ []) ≡ tries_left max hs + (max - h.attempts)
+pub left_more : (max : ℕ) (hs : List Kept) (h : Kept) → tries_left max (hs ++ h ∷ []) ≡ tries_left max hs + ((max - h.attempts) + halvings h.cap)
 left_more max [] h = omega arith
 left_more max (g ∷ hs) h = omega (arith, left_more max hs h)
 

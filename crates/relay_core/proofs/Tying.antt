@@ -10,6 +10,7 @@ use Rattle.relay_delivery.specs.Lane.{Entry, candidates, writes_of_all}
 use Rattle.relay_delivery.proofs.Fitting as delivery
 use Rattle.relay_core.specs.Rule.{by_answer, chosen, item_of, with_item}
 use Rattle.relay_core.specs.State.{config_of, later, bytes_of, after_take, gathering, next_entries, after_request}
+use Rattle.relay_core.proofs.Batched.{next_keeps}
 use Rattle.relay_core.specs.Ties.{Fits, FreshFits, TakeFits, RequestFits, RunFits, AnswerFits}
 
 pub fresh_fits : FreshFits
@@ -42,7 +43,7 @@ chosen_sub (e ∷ es) g = chosen_by (answer_to (item_of e) g) e es (chosen es g)
 pub request_fits : RequestFits
 request_fits s items taken out some f =
     subst (λ b. Fits (after_request s b) taken (after (Sends (writes_of_all (next_entries s))) out)) (sym some)
-    (delivery.send_fits s.core (next_entries s) taken out (chosen_sub (candidates s.core) (gathering s)) f)
+    (delivery.send_fits s.core (next_entries s) taken out (chosen_sub (candidates s.core) (gathering s)) (next_keeps s items some) f)
 
 pub run_fits : RunFits
 run_fits s r taken out may f = delivery.run_fits s.core r taken out may f

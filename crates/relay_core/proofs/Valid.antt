@@ -10,8 +10,9 @@ pub record Facts (c : RelayConfig) : Type 0 where
   pub producers : c.producers ≤ 16
   pub held : c.max_held ≤ 65536
   pub tries : (1 ≤ c.attempts) × (c.attempts ≤ 32)
-  pub first : 1 ≤ c.first_version
-  pub last : c.first_version ≤ 9000000000000000000
+  pub epoch : c.epoch ≤ 4194303
+  pub deal : (1 ≤ c.deal) × (c.deal ≤ 1099511627775)
+  pub count : (1 ≤ c.limits.count) × (c.limits.count ≤ 10000)
 
 within : (least most n : ℕ) → is_from_to least most n ≡ true → (least ≤ n) × (n ≤ most)
 within least most n t = (leb-true _ _ (and_left _ _ t), leb-true _ _ (and_right (nat_le least n) _ t))
@@ -29,6 +30,7 @@ valid_facts c t =
       producers = (within 1 16 c.producers (and_left _ _ t2)).1;
       held = (within 1 65536 c.max_held (and_left _ _ t4)).1;
       tries = within 1 32 c.attempts (and_left _ _ t6);
-      first = (within 1 9000000000000000000 c.first_version t8).0;
-      last = (within 1 9000000000000000000 c.first_version t8).1;
+      epoch = leb-true _ _ (and_left _ _ t8);
+      deal = within 1 1099511627775 c.deal (and_right (nat_le c.epoch 4194303) _ t8);
+      count = within 1 10000 c.limits.count (and_left _ _ (and_left _ _ t5));
     }

@@ -7,8 +7,8 @@ use Rattle.relay_results.specs.Words.{Mem}
 use Rattle.relay_results.proofs.Lists.{Mem-map}
 use Rattle.relay_delivery.specs.Machine.{write_of}
 use Rattle.relay_delivery.specs.Lane.{Entry}
-use Rattle.relay_core.specs.declared.kept.Kept.{Kept}
-use Rattle.relay_core.specs.declared.kept.Spot.{Spot}
+use Rattle.relay_held.specs.declared.kept.Kept.{Kept}
+use Rattle.relay_held.specs.declared.kept.Spot.{Spot}
 use Rattle.relay_core.specs.State.{AreWeighed}
 use Rattle.relay_core.specs.Memory.{place_at, write_found, action_or, entry_of, entries, held_seen, IsKept, AllKept}
 use Rattle.relay_core.proofs.Launching.{Home, home_of}

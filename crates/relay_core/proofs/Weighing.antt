@@ -17,22 +17,8 @@ use Rattle.relay_core.specs.Rule.{by_answer, with_item, offered, item_of}
 use Rattle.relay_core.specs.State.{gathering, next_entries}
 use Rattle.relay_core.specs.Flights.{RequestsKeepLimits}
 use Rattle.relay_core.proofs.Flights.{earlier_ones_settled}
-use Rattle.relay_core.proofs.Forming.{items_of_operations, batch_offered}
-
--- ---- the limits
-
-by_keep : (limits : Limits) (x : Offer) (busy closed added : Gathering) → IsBatch limits busy.items → IsBatch limits closed.items → (x ≡ Added → IsBatch limits added.items) → IsBatch limits (by_answer x busy closed added).items
-by_keep limits Busy busy closed added b c a = b
-by_keep limits Closed busy closed added b c a = c
-by_keep limits Added busy closed added b c a = a refl
-
-offered_keep : (is : List BatchItem) (g : Gathering) → IsBatch g.limits g.items → IsBatch g.limits (offered is g).items
-offered_keep [] g b = b
-offered_keep (i ∷ is) g b =
-    by_keep g.limits (answer_to i g) (offered is g) g (offered is (with_item i g)) (offered_keep is g b) b (λ e. offered_keep is (with_item i g) (item_added g i e b))
-
-nothing_gathered : (limits : Limits) → IsBatch limits []
-nothing_gathered limits = record { distinct = λ i j d lt within. absurd (omega (arith, within)); counted = omega arith; weighed = λ more. absurd (omega (arith, more)) }
+use Rattle.relay_core.proofs.Forming.{items_of_operations}
+use Rattle.relay_core.proofs.Batched.{batch_kept}
 
 -- ---- the bytes
 
@@ -47,6 +33,6 @@ bytes_are (e ∷ es) h =
 
 pub requests_keep_limits : RequestsKeepLimits
 requests_keep_limits s items lane e = record {
-  batch = subst (IsBatch s.config.limits) (batch_offered s items e) (offered_keep (map item_of (candidates s.core)) (gathering s) (nothing_gathered s.config.limits));
+  batch = batch_kept s items e;
   bytes = ap bytes_of (items_of_operations s items e) ∙ bytes_are (next_entries s) (λ x m. let may = earlier_ones_settled s x m in lane.weighed x may.held may.waits);
 }

@@ -1,7 +1,6 @@
 -- Within which limits a relay works.
 use Rattle.std.specs.Prelude.{ℕ, Bool, ◌&&◌, nat_le}
 use Rattle.relay_batch.specs.declared.item.Limits.{Limits}
-use Rattle.relay_action.specs.Limits.{last_version}
 use Rattle.relay_core.specs.declared.config.RelayConfig.{RelayConfig}
 
 abbrev pub is_from_to : ℕ → ℕ → ℕ → Bool
@@ -21,4 +20,5 @@ is_valid c =
     && (are_valid_limits c.limits
     && (is_from_to 1 32 c.attempts
     && (is_from_to 1 1 c.in_flight
-    && is_from_to 1 last_version c.first_version))))))
+    && (nat_le c.epoch 4194303
+    && is_from_to 1 1099511627775 c.deal)))))))

@@ -1,5 +1,6 @@
 -- What stands in a lane's memory: how it is read, and what always holds of it.
-use Rattle.std.specs.Prelude.{◌≡◌, ℕ, ◌+◌, ◌-◌, ◌<◌, ◌≤◌, List, [], ◌∷◌, Option, Some, None, option_map, Bool, true, false, ◌==◌, ◌||◌, map, length, slice_get, if◌then◌else◌}
+pub use Rattle.relay_held.specs.Queues.{AllAbove, Rises, AllUnder}
+use Rattle.std.specs.Prelude.{◌≡◌, ℕ, ◌+◌, ◌-◌, ◌/◌, ◌<◌, ◌≤◌, List, [], ◌∷◌, Option, Some, None, option_map, Bool, true, false, ◌==◌, ◌||◌, map, length, slice_get, if◌then◌else◌}
 use Rattle.relay_action.specs.Actions.{kind_of}
 use Rattle.relay_action.specs.declared.write.Write.{Write}
 use Rattle.relay_action.specs.declared.action.Action.{Action}
@@ -13,8 +14,11 @@ use Rattle.relay_results.specs.declared.outcome.Outcome.{Outcome}
 use Rattle.relay_results.specs.Fates.{Tries, fate, fate_of_entry}
 use Rattle.relay_delivery.specs.Machine.{Place, Held}
 use Rattle.relay_delivery.specs.Lane.{Entry, Flying}
-use Rattle.relay_core.specs.declared.kept.Kept.{Kept}
-use Rattle.relay_core.specs.declared.kept.Spot.{Spot}
+use Rattle.relay_held.specs.declared.kept.Kept.{Kept}
+use Rattle.relay_core.specs.declared.fates.Way.{Way}
+use Rattle.relay_core.specs.declared.fates.Way.TheVariants as way
+use Rattle.relay_delivery.specs.Bound.{halvings}
+use Rattle.relay_held.specs.declared.kept.Spot.{Spot}
 use Rattle.relay_core.specs.declared.kept.Sent.{Sent}
 use Rattle.relay_core.specs.Walk.{flies_here, fate_or}
 
@@ -46,10 +50,10 @@ action_or None = Delete
 action_or (Some w) = w.action
 
 abbrev pub op_of : Kept → (ℕ → List Write) → Op
-op_of h f = record { producer = h.name.producer; number = h.name.number; key = h.key; action = action_or (write_found h.write h.flies f) }
+op_of h f = record { epoch = h.name.epoch; producer = h.name.producer; number = h.name.number; key = h.key; action = action_or (write_found h.write h.flies f) }
 
 abbrev pub held_seen : (ℕ → List Write) → Kept → Held
-held_seen f h = record { op = op_of h f; version = h.version; sends = h.sends; attempts = h.attempts; flies = option_map place_at h.flies }
+held_seen f h = record { op = op_of h f; version = h.version; sends = h.sends; attempts = h.attempts; cap = h.cap; flies = option_map place_at h.flies }
 
 abbrev pub entry_of : (ℕ → List Write) → Kept → Entry
 entry_of f h = record { held = held_seen f h; bytes = h.bytes; taken_at = h.taken_at; due = h.due }
@@ -94,6 +98,16 @@ Carries number place (h ∷ hs) ws =
     Given (flies_here number h.flies) (IsMet number place h ws)
     × Carries number (further (flies_here number h.flies) place) hs (rest_if (flies_here number h.flies) ws)
 
+-- those that fly in a request of so many keep its size within their caps
+abbrev pub HasRoom : ℕ → ℕ → List Kept → Type 0
+HasRoom number len [] = Unit {0}
+HasRoom number len (h ∷ hs) = Given (flies_here number h.flies) (1 < len → len ≤ h.cap) × HasRoom number len hs
+
+-- no request in flight has more writes than a cap can say
+abbrev pub AreFew : List Sent → Type 0
+AreFew [] = Unit {0}
+AreFew (x ∷ xs) = (length x.writes.items ≤ 4294967295) × AreFew xs
+
 -- what waits has its write, and tries left; what flies has it in its request
 abbrev pub IsHome : ℕ → ℕ → Kept → Option Write → Option Spot → Type 0
 IsHome max next h (Some w) None = IsWriteOf h w × (h.attempts < max)
@@ -103,24 +117,12 @@ IsHome max next h None (Some s) = (s.request < next) × (h.attempts ≤ max)
 
 pub record IsKept (max next : ℕ) (h : Kept) : Type 0 where
   pub home : IsHome max next h h.write h.flies
-  pub sends : h.sends ≤ h.attempts + 14
+  pub sends : h.sends + halvings h.cap ≤ h.attempts + 14  -- a cap falls at each send that does not count
   pub due : h.due ≤ 18446744073709551615
 
 abbrev pub AllKept : ℕ → ℕ → List Kept → Type 0
 AllKept max next [] = Unit {0}
 AllKept max next (h ∷ hs) = IsKept max next h × AllKept max next hs
-
-abbrev pub AllAbove : ℕ → List Kept → Type 0
-AllAbove v [] = Unit {0}
-AllAbove v (h ∷ hs) = (v < h.version) × AllAbove v hs
-
-abbrev pub Rises : List Kept → Type 0
-Rises [] = Unit {0}
-Rises (h ∷ hs) = AllAbove h.version hs × Rises hs
-
-abbrev pub AllUnder : ℕ → List Kept → Type 0
-AllUnder v [] = Unit {0}
-AllUnder v (h ∷ hs) = (h.version < v) × AllUnder v hs
 
 -- the requests in flight stand beside the batches in flight, one number off
 abbrev pub SameNumbers : List Sent → List (ℕ × List BatchItem) → Type 0
@@ -138,26 +140,35 @@ pub record IsReadable (max next : ℕ) (held : List Kept) (flown : List Sent) : 
   pub rises : Rises held
   pub once : NoneTwice flown
   pub carries : (n : ℕ) → Carries n 0 held (writes_in flown n)
+  pub caps : (n : ℕ) → HasRoom n (length (writes_in flown n)) held
+  pub few : AreFew flown
 
--- the tries that held operations have left
+-- the tries that held operations have left, and the halvings of their caps
 abbrev pub tries_left : ℕ → List Kept → ℕ
 tries_left max [] = 0
-tries_left max (h ∷ hs) = (max - h.attempts) + tries_left max hs
+tries_left max (h ∷ hs) = (max - h.attempts) + halvings h.cap + tries_left max hs
 
 -- ---- one by one
 
 -- by the status of the whole or the entries, an answer makes the same of each operation
-abbrev pub SaysAs : Answer → List Write → Option ℕ → List Outcome → Type 0
+abbrev pub SaysAs : Answer → List Write → Way → List Outcome → Type 0
 SaysAs a ws whole os = (t : Tries) (p : ℕ) (kind : ActionKind) → fate t ws p kind a ≡ fate_or whole (fate_of_entry t kind (slice_get os p))
 
+-- what is halved were two or more, and the cap is half as many
+abbrev pub IsHalf : Way → ℕ → Type 0
+IsHalf way.ByEntry len = Unit {0}
+IsHalf (way.Reported status) len = Unit {0}
+IsHalf (way.Halved cap) len = (2 ≤ len) × (cap ≡ len / 2)
+
 -- an operation as it is held when it is taken
-abbrev pub kept_new : Op → ℕ → ℕ → ℕ → Kept
-kept_new o version bytes clock = record {
-  name = record { producer = o.producer; number = o.number };
+abbrev pub kept_new : Op → ℕ → ℕ → ℕ → ℕ → Kept
+kept_new o version bytes clock cap = record {
+  name = record { epoch = o.epoch; producer = o.producer; number = o.number };
   key = o.key;
   kind = kind_of o.action;
   version = version;
   bytes = bytes;
+  cap = cap;
   taken_at = clock;
   due = clock;
   sends = 0;

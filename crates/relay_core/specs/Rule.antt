@@ -29,7 +29,7 @@ closes (i ∷ is) g = by_answer (answer_to i g) (closes is g) true (closes is (w
 
 -- its version numbers the document: nothing that is held of it is older
 abbrev pub item_of : Entry → BatchItem
-item_of e = record { name = name_of e.held.op; doc = e.held.version; version = e.held.version; bytes = e.bytes; taken_at = e.taken_at }
+item_of e = record { name = name_of e.held.op; doc = e.held.version; version = e.held.version; bytes = e.bytes; cap = e.held.cap; taken_at = e.taken_at }
 
 -- those that were added
 abbrev pub chosen : List Entry → Gathering → List Entry

@@ -10,12 +10,12 @@ use Rattle.relay_batch.specs.declared.item.BatchItem.{BatchItem}
 use Rattle.relay_batch.specs.Gathering.{Gathering}
 use Rattle.relay_flight.specs.Flying as flight
 use Rattle.relay_results.specs.Words.{Mem}
-use Rattle.relay_results.specs.Documents.{write_for}
+use Rattle.relay_results.specs.Documents.{document_of, write_for}
 use Rattle.relay_results.specs.Numbers.{from_zero}
 use Rattle.relay_results.specs.Outside.{Answer}
 use Rattle.relay_results.specs.Fates as fates
-use Rattle.relay_delivery.specs.Causes.{deals_from}
-use Rattle.relay_delivery.specs.Machine.{Config, version_at, write_of, how_many, is_applied_fate, is_already_fate}
+use Rattle.relay_held.specs.Queues.{distinct}
+use Rattle.relay_delivery.specs.Machine.{Config, Held, in_epoch, version_at, write_of, how_many, is_applied_fate, is_already_fate}
 use Rattle.relay_delivery.specs.Lane as delivery
 use Rattle.relay_core.specs.declared.config.RelayConfig.{RelayConfig}
 use Rattle.relay_core.specs.declared.settled.TakeFault.{TakeFault}
@@ -33,8 +33,14 @@ pub record State : Type 0 where
   pub closed : List Bool
   pub flights : flight.Flying
 
+-- A lane as contracts see it, in two parts: its state, and how many held operations its requests looked at. What a call
+-- says of the state says nothing of the looks.
+pub record Seen : Type 0 where
+  pub state : State
+  pub looks : ℕ
+
 abbrev pub config_of : RelayConfig → Config
-config_of c = record { first = c.first_version; deals = deals_from c.first_version; max = c.attempts }
+config_of c = in_epoch c.epoch c.deal c.attempts c.limits.count
 
 -- so many senders, none of which has closed
 abbrev pub none_closed : ℕ → List Bool
@@ -122,6 +128,14 @@ abbrev pub after_request : State → Option (List BatchItem) → State
 after_request s None = s
 after_request s (Some items) = record s { core = delivery.sent s.core (next_entries s); flights = flight.entered items s.flights }
 
+-- how many documents the held operations are of
+abbrev pub documents_of : State → ℕ
+documents_of s = distinct (map (λ (h : Held). document_of h.op.key) (delivery.held_of s.core.held))
+
+-- the looks, after one at each document; they stay at 2^64 - 1
+abbrev pub looked : Seen → ℕ
+looked v = min (v.looks + documents_of v.state) 18446744073709551615
+
 -- ---- reply, whole, lost
 
 abbrev pub is_flying : ℕ → State → Bool
@@ -139,6 +153,7 @@ is_reported_fate fates.Flies = false
 is_reported_fate fates.Applied = false
 is_reported_fate fates.Already = false
 is_reported_fate fates.Retried = false
+is_reported_fate (fates.Halved cap) = false
 is_reported_fate (fates.Reported cause) = true
 
 abbrev pub is_retried_fate : fates.Fate → Bool
@@ -146,6 +161,7 @@ is_retried_fate fates.Flies = false
 is_retried_fate fates.Applied = false
 is_retried_fate fates.Already = false
 is_retried_fate fates.Retried = true
+is_retried_fate (fates.Halved cap) = true
 is_retried_fate (fates.Reported cause) = false
 
 -- how many operations an answer makes this of
@@ -188,7 +204,7 @@ abbrev pub AreWeighed : List delivery.Entry → Type 0
 AreWeighed es = (e : delivery.Entry) → Mem e es → e.held.flies ≡ None → e.bytes ≡ length (write_text (write_of e.held))
 
 -- It works within its limits, has all its senders, and holds and sends no more than it may; requests are numbered one
--- after another, far below 2^63.
+-- after another, below 2^63.
 pub record IsLane (s : State) : Type 0 where
   pub valid : is_valid s.config ≡ true
   pub config : s.core.config ≡ config_of s.config
@@ -197,4 +213,4 @@ pub record IsLane (s : State) : Type 0 where
   pub weighed : AreWeighed s.core.held
   pub flying : length s.flights.batches ≤ s.config.in_flight
   pub next : s.flights.next ≡ s.core.requests + 1
-  pub numbers : s.core.requests ≤ 2 ^ 61
+  pub numbers : s.core.requests ≤ 2 ^ 62

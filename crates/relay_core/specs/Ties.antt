@@ -7,6 +7,7 @@ use Rattle.relay_batch.specs.declared.item.BatchItem.{BatchItem}
 use Rattle.relay_results.specs.Documents.{Document}
 use Rattle.relay_results.specs.Numbers.{from_zero}
 use Rattle.relay_results.specs.Outside.{Answer, Outside, Ran, Sends, Runs, Answers, IsOpening, MayRun, MayAnswer, after}
+use Rattle.relay_delivery.specs.Machine.{first_in}
 use Rattle.relay_delivery.specs.Lane as delivery
 use Rattle.relay_delivery.specs.Lane.{writes_of_all}
 use Rattle.relay_core.specs.declared.config.RelayConfig.{RelayConfig}
@@ -27,7 +28,7 @@ ops_of body.Done = []
 abbrev pub FreshFits : Type 0
 FreshFits =
     (c : RelayConfig) (out : Outside) → IsOpening out →
-    ((k : Document) (u : ℕ) → out.stored k ≡ Some u → u < c.first_version) →
+    ((k : Document) (u : ℕ) → out.stored k ≡ Some u → u < first_in c.epoch) →
     Fits (fresh c) [] out
 
 abbrev pub TakeFits : Type 0

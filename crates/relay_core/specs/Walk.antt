@@ -1,5 +1,7 @@
 -- The held list as it stands in memory, and the walks over it.
-use Rattle.std.specs.Prelude.{ℕ, ◌+◌, List, [], ◌∷◌, ◌++◌, Option, Some, None, Bool, true, false, ◌&&◌, ◌==◌, not, nat_lt, nat_le, drop, filter, map, slice_get, option_to_list, if◌then◌else◌}
+pub use Rattle.relay_held.specs.Kept.{waits_here, more, launch_one, back_at, halved_at}
+pub use Rattle.relay_held.specs.Queues.{with_first, without_first, first_of, OnlyFirstsFly, is_of, is_later_kept, is_candidate_kept, is_eligible_kept, first_due_kept}
+use Rattle.std.specs.Prelude.{ℕ, ◌+◌, ◌-◌, List, [], ◌∷◌, ◌++◌, Option, Some, None, Bool, true, false, ◌&&◌, ◌==◌, not, nat_lt, nat_le, drop, filter, map, slice_get, option_to_list, if◌then◌else◌}
 use Rattle.std.specs.List.{list_any}
 use Rattle.relay_action.specs.declared.write.Write.{Write}
 use Rattle.relay_batch.specs.declared.item.BatchItem.{BatchItem}
@@ -10,51 +12,29 @@ use Rattle.relay_results.specs.Fates as of
 use Rattle.relay_delivery.specs.Machine as machine
 use Rattle.relay_delivery.specs.Lane.{backoff}
 use Rattle.relay_results.specs.declared.cause.Cause.TheVariants as cause
-use Rattle.relay_core.specs.State.{sooner}
-use Rattle.relay_core.specs.declared.kept.Kept.{Kept}
-use Rattle.relay_core.specs.declared.kept.Spot.{Spot}
+use Rattle.relay_held.specs.declared.kept.Kept.{Kept}
+use Rattle.relay_held.specs.declared.kept.Spot.{Spot}
 use Rattle.relay_core.specs.declared.fates.Fate.{Fate}
 use Rattle.relay_core.specs.declared.fates.Fate.TheVariants as code
+use Rattle.relay_core.specs.declared.fates.Way.{Way}
+use Rattle.relay_core.specs.declared.fates.Way.TheVariants as way
 use Rattle.relay_core.specs.declared.report.Report.{Report}
-
-abbrev pub waits_here : Option Spot → Bool
-waits_here None = true
-waits_here (Some s) = false
 
 abbrev pub flies_here : ℕ → Option Spot → Bool
 flies_here number None = false
 flies_here number (Some s) = s.request == number
 
-abbrev pub is_later_kept : List Kept → Document → ℕ → Bool
-is_later_kept hs k version = list_any (λ (h : Kept). same_document (document_of h.key) k && nat_lt h.version version) hs
-
-abbrev pub is_candidate_kept : List Kept → ℕ → Kept → Bool
-is_candidate_kept hs clock h = waits_here h.flies && (nat_le h.due clock && not (is_later_kept hs (document_of h.key) h.version))
-
-abbrev pub is_eligible_kept : List Kept → Kept → Bool
-is_eligible_kept hs h = waits_here h.flies && not (is_later_kept hs (document_of h.key) h.version)
-
-abbrev pub first_due_kept : List Kept → Option ℕ
-first_due_kept [] = None
-first_due_kept (h ∷ hs) = sooner h.due (first_due_kept hs)
-
 abbrev pub item_of_kept : Kept → BatchItem
-item_of_kept h = record { name = h.name; doc = h.version; version = h.version; bytes = h.bytes; taken_at = h.taken_at }
+item_of_kept h = record { name = h.name; doc = h.version; version = h.version; bytes = h.bytes; cap = h.cap; taken_at = h.taken_at }
 
 abbrev pub items_of_kept : List Kept → ℕ → List Kept → List BatchItem
 items_of_kept hs clock rest = map item_of_kept (filter (is_candidate_kept hs clock) rest)
 
 -- ---- a batch is sent
 
-abbrev pub more : ℕ → ℕ
-more n = if nat_lt n 4294967295 then n + 1 else n
-
 abbrev pub is_next : List BatchItem → Kept → Bool
 is_next [] h = false
 is_next (i ∷ is) h = (h.version == i.version) && waits_here h.flies
-
-abbrev pub launch_one : ℕ → ℕ → Kept → Kept
-launch_one number place h = record h { sends = more h.sends; attempts = more h.attempts; flies = Some (record { request = number; place = place }); write = None }
 
 abbrev pub launched_kept : List Kept → ℕ → ℕ → List BatchItem → List Kept
 launched_kept [] number place is = []
@@ -67,22 +47,24 @@ freight (h ∷ hs) is = if is_next is h then option_to_list h.write ++ freight h
 
 -- ---- an answer comes
 
--- by the status of the whole, where it is reported, else by its entry
-abbrev pub fate_or : Option ℕ → of.Fate → of.Fate
-fate_or None f = f
-fate_or (Some status) f = of.Reported (cause.Request status)
+-- by what the status of the whole says, else by its entry
+abbrev pub fate_or : Way → of.Fate → of.Fate
+fate_or way.ByEntry f = f
+fate_or (way.Reported status) f = of.Reported (cause.Request status)
+fate_or (way.Halved cap) f = of.Halved cap
 
 -- what the code's words say
 abbrev pub said : Fate → of.Fate
 said code.Applied = of.Applied
 said code.Already = of.Already
 said code.Retried = of.Retried
+said (code.Halved cap) = of.Halved cap
 said (code.Reported c) = of.Reported c
 
 abbrev pub report_of : Report → machine.Report
 report_of r = record { name = r.name; document = document_of r.key; cause = r.cause }
 
-abbrev pub fate_met : ℕ → Option ℕ → Kept → List Outcome → of.Fate
+abbrev pub fate_met : ℕ → Way → Kept → List Outcome → of.Fate
 fate_met max whole h os = fate_or whole (fate_of_entry (record { sends = h.sends; attempts = h.attempts; max = max }) h.kind (slice_get os 0))
 
 abbrev pub stays : of.Fate → Bool
@@ -90,16 +72,21 @@ stays of.Flies = true
 stays of.Applied = false
 stays of.Already = false
 stays of.Retried = true
+stays (of.Halved cap) = true
 stays (of.Reported c) = false
 
 abbrev pub back : ℕ → Write → Kept → Kept
 back clock w h = record h { flies = None; due = backoff clock h.attempts; write = Some w }
+
+abbrev pub back_halved : ℕ → ℕ → Write → Kept → Kept
+back_halved clock cap w h = record h { flies = None; attempts = h.attempts - 1; cap = cap; due = clock; write = Some w }
 
 abbrev pub met_one : ℕ → of.Fate → Write → Kept → Kept
 met_one clock of.Flies w h = h
 met_one clock of.Applied w h = h
 met_one clock of.Already w h = h
 met_one clock of.Retried w h = back clock w h
+met_one clock (of.Halved cap) w h = back_halved clock cap w h
 met_one clock (of.Reported c) w h = h
 
 abbrev pub reports_one : of.Fate → Kept → Write → List machine.Report
@@ -107,6 +94,7 @@ reports_one of.Flies h w = []
 reports_one of.Applied h w = []
 reports_one of.Already h w = []
 reports_one of.Retried h w = []
+reports_one (of.Halved cap) h w = []
 reports_one (of.Reported c) h w = record { name = h.name; document = document_of w.key; cause = c } ∷ []
 
 abbrev pub met_list : ℕ → of.Fate → Write → List Kept → List Kept
@@ -135,23 +123,37 @@ tally_maybe p f None = 0
 tally_maybe p f (Some w) = tally (p f)
 
 -- those that fly in a request meet its writes and the entries of its reply, one after another
-abbrev pub kept_walk : List Kept → ℕ → ℕ → ℕ → Option ℕ → List Write → List Outcome → List Kept
+abbrev pub kept_walk : List Kept → ℕ → ℕ → ℕ → Way → List Write → List Outcome → List Kept
 kept_walk [] max clock number whole ws os = []
 kept_walk (h ∷ hs) max clock number whole ws os =
     if flies_here number h.flies
     then met_maybe clock (fate_met max whole h os) (slice_get ws 0) (h ∷ []) ++ kept_walk hs max clock number whole (drop 1 ws) (drop 1 os)
     else h ∷ kept_walk hs max clock number whole ws os
 
-abbrev pub reports_walk : List Kept → ℕ → ℕ → Option ℕ → List Write → List Outcome → List machine.Report
+abbrev pub reports_walk : List Kept → ℕ → ℕ → Way → List Write → List Outcome → List machine.Report
 reports_walk [] max number whole ws os = []
 reports_walk (h ∷ hs) max number whole ws os =
     if flies_here number h.flies
     then reports_maybe (fate_met max whole h os) (slice_get ws 0) (h ∷ []) ++ reports_walk hs max number whole (drop 1 ws) (drop 1 os)
     else reports_walk hs max number whole ws os
 
-abbrev pub tally_walk : (of.Fate → Bool) → List Kept → ℕ → ℕ → Option ℕ → List Write → List Outcome → ℕ
+abbrev pub tally_walk : (of.Fate → Bool) → List Kept → ℕ → ℕ → Way → List Write → List Outcome → ℕ
 tally_walk p [] max number whole ws os = 0
 tally_walk p (h ∷ hs) max number whole ws os =
     if flies_here number h.flies
     then tally_maybe p (fate_met max whole h os) (slice_get ws 0) + tally_walk p hs max number whole (drop 1 ws) (drop 1 os)
     else tally_walk p hs max number whole ws os
+
+-- ---- one by one
+
+-- what an answer makes of the operation that is the first of its document
+abbrev pub fate_one : ℕ → Way → Kept → Option Outcome → of.Fate
+fate_one max whole h entry = fate_or whole (fate_of_entry (record { sends = h.sends; attempts = h.attempts; max = max }) h.kind entry)
+
+abbrev pub after_one : ℕ → Write → List Kept → of.Fate → List Kept
+after_one clock w hs of.Flies = hs
+after_one clock w hs of.Applied = without_first w.key hs
+after_one clock w hs of.Already = without_first w.key hs
+after_one clock w hs of.Retried = with_first w.key (back clock w) hs
+after_one clock w hs (of.Halved cap) = with_first w.key (back_halved clock cap w) hs
+after_one clock w hs (of.Reported c) = without_first w.key hs

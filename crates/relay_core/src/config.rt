@@ -1,10 +1,9 @@
 //! How a relay works, within its limits.
 ghost use Rattle.std.specs.Prelude.{◌≡◌, ◌≤◌};
 ghost use Rattle.relay_core.specs.Limits.{is_from_to, are_valid_limits, is_valid};
-ghost use Rattle.relay_delivery.specs.Causes.{deals_from};
+ghost use Rattle.relay_delivery.specs.Machine.{first_in};
 
 use relay_batch::Limits;
-use relay_ndjson::LAST_VERSION;
 
 /// The most lanes.
 pub const LANE_LIMIT: u32 = 8;
@@ -36,8 +35,11 @@ pub const ATTEMPT_LIMIT: u32 = 32;
 /// The most requests of a lane that fly at one time. Lanes work with any number; only one is valid yet.
 pub const FLYING_LIMIT: u32 = 1;
 
-/// The most versions that a lane deals, 2^56.
-pub const DEAL_LIMIT: u64 = 72_057_594_037_927_936;
+/// The last epoch.
+pub const EPOCH_LIMIT: u32 = 4_194_303;
+
+/// The most versions that a lane deals in an epoch, 2^40 - 1.
+pub const DEAL_LIMIT: u64 = 1_099_511_627_775;
 
 /// How a relay works.
 #[derive(Clone, Copy, Debug, PartialEq, Eq)]
@@ -57,8 +59,11 @@ pub struct RelayConfig {
     pub attempts: u32,
     /// How many requests of a lane fly at most: 1.
     pub in_flight: u32,
-    /// The version that a lane deals first: 1 to 9,000,000,000,000,000,000.
-    pub first_version: u64,
+    /// The epoch, above those of all earlier incarnations: 0 to 4,194,303. A version is the epoch times
+    /// 2^40, and a count from 1 in each lane.
+    pub epoch: u32,
+    /// How many versions a lane deals: 1 to 1,099,511,627,775.
+    pub deal: u64,
 }
 
 // Whether a number is in a range.
@@ -77,13 +82,12 @@ fn are_valid(limits: Limits) -> bool
         && limits.linger <= LINGER_LIMIT
 }
 
-// How many versions a lane deals, from the first one on.
-pub(crate) fn deals(first: u64) -> u64
-    requires least { 1 ≤ first }
-    requires most { first ≤ 9000000000000000000 }
-    ensures { result ≡ deals_from first }
+// The first version of an epoch.
+pub(crate) fn first_in(epoch: u32) -> u64
+    requires { epoch ≤ 4194303 }
+    ensures { result ≡ first_in epoch }
 {
-    DEAL_LIMIT.min(LAST_VERSION + 1 - first)
+    u64::from(epoch) * (DEAL_LIMIT + 1) + 1
 }
 
 impl RelayConfig {
@@ -98,6 +102,7 @@ impl RelayConfig {
             && are_valid(self.limits)
             && is_from_to(1, ATTEMPT_LIMIT as u64, self.attempts as u64)
             && is_from_to(1, FLYING_LIMIT as u64, self.in_flight as u64)
-            && is_from_to(1, LAST_VERSION, self.first_version)
+            && self.epoch <= EPOCH_LIMIT
+            && is_from_to(1, DEAL_LIMIT, self.deal)
     }
 }

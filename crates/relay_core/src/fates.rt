@@ -7,6 +7,17 @@ use crate::kept::Kept;
 use relay_action::{ActionKind, Text};
 use relay_results::{Cause, ItemVerdict, Outcome, verdict};
 
+/// What the answer of a whole request makes of its operations.
+#[derive(Clone, Copy, Debug)]
+pub enum Way {
+    /// Each goes by its entry, and where it has none it is tried again.
+    ByEntry,
+    /// Each is reported with this status.
+    Reported(u16),
+    /// Each waits to be sent again, in requests of at most so many.
+    Halved(u32),
+}
+
 /// What becomes of an operation when the answer of its request comes.
 #[derive(Debug, Drop)]
 pub enum Fate {
@@ -16,6 +27,8 @@ pub enum Fate {
     Already,
     /// It waits to be sent again.
     Retried,
+    /// It waits to be sent again under this cap, and its try is given back.
+    Halved(u32),
     /// It ends with a report.
     Reported(Cause),
 }
@@ -62,15 +75,16 @@ fn fate_next(kind: ActionKind, entry: Option<Outcome>, sends: u32, attempts: u32
     }
 }
 
-/// What an answer makes of a held operation: the status of the whole request, where it is reported; else
+/// What an answer makes of a held operation: what the status of the whole request says, or else
 /// its entry, and where it has none it is tried again. It takes no memory.
-pub(crate) fn fate_in(one: &Kept, whole: Option<u16>, entry: Option<Outcome>, max: u32) -> Fate
+pub(crate) fn fate_in(one: &Kept, whole: Way, entry: Option<Outcome>, max: u32) -> Fate
     ensures { said result
         ≡ fate_or whole
         (fate_of_entry (record { sends = one.now.sends; attempts = one.now.attempts; max = max }) one.now.kind entry) }
 {
     match whole {
-        Some(status) => Fate::Reported(Cause::Request { status }),
-        None => fate_next(one.kind, entry, one.sends, one.attempts, max),
+        Way::Reported(status) => Fate::Reported(Cause::Request { status }),
+        Way::Halved(cap) => Fate::Halved(cap),
+        Way::ByEntry => fate_next(one.kind, entry, one.sends, one.attempts, max),
     }
 }

@@ -1,28 +1,30 @@
 //! The lane.
-ghost use Rattle.std.specs.Prelude.{◌≡◌, ◌≢◌, unwrap_or, ◌≤◌, ◌<◌, ◌+◌, ◌-◌, ◌++◌, ◌∷◌, [], true, Some, None, IfOk, OnOk, OnErr, IfErr, IfSome, OnSome, IfNone, map, option_map, is_some, is_ok, if◌then◌else◌, length, vec_len, vec_capacity};
+ghost use Rattle.std.specs.Prelude.{◌≡◌, ◌≢◌, unwrap_or, ◌≤◌, ◌<◌, ◌+◌, ◌-◌, ◌/◌, ◌++◌, ◌∷◌, [], true, Some, None, IfOk, OnOk, OnErr, IfErr, IfSome, OnSome, IfNone, map, option_map, is_some, is_ok, if◌then◌else◌, length, vec_len, vec_capacity};
 ghost use Rattle.std.specs.List.{list_all};
 ghost use Rattle.relay_results.specs.Numbers.{from_zero};
 ghost use Rattle.relay_results.specs.Outside.{Answer, Lost, Whole, Items};
 ghost use Rattle.relay_results.specs.Matching.{matches};
-ghost use Rattle.relay_results.specs.Verdicts.{is_retried_whole};
+ghost use Rattle.relay_results.specs.Verdicts.{is_halved, is_retried_whole};
 ghost use Rattle.relay_flight.specs.Flying.{batch_at};
 ghost use Rattle.relay_delivery.specs.Lane.{candidates};
 ghost use Rattle.relay_core.specs.Limits.{is_valid};
 ghost use Rattle.relay_core.specs.Walk.{report_of};
-ghost use Rattle.relay_core.specs.Memory.{SaysAs};
-ghost use Rattle.relay_core.specs.State.{fresh, taken, after_take, take_fault, is_put, all_closed, later, ticked, flushed, is_flying, writes_of, answered, AreCounts, next_batch, after_request, due_in, is_finished, IsLane};
+ghost use Rattle.relay_core.specs.Memory.{SaysAs, IsHalf};
+ghost use Rattle.relay_core.specs.State.{fresh, taken, after_take, take_fault, is_put, all_closed, later, ticked, flushed, is_flying, writes_of, answered, AreCounts, next_batch, after_request, looked, due_in, is_finished, IsLane};
 
-use crate::config::{RelayConfig, deals};
+use crate::config::{RelayConfig, first_in};
+use crate::fates::Way;
 use crate::flown::{find_writes, settle_flown};
-use crate::gather::{Due, due_batch, first_due, is_roomy, less, no_room};
-use crate::kept::{Kept, Sent};
+use crate::gather::{Due, due_batch, is_roomy, less, no_room};
+use crate::kept::Sent;
 use crate::launch::launch;
 use crate::report::Report;
 use crate::settled::{NotFlying, Settled, TakeFault, Totals};
-use crate::taking::{NoRoom, kept_of, make_room, refused};
+use crate::taking::{NoRoom, kept_of, make_room, op_of, refused};
 use relay_action::{Body, Mail, Op, Write};
-use relay_batch::{Batch, BatchItem, Room};
+use relay_batch::{BatchItem, Room};
 use relay_flight::Flight;
+use relay_held::{Held, NotHeld};
 use relay_results::{Cause, Outcome, matches};
 use std::alloc::{AllocError, Global};
 use std::marker::Model;
@@ -32,7 +34,8 @@ use std::marker::Model;
 pub struct Lane {
     alloc: Global,
     config: RelayConfig,
-    deals: u64,
+    // The first version that it deals.
+    first: u64,
     clock: u64,
     mark: u64,
     taken: u64,
@@ -41,19 +44,21 @@ pub struct Lane {
     closed: Vec<bool>,
     // Where there is room, no batch is due before more than this was taken.
     room: Room,
-    held: Vec<Kept>,
+    held: Held,
     flight: Flight,
     flown: Vec<Sent>,
     reports: Vec<Report>,
+    // How many held operations `request` looked at, to see whether they may be sent.
+    looks: u64,
 }
 
 impl Model for Lane {
-    ghost use Rattle.relay_core.specs.State.{State};
-    ghost use Rattle.relay_core.specs.View.{seen, IsSound};
+    ghost use Rattle.relay_core.specs.State.{Seen};
+    ghost use Rattle.relay_core.specs.View.{shown, IsSound};
 
-    ghost Value = { State };
+    ghost Value = { Seen };
 
-    ghost view = { seen };
+    ghost view = { shown };
 
     ghost invariant = { IsSound };
 }
@@ -70,13 +75,16 @@ fn one_later(n: u64) -> u64
     if n < u64::MAX { n + 1 } else { n }
 }
 
-// The status that is reported, unless the whole is tried again.
-fn reported_status(status: u16) -> Option<u16>
-    ensures { result ≡ (if is_retried_whole status then None else Some status) }
+// What the status of a whole request of so many items makes of each.
+fn way_of(status: u16, items: usize) -> Way
+    requires { items ≤ 4294967295 }
+    ensures { result ≡ (if is_halved items status then Way.Halved (items / 2)
+        else if is_retried_whole status then Way.ByEntry else Way.Reported status) }
 {
     match status {
-        429 | 502 | 503 | 504 => None,
-        _ => Some(status),
+        413 if items >= 2 => Way::Halved((items / 2) as u32),
+        429 | 502 | 503 | 504 => Way::ByEntry,
+        _ => Way::Reported(status),
     }
 }
 
@@ -86,12 +94,12 @@ impl Lane {
     /// places in flight or for the senders.
     pub fn new(alloc: Global, config: RelayConfig) -> Result<Lane, AllocError>
         requires { is_valid config ≡ true }
-        ensures { IfOk result (λ l. l ≡ fresh config) }
+        ensures { IfOk result (λ l. l ≡ record { state = fresh config; looks = 0 }) }
     {
         Ok(Lane {
             alloc,
             config,
-            deals: deals(config.first_version),
+            first: first_in(config.epoch),
             clock: 0,
             mark: 0,
             taken: 0,
@@ -99,16 +107,18 @@ impl Lane {
             already: 0,
             closed: vec![in alloc; false; config.producers as usize + 1]?,
             room: no_room(),
-            held: Vec::new(alloc),
+            held: Held::new(alloc),
             flight: Flight::new(alloc, config.in_flight)?,
             flown: Vec::with_capacity(alloc, config.in_flight as usize)?,
             reports: Vec::new(alloc),
+            looks: 0,
         })
     }
 
     /// A tick of the clock passes. The clock stays at 2^64 - 1.
     pub fn tick(&mut self)
-        ensures { self.new ≡ ticked self.old }
+        ensures ticked { self.new.state ≡ ticked self.old.state }
+        ensures looks { self.new.looks ≡ self.old.looks }
     {
         self.room = no_room();
         self.clock = one_later(self.clock);
@@ -117,52 +127,53 @@ impl Lane {
     /// Sets the flush mark to the last version dealt: what was taken until now is to be sent, full batch
     /// or not. Where none was dealt it does nothing.
     pub fn flush(&mut self)
-        ensures { self.new ≡ flushed self.old }
+        ensures flushed { self.new.state ≡ flushed self.old.state }
+        ensures looks { self.new.looks ≡ self.old.looks }
     {
         self.room = no_room();
         if self.taken > 0 {
-            self.mark = self.config.first_version + self.taken.min(self.deals) - 1;
+            self.mark = self.first + self.taken.min(self.config.deal) - 1;
         }
     }
 
     /// Whether each sender's Done was taken.
     pub fn closed(&self) -> bool
-        ensures { result ≡ all_closed self.now }
+        ensures { result ≡ all_closed self.now.state }
     {
         are_closed(&self.closed)
     }
 
     /// How many senders it has: the producers and the control.
     pub fn senders(&self) -> u32
-        ensures { result ≡ length self.now.closed }
+        ensures { result ≡ length self.now.state.closed }
     {
         self.closed.len() as u32
     }
 
     /// How many operations it holds at most.
     pub fn max_held(&self) -> u32
-        ensures { result ≡ self.now.config.max_held }
+        ensures { result ≡ self.now.state.config.max_held }
     {
         self.config.max_held
     }
 
     /// How many operations are held.
     pub fn held(&self) -> u32
-        ensures { result ≡ length self.now.core.held }
+        ensures { result ≡ length self.now.state.core.held }
     {
         self.held.len() as u32
     }
 
     /// The reports, in the order in which they arose.
     pub fn reports(&self) -> &[Report]
-        ensures { map report_of result.now ≡ self.now.core.reports }
+        ensures { map report_of result.now ≡ self.now.state.core.reports }
     {
         self.reports.as_slice()
     }
 
     /// The reports, where the lane itself is not needed any more.
     pub fn into_reports(self) -> Vec<Report>
-        ensures { map report_of result.items ≡ self.core.reports }
+        ensures { map report_of result.items ≡ self.state.core.reports }
     {
         let Lane { reports, .. } = self;
         reports
@@ -170,12 +181,12 @@ impl Lane {
 
     /// What was taken, applied and sent since the lane was made.
     pub fn totals(&self) -> Totals
-        ensures lane { IsLane self.now }
+        ensures lane { IsLane self.now.state }
         ensures totals { result ≡ record {
-          taken = self.now.core.taken;
-          applied = self.now.core.applied;
-          already = self.now.core.already;
-          requests = self.now.core.requests;
+          taken = self.now.state.core.taken;
+          applied = self.now.state.core.applied;
+          already = self.now.state.core.already;
+          requests = self.now.state.core.requests;
         } }
     {
         Totals {
@@ -189,17 +200,25 @@ impl Lane {
     /// How many ticks have to pass until the first eligible operation is due: one that waits, and that has
     /// no older one of its document before it. 0 where one is due, `None` where none is eligible.
     pub fn due_in(&self) -> Option<u64>
-        ensures { result ≡ due_in self.now }
+        ensures { result ≡ due_in self.now.state }
     {
-        match first_due(&self.held) {
+        match self.held.first_due() {
             Some(due) => Some(due.saturating_sub(self.clock)),
             None => None,
         }
     }
 
+    /// How many held operations were looked at, to see whether they may be sent, since the lane was made. It
+    /// stays at 2^64 - 1.
+    pub fn looks(&self) -> u64
+        ensures { result ≡ self.now.looks }
+    {
+        self.looks
+    }
+
     /// Whether each sender has closed and nothing is held.
     pub fn finished(&self) -> bool
-        ensures { result ≡ is_finished self.now }
+        ensures { result ≡ is_finished self.now.state }
     {
         self.closed() && self.held() == 0
     }
@@ -209,15 +228,16 @@ impl Lane {
 impl Lane {
     // Takes an operation that there is a place for.
     fn take_put(&mut self, op: Op) -> Result<(), NoRoom>
-        requires { length self.old.core.held < self.old.config.max_held }
-        ensures ok { OnOk result (self.new ≡ taken self.old op) }
+        requires { length self.old.state.core.held < self.old.state.config.max_held }
+        ensures ok { OnOk result (self.new.state ≡ taken self.old.state op) }
         ensures unchanged { OnErr result (self.new ≡ self.old) }
         ensures back { IfErr result (λ e. e.op ≡ op) }
+        ensures looks { self.new.looks ≡ self.old.looks }
     {
-        if make_room(&mut self.held, &mut self.reports).is_err() {
+        if make_room(&self.held, &mut self.reports).is_err() {
             return Err(NoRoom { op });
         }
-        if self.taken >= self.deals {
+        if self.taken >= self.config.deal {
             let name = op.name();
             self.reports.push_reserved(Report {
                 name,
@@ -230,12 +250,17 @@ impl Lane {
         let Ok(key) = op.key.copy() else {
             return Err(NoRoom { op });
         };
-        let version = self.config.first_version + self.taken;
-        let kept = kept_of(op, key, version, self.clock);
-        self.room = less(self.room, kept.bytes);
-        self.held.push_reserved(kept);
-        self.taken += 1;
-        Ok(())
+        let version = self.first + self.taken;
+        let kept = kept_of(op, key, version, self.clock, self.config.limits.count);
+        let room = less(self.room, kept.bytes);
+        match self.held.push(kept) {
+            Ok(()) => {
+                self.room = room;
+                self.taken += 1;
+                Ok(())
+            }
+            Err(NotHeld { one }) => Err(NoRoom { op: op_of(one) }),
+        }
     }
 
     /// Takes a message of a known sender. An operation is dealt the next version and held, or reported as
@@ -244,13 +269,14 @@ impl Lane {
     /// [`TakeFault`], the first that holds, `Memory` of an operation alone; the message comes back then,
     /// and the lane is as before.
     pub fn take(&mut self, mail: Mail) -> Result<(), (TakeFault, Mail)>
-        requires { mail.sender < length self.old.closed }
-        ensures ok { OnOk result (self.new ≡ after_take self.old mail.sender mail.body) }
+        requires { mail.sender < length self.old.state.closed }
+        ensures ok { OnOk result (self.new.state ≡ after_take self.old.state mail.sender mail.body) }
         ensures unchanged { OnErr result (self.new ≡ self.old) }
+        ensures looks { self.new.looks ≡ self.old.looks }
         ensures back { IfErr result (λ e. e.1 ≡ mail) }
-        ensures accepted { OnOk result (take_fault self.old mail.sender mail.body ≡ None) }
+        ensures accepted { OnOk result (take_fault self.old.state mail.sender mail.body ≡ None) }
         ensures refused { IfErr result (λ e. e.0
-            ≡ unwrap_or (take_fault self.old mail.sender mail.body) TakeFault.Memory) }
+            ≡ unwrap_or (take_fault self.old.state mail.sender mail.body) TakeFault.Memory) }
         ensures room { IfErr result (λ e. e.0 ≡ TakeFault.Memory → is_put mail.body ≡ true) }
     {
         let Mail {
@@ -295,52 +321,6 @@ impl Lane {
 
 // Requests are formed.
 impl Lane {
-    // The batch that is to be sent now, if one is.
-    fn next_batch(&mut self) -> Result<Option<Batch>, AllocError>
-        ensures same { self.new ≡ self.old }
-        ensures batch { IfOk result (λ b. b ≡ next_batch self.old) }
-        ensures place { OnErr result (length self.old.flights.batches < self.old.config.in_flight) }
-        ensures candidates { OnErr result (0 < length (candidates self.old.core)) }
-        ensures free { IfOk result (λ b. IfSome b (λ x. length self.old.flights.batches < self.old.config.in_flight)) }
-    {
-        if is_roomy(self.room) {
-            return Ok(None);
-        }
-        if self.flight.flying() >= self.config.in_flight {
-            return Ok(None);
-        }
-        let Due { batch, room } = due_batch(
-            self.alloc,
-            &self.held,
-            self.clock,
-            self.mark,
-            self.closed(),
-            self.config.limits,
-        )?;
-        self.room = room;
-        Ok(batch)
-    }
-
-    // Lets a batch fly: its operations are sent, and their writes go into the request.
-    fn enter(&mut self, batch: Batch, writes: Vec<Write>) -> u64
-        requires next { next_batch self.old ≡ Some batch }
-        requires none { writes.items ≡ [] }
-        requires room { vec_len writes + length batch ≤ vec_capacity writes }
-        ensures number { result ≡ self.old.flights.next }
-        ensures after { self.new ≡ after_request self.old (Some batch) }
-    {
-        let mut writes = writes;
-        self.room = no_room();
-        let number = self.flight.next();
-        launch(&mut self.held, number - 1, batch.items(), &mut writes);
-        let _ = self.flight.enter(batch);
-        self.flown.push_reserved(Sent {
-            number: number - 1,
-            writes,
-        });
-        number
-    }
-
     /// Forms the next request and gives its number, 1 for the first and one more each time. `None` where
     /// as many fly as may, or where no batch is to be sent: the operations that wait, are due, and have
     /// no older one of their document before them are gathered in rising version until the batch is
@@ -348,24 +328,60 @@ impl Lane {
     /// of them has one send and one attempt more. `AllocError`: there was no memory for the batch or for
     /// its writes, and the lane is as before; a place was free then, and some operation may be sent.
     pub fn request(&mut self) -> Result<Option<u64>, AllocError>
-        ensures when { IfOk result (λ o. is_some o ≡ is_some (next_batch self.old)) }
-        ensures number { IfOk result (λ o. IfSome o (λ n. n ≡ self.old.flights.next)) }
-        ensures after { OnOk result (self.new ≡ after_request self.old (next_batch self.old)) }
-        ensures unchanged { OnErr result (self.new ≡ self.old) }
-        ensures place { OnErr result (length self.old.flights.batches < self.old.config.in_flight) }
-        ensures candidates { OnErr result (0 < length (candidates self.old.core)) }
+        ensures when { IfOk result (λ o. is_some o ≡ is_some (next_batch self.old.state)) }
+        ensures number { IfOk result (λ o. IfSome o (λ n. n ≡ self.old.state.flights.next)) }
+        ensures after { OnOk result (self.new.state ≡ after_request self.old.state (next_batch self.old.state)) }
+        ensures unchanged { OnErr result (self.new.state ≡ self.old.state) }
+        ensures looks { self.new.looks ≤ looked self.old }
+        ensures looks_rise { self.old.looks ≤ self.new.looks }
+        ensures looks_sent { IfOk result (λ o. OnSome o (self.new.looks ≡ looked self.old)) }
+        ensures looks_failed { OnErr result (self.new.looks ≡ looked self.old) }
+        ensures place { OnErr result (length self.old.state.flights.batches < self.old.state.config.in_flight) }
+        ensures candidates { OnErr result (0 < length (candidates self.old.state.core)) }
     {
-        let Some(batch) = self.next_batch()? else {
+        if is_roomy(self.room) {
+            return Ok(None);
+        }
+        if self.flight.flying() >= self.config.in_flight {
+            return Ok(None);
+        }
+        let all_closed = self.closed();
+        self.looks = self.looks.saturating_add(self.held.documents() as u64);
+        let Due { batch, heads, room } = due_batch(
+            self.alloc,
+            &self.held,
+            self.clock,
+            self.mark,
+            all_closed,
+            self.config.limits,
+        )?;
+        let Some(batch) = batch else {
+            self.room = room;
             return Ok(None);
         };
-        let writes = Vec::with_capacity(self.alloc, batch.items().len())?;
-        Ok(Some(self.enter(batch, writes)))
+        let mut writes = Vec::with_capacity(self.alloc, batch.items().len())?;
+        self.room = no_room();
+        let number = self.flight.next();
+        launch(
+            &mut self.held,
+            number - 1,
+            self.clock,
+            &heads,
+            batch.items().len(),
+            &mut writes,
+        );
+        let _ = self.flight.enter(batch);
+        self.flown.push_reserved(Sent {
+            number: number - 1,
+            writes,
+        });
+        Ok(Some(number))
     }
 
     /// The writes of a request in flight, in the order of its batch. Requests are numbered from 1.
     pub fn writes(&self, number: u64) -> Option<&[Write]>
-        ensures flies { is_some result ≡ is_flying number self.now }
-        ensures writes { IfSome result (λ ws. ws.now ≡ writes_of number self.now) }
+        ensures flies { is_some result ≡ is_flying number self.now.state }
+        ensures writes { IfSome result (λ ws. ws.now ≡ writes_of number self.now.state) }
     {
         if number == 0 {
             return None;
@@ -375,7 +391,7 @@ impl Lane {
 
     /// The batch of a request in flight, if one flies under the number.
     pub fn items(&self, number: u64) -> Option<&[BatchItem]>
-        ensures { option_map (λ b. b.now) result ≡ batch_at number self.now.flights }
+        ensures { option_map (λ b. b.now) result ≡ batch_at number self.now.state.flights }
     {
         match self.flight.batch(number) {
             Some(batch) => Some(batch.items()),
@@ -387,17 +403,19 @@ impl Lane {
 // Requests are answered.
 impl Lane {
     // What the answer of a request makes of the lane, where it flies.
-    fn settle(&mut self, number: u64, whole: Option<u16>, outcomes: Vec<Outcome>) -> Option<Settled>
-        requires { 1 ≤ number }
-        ensures flies { is_some result ≡ is_flying number self.old }
+    fn settle(&mut self, number: u64, whole: Way, outcomes: Vec<Outcome>) -> Option<Settled>
+        requires first { 1 ≤ number }
+        requires halves { IsHalf whole (length (writes_of number self.old.state)) }
+        ensures flies { is_some result ≡ is_flying number self.old.state }
         ensures settled { OnSome result ((a : Answer)
-            → SaysAs a (writes_of number self.old) whole outcomes.items
-            → self.new ≡ answered self.old number a) }
+            → SaysAs a (writes_of number self.old.state) whole outcomes.items
+            → self.new.state ≡ answered self.old.state number a) }
         ensures counts { IfSome result (λ c. (a : Answer)
-            → SaysAs a (writes_of number self.old) whole outcomes.items
-            → AreCounts self.old number a c) }
+            → SaysAs a (writes_of number self.old.state) whole outcomes.items
+            → AreCounts self.old.state number a c) }
         ensures matched { IfSome result (λ c. c.matched ≡ true) }
         ensures unchanged { IfNone result (self.new ≡ self.old) }
+        ensures looks { self.new.looks ≡ self.old.looks }
     {
         match settle_flown(
             &mut self.held,
@@ -424,36 +442,42 @@ impl Lane {
     /// operations waits to be sent again, or is given up where its attempts are used up. [`NotFlying`]:
     /// no request flies under the number, and the lane is as before. It takes no memory.
     pub fn lost(&mut self, number: u64) -> Result<Settled, NotFlying>
-        ensures flies { is_ok result ≡ is_flying number self.old }
-        ensures ok { OnOk result (self.new ≡ answered self.old number Lost) }
-        ensures counts { IfOk result (λ c. AreCounts self.old number Lost c) }
+        ensures flies { is_ok result ≡ is_flying number self.old.state }
+        ensures ok { OnOk result (self.new.state ≡ answered self.old.state number Lost) }
+        ensures counts { IfOk result (λ c. AreCounts self.old.state number Lost c) }
         ensures matched { IfOk result (λ c. c.matched ≡ true) }
         ensures unchanged { OnErr result (self.new ≡ self.old) }
+        ensures looks { self.new.looks ≡ self.old.looks }
     {
         if number == 0 {
             return Err(NotFlying);
         }
-        match self.settle(number, None, Vec::new(self.alloc)) {
+        match self.settle(number, Way::ByEntry, Vec::new(self.alloc)) {
             Some(found) => Ok(found),
             None => Err(NotFlying),
         }
     }
 
-    /// A request as a whole was answered by a status other than 200. After 429, 502, 503 and 504 it is as
-    /// [`Lane::lost`]; after any other each of its operations is reported with the status. [`NotFlying`]:
+    /// A request as a whole was answered by a status other than 200. After 413 each of two operations or
+    /// more waits to be sent again at once, in requests of at most half as many, and the attempt does not
+    /// count; after 429, 502, 503 and 504 it is as [`Lane::lost`]; after any other, and after 413 to a
+    /// single operation, each is reported with the status. [`NotFlying`]:
     /// no request flies under the number, and the lane is as before. It takes no memory.
     pub fn whole(&mut self, number: u64, status: u16) -> Result<Settled, NotFlying>
         requires { status ≢ 200 }
-        ensures flies { is_ok result ≡ is_flying number self.old }
-        ensures ok { OnOk result (self.new ≡ answered self.old number (Whole status)) }
-        ensures counts { IfOk result (λ c. AreCounts self.old number (Whole status) c) }
+        ensures flies { is_ok result ≡ is_flying number self.old.state }
+        ensures ok { OnOk result (self.new.state ≡ answered self.old.state number (Whole status)) }
+        ensures counts { IfOk result (λ c. AreCounts self.old.state number (Whole status) c) }
         ensures matched { IfOk result (λ c. c.matched ≡ true) }
         ensures unchanged { OnErr result (self.new ≡ self.old) }
+        ensures looks { self.new.looks ≡ self.old.looks }
     {
-        if number == 0 {
+        let _ = &self.flown;
+        let Some(writes) = self.writes(number) else {
             return Err(NotFlying);
-        }
-        match self.settle(number, reported_status(status), Vec::new(self.alloc)) {
+        };
+        let whole = way_of(status, writes.len());
+        match self.settle(number, whole, Vec::new(self.alloc)) {
             Some(found) => Ok(found),
             None => Err(NotFlying),
         }
@@ -463,12 +487,13 @@ impl Lane {
     /// by the verdict on its outcome; else it is as [`Lane::lost`]. [`NotFlying`]: no request flies under
     /// the number, and the lane is as before. It takes no memory.
     pub fn reply(&mut self, number: u64, outcomes: Vec<Outcome>) -> Result<Settled, NotFlying>
-        ensures flies { is_ok result ≡ is_flying number self.old }
-        ensures ok { OnOk result (self.new ≡ answered self.old number (Items outcomes.items)) }
-        ensures counts { IfOk result (λ c. AreCounts self.old number (Items outcomes.items) c) }
+        ensures flies { is_ok result ≡ is_flying number self.old.state }
+        ensures ok { OnOk result (self.new.state ≡ answered self.old.state number (Items outcomes.items)) }
+        ensures counts { IfOk result (λ c. AreCounts self.old.state number (Items outcomes.items) c) }
         ensures matched { IfOk result
-            (λ c. c.matched ≡ matches outcomes.items (writes_of number self.old)) }
+            (λ c. c.matched ≡ matches outcomes.items (writes_of number self.old.state)) }
         ensures unchanged { OnErr result (self.new ≡ self.old) }
+        ensures looks { self.new.looks ≡ self.old.looks }
     {
         let Some(writes) = self.writes(number) else {
             return Err(NotFlying);
@@ -479,7 +504,7 @@ impl Lane {
         } else {
             Vec::new(self.alloc)
         };
-        match self.settle(number, None, given) {
+        match self.settle(number, Way::ByEntry, given) {
             Some(found) => Ok(Settled { matched, ..found }),
             None => Err(NotFlying),
         }

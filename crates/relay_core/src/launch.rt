@@ -1,61 +1,41 @@
 //! A batch is sent.
-ghost use Rattle.std.specs.Prelude.{◌≡◌, ◌+◌, ◌≤◌, ◌++◌, length, vec_len, vec_capacity};
-ghost use Rattle.relay_core.specs.Walk.{more, is_next, launch_one, launched_kept, freight};
+ghost use Rattle.std.specs.Prelude.{◌≡◌, ◌+◌, ◌<◌, ◌≤◌, ◌++◌, length, map, option_to_list, take, vec_len, vec_capacity};
+ghost use Rattle.relay_held.specs.Queues.{candidates_kept, AreHeads, Rises};
+ghost use Rattle.relay_core.specs.Walk.{item_of_kept, launched_kept, freight};
 
-use crate::kept::{Kept, Spot};
 use relay_action::Write;
-use relay_batch::BatchItem;
+use relay_held::{Head, Held};
 
-fn one_more(n: u32) -> u32
-    ensures { result ≡ more n }
+// A write goes into the request, if there is one.
+fn load(writes: &mut Vec<Write>, write: Option<Write>)
+    requires room { vec_len writes.old < vec_capacity writes.old }
+    ensures items { writes.new.items ≡ writes.old.items ++ option_to_list write }
+    ensures len { vec_len writes.new ≤ vec_len writes.old + 1 }
+    ensures capacity { vec_capacity writes.new ≡ vec_capacity writes.old }
 {
-    if n < u32::MAX { n + 1 } else { n }
-}
-
-// Whether the next item is that of this operation.
-fn is_next_item(items: &[BatchItem], one: &Kept) -> bool
-    ensures { result ≡ is_next items.now one.now }
-{
-    match items {
-        [] => false,
-        [first, ..] => one.version == first.version && one.flies.is_none(),
+    if let Some(write) = write {
+        writes.push_reserved(write);
     }
 }
 
-fn send_one(one: &mut Kept, number: u64, place: u64) -> Option<Write>
-    ensures sent { one.new ≡ launch_one number place one.old }
-    ensures write { result ≡ one.old.write }
-{
-    one.sends = one_more(one.sends);
-    one.attempts = one_more(one.attempts);
-    one.flies = Some(Spot {
-        request: number,
-        place,
-    });
-    one.write.take()
-}
-
-/// The operations of a batch are sent: their writes move into the request.
+/// The first operations of those that may go are sent: their writes move into the request.
 pub(crate) fn launch(
-    held: &mut Vec<Kept>,
+    held: &mut Held,
     number: u64,
-    items: &[BatchItem],
+    clock: u64,
+    heads: &[Head],
+    count: usize,
     writes: &mut Vec<Write>,
 )
-    requires room { vec_len writes.old + length items.now ≤ vec_capacity writes.old }
-    ensures held { held.new.items ≡ launched_kept held.old.items number 0 items.now }
-    ensures writes { writes.new.items ≡ writes.old.items ++ freight held.old.items items.now }
-    ensures len { vec_len held.new ≡ vec_len held.old }
+    requires heads { AreHeads held.old heads.now (candidates_kept held.old.list clock) }
+    requires rises { Rises held.old.list }
+    requires count { count ≤ length heads.now }
+    requires room { vec_len writes.old + count ≤ vec_capacity writes.old }
+    ensures held { held.new.list ≡ launched_kept held.old.list number 0 (map item_of_kept (take count (candidates_kept held.old.list clock))) }
+    ensures writes { writes.new.items ≡ writes.old.items ++ freight held.old.list (map item_of_kept (take count (candidates_kept held.old.list clock))) }
 {
-    let mut left = items;
-    let mut place = 0;
-    'ops: for i in 0..held.len() {
-        if is_next_item(left, &held[i]) {
-            if let Some(write) = send_one(&mut held[i], number, place) {
-                writes.push_reserved(write);
-            }
-            left = &left[1..];
-            place += 1;
-        }
+    'heads: for place in 0..count {
+        let at = heads[place].at;
+        load(writes, held.launch(at, number, place as u64));
     }
 }

@@ -1,28 +1,21 @@
 //! An answer settles the operations of a request.
-ghost use Rattle.std.specs.Prelude.{◌≡◌, true, ◌-◌, ◌^◌, min, ◌+◌, ◌≤◌, ◌<◌, ◌++◌, ◌∷◌, [], map, length, take, drop, slice_get, vec_len, vec_capacity};
+ghost use Rattle.std.specs.Prelude.{◌≡◌, Some, true, ◌-◌, ◌^◌, min, ◌+◌, ◌≤◌, ◌<◌, ◌++◌, ◌∷◌, [], map, length, drop, slice_get, vec_len, vec_capacity};
 ghost use Rattle.std.specs.Vec.Iter.{into_iter_items};
 ghost use Rattle.relay_delivery.specs.Machine.{is_applied_fate, is_already_fate};
 ghost use Rattle.relay_delivery.specs.Lane.{backoff};
-ghost use Rattle.relay_core.specs.Walk.{said, report_of, flies_here, fate_or, fate_met, stays, met_one, met_list, reports_one, reports_list, met_maybe, reports_maybe, tally_maybe, tally, kept_walk, reports_walk, tally_walk};
+ghost use Rattle.relay_results.specs.Documents.{document_of};
+ghost use Rattle.relay_held.specs.declared.kept.Kept.{Kept};
+ghost use Rattle.relay_core.specs.Walk.{with_first, without_first, first_of, back, after_one, fate_one, reports_one, said, report_of, tally, kept_walk, reports_walk, tally_walk};
+ghost use Rattle.relay_core.specs.Memory.{Carries};
 ghost use Rattle.relay_core.specs.State.{is_reported_fate, is_retried_fate};
 
-use crate::fates::{Fate, fate_in};
-use crate::kept::{Kept, Spot};
+use crate::fates::{Fate, Way, fate_in};
 use crate::report::Report;
 use crate::settled::Settled;
 use relay_action::Write;
-use relay_results::Outcome;
+use relay_held::Held;
+use relay_results::{Cause, Outcome};
 use std::vec::IntoIter;
-
-// Whether it flies in a request.
-fn is_in(flies: Option<Spot>, number: u64) -> bool
-    ensures { result ≡ flies_here number flies }
-{
-    match flies {
-        Some(spot) => spot.request == number,
-        None => false,
-    }
-}
 
 // The ticks of the pause that follows so many attempts.
 fn pause(attempts: u32) -> u64
@@ -51,140 +44,6 @@ fn due_after(clock: u64, attempts: u32) -> u64
     }
 }
 
-// It meets its fate. Answers whether it stays.
-fn meet(
-    one: &mut Kept,
-    fate: Fate,
-    write: Write,
-    clock: u64,
-    reports: &mut Vec<Report>,
-    counts: &mut Settled,
-) -> bool
-    requires room { vec_len reports.old < vec_capacity reports.old }
-    requires few { counts.old.applied + counts.old.already + counts.old.reported + counts.old.retried < 4294967295 }
-    ensures stays { result ≡ stays (said fate) }
-    ensures one { one.new ≡ met_one clock (said fate) write one.old }
-    ensures reports { map report_of reports.new.items ≡ map report_of reports.old.items ++ reports_one (said fate) one.old write }
-    ensures capacity { vec_capacity reports.new ≡ vec_capacity reports.old }
-    ensures len { vec_len reports.new ≡ vec_len reports.old + tally (is_reported_fate (said fate)) }
-    ensures applied { counts.new.applied ≡ counts.old.applied + tally (is_applied_fate (said fate)) }
-    ensures already { counts.new.already ≡ counts.old.already + tally (is_already_fate (said fate)) }
-    ensures reported { counts.new.reported ≡ counts.old.reported + tally (is_reported_fate (said fate)) }
-    ensures retried { counts.new.retried ≡ counts.old.retried + tally (is_retried_fate (said fate)) }
-    ensures one_of { counts.new.applied + counts.new.already + tally result ≤ counts.old.applied + counts.old.already + 1 }
-    ensures matched { counts.new.matched ≡ counts.old.matched }
-{
-    match fate {
-        Fate::Applied => {
-            counts.applied += 1;
-            false
-        }
-        Fate::Already => {
-            counts.already += 1;
-            false
-        }
-        Fate::Retried => {
-            one.flies = None;
-            one.due = due_after(clock, one.attempts);
-            one.write = Some(write);
-            counts.retried += 1;
-            true
-        }
-        Fate::Reported(cause) => {
-            reports.push_reserved(Report {
-                name: one.name,
-                key: write.key,
-                cause,
-            });
-            counts.reported += 1;
-            false
-        }
-    }
-}
-
-// What stays moves to the front, at its place.
-fn keep(held: &mut Vec<Kept>, from: usize, to: usize)
-    requires order { to ≤ from }
-    requires within { from < vec_len held.old }
-    ensures front { take (to + 1) held.new.items ≡ take to held.old.items ++ take 1 (drop from held.old.items) }
-    ensures rest { drop (from + 1) held.new.items ≡ drop (from + 1) held.old.items }
-    ensures len { vec_len held.new ≡ vec_len held.old }
-{
-    held.swap(from, to);
-}
-
-// The one at a place meets its fate, and moves to the front if it stays.
-fn meet_at(
-    held: &mut Vec<Kept>,
-    at: usize,
-    to: usize,
-    fate: Fate,
-    write: Write,
-    clock: u64,
-    reports: &mut Vec<Report>,
-    counts: &mut Settled,
-) -> usize
-    requires order { to ≤ at }
-    requires within { at < vec_len held.old }
-    requires room { vec_len reports.old < vec_capacity reports.old }
-    requires few { counts.old.applied + counts.old.already + counts.old.reported + counts.old.retried < 4294967295 }
-    ensures to { result ≡ to + tally (stays (said fate)) }
-    ensures front { take result held.new.items ≡ take to held.old.items ++ met_list clock (said fate) write (take 1 (drop at held.old.items)) }
-    ensures rest { drop (at + 1) held.new.items ≡ drop (at + 1) held.old.items }
-    ensures held_len { vec_len held.new ≡ vec_len held.old }
-    ensures reports { map report_of reports.new.items ≡ map report_of reports.old.items ++ reports_list (said fate) write (take 1 (drop at held.old.items)) }
-    ensures capacity { vec_capacity reports.new ≡ vec_capacity reports.old }
-    ensures len { vec_len reports.new ≡ vec_len reports.old + tally (is_reported_fate (said fate)) }
-    ensures applied { counts.new.applied ≡ counts.old.applied + tally (is_applied_fate (said fate)) }
-    ensures already { counts.new.already ≡ counts.old.already + tally (is_already_fate (said fate)) }
-    ensures reported { counts.new.reported ≡ counts.old.reported + tally (is_reported_fate (said fate)) }
-    ensures retried { counts.new.retried ≡ counts.old.retried + tally (is_retried_fate (said fate)) }
-    ensures one_of { counts.new.applied + counts.new.already + result ≤ counts.old.applied + counts.old.already + to + 1 }
-    ensures matched { counts.new.matched ≡ counts.old.matched }
-{
-    if meet(&mut held[at], fate, write, clock, reports, counts) {
-        keep(held, at, to);
-        to + 1
-    } else {
-        to
-    }
-}
-
-// The same, where its write is there.
-fn settle_one(
-    held: &mut Vec<Kept>,
-    at: usize,
-    to: usize,
-    fate: Fate,
-    write: Option<Write>,
-    clock: u64,
-    reports: &mut Vec<Report>,
-    counts: &mut Settled,
-) -> usize
-    requires order { to ≤ at }
-    requires within { at < vec_len held.old }
-    requires room { vec_len reports.old < vec_capacity reports.old }
-    requires few { counts.old.applied + counts.old.already + counts.old.reported + counts.old.retried < 4294967295 }
-    ensures to { result ≡ to + tally_maybe stays (said fate) write }
-    ensures front { take result held.new.items ≡ take to held.old.items ++ met_maybe clock (said fate) write (take 1 (drop at held.old.items)) }
-    ensures rest { drop (at + 1) held.new.items ≡ drop (at + 1) held.old.items }
-    ensures held_len { vec_len held.new ≡ vec_len held.old }
-    ensures reports { map report_of reports.new.items ≡ map report_of reports.old.items ++ reports_maybe (said fate) write (take 1 (drop at held.old.items)) }
-    ensures capacity { vec_capacity reports.new ≡ vec_capacity reports.old }
-    ensures len { vec_len reports.new ≡ vec_len reports.old + tally_maybe is_reported_fate (said fate) write }
-    ensures applied { counts.new.applied ≡ counts.old.applied + tally_maybe is_applied_fate (said fate) write }
-    ensures already { counts.new.already ≡ counts.old.already + tally_maybe is_already_fate (said fate) write }
-    ensures reported { counts.new.reported ≡ counts.old.reported + tally_maybe is_reported_fate (said fate) write }
-    ensures retried { counts.new.retried ≡ counts.old.retried + tally_maybe is_retried_fate (said fate) write }
-    ensures one_of { counts.new.applied + counts.new.already + result ≤ counts.old.applied + counts.old.already + to + 1 }
-    ensures matched { counts.new.matched ≡ counts.old.matched }
-{
-    match write {
-        Some(write) => meet_at(held, at, to, fate, write, clock, reports, counts),
-        None => to,
-    }
-}
-
 // The next of a list that is used up.
 fn next_of<T: Drop>(items: &mut IntoIter<T>) -> Option<T>
     ensures value { result ≡ slice_get (into_iter_items items.old) 0 }
@@ -193,28 +52,141 @@ fn next_of<T: Drop>(items: &mut IntoIter<T>) -> Option<T>
     items.next()
 }
 
-/// What flies in a request is settled by its answer, in one pass; there is room for the reports.
+// The first of a document ends with a report.
+fn report(held: &mut Held, write: Write, cause: Cause, reports: &mut Vec<Report>)
+    requires room { vec_len reports.old < vec_capacity reports.old }
+    ensures held { held.new.list ≡ without_first write.key held.old.list }
+    ensures reports { (h : Kept) → first_of write.key held.old.list ≡ Some h
+        → map report_of reports.new.items ≡ map report_of reports.old.items ++ record { name = h.name; document = document_of write.key; cause = cause } ∷ [] }
+    ensures len { (h : Kept) → first_of write.key held.old.list ≡ Some h → vec_len reports.new ≡ vec_len reports.old + 1 }
+    ensures capacity { vec_capacity reports.new ≡ vec_capacity reports.old }
+{
+    if let Some(one) = held.take(&write.key) {
+        reports.push_reserved(Report {
+            name: one.name,
+            key: write.key,
+            cause,
+        });
+    }
+}
+
+// The first of a document waits again.
+fn land(held: &mut Held, write: Write, clock: u64, attempts: u32)
+    ensures { (h : Kept) → h.attempts ≡ attempts → first_of write.key held.old.list ≡ Some h
+        → held.new.list ≡ with_first write.key (back clock write) held.old.list }
+{
+    held.land(due_after(clock, attempts), write);
+}
+
+// The first of a document meets its fate.
+fn meet(
+    held: &mut Held,
+    fate: Fate,
+    write: Write,
+    clock: u64,
+    attempts: u32,
+    reports: &mut Vec<Report>,
+    counts: &mut Settled,
+)
+    requires room { vec_len reports.old < vec_capacity reports.old }
+    requires few { counts.old.applied + counts.old.already + counts.old.reported + counts.old.retried < 4294967295 }
+    ensures held { (h : Kept) → h.attempts ≡ attempts → first_of write.key held.old.list ≡ Some h
+        → held.new.list ≡ after_one clock write held.old.list (said fate) }
+    ensures reports { (h : Kept) → first_of write.key held.old.list ≡ Some h
+        → map report_of reports.new.items ≡ map report_of reports.old.items ++ reports_one (said fate) h write }
+    ensures capacity { vec_capacity reports.new ≡ vec_capacity reports.old }
+    ensures len { (h : Kept) → first_of write.key held.old.list ≡ Some h
+        → vec_len reports.new ≡ vec_len reports.old + tally (is_reported_fate (said fate)) }
+    ensures applied { counts.new.applied ≡ counts.old.applied + tally (is_applied_fate (said fate)) }
+    ensures already { counts.new.already ≡ counts.old.already + tally (is_already_fate (said fate)) }
+    ensures reported { counts.new.reported ≡ counts.old.reported + tally (is_reported_fate (said fate)) }
+    ensures retried { counts.new.retried ≡ counts.old.retried + tally (is_retried_fate (said fate)) }
+    ensures matched { counts.new.matched ≡ counts.old.matched }
+{
+    match fate {
+        Fate::Applied => {
+            let _ = held.take(&write.key);
+            counts.applied += 1;
+        }
+        Fate::Already => {
+            let _ = held.take(&write.key);
+            counts.already += 1;
+        }
+        Fate::Retried => {
+            land(held, write, clock, attempts);
+            counts.retried += 1;
+        }
+        Fate::Halved(cap) => {
+            held.halve(clock, cap, write);
+            counts.retried += 1;
+        }
+        Fate::Reported(cause) => {
+            report(held, write, cause, reports);
+            counts.reported += 1;
+        }
+    }
+}
+
+// The operation of a write meets the fate that its entry makes of it.
+fn settle_one(
+    held: &mut Held,
+    max: u32,
+    clock: u64,
+    write: Write,
+    whole: Way,
+    entry: Option<Outcome>,
+    reports: &mut Vec<Report>,
+    counts: &mut Settled,
+)
+    requires room { vec_len reports.old < vec_capacity reports.old }
+    requires few { counts.old.applied + counts.old.already + counts.old.reported + counts.old.retried < 4294967295 }
+    ensures held { (h : Kept) → first_of write.key held.old.list ≡ Some h
+        → held.new.list ≡ after_one clock write held.old.list (fate_one max whole h entry) }
+    ensures reports { (h : Kept) → first_of write.key held.old.list ≡ Some h
+        → map report_of reports.new.items ≡ map report_of reports.old.items ++ reports_one (fate_one max whole h entry) h write }
+    ensures capacity { vec_capacity reports.new ≡ vec_capacity reports.old }
+    ensures len { (h : Kept) → first_of write.key held.old.list ≡ Some h
+        → vec_len reports.new ≡ vec_len reports.old + tally (is_reported_fate (fate_one max whole h entry)) }
+    ensures applied { (h : Kept) → first_of write.key held.old.list ≡ Some h
+        → counts.new.applied ≡ counts.old.applied + tally (is_applied_fate (fate_one max whole h entry)) }
+    ensures already { (h : Kept) → first_of write.key held.old.list ≡ Some h
+        → counts.new.already ≡ counts.old.already + tally (is_already_fate (fate_one max whole h entry)) }
+    ensures reported { (h : Kept) → first_of write.key held.old.list ≡ Some h
+        → counts.new.reported ≡ counts.old.reported + tally (is_reported_fate (fate_one max whole h entry)) }
+    ensures retried { (h : Kept) → first_of write.key held.old.list ≡ Some h
+        → counts.new.retried ≡ counts.old.retried + tally (is_retried_fate (fate_one max whole h entry)) }
+    ensures matched { counts.new.matched ≡ counts.old.matched }
+{
+    if let Some(one) = held.first(&write.key) {
+        let attempts = one.attempts;
+        let fate = fate_in(one, whole, entry, max);
+        meet(held, fate, write, clock, attempts, reports, counts);
+    }
+}
+
+/// What flies in a request is settled by its answer, write by write; there is room for the reports.
 pub(crate) fn settle_walk(
-    held: &mut Vec<Kept>,
+    held: &mut Held,
     reports: &mut Vec<Report>,
     max: u32,
     clock: u64,
     number: u64,
     writes: Vec<Write>,
-    whole: Option<u16>,
+    whole: Way,
     outcomes: Vec<Outcome>,
 ) -> Settled
-    requires room { vec_len reports.old + vec_len held.old ≤ vec_capacity reports.old }
-    requires few { vec_len held.old ≤ 65536 }
-    ensures held { held.new.items ≡ kept_walk held.old.items max clock number whole writes.items outcomes.items }
-    ensures reports { map report_of reports.new.items ≡ map report_of reports.old.items ++ reports_walk held.old.items max number whole writes.items outcomes.items }
-    ensures applied { result.applied ≡ tally_walk is_applied_fate held.old.items max number whole writes.items outcomes.items }
-    ensures already { result.already ≡ tally_walk is_already_fate held.old.items max number whole writes.items outcomes.items }
-    ensures reported { result.reported ≡ tally_walk is_reported_fate held.old.items max number whole writes.items outcomes.items }
-    ensures retried { result.retried ≡ tally_walk is_retried_fate held.old.items max number whole writes.items outcomes.items }
-    ensures room { vec_len reports.new + vec_len held.new ≤ vec_capacity reports.new }
-    ensures fewer { vec_len held.new ≤ vec_len held.old }
-    ensures done { result.applied + result.already + vec_len held.new ≤ vec_len held.old }
+    requires room { vec_len reports.old + length held.old.list ≤ vec_capacity reports.old }
+    requires few { length held.old.list ≤ 65536 }
+    requires carries { Carries number 0 held.old.list writes.items }
+    ensures held { held.new.list ≡ kept_walk held.old.list max clock number whole writes.items outcomes.items }
+    ensures reports { map report_of reports.new.items ≡ map report_of reports.old.items ++ reports_walk held.old.list max number whole writes.items outcomes.items }
+    ensures applied { result.applied ≡ tally_walk is_applied_fate held.old.list max number whole writes.items outcomes.items }
+    ensures already { result.already ≡ tally_walk is_already_fate held.old.list max number whole writes.items outcomes.items }
+    ensures reported { result.reported ≡ tally_walk is_reported_fate held.old.list max number whole writes.items outcomes.items }
+    ensures retried { result.retried ≡ tally_walk is_retried_fate held.old.list max number whole writes.items outcomes.items }
+    ensures room { vec_len reports.new + length held.new.list ≤ vec_capacity reports.new }
+    ensures fewer { length held.new.list ≤ length held.old.list }
+    ensures done { result.applied + result.already + length held.new.list ≤ length held.old.list }
     ensures more { vec_len reports.old ≤ vec_len reports.new }
     ensures matched { result.matched ≡ true }
 {
@@ -227,17 +199,10 @@ pub(crate) fn settle_walk(
         retried: 0,
         matched: true,
     };
-    let mut to = 0;
-    'ops: for i in 0..held.len() {
-        if is_in(held[i].flies, number) {
-            let fate = fate_in(&held[i], whole, next_of(&mut left), max);
-            let write = next_of(&mut ahead);
-            to = settle_one(held, i, to, fate, write, clock, reports, &mut counts);
-        } else {
-            keep(held, i, to);
-            to += 1;
-        }
+    'writes: while let Some(write) = next_of(&mut ahead) {
+        let _ = held.len();
+        let entry = next_of(&mut left);
+        settle_one(held, max, clock, write, whole, entry, reports, &mut counts);
     }
-    held.truncate(to);
     counts
 }

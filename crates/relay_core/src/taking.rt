@@ -1,5 +1,5 @@
 //! An operation is taken.
-ghost use Rattle.std.specs.Prelude.{◌≡◌, ◌+◌, ◌^◌, ◌≤◌, ◌<◌, OnOk, length, vec_len, vec_capacity};
+ghost use Rattle.std.specs.Prelude.{◌≡◌, true, ◌+◌, ◌^◌, ◌≤◌, ◌<◌, is_some, IfSome, OnOk, length, vec_len, vec_capacity};
 ghost use Rattle.relay_ndjson.specs.Bulk.{write_text};
 ghost use Rattle.relay_results.specs.Documents.{write_for};
 ghost use Rattle.relay_core.specs.Memory.{kept_new};
@@ -8,6 +8,7 @@ use crate::kept::Kept;
 use crate::report::Report;
 use crate::settled::TakeFault;
 use relay_action::{Body, DocKey, Mail, Op, Write};
+use relay_held::Held;
 use relay_ndjson::write_len;
 use std::alloc::AllocError;
 
@@ -18,26 +19,22 @@ pub struct NoRoom {
     pub op: Op,
 }
 
-/// Room for one more operation and for its later report.
-pub(crate) fn make_room(held: &mut Vec<Kept>, reports: &mut Vec<Report>) -> Result<(), AllocError>
-    requires { vec_len held.old + 1 < 2 ^ 32 }
-    ensures held { held.new.items ≡ held.old.items }
-    ensures held_len { vec_len held.new ≡ vec_len held.old }
+/// Room for the later reports of what is held and of one more operation.
+pub(crate) fn make_room(held: &Held, reports: &mut Vec<Report>) -> Result<(), AllocError>
+    requires { length held.now.list + 1 < 2 ^ 32 }
     ensures reports { reports.new.items ≡ reports.old.items }
     ensures reports_len { vec_len reports.new ≡ vec_len reports.old }
     ensures capacity { vec_capacity reports.old ≤ vec_capacity reports.new }
-    ensures held_room { OnOk result (vec_len held.new < vec_capacity held.new) }
-    ensures reports_room { OnOk result (vec_len reports.new + vec_len held.new + 1 ≤ vec_capacity reports.new) }
+    ensures reports_room { OnOk result (vec_len reports.new + length held.now.list + 1 ≤ vec_capacity reports.new) }
 {
     reports.reserve(held.len() + 1)?;
-    held.reserve(1)?;
     Ok(())
 }
 
 /// An operation as it is held, beside a copy of its document.
-pub(crate) fn kept_of(op: Op, key: DocKey, version: u64, clock: u64) -> Kept
+pub(crate) fn kept_of(op: Op, key: DocKey, version: u64, clock: u64, cap: u32) -> Kept
     requires { key ≡ op.key }
-    ensures { result ≡ kept_new op version (length (write_text (write_for op version))) clock }
+    ensures { result ≡ kept_new op version (length (write_text (write_for op version))) clock cap }
 {
     let kind = op.action.kind();
     let name = op.name();
@@ -52,12 +49,37 @@ pub(crate) fn kept_of(op: Op, key: DocKey, version: u64, clock: u64) -> Kept
         kind,
         version,
         bytes: write_len(&write),
+        cap,
         taken_at: clock,
         due: clock,
         sends: 0,
         attempts: 0,
         flies: None,
         write: Some(write),
+    }
+}
+
+/// The operation, where it was not held.
+pub(crate) fn op_of(one: Kept) -> Op
+    requires { is_some one.write ≡ true }
+    ensures { IfSome one.write (λ w. result ≡ record {
+      epoch = one.name.epoch;
+      producer = one.name.producer;
+      number = one.name.number;
+      key = w.key;
+      action = w.action;
+    }) }
+{
+    let Kept { name, write, .. } = one;
+    match write {
+        Some(write) => Op {
+            epoch: name.epoch,
+            producer: name.producer,
+            number: name.number,
+            key: write.key,
+            action: write.action,
+        },
+        None => unreachable!(),
     }
 }
 

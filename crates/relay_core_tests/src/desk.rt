@@ -22,7 +22,8 @@ pub const CONFIG: RelayConfig = RelayConfig {
     limits: LIMITS,
     attempts: 3,
     in_flight: 1,
-    first_version: 1,
+    epoch: 0,
+    deal: 1_099_511_627_775,
 };
 
 /// An entry of a reply, by its id and status.
@@ -91,6 +92,7 @@ fn op_of(alloc: Global, number: u64, id: &str, source: &str) -> Result<Op, Fail>
         Action::index(alloc, source)?
     };
     Ok(Op {
+        epoch: 0,
         producer: 0,
         number,
         key,
@@ -142,7 +144,8 @@ fn outcome_of(alloc: Global, entry: &Entry<'_>) -> Result<Outcome, AllocError> {
     })
 }
 
-fn outcomes_of(alloc: Global, entries: &[Entry<'_>]) -> Result<Vec<Outcome>, Fail> {
+/// The entries of a reply.
+pub fn outcomes_of(alloc: Global, entries: &[Entry<'_>]) -> Result<Vec<Outcome>, Fail> {
     let mut outcomes = Vec::with_capacity(alloc, entries.len())?;
     for entry in entries {
         outcomes.push(outcome_of(alloc, entry)?)?;

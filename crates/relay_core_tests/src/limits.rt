@@ -5,7 +5,7 @@ use relay_core::{RelayConfig, TakeFault};
 use std::test::Fail;
 
 // Each number one below, at and one above its limits.
-const CONFIGS: [(RelayConfig, bool); 19] = [
+const CONFIGS: [(RelayConfig, bool); 22] = [
     (RelayConfig { lanes: 0, ..CONFIG }, false),
     (RelayConfig { lanes: 8, ..CONFIG }, true),
     (RelayConfig { lanes: 9, ..CONFIG }, false),
@@ -123,14 +123,24 @@ const CONFIGS: [(RelayConfig, bool); 19] = [
     ),
     (
         RelayConfig {
-            first_version: 9_000_000_000_000_000_000,
+            epoch: 4_194_303,
+            deal: 1_099_511_627_775,
             ..CONFIG
         },
         true,
     ),
     (
         RelayConfig {
-            first_version: 9_000_000_000_000_000_001,
+            epoch: 4_194_304,
+            ..CONFIG
+        },
+        false,
+    ),
+    (RelayConfig { deal: 0, ..CONFIG }, false),
+    (RelayConfig { deal: 1, ..CONFIG }, true),
+    (
+        RelayConfig {
+            deal: 1_099_511_627_776,
             ..CONFIG
         },
         false,
@@ -146,7 +156,7 @@ fn valid_configs(rt: HostRuntime) {
 
 const ONE_HELD: RelayConfig = RelayConfig {
     max_held: 1,
-    first_version: 9_000_000_000_000_000_000,
+    deal: 1,
     ..CONFIG
 };
 
@@ -154,7 +164,7 @@ const ONE_HELD: RelayConfig = RelayConfig {
 const HELD_FULL: [Step<'static>; 10] = [
     Step::Put("1", ""),
     Step::NotTaken(TakeFault::HeldFull),
-    Step::Sends(&[("1", 9_000_000_000_000_000_000)]),
+    Step::Sends(&[("1", 1)]),
     Step::NotTaken(TakeFault::HeldFull),
     Step::Items(&[Entry::Delete("1", 404)], [1, 0, 0, 0]),
     Step::Put("2", ""),

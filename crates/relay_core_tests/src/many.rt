@@ -1,5 +1,5 @@
 //! As many operations as a lane may hold.
-use crate::desk::{CONFIG, lane_of, put};
+use crate::desk::{CONFIG, Entry, lane_of, outcomes_of, put};
 use relay_action::{Action, Body, DocKey, Mail, Op};
 use relay_batch::Limits;
 use relay_core::{Lane, RelayConfig, TakeFault};
@@ -64,6 +64,55 @@ fn of_as_many_documents(rt: HostRuntime) -> Result<(), Fail> {
     Ok(())
 }
 
+// Sends one operation of document 0, and settles it as applied. Whether it was applied.
+fn applies_one(alloc: Global, lane: &mut Lane) -> Result<bool, Fail> {
+    let Some(number) = lane.request()? else {
+        return Ok(false);
+    };
+    let outcomes = outcomes_of(alloc, &[Entry::Delete("0", 200)])?;
+    Ok(
+        lane.reply(number, outcomes)
+            .map_or(0, |found| found.applied)
+            == 1,
+    )
+}
+
+// Deletes of one document, each sent and settled as applied in a request of its own. How many are held then,
+// and how many were looked at.
+fn one_by_one(alloc: Global, lane: &mut Lane, count: u64) -> Result<(u32, u64), Fail> {
+    for number in 0..count {
+        if !is_put(alloc, lane, number, 0)? {
+            return Err("not taken")?;
+        }
+    }
+    lane.flush();
+    for _ in 0..count {
+        if !applies_one(alloc, lane)? {
+            return Err("not applied")?;
+        }
+    }
+    Ok((lane.held(), lane.looks()))
+}
+
+#[test]
+fn one_look_for_each_request(rt: HostRuntime) -> Result<(), Fail> {
+    let mut lane = lane_of(rt.alloc(), FULL)?;
+    let (held, looks) = one_by_one(rt.alloc(), &mut lane, 100)?;
+    assert!(rt; held == 0 && 0 < looks && looks <= 100);
+    Ok(())
+}
+
+// The looks after a request, each of as many documents as are held.
+#[test]
+fn looks_at_each_document(rt: HostRuntime) -> Result<(), Fail> {
+    let mut lane = lane_of(rt.alloc(), CONFIG)?;
+    for (number, document) in [(1, 1), (2, 2), (3, 1), (4, 3)] {
+        assert!(rt; is_put(rt.alloc(), &mut lane, number, document)?);
+    }
+    assert!(rt; carried(&mut lane)? == 3 && lane.looks() == 3);
+    Ok(())
+}
+
 // A lane, and an operation for it; a refused allocation is made again.
 fn begun(alloc: Global) -> Result<(Lane, Mail), Fail> {
     if !CONFIG.valid() {
@@ -78,6 +127,7 @@ fn begun(alloc: Global) -> Result<(Lane, Mail), Fail> {
         Err(_) => DocKey::new(alloc, "b", "1")?,
     };
     let op = Op {
+        epoch: 0,
         producer: 0,
         number: 1,
         key,

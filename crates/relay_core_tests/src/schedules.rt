@@ -242,3 +242,86 @@ fn refused_items(rt: HostRuntime) -> Result<(), Fail> {
     assert!(rt; goes(rt.alloc(), CONFIG, &REFUSED, &[(1, 1, 400), (2, 1, 400)])?);
     Ok(())
 }
+
+// One attempt for each operation.
+const ONE_ATTEMPT: RelayConfig = RelayConfig {
+    attempts: 1,
+    ..CONFIG
+};
+
+// Five deletes of 78 bytes meet an index that takes 160: the request is halved, at no attempt's cost.
+const HALVED: [Step<'static>; 16] = [
+    Step::Put("1", ""),
+    Step::Put("2", ""),
+    Step::Put("3", ""),
+    Step::Put("4", ""),
+    Step::Put("5", ""),
+    Step::Sends(&[("1", 1), ("2", 2), ("3", 3), ("4", 4), ("5", 5)]),
+    Step::Whole(413, [0, 0, 0, 5]),
+    Step::DueIn(0),
+    Step::Sends(&[("1", 1), ("2", 2)]),
+    Step::Items(
+        &[Entry::Delete("1", 404), Entry::Delete("2", 404)],
+        [2, 0, 0, 0],
+    ),
+    Step::Sends(&[("3", 3), ("4", 4)]),
+    Step::Items(
+        &[Entry::Delete("3", 404), Entry::Delete("4", 404)],
+        [2, 0, 0, 0],
+    ),
+    Step::Sends(&[("5", 5)]),
+    Step::Items(&[Entry::Delete("5", 404)], [1, 0, 0, 0]),
+    Step::Held(0),
+    Step::Totals(Totals {
+        taken: 5,
+        applied: 5,
+        already: 0,
+        requests: 4,
+    }),
+];
+
+// They meet one that takes 77: each is reported once it stands alone.
+const HALVED_AWAY: [Step<'static>; 23] = [
+    Step::Put("1", ""),
+    Step::Put("2", ""),
+    Step::Put("3", ""),
+    Step::Put("4", ""),
+    Step::Put("5", ""),
+    Step::Sends(&[("1", 1), ("2", 2), ("3", 3), ("4", 4), ("5", 5)]),
+    Step::Whole(413, [0, 0, 0, 5]),
+    Step::Sends(&[("1", 1), ("2", 2)]),
+    Step::Whole(413, [0, 0, 0, 2]),
+    Step::Sends(&[("1", 1)]),
+    Step::Whole(413, [0, 0, 1, 0]),
+    Step::Sends(&[("2", 2)]),
+    Step::Whole(413, [0, 0, 1, 0]),
+    Step::Sends(&[("3", 3), ("4", 4)]),
+    Step::Whole(413, [0, 0, 0, 2]),
+    Step::Sends(&[("3", 3)]),
+    Step::Whole(413, [0, 0, 1, 0]),
+    Step::Sends(&[("4", 4)]),
+    Step::Whole(413, [0, 0, 1, 0]),
+    Step::Sends(&[("5", 5)]),
+    Step::Whole(413, [0, 0, 1, 0]),
+    Step::Held(0),
+    Step::Totals(Totals {
+        taken: 5,
+        applied: 0,
+        already: 0,
+        requests: 8,
+    }),
+];
+
+#[test]
+fn requests_too_large(rt: HostRuntime) -> Result<(), Fail> {
+    assert!(rt; goes(rt.alloc(), ONE_ATTEMPT, &HALVED, &[])?);
+    let reports = [
+        (1, 2, 413),
+        (2, 2, 413),
+        (3, 2, 413),
+        (4, 2, 413),
+        (5, 2, 413),
+    ];
+    assert!(rt; goes(rt.alloc(), ONE_ATTEMPT, &HALVED_AWAY, &reports)?);
+    Ok(())
+}

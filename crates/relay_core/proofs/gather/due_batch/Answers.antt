@@ -8,7 +8,7 @@ use Rattle.relay_core.proofs.gather.due_batch.Goals as goal
 
 pub returns-else-is_asked-clause-quiet : goal.returns-else-is_asked-clause-quiet
 returns-else-is_asked-clause-quiet c roomy =
-    let is = items_of_kept c.args.held.now c.args.clock c.args.held.now in
+    let is = items_of_kept c.args.held.now.list c.args.clock c.args.held.now.list in
     let batch = c.in_ok-batcher.ensures.batch in
     let items = ap (λ (g : Gathering). g.items) batch in
     let all = c.in-Some.ensures.items ∙ items in

@@ -1,12 +1,14 @@
-use Rattle.std.proofs.Common.{◌≡◌, ◌+◌, ◌≤◌, ◌++◌, length, vec_len, vec_capacity, take, drop}
-use Rattle.relay_core.specs.Walk.{launched_kept, freight}
+use Rattle.std.proofs.Common.{◌≡◌, ◌+◌, ◌-◌, ◌≤◌, ◌++◌, length, take, drop, vec_len, vec_capacity}
+use Rattle.std.specs.Prelude.{map}
+use Rattle.relay_held.specs.Queues.{candidates_kept, AreHeads, Rises}
+use Rattle.relay_core.specs.Walk.{item_of_kept, launched_kept, freight}
 use Rattle.relay_core.proofs.launch.launch.Given as goal
 
-abbrev pub invariant-ops : goal.invariant-ops
-invariant-ops l = record {
-  place : l.place ≤ l.i;
-  len : vec_len l.held ≡ vec_len l.fn.held;
-  room : vec_len l.writes + length l.left ≤ vec_capacity l.writes;
-  held : take l.i l.held.items ++ launched_kept (drop l.i l.held.items) l.number l.place l.left ≡ launched_kept l.fn.held.items l.number 0 l.items;
-  writes : l.writes.items ++ freight (drop l.i l.held.items) l.left ≡ l.fn.writes.items ++ freight l.fn.held.items l.items;
+abbrev pub invariant-heads : goal.invariant-heads
+invariant-heads l = record {
+  heads : AreHeads l.held (drop l.place l.heads) (drop l.place (candidates_kept l.fn.held.list l.clock));
+  rises : Rises l.held.list;
+  room : vec_len l.writes + (l.count - l.place) ≤ vec_capacity l.writes;
+  held : launched_kept l.held.list l.number l.place (map item_of_kept (take (l.count - l.place) (drop l.place (candidates_kept l.fn.held.list l.clock)))) ≡ launched_kept l.fn.held.list l.number 0 (map item_of_kept (take l.count (candidates_kept l.fn.held.list l.clock)));
+  writes : l.writes.items ++ freight l.held.list (map item_of_kept (take (l.count - l.place) (drop l.place (candidates_kept l.fn.held.list l.clock)))) ≡ l.fn.writes.items ++ freight l.fn.held.list (map item_of_kept (take l.count (candidates_kept l.fn.held.list l.clock)));
 }

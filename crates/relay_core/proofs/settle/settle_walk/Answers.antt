@@ -1,131 +1,142 @@
-use Rattle.std.proofs.Common.{◌≡◌, true, false, ◌<◌, ◌+◌, ◌++◌, ◌∷◌, [], rules, sym, ap, ◌∙◌, take, drop, length}
-use Rattle.std.specs.Prelude.{map}
+use Rattle.std.proofs.Common.{◌≡◌, ◌∙◌, ℕ, ◌+◌, ◌≤◌, ◌++◌, List, [], sym, ap, subst, refl, arith, length, drop, append_assoc, Some, None}
+use Rattle.std.specs.Prelude.{map, slice_get}
 use Rattle.std.specs.Vec.Iter.{into_iter_items}
-use Rattle.relay_results.specs.Fates.{fate_of_entry}
 use Rattle.relay_delivery.specs.Machine.{is_applied_fate, is_already_fate}
-use Rattle.relay_core.specs.declared.kept.Kept.{Kept}
-use Rattle.relay_core.specs.Walk.{said, flies_here, fate_or, fate_met, report_of, met_maybe, reports_maybe, kept_walk, reports_walk, tally_walk}
+use Rattle.relay_core.specs.Walk.{report_of, kept_walk, reports_walk, tally_walk, fate_one, tally, reports_one}
+use Rattle.relay_core.specs.Memory.{Carries}
 use Rattle.relay_core.specs.State.{is_reported_fate, is_retried_fate}
-use Rattle.relay_core.proofs.Steps.{first_same, here_and_after, held_step, reports_step, tally_step, held_past, reports_past, tally_past}
-use Rattle.relay_core.proofs.settle.settle_walk.Goals.{then-is_in, else-is_in}
+use Rattle.relay_core.proofs.Settling.{met_ends}
+use Rattle.relay_core.proofs.Passing.{find_flying, flying_first, cons_of, nil_of, carried_few, turned, reported_turn, counts_one, ends_is, kept_end, reports_end, tally_end, nothing_after, tally_as}
 use Rattle.relay_core.proofs.settle.settle_walk.Goals as goal
 
-pub ops-preserved : goal.ops-preserved
-ops-preserved c = elim c.if-is_in.branch [
-  | then-is_in w ↦
-      let v = c.ops.invariant in
-      let e = w.settle_one-to.ensures in
-      let i = c.ops.i in
-      let n = c.args.number in
-      let max = c.args.max in
-      let clock = c.args.clock in
-      let whole = c.args.whole in
-      let hs = c.ops.held.items in
-      let h = w.index-then-is_in.result.now in
-      let ws = into_iter_items c.ops.ahead in
-      let os = into_iter_items c.ops.left in
-      let f = said w.fate_in-fate.result in
-      let lt : i < length hs = search rules in
-      let here : drop i hs ≡ h ∷ drop (i + 1) hs = here_and_after hs i h lt w.index-then-is_in.ensures in
-      let one : take 1 (drop i hs) ≡ h ∷ [] = ap (take 1) here in
-      let same : c.index.result.now ≡ h = first_same (sym (here_and_after hs i c.index.result.now lt c.index.ensures) ∙ here) in
-      let flies : flies_here n h.flies ≡ true = ap (λ (x : Kept). flies_here n x.flies) (sym same) ∙ sym c.is_in.ensures ∙ w.if-is_in.true in
-      let fate : f ≡ fate_met max whole h os = w.fate_in-fate.ensures ∙ ap (λ x. fate_or whole (fate_of_entry (record { sends = h.sends; attempts = h.attempts; max = max }) h.kind x)) w.next_of.ensures.value in
-      let write = w.next_of-write.ensures.value in
-      let writes = w.next_of-write.ensures.rest in
-      let outcomes = w.next_of.ensures.rest in
-      record {
-        place = search rules;
-        same = search rules;
-        counted = search rules;
-        room = search rules;
-        done = search rules;
-        more = search rules;
-        matched = search rules;
-        held = (λ j. take (w.to-is j) (w.held-is j).items ++ kept_walk (drop (i + 1) (w.held-is j).items) max clock n whole (into_iter_items (w.ahead-is j)) (into_iter_items (w.left-is j)))
-            ∙ ap (λ xs. take w.settle_one-to.result w.settle_one-to.new.held.items ++ kept_walk xs max clock n whole (into_iter_items w.next_of-write.new.items) (into_iter_items w.next_of.new.items)) e.rest
-            ∙ held_step max clock n whole h (drop (i + 1) hs) ws _ os _ f w.next_of-write.result flies fate write writes outcomes (take c.ops.to hs) _ (e.front ∙ ap (λ xs. take c.ops.to hs ++ met_maybe clock f w.next_of-write.result xs) one)
-            ∙ ap (λ xs. take c.ops.to hs ++ kept_walk xs max clock n whole ws os) (sym here)
-            ∙ v.held;
-        reports = (λ j. map report_of (w.reports-is j).items ++ reports_walk (drop (i + 1) (w.held-is j).items) max n whole (into_iter_items (w.ahead-is j)) (into_iter_items (w.left-is j)))
-            ∙ ap (λ xs. map report_of w.settle_one-to.new.reports.items ++ reports_walk xs max n whole (into_iter_items w.next_of-write.new.items) (into_iter_items w.next_of.new.items)) e.rest
-            ∙ reports_step max clock n whole h (drop (i + 1) hs) ws _ os _ f w.next_of-write.result flies fate write writes outcomes (map report_of c.ops.reports.items) _ (e.reports ∙ ap (λ xs. map report_of c.ops.reports.items ++ reports_maybe f w.next_of-write.result xs) one)
-            ∙ ap (λ xs. map report_of c.ops.reports.items ++ reports_walk xs max n whole ws os) (sym here)
-            ∙ v.reports;
-        applied = (λ j. (w.counts-is j).applied + tally_walk is_applied_fate (drop (i + 1) (w.held-is j).items) max n whole (into_iter_items (w.ahead-is j)) (into_iter_items (w.left-is j)))
-            ∙ ap (λ xs. w.settle_one-to.new.counts.applied + tally_walk is_applied_fate xs max n whole (into_iter_items w.next_of-write.new.items) (into_iter_items w.next_of.new.items)) e.rest
-            ∙ tally_step max clock n whole h (drop (i + 1) hs) ws _ os _ f w.next_of-write.result flies fate write writes outcomes is_applied_fate c.ops.counts.applied _ e.applied
-            ∙ ap (λ xs. c.ops.counts.applied + tally_walk is_applied_fate xs max n whole ws os) (sym here)
-            ∙ v.applied;
-        already = (λ j. (w.counts-is j).already + tally_walk is_already_fate (drop (i + 1) (w.held-is j).items) max n whole (into_iter_items (w.ahead-is j)) (into_iter_items (w.left-is j)))
-            ∙ ap (λ xs. w.settle_one-to.new.counts.already + tally_walk is_already_fate xs max n whole (into_iter_items w.next_of-write.new.items) (into_iter_items w.next_of.new.items)) e.rest
-            ∙ tally_step max clock n whole h (drop (i + 1) hs) ws _ os _ f w.next_of-write.result flies fate write writes outcomes is_already_fate c.ops.counts.already _ e.already
-            ∙ ap (λ xs. c.ops.counts.already + tally_walk is_already_fate xs max n whole ws os) (sym here)
-            ∙ v.already;
-        reported = (λ j. (w.counts-is j).reported + tally_walk is_reported_fate (drop (i + 1) (w.held-is j).items) max n whole (into_iter_items (w.ahead-is j)) (into_iter_items (w.left-is j)))
-            ∙ ap (λ xs. w.settle_one-to.new.counts.reported + tally_walk is_reported_fate xs max n whole (into_iter_items w.next_of-write.new.items) (into_iter_items w.next_of.new.items)) e.rest
-            ∙ tally_step max clock n whole h (drop (i + 1) hs) ws _ os _ f w.next_of-write.result flies fate write writes outcomes is_reported_fate c.ops.counts.reported _ e.reported
-            ∙ ap (λ xs. c.ops.counts.reported + tally_walk is_reported_fate xs max n whole ws os) (sym here)
-            ∙ v.reported;
-        retried = (λ j. (w.counts-is j).retried + tally_walk is_retried_fate (drop (i + 1) (w.held-is j).items) max n whole (into_iter_items (w.ahead-is j)) (into_iter_items (w.left-is j)))
-            ∙ ap (λ xs. w.settle_one-to.new.counts.retried + tally_walk is_retried_fate xs max n whole (into_iter_items w.next_of-write.new.items) (into_iter_items w.next_of.new.items)) e.rest
-            ∙ tally_step max clock n whole h (drop (i + 1) hs) ws _ os _ f w.next_of-write.result flies fate write writes outcomes is_retried_fate c.ops.counts.retried _ e.retried
-            ∙ ap (λ xs. c.ops.counts.retried + tally_walk is_retried_fate xs max n whole ws os) (sym here)
-            ∙ v.retried;
-      }
-  | else-is_in w ↦
-      let v = c.ops.invariant in
-      let e = w.keep.ensures in
-      let i = c.ops.i in
-      let n = c.args.number in
-      let max = c.args.max in
-      let clock = c.args.clock in
-      let whole = c.args.whole in
-      let hs = c.ops.held.items in
-      let h = c.index.result.now in
-      let ws = into_iter_items c.ops.ahead in
-      let os = into_iter_items c.ops.left in
-      let lt : i < length hs = search rules in
-      let here : drop i hs ≡ h ∷ drop (i + 1) hs = here_and_after hs i h lt c.index.ensures in
-      let one : take 1 (drop i hs) ≡ h ∷ [] = ap (take 1) here in
-      let past : flies_here n h.flies ≡ false = sym c.is_in.ensures ∙ w.if-is_in.false in
-      record {
-        place = search rules;
-        same = search rules;
-        counted = search rules;
-        room = search rules;
-        done = search rules;
-        more = search rules;
-        matched = search rules;
-        held = (λ j. take (w.to-is j) (w.held-is j).items ++ kept_walk (drop (i + 1) (w.held-is j).items) max clock n whole (into_iter_items (w.ahead-is j)) (into_iter_items (w.left-is j)))
-            ∙ ap (λ xs. take (c.ops.to + 1) w.keep.new.held.items ++ kept_walk xs max clock n whole ws os) e.rest
-            ∙ held_past max clock n whole h (drop (i + 1) hs) ws os past (take c.ops.to hs) _ (e.front ∙ ap (λ xs. take c.ops.to hs ++ xs) one)
-            ∙ ap (λ xs. take c.ops.to hs ++ kept_walk xs max clock n whole ws os) (sym here)
-            ∙ v.held;
-        reports = (λ j. map report_of (w.reports-is j).items ++ reports_walk (drop (i + 1) (w.held-is j).items) max n whole (into_iter_items (w.ahead-is j)) (into_iter_items (w.left-is j)))
-            ∙ ap (λ xs. map report_of c.ops.reports.items ++ reports_walk xs max n whole ws os) e.rest
-            ∙ ap (λ rs. map report_of c.ops.reports.items ++ rs) (reports_past max clock n whole h (drop (i + 1) hs) ws os past)
-            ∙ ap (λ xs. map report_of c.ops.reports.items ++ reports_walk xs max n whole ws os) (sym here)
-            ∙ v.reports;
-        applied = (λ j. (w.counts-is j).applied + tally_walk is_applied_fate (drop (i + 1) (w.held-is j).items) max n whole (into_iter_items (w.ahead-is j)) (into_iter_items (w.left-is j)))
-            ∙ ap (λ xs. c.ops.counts.applied + tally_walk is_applied_fate xs max n whole ws os) e.rest
-            ∙ ap (λ k. c.ops.counts.applied + k) (tally_past max clock n whole h (drop (i + 1) hs) ws os past is_applied_fate)
-            ∙ ap (λ xs. c.ops.counts.applied + tally_walk is_applied_fate xs max n whole ws os) (sym here)
-            ∙ v.applied;
-        already = (λ j. (w.counts-is j).already + tally_walk is_already_fate (drop (i + 1) (w.held-is j).items) max n whole (into_iter_items (w.ahead-is j)) (into_iter_items (w.left-is j)))
-            ∙ ap (λ xs. c.ops.counts.already + tally_walk is_already_fate xs max n whole ws os) e.rest
-            ∙ ap (λ k. c.ops.counts.already + k) (tally_past max clock n whole h (drop (i + 1) hs) ws os past is_already_fate)
-            ∙ ap (λ xs. c.ops.counts.already + tally_walk is_already_fate xs max n whole ws os) (sym here)
-            ∙ v.already;
-        reported = (λ j. (w.counts-is j).reported + tally_walk is_reported_fate (drop (i + 1) (w.held-is j).items) max n whole (into_iter_items (w.ahead-is j)) (into_iter_items (w.left-is j)))
-            ∙ ap (λ xs. c.ops.counts.reported + tally_walk is_reported_fate xs max n whole ws os) e.rest
-            ∙ ap (λ k. c.ops.counts.reported + k) (tally_past max clock n whole h (drop (i + 1) hs) ws os past is_reported_fate)
-            ∙ ap (λ xs. c.ops.counts.reported + tally_walk is_reported_fate xs max n whole ws os) (sym here)
-            ∙ v.reported;
-        retried = (λ j. (w.counts-is j).retried + tally_walk is_retried_fate (drop (i + 1) (w.held-is j).items) max n whole (into_iter_items (w.ahead-is j)) (into_iter_items (w.left-is j)))
-            ∙ ap (λ xs. c.ops.counts.retried + tally_walk is_retried_fate xs max n whole ws os) e.rest
-            ∙ ap (λ k. c.ops.counts.retried + k) (tally_past max clock n whole h (drop (i + 1) hs) ws os past is_retried_fate)
-            ∙ ap (λ xs. c.ops.counts.retried + tally_walk is_retried_fate xs max n whole ws os) (sym here)
-            ∙ v.retried;
-      }
-]
+pub writes-init : goal.writes-init
+writes-init c =
+    let a = c.into_iter-ahead.ensures.rest in
+    let b = c.into_iter-left.ensures.rest in
+    let cs = subst (λ ws. Carries c.args.number 0 c.args.held.now.list ws) (sym a) c.requires.carries in
+    let few = carried_few c.args.number c.args.held.now.list 0 _ cs in
+    let most = c.requires.few in
+    let room = c.requires.room in
+    record {
+      carries = (0, cs);
+      counted = omega (arith, few, most);
+      room = room;
+      done = omega arith;
+      more = omega arith;
+      matched = refl;
+      held = λ i. kept_walk c.args.held.now.list c.args.max c.args.clock c.args.number c.args.whole (a i) (b i);
+      reports = λ i. map report_of c.args.reports.now.items ++ reports_walk c.args.held.now.list c.args.max c.args.number c.args.whole (a i) (b i);
+      applied = (let z : 0 + tally_walk is_applied_fate c.args.held.now.list c.args.max c.args.number c.args.whole (into_iter_items c.into_iter-ahead.result) (into_iter_items c.into_iter-left.result) ≡ tally_walk is_applied_fate c.args.held.now.list c.args.max c.args.number c.args.whole (into_iter_items c.into_iter-ahead.result) (into_iter_items c.into_iter-left.result) = omega arith in z) ∙ (λ i. tally_walk is_applied_fate c.args.held.now.list c.args.max c.args.number c.args.whole (a i) (b i));
+      already = (let z : 0 + tally_walk is_already_fate c.args.held.now.list c.args.max c.args.number c.args.whole (into_iter_items c.into_iter-ahead.result) (into_iter_items c.into_iter-left.result) ≡ tally_walk is_already_fate c.args.held.now.list c.args.max c.args.number c.args.whole (into_iter_items c.into_iter-ahead.result) (into_iter_items c.into_iter-left.result) = omega arith in z) ∙ (λ i. tally_walk is_already_fate c.args.held.now.list c.args.max c.args.number c.args.whole (a i) (b i));
+      reported = (let z : 0 + tally_walk is_reported_fate c.args.held.now.list c.args.max c.args.number c.args.whole (into_iter_items c.into_iter-ahead.result) (into_iter_items c.into_iter-left.result) ≡ tally_walk is_reported_fate c.args.held.now.list c.args.max c.args.number c.args.whole (into_iter_items c.into_iter-ahead.result) (into_iter_items c.into_iter-left.result) = omega arith in z) ∙ (λ i. tally_walk is_reported_fate c.args.held.now.list c.args.max c.args.number c.args.whole (a i) (b i));
+      retried = (let z : 0 + tally_walk is_retried_fate c.args.held.now.list c.args.max c.args.number c.args.whole (into_iter_items c.into_iter-ahead.result) (into_iter_items c.into_iter-left.result) ≡ tally_walk is_retried_fate c.args.held.now.list c.args.max c.args.number c.args.whole (into_iter_items c.into_iter-ahead.result) (into_iter_items c.into_iter-left.result) = omega arith in z) ∙ (λ i. tally_walk is_retried_fate c.args.held.now.list c.args.max c.args.number c.args.whole (a i) (b i));
+    }
+
+pub writes-preserved : goal.writes-preserved
+writes-preserved c =
+    let v = c.writes.invariant in
+    let hs = c.writes.held.list in
+    let ws = into_iter_items c.writes.ahead in
+    let os = into_iter_items c.writes.left in
+    let w = c.in-Some.write in
+    let n = c.args.number in
+    let max = c.args.max in
+    let clock = c.args.clock in
+    let whole = c.args.whole in
+    let at : slice_get (into_iter_items c.writes.ahead) 0 ≡ Some c.in-Some.write = sym c.in-Some.ensures.value in
+    let cs = subst (λ xs. Carries n v.carries.0 hs xs) (cons_of ws w at) v.carries.1 in
+    let f = find_flying n hs v.carries.0 w (drop 1 ws) cs in
+    let e = flying_first n hs w c.len.ensures.behind f in
+    let h = f.one in
+    let en = c.next_of-entry.ensures.value in
+    let y = fate_one max whole h (slice_get os 0) in
+    let x = ap (fate_one max whole h) en in
+    let is = c.settle_one.ensures.held h e ∙ ap (λ o. Rattle.relay_core.specs.Walk.after_one clock w hs (fate_one max whole h o)) en in
+    let r = c.in-Some.ensures.rest in
+    let l = c.next_of-entry.ensures.rest in
+    let t = turned n max clock whole hs c.settle_one.new.held.list ws os w at v.carries h e f.flies is in
+    let one = counts_one (fate_one max whole h (slice_get os 0)) (met_ends max whole h os) in
+    let fin = ends_is (fate_one max whole h (slice_get os 0)) (met_ends max whole h os) in
+    let sa = c.settle_one.ensures.applied h e ∙ ap (λ z. c.writes.counts.applied + tally (is_applied_fate z)) x in
+    let sb = c.settle_one.ensures.already h e ∙ ap (λ z. c.writes.counts.already + tally (is_already_fate z)) x in
+    let sr = c.settle_one.ensures.reported h e ∙ ap (λ z. c.writes.counts.reported + tally (is_reported_fate z)) x in
+    let st = c.settle_one.ensures.retried h e ∙ ap (λ z. c.writes.counts.retried + tally (is_retried_fate z)) x in
+    let sl = c.settle_one.ensures.len h e ∙ ap (λ z. Rattle.std.specs.Prelude.vec_len c.writes.reports + tally (is_reported_fate z)) x in
+    let cap = c.settle_one.ensures.capacity in
+    let few = t.few in
+    let fewer = t.fewer in
+    let lr = ap length r in
+    let counted = v.counted in
+    let room = v.room in
+    let done = v.done in
+    let more = v.more in
+    record {
+      carries = (t.carries.0, subst (λ xs. Carries n t.carries.0 c.settle_one.new.held.list xs) (sym r) t.carries.1);
+      counted = omega (arith, sa, sb, sr, st, one, few, lr, counted);
+      room = omega (arith, sl, cap, fin, fewer, room);
+      done = omega (arith, sa, sb, fin, fewer, done);
+      more = omega (arith, sl, more);
+      matched = c.settle_one.ensures.matched ∙ v.matched;
+      held = (λ i. kept_walk c.settle_one.new.held.list max clock n whole (r i) (l i)) ∙ sym t.kept ∙ v.held;
+      reports = (λ i. (c.settle_one.ensures.reports h e ∙ ap (λ z. map report_of c.writes.reports.items ++ reports_one z h w) x) i ++ reports_walk c.settle_one.new.held.list max n whole (r i) (l i))
+          ∙ append_assoc (map report_of c.writes.reports.items) (reports_one (fate_one max whole h (slice_get os 0)) h w) (reports_walk c.settle_one.new.held.list max n whole (drop 1 ws) (drop 1 os))
+          ∙ ap (λ rs. map report_of c.writes.reports.items ++ rs) (sym (reported_turn n max clock whole hs c.settle_one.new.held.list ws os w at v.carries h e f.flies is))
+          ∙ v.reports;
+      applied = (let a = tally_as is_applied_fate c.settle_one.new.held.list max n whole (into_iter_items c.next_of.new.items) (drop 1 ws) (into_iter_items c.next_of-entry.new.items) (drop 1 os) r l in let b = t.tallied is_applied_fate in let d = v.applied in omega (arith, a, b, d, sa));
+      already = (let a = tally_as is_already_fate c.settle_one.new.held.list max n whole (into_iter_items c.next_of.new.items) (drop 1 ws) (into_iter_items c.next_of-entry.new.items) (drop 1 os) r l in let b = t.tallied is_already_fate in let d = v.already in omega (arith, a, b, d, sb));
+      reported = (let a = tally_as is_reported_fate c.settle_one.new.held.list max n whole (into_iter_items c.next_of.new.items) (drop 1 ws) (into_iter_items c.next_of-entry.new.items) (drop 1 os) r l in let b = t.tallied is_reported_fate in let d = v.reported in omega (arith, a, b, d, sr));
+      retried = (let a = tally_as is_retried_fate c.settle_one.new.held.list max n whole (into_iter_items c.next_of.new.items) (drop 1 ws) (into_iter_items c.next_of-entry.new.items) (drop 1 os) r l in let b = t.tallied is_retried_fate in let d = v.retried in omega (arith, a, b, d, st));
+    }
+
+pub returns-clause-held : goal.returns-clause-held
+returns-clause-held c =
+    let v = c.writes.invariant in
+    let e = nil_of (into_iter_items c.writes.ahead) (sym c.in_default.ensures.value) in
+    let cs = subst (λ xs. Carries c.args.number v.carries.0 c.writes.held.list xs) e v.carries.1 in
+    sym (kept_end c.args.number c.args.max c.args.clock c.args.whole c.writes.held.list v.carries.0 (into_iter_items c.writes.left) cs)
+    ∙ ap (λ xs. kept_walk c.writes.held.list c.args.max c.args.clock c.args.number c.args.whole xs (into_iter_items c.writes.left)) (sym e) ∙ v.held
+
+pub returns-clause-reports : goal.returns-clause-reports
+returns-clause-reports c =
+    let v = c.writes.invariant in
+    let e = nil_of (into_iter_items c.writes.ahead) (sym c.in_default.ensures.value) in
+    let cs = subst (λ xs. Carries c.args.number v.carries.0 c.writes.held.list xs) e v.carries.1 in
+    sym (nothing_after (map report_of c.writes.reports.items))
+    ∙ ap (λ rs. map report_of c.writes.reports.items ++ rs) (sym (reports_end c.args.number c.args.max c.args.clock c.args.whole c.writes.held.list v.carries.0 (into_iter_items c.writes.left) cs)
+    ∙ ap (λ xs. reports_walk c.writes.held.list c.args.max c.args.number c.args.whole xs (into_iter_items c.writes.left)) (sym e)) ∙ v.reports
+
+pub returns-clause-applied : goal.returns-clause-applied
+returns-clause-applied c =
+    let v = c.writes.invariant in
+    let e = nil_of (into_iter_items c.writes.ahead) (sym c.in_default.ensures.value) in
+    let cs = subst (λ xs. Carries c.args.number v.carries.0 c.writes.held.list xs) e v.carries.1 in
+    let z = tally_end c.args.number c.args.max c.args.clock c.args.whole is_applied_fate c.writes.held.list v.carries.0 (into_iter_items c.writes.left) cs in
+    let a = tally_as is_applied_fate c.writes.held.list c.args.max c.args.number c.args.whole (into_iter_items c.writes.ahead) [] (into_iter_items c.writes.left) (into_iter_items c.writes.left) e refl in
+    let d = v.applied in omega (arith, z, a, d)
+
+pub returns-clause-already : goal.returns-clause-already
+returns-clause-already c =
+    let v = c.writes.invariant in
+    let e = nil_of (into_iter_items c.writes.ahead) (sym c.in_default.ensures.value) in
+    let cs = subst (λ xs. Carries c.args.number v.carries.0 c.writes.held.list xs) e v.carries.1 in
+    let z = tally_end c.args.number c.args.max c.args.clock c.args.whole is_already_fate c.writes.held.list v.carries.0 (into_iter_items c.writes.left) cs in
+    let a = tally_as is_already_fate c.writes.held.list c.args.max c.args.number c.args.whole (into_iter_items c.writes.ahead) [] (into_iter_items c.writes.left) (into_iter_items c.writes.left) e refl in
+    let d = v.already in omega (arith, z, a, d)
+
+pub returns-clause-reported : goal.returns-clause-reported
+returns-clause-reported c =
+    let v = c.writes.invariant in
+    let e = nil_of (into_iter_items c.writes.ahead) (sym c.in_default.ensures.value) in
+    let cs = subst (λ xs. Carries c.args.number v.carries.0 c.writes.held.list xs) e v.carries.1 in
+    let z = tally_end c.args.number c.args.max c.args.clock c.args.whole is_reported_fate c.writes.held.list v.carries.0 (into_iter_items c.writes.left) cs in
+    let a = tally_as is_reported_fate c.writes.held.list c.args.max c.args.number c.args.whole (into_iter_items c.writes.ahead) [] (into_iter_items c.writes.left) (into_iter_items c.writes.left) e refl in
+    let d = v.reported in omega (arith, z, a, d)
+
+pub returns-clause-retried : goal.returns-clause-retried
+returns-clause-retried c =
+    let v = c.writes.invariant in
+    let e = nil_of (into_iter_items c.writes.ahead) (sym c.in_default.ensures.value) in
+    let cs = subst (λ xs. Carries c.args.number v.carries.0 c.writes.held.list xs) e v.carries.1 in
+    let z = tally_end c.args.number c.args.max c.args.clock c.args.whole is_retried_fate c.writes.held.list v.carries.0 (into_iter_items c.writes.left) cs in
+    let a = tally_as is_retried_fate c.writes.held.list c.args.max c.args.number c.args.whole (into_iter_items c.writes.ahead) [] (into_iter_items c.writes.left) (into_iter_items c.writes.left) e refl in
+    let d = v.retried in omega (arith, z, a, d)

@@ -1,8 +1,9 @@
-use Rattle.std.proofs.Common.{◌-◌, subst, arith, rules}
+use Rattle.std.proofs.Common.{◌-◌, ap, subst, arith, rules}
 use Rattle.relay_core.specs.State.{IsLane}
 use Rattle.relay_core.specs.Memory.{writes_in}
 use Rattle.relay_core.proofs.Taken.{entries_length}
 use Rattle.relay_core.proofs.Weighed.{weighed_seen}
+use Rattle.relay_core.specs.State.{Seen}
 use Rattle.relay_core.proofs.lane.Lane.totals.Goals as goal
 
 pub returns-clause-lane : goal.returns-clause-lane
@@ -10,12 +11,12 @@ returns-clause-lane c =
     let i = c.self.inside in
     let v = c.self.invariant in
     let begun = v.flight.begun in
-    subst IsLane c.self.view_is (record {
+    subst IsLane (ap (λ (v : Seen). v.state) c.self.view_is) (record {
       valid = v.config;
-      config = λ j. record { first = i.config.first_version; deals = v.deals j; max = i.config.attempts };
+      config = λ j. record { epoch = i.config.epoch; first = v.begins j; deals = i.config.deal; max = i.config.attempts; cap = i.config.limits.count };
       senders = (let n = v.senders in omega arith);
-      held = (let n = entries_length i.held.items (writes_in i.flown.items) in let f = v.few in omega arith);
-      weighed = weighed_seen i.config.attempts (i.flight.next - 1) (writes_in i.flown.items) i.held.items v.readable.kept;
+      held = (let n = entries_length i.held.list (writes_in i.flown.items) in let f = v.few in omega arith);
+      weighed = weighed_seen i.config.attempts (i.flight.next - 1) (writes_in i.flown.items) i.held.list v.readable.kept;
       flying = (let w = v.flight.within in let m = v.most in omega arith);
       next = omega (arith, begun);
       numbers = (let l = v.left in let d = v.dealt in omega (arith, l, d, begun));

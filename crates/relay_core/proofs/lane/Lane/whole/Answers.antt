@@ -1,14 +1,35 @@
+use Rattle.std.proofs.Common.{sym, ap, ◌∙◌, arith, length, subst}
+use Rattle.relay_results.specs.Numbers.{from_zero}
 use Rattle.relay_results.specs.Outside.{Whole}
-use Rattle.relay_core.proofs.Reading.{number_zero}
-use Rattle.relay_core.specs.State.{writes_of}
-use Rattle.relay_core.proofs.Saying.{whole_says}
+use Rattle.relay_core.proofs.Reading.{flying_positive, writes_seen}
+use Rattle.relay_core.proofs.Invariant.{few_in}
+use Rattle.relay_core.specs.State.{State, writes_of}
+use Rattle.relay_core.specs.Memory.{IsHalf}
+use Rattle.relay_core.proofs.Saying.{way_by, whole_says, whole_halves}
+use Rattle.relay_core.specs.State.{Seen}
 use Rattle.relay_core.proofs.lane.Lane.whole.Goals as goal
 
-pub returns-then-number-eq0-clause-flies : goal.returns-then-number-eq0-clause-flies
-returns-then-number-eq0-clause-flies c = number_zero c.args.self.now.core.flying c.args.number c.if-number-eq0.true
+pub way_of-whole-requires : goal.way_of-whole-requires
+way_of-whole-requires c =
+    let i = c.self.inside in
+    let e = c.in-Some.ensures.writes ∙ ap (λ (s : State). writes_of c.args.number s) (sym (ap (λ (v : Seen). v.state) c.self.view_is)) ∙ writes_seen i.flown.items (from_zero c.args.number) in
+    let n = ap length e in
+    let f = few_in i.flown.items (from_zero c.args.number) c.self.invariant.readable.few in
+    omega (arith, n, f)
 
-pub returns-in-Some-clause-ok : goal.returns-in-Some-clause-ok
-returns-in-Some-clause-ok c = c.in-Some.ensures.settled (Whole c.args.status) (whole_says (writes_of c.args.number c.args.self.now) c.args.status _ _ c.reported_status.ensures c.new.ensures.items)
+pub settle-requires-clause-first : goal.settle-requires-clause-first
+settle-requires-clause-first c = flying_positive c.args.self.now.state.core.flying c.args.number (sym c.in-Some.ensures.flies)
 
-pub returns-in-Some-clause-counts : goal.returns-in-Some-clause-counts
-returns-in-Some-clause-counts c = c.in-Some.ensures.counts (Whole c.args.status) (whole_says (writes_of c.args.number c.args.self.now) c.args.status _ _ c.reported_status.ensures c.new.ensures.items)
+pub settle-requires-clause-halves : goal.settle-requires-clause-halves
+settle-requires-clause-halves c =
+    subst (λ ws. IsHalf c.way_of-whole.result (length ws)) c.in-Some.ensures.writes (whole_halves (length c.in-Some.writes.now) c.args.status c.way_of-whole.result c.way_of-whole.ensures)
+
+pub returns-in-Some-settle-clause-ok : goal.returns-in-Some-settle-clause-ok
+returns-in-Some-settle-clause-ok c =
+    c.in-Some-settle.ensures.settled (Whole c.args.status)
+    (whole_says (writes_of c.args.number c.args.self.now.state) c.args.status _ _ (c.way_of-whole.ensures ∙ ap (λ ws. way_by (length ws) c.args.status) c.in-Some.ensures.writes) c.new.ensures.items)
+
+pub returns-in-Some-settle-clause-counts : goal.returns-in-Some-settle-clause-counts
+returns-in-Some-settle-clause-counts c =
+    c.in-Some-settle.ensures.counts (Whole c.args.status)
+    (whole_says (writes_of c.args.number c.args.self.now.state) c.args.status _ _ (c.way_of-whole.ensures ∙ ap (λ ws. way_by (length ws) c.args.status) c.in-Some.ensures.writes) c.new.ensures.items)

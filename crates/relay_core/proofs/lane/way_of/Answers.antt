@@ -1,5 +1,5 @@
 use Rattle.std.proofs.Common.{rules}
-use Rattle.relay_core.proofs.lane.reported_status.Goals as goal
+use Rattle.relay_core.proofs.lane.way_of.Goals as goal
 
 pub returns-in-429 : goal.returns-in-429
 returns-in-429 c = search rules
