@@ -1,5 +1,5 @@
 -- What turns add up to.
-use Rattle.std.proofs.Common.{◌≡◌, ◌≢◌, ℕ, ◌+◌, ◌-◌, ◌*◌, ◌<◌, ◌≤◌, List, [], ◌∷◌, ◌++◌, length, Option, Some, None, Bool, true, refl, sym, ap, ◌∙◌, subst, ⊎_elim, inl, inr, arith}
+use Rattle.std.proofs.Common.{◌≡◌, ◌≢◌, ℕ, ◌+◌, ◌-◌, ◌*◌, ◌^◌, ◌<◌, ◌≤◌, List, [], ◌∷◌, ◌++◌, length, Option, Some, None, Bool, true, refl, sym, ap, ◌∙◌, subst, ⊎_elim, inl, inr, arith}
 use Rattle.std.specs.Prelude.{nat_lt, filter, is_some, option_map, if◌then◌else◌}
 use Rattle.std.proofs.Math.Nat.{suc-mul}
 use borrow.Author.Tests.{ltb-false}
@@ -8,6 +8,7 @@ use Rattle.relay_results.specs.Words.{Mem}
 use Rattle.relay_results.specs.Outside.{Answer, Unanswered}
 use Rattle.relay_results.proofs.Lists.{true_or_false, Mem-filter}
 use Rattle.relay_delivery.specs.Bound.{tries_left}
+use Rattle.relay_delivery.proofs.Halving.{halvings_few}
 use Rattle.relay_delivery.specs.Lane.{Entry, held_of}
 use Rattle.relay_core.specs.State.{State, next_batch, is_eligible, due_in, first_due}
 use Rattle.relay_lane.specs.Rest.{last_tick, IsAtRest}
@@ -67,7 +68,7 @@ due_within s n r e =
     omega (arith, end, at, is, clock)
 
 pub ticks_rest : (s : State) (n : ℕ) → IsAtRest s → s.core.clock + n ≤ last_tick → IsAtRest (after_ticks n s)
-ticks_rest s n r le = record { batches = r.batches; flying = r.flying; clock = le; held = r.held }
+ticks_rest s n r le = record { batches = r.batches; flying = r.flying; clock = le; held = r.held; rises = r.rises }
 
 pub stays_itself : (s : State) → Stays s s
 stays_itself s = record { config = refl; closed = refl; taken = refl }
@@ -146,12 +147,12 @@ of_one most n le = ⊎_elim {C = sends_of most n ≤ most}
     (λ t. let e : sends_of most n ≡ 1 = ap (λ b. if b then most - n else 1) t in omega (arith, e, le))
     (true_or_false (nat_lt n most))
 
-left_most : (most : ℕ) (es : List Entry) → 1 ≤ most → sends_among most es ≤ length es * most
-left_most most [] le = omega arith
-left_most most (e ∷ es) le = let r = left_most most es le in let o = of_one most e.held.attempts le in let m = suc-mul (length es) most in omega (arith, r, o, m)
+left_most : (most : ℕ) (es : List Entry) → 1 ≤ most → ((e : Entry) → Mem e es → e.held.cap < 2 ^ 14) → sends_among most es ≤ length es * (most + 14)
+left_most most [] le low = omega arith
+left_most most (e ∷ es) le low = let r = left_most most es le (λ x m. low x (inr m)) in let o = of_one most e.held.attempts le in let m = suc-mul (length es) (most + 14) in let h = halvings_few 14 e.held.cap (low e (inl refl)) in omega (arith, r, o, m, h)
 
 pub left_at_most : LeftAtMost
-left_at_most s le = left_most s.core.config.max s.core.held le
+left_at_most s le low = left_most s.core.config.max s.core.held le low
 
 of_tries : (most n : ℕ) → n < most → sends_of most n ≡ most - n
 of_tries most n lt = ⊎_elim {C = sends_of most n ≡ most - n} (λ t. ap (λ b. if b then most - n else 1) t) (λ t. let z = ltb-false _ _ t in absurd (omega (arith, z, lt))) (true_or_false (nat_lt n most))

@@ -10,7 +10,7 @@ use Rattle.relay_lane.specs.Turns.{Turn, Exchanges, Pauses, after_turn, after_tu
 use Rattle.relay_lane.specs.Steps.{IsPressed}
 
 pub flushed_rests : (s : State) → IsAtRest s → IsAtRest (flushed s)
-flushed_rests s r = record { batches = r.batches; flying = r.flying; clock = r.clock; held = r.held }
+flushed_rests s r = record { batches = r.batches; flying = r.flying; clock = r.clock; held = r.held; rises = r.rises }
 
 mark_is : (s : State) → 0 < s.core.taken → mark_of s ≡ s.core.config.first + min s.core.taken s.core.config.deals - 1
 mark_is s some = ⊎_elim {C = mark_of s ≡ s.core.config.first + min s.core.taken s.core.config.deals - 1}

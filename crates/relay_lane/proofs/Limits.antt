@@ -1,6 +1,6 @@
 -- What a request carries keeps the limits of a batch, and so those of a wire.
 use Rattle.std.proofs.Common.{◌≡◌, ℕ, ◌+◌, ◌-◌, ◌*◌, ◌<◌, ◌≤◌, List, [], ◌∷◌, ◌++◌, length, Option, Some, None, Bool, true, false, ◌&&◌, refl, sym, ap, ◌∙◌, subst, ⊎_elim, inl, inr, arith, length-append, append_assoc}
-use Rattle.std.specs.Prelude.{◌⊎◌, ◌||◌, nat_lt, nat_le, map, if◌then◌else◌}
+use Rattle.std.specs.Prelude.{◌⊎◌, ◌||◌, nat_lt, nat_le, min, map, if◌then◌else◌}
 use Rattle.std.proofs.lemmas.List.{length-map}
 use Rattle.std.proofs.lemmas.List.Sums.{sum_by_push, sum_by-cons}
 use Rattle.std.proofs.lemmas.List.Elements.{All-nil, All-cons}
@@ -17,11 +17,10 @@ use Rattle.relay_batch.specs.declared.item.BatchItem.{BatchItem}
 use Rattle.relay_batch.specs.declared.item.Limits.{Limits}
 use Rattle.relay_batch.specs.declared.offer.Offer.{Offer}
 use Rattle.relay_batch.specs.declared.offer.Offer.TheVariants.{Busy, Closed, Added}
-use Rattle.relay_batch.specs.Batches.{bytes_of}
-use Rattle.relay_batch.specs.Gathering.{Gathering, holds_document, is_count_reached, passes_bytes, answer_to}
+use Rattle.relay_batch.specs.Batches.{bytes_of, count_of}
+use Rattle.relay_batch.specs.Gathering.{Gathering, holds_document, passes_count, passes_bytes, answer_to}
 use Rattle.relay_results.specs.Words.{Mem}
 use Rattle.relay_results.proofs.Lists.{and_left, and_right, Mem-sub, filter_sub, sub_joined}
-use Rattle.relay_delivery.specs.Causes.{deals_from}
 use Rattle.relay_delivery.specs.Machine.{Config, Place, write_of}
 use Rattle.relay_delivery.specs.Lane.{Entry, held_of, waits, is_candidate, candidates, writes_of_all}
 use Rattle.relay_core.specs.declared.config.RelayConfig.{RelayConfig}
@@ -29,6 +28,7 @@ use Rattle.relay_core.specs.Limits.{is_from_to, are_valid_limits, is_valid}
 use Rattle.relay_core.specs.Rule.{by_answer, chosen, item_of, with_item}
 use Rattle.relay_core.specs.State.{State, gathering, next_entries, IsLane}
 use Rattle.relay_core.proofs.Tying.{chosen_sub}
+use Rattle.relay_core.proofs.Quiet.{count_most}
 use Rattle.relay_core.proofs.Valid.{valid_facts}
 use Rattle.relay_lane.specs.Rest.{IsWaiting, IsAtRest}
 
@@ -70,7 +70,7 @@ waits_none (Some f) t = absurd (cc)
 -- ---- a batch
 
 pub record Keeps (l : Limits) (is : List BatchItem) : Type 0 where
-  pub counted : length is ≤ l.count
+  pub counted : 1 < length is → length is ≤ l.count
   pub weighed : 1 < length is → bytes_of is ≤ l.bytes
 
 no_closed : (a b : Bool) → (if a then Busy else if b then Closed else Added) ≡ Added → b ≡ false
@@ -88,13 +88,15 @@ not_passed false b e = inl refl
 
 one_more_keeps : (g : Gathering) (i : BatchItem) → Keeps g.limits g.items → answer_to i g ≡ Added → Keeps g.limits (g.items ++ i ∷ [])
 one_more_keeps g i k e =
-    let n = neither (is_count_reached g) (passes_bytes g i.bytes) (no_closed (holds_document i.doc g.items) _ e) in
-    let few = leb-false _ _ n.0 in
+    let n = neither (passes_count g i.cap) (passes_bytes g i.bytes) (no_closed (holds_document i.doc g.items) _ e) in
     let len = length-append g.items (i ∷ []) in
     let one : length (i ∷ []) ≡ 1 = refl in
     let sum : bytes_of (g.items ++ i ∷ []) ≡ bytes_of g.items + i.bytes = sum_by_push (λ (x : BatchItem). x.bytes) g.items i in
     record {
-      counted = omega (arith, few, len, one);
+      counted = λ lt. ⊎_elim {C = length (g.items ++ i ∷ []) ≤ g.limits.count}
+          (λ t. let z = ltb-false _ _ t in absurd (omega (arith, z, len, one, lt)))
+          (λ t. let z = leb-false _ _ t in let m = count_most g.limits.count g.items in omega (arith, z, m, len, one))
+          (not_passed (nat_lt 0 (length g.items)) (nat_le (min (count_of g.limits.count g.items) i.cap) (length g.items)) n.0);
       weighed = λ lt. ⊎_elim {C = bytes_of (g.items ++ i ∷ []) ≤ g.limits.bytes}
           (λ t. let z = ltb-false _ _ t in absurd (omega (arith, z, len, one, lt)))
           (λ t. let z = ltb-false _ _ t in omega (arith, z, sum))
@@ -138,9 +140,9 @@ version_small s l e w =
     let first = ap (λ (c : Config). c.first) l.config in
     let deals = ap (λ (c : Config). c.deals) l.config in
     let v = w.dealt in
-    let f = (valid_facts s.config l.valid).last in
-    let d : deals_from s.config.first_version ≤ last_version + 1 - s.config.first_version = omega arith in
-    omega (arith, first, deals, v, f, d)
+    let e = (valid_facts s.config l.valid).epoch in
+    let d = (valid_facts s.config l.valid).deal.1 in
+    omega (arith, first, deals, v, e, d)
 
 dealt_all : (s : State) → IsLane s → (es : List Entry) → ((e : Entry) → Mem e es → IsWaiting s.core.config s.core.taken e) → AreDealt (writes_of_all es)
 dealt_all s l [] w = All-nil (λ (x : Write). x.version ≤ last_version)
@@ -199,12 +201,17 @@ pub record IsFit (s : State) : Type 0 where
   pub dealt : AreDealt (writes_of_all (next_entries s))
   pub bytes : length (text_of (writes_of_all (next_entries s))) ≤ 16777216
 
+few_items : (l : Limits) (is : List BatchItem) → 1 ≤ l.count → Keeps l is → length is ≤ l.count
+few_items l [] some k = omega arith
+few_items l (i ∷ []) some k = omega (arith, some)
+few_items l (i ∷ j ∷ is) some k = k.counted (omega arith)
+
 pub requests_fit : (s : State) → IsLane s → IsAtRest s → IsFit s
 requests_fit s l r =
     let es = next_entries s in
     let w : (e : Entry) → Mem e es → IsWaiting s.core.config s.core.taken e = λ e m. r.held e (among s e m) in
-    let k : Keeps s.config.limits (map item_of es) = chosen_keeps (candidates s.core) (gathering s) (record { counted = omega arith; weighed = λ lt. omega arith }) in
-    let c = k.counted in
+    let k : Keeps s.config.limits (map item_of es) = chosen_keeps (candidates s.core) (gathering s) (record { counted = λ lt. omega arith; weighed = λ lt. omega arith }) in
+    let c = few_items s.config.limits (map item_of es) (valid_limits s.config l.valid).count.0 k in
     let v = (valid_limits s.config l.valid).count.1 in
     let a = length-map es item_of in
     let b = length-map es (λ (e : Entry). e.held) in

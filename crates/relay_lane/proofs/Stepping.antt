@@ -1,11 +1,13 @@
 -- One turn of a loop: what it keeps and what falls.
-use Rattle.std.proofs.Common.{◌≡◌, ℕ, ◌+◌, ◌*◌, ◌≤◌, length, Option, Some, None, Bool, true, false, refl, sym, ap, ◌∙◌, subst, ⊎_elim, inl, inr, arith}
+use Rattle.std.proofs.Common.{◌≡◌, ℕ, ◌+◌, ◌*◌, ◌^◌, ◌<◌, ◌≤◌, length, Option, Some, None, Bool, true, false, refl, sym, ap, ◌∙◌, subst, ⊎_elim, inl, inr, arith}
 use Rattle.std.specs.Prelude.{◌⊎◌, is_some}
 use Rattle.std.specs.List.{list_all}
 use Rattle.std.proofs.Math.Nat.{mul-le-mul_left}
 use Rattle.relay_results.specs.Outside.{Outside}
 use Rattle.relay_results.proofs.Steps.{continues_itself}
 use Rattle.relay_delivery.specs.Machine.{Config}
+use Rattle.relay_delivery.specs.Lane.{Entry}
+use Rattle.relay_results.specs.Words.{Mem}
 use Rattle.relay_delivery.proofs.Fitting.{clock_fits}
 use Rattle.relay_core.specs.State.{State, all_closed, next_batch, due_in, IsLane}
 use Rattle.relay_core.specs.Ties.{Fits}
@@ -77,22 +79,31 @@ delivers_ticks d fits w s t n e d_true taken o f l =
 
 -- ---- how many
 
-pub sends_small : (s : State) → IsLane s → sends_left s ≤ 2097152
-sends_small s l =
+-- no cap is above the count of a valid config
+pub low_caps : (s : State) → IsLane s → IsAtRest s → (e : Entry) → Mem e s.core.held → e.held.cap < 2 ^ 14
+low_caps s l r e m =
+    let c = (r.held e m).cap in
+    let first = ap (λ (c : Config). c.cap) l.config in
+    let most = (valid_facts s.config l.valid).count.1 in
+    let p : 2 ^ 14 ≡ 16384 = refl in
+    omega (arith, c, first, most, p)
+
+pub sends_small : (s : State) → IsLane s → IsAtRest s → sends_left s ≤ 3014656
+sends_small s l r =
     let v = valid_facts s.config l.valid in
     let max = ap (λ (c : Config). c.max) l.config in
     let some = v.tries.0 in
-    let most = left_at_most s (omega (arith, max, some)) in
+    let most = left_at_most s (omega (arith, max, some)) (low_caps s l r) in
     let few = v.tries.1 in
     let held = l.held in
     let limit = v.held in
-    let m = mul-le-mul_left (length s.core.held) (let k : s.core.config.max ≤ 32 = omega (arith, max, few) in k) in
+    let m = mul-le-mul_left (length s.core.held) (let k : s.core.config.max + 14 ≤ 46 = omega (arith, max, few) in k) in
     omega (arith, most, held, limit, m)
 
-pub most_sent : (s t : State) → IsLane s → t.core.requests + sends_left t ≤ s.core.requests + sends_left s → t.core.requests ≤ s.core.requests + length s.core.held * s.config.attempts
-most_sent s t l bound =
+pub most_sent : (s t : State) → IsLane s → IsAtRest s → t.core.requests + sends_left t ≤ s.core.requests + sends_left s → t.core.requests ≤ s.core.requests + length s.core.held * (s.config.attempts + 14)
+most_sent s t l r bound =
     let max = ap (λ (c : Config). c.max) l.config in
     let some = (valid_facts s.config l.valid).tries.0 in
-    let most = left_at_most s (omega (arith, max, some)) in
-    let same : length s.core.held * s.core.config.max ≡ length s.core.held * s.config.attempts = ap (λ n. length s.core.held * n) max in
+    let most = left_at_most s (omega (arith, max, some)) (low_caps s l r) in
+    let same : length s.core.held * (s.core.config.max + 14) ≡ length s.core.held * (s.config.attempts + 14) = ap (λ n. length s.core.held * (n + 14)) max in
     omega (arith, bound, most, same)

@@ -107,8 +107,8 @@ pub within_test : (a b : ℕ) → a ≤ b → nat_le a b ≡ true
 within_test a b le = ⊎_elim {C = nat_le a b ≡ true} (λ t. t) (λ t. let k = leb-false a b t in absurd (omega (arith, k, le))) (true_or_false (nat_le a b))
 
 -- the first offer is taken
-first_added : (s : State) (i : BatchItem) → 1 ≤ s.config.limits.count → answer_to i (gathering s) ≡ Added
-first_added s i le = ap (λ b. if b || false then Closed else Added) (above_test s.config.limits.count 0 (omega (arith, le)))
+first_added : (s : State) (i : BatchItem) → answer_to i (gathering s) ≡ Added
+first_added s i = refl
 
 module _ (s : State) (l : IsLane s) (r : IsAtRest s) (pressed : IsPressed s) where
   batch_of_first : (c : Entry) (cs : List Entry) → candidates s.core ≡ c ∷ cs → Mem c s.core.held → next_batch s ≡ None → ⊥
@@ -117,7 +117,7 @@ module _ (s : State) (l : IsLane s) (r : IsAtRest s) (pressed : IsPressed s) whe
       let g = gathering s in
       let all = map item_of (candidates s.core) in
       let o = offered all g in
-      let added = first_added s (item_of c) v.count.0 in
+      let added = first_added s (item_of c) in
       let items : o.items ≡ item_of c ∷ map item_of (chosen cs (with_item (item_of c) g)) =
       offered_chosen (candidates s.core) g
       ∙ ap (λ es. map item_of (chosen es g)) are

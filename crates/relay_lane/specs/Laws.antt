@@ -1,5 +1,5 @@
 -- What follows from the definitions.
-use Rattle.std.specs.Prelude.{◌≡◌, ◌+◌, ◌*◌, ◌<◌, ◌≤◌, ℕ, Bool, length}
+use Rattle.std.specs.Prelude.{◌≡◌, ◌+◌, ◌*◌, ◌^◌, ◌<◌, ◌≤◌, ℕ, Bool, length}
 use Rattle.relay_action.specs.declared.mail.Body.{Body}
 use Rattle.relay_results.specs.Words.{Mem}
 use Rattle.relay_delivery.specs.Lane.{Entry, tries_of}
@@ -40,9 +40,11 @@ WorksOn = (going : State → Bool) (s t u : State) → Worked going s t → Work
 
 -- ---- the bound
 
--- it may send at most as many requests as it holds operations, times the attempts
+-- it may send at most as many requests as it holds operations, times the attempts and 14, where no cap is above 2^14
 abbrev pub LeftAtMost : Type 0
-LeftAtMost = (s : State) → 1 ≤ s.core.config.max → sends_left s ≤ length s.core.held * s.core.config.max
+LeftAtMost =
+    (s : State) → 1 ≤ s.core.config.max → ((e : Entry) → Mem e s.core.held → e.held.cap < 2 ^ 14) →
+    sends_left s ≤ length s.core.held * (s.core.config.max + 14)
 
 -- where each held operation has attempts left, it is their sum
 abbrev pub LeftIsTries : Type 0

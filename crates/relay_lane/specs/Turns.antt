@@ -1,6 +1,7 @@
 -- What a lane does that works on a wire, turn by turn, and how many requests it may send.
 use Rattle.std.specs.Prelude.{◌≡◌, ◌≢◌, ◌+◌, ◌-◌, ℕ, List, [], ◌∷◌, Option, Some, None, is_some, ◌≤◌, Bool, true, nat_lt, nat_le, length, if◌then◌else◌}
 use Rattle.relay_results.specs.Outside.{Answer, Unanswered}
+use Rattle.relay_delivery.specs.Bound.{halvings}
 use Rattle.relay_delivery.specs.Lane.{Entry}
 use Rattle.relay_core.specs.State.{State, next_batch, after_request, answered, due_in}
 use Rattle.relay_lane.specs.Rest.{last_tick}
@@ -82,13 +83,14 @@ is_full s = holds s.config.max_held s
 
 -- ---- how many requests it may send
 
--- one operation may go into as many requests as it has attempts left, and what is held into one at least
+-- one operation may go into as many requests as it has attempts left, and into one at least, and into one more for each
+-- halving of its cap
 abbrev pub sends_of : ℕ → ℕ → ℕ
 sends_of most attempts = if nat_lt attempts most then most - attempts else 1
 
 abbrev pub sends_among : ℕ → List Entry → ℕ
 sends_among most [] = 0
-sends_among most (e ∷ es) = sends_of most e.held.attempts + sends_among most es
+sends_among most (e ∷ es) = sends_of most e.held.attempts + halvings e.held.cap + sends_among most es
 
 abbrev pub sends_left : State → ℕ
 sends_left s = sends_among s.core.config.max s.core.held

@@ -16,20 +16,20 @@ use std::alloc::AllocError;
 /// there was no memory for a request; the lane is as the last settled request left it, and the call may
 /// be made again.
 pub fn pump<W: Wire>(lane: &mut Lane, wire: &mut W) -> Result<u64, AllocError>
-    requires rest { IsAtRest lane.old }
+    requires rest { IsAtRest lane.old.state }
     requires out { W.out wire.old ≡ [] }
-    ensures requests { IfOk result (λ n. lane.new.core.requests ≡ lane.old.core.requests + n) }
-    ensures done { OnOk result (next_batch lane.new ≡ None) }
-    ensures memory { OnErr result (0 < length lane.new.core.held) }
-    ensures worked { Worked always lane.old lane.new }
-    ensures clock { lane.new.core.clock ≡ lane.old.core.clock }
-    ensures bound { lane.new.core.requests + sends_left lane.new
-        ≤ lane.old.core.requests + sends_left lane.old }
-    ensures stays { Stays lane.old lane.new }
-    ensures rest { IsAtRest lane.new }
+    ensures requests { IfOk result (λ n. lane.new.state.core.requests ≡ lane.old.state.core.requests + n) }
+    ensures done { OnOk result (next_batch lane.new.state ≡ None) }
+    ensures memory { OnErr result (0 < length lane.new.state.core.held) }
+    ensures worked { Worked always lane.old.state lane.new.state }
+    ensures clock { lane.new.state.core.clock ≡ lane.old.state.core.clock }
+    ensures bound { lane.new.state.core.requests + sends_left lane.new.state
+        ≤ lane.old.state.core.requests + sends_left lane.old.state }
+    ensures stays { Stays lane.old.state lane.new.state }
+    ensures rest { IsAtRest lane.new.state }
     ensures out { W.out wire.new ≡ [] }
     ensures describes { W.describes wire.new ≡ W.describes wire.old }
-    ensures delivers { Delivers (W.describes wire.old) W.fits wire.old wire.new lane.old lane.new }
+    ensures delivers { Delivers (W.describes wire.old) W.fits wire.old wire.new lane.old.state lane.new.state }
 {
     let _ = lane.totals();
     let mut sent: u64 = 0;
@@ -47,20 +47,20 @@ fn work<W: Wire, P: Pace>(
     least: u32,
 ) -> Result<(), AllocError>
     requires some { 1 ≤ least }
-    requires rest { IsAtRest lane.old }
-    requires pressed { IsPressed lane.old }
+    requires rest { IsAtRest lane.old.state }
+    requires pressed { IsPressed lane.old.state }
     requires out { W.out wire.old ≡ [] }
-    ensures done { OnOk result (length lane.new.core.held < least) }
-    ensures memory { OnErr result (least ≤ length lane.new.core.held) }
-    ensures worked { Worked (holds least) lane.old lane.new }
-    ensures bound { lane.new.core.requests + sends_left lane.new
-        ≤ lane.old.core.requests + sends_left lane.old }
-    ensures paused { Paused (lane.new.core.clock - lane.old.core.clock) (P.paused pace.old) (P.paused pace.new) }
-    ensures stays { Stays lane.old lane.new }
-    ensures rest { IsAtRest lane.new }
+    ensures done { OnOk result (length lane.new.state.core.held < least) }
+    ensures memory { OnErr result (least ≤ length lane.new.state.core.held) }
+    ensures worked { Worked (holds least) lane.old.state lane.new.state }
+    ensures bound { lane.new.state.core.requests + sends_left lane.new.state
+        ≤ lane.old.state.core.requests + sends_left lane.old.state }
+    ensures paused { Paused (lane.new.state.core.clock - lane.old.state.core.clock) (P.paused pace.old) (P.paused pace.new) }
+    ensures stays { Stays lane.old.state lane.new.state }
+    ensures rest { IsAtRest lane.new.state }
     ensures out { W.out wire.new ≡ [] }
     ensures describes { W.describes wire.new ≡ W.describes wire.old }
-    ensures delivers { Delivers (W.describes wire.old) W.fits wire.old wire.new lane.old lane.new }
+    ensures delivers { Delivers (W.describes wire.old) W.fits wire.old wire.new lane.old.state lane.new.state }
 {
     'turns: while lane.held() >= least {
         if !send_next(lane, wire)? {
@@ -78,19 +78,19 @@ pub fn make_room<W: Wire, P: Pace>(
     wire: &mut W,
     pace: &mut P,
 ) -> Result<(), AllocError>
-    requires rest { IsAtRest lane.old }
+    requires rest { IsAtRest lane.old.state }
     requires out { W.out wire.old ≡ [] }
-    ensures done { OnOk result (length lane.new.core.held < lane.new.config.max_held) }
-    ensures memory { OnErr result (lane.new.config.max_held ≤ length lane.new.core.held) }
-    ensures worked { Worked is_full (flushed lane.old) lane.new }
-    ensures bound { lane.new.core.requests + sends_left lane.new
-        ≤ lane.old.core.requests + sends_left lane.old }
-    ensures paused { Paused (lane.new.core.clock - lane.old.core.clock) (P.paused pace.old) (P.paused pace.new) }
-    ensures stays { Stays lane.old lane.new }
-    ensures rest { IsAtRest lane.new }
+    ensures done { OnOk result (length lane.new.state.core.held < lane.new.state.config.max_held) }
+    ensures memory { OnErr result (lane.new.state.config.max_held ≤ length lane.new.state.core.held) }
+    ensures worked { Worked is_full (flushed lane.old.state) lane.new.state }
+    ensures bound { lane.new.state.core.requests + sends_left lane.new.state
+        ≤ lane.old.state.core.requests + sends_left lane.old.state }
+    ensures paused { Paused (lane.new.state.core.clock - lane.old.state.core.clock) (P.paused pace.old) (P.paused pace.new) }
+    ensures stays { Stays lane.old.state lane.new.state }
+    ensures rest { IsAtRest lane.new.state }
     ensures out { W.out wire.new ≡ [] }
     ensures describes { W.describes wire.new ≡ W.describes wire.old }
-    ensures delivers { Delivers (W.describes wire.old) W.fits wire.old wire.new lane.old lane.new }
+    ensures delivers { Delivers (W.describes wire.old) W.fits wire.old wire.new lane.old.state lane.new.state }
 {
     let _ = lane.totals();
     let most = lane.max_held();
@@ -99,7 +99,7 @@ pub fn make_room<W: Wire, P: Pace>(
 }
 
 /// Sends, repeats and settles until a closed lane holds nothing: by at most as many requests as the
-/// operations that it holds have attempts. Where nothing is ready it pauses until the first operation
+/// operations that it holds have attempts, and 14 more for each, since a request that is too large is halved. Where nothing is ready it pauses until the first operation
 /// that may be sent is due, and ticks so often. `AllocError`: there was no memory for a request; the lane
 /// is as the last settled request left it, and the call may be made again.
 pub fn drain<W: Wire, P: Pace>(
@@ -107,22 +107,22 @@ pub fn drain<W: Wire, P: Pace>(
     wire: &mut W,
     pace: &mut P,
 ) -> Result<(), AllocError>
-    requires closed { all_closed lane.old ≡ true }
-    requires rest { IsAtRest lane.old }
+    requires closed { all_closed lane.old.state ≡ true }
+    requires rest { IsAtRest lane.old.state }
     requires out { W.out wire.old ≡ [] }
-    ensures done { OnOk result (lane.new.core.held ≡ []) }
-    ensures memory { OnErr result (0 < length lane.new.core.held) }
-    ensures worked { Worked holds_some lane.old lane.new }
-    ensures bound { lane.new.core.requests + sends_left lane.new
-        ≤ lane.old.core.requests + sends_left lane.old }
-    ensures most { lane.new.core.requests
-        ≤ lane.old.core.requests + length lane.old.core.held * lane.old.config.attempts }
-    ensures paused { Paused (lane.new.core.clock - lane.old.core.clock) (P.paused pace.old) (P.paused pace.new) }
-    ensures stays { Stays lane.old lane.new }
-    ensures rest { IsAtRest lane.new }
+    ensures done { OnOk result (lane.new.state.core.held ≡ []) }
+    ensures memory { OnErr result (0 < length lane.new.state.core.held) }
+    ensures worked { Worked holds_some lane.old.state lane.new.state }
+    ensures bound { lane.new.state.core.requests + sends_left lane.new.state
+        ≤ lane.old.state.core.requests + sends_left lane.old.state }
+    ensures most { lane.new.state.core.requests
+        ≤ lane.old.state.core.requests + length lane.old.state.core.held * (lane.old.state.config.attempts + 14) }
+    ensures paused { Paused (lane.new.state.core.clock - lane.old.state.core.clock) (P.paused pace.old) (P.paused pace.new) }
+    ensures stays { Stays lane.old.state lane.new.state }
+    ensures rest { IsAtRest lane.new.state }
     ensures out { W.out wire.new ≡ [] }
     ensures describes { W.describes wire.new ≡ W.describes wire.old }
-    ensures delivers { Delivers (W.describes wire.old) W.fits wire.old wire.new lane.old lane.new }
+    ensures delivers { Delivers (W.describes wire.old) W.fits wire.old wire.new lane.old.state lane.new.state }
 {
     let _ = lane.totals();
     work(lane, wire, pace, 1)

@@ -34,9 +34,9 @@ pub(crate) fn exchange<W: Wire>(
 
 /// The answer of a request in flight settles it.
 pub(crate) fn settle(lane: &mut Lane, number: u64, answer: Result<WireReply, WireFault>)
-    requires flies { is_flying number lane.old ≡ true }
+    requires flies { is_flying number lane.old.state ≡ true }
     requires reply { IsReply answer }
-    ensures { lane.new ≡ answered lane.old number (answer_of answer) }
+    ensures { lane.new.state ≡ answered lane.old.state number (answer_of answer) }
 {
     let _ = match answer {
         Ok(WireReply::Items(outcomes)) => lane.reply(number, outcomes),

@@ -14,16 +14,16 @@ use std::alloc::AllocError;
 
 /// Sends the lane's next request and settles it, where there is one. Whether there was one.
 pub(crate) fn send_next<W: Wire>(lane: &mut Lane, wire: &mut W) -> Result<bool, AllocError>
-    requires rest { IsAtRest lane.old }
+    requires rest { IsAtRest lane.old.state }
     requires out { W.out wire.old ≡ [] }
-    ensures lane { IsLane lane.old }
-    ensures some { IfOk result (λ sent. sent ≡ is_some (next_batch lane.old)) }
-    ensures turn { IfOk result (λ sent. Exchanged sent lane.old lane.new) }
-    ensures unchanged { OnErr result (lane.new ≡ lane.old) }
-    ensures held { OnErr result (0 < length lane.old.core.held) }
+    ensures lane { IsLane lane.old.state }
+    ensures some { IfOk result (λ sent. sent ≡ is_some (next_batch lane.old.state)) }
+    ensures turn { IfOk result (λ sent. Exchanged sent lane.old.state lane.new.state) }
+    ensures unchanged { OnErr result (lane.new.state ≡ lane.old.state) }
+    ensures held { OnErr result (0 < length lane.old.state.core.held) }
     ensures out { W.out wire.new ≡ [] }
     ensures describes { W.describes wire.new ≡ W.describes wire.old }
-    ensures delivers { Delivers (W.describes wire.old) W.fits wire.old wire.new lane.old lane.new }
+    ensures delivers { Delivers (W.describes wire.old) W.fits wire.old wire.new lane.old.state lane.new.state }
 {
     let _ = lane.totals();
     let Some(number) = lane.request()? else {
@@ -39,9 +39,9 @@ pub(crate) fn send_next<W: Wire>(lane: &mut Lane, wire: &mut W) -> Result<bool, 
 
 /// Pauses until the first operation that may be sent is due, and ticks so often.
 pub(crate) fn wait<P: Pace>(lane: &mut Lane, pace: &mut P)
-    requires { IsDueLater lane.old }
-    ensures lane { IfSome (due_in lane.old) (λ n. lane.new ≡ after_ticks n lane.old) }
-    ensures paused { IfSome (due_in lane.old)
+    requires { IsDueLater lane.old.state }
+    ensures lane { IfSome (due_in lane.old.state) (λ n. lane.new.state ≡ after_ticks n lane.old.state) }
+    ensures paused { IfSome (due_in lane.old.state)
         (λ n. Paused n (P.paused pace.old) (P.paused pace.new)) }
 {
     if let Some(ticks) = lane.due_in() {

@@ -21,22 +21,23 @@ pub const CONFIG: RelayConfig = RelayConfig {
     },
     attempts: 3,
     in_flight: 1,
-    first_version: 1,
+    epoch: 0,
+    deal: 1_099_511_627_775,
 };
 
 /// A lane at rest.
 #[derive(Drop)]
 pub struct Desk {
     pub lane: Lane,
-    ghost rest: { IsAtRest lane } by { IsAtRest-prop lane },
+    ghost rest: { IsAtRest lane.state } by { IsAtRest-prop lane.state },
 }
 
 // Takes a message of a known sender. The fault, if it is not taken.
 fn take(lane: &mut Lane, mail: Mail) -> Option<TakeFault>
-    requires known { mail.sender < length lane.old.closed }
-    requires rest { IsAtRest lane.old }
-    ensures rest { IsAtRest lane.new }
-    ensures config { lane.new.config ≡ lane.old.config }
+    requires known { mail.sender < length lane.old.state.closed }
+    requires rest { IsAtRest lane.old.state }
+    ensures rest { IsAtRest lane.new.state }
+    ensures config { lane.new.state.config ≡ lane.old.state.config }
 {
     if let Err((fault, _)) = lane.take(mail) {
         return Some(fault);
@@ -49,9 +50,10 @@ pub fn desk_of(alloc: Global, config: RelayConfig) -> Option<Desk> {
     if !config.valid() {
         return None;
     }
-    Some(Desk {
-        lane: Lane::new(alloc, config).ok()?,
-    })
+    match Lane::new(alloc, config) {
+        Ok(lane) => Some(Desk { lane }),
+        Err(_) => None,
+    }
 }
 
 /// Takes a message of a sender. Whether it was taken.
@@ -69,6 +71,7 @@ pub fn sends(desk: &mut Desk, sender: u32, body: Body) -> bool {
 
 fn op_of(alloc: Global, number: u64, id: &str, source: &str) -> Option<Op> {
     Some(Op {
+        epoch: 0,
         producer: 0,
         number,
         key: DocKey::new(alloc, "b", id).ok()?,

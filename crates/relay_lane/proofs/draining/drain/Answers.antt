@@ -9,7 +9,7 @@ none_held (Ok x) xs few = nothing xs (omega (arith, few))
 none_held (Err e) xs few = few
 
 pub returns-clause-done : goal.returns-clause-done
-returns-clause-done g c = none_held c.work.result c.work.new.lane.core.held c.work.ensures.done
+returns-clause-done g c = none_held c.work.result c.work.new.lane.state.core.held c.work.ensures.done
 
 pub returns-clause-most : goal.returns-clause-most
-returns-clause-most g c = most_sent c.args.lane.now c.work.new.lane c.totals.ensures.lane c.work.ensures.bound
+returns-clause-most g c = most_sent c.args.lane.now.state c.work.new.lane.state c.totals.ensures.lane c.requires.rest c.work.ensures.bound

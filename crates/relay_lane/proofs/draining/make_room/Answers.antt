@@ -9,10 +9,10 @@ use Rattle.relay_lane.proofs.Flushing.{flushed_rests, flushed_pressed, worked_co
 use Rattle.relay_lane.proofs.draining.make_room.Goals as goal
 
 pub work-requires-clause-rest : goal.work-requires-clause-rest
-work-requires-clause-rest g c = subst IsAtRest (sym c.flush.ensures) (flushed_rests c.args.lane.now c.requires.rest)
+work-requires-clause-rest g c = subst IsAtRest (sym c.flush.ensures.flushed) (flushed_rests c.args.lane.now.state c.requires.rest)
 
 pub work-requires-clause-pressed : goal.work-requires-clause-pressed
-work-requires-clause-pressed g c = subst IsPressed (sym c.flush.ensures) (flushed_pressed c.args.lane.now c.requires.rest)
+work-requires-clause-pressed g c = subst IsPressed (sym c.flush.ensures.flushed) (flushed_pressed c.args.lane.now.state c.requires.rest)
 
 -- the config of a lane that worked is the one that it had
 the_same : (n : ℕ) (s u t : State) → n ≡ s.config.max_held → u ≡ flushed s → Worked (holds n) u t → n ≡ t.config.max_held
@@ -20,13 +20,13 @@ the_same n s u t most flush w = most ∙ ap (λ (c : RelayConfig). c.max_held) (
 
 pub returns-clause-done : goal.returns-clause-done
 returns-clause-done g c =
-    subst (λ n. OnOk c.work.result (length c.work.new.lane.core.held < n)) (the_same c.max_held-most.result c.args.lane.now c.flush.new.self c.work.new.lane c.max_held-most.ensures c.flush.ensures c.work.ensures.worked) c.work.ensures.done
+    subst (λ n. OnOk c.work.result (length c.work.new.lane.state.core.held < n)) (the_same c.max_held-most.result c.args.lane.now.state c.flush.new.self.state c.work.new.lane.state c.max_held-most.ensures c.flush.ensures.flushed c.work.ensures.worked) c.work.ensures.done
 
 pub returns-clause-memory : goal.returns-clause-memory
 returns-clause-memory g c =
-    subst (λ n. OnErr c.work.result (n ≤ length c.work.new.lane.core.held)) (the_same c.max_held-most.result c.args.lane.now c.flush.new.self c.work.new.lane c.max_held-most.ensures c.flush.ensures c.work.ensures.worked) c.work.ensures.memory
+    subst (λ n. OnErr c.work.result (n ≤ length c.work.new.lane.state.core.held)) (the_same c.max_held-most.result c.args.lane.now.state c.flush.new.self.state c.work.new.lane.state c.max_held-most.ensures c.flush.ensures.flushed c.work.ensures.worked) c.work.ensures.memory
 
 pub returns-clause-worked : goal.returns-clause-worked
 returns-clause-worked g c =
-    worked_full c.max_held-most.result (flushed c.args.lane.now) c.work.new.lane c.max_held-most.ensures
-    (subst (λ s. Worked (holds c.max_held-most.result) s c.work.new.lane) c.flush.ensures c.work.ensures.worked)
+    worked_full c.max_held-most.result (flushed c.args.lane.now.state) c.work.new.lane.state c.max_held-most.ensures
+    (subst (λ s. Worked (holds c.max_held-most.result) s c.work.new.lane.state) c.flush.ensures.flushed c.work.ensures.worked)

@@ -12,7 +12,7 @@ use Rattle.relay_lane.proofs.draining.work.Goals as goal
 
 pub turns-init : goal.turns-init
 turns-init g c =
-    let s = c.args.lane.now in
+    let s = c.args.lane.now.state in
     record {
       rest = c.requires.rest;
       stays = stays_itself s;
@@ -28,15 +28,15 @@ turns-init g c =
 
 pub returns-in_err-send_next-clause-delivers : goal.returns-in_err-send_next-clause-delivers
 returns-in_err-send_next-clause-delivers g c =
-    delivers_on (g.W.Wire.describes c.args.wire.now) (g.W.Wire.describes c.turns.wire) g.W.Wire.fits c.args.wire.now c.turns.wire c.send_next.new.wire c.args.lane.now c.turns.lane c.send_next.new.lane
+    delivers_on (g.W.Wire.describes c.args.wire.now) (g.W.Wire.describes c.turns.wire) g.W.Wire.fits c.args.wire.now c.turns.wire c.send_next.new.wire c.args.lane.now.state c.turns.lane.state c.send_next.new.lane.state
     c.turns.invariant.describes c.turns.invariant.delivers c.send_next.ensures.delivers
 
 -- ---- where a request was sent
 
 pub turns-smaller : goal.turns-smaller
 turns-smaller g c =
-    let s = c.turns.lane in
-    let t = c.send_next.new.lane in
+    let s = c.turns.lane.state in
+    let t = c.send_next.new.lane.state in
     let x = exchanged c.in_ok-send_next.field-0 s t c.if-not-branch.false c.in_ok-send_next.ensures.turn in
     let k = exchanged_keeps s t c.send_next.ensures.lane c.turns.invariant.rest (sym c.in_ok-send_next.ensures.some ∙ c.if-not-branch.false) x in
     let left = k.left in
@@ -46,9 +46,9 @@ turns-smaller g c =
 pub turns-preserved : goal.turns-preserved
 turns-preserved g c =
     let i = c.turns.invariant in
-    let s0 = c.args.lane.now in
-    let s = c.turns.lane in
-    let t = c.send_next.new.lane in
+    let s0 = c.args.lane.now.state in
+    let s = c.turns.lane.state in
+    let t = c.send_next.new.lane.state in
     let x = exchanged c.in_ok-send_next.field-0 s t c.if-not-branch.false c.in_ok-send_next.ensures.turn in
     let some = sym c.in_ok-send_next.ensures.some ∙ c.if-not-branch.false in
     let k = exchanged_keeps s t c.send_next.ensures.lane i.rest some x in
@@ -70,8 +70,8 @@ turns-preserved g c =
 
 pub wait-requires : goal.wait-requires
 wait-requires g c =
-    let s = c.turns.lane in
-    let same = unchanged c.in_ok-send_next.field-0 s c.send_next.new.lane c.if-not-branch.true c.in_ok-send_next.ensures.turn in
+    let s = c.turns.lane.state in
+    let same = unchanged c.in_ok-send_next.field-0 s c.send_next.new.lane.state c.if-not-branch.true c.in_ok-send_next.ensures.turn in
     subst IsDueLater (sym same)
     (due_later s c.send_next.ensures.lane c.turns.invariant.rest c.turns.invariant.pressed
     (let a = c.turns-test.true in let b = c.held.ensures in let d = c.requires.some in omega (arith, a, b, d))
@@ -79,14 +79,14 @@ wait-requires g c =
 
 pub turns-smaller-then-not-branch : goal.turns-smaller-then-not-branch
 turns-smaller-then-not-branch g c =
-    let s = c.turns.lane in
-    let t = c.send_next.new.lane in
+    let s = c.turns.lane.state in
+    let t = c.send_next.new.lane.state in
     let same = unchanged c.in_ok-send_next.field-0 s t c.if-not-branch.true c.in_ok-send_next.ensures.turn in
     let d = due_later s c.send_next.ensures.lane c.turns.invariant.rest c.turns.invariant.pressed
     (let a = c.turns-test.true in let b = c.held.ensures in let d = c.requires.some in omega (arith, a, b, d))
     (none_of (next_batch s) (sym c.if-not-branch.true ∙ c.in_ok-send_next.ensures.some)) in
-    let ticked : c.wait.new.lane ≡ after_ticks d.ticks s =
-    at_some (due_in t) d.ticks (λ n. c.wait.new.lane ≡ after_ticks n t) (ap due_in same ∙ d.due) c.wait.ensures.lane ∙ ap (after_ticks d.ticks) same in
+    let ticked : c.wait.new.lane.state ≡ after_ticks d.ticks s =
+    at_some (due_in t) d.ticks (λ n. c.wait.new.lane.state ≡ after_ticks n t) (ap due_in same ∙ d.due) c.wait.ensures.lane ∙ ap (after_ticks d.ticks) same in
     let left = ap sends_left ticked in
     let clock = ap (λ (x : State). x.core.clock) ticked in
     let some = d.some in
@@ -96,10 +96,10 @@ turns-smaller-then-not-branch g c =
 pub turns-preserved-then-not-branch : goal.turns-preserved-then-not-branch
 turns-preserved-then-not-branch g c =
     let i = c.turns.invariant in
-    let s0 = c.args.lane.now in
-    let s = c.turns.lane in
-    let t = c.send_next.new.lane in
-    let u = c.wait.new.lane in
+    let s0 = c.args.lane.now.state in
+    let s = c.turns.lane.state in
+    let t = c.send_next.new.lane.state in
+    let u = c.wait.new.lane.state in
     let same = unchanged c.in_ok-send_next.field-0 s t c.if-not-branch.true c.in_ok-send_next.ensures.turn in
     let none = none_of (next_batch s) (sym c.if-not-branch.true ∙ c.in_ok-send_next.ensures.some) in
     let d = due_later s c.send_next.ensures.lane i.rest i.pressed

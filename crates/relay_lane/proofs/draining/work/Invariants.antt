@@ -7,17 +7,17 @@ use Rattle.relay_lane.proofs.draining.work.Given as goal
 
 abbrev pub invariant-turns : goal.invariant-turns
 invariant-turns g l = record {
-  rest : IsAtRest l.lane;
-  stays : Stays l.fn.lane l.lane;
-  pressed : IsPressed l.lane;
-  worked : Worked (holds l.fn.least) l.fn.lane l.lane;
-  left : l.lane.core.requests + sends_left l.lane ≤ l.fn.lane.core.requests + sends_left l.fn.lane;
-  clock : l.fn.lane.core.clock ≤ l.lane.core.clock;
-  paused : Paused (l.lane.core.clock - l.fn.lane.core.clock) (g.P.Pace.paused l.fn.pace) (g.P.Pace.paused l.pace);
+  rest : IsAtRest l.lane.state;
+  stays : Stays l.fn.lane.state l.lane.state;
+  pressed : IsPressed l.lane.state;
+  worked : Worked (holds l.fn.least) l.fn.lane.state l.lane.state;
+  left : l.lane.state.core.requests + sends_left l.lane.state ≤ l.fn.lane.state.core.requests + sends_left l.fn.lane.state;
+  clock : l.fn.lane.state.core.clock ≤ l.lane.state.core.clock;
+  paused : Paused (l.lane.state.core.clock - l.fn.lane.state.core.clock) (g.P.Pace.paused l.fn.pace) (g.P.Pace.paused l.pace);
   out : g.W.Wire.out l.wire ≡ [];
   describes : g.W.Wire.describes l.wire ≡ g.W.Wire.describes l.fn.wire;
-  delivers : Delivers (g.W.Wire.describes l.fn.wire) g.W.Wire.fits l.fn.wire l.wire l.fn.lane l.lane;
+  delivers : Delivers (g.W.Wire.describes l.fn.wire) g.W.Wire.fits l.fn.wire l.wire l.fn.lane.state l.lane.state;
 }
 
 abbrev pub decreases-turns : goal.decreases-turns
-decreases-turns g l = sends_left l.lane * 18446744073709551616 + (last_tick - l.lane.core.clock)
+decreases-turns g l = sends_left l.lane.state * 18446744073709551616 + (last_tick - l.lane.state.core.clock)

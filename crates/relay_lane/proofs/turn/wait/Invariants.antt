@@ -3,4 +3,4 @@ use Rattle.relay_lane.specs.Turns.{after_ticks}
 use Rattle.relay_lane.proofs.turn.wait.Given as goal
 
 abbrev pub invariant-loop-tick : goal.invariant-loop-tick
-invariant-loop-tick g l = l.lane ≡ after_ticks l._tick l.initial.lane
+invariant-loop-tick g l = l.lane.state ≡ after_ticks l._tick l.initial.lane.state
