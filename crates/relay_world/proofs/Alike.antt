@@ -7,13 +7,14 @@ use Rattle.relay_results.specs.Words.{update}
 use Rattle.relay_results.proofs.Lists.{or_right, equal_test, equal_or_not, at-update_same, at-update_other}
 use Rattle.relay_delivery.specs.Machine.{Core}
 use Rattle.relay_delivery.specs.Lane as delivery
+use Rattle.relay_delivery.specs.Numbered.{numbered_on}
 use Rattle.relay_delivery.specs.Lanes.{added, changed}
 use Rattle.relay_delivery.specs.Together.{Together}
 use Rattle.relay_core.specs.declared.config.RelayConfig.{RelayConfig}
 use Rattle.relay_core.specs.State.{config_of}
-use Rattle.relay_world.specs.State.{Desk, Sent, World, desk_at, accepted_from, is_closed}
+use Rattle.relay_world.specs.State.{Desk, Sent, World, desk_at, accepted_from, is_closed, taken_of}
 use Rattle.relay_world.specs.Headline.{request_of, IsLog}
-use Rattle.relay_world.specs.Ties.{queue_of, taken_of, core_of, versions_of, IsLaneOf, AreLanes, AreRequests}
+use Rattle.relay_world.specs.Ties.{queue_of, core_of, versions_of, IsLaneOf, AreLanes, AreRequests}
 use Rattle.relay_world.proofs.Carried.{Keeps, TakesMore, map-kept, request_kept, found_kept}
 use Rattle.relay_world.proofs.Indexed.{over_same}
 use Rattle.relay_world.proofs.Places.{not_equal}
@@ -60,33 +61,33 @@ seen_unmoved g f (suc k) (x ∷ xs) (suc n) same = seen_unmoved g f k xs n same
 
 -- ---- a desk and its machine
 
-pub record IsDeskOf (c : RelayConfig) (o : Option Desk) (queue : List Op) (core : Core) : Type 0 where
+pub record IsDeskOf (c : RelayConfig) (n : ℕ) (o : Option Desk) (queue : List Op) (core : Core) : Type 0 where
   pub queue_is : queue ≡ queue_of o
   pub taken : core.taken ≡ taken_of o
-  pub lane : delivery.IsOf (core_of (config_of c) o) core
+  pub lane : delivery.IsOf (numbered_on n (core_of (config_of c) o)) core
   pub works : (d : Desk) → o ≡ Some d → IsLaneOf c d
 
-pub desk_of : (w : World) (t : Together) → AreLanes w t → (l : ℕ) → IsDeskOf w.config (desk_at w l) (t.lanes.queue l) (t.lanes.lane l)
-desk_of w t a l = record { queue_is = a.queue l; taken = a.taken l; lane = a.lane l; works = a.works l }
+pub desk_of : (w : World) (t : Together) (n : ℕ → ℕ) → AreLanes w t n → (l : ℕ) → IsDeskOf w.config (n l) (desk_at w l) (t.lanes.queue l) (t.lanes.lane l)
+desk_of w t n a l = record { queue_is = a.queue l; taken = a.taken l; lane = a.lane l; works = a.works l }
 
-pub desk_there : (w : World) (t : Together) → AreLanes w t → (l : ℕ) (d : Desk) → desk_at w l ≡ Some d → IsDeskOf w.config (Some d) (t.lanes.queue l) (t.lanes.lane l)
-desk_there w t a l d there = subst (λ o. IsDeskOf w.config o (t.lanes.queue l) (t.lanes.lane l)) there (desk_of w t a l)
+pub desk_there : (w : World) (t : Together) (n : ℕ → ℕ) → AreLanes w t n → (l : ℕ) (d : Desk) → desk_at w l ≡ Some d → IsDeskOf w.config (n l) (Some d) (t.lanes.queue l) (t.lanes.lane l)
+desk_there w t n a l d there = subst (λ o. IsDeskOf w.config (n l) o (t.lanes.queue l) (t.lanes.lane l)) there (desk_of w t n a l)
 
 -- one desk was changed, and one queue and one core
-module _ (w : World) (t : Together) (a : AreLanes w t) (l : ℕ) (d : Desk) (there : desk_at w l ≡ Some d) (f : Desk → Desk) (queues : ℕ → List Op) (cores : ℕ → Core)
-    (now : IsDeskOf w.config (Some (f d)) (queues l) (cores l)) (others : (m : ℕ) → m ≢ l → (queues m ≡ t.lanes.queue m) × (cores m ≡ t.lanes.lane m)) where
-  pub desks_after : (m : ℕ) → IsDeskOf w.config (slice_get (update l f w.desks) m) (queues m) (cores m)
-  desks_after m = ⊎_elim {C = IsDeskOf w.config (slice_get (update l f w.desks) m) (queues m) (cores m)}
-      (λ e. subst (λ n. IsDeskOf w.config (slice_get (update l f w.desks) n) (queues n) (cores n)) (sym e)
-      (subst (λ o. IsDeskOf w.config o (queues l) (cores l)) (sym (at-update_same l f w.desks d there)) now))
+module _ (w : World) (t : Together) (n : ℕ → ℕ) (a : AreLanes w t n) (l : ℕ) (d : Desk) (there : desk_at w l ≡ Some d) (f : Desk → Desk) (queues : ℕ → List Op) (cores : ℕ → Core)
+    (now : IsDeskOf w.config (n l) (Some (f d)) (queues l) (cores l)) (others : (m : ℕ) → m ≢ l → (queues m ≡ t.lanes.queue m) × (cores m ≡ t.lanes.lane m)) where
+  pub desks_after : (m : ℕ) → IsDeskOf w.config (n m) (slice_get (update l f w.desks) m) (queues m) (cores m)
+  desks_after m = ⊎_elim {C = IsDeskOf w.config (n m) (slice_get (update l f w.desks) m) (queues m) (cores m)}
+      (λ e. subst (λ k. IsDeskOf w.config (n k) (slice_get (update l f w.desks) k) (queues k) (cores k)) (sym e)
+      (subst (λ o. IsDeskOf w.config (n l) o (queues l) (cores l)) (sym (at-update_same l f w.desks d there)) now))
       (λ ne.
-      subst (λ o. IsDeskOf w.config o (queues m) (cores m)) (sym (at-update_other l f w.desks m ne))
-      (subst (λ c. IsDeskOf w.config (desk_at w m) (queues m) c) (sym (others m ne).1)
-      (subst (λ q. IsDeskOf w.config (desk_at w m) q (t.lanes.lane m)) (sym (others m ne).0) (desk_of w t a m))))
+      subst (λ o. IsDeskOf w.config (n m) o (queues m) (cores m)) (sym (at-update_other l f w.desks m ne))
+      (subst (λ c. IsDeskOf w.config (n m) (desk_at w m) (queues m) c) (sym (others m ne).1)
+      (subst (λ q. IsDeskOf w.config (n m) (desk_at w m) q (t.lanes.lane m)) (sym (others m ne).0) (desk_of w t n a m))))
       (equal_or_not m l)
 
-pub lanes_from : (w : World) (t : Together) → length w.accepted ≡ w.config.producers → ((p : ℕ) → t.lanes.accepted p ≡ accepted_from w p) → ((p : ℕ) → t.lanes.closed p ≡ is_closed w p) → ((l : ℕ) → IsDeskOf w.config (desk_at w l) (t.lanes.queue l) (t.lanes.lane l)) → AreLanes w t
-lanes_from w t producers accepted closed desks = record {
+pub lanes_from : (w : World) (t : Together) (n : ℕ → ℕ) → length w.accepted ≡ w.config.producers → ((p : ℕ) → t.lanes.accepted p ≡ accepted_from w p) → ((p : ℕ) → t.lanes.closed p ≡ is_closed w p) → ((l : ℕ) → IsDeskOf w.config (n l) (desk_at w l) (t.lanes.queue l) (t.lanes.lane l)) → AreLanes w t n
+lanes_from w t n producers accepted closed desks = record {
   producers = producers;
   accepted = accepted;
   closed = closed;
@@ -97,21 +98,22 @@ lanes_from w t producers accepted closed desks = record {
 }
 
 -- what the machines took, as the desks took more
-pub takes_more : (w new : World) (t u : Together) → AreLanes w t → AreLanes new u → TakesMore w new → (l : ℕ) → (os : List Op) × ((u.lanes.lane l).taken ≡ (t.lanes.lane l).taken ++ os)
-takes_more w new t u a b more l = ((more l).0, b.taken l ∙ (more l).1 ∙ ap (λ os. os ++ (more l).0) (sym (a.taken l)))
+pub takes_more : (w new : World) (t u : Together) (n k : ℕ → ℕ) → AreLanes w t n → AreLanes new u k → TakesMore w new → (l : ℕ) → (os : List Op) × ((u.lanes.lane l).taken ≡ (t.lanes.lane l).taken ++ os)
+takes_more w new t u n k a b more l = ((more l).0, b.taken l ∙ (more l).1 ∙ ap (λ os. os ++ (more l).0) (sym (a.taken l)))
 
 -- no desk has taken more
 pub takes_none : (w : World) (l : ℕ) (f : Desk → Desk) (accepted : List (List Op)) (sent : List Sent) → ((x : Desk) → (f x).taken ≡ x.taken) → TakesMore w (over_same w (update l f w.desks) accepted sent)
 takes_none w l f accepted sent same m = ([], seen_unmoved taken_of f l w.desks m same ∙ sym (append-nil (taken_of (desk_at w m))))
 
 -- requests that no event touched
-pub requests_kept : (w : World) (desks : List Desk) (accepted : List (List Op)) (t u : Together) → AreRequests w t → Keeps w (over_same w desks accepted w.sent) → u.sent ≡ t.sent → u.origins ≡ t.origins → u.runs ≡ t.runs
-    → AreRequests (over_same w desks accepted w.sent) u
-requests_kept w desks accepted t u r k sent origins runs =
+pub requests_kept : (w : World) (desks : List Desk) (accepted : List (List Op)) (t u : Together) (n : ℕ → ℕ) → AreRequests w t n → Keeps w (over_same w desks accepted w.sent) → u.sent ≡ t.sent → u.origins ≡ t.origins → u.runs ≡ t.runs
+    → AreRequests (over_same w desks accepted w.sent) u n
+requests_kept w desks accepted t u n r k sent origins runs =
     let new = over_same w desks accepted w.sent in
     record {
       sent = sent ∙ r.sent ∙ sym (map-kept (request_of new) (request_of w) w.sent (λ s m. request_kept w new s s s.answer k (r.found s m) refl refl refl));
-      origins = origins ∙ r.origins;
+      origins = λ j s at. let o = r.origins j s at in record { number = o.number; origin = ap (λ os. slice_get os j) origins ∙ o.origin; not_later = o.not_later; of_now = o.of_now };
+      grown = r.grown;
       runs = subst (IsLog new) (sym runs) r.runs;
       found = λ s m. found_kept w new k s.lane (versions_of s) (r.found s m);
     }

@@ -1,6 +1,6 @@
 -- A fresh world is tied to fresh machines.
 use Rattle.std.proofs.Common.{◌≡◌, ℕ, zero, suc, ◌+◌, List, [], ◌∷◌, length, take, drop, Option, Some, None, Bool, false, refl, sym, ap, ◌∙◌, subst, append-nil, arith}
-use Rattle.std.specs.Prelude.{slice_get, option_map, unwrap_or, replicate, ◌||◌}
+use Rattle.std.specs.Prelude.{◌<◌, ◌^◌, slice_get, option_map, unwrap_or, replicate, ◌||◌}
 use Rattle.std.specs.List.{list_any}
 use borrow.Author.Tests.{ltb-true}
 use Rattle.relay_action.specs.declared.operation.Op.{Op}
@@ -10,30 +10,32 @@ use Rattle.relay_index.specs.States as index
 use Rattle.relay_delivery.specs.Machine.{Core}
 use Rattle.relay_delivery.specs.Lane as delivery
 use Rattle.relay_delivery.specs.Together.{Together}
-use Rattle.relay_delivery.proofs.Gathered.{fresh_together}
+use Rattle.relay_delivery.proofs.Accounts.{fresh_together}
+use Rattle.relay_delivery.specs.Machine.{first_in}
+use Rattle.relay_delivery.specs.Numbered.{numbered_on}
 use Rattle.relay_core.specs.State.{config_of}
 use Rattle.relay_world.specs.declared.sender.Sender.{Sender}
-use Rattle.relay_world.specs.State.{Desk, fresh, fresh_desk, has_closed, lane_of, IsBelow}
-use Rattle.relay_world.specs.Ties.{queue_of, taken_of, core_of, IsLaneOf, IsTied, FreshIsBelow, HighestIsBelow, FreshIsWorld}
+use Rattle.relay_world.specs.State.{Desk, fresh, fresh_desk, has_closed, lane_of, IsBelow, taken_of}
+use Rattle.relay_world.specs.Ties.{queue_of, core_of, IsLaneOf, IsTied, FreshIsBelow, HighestIsBelow, FreshIsWorld}
 use Rattle.relay_world.proofs.Starting.{at-all}
 
 -- nothing stands at any place of a list of empty ones
-none_at_all : (n p : ℕ) → unwrap_or (slice_get (replicate n (let e : List Op = [] in e)) p) [] ≡ []
+pub none_at_all : (n p : ℕ) → unwrap_or (slice_get (replicate n (let e : List Op = [] in e)) p) [] ≡ []
 none_at_all zero p = refl
 none_at_all (suc n) zero = refl
 none_at_all (suc n) (suc p) = none_at_all n p
 
-open_at_all : (n p : ℕ) → unwrap_or (option_map (λ (s : Sender). s.closed) (slice_get (replicate n (record { count = 0; closed = false })) p)) false ≡ false
+pub open_at_all : (n p : ℕ) → unwrap_or (option_map (λ (s : Sender). s.closed) (slice_get (replicate n (record { count = 0; closed = false })) p)) false ≡ false
 open_at_all zero p = refl
 open_at_all (suc n) zero = refl
 open_at_all (suc n) (suc p) = open_at_all n p
 
-none_passes : {A : Type 0} (f : A → Bool) (x : A) (n : ℕ) → f x ≡ false → list_any f (replicate n x) ≡ false
+pub none_passes : {A : Type 0} (f : A → Bool) (x : A) (n : ℕ) → f x ≡ false → list_any f (replicate n x) ≡ false
 none_passes f x zero e = refl
 none_passes f x (suc n) e = ap (λ b. b || list_any f (replicate n x)) e ∙ none_passes f x n e
 
 -- what an empty desk shows, at each lane
-at_fresh : {A : Type 0} (g : Option Desk → A) (x : A) (d : Desk) → g None ≡ x → g (Some d) ≡ x → (n l : ℕ) → g (slice_get (replicate n d) l) ≡ x
+pub at_fresh : {A : Type 0} (g : Option Desk → A) (x : A) (d : Desk) → g None ≡ x → g (Some d) ≡ x → (n l : ℕ) → g (slice_get (replicate n d) l) ≡ x
 at_fresh g x d none some zero l = none
 at_fresh g x d none some (suc n) zero = some
 at_fresh g x d none some (suc n) (suc l) = at_fresh g x d none some n l
@@ -46,7 +48,7 @@ drop-all : {A : Type 0} (xs : List A) → drop (length xs) xs ≡ []
 drop-all [] = refl
 drop-all (x ∷ xs) = drop-all xs
 
-length-same : {A : Type 0} (n : ℕ) (x : A) → length (replicate n x) ≡ n
+pub length-same : {A : Type 0} (n : ℕ) (x : A) → length (replicate n x) ≡ n
 length-same zero x = refl
 length-same (suc n) x = ap suc (length-same n x)
 
@@ -64,7 +66,7 @@ highest_is_below first i (Some v) h above k u e =
 
 -- ---- the fresh world
 
-module _ (c : RelayConfig) (i : index.State) (below : IsBelow c.first_version i) where
+module _ (c : RelayConfig) (i : index.State) (few : c.deal < 2 ^ 40) (below : IsBelow (first_in c.epoch) i) where
   abbrev opening : Outside
   opening = record { requests = []; runs = []; stored = index.stored i; before = index.applied i; applied = λ k. [] }
 
@@ -74,8 +76,9 @@ module _ (c : RelayConfig) (i : index.State) (below : IsBelow c.first_version i)
   abbrev machines : Together
   machines = record { lanes = record { accepted = λ p. []; closed = λ p. false; queue = λ l. []; lane = λ l. core }; sent = []; origins = []; runs = [] }
 
-  tied : IsTied (fresh c i) machines
+  tied : IsTied (fresh c i) machines (λ l. 0)
   tied = record {
+    few = few;
     came_about = fresh_together (config_of c) (lane_of (fresh c i)) machines (record {
       lanes = record { accepted = λ p. refl; queue = λ l. refl; lane = λ l. record { taken = refl; held = refl; reports = refl; applied = refl; already = refl; opening = record { requests = refl; runs = refl; applied = λ k. refl }; below = below } };
       sent = refl;
@@ -91,7 +94,7 @@ module _ (c : RelayConfig) (i : index.State) (below : IsBelow c.first_version i)
       lane = λ l. at_core (slice_get (replicate c.lanes (fresh_desk c)) l) (at-all c.lanes l (fresh_desk c));
       works = λ l d e. subst (IsLaneOf c) (sym (at-all c.lanes l (fresh_desk c) d e)) (record { config = refl; senders = length-same (c.producers + 1) (record { count = 0; closed = false }); next = refl });
     };
-    requests = record { sent = refl; origins = refl; runs = λ request place. refl; found = λ s m. absurd m };
+    requests = record { sent = refl; origins = λ k s at. absurd (cc); grown = λ p m. absurd m; runs = λ request place. refl; found = λ s m. absurd m };
     index = record {
       applied = λ k. sym (drop-all (index.applied i k));
       before = λ k. take-all (index.applied i k);
@@ -101,9 +104,9 @@ module _ (c : RelayConfig) (i : index.State) (below : IsBelow c.first_version i)
     };
   }
     where
-      at_core : (o : Option Desk) → ((d : Desk) → o ≡ Some d → d ≡ fresh_desk c) → delivery.IsOf (core_of (config_of c) o) core
+      at_core : (o : Option Desk) → ((d : Desk) → o ≡ Some d → d ≡ fresh_desk c) → delivery.IsOf (numbered_on 0 (core_of (config_of c) o)) core
       at_core None f = record { taken = refl; held = refl; reports = refl; applied = refl; already = refl; requests = refl; flying = λ x m. absurd m }
-      at_core (Some d) f = subst (λ x. delivery.IsOf (core_of (config_of c) (Some x)) core) (sym (f d refl)) (record { taken = refl; held = refl; reports = refl; applied = refl; already = refl; requests = refl; flying = λ x m. absurd m })
+      at_core (Some d) f = subst (λ x. delivery.IsOf (numbered_on 0 (core_of (config_of c) (Some x))) core) (sym (f d refl)) (record { taken = refl; held = refl; reports = refl; applied = refl; already = refl; requests = refl; flying = λ x m. absurd m })
 
 pub fresh_is_world : FreshIsWorld
-fresh_is_world c i below = record { machines = machines c i below; tied = tied c i below }
+fresh_is_world c i few below = record { machines = machines c i few below; before = λ l. 0; tied = tied c i few below }

@@ -1,15 +1,19 @@
 -- What sent requests carry: the writes of their items' operations, which stay as lanes take more.
-use Rattle.std.proofs.Common.{◌≡◌, ℕ, zero, suc, ◌-◌, List, [], ◌∷◌, ◌++◌, Option, Some, None, refl, sym, ap, ◌∙◌, ⊎_elim, inl, inr}
-use Rattle.std.specs.Prelude.{slice_get, option_map, option_and_then, option_to_list, map, ◌⊎◌}
+use Rattle.std.proofs.Common.{◌≡◌, ℕ, zero, suc, ◌-◌, List, [], ◌∷◌, ◌++◌, Option, Some, None, Bool, true, false, refl, sym, ap, ◌∙◌, ⊎_elim, inl, inr}
+use Rattle.std.specs.Prelude.{slice_get, option_map, option_to_list, unwrap_or, map, ◌⊎◌, if◌then◌else◌}
 use Rattle.relay_action.specs.declared.operation.Op.{Op}
 use Rattle.relay_action.specs.declared.write.Write.{Write}
 use Rattle.relay_results.specs.Words.{Mem, update}
 use Rattle.relay_results.specs.Documents.{write_for}
 use Rattle.relay_results.specs.Outside.{Answer}
 use Rattle.relay_results.proofs.Lists.{at-left, at-Mem, Mem-at, at-update-cases, some_same}
-use Rattle.relay_world.specs.State.{Desk, Item, Sent, World, desk_at, op_with, writes_from, writes_of}
+use Rattle.relay_core.specs.declared.config.RelayConfig.{RelayConfig}
+use Rattle.relay_delivery.specs.Machine.{first_in}
+use Rattle.relay_delivery.specs.Accounted.{op_dealt}
+use Rattle.relay_world.specs.State.{Desk, Item, Sent, Past, World, desk_at, running, incarnations, incarnation, is_version_in, op_among, op_with, writes_from, writes_of, taken_of}
+use Rattle.relay_world.specs.Changes.{restarted}
 use Rattle.relay_world.specs.Headline.{request_of}
-use Rattle.relay_world.specs.Ties.{taken_of, versions_of}
+use Rattle.relay_world.specs.Ties.{versions_of}
 
 -- ---- the writes of operations, by the versions that they were dealt
 
@@ -48,13 +52,54 @@ writes_are w s = writes_by_from (op_with w s.lane) s.items
 
 -- ---- as lanes take more
 
--- the operation of a version: that at its place among what its lane took
-pub op_is : (w : World) (l v : ℕ) → op_with w l v ≡ slice_get (taken_of (desk_at w l)) (v - w.config.first_version)
-op_is w l v = by (desk_at w l)
+-- what a lane took in an incarnation
+abbrev pub took : Past → ℕ → List Op
+took p l = unwrap_or (slice_get p.taken l) []
+
+pub taken_at : (ds : List Desk) (l : ℕ) → unwrap_or (slice_get (map (λ (d : Desk). d.taken) ds) l) [] ≡ taken_of (slice_get ds l)
+taken_at [] l = refl
+taken_at (d ∷ ds) zero = refl
+taken_at (d ∷ ds) (suc l) = taken_at ds l
+
+-- an incarnation in whose place one of the same epoch stands that took more has the operations of its versions
+op_more : (deal : ℕ) (is : List Past) (p q : Past) (l v : ℕ) (o : Op) (more : List Op) → q.epoch ≡ p.epoch → took q l ≡ took p l ++ more → op_among deal (is ++ p ∷ []) l v ≡ Some o → op_among deal (is ++ q ∷ []) l v ≡ Some o
+op_more deal [] p q l v o more same taken e =
+    ap (λ n. if is_version_in deal n v then slice_get (took q l) (v - first_in n) else None) same ∙ by (is_version_in deal p.epoch v) e
   where
-    by : (o : Option Desk) → option_and_then (λ (d : Desk). slice_get d.taken (v - w.config.first_version)) o ≡ slice_get (taken_of o) (v - w.config.first_version)
-    by None = refl
-    by (Some d) = refl
+    by : (b : Bool) → (if b then slice_get (took p l) (v - first_in p.epoch) else None) ≡ Some o → (if b then slice_get (took q l) (v - first_in p.epoch) else None) ≡ Some o
+    by true x = ap (λ os. slice_get os (v - first_in p.epoch)) taken ∙ at-left (took p l) more (v - first_in p.epoch) o x
+    by false x = absurd (cc)
+op_more deal (i ∷ is) p q l v o more same taken e = by (op_more deal is p q l v o more same taken) (is_version_in deal i.epoch v) e
+  where
+    by : (op_among deal (is ++ p ∷ []) l v ≡ Some o → op_among deal (is ++ q ∷ []) l v ≡ Some o) → (b : Bool) → (if b then slice_get (took i l) (v - first_in i.epoch) else op_among deal (is ++ p ∷ []) l v) ≡ Some o
+        → (if b then slice_get (took i l) (v - first_in i.epoch) else op_among deal (is ++ q ∷ []) l v) ≡ Some o
+    by again true x = x
+    by again false x = again x
+
+-- and so does a list to which an incarnation is added
+pub op_push : (deal : ℕ) (is : List Past) (j : Past) (l v : ℕ) (o : Op) → op_among deal is l v ≡ Some o → op_among deal (is ++ j ∷ []) l v ≡ Some o
+op_push deal [] j l v o e = absurd (cc)
+op_push deal (i ∷ is) j l v o e = by (op_push deal is j l v o) (is_version_in deal i.epoch v) e
+  where
+    by : (op_among deal is l v ≡ Some o → op_among deal (is ++ j ∷ []) l v ≡ Some o) → (b : Bool) → (if b then slice_get (took i l) (v - first_in i.epoch) else op_among deal is l v) ≡ Some o
+        → (if b then slice_get (took i l) (v - first_in i.epoch) else op_among deal (is ++ j ∷ []) l v) ≡ Some o
+    by again true x = x
+    by again false x = again x
+
+-- ---- delivery has the same of a version
+
+pub dealt_among : (c : RelayConfig) (ps : List Past) (l v : ℕ) → op_dealt (map (incarnation c) ps) l v ≡ option_to_list (op_among c.deal ps l v)
+dealt_among c [] l v = refl
+dealt_among c (p ∷ ps) l v = by (dealt_among c ps l v) (is_version_in c.deal p.epoch v)
+  where
+    by : op_dealt (map (incarnation c) ps) l v ≡ option_to_list (op_among c.deal ps l v) → (b : Bool)
+        → (if b then option_to_list (slice_get (took p l) (v - first_in p.epoch)) else op_dealt (map (incarnation c) ps) l v) ≡ option_to_list (if b then slice_get (took p l) (v - first_in p.epoch) else op_among c.deal ps l v)
+    by again true = refl
+    by again false = again
+
+pub one_listed : (x : Option Op) (o : Op) → option_to_list x ≡ o ∷ [] → x ≡ Some o
+one_listed None o e = absurd (cc)
+one_listed (Some p) o e = cc
 
 -- what a version had it has
 abbrev pub Keeps : World → World → Type 0
@@ -64,10 +109,15 @@ Keeps w new = (l v : ℕ) (o : Op) → op_with w l v ≡ Some o → op_with new 
 abbrev pub TakesMore : World → World → Type 0
 TakesMore w new = (l : ℕ) → (os : List Op) × (taken_of (desk_at new l) ≡ taken_of (desk_at w l) ++ os)
 
-pub keeps : (w new : World) → new.config.first_version ≡ w.config.first_version → TakesMore w new → Keeps w new
-keeps w new first more l v o e =
-    op_is new l v ∙ (λ i. slice_get ((more l).1 i) (v - first i))
-    ∙ at-left (taken_of (desk_at w l)) (more l).0 (v - w.config.first_version) o (sym (op_is w l v) ∙ e)
+pub keeps : (w new : World) → new.config ≡ w.config → new.ended ≡ w.ended → TakesMore w new → Keeps w new
+keeps w new config ended more l v o e =
+    (λ i. op_among (config i).deal (ended i ++ running new ∷ []) l v)
+    ∙ op_more w.config.deal w.ended (running w) (running new) l v o (more l).0 (ap (λ (c : RelayConfig). c.epoch) config)
+    (taken_at new.desks l ∙ (more l).1 ∙ ap (λ os. os ++ (more l).0) (sym (taken_at w.desks l))) e
+
+-- what was dealt before a restart
+pub keeps_restart : (w : World) (epoch : ℕ) → Keeps w (restarted w epoch)
+keeps_restart w epoch l v o e = op_push w.config.deal (incarnations w) (running (restarted w epoch)) l v o e
 
 pub found_kept : (w new : World) → Keeps w new → (l : ℕ) (vs : List ℕ) → AllFound (op_with w l) vs → AllFound (op_with new l) vs
 found_kept w new k l vs found v m = let p = found v m in (p.0, k l v p.0 p.1)

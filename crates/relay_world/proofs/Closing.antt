@@ -1,14 +1,15 @@
 -- From a producer that has closed nothing more is accepted.
-use Rattle.std.proofs.Common.{◌≡◌, ℕ, zero, suc, List, [], ◌∷◌, ◌++◌, Option, Some, None, Bool, true, false, refl, sym, ap, ◌∙◌, subst}
+use Rattle.std.proofs.Common.{◌≡◌, ◌≤◌, arith, ℕ, zero, suc, List, [], ◌∷◌, ◌++◌, Option, Some, None, Bool, true, false, refl, sym, ap, ◌∙◌, subst}
 use Rattle.std.specs.List.{list_any}
-use Rattle.std.specs.Prelude.{slice_get, unwrap_or, ◌||◌}
+use Rattle.std.specs.Prelude.{slice_get, unwrap_or, not, nat_lt, nat_le, ◌||◌}
+use borrow.Author.Tests.{ltb-true}
 use Rattle.relay_action.specs.declared.operation.Op.{Op}
 use Rattle.relay_action.specs.declared.mail.Body.{Body}
 use Rattle.relay_action.specs.declared.mail.Body.TheVariants as body
 use Rattle.relay_results.specs.Words.{update}
 use Rattle.relay_results.specs.Outside as outside
 use Rattle.relay_results.specs.Documents.{document_of}
-use Rattle.relay_results.proofs.Lists.{or_left, or_right, at-update_other}
+use Rattle.relay_results.proofs.Lists.{and_left, or_left, or_right, at-update_other}
 use Rattle.relay_world.specs.declared.event.Event.{Event}
 use Rattle.relay_world.specs.declared.event.Event.TheVariants as event
 use Rattle.relay_world.specs.declared.event.Refusal.{Refusal}
@@ -17,10 +18,10 @@ use Rattle.relay_world.specs.declared.event.StepAnswer.{StepAnswer}
 use Rattle.relay_world.specs.declared.sender.Sender.{Sender}
 use Rattle.relay_world.specs.State.{Desk, Sent, World, lane_of, has_closed, is_closed}
 use Rattle.relay_world.specs.Headline.{StaysClosed}
-use Rattle.relay_world.specs.Refusals.{refusal}
+use Rattle.relay_world.specs.Refusals.{is_above, refusal}
 use Rattle.relay_world.specs.Changes.{is_done_mail, after_mail, posted, took_front, sent_request, answered_desk, op_of_put, after_put, after_send, after_answer, Changes}
 use Rattle.relay_world.specs.Steps.{StepsBy, Steps, counted, Plays}
-use Rattle.relay_world.proofs.Events.{unrefused}
+use Rattle.relay_world.proofs.Events.{unrefused, not_false}
 use Rattle.relay_world.proofs.Posting.{closed_in}
 use Rattle.relay_world.proofs.Fetching.{closed_front}
 
@@ -50,13 +51,20 @@ posted_more p s b d t = closed_more (after_mail b) (λ y e. or_left y.closed (is
 
 -- a desk was changed at which what was closed stays so
 desk_closed : (w : World) (l : ℕ) (f : Desk → Desk) (sent : List Sent) → ((p : ℕ) (d : Desk) → has_closed p d ≡ true → has_closed p (f d) ≡ true) → StaysClosed w (record w { desks = update l f w.desks; sent = sent })
-desk_closed w l f sent more p t = (refl, any_more (has_closed p) f l w.desks (more p) t)
+desk_closed w l f sent more = record { epoch = (let z : w.config.epoch ≤ w.config.epoch = omega arith in z); closed = λ same p t. (refl, any_more (has_closed p) f l w.desks (more p) t) }
 
 put_closed : (w : World) (o : Op) → is_closed w o.producer ≡ false → StaysClosed w (after_put w o)
-put_closed w o open_yet p t = (
-  ap (λ x. unwrap_or x []) (at-update_other o.producer (λ os. os ++ o ∷ []) w.accepted p (λ e. cc (ap (is_closed w) e, t, open_yet))),
-  any_more (has_closed p) (posted o.producer (body.Put o)) (lane_of w (document_of o.key)) w.desks (λ d. posted_more p o.producer (body.Put o) d) t,
-)
+put_closed w o open_yet = record {
+  epoch = (let z : w.config.epoch ≤ w.config.epoch = omega arith in z);
+  closed = λ same p t. (
+    ap (λ x. unwrap_or x []) (at-update_other o.producer (λ os. os ++ o ∷ []) w.accepted p (λ e. cc (ap (is_closed w) e, t, open_yet))),
+    any_more (has_closed p) (posted o.producer (body.Put o)) (lane_of w (document_of o.key)) w.desks (λ d. posted_more p o.producer (body.Put o) d) t,
+  );
+}
+
+-- in the same epoch, and the same is closed
+pub closed_same : (w : World) → StaysClosed w w
+closed_same w = record { epoch = (let z : w.config.epoch ≤ w.config.epoch = omega arith in z); closed = λ same p t. (refl, t) }
 
 changes_closed : (w new : World) (e : Event) (x : StepAnswer) → refusal w e ≡ None → Changes w e x new → StaysClosed w new
 changes_closed w new (event.Put p key action) x q c =
@@ -66,21 +74,33 @@ changes_closed w new (event.Tick l) x q c = subst (StaysClosed w) (sym c.1) (des
 changes_closed w new (event.Flush l) x q c = subst (StaysClosed w) (sym c.1) (desk_closed w l (posted w.config.producers body.Flush) w.sent (λ s d. posted_more s w.config.producers body.Flush d))
 changes_closed w new (event.Take l) x q c = subst (StaysClosed w) (sym c.1) (desk_closed w l took_front w.sent (λ p d t. closed_front p d.queue d ∙ t))
 changes_closed w new (event.Send l) x q c = subst (StaysClosed w) (sym c.1) (desk_closed w l sent_request (after_send w l).sent (λ p d t. t))
-changes_closed w new (event.Run request item choice) x q c = subst (StaysClosed w) (sym c.after) (λ p t. (refl, t))
+changes_closed w new (event.Run request item choice) x q c = subst (StaysClosed w) (sym c.after) (record { epoch = (let z : w.config.epoch ≤ w.config.epoch = omega arith in z); closed = λ same p t. (refl, t) })
 changes_closed w new (event.Reply request picks) x q c = subst (StaysClosed w) (sym c.4.after) (desk_closed w c.0.lane (answered_desk c.0.number (outside.Items c.1)) (after_answer w request c.0 (outside.Items c.1)).sent (λ p d t. t))
 changes_closed w new (event.Whole request status) x q c = subst (StaysClosed w) (sym c.2.after) (desk_closed w c.0.lane (answered_desk c.0.number (outside.Whole status)) (after_answer w request c.0 (outside.Whole status)).sent (λ p d t. t))
 changes_closed w new (event.Lost request) x q c = subst (StaysClosed w) (sym c.2.after) (desk_closed w c.0.lane (answered_desk c.0.number outside.Lost) (after_answer w request c.0 outside.Lost).sent (λ p d t. t))
+changes_closed w new (event.Restart epoch) x q c =
+    let up = not_false _ (unrefused (not (is_above w epoch)) _ _ q).0 in
+    let lt = ltb-true w.config.epoch epoch (and_left (nat_lt w.config.epoch epoch) (nat_le epoch 4194303) up) in
+    subst (StaysClosed w) (sym c.1) (record { epoch = omega (arith, lt); closed = λ same p t. absurd (omega (arith, lt, same)) })
 
 pub step_closed : (w new : World) (e : Event) (x : StepAnswer) → Steps w e x new → StaysClosed w new
 step_closed w new e x s = by (refusal w e) refl s
   where
     by : (r : Option Refusal) → refusal w e ≡ r → StepsBy r w e x new → StaysClosed w new
-    by (Some r) q c = subst (StaysClosed w) (sym c.1) (λ p t. (refl, t))
+    by (Some r) q c = subst (StaysClosed w) (sym c.1) (closed_same w)
     by None q c = changes_closed w new e x q c
 
 pub closed_on : (a b c : World) → StaysClosed a b → StaysClosed b c → StaysClosed a c
-closed_on a b c f g p t = let x = f p t in let y = g p x.1 in (y.0 ∙ x.0, y.1)
+closed_on a b c f g =
+    let m = f.epoch in
+    let n = g.epoch in
+    record {
+      epoch = omega (arith, m, n);
+      closed = λ same p t.
+          let x = f.closed (omega (arith, m, n, same)) p t in
+          let y = g.closed (omega (arith, m, n, same)) p x.1 in (y.0 ∙ x.0, y.1);
+    }
 
 pub plays_closed : (w : World) (n : RunEnd) (es : List Event) (end : RunEnd) (new : World) → Plays w n es end new → StaysClosed w new
-plays_closed w n [] end new c = subst (StaysClosed w) (sym c.1) (λ p t. (refl, t))
+plays_closed w n [] end new c = subst (StaysClosed w) (sym c.1) (closed_same w)
 plays_closed w n (e ∷ es) end new c = closed_on w c.1 new (step_closed w c.1 e c.0 c.2) (plays_closed c.1 (counted c.0 n) es end new c.3)

@@ -1,23 +1,34 @@
 -- What a world that is tied to its machines delivers.
-use Rattle.std.proofs.Common.{◌≡◌, ℕ, zero, suc, List, [], ◌∷◌, length, Option, Some, None, Bool, true, ◌==◌, refl, sym, ap, ◌∙◌, subst, ⊎_elim, inl, inr, arith}
-use Rattle.std.specs.Prelude.{slice_get, ◌&&◌}
+use Rattle.std.proofs.Common.{◌≡◌, ℕ, zero, suc, List, [], ◌∷◌, length, Option, Some, None, Bool, true, false, ◌==◌, refl, sym, ap, ◌∙◌, subst, ⊎_elim, inl, inr, arith}
+use Rattle.std.specs.Prelude.{◌+◌, ◌≤◌, slice_get, nat_lt, map, filter, ◌&&◌, if◌then◌else◌}
+use borrow.Author.Tests.{ltb-true, ltb-false}
 use Rattle.std.specs.List.{list_all}
+use Rattle.relay_action.specs.declared.operation.Op.{Op}
 use Rattle.relay_results.specs.Words.{Mem, AllDistinct}
 use Rattle.relay_results.specs.Documents.{document_of, name_of}
-use Rattle.relay_results.proofs.Lists.{equal, and_left, and_right}
-use Rattle.relay_delivery.specs.Attribution.{IsAttribution, IsInProducerOrder}
+use Rattle.relay_results.proofs.Lists.{equal, and_left, and_right, at-Mem}
+use Rattle.relay_delivery.specs.Attribution.{IsAttribution, IsInProducerOrder, is_in}
 use Rattle.relay_delivery.specs.Causes.{IsTrueCause}
 use Rattle.relay_delivery.specs.Machine.{Config, Report}
 use Rattle.relay_delivery.specs.Delivery.{names_of, terms_of}
 use Rattle.relay_delivery.specs.Lane as delivery
 use Rattle.relay_delivery.specs.Lanes.{IsFinished}
-use Rattle.relay_delivery.specs.Together.{Together, attributed_together, IsSoundTogether, IsCompleteTogether, IsTrueTogether}
+use Rattle.relay_delivery.specs.Together.{Together}
+use Rattle.relay_delivery.specs.Restarts.{with_running}
+use Rattle.relay_delivery.specs.Accounted.{accepted_over, accepted_in, attributed_together}
+use Rattle.relay_delivery.specs.Numbered.{entry_on}
 use Rattle.relay_delivery.specs.Together as together
-use Rattle.relay_delivery.proofs.Gathered.{sound_together, complete_together}
+use Rattle.relay_delivery.proofs.Accounts.{sound_together, complete_together}
+use Rattle.relay_delivery.proofs.Versions.{version_in, version_of, none_over}
+use Rattle.relay_delivery.proofs.Queues.{taken_distinct, was_accepted}
+use Rattle.relay_delivery.proofs.Joined as joined
+use Rattle.relay_delivery.proofs.Sharing.{TogetherFacts, true_all}
+use Rattle.relay_delivery.proofs.Lives.{IsOfThese, facts_together}
+use Rattle.relay_world.proofs.Past.{running_seen, epochs_rise}
 use Rattle.relay_core.specs.State.{config_of}
-use Rattle.relay_world.specs.State.{Desk, World, desk_at, lane_of, accepted_from, applied, reports_of, reports, all_closed, is_done, is_finished}
-use Rattle.relay_world.specs.Headline.{outside_of, taken_by, terms_at, IsTrueReport, Delivered}
-use Rattle.relay_world.specs.Ties.{puts_of, queue_of, core_of, taken_of, IsTied, WorldsDeliver}
+use Rattle.relay_world.specs.State.{Desk, World, ended_of, desk_at, lane_of, accepted_from, applied, reports_of, reports, all_closed, is_done, is_finished, taken}
+use Rattle.relay_world.specs.Headline.{outside_of, terms_at, version_at, IsTrueReport, Delivered}
+use Rattle.relay_world.specs.Ties.{puts_of, queue_of, core_of, IsTied, WorldsDeliver}
 
 -- a test that all pass
 all_at : {A : Type 0} (f : A → Bool) (xs : List A) (n : ℕ) (x : A) → list_all f xs ≡ true → slice_get xs n ≡ Some x → f x ≡ true
@@ -33,11 +44,7 @@ core_reports : (g : Config) (o : Option Desk) → (core_of g o).reports ≡ repo
 core_reports g None = refl
 core_reports g (Some d) = refl
 
-taken_length : (o : Option Desk) → length (taken_of o) ≡ taken_by o
-taken_length None = refl
-taken_length (Some d) = refl
-
-module _ (w : World) (t : Together) (i : IsTied w t) where
+module _ (w : World) (t : Together) (b : ℕ → ℕ) (i : IsTied w t b) where
   abbrev g : Config
   g = config_of w.config
 
@@ -57,26 +64,57 @@ module _ (w : World) (t : Together) (i : IsTied w t) where
   }
 
   terms_same : (l : ℕ) → terms_of g (t.lanes.lane l).taken ≡ terms_at w l
-  terms_same l = λ j. record { max = g.max; deals = g.deals; taken = (ap length (i.lanes.taken l) ∙ taken_length (desk_at w l)) j }
+  terms_same l = λ j. record { max = g.max; deals = g.deals; taken = ap length (i.lanes.taken l) j }
 
-  done_at : is_finished w ≡ true → (l : ℕ) (o : Option Desk) → desk_at w l ≡ o → (queue_of o ≡ []) × (delivery.held_of (core_of g o).held ≡ [])
+  done_at : is_finished w ≡ true → (l : ℕ) (o : Option Desk) → desk_at w l ≡ o → (queue_of o ≡ []) × ((core_of g o).held ≡ [])
   done_at f l None e = (refl, refl)
   done_at f l (Some d) e =
       let all = all_at is_done w.desks l d f e in
       let rest = and_right (all_closed d) ((length d.queue == 0) && (length d.lane.core.held == 0)) all in
       let q = nothing d.queue (equal (length d.queue) 0 (and_left (length d.queue == 0) (length d.lane.core.held == 0) rest)) in
       let h = nothing d.lane.core.held (equal (length d.lane.core.held) 0 (and_right (length d.queue == 0) (length d.lane.core.held == 0) rest)) in
-      (ap puts_of q, ap delivery.held_of h)
+      (ap puts_of q, h)
 
   finished : is_finished w ≡ true → IsFinished t.lanes
   finished f = record {
     queues = λ l. i.lanes.queue l ∙ (done_at f l (desk_at w l) refl).0;
-    lanes = λ l. sym (i.lanes.lane l).held ∙ (done_at f l (desk_at w l) refl).1;
+    lanes = λ l. sym (i.lanes.lane l).held ∙ ap (λ es. delivery.held_of (map (entry_on (b l)) es)) (done_at f l (desk_at w l) refl).1;
   }
 
-  true_report : (l : ℕ) (r : Report) → Mem r (reports w l) → IsTrueReport w t.runs (sound_together g (lane_of w) t i.came_about).versions l r
+  facts : TogetherFacts g (lane_of w) (IsOfThese (ended_of w)) t
+  facts = facts_together g (lane_of w) (ended_of w) t i.came_about
+
+  -- the versions that the lanes assigned
+  abbrev versions : Op → Option ℕ
+  versions o = version_in g.first g.deals (t.lanes.lane (lane_of w (document_of o.key))).taken o
+
+  assigned : (l place : ℕ) (o : Op) → slice_get (taken w l) place ≡ Some o → versions o ≡ version_at w place
+  assigned l place o at = ap (λ n. version_in g.first g.deals (t.lanes.lane n).taken o) its_lane ∙ by (nat_lt place g.deals) refl
+    where
+      os : List Op
+      os = (t.lanes.lane l).taken
+
+      took : slice_get os place ≡ Some o
+      took = ap (λ xs. slice_get xs place) (i.lanes.taken l) ∙ at
+
+      its_lane : lane_of w (document_of o.key) ≡ l
+      its_lane = (was_accepted g (lane_of w) (IsOfThese (ended_of w)) t.lanes facts.lanes l o (at-Mem os place o took)).1
+
+      distinct : AllDistinct (map name_of os)
+      distinct = taken_distinct g (lane_of w) (IsOfThese (ended_of w)) t.lanes facts.lanes l
+
+      none : (v : Option ℕ) → g.deals ≤ place → version_in g.first g.deals os o ≡ v → v ≡ None
+      none None past e = refl
+      none (Some u) past e = absurd (none_over g.first g.deals os o place u distinct took past e)
+
+      by : (b : Bool) → nat_lt place g.deals ≡ b → version_in g.first g.deals os o ≡ (if b then Some (g.first + place) else None)
+      by true e = version_of os g.first g.deals place o distinct took (ltb-true _ _ e)
+      by false e = none (version_in g.first g.deals os o) (ltb-false _ _ e) refl
+
+  true_report : (l : ℕ) (r : Report) → Mem r (reports w l) → IsTrueReport w t.runs versions l r
   true_report l r m =
-      let x = (sound_together g (lane_of w) t i.came_about).true_reports l r (subst (Mem r) (sym (reports_same l)) m) in
+      let x = joined.true_report g (lane_of w) (IsOfThese (ended_of w)) t.lanes facts.lanes l r (subst (Mem r) (sym (reports_same l)) m) in
+      let cause = true_all g (lane_of w) (IsOfThese (ended_of w)) t facts l (terms_of g (t.lanes.lane l).taken) x.op x.of_lane (versions x.op) r.cause x.cause in
       record {
         op = x.op;
         producer = x.producer;
@@ -84,30 +122,33 @@ module _ (w : World) (t : Together) (i : IsTied w t) where
         of_lane = x.of_lane;
         name = x.name;
         document = x.document;
-        cause = subst (λ s. IsTrueCause (terms_at w l) s x.op ((sound_together g (lane_of w) t i.came_about).versions x.op) r.cause) outside_same
-            (subst (λ u. IsTrueCause u (together.outside_of (lane_of w) t) x.op ((sound_together g (lane_of w) t i.came_about).versions x.op) r.cause) (terms_same l) x.cause);
+        cause = subst (λ s. IsTrueCause (terms_at w l) s x.op (versions x.op) r.cause) outside_same
+            (subst (λ u. IsTrueCause u (together.outside_of (lane_of w) t) x.op (versions x.op) r.cause) (terms_same l) cause);
       }
 
   delivered : Delivered w
   delivered =
-      let s = sound_together g (lane_of w) t i.came_about in
+      let s = sound_together g (lane_of w) (ended_of w) t i.came_about in
       record {
         log = t.runs;
         ran = i.requests.runs;
-        ops = attributed_together g (lane_of w) t;
+        ops = attributed_together g (lane_of w) (ended_of w) t;
         named = i.index.names;
-        attribution = λ k. subst (λ a. IsAttribution a k (applied w k) (attributed_together g (lane_of w) t k)) accepted_same
-            (subst (λ ws. IsAttribution t.lanes.accepted k ws (attributed_together g (lane_of w) t k)) (i.index.applied k) (s.attribution k));
-        in_order = λ k. subst (λ a. IsInProducerOrder a (attributed_together g (lane_of w) t k)) accepted_same (s.in_order k);
-        versions = s.versions;
-        assignment = s.assignment;
+        attribution = λ k. subst (λ is. IsAttribution (accepted_over is) k (applied w k) (attributed_together g (lane_of w) (ended_of w) t k)) (running_seen w t b i)
+            (subst (λ ws. IsAttribution (accepted_over (with_running (ended_of w) g t)) k ws (attributed_together g (lane_of w) (ended_of w) t k)) (i.index.applied k) (s.attribution k));
+        in_order = λ k e. subst (λ is. IsInProducerOrder (accepted_in is e) (filter (is_in e) (attributed_together g (lane_of w) (ended_of w) t k))) (running_seen w t b i) (s.in_order k e);
+        by_epoch = s.by_epoch;
+        rising = epochs_rise w t b i;
+        versions = versions;
+        assignment = joined.assignment g (lane_of w) (IsOfThese (ended_of w)) t.lanes facts.lanes;
+        assigned = assigned;
         true_reports = true_report;
         once = λ l. subst (λ rs. AllDistinct (names_of rs)) (reports_same l) (s.once l);
         in_one_lane = λ l m r q mr mq e. s.in_one_lane l m r q (subst (Mem r) (sym (reports_same l)) mr) (subst (Mem q) (sym (reports_same m)) mq) e;
         complete = λ f p o m.
-            let c = complete_together g (lane_of w) t i.came_about (finished f) p o (subst (λ os. Mem o os) (sym (i.lanes.accepted p)) m) in
+            let c = complete_together g (lane_of w) (ended_of w) t i.came_about (finished f) p o (subst (λ os. Mem o os) (sym (i.lanes.accepted p)) m) in
             ⊎_elim inl (λ r. inr (subst (λ rs. Mem (name_of o) (names_of rs)) (reports_same (lane_of w (document_of o.key))) r)) c;
       }
 
 pub worlds_deliver : WorldsDeliver
-worlds_deliver w k = delivered w k.machines k.tied
+worlds_deliver w k = delivered w k.machines k.before k.tied

@@ -10,7 +10,7 @@ drop-suc [] n x e = absurd (cc)
 drop-suc (y ∷ xs) zero x e = let same : y ≡ x = cc in ap (λ z. z ∷ xs) same
 drop-suc (y ∷ xs) (suc n) x e = drop-suc xs n x e
 
-drop-at : {A : Type 0} (xs : List A) (n : ℕ) (x : A) → slice_get xs n ≡ Some x → drop n xs ≡ x ∷ drop (n + 1) xs
+pub drop-at : {A : Type 0} (xs : List A) (n : ℕ) (x : A) → slice_get xs n ≡ Some x → drop n xs ≡ x ∷ drop (n + 1) xs
 drop-at xs n x e = let s : suc n ≡ n + 1 = omega arith in drop-suc xs n x e ∙ ap (λ m. x ∷ drop m xs) s
 
 module _ (w : World) (l : ℕ) (picks : List ℕ) (place : ℕ) (items : List Item) (x : Item) where

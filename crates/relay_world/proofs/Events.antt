@@ -9,7 +9,7 @@ use Rattle.relay_results.specs.declared.outcome.Outcome.{Outcome}
 use Rattle.relay_results.specs.Words.{Mem}
 use Rattle.relay_results.specs.Documents.{write_for}
 use Rattle.relay_results.specs.Outside.{Answer, Items, Whole, Lost, Ran, RunOutcome, EachWasRun, IsHonest}
-use Rattle.relay_results.proofs.Lists.{and_left, and_right, not_true, equal_test, at-Mem, some_same}
+use Rattle.relay_results.proofs.Lists.{and_left, and_right, not_true, equal, equal_test, at-Mem, some_same}
 use Rattle.relay_index.specs.declared.choice.Choice.{Choice}
 use Rattle.relay_index.specs.declared.choice.Choice.TheVariants as choice
 use Rattle.relay_index.specs.Choices.{MayChoose}
@@ -20,9 +20,9 @@ use Rattle.relay_world.specs.declared.event.Event.TheVariants as event
 use Rattle.relay_world.specs.declared.event.Refusal.{Refusal}
 use Rattle.relay_world.specs.declared.event.StepAnswer.{StepAnswer}
 use Rattle.relay_world.specs.declared.sender.Sender.{Sender}
-use Rattle.relay_world.specs.State.{Desk, Item, Sent, World, numbered, request_at, op_with, write_at, writes_of, is_closed}
+use Rattle.relay_world.specs.State.{Desk, Item, Sent, World, desk_at, numbered, request_at, op_with, write_at, writes_of, is_closed}
 use Rattle.relay_world.specs.Headline.{runs_of, runs_at}
-use Rattle.relay_world.specs.Refusals.{cause_if, at_desk, is_spent, may_choose, flies_at, is_flying, run_by, entry_for, entry_at, and_more, entries_from, entries, are_picks, at_request, is_whole, front_refusal, refusal}
+use Rattle.relay_world.specs.Refusals.{cause_if, at_desk, is_spent, may_choose, flies_at, is_flying, run_by, entry_for, entry_at, and_more, entries_from, entries, are_picks, at_request, is_whole, front_refusal, is_above, refusal}
 use Rattle.relay_world.specs.Changes.{op_of_put, Answers, Changes}
 use Rattle.relay_world.specs.Steps.{StepsBy}
 use Rattle.relay_world.specs.Ties.{IsTied, IsWorld, StepsKeepTied}
@@ -32,6 +32,7 @@ use Rattle.relay_world.proofs.Fetching.{take_tied}
 use Rattle.relay_world.proofs.Requesting.{send_tied}
 use Rattle.relay_world.proofs.Answering.{answer_tied}
 use Rattle.relay_world.proofs.Outcomes.{run_tied}
+use Rattle.relay_world.proofs.Restarting.{restart_world}
 
 -- ---- no cause holds
 
@@ -45,7 +46,7 @@ at_desk_none : (o : Option Desk) (f : Desk → Option Refusal) → at_desk o f �
 at_desk_none None f e = absurd (cc)
 at_desk_none (Some d) f e = (d, refl, e)
 
-not_false : (b : Bool) → not b ≡ false → b ≡ true
+pub not_false : (b : Bool) → not b ≡ false → b ≡ true
 not_false true e = refl
 not_false false e = absurd (cc)
 
@@ -124,8 +125,8 @@ each_says w l picks log request (i ∷ is) place at os e logged =
     )
 
 -- the entries of a reply are what its items' runs gave
-entries_say : (w : World) (t : Together) (i : IsTied w t) (k : ℕ) (s : Sent) (picks : List ℕ) (os : List Outcome) → slice_get w.sent k ≡ Some s → entries w s picks ≡ Some os → EachWasRun t.runs k 0 os
-entries_say w t i k s picks os here e =
+entries_say : (w : World) (t : Together) (b : ℕ → ℕ) (i : IsTied w t b) (k : ℕ) (s : Sent) (picks : List ℕ) (os : List Outcome) → slice_get w.sent k ≡ Some s → entries w s picks ≡ Some os → EachWasRun t.runs k 0 os
+entries_say w t b i k s picks os here e =
     each_says w s.lane picks t.runs k s.items 0 0 os (by (are_picks picks s) e)
     (λ n item at o m. subst (λ j. LoggedRun k j t.runs o) (omega arith) (logged_run k n t.runs o (subst (λ xs. Mem o xs) (sym (i.requests.runs k n ∙ runs_here n item at)) m)))
   where
@@ -166,7 +167,10 @@ answers_keep : (w new : World) (k : IsWorld w) (request : ℕ) (s : Sent) (a : A
 answers_keep w new k request s a x was flies c honest =
     subst IsWorld (sym c.after) (record {
       machines = _;
-      tied = answer_tied w k.machines k.tied (request - 1) s (at_number w.sent request s was) a c.desk c.there (ap (flies_at s.number) (sym c.there) ∙ flies) honest;
+      before = k.before;
+      tied = answer_tied w k.machines k.before k.tied (request - 1) s (at_number w.sent request s was) a c.desk c.there
+          (equal s.epoch w.config.epoch (and_left (s.epoch == w.config.epoch) (flies_at s.number (desk_at w s.lane)) flies))
+          (ap (flies_at s.number) (sym c.there) ∙ and_right (s.epoch == w.config.epoch) (flies_at s.number (desk_at w s.lane)) flies) honest;
     })
 
 -- the request flies, where no cause was found
@@ -188,7 +192,8 @@ changes_keep w new (event.Put p key action) x k q c =
     let d = at_desk_none _ _ (unrefused (is_spent w p) _ _ open_yet.1).1 in
     subst IsWorld (sym c.1) (record {
       machines = _;
-      tied = put_tied w k.machines k.tied (op_of_put w p key action) d.0 d.1 os.0 os.1 open_yet.0 (ap (λ (o : Option (List Op)). length (unwrap_or o []) + 1) os.1);
+      before = k.before;
+      tied = put_tied w k.machines k.before k.tied (op_of_put w p key action) d.0 d.1 os.0 os.1 open_yet.0 refl (ap (λ (o : Option (List Op)). length (unwrap_or o []) + 1) os.1);
     })
 changes_keep w new (event.Close p l) x k q c =
     let d = at_desk_none _ _ q in
@@ -196,38 +201,42 @@ changes_keep w new (event.Close p l) x k q c =
     let le = ltb-false w.config.producers p known.0 in
     let n = (k.tied.lanes.works l d.0 d.1).senders in
     let s : (z : Sender) × (slice_get d.0.senders p ≡ Some z) = there_at d.0.senders p (omega (arith, le, n)) in
-    subst IsWorld (sym c.1) (record { machines = _; tied = close_tied w k.machines k.tied l p d.0 d.1 s.0 s.1 })
+    subst IsWorld (sym c.1) (record { machines = _; before = k.before; tied = close_tied w k.machines k.before k.tied l p d.0 d.1 s.0 s.1 })
 changes_keep w new (event.Tick l) x k q c =
     let d = at_desk_none _ _ q in
-    subst IsWorld (sym c.1) (record { machines = k.machines; tied = control_tied w k.machines k.tied l w.config.producers body.Tick d.0 d.1 refl refl })
+    subst IsWorld (sym c.1) (record { machines = k.machines; before = k.before; tied = control_tied w k.machines k.before k.tied l w.config.producers body.Tick d.0 d.1 refl refl })
 changes_keep w new (event.Flush l) x k q c =
     let d = at_desk_none _ _ q in
-    subst IsWorld (sym c.1) (record { machines = k.machines; tied = control_tied w k.machines k.tied l w.config.producers body.Flush d.0 d.1 refl refl })
+    subst IsWorld (sym c.1) (record { machines = k.machines; before = k.before; tied = control_tied w k.machines k.before k.tied l w.config.producers body.Flush d.0 d.1 refl refl })
 changes_keep w new (event.Take l) x k q c =
     let d = at_desk_none _ _ q in
     let f = front_is d.0.lane d.0.queue d.2 in
-    let u = take_tied w k.machines k.tied l d.0 d.1 f.0 f.1 f.2 in
-    subst IsWorld (sym c.1) (record { machines = u.0; tied = u.1 })
+    let u = take_tied w k.machines k.before k.tied l d.0 d.1 f.0 f.1 f.2 in
+    subst IsWorld (sym c.1) (record { machines = u.0; before = k.before; tied = u.1 })
 changes_keep w new (event.Send l) x k q c =
     let d = at_desk_none _ _ q in
     let b = some_is (lane.next_batch d.0.lane) (not_false _ (unrefused (not (is_some (lane.next_batch d.0.lane))) _ _ d.2).0) in
-    subst IsWorld (sym c.1) (record { machines = _; tied = send_tied w k.machines k.tied l d.0 d.1 b.0 b.1 })
+    subst IsWorld (sym c.1) (record { machines = _; before = k.before; tied = send_tied w k.machines k.before k.tied l d.0 d.1 b.0 b.1 })
 changes_keep w new (event.Run request item choice) x k q c =
     let found = unrefused (not (is_some (write_at w request item))) _ _ q in
     let may = unrefused (not (may_choose choice)) _ _ found.1 in
     subst IsWorld (sym c.after) (record {
       machines = _;
-      tied = run_tied w k.machines k.tied (request - 1) (item - 1) c.sent (at_number w.sent request c.sent c.was_sent) c.its_item (at_number c.sent.items item c.its_item c.stands)
+      before = k.before;
+      tied = run_tied w k.machines k.before k.tied (request - 1) (item - 1) c.sent (at_number w.sent request c.sent c.was_sent) c.its_item (at_number c.sent.items item c.its_item c.stands)
           c.op c.its_op choice (may_choose_is choice (not_false _ may.0)) new.index new.kept c.effect c.names c.before;
     })
 changes_keep w new (event.Reply request picks) x k q c =
     answers_keep w new k request c.0 (Items c.1) x c.2 (flying_is w request c.0 _ _ c.2 q).0 c.4
-    (λ m. entries_say w k.machines k.tied (request - 1) c.0 picks c.1 (at_number w.sent request c.0 c.2) c.3)
+    (λ m. entries_say w k.machines k.before k.tied (request - 1) c.0 picks c.1 (at_number w.sent request c.0 c.2) c.3)
 changes_keep w new (event.Whole request status) x k q c =
     let f = flying_is w request c.0 _ _ c.1 q in
     answers_keep w new k request c.0 (Whole status) x c.1 f.0 c.2 (not_ok status (not_false _ (unrefused (not (is_whole status)) _ _ f.1).0))
 changes_keep w new (event.Lost request) x k q c =
     answers_keep w new k request c.0 Lost x c.1 (flying_is w request c.0 _ _ c.1 q).0 c.2 tt
+changes_keep w new (event.Restart epoch) x k q c =
+    let up = not_false _ (unrefused (not (is_above w epoch)) _ _ q).0 in
+    subst IsWorld (sym c.1) (restart_world w k epoch (ltb-true w.config.epoch epoch (and_left (nat_lt w.config.epoch epoch) (nat_le epoch 4194303) up)))
 
 pub steps_keep_tied : StepsKeepTied
 steps_keep_tied w new e x k s = by (refusal w e) refl s

@@ -183,19 +183,19 @@ formed_parts r w l d e ss there ok err p =
     record { valid = k.valid; lanes = k.lanes; producers = k.producers; works = k.works }
 
 formed_by : (w : World) (l : ℕ) (d e : Desk) (ss : List Sent) (b : Bool) (o : Option (List BatchItem)) → lane.next_batch d.lane ≡ o → desk_at w l ≡ Some d → b ≡ is_some o → e ≡ sent_request d
-    → ss ≡ w.sent ++ (if b then request_of l d ∷ [] else []) → FormsBy w l o b (record w { desks = slice_set w.desks l e; sent = ss })
+    → ss ≡ w.sent ++ (if b then request_of w.config.epoch l d ∷ [] else []) → FormsBy w l o b (record w { desks = slice_set w.desks l e; sent = ss })
 formed_by w l d e ss b None batch there when is more =
     let same : e ≡ d = is ∙ ap (λ x. record d { lane = lane.after_request d.lane x }) batch in
     let ds = ap (slice_set w.desks l) same ∙ set-same w.desks l d there in
-    let none : ss ≡ w.sent = more ∙ ap (λ x. w.sent ++ (if x then request_of l d ∷ [] else [])) when ∙ append-nil w.sent in
+    let none : ss ≡ w.sent = more ∙ ap (λ x. w.sent ++ (if x then request_of w.config.epoch l d ∷ [] else [])) when ∙ append-nil w.sent in
     (when, λ i. record w { desks = ds i; sent = none i })
 formed_by w l d e ss b (Some is) batch there when made more =
     let ds = set-update sent_request w.desks l d e there made in
-    let one : ss ≡ w.sent ++ sent_by l (desk_at w l) = more ∙ ap (λ x. w.sent ++ (if x then request_of l d ∷ [] else [])) when ∙ ap (λ x. w.sent ++ sent_by l x) (sym there) in
+    let one : ss ≡ w.sent ++ sent_by w.config.epoch l (desk_at w l) = more ∙ ap (λ x. w.sent ++ (if x then request_of w.config.epoch l d ∷ [] else [])) when ∙ ap (λ x. w.sent ++ sent_by w.config.epoch l x) (sym there) in
     (when, λ i. record w { desks = ds i; sent = one i })
 
 pub formed : {E : Type 0} (r : Result Bool E) (w : World) (l : ℕ) (d e : Desk) (ss : List Sent) → desk_at w l ≡ Some d → IfOk r (λ b. b ≡ is_some (lane.next_batch d.lane)) → OnOk r (e ≡ sent_request d)
-    → IfOk r (λ b. ss ≡ w.sent ++ (if b then request_of l d ∷ [] else [])) → IfOk r (λ b. Forms w l b (record w { desks = slice_set w.desks l e; sent = ss }))
+    → IfOk r (λ b. ss ≡ w.sent ++ (if b then request_of w.config.epoch l d ∷ [] else [])) → IfOk r (λ b. Forms w l b (record w { desks = slice_set w.desks l e; sent = ss }))
 formed (Ok b) w l d e ss there when made more =
     subst (λ x. FormsBy w l (batch_at x) b (record w { desks = slice_set w.desks l e; sent = ss })) (sym there)
     (formed_by w l d e ss b (lane.next_batch d.lane) refl there when made more)

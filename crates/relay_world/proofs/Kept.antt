@@ -1,5 +1,5 @@
 -- What one event keeps, whether there was memory for it or not.
-use Rattle.std.proofs.Common.{◌≡◌, ℕ, ◌+◌, List, [], ◌∷◌, take, sym, subst, refl}
+use Rattle.std.proofs.Common.{◌≡◌, ℕ, ◌+◌, List, [], ◌∷◌, take, sym, subst}
 use Rattle.std.specs.Prelude.{OnErr, IfOk, IfErr, Ok, Err, Result}
 use Rattle.relay_world.specs.declared.event.Event.{Event}
 use Rattle.relay_world.specs.declared.event.StepAnswer.{StepAnswer}
@@ -9,7 +9,7 @@ use Rattle.relay_world.specs.Headline.{StaysClosed}
 use Rattle.relay_world.specs.Steps.{Steps, Plays, none_yet, counted}
 use Rattle.relay_world.specs.Ties.{IsWorld}
 use Rattle.relay_world.proofs.Events.{steps_keep_tied}
-use Rattle.relay_world.proofs.Closing.{step_closed, plays_closed}
+use Rattle.relay_world.proofs.Closing.{closed_same, step_closed, plays_closed}
 
 pub step_world : {E : Type 0} (r : Result StepAnswer E) (w new : World) (e : Event) → IfOk r (λ x. Steps w e x new) → OnErr r (new ≡ w) → IsWorld w → IsWorld new
 step_world (Ok x) w new e ok err k = steps_keep_tied w new e x k ok
@@ -17,7 +17,7 @@ step_world (Err x) w new e ok err k = subst IsWorld (sym err) k
 
 pub step_stays_closed : {E : Type 0} (r : Result StepAnswer E) (w new : World) (e : Event) → IfOk r (λ x. Steps w e x new) → OnErr r (new ≡ w) → StaysClosed w new
 step_stays_closed (Ok x) w new e ok err = step_closed w new e x ok
-step_stays_closed (Err x) w new e ok err = subst (StaysClosed w) (sym err) (λ p t. (refl, t))
+step_stays_closed (Err x) w new e ok err = subst (StaysClosed w) (sym err) (closed_same w)
 
 -- ---- a list of events
 

@@ -6,6 +6,7 @@ pub mod Holding
 pub mod Starting
 pub mod Running
 pub mod Entries
+pub mod Epochs
 pub mod Playing
 pub mod Delivering
 pub mod Beginning
@@ -22,3 +23,5 @@ pub mod Events
 pub mod Closing
 pub mod Kept
 pub mod Written
+pub mod Past
+pub mod Restarting

@@ -10,13 +10,13 @@ use Rattle.relay_results.specs.Words.{update}
 use Rattle.relay_results.specs.Documents.{document_of}
 use Rattle.relay_results.proofs.Lists.{or_right, equal_or_not, at-update_same, at-update_other, length-update}
 use Rattle.relay_delivery.specs.Lanes.{Puts, Closes}
-use Rattle.relay_delivery.specs.Together.{Together, Plain, act, CameAboutTogether}
-use Rattle.relay_delivery.proofs.Gathered.{act_together}
-use Rattle.relay_delivery.proofs.Sharing.{facts_together}
+use Rattle.relay_delivery.specs.Together.{Together, Plain, act}
+use Rattle.relay_delivery.specs.Restarts.{CameAboutTogether}
+use Rattle.relay_delivery.proofs.Accounts.{act_together}
 use Rattle.relay_core.specs.State.{config_of}
 use Rattle.relay_core.specs.Ties.{ops_of}
 use Rattle.relay_world.specs.declared.sender.Sender.{Sender}
-use Rattle.relay_world.specs.State.{Desk, World, desk_at, lane_of, accepted_from, has_closed, is_closed}
+use Rattle.relay_world.specs.State.{Desk, World, ended_of, desk_at, lane_of, accepted_from, has_closed, is_closed}
 use Rattle.relay_world.specs.Changes.{is_done_mail, after_mail, mail_of, posted, at_lane, after_put}
 use Rattle.relay_world.specs.Ties.{puts_of, IsLaneOf, IsTied}
 use Rattle.relay_world.proofs.Carried.{TakesMore, keeps}
@@ -49,10 +49,10 @@ closed_now s d x at = ap closed_in (at-update_same s (after_mail body.Done) d.se
 
 -- ---- ties
 
-module _ (w : World) (t : Together) (i : IsTied w t) (l s : ℕ) (b : Body) (d : Desk) (there : desk_at w l ≡ Some d) where
-  desk_posted : IsDeskOf w.config (Some (posted s b d)) (t.lanes.queue l ++ ops_of b) (t.lanes.lane l)
+module _ (w : World) (t : Together) (n : ℕ → ℕ) (i : IsTied w t n) (l s : ℕ) (b : Body) (d : Desk) (there : desk_at w l ≡ Some d) where
+  desk_posted : IsDeskOf w.config (n l) (Some (posted s b d)) (t.lanes.queue l ++ ops_of b) (t.lanes.lane l)
   desk_posted =
-      let now = desk_there w t i.lanes l d there in
+      let now = desk_there w t n i.lanes l d there in
       record {
         queue_is = ap (λ os. os ++ ops_of b) now.queue_is ∙ sym (puts-push d.queue (mail_of d s b));
         taken = now.taken;
@@ -68,39 +68,40 @@ module _ (w : World) (t : Together) (i : IsTied w t) (l s : ℕ) (b : Body) (d :
 
   -- the machines of a world to which a message was posted, where a put's operation stands at the back of its queue and a Done
   -- has closed its sender
-  pub posted_tied : (accepted : List (List Op)) (u : Together) → length accepted ≡ w.config.producers → CameAboutTogether (config_of w.config) (lane_of w) u
+  pub posted_tied : (accepted : List (List Op)) (u : Together) → length accepted ≡ w.config.producers → CameAboutTogether (config_of w.config) (lane_of w) (ended_of w) u
       → ((p : ℕ) → u.lanes.accepted p ≡ accepted_from (over_same w desks_now accepted w.sent) p)
       → ((p : ℕ) → u.lanes.closed p ≡ is_closed (over_same w desks_now accepted w.sent) p)
       → u.lanes.queue l ≡ t.lanes.queue l ++ ops_of b → ((m : ℕ) → m ≢ l → u.lanes.queue m ≡ t.lanes.queue m) → u.lanes.lane ≡ t.lanes.lane
       → u.sent ≡ t.sent → u.origins ≡ t.origins → u.runs ≡ t.runs
-      → IsTied (over_same w desks_now accepted w.sent) u
+      → IsTied (over_same w desks_now accepted w.sent) u n
   posted_tied accepted u producers came accepted_is closed_is here others cores sent origins runs =
       let new = over_same w desks_now accepted w.sent in
-      let now = subst (λ q. IsDeskOf w.config (Some (posted s b d)) q (u.lanes.lane l)) (sym here)
-      (subst (λ f. IsDeskOf w.config (Some (posted s b d)) (t.lanes.queue l ++ ops_of b) (f l)) (sym cores) desk_posted) in
-      let lanes = lanes_from new u producers accepted_is closed_is
-      (desks_after w t i.lanes l d there (posted s b) u.lanes.queue u.lanes.lane now (λ m ne. (others m ne, ap (λ f. f m) cores))) in
+      let now = subst (λ q. IsDeskOf w.config (n l) (Some (posted s b d)) q (u.lanes.lane l)) (sym here)
+      (subst (λ f. IsDeskOf w.config (n l) (Some (posted s b d)) (t.lanes.queue l ++ ops_of b) (f l)) (sym cores) desk_posted) in
+      let lanes = lanes_from new u n producers accepted_is closed_is
+      (desks_after w t n i.lanes l d there (posted s b) u.lanes.queue u.lanes.lane now (λ m ne. (others m ne, ap (λ f. f m) cores))) in
       record {
+        few = i.few;
         came_about = came;
         lanes = lanes;
-        requests = requests_kept w desks_now accepted t u i.requests (keeps w new refl (more_posted accepted)) sent origins runs;
-        index = index_kept w desks_now accepted w.sent t u i.index (facts_together (config_of w.config) (lane_of w) t i.came_about)
+        requests = requests_kept w desks_now accepted t u n i.requests (keeps w new refl refl (more_posted accepted)) sent origins runs;
+        index = index_kept w desks_now accepted w.sent t u i.index i.came_about
             (λ m. let same = ap (λ f. (f m).outside) cores in record { stored = ap (λ o. o.stored) same; before = ap (λ o. o.before) same; applied = ap (λ o. o.applied) same })
-            (takes_more w new t u i.lanes lanes (more_posted accepted));
+            (takes_more w new t u n n i.lanes lanes (more_posted accepted));
       }
 
 -- ---- a tick, a flush: nothing of it reaches the machines
 
-pub control_tied : (w : World) (t : Together) → IsTied w t → (l s : ℕ) (b : Body) (d : Desk) → desk_at w l ≡ Some d → is_done_mail b ≡ false → ops_of b ≡ [] → IsTied (at_lane l (posted s b) w) t
-control_tied w t i l s b d there stays none =
-    posted_tied w t i l s b d there w.accepted t i.lanes.producers i.came_about i.lanes.accepted
+pub control_tied : (w : World) (t : Together) (n : ℕ → ℕ) → IsTied w t n → (l s : ℕ) (b : Body) (d : Desk) → desk_at w l ≡ Some d → is_done_mail b ≡ false → ops_of b ≡ [] → IsTied (at_lane l (posted s b) w) t n
+control_tied w t n i l s b d there stays none =
+    posted_tied w t n i l s b d there w.accepted t i.lanes.producers i.came_about i.lanes.accepted
     (λ p. i.lanes.closed p ∙ sym (any_unmoved (has_closed p) (posted s b) l w.desks (λ x. closed_posted p s b x stays)))
     (sym (append-nil (t.lanes.queue l)) ∙ ap (λ os. t.lanes.queue l ++ os) (sym none))
     (λ m ne. refl) refl refl refl refl
 
 -- ---- a close
 
-module _ (w : World) (t : Together) (i : IsTied w t) (l s : ℕ) (d : Desk) (there : desk_at w l ≡ Some d) (x : Sender) (known : slice_get d.senders s ≡ Some x) where
+module _ (w : World) (t : Together) (n : ℕ → ℕ) (i : IsTied w t n) (l s : ℕ) (d : Desk) (there : desk_at w l ≡ Some d) (x : Sender) (known : slice_get d.senders s ≡ Some x) where
   abbrev after_close : Together
   after_close = act (config_of w.config) (lane_of w) (Plain (Closes s)) t
 
@@ -115,16 +116,16 @@ module _ (w : World) (t : Together) (i : IsTied w t) (l s : ℕ) (d : Desk) (the
       ∙ sym (any_unmoved (has_closed p) (posted s body.Done) l w.desks (λ y. closed_done p s y ne)))
       (equal_or_not p s)
 
-  pub close_tied : IsTied (at_lane l (posted s body.Done) w) after_close
+  pub close_tied : IsTied (at_lane l (posted s body.Done) w) after_close n
   close_tied =
-      posted_tied w t i l s body.Done d there w.accepted after_close i.lanes.producers
-      (act_together (config_of w.config) (lane_of w) t (Plain (Closes s)) i.came_about (tt, tt))
+      posted_tied w t n i l s body.Done d there w.accepted after_close i.lanes.producers
+      (act_together (config_of w.config) (lane_of w) (ended_of w) t (Plain (Closes s)) i.came_about (tt, tt) tt)
       i.lanes.accepted closed_after (sym (append-nil (t.lanes.queue l))) (λ m ne. refl) refl refl refl refl
 
 -- ---- a put
 
-module _ (w : World) (t : Together) (i : IsTied w t) (o : Op) (d : Desk) (there : desk_at w (lane_of w (document_of o.key)) ≡ Some d)
-    (os : List Op) (known : slice_get w.accepted o.producer ≡ Some os) (open_yet : is_closed w o.producer ≡ false) (number : o.number ≡ length os + 1) where
+module _ (w : World) (t : Together) (n : ℕ → ℕ) (i : IsTied w t n) (o : Op) (d : Desk) (there : desk_at w (lane_of w (document_of o.key)) ≡ Some d)
+    (os : List Op) (known : slice_get w.accepted o.producer ≡ Some os) (open_yet : is_closed w o.producer ≡ false) (epoch : o.epoch ≡ w.config.epoch) (number : o.number ≡ length os + 1) where
   abbrev l : ℕ
   l = lane_of w (document_of o.key)
 
@@ -146,12 +147,12 @@ module _ (w : World) (t : Together) (i : IsTied w t) (o : Op) (d : Desk) (there 
       ∙ sym (ap (λ x. unwrap_or x []) (at-update_other o.producer (λ xs. xs ++ o ∷ []) w.accepted p ne)))
       (equal_or_not p o.producer)
 
-  pub put_tied : IsTied (after_put w o) after
+  pub put_tied : IsTied (after_put w o) after n
   put_tied =
-      posted_tied w t i l o.producer (body.Put o) d there (update o.producer (λ xs. xs ++ o ∷ []) w.accepted) after
+      posted_tied w t n i l o.producer (body.Put o) d there (update o.producer (λ xs. xs ++ o ∷ []) w.accepted) after
       (length-update o.producer (λ xs. xs ++ o ∷ []) w.accepted ∙ i.lanes.producers)
-      (act_together (config_of w.config) (lane_of w) t (Plain (Puts o)) i.came_about
-      (tt, record { open_yet = i.lanes.closed o.producer ∙ open_yet; number = number ∙ ap (λ xs. length xs + 1) (sym (i.lanes.accepted o.producer ∙ accepted_before)) }))
+      (act_together (config_of w.config) (lane_of w) (ended_of w) t (Plain (Puts o)) i.came_about
+      (tt, record { epoch = epoch; open_yet = i.lanes.closed o.producer ∙ open_yet; number = number ∙ ap (λ xs. length xs + 1) (sym (i.lanes.accepted o.producer ∙ accepted_before)) }) tt)
       accepted_after
       (λ p. i.lanes.closed p ∙ sym (any_unmoved (has_closed p) (posted o.producer (body.Put o)) l w.desks (λ x. closed_posted p o.producer (body.Put o) x refl)))
       (added_same t.lanes.queue l o) (λ m ne. added_other t.lanes.queue l o m ne) refl refl refl refl

@@ -1,34 +1,40 @@
 -- A send keeps a world tied.
-use Rattle.std.proofs.Common.{◌≡◌, ℕ, zero, suc, ◌+◌, ◌-◌, List, [], ◌∷◌, ◌++◌, length, Option, Some, refl, sym, ap, ◌∙◌, subst, ⊎_elim, inl, inr, arith}
+use Rattle.std.proofs.Common.{◌≡◌, ℕ, zero, suc, ◌+◌, List, [], ◌∷◌, ◌++◌, length, Option, Some, refl, sym, ap, ◌∙◌, subst, ⊎_elim, inl, inr, arith, ◌≤◌, length-append}
 use Rattle.std.specs.Prelude.{slice_get, map, option_and_then, option_map, option_to_list}
-use Rattle.std.proofs.lemmas.List.{map-append}
+use Rattle.std.proofs.lemmas.List.{map-append, length-map}
 use Rattle.relay_action.specs.declared.operation.Op.{Op}
+use Rattle.relay_action.specs.declared.write.Write.{Write}
 use Rattle.relay_batch.specs.declared.item.BatchItem.{BatchItem}
 use Rattle.relay_results.specs.Words.{Mem, update}
 use Rattle.relay_results.specs.Documents.{write_for}
 use Rattle.relay_results.specs.Outside.{Unanswered}
 use Rattle.relay_results.specs.Numbers.{from_zero}
-use Rattle.relay_results.proofs.Lists.{equal_or_not, Mem-cases, Mem-one, Mem-map}
+use Rattle.relay_results.proofs.Lists.{equal_or_not, Mem-cases, Mem-one, Mem-map, Mem-last, at-left, at-last, at-cases}
 use Rattle.relay_delivery.specs.Machine.{Config, Core, Held, Sends, MaySend, write_of, step}
 use Rattle.relay_delivery.specs.Lane as delivery
 use Rattle.relay_delivery.specs.Lane.{Entry, held_of, candidates, is_candidate}
 use Rattle.relay_delivery.specs.Together.{Together, SendsFrom, act}
 use Rattle.relay_delivery.proofs.Facts.{CoreFacts}
-use Rattle.relay_delivery.proofs.Keeps.{none_past}
-use Rattle.relay_delivery.proofs.Fitting.{may_send, send_is_of}
-use Rattle.relay_delivery.proofs.Gathered.{act_together}
-use Rattle.relay_delivery.proofs.Sharing.{facts_together}
+use Rattle.relay_delivery.proofs.Numbered.{chosen_on, may_send_on, send_on, sent_on}
+use Rattle.relay_delivery.proofs.Lives.{IsOfThese, facts_together, facts_of_life}
+use Rattle.relay_delivery.proofs.Parts.{op_of_write}
+use Rattle.relay_delivery.proofs.Accounts.{next, all_above, act_together}
+use Rattle.relay_delivery.specs.Numbered.{numbered_on, held_on}
+use Rattle.relay_delivery.specs.Restarts.{Incarnation, incarnation_of, with_running}
+use Rattle.relay_delivery.specs.Accounted.{op_dealt}
+use Rattle.relay_world.proofs.Past.{running_seen}
 use Rattle.relay_core.specs.State as lane
 use Rattle.relay_core.specs.State.{config_of, next_entries, next_batch, gathering}
 use Rattle.relay_core.specs.Rule as rule
 use Rattle.relay_core.proofs.Tying.{chosen_sub}
 use Rattle.relay_core.proofs.Forming.{items_of_operations}
-use Rattle.relay_world.specs.State.{Desk, Item, Sent, World, desk_at, lane_of, op_with, has_closed}
+use Rattle.relay_core.proofs.Batched.{next_keeps}
+use Rattle.relay_world.specs.State.{Desk, Item, Sent, World, ended_of, incarnations, desk_at, lane_of, op_with, has_closed}
 use Rattle.relay_world.specs.Headline as headline
 use Rattle.relay_world.specs.Headline.{runs_of, runs_at, outcomes_at, IsLog}
 use Rattle.relay_world.specs.Changes.{item_of, items_of, sent_request, request_of, sent_by, after_send}
-use Rattle.relay_world.specs.Ties.{versions_of, origin_of, IsLaneOf, AreLanes, AreRequests, IsTied}
-use Rattle.relay_world.proofs.Carried.{writes_by, writes_are, op_is, Keeps, TakesMore, keeps, found_kept, request_kept, map-kept}
+use Rattle.relay_world.specs.Ties.{versions_of, IsOriginOf, IsLaneOf, AreLanes, AreRequests, IsTied}
+use Rattle.relay_world.proofs.Carried.{writes_by, writes_are, dealt_among, one_listed, Keeps, TakesMore, keeps, found_kept, request_kept, map-kept}
 use Rattle.relay_world.proofs.Logged.{pushed_at}
 use Rattle.relay_world.proofs.Indexed.{over_same, SameIndex, index_kept}
 use Rattle.relay_world.proofs.Alike.{changed_same, changed_other, any_unmoved, IsDeskOf, desk_there, desks_after, lanes_from, takes_more, takes_none}
@@ -44,20 +50,30 @@ writes_in f (h ∷ hs) all =
     let rest = writes_in f hs (λ x m. all x (inr m)) in
     λ i. option_to_list (option_map (λ o. write_for o h.version) (all h (inl refl) i)) ++ rest i
 
+-- what is chosen stands among it, numbered on
+own_chosen : (n : ℕ) (es : List Entry) (h : Held) → Mem h (held_of es) → Mem (held_on n h) (chosen_on n es)
+own_chosen n [] h m = elim m [ ]
+own_chosen n (e ∷ es) h (inl same) = inl (ap (held_on n) same)
+own_chosen n (e ∷ es) h (inr m) = inr (own_chosen n es h m)
+
 none_run : (is : List BatchItem) (place : ℕ) → runs_of (slice_get (map item_of is) place) ≡ []
 none_run [] place = refl
 none_run (x ∷ is) zero = refl
 none_run (x ∷ is) (suc place) = none_run is place
 
-module _ (w : World) (t : Together) (i : IsTied w t) (l : ℕ) (d : Desk) (there : desk_at w l ≡ Some d) (items : List BatchItem) (formed : next_batch d.lane ≡ Some items) where
+module _ (w : World) (t : Together) (b : ℕ → ℕ) (i : IsTied w t b) (l : ℕ) (d : Desk) (there : desk_at w l ≡ Some d) (items : List BatchItem) (formed : next_batch d.lane ≡ Some items) where
   abbrev g : Config
   g = config_of w.config
 
   abbrev entries : List Entry
   entries = next_entries d.lane
 
+  -- what is sent, and what it is beside the requests before the restart
+  abbrev own : List Held
+  own = held_of (next_entries d.lane)
+
   abbrev chosen : List Held
-  chosen = held_of (next_entries d.lane)
+  chosen = chosen_on (b l) (next_entries d.lane)
 
   abbrev u : Together
   u = act g (lane_of w) (SendsFrom l chosen) t
@@ -66,27 +82,30 @@ module _ (w : World) (t : Together) (i : IsTied w t) (l : ℕ) (d : Desk) (there
   desks_now = update l sent_request w.desks
 
   abbrev new_sent : Sent
-  new_sent = request_of l d
+  new_sent = request_of w.config.epoch l d
 
   -- the world afterwards
   abbrev new : World
   new = over_same w desks_now w.accepted (w.sent ++ new_sent ∷ [])
 
   is_new : after_send w l ≡ new
-  is_new = ap (λ o. over_same w desks_now w.accepted (w.sent ++ sent_by l o)) there
+  is_new = ap (λ o. over_same w desks_now w.accepted (w.sent ++ sent_by w.config.epoch l o)) there
 
-  facts : CoreFacts g none_past (t.lanes.lane l)
-  facts = (facts_together g (lane_of w) t i.came_about).lanes.lane l
+  abbrev past : ℕ → Write → Type 0
+  past = IsOfThese (ended_of w)
 
-  desk_is : IsDeskOf w.config (Some d) (t.lanes.queue l) (t.lanes.lane l)
-  desk_is = desk_there w t i.lanes l d there
+  facts : CoreFacts g (past l) (t.lanes.lane l)
+  facts = (facts_together g (lane_of w) (ended_of w) t i.came_about).lanes.lane l
+
+  desk_is : IsDeskOf w.config (b l) (Some d) (t.lanes.queue l) (t.lanes.lane l)
+  desk_is = desk_there w t b i.lanes l d there
 
   works : IsLaneOf w.config d
   works = desk_is.works d refl
 
   may : MaySend (t.lanes.lane l) chosen
-  may = may_send d.lane.core (t.lanes.lane l) (next_entries d.lane) (chosen_sub (candidates d.lane.core) (gathering d.lane)) desk_is.lane
-      (subst (λ x. CoreFacts x none_past (t.lanes.lane l)) (sym works.config) facts)
+  may = may_send_on (past l) (b l) d.lane.core (t.lanes.lane l) (next_entries d.lane) (chosen_sub (candidates d.lane.core) (gathering d.lane)) (next_keeps d.lane items formed) desk_is.lane
+      (subst (λ x. CoreFacts x (past l) (t.lanes.lane l)) (sym works.config) facts)
 
   -- ---- the desk
 
@@ -97,12 +116,12 @@ module _ (w : World) (t : Together) (i : IsTied w t) (l : ℕ) (d : Desk) (there
   unfolding left
   left_is = ap (λ b. record { queue = d.queue; senders = d.senders; taken = d.taken; lane = lane.after_request d.lane b }) formed
 
-  desk_left : IsDeskOf w.config (Some left) (t.lanes.queue l) (step g (Sends chosen) (t.lanes.lane l))
+  desk_left : IsDeskOf w.config (b l) (Some left) (t.lanes.queue l) (step g (Sends chosen) (t.lanes.lane l))
   unfolding left
   desk_left = record {
     queue_is = desk_is.queue_is;
     taken = desk_is.taken;
-    lane = subst (λ x. delivery.IsOf (delivery.sent d.lane.core entries) (step x (Sends chosen) (t.lanes.lane l))) works.config (send_is_of d.lane.core (t.lanes.lane l) entries desk_is.lane);
+    lane = subst (λ x. delivery.IsOf (numbered_on (b l) (delivery.sent d.lane.core entries)) (step x (Sends chosen) (t.lanes.lane l))) works.config (send_on (b l) d.lane.core (t.lanes.lane l) entries desk_is.lane);
     works = λ x e.
         let one : record { queue = d.queue; senders = d.senders; taken = d.taken; lane = lane.after_request d.lane (Some items) } ≡ x = cc in
         subst (IsLaneOf w.config) one (record { config = works.config; senders = works.senders; next = ap (λ n. n + 1) works.next });
@@ -111,52 +130,76 @@ module _ (w : World) (t : Together) (i : IsTied w t) (l : ℕ) (d : Desk) (there
   more_none : TakesMore w new
   more_none = takes_none w l sent_request w.accepted (w.sent ++ new_sent ∷ []) (λ x. refl)
 
-  lanes_now : AreLanes new u
+  lanes_now : AreLanes new u b
   lanes_now =
       let c = step g (Sends chosen) (t.lanes.lane l) in
-      lanes_from new u i.lanes.producers i.lanes.accepted
+      lanes_from new u b i.lanes.producers i.lanes.accepted
       (λ p. i.lanes.closed p ∙ sym (any_unmoved (has_closed p) sent_request l w.desks (λ x. refl)))
-      (desks_after w t i.lanes l d there sent_request u.lanes.queue u.lanes.lane
-      (subst (λ x. IsDeskOf w.config (Some x) (t.lanes.queue l) (u.lanes.lane l)) (sym left_is)
-      (subst (λ x. IsDeskOf w.config (Some left) (t.lanes.queue l) x) (sym (changed_same t.lanes.lane l c)) desk_left))
+      (desks_after w t b i.lanes l d there sent_request u.lanes.queue u.lanes.lane
+      (subst (λ x. IsDeskOf w.config (b l) (Some x) (t.lanes.queue l) (u.lanes.lane l)) (sym left_is)
+      (subst (λ x. IsDeskOf w.config (b l) (Some left) (t.lanes.queue l) x) (sym (changed_same t.lanes.lane l c)) desk_left))
       (λ m ne. (refl, changed_other t.lanes.lane l c m ne)))
 
   -- ---- the request
 
-  versions_are : versions_of new_sent ≡ map (λ (h : Held). h.version) chosen
+  versions_are : versions_of new_sent ≡ map (λ (h : Held). h.version) own
   versions_are =
       ap (λ b. map (λ (x : Item). x.version) (items_of b)) formed
       ∙ ap (λ xs. map (λ (x : Item). x.version) (map item_of xs)) (items_of_operations d.lane items formed)
       ∙ versions_in entries
 
-  chosen_found : (h : Held) → Mem h chosen → op_with w l h.version ≡ Some h.op
-  chosen_found h m =
-      let dealt = (facts.held h (may.eligible h m).is_held).dealt in
-      let v = dealt.version in
-      let place : h.version - w.config.first_version ≡ dealt.place = omega (arith, v) in
-      op_is w l h.version ∙ ap (λ os. slice_get os (h.version - w.config.first_version)) (sym (i.lanes.taken l)) ∙ ap (slice_get (t.lanes.lane l).taken) place ∙ dealt.stands
+  abbrev is_running : Incarnation
+  is_running = incarnation_of g t
+
+  of_these : (h : Held) → Mem h chosen → IsOfThese (with_running (ended_of w) g t) l (write_of h)
+  of_these h m = record {
+    which = is_running;
+    among = Mem-last (ended_of w) is_running;
+    of_one = record { op = h.op; write = refl; dealt = (facts.held h (may.eligible h m).is_held).dealt };
+  }
+
+  numbered_found : (h : Held) → Mem h chosen → op_with w l h.version ≡ Some h.op
+  unfolding of_these
+  numbered_found h m =
+      let life = facts_of_life g (lane_of w) (ended_of w) t i.came_about in
+      let dealt = op_of_write (with_running (ended_of w) g t) (next g) (all_above g (lane_of w) (ended_of w) t life) l (write_of h) (of_these h m) in
+      one_listed (op_with w l h.version) h.op
+      (sym (dealt_among w.config (incarnations w) l h.version) ∙ ap (λ ps. op_dealt ps l h.version) (sym (running_seen w t b i)) ∙ dealt)
+
+  chosen_found : (h : Held) → Mem h own → op_with w l h.version ≡ Some h.op
+  chosen_found h m = numbered_found (held_on (b l) h) (own_chosen (b l) entries h m)
 
   found_new : (v : ℕ) → Mem v (versions_of new_sent) → (o : Op) × (op_with w l v ≡ Some o)
   found_new v m =
-      let h = Mem-map (λ (x : Held). x.version) v chosen (subst (λ vs. Mem v vs) versions_are m) in
+      let h = Mem-map (λ (x : Held). x.version) v own (subst (λ vs. Mem v vs) versions_are m) in
       (h.0.op, ap (op_with w l) h.2 ∙ chosen_found h.0 h.1)
 
   kept : Keeps w new
-  kept = keeps w new refl more_none
+  kept = keeps w new refl refl more_none
 
   request_is : headline.request_of new new_sent ≡ record { writes = map write_of chosen; answer = Unanswered }
   request_is =
       request_kept w new new_sent new_sent Unanswered kept found_new refl refl refl
-      ∙ ap (λ ws. record { writes = ws; answer = Unanswered }) (writes_are w new_sent ∙ ap (writes_by (op_with w l)) versions_are ∙ writes_in (op_with w l) chosen chosen_found)
+      ∙ ap (λ ws. record { writes = ws; answer = Unanswered }) (writes_are w new_sent ∙ ap (writes_by (op_with w l)) versions_are ∙ writes_in (op_with w l) own chosen_found ∙ sym (sent_on (b l) entries))
 
-  requests_now : AreRequests new u
+  as_long : length t.origins ≡ length w.sent
+  as_long = (facts_together g (lane_of w) (ended_of w) t i.came_about).as_long ∙ ap length i.requests.sent ∙ length-map w.sent (headline.request_of w)
+
+  requests_now : AreRequests new u b
   requests_now =
       let r = i.requests in
       let old = map-kept (headline.request_of new) (headline.request_of w) w.sent (λ s m. request_kept w new s s s.answer kept (r.found s m) refl refl refl) in
-      let number : from_zero d.lane.flights.next ≡ length (t.lanes.lane l).outside.requests = let n = works.next in let q = desk_is.lane.requests in omega (arith, n, q) in
+      let number : length (t.lanes.lane l).outside.requests ≡ from_zero (b l + d.lane.flights.next) = let n = works.next in let q = desk_is.lane.requests in omega (arith, n, q) in
       record {
         sent = (let back = sym request_is in λ j. r.sent j ++ back j ∷ []) ∙ ap (λ qs. qs ++ headline.request_of new new_sent ∷ []) (sym old) ∙ sym (map-append (headline.request_of new) w.sent (new_sent ∷ []));
-        origins = (let back = sym number in λ j. r.origins j ++ record { lane = l; number = back j } ∷ []) ∙ sym (map-append origin_of w.sent (new_sent ∷ []));
+        origins = λ k s at. ⊎_elim {C = IsOriginOf new u b k s}
+            (λ old. let o = r.origins k s old in record { number = o.number; origin = at-left t.origins (record { lane = l; number = length (t.lanes.lane l).outside.requests } ∷ []) k (record { lane = s.lane; number = o.number }) o.origin; not_later = o.not_later; of_now = o.of_now })
+            (λ last.
+            let same : slice_get u.origins k ≡ Some (record { lane = l; number = length (t.lanes.lane l).outside.requests }) = ap (slice_get u.origins) (last.0 ∙ sym as_long) ∙ at-last t.origins (record { lane = l; number = length (t.lanes.lane l).outside.requests }) in
+            let here : IsOriginOf new u b k new_sent = record { number = length (t.lanes.lane l).outside.requests; origin = same; not_later = (let z : w.config.epoch ≤ w.config.epoch = omega arith in z); of_now = λ e. (number, λ p m. (let le = r.grown p m in let n = last.0 in omega (arith, le, n))) } in
+            subst (λ (x : Sent). IsOriginOf new u b k x) (sym last.1) here)
+            (at-cases w.sent new_sent k s at);
+        grown = λ p m. (let le = r.grown p m in let n = length-append w.sent (new_sent ∷ []) in omega (arith, le, n));
         runs = λ request place. r.runs request place
             ∙ sym (pushed_at (λ o. runs_of (option_and_then (λ (s : Sent). slice_get s.items place) o)) w.sent new_sent request refl
             (ap (λ b. runs_of (slice_get (items_of b) place)) formed ∙ none_run items place));
@@ -179,10 +222,11 @@ module _ (w : World) (t : Together) (i : IsTied w t) (l : ℕ) (d : Desk) (there
       (λ ne. subst (λ (x : Core). SameIndex x.outside (t.lanes.lane m).outside) (sym (changed_other t.lanes.lane l c m ne)) (record { stored = refl; before = refl; applied = refl }))
       (equal_or_not m l)
 
-  pub send_tied : IsTied (after_send w l) u
-  send_tied = subst (λ x. IsTied x u) (sym is_new) (record {
-    came_about = act_together g (lane_of w) t (SendsFrom l chosen) i.came_about may;
+  pub send_tied : IsTied (after_send w l) u b
+  send_tied = subst (λ x. IsTied x u b) (sym is_new) (record {
+    few = i.few;
+    came_about = act_together g (lane_of w) (ended_of w) t (SendsFrom l chosen) i.came_about may tt;
     lanes = lanes_now;
     requests = requests_now;
-    index = index_kept w desks_now w.accepted (w.sent ++ new_sent ∷ []) t u i.index (facts_together g (lane_of w) t i.came_about) same_index (takes_more w new t u i.lanes lanes_now more_none);
+    index = index_kept w desks_now w.accepted (w.sent ++ new_sent ∷ []) t u i.index i.came_about same_index (takes_more w new t u b b i.lanes lanes_now more_none);
   })

@@ -1,5 +1,5 @@
--- What each accepted event changes, and what is answered. What a record does not name stays as it was.
-use Rattle.std.specs.Prelude.{◌≡◌, ℕ, ◌+◌, ◌-◌, List, [], ◌∷◌, ◌++◌, Option, Some, None, slice_get, unwrap_or, option_map, Bool, true, false, ◌&&◌, ◌||◌, length, map, if◌then◌else◌}
+-- What each accepted event changes, and what it returns. What a record does not name stays as it was.
+use Rattle.std.specs.Prelude.{◌≡◌, ℕ, ◌+◌, ◌-◌, List, [], ◌∷◌, ◌++◌, Option, Some, None, slice_get, unwrap_or, option_map, Bool, true, false, ◌&&◌, ◌||◌, length, map, replicate, if◌then◌else◌}
 use Rattle.relay_action.specs.Streams.{one_more}
 use Rattle.relay_action.specs.declared.key.DocKey.{DocKey}
 use Rattle.relay_action.specs.declared.action.Action.{Action}
@@ -17,6 +17,7 @@ use Rattle.relay_results.specs.Matching.{matches}
 use Rattle.relay_index.specs.States as index
 use Rattle.relay_index.specs.Runs.{is_run, done_of, outcome_of_run, Effect}
 use Rattle.relay_index.specs.declared.choice.Choice.{Choice}
+use Rattle.relay_core.specs.declared.config.RelayConfig.{RelayConfig}
 use Rattle.relay_core.specs.State as lane
 use Rattle.relay_core.specs.Ties.{ops_of}
 use Rattle.relay_core.specs.declared.settled.Settled.{Settled}
@@ -25,7 +26,7 @@ use Rattle.relay_world.specs.declared.event.Event.TheVariants as event
 use Rattle.relay_world.specs.declared.event.StepAnswer.{StepAnswer}
 use Rattle.relay_world.specs.declared.event.StepAnswer.TheVariants as answer
 use Rattle.relay_world.specs.declared.sender.Sender.{Sender}
-use Rattle.relay_world.specs.State.{Desk, Item, Sent, World, lane_of, desk_at, accepted_from, numbered, request_at, op_with, Named, names_at, before_at}
+use Rattle.relay_world.specs.State.{Desk, Item, Sent, World, fresh_desk, incarnations, lane_of, desk_at, accepted_from, numbered, request_at, op_with, Named, names_at, before_at}
 use Rattle.relay_world.specs.Refusals.{entries}
 
 -- the desk of a lane is changed
@@ -53,7 +54,7 @@ posted sender b d = record d { queue = d.queue ++ mail_of d sender b ∷ []; sen
 
 -- the operation that a put makes: it has the next number of its producer
 abbrev pub op_of_put : World → ℕ → DocKey → Action → Op
-op_of_put w p key action = record { producer = p; number = length (accepted_from w p) + 1; key = key; action = action }
+op_of_put w p key action = record { epoch = w.config.epoch; producer = p; number = length (accepted_from w p) + 1; key = key; action = action }
 
 abbrev pub after_put : World → Op → World
 after_put w o = record (at_lane (lane_of w (document_of o.key)) (posted o.producer (body.Put o)) w) {
@@ -81,15 +82,15 @@ items_of (Some is) = map item_of is
 abbrev pub sent_request : Desk → Desk
 sent_request d = record d { lane = lane.after_request d.lane (lane.next_batch d.lane) }
 
-abbrev pub request_of : ℕ → Desk → Sent
-request_of l d = record { lane = l; number = d.lane.flights.next; items = items_of (lane.next_batch d.lane); answer = Unanswered }
+abbrev pub request_of : ℕ → ℕ → Desk → Sent
+request_of epoch l d = record { epoch = epoch; lane = l; number = d.lane.flights.next; items = items_of (lane.next_batch d.lane); answer = Unanswered }
 
-abbrev pub sent_by : ℕ → Option Desk → List Sent
-sent_by l None = []
-sent_by l (Some d) = request_of l d ∷ []
+abbrev pub sent_by : ℕ → ℕ → Option Desk → List Sent
+sent_by epoch l None = []
+sent_by epoch l (Some d) = request_of epoch l d ∷ []
 
 abbrev pub after_send : World → ℕ → World
-after_send w l = record (at_lane l sent_request w) { sent = w.sent ++ sent_by l (desk_at w l) }
+after_send w l = record (at_lane l sent_request w) { sent = w.sent ++ sent_by w.config.epoch l (desk_at w l) }
 
 -- ---- an item is run
 
@@ -103,7 +104,7 @@ ran_item item o s = record s { items = update (item - 1) (with_outcome o) s.item
 abbrev pub outcome_of : World → Write → Choice → RunOutcome
 outcome_of w x c = outcome_of_run (done_of w.index x c)
 
--- the outcome stands at the end of the item's runs
+-- the outcome is added to the item's runs
 abbrev pub after_run : World → ℕ → ℕ → RunOutcome → index.State → List (DocKey × Named) → World
 after_run w request item o i kept = record w {
   index = i;
@@ -111,8 +112,8 @@ after_run w request item o i kept = record w {
   kept = kept;
 }
 
--- An item of a sent request was run, and its status is answered: the index did with the write of its operation what it
--- does, and where that was applied, the operation's name stands at the end of the names of its document.
+-- An item of a sent request was run, and its status is returned: the index did with the write of its operation what it
+-- does with any write, and if that was applied, the operation's name is added to the names of its document.
 pub record RunsItem (w : World) (request item : ℕ) (c : Choice) (x : StepAnswer) (new : World) : Type 0 where
   pub sent : Sent
   pub was_sent : request_at w request ≡ Some sent
@@ -145,7 +146,7 @@ matched_by (Items os) ws = matches os ws
 matched_by (Whole status) ws = true
 matched_by Lost ws = true
 
--- a request in flight was answered, and the counts of its operations are answered
+-- a request in flight was answered, and what became of its operations is returned as counts
 pub record Answers (w : World) (request : ℕ) (s : Sent) (a : Answer) (x : StepAnswer) (new : World) : Type 0 where
   pub desk : Desk
   pub there : desk_at w s.lane ≡ Some desk
@@ -158,15 +159,33 @@ pub record Answers (w : World) (request : ℕ) (s : Sent) (a : Answer) (x : Step
 abbrev pub AnswersBy : World → ℕ → Answer → StepAnswer → World → Type 0
 AnswersBy w request a x new = (s : Sent) × (request_at w request ≡ Some s) × Answers w request s a x new
 
--- by entries of its items' runs
+-- with entries of its items' runs
 abbrev pub RepliesBy : World → ℕ → List ℕ → StepAnswer → World → Type 0
 RepliesBy w request picks x new =
     (s : Sent) × (os : List Outcome) × (request_at w request ≡ Some s) × (entries w s picks ≡ Some os)
     × Answers w request s (Items os) x new
 
+-- ---- a restart
+
+abbrev pub in_new_epoch : RelayConfig → ℕ → RelayConfig
+in_new_epoch c epoch = record c { epoch = epoch }
+
+-- Queues, lanes, reports and producers are new; requests with their runs and answers, the index and the kept names stay; and
+-- what was accepted and taken since the last restart is kept beside that of earlier incarnations.
+abbrev pub restarted : World → ℕ → World
+restarted w epoch = record {
+  config = in_new_epoch w.config epoch;
+  desks = replicate w.config.lanes (fresh_desk (in_new_epoch w.config epoch));
+  accepted = replicate w.config.producers [];
+  ended = incarnations w;
+  sent = w.sent;
+  index = w.index;
+  kept = w.kept;
+}
+
 -- ---- all events
 
--- an accepted event makes this of the world, and is answered so
+-- an accepted event makes this of the world, and returns this
 abbrev pub Changes : World → Event → StepAnswer → World → Type 0
 Changes w (event.Put p key action) x new =
     (x ≡ answer.Put (name_of (op_of_put w p key action))) × (new ≡ after_put w (op_of_put w p key action))
@@ -179,3 +198,4 @@ Changes w (event.Run request item c) x new = RunsItem w request item c x new
 Changes w (event.Reply request picks) x new = RepliesBy w request picks x new
 Changes w (event.Whole request status) x new = AnswersBy w request (Whole status) x new
 Changes w (event.Lost request) x new = AnswersBy w request Lost x new
+Changes w (event.Restart epoch) x new = (x ≡ answer.Done) × (new ≡ restarted w epoch)

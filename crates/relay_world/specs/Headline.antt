@@ -1,19 +1,20 @@
 -- What is promised of the world after every list of events: exactly accounted delivery.
-use Rattle.std.specs.Prelude.{◌≡◌, ◌⊎◌, ℕ, List, [], ◌∷◌, ◌++◌, Option, Some, None, option_and_then, slice_get, take, length, true, ◌==◌, ◌&&◌, map, if◌then◌else◌}
+use Rattle.std.specs.Prelude.{◌≡◌, ◌⊎◌, ℕ, ◌+◌, ◌<◌, ◌≤◌, nat_lt, List, [], ◌∷◌, ◌++◌, Option, Some, None, option_and_then, slice_get, take, length, true, ◌==◌, ◌&&◌, map, filter, if◌then◌else◌}
 use Rattle.relay_action.specs.declared.operation.Op.{Op}
 use Rattle.relay_results.specs.Words.{Mem, AllDistinct}
 use Rattle.relay_results.specs.Documents.{Document, document_of, name_of}
 use Rattle.relay_results.specs.Outside.{Request, RunOutcome, Ran, Outside}
 use Rattle.relay_index.specs.States as index
-use Rattle.relay_delivery.specs.Attribution.{IsAttribution, IsInProducerOrder}
-use Rattle.relay_delivery.specs.Causes.{Terms, IsAssignment, IsTrueCause, deals_from}
-use Rattle.relay_delivery.specs.Machine.{Report}
+use Rattle.relay_delivery.specs.Attribution.{IsAttribution, IsInProducerOrder, AreByEpoch, is_in}
+use Rattle.relay_delivery.specs.Accounted.{accepted_over, accepted_in}
+use Rattle.relay_delivery.specs.Causes.{Terms, IsAssignment, IsTrueCause}
+use Rattle.relay_delivery.specs.Machine.{Report, first_in}
 use Rattle.relay_delivery.specs.Delivery.{names_of}
-use Rattle.relay_world.specs.State.{Desk, Item, Sent, World, desk_at, lane_of, accepted_from, applied, names_at, before_at, reports, writes_of, is_closed, is_finished}
+use Rattle.relay_world.specs.State.{Item, Sent, Past, World, incarnations, incarnations_of, lane_of, taken, accepted_from, applied, names_at, before_at, reports, writes_of, is_closed, is_finished}
 
--- ---- what stands outside the lanes
+-- ---- outside the lanes
 
--- a sent request: its writes, and what was answered
+-- a sent request: its writes, and its answer
 abbrev pub request_of : World → Sent → Request
 request_of w s = record { writes = writes_of w s; answer = s.answer }
 
@@ -30,7 +31,7 @@ runs_of (Some i) = i.runs
 abbrev pub runs_at : World → ℕ → ℕ → List RunOutcome
 runs_at w request place = runs_of (option_and_then (λ (s : Sent). slice_get s.items place) (slice_get w.sent request))
 
--- all runs, one after another: of each item they are those that it has
+-- all runs, one after another: for each item they are those that it has
 abbrev pub IsLog : World → List Ran → Type 0
 IsLog w log = (request place : ℕ) → outcomes_at request place log ≡ runs_at w request place
 
@@ -45,15 +46,15 @@ outside_of w log = record {
 
 -- ---- true reports
 
--- how many operations a lane took
-abbrev pub taken_by : Option Desk → ℕ
-taken_by None = 0
-taken_by (Some d) = length d.taken
-
 abbrev pub terms_at : World → ℕ → Terms
-terms_at w l = record { max = w.config.attempts; deals = deals_from w.config.first_version; taken = taken_by (desk_at w l) }
+terms_at w l = record { max = w.config.attempts; deals = w.config.deal; taken = length (taken w l) }
 
--- a report of a lane names an accepted operation of that lane, and its cause is true
+-- The version of the operation at a place of what a lane took: the versions of the epoch are assigned in order, `deal` of
+-- them, and then none.
+abbrev pub version_at : World → ℕ → Option ℕ
+version_at w place = if nat_lt place w.config.deal then Some (first_in w.config.epoch + place) else None
+
+-- a report of a lane names an operation of that lane that was accepted since the last restart, and its cause is true
 pub record IsTrueReport (w : World) (log : List Ran) (versions : Op → Option ℕ) (l : ℕ) (r : Report) : Type 0 where
   pub op : Op
   pub producer : ℕ
@@ -65,27 +66,40 @@ pub record IsTrueReport (w : World) (log : List Ran) (versions : Op → Option �
 
 -- ---- the promise
 
+-- each is above all before it
+abbrev pub AreRising : List ℕ → Type 0
+AreRising [] = Unit {0}
+AreRising (n ∷ ns) = ((m : ℕ) → Mem m ns → n < m) × AreRising ns
+
 -- The kept names of a document are those of operations (`named`). These are the operations whose writes the index applied
--- to it: distinct accepted operations for this document, one for each write and with its action (`attribution`), each
--- producer's in the order in which it put them (`in_order`). Each report names an accepted operation, and its cause is
--- true, by one assignment of versions (`true_reports`); none is reported twice, by one lane or by two (`once`,
--- `in_one_lane`). And where the world is finished, each accepted operation was applied or is reported (`complete`).
+-- to it, over all incarnations: distinct accepted operations for this document, one for each write and with its action
+-- (`attribution`); within each epoch each producer's in the order in which it put them (`in_order`); and those of an
+-- earlier epoch before all those of a later one (`by_epoch`). Each incarnation has a higher epoch than those before it
+-- (`rising`).
+-- Of the current incarnation: one assignment of versions, no two operations of one document the same (`assignment`), is what
+-- all lanes assigned (`assigned`), and by it the cause of each report is true, which names an accepted operation
+-- (`true_reports`); none is reported twice, by one lane or by two (`once`, `in_one_lane`); and when the world is
+-- finished, each accepted operation was applied or is reported (`complete`).
 pub record Delivered (w : World) : Type 0 where
   pub log : List Ran
   pub ran : IsLog w log
   pub ops : Document → List Op
   pub named : (k : Document) → map name_of (ops k) ≡ names_at w k
-  pub attribution : (k : Document) → IsAttribution (accepted_from w) k (applied w k) (ops k)
-  pub in_order : (k : Document) → IsInProducerOrder (accepted_from w) (ops k)
+  pub attribution : (k : Document) → IsAttribution (accepted_over (incarnations_of w)) k (applied w k) (ops k)
+  pub in_order : (k : Document) (e : ℕ) → IsInProducerOrder (accepted_in (incarnations_of w) e) (filter (is_in e) (ops k))
+  pub by_epoch : (k : Document) → AreByEpoch (ops k)
+  pub rising : AreRising (map (λ (p : Past). p.epoch) (incarnations w))
   pub versions : Op → Option ℕ
   pub assignment : IsAssignment versions
+  pub assigned : (l place : ℕ) (o : Op) → slice_get (taken w l) place ≡ Some o → versions o ≡ version_at w place
   pub true_reports : (l : ℕ) (r : Report) → Mem r (reports w l) → IsTrueReport w log versions l r
   pub once : (l : ℕ) → AllDistinct (names_of (reports w l))
   pub in_one_lane : (l m : ℕ) (r q : Report) → Mem r (reports w l) → Mem q (reports w m) → r.name ≡ q.name → l ≡ m
   pub complete : is_finished w ≡ true → (p : ℕ) (o : Op) → Mem o (accepted_from w p)
       → Mem o (ops (document_of o.key)) ⊎ Mem (name_of o) (names_of (reports w (lane_of w (document_of o.key))))
 
--- of the producers that had closed, nothing more was accepted, and they stay closed
-abbrev pub StaysClosed : World → World → Type 0
-StaysClosed old new =
-    (p : ℕ) → is_closed old p ≡ true → (accepted_from new p ≡ accepted_from old p) × (is_closed new p ≡ true)
+-- The epoch did not fall. If it is the same, nothing more was accepted from a producer that had closed, and it stays closed.
+pub record StaysClosed (old new : World) : Type 0 where
+  pub epoch : old.config.epoch ≤ new.config.epoch
+  pub closed : old.config.epoch ≡ new.config.epoch → (p : ℕ) → is_closed old p ≡ true
+      → (accepted_from new p ≡ accepted_from old p) × (is_closed new p ≡ true)

@@ -1,4 +1,4 @@
--- The world as it stands in memory, and what always holds of it.
+-- The world as it is kept in memory, and what always holds of it.
 use Rattle.std.specs.Prelude.{◌≡◌, ℕ, ◌+◌, ◌<◌, List, [], ◌∷◌, Option, Some, None, option_map, slice_get, Bool, true, false, length}
 use Rattle.relay_action.specs.declared.operation.Op.{Op}
 use Rattle.relay_action.specs.declared.operation.OpName.{OpName}
@@ -49,7 +49,7 @@ pub record IsWriteAt (w : World) (request item : ℕ) (key : DocKey) (version : 
 
 -- ---- desks
 
--- each message is of one of so many senders
+-- each message is of one of the first n senders
 abbrev pub AllKnown : ℕ → List Mail → Type 0
 AllKnown n [] = Unit {0}
 AllKnown n (m ∷ ms) = (m.sender < n) × AllKnown n ms

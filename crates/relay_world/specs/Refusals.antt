@@ -1,4 +1,4 @@
--- Why an event is refused: of each kind of event the causes in their order, the first that holds.
+-- Why an event is refused: for each kind of event the causes in their order, of which the first that holds is given.
 use Rattle.std.specs.Prelude.{ℕ, ◌+◌, ◌^◌, ◌-◌, ◌==◌, List, [], ◌∷◌, Option, Some, None, option_map, option_and_then, is_some, slice_get, Bool, true, false, not, ◌&&◌, ◌||◌, nat_lt, nat_le, length, if◌then◌else◌}
 use Rattle.relay_action.specs.Actions.{kind_of}
 use Rattle.relay_action.specs.declared.mail.Mail.{Mail}
@@ -15,18 +15,18 @@ use Rattle.relay_world.specs.declared.event.Refusal.{Refusal}
 use Rattle.relay_world.specs.declared.event.Refusal.TheVariants as no
 use Rattle.relay_world.specs.State.{Desk, Item, Sent, World, desk_at, lane_of, accepted_from, request_at, op_with, write_at, has_closed, is_closed}
 
--- a cause, where the test holds, and else the next
+-- a cause if the test holds, and else the next
 abbrev pub cause_if : Bool → Refusal → Option Refusal → Option Refusal
 cause_if b r next = if b then Some r else next
 
--- what is asked of a lane, where there is one
+-- a test of a lane, if there is such a lane
 abbrev pub at_desk : Option Desk → (Desk → Option Refusal) → Option Refusal
 at_desk None f = Some no.NoSuch
 at_desk (Some d) f = f d
 
 -- ---- puts, closes, ticks and flushes
 
--- as many messages are queued as may
+-- as many messages are queued as may be
 abbrev pub is_full : World → Desk → Bool
 is_full w d = nat_le w.config.capacity (length d.queue)
 
@@ -89,9 +89,9 @@ abbrev pub flies_at : ℕ → Option Desk → Bool
 flies_at number None = false
 flies_at number (Some d) = lane.is_flying number d.lane
 
--- the request flies in its lane: it was not answered yet
+-- the request is in flight: it was sent in the current epoch, and was not answered yet
 abbrev pub is_flying : World → Sent → Bool
-is_flying w s = flies_at s.number (desk_at w s.lane)
+is_flying w s = (s.epoch == w.config.epoch) && flies_at s.number (desk_at w s.lane)
 
 -- the last of these runs, or the one with a number, from 1
 abbrev pub last_run : List RunOutcome → Option RunOutcome
@@ -109,7 +109,7 @@ entry_for w o = record { kind = kind_of w.action; id = w.key.id; status = o.stat
 abbrev pub entry_at : World → ℕ → Option ℕ → Item → Option Outcome
 entry_at w l pick i = option_and_then (λ o. option_map (entry_for (write_for o i.version)) (run_by i.runs pick)) (op_with w l i.version)
 
--- entry after entry, where each item has one
+-- entry after entry, if each item has one
 abbrev pub and_more : Option Outcome → Option (List Outcome) → Option (List Outcome)
 and_more None rest = None
 and_more (Some o) None = None
@@ -123,11 +123,11 @@ entries_from w l picks place (i ∷ is) = and_more (entry_at w l (slice_get pick
 abbrev pub are_picks : List ℕ → Sent → Bool
 are_picks picks s = (length picks == 0) || (length picks == length s.items)
 
--- the entries of a reply to a request, where the picks are right and each item has the run
+-- the entries of a reply to a request, if the picks are right and each item has the run
 abbrev pub entries : World → Sent → List ℕ → Option (List Outcome)
 entries w s picks = if are_picks picks s then entries_from w s.lane picks 0 s.items else None
 
--- what is asked of a request, where it was sent
+-- a test of a request, if it was sent
 abbrev pub at_request : Option Sent → (Sent → Option Refusal) → Option Refusal
 at_request None f = Some no.NotSent
 at_request (Some s) f = f s
@@ -151,6 +151,15 @@ whole_refusal w request status =
 abbrev pub lost_refusal : World → ℕ → Option Refusal
 lost_refusal w request = at_request (request_at w request) (λ s. cause_if (not (is_flying w s)) no.NotFlying None)
 
+-- ---- restarts
+
+-- the epoch is above the current one, and within its limit
+abbrev pub is_above : World → ℕ → Bool
+is_above w epoch = nat_lt w.config.epoch epoch && nat_le epoch 4194303
+
+abbrev pub restart_refusal : World → ℕ → Option Refusal
+restart_refusal w epoch = cause_if (not (is_above w epoch)) no.NotAbove None
+
 -- ---- all events
 
 abbrev pub refusal : World → Event → Option Refusal
@@ -164,3 +173,4 @@ refusal w (event.Run request item c) = run_refusal w request item c
 refusal w (event.Reply request picks) = reply_refusal w request picks
 refusal w (event.Whole request status) = whole_refusal w request status
 refusal w (event.Lost request) = lost_refusal w request
+refusal w (event.Restart epoch) = restart_refusal w epoch

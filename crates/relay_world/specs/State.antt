@@ -1,6 +1,6 @@
 -- The world as its callers see it: lanes with their queues over one index, what was accepted, sent, run and answered, and
 -- whose writes the index applied.
-use Rattle.std.specs.Prelude.{◌≡◌, ◌<◌, ℕ, ◌+◌, ◌-◌, ◌==◌, List, [], ◌∷◌, ◌++◌, Option, Some, None, option_map, option_and_then, option_to_list, unwrap_or, slice_get, Bool, false, ◌&&◌, length, drop, replicate, not, if◌then◌else◌}
+use Rattle.std.specs.Prelude.{◌≡◌, ◌<◌, ℕ, ◌+◌, ◌-◌, ◌==◌, List, [], ◌∷◌, ◌++◌, Option, Some, None, option_map, option_and_then, option_to_list, unwrap_or, slice_get, Bool, false, ◌&&◌, nat_le, nat_lt, length, drop, replicate, not, map, if◌then◌else◌}
 use Rattle.std.specs.List.{list_any, list_all}
 use Rattle.std.specs.List.Sorted.{IsStrictlySortedBy}
 use Rattle.std.specs.Map.{lookup}
@@ -14,28 +14,31 @@ use Rattle.relay_results.specs.Documents as documents
 use Rattle.relay_results.specs.Outside.{Answer, RunOutcome}
 use Rattle.relay_index.specs.States as index
 use Rattle.relay_index.specs.Keys.{key_order, is_among}
-use Rattle.relay_delivery.specs.Machine.{Report}
+use Rattle.relay_delivery.specs.Machine.{Report, first_in, in_epoch}
+use Rattle.relay_delivery.specs.Restarts.{Incarnation}
 use Rattle.relay_core.specs.declared.config.RelayConfig.{RelayConfig}
 use Rattle.relay_core.specs.State as lane
 use Rattle.relay_world.specs.declared.sender.Sender.{Sender}
 
 -- ---- what it has
 
--- A lane and what stands before it: the messages that are queued, the first one first, what each sender has done there,
--- and the operations that the lane took, in order.
+-- A lane with its queue: the queued messages, the oldest first; what each sender has done there; and the operations that
+-- the lane took, in order.
 pub record Desk : Type 0 where
   pub queue : List Mail
   pub senders : List Sender
   pub taken : List Op
   pub lane : lane.State
 
--- an item of a sent request: the version that its operation was dealt, and the outcomes of its runs, in order
+-- an item of a sent request: the version that was assigned to its operation, and the outcomes of its runs, in order
 pub record Item : Type 0 where
   pub version : ℕ
   pub runs : List RunOutcome
 
--- a sent request: the lane that sent it, its number there, from 1, its items, and what was answered
+-- a sent request: the epoch in which it was sent, its lane, its number there in that epoch, from 1, its items, and what was
+-- answered
 pub record Sent : Type 0 where
+  pub epoch : ℕ
   pub lane : ℕ
   pub number : ℕ
   pub items : List Item
@@ -47,12 +50,21 @@ pub record Named : Type 0 where
   pub before : ℕ
   pub names : List OpName
 
--- The config; each lane with its queue; what was accepted from each producer; all sent requests, in the order in which
--- they were sent; the index; and what is kept of the documents.
+-- What is kept of an incarnation: its epoch, what was accepted in it from each producer, what each lane took, and how
+-- many requests had been sent by its end, those of earlier incarnations included.
+pub record Past : Type 0 where
+  pub epoch : ℕ
+  pub accepted : List (List Op)
+  pub taken : List (List Op)
+  pub sent : ℕ
+
+-- The config; each lane with its queue; what was accepted from each producer since the last restart; the incarnations that
+-- ended, the oldest first; all requests ever sent, in order; the index; and what is kept of the documents.
 pub record World : Type 0 where
   pub config : RelayConfig
   pub desks : List Desk
   pub accepted : List (List Op)
+  pub ended : List Past
   pub sent : List Sent
   pub index : index.State
   pub kept : List (DocKey × Named)
@@ -72,6 +84,7 @@ fresh c i = record {
   config = c;
   desks = replicate c.lanes (fresh_desk c);
   accepted = replicate c.producers [];
+  ended = [];
   sent = [];
   index = i;
   kept = [];
@@ -90,6 +103,14 @@ lane_of w k = documents.lane_of w.config.lanes k
 abbrev pub desk_at : World → ℕ → Option Desk
 desk_at w l = slice_get w.desks l
 
+-- the operations that a lane took, in order; none if there is no such lane
+abbrev pub taken_of : Option Desk → List Op
+taken_of None = []
+taken_of (Some d) = d.taken
+
+abbrev pub taken : World → ℕ → List Op
+taken w l = taken_of (desk_at w l)
+
 -- what was accepted from a producer
 abbrev pub accepted_from : World → ℕ → List Op
 accepted_from w p = unwrap_or (slice_get w.accepted p) []
@@ -106,7 +127,7 @@ names_of (Some n) = n.names
 abbrev pub names_at : World → Document → List OpName
 names_at w k = names_of (kept_among w.kept k)
 
--- how many writes a document had at the start, where it has so many now
+-- how many writes a document had at the start, given how many it has now
 abbrev pub before_of : ℕ → Option Named → ℕ
 before_of now None = now
 before_of now (Some n) = n.before
@@ -123,7 +144,7 @@ abbrev pub is_written : World → Document → Bool
 is_written w k = not (length (applied w k) == 0)
 
 -- The keys are those of the documents that a write was applied to since the start, deleted ones too: each of these, no
--- other, none twice, and in their order.
+-- other, none twice, and in order.
 pub record AreKeysOf (w : World) (keys : List DocKey) : Type 0 where
   pub rising : IsStrictlySortedBy key_order keys
   pub written : (k : Document) → is_among k keys ≡ is_written w k
@@ -148,11 +169,45 @@ request_at w number = numbered w.sent number
 abbrev pub item_at : World → ℕ → ℕ → Option Item
 item_at w request item = option_and_then (λ (s : Sent). numbered s.items item) (request_at w request)
 
--- the operation that a lane dealt a version
-abbrev pub op_with : World → ℕ → ℕ → Option Op
-op_with w l version = option_and_then (λ (d : Desk). slice_get d.taken (version - w.config.first_version)) (desk_at w l)
+-- the current incarnation, and all of them, the current one last
+abbrev pub running : World → Past
+running w = record { epoch = w.config.epoch; accepted = w.accepted; taken = map (λ (d : Desk). d.taken) w.desks; sent = length w.sent }
 
--- the write of an item: that of its operation, under the version that was dealt
+abbrev pub incarnations : World → List Past
+incarnations w = w.ended ++ running w ∷ []
+
+-- one of the versions that a lane may assign in an epoch: `deal` of them, from the first one of the epoch on
+abbrev pub is_version_in : ℕ → ℕ → ℕ → Bool
+is_version_in deal epoch v = nat_le (first_in epoch) v && nat_lt v (first_in epoch + deal)
+
+-- the place of a version among these, if it is one of them
+abbrev pub place_dealt : ℕ → ℕ → ℕ → Option ℕ
+place_dealt deal epoch v = if is_version_in deal epoch v then Some (v - first_in epoch) else None
+
+-- the operation to which a lane assigned a version, in the incarnation whose version it is
+abbrev pub op_among : ℕ → List Past → ℕ → ℕ → Option Op
+op_among deal [] l v = None
+op_among deal (p ∷ ps) l v = if is_version_in deal p.epoch v then slice_get (unwrap_or (slice_get p.taken l) []) (v - first_in p.epoch) else op_among deal ps l v
+
+abbrev pub op_with : World → ℕ → ℕ → Option Op
+op_with w l version = op_among w.config.deal (incarnations w) l version
+
+-- an incarnation as delivery sees it; all but the epoch of the config is the same in each
+abbrev pub incarnation : RelayConfig → Past → Incarnation
+incarnation c p = record {
+  config = in_epoch p.epoch c.deal c.attempts c.limits.count;
+  accepted = λ q. unwrap_or (slice_get p.accepted q) [];
+  taken = λ l. unwrap_or (slice_get p.taken l) [];
+  sent = p.sent;
+}
+
+abbrev pub ended_of : World → List Incarnation
+ended_of w = map (incarnation w.config) w.ended
+
+abbrev pub incarnations_of : World → List Incarnation
+incarnations_of w = map (incarnation w.config) (incarnations w)
+
+-- the write of an item: that of its operation, under the version that was assigned to it
 abbrev pub write_of : World → Sent → Item → Option Write
 write_of w s i = option_map (λ o. write_for o i.version) (op_with w s.lane i.version)
 

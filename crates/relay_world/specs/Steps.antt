@@ -1,6 +1,7 @@
 -- One event, and a list of events.
-use Rattle.std.specs.Prelude.{◌≡◌, ◌+◌, List, [], ◌∷◌, Option, Some, None}
+use Rattle.std.specs.Prelude.{◌≡◌, ◌+◌, List, [], ◌∷◌, Option, Some, None, Bool, true, false}
 use Rattle.relay_world.specs.declared.event.Event.{Event}
+use Rattle.relay_world.specs.declared.event.Event.TheVariants as event
 use Rattle.relay_world.specs.declared.event.Refusal.{Refusal}
 use Rattle.relay_world.specs.declared.event.StepAnswer.{StepAnswer}
 use Rattle.relay_world.specs.declared.event.StepAnswer.TheVariants as answer
@@ -9,13 +10,19 @@ use Rattle.relay_world.specs.State.{World}
 use Rattle.relay_world.specs.Refusals.{refusal}
 use Rattle.relay_world.specs.Changes.{Changes}
 
--- a refused event says why, and changes nothing
+-- a refused event returns why, and changes nothing
 abbrev pub StepsBy : Option Refusal → World → Event → StepAnswer → World → Type 0
 StepsBy (Some r) w e x new = (x ≡ answer.Refused r) × (new ≡ w)
 StepsBy None w e x new = Changes w e x new
 
 abbrev pub Steps : World → Event → StepAnswer → World → Type 0
 Steps w e x new = StepsBy (refusal w e) w e x new
+
+-- the answer to a request as a whole, and the loss of one, need no memory
+abbrev pub may_allocate : Event → Bool
+may_allocate (event.Whole request status) = false
+may_allocate (event.Lost request) = false
+may_allocate _ = true
 
 -- ---- a list of events
 
@@ -31,8 +38,8 @@ counted (answer.Ran status) n = record n { done = n.done + 1 }
 counted (answer.Settled counts) n = record n { done = n.done + 1 }
 counted answer.Done n = record n { done = n.done + 1 }
 
--- The events came one after another, also after a refused one; so many were accepted and so many refused, and the world
--- ends so. The counts go on from those before.
+-- The events came one after another, also after a refused one; these are the numbers of accepted and of refused ones, added
+-- to those before, and this is the world after them.
 abbrev pub Plays : World → RunEnd → List Event → RunEnd → World → Type 0
 Plays w n [] end new = (end ≡ n) × (new ≡ w)
 Plays w n (e ∷ es) end new = (x : StepAnswer) × (next : World) × Steps w e x next × Plays next (counted x n) es end new

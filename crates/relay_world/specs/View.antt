@@ -8,6 +8,7 @@ seen a = record {
   config = a.config;
   desks = a.desks.items;
   accepted = a.accepted.items;
+  ended = a.ended.items;
   sent = a.sent.items;
   index = a.index;
   kept = a.names;

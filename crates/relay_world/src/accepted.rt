@@ -1,5 +1,5 @@
 //! What was accepted from a producer.
-ghost use Rattle.std.specs.Prelude.{◌≡◌, [], ◌∷◌, ◌++◌, OnOk, OnErr, length};
+ghost use Rattle.std.specs.Prelude.{◌≡◌, [], ◌∷◌, ◌++◌, IfOk, OnOk, OnErr, length, option_map, replicate, slice_get};
 ghost use Rattle.relay_action.specs.declared.mail.Body.TheVariants as body;
 ghost use Rattle.relay_world.specs.Changes.{posted};
 ghost use Rattle.relay_world.specs.Memory.{IsOpenAt};
@@ -24,14 +24,32 @@ impl Model for Accepted {
     ghost view = { λ a. a.ops.items };
 }
 
+// An empty list for each producer.
+pub(crate) fn none_accepted(alloc: Global, producers: u32) -> Result<Vec<Accepted>, AllocError>
+    ensures { IfOk result (λ v. v.items ≡ replicate producers []) }
+{
+    let mut accepted = Vec::with_capacity(alloc, producers as usize)?;
+    'lists: for _ in 0..producers {
+        accepted.push(Accepted::new(alloc))?;
+    }
+    Ok(accepted)
+}
+
 impl Accepted {
-    // Nothing was accepted. It takes no memory.
+    // Nothing was accepted. It does not allocate.
     pub(crate) fn new(alloc: Global) -> Accepted
         ensures { result ≡ [] }
     {
         Accepted {
             ops: Vec::new(alloc),
         }
+    }
+
+    // These operations.
+    pub(crate) fn of(ops: Vec<Op>) -> Accepted
+        ensures { result ≡ ops.items }
+    {
+        Accepted { ops }
     }
 
     // The operations, lent.
@@ -41,6 +59,13 @@ impl Accepted {
         self.ops.as_slice()
     }
 
+    // The operation at a place.
+    pub(crate) fn op_at(&self, place: u64) -> Option<&Op>
+        ensures { option_map (λ o. o.now) result ≡ slice_get self.now place }
+    {
+        self.ops.get(place as usize)
+    }
+
     // How many there are.
     pub(crate) fn len(&self) -> u64
         ensures { result ≡ length self.now }
@@ -48,8 +73,8 @@ impl Accepted {
         self.ops.len() as u64
     }
 
-    // Accepts an operation: it stands in the queue of its lane. `AllocError`: there was no memory for it,
-    // and nothing changed.
+    // Accepts an operation and puts it into the queue of its lane. `AllocError`: out of memory; nothing
+    // changed.
     pub(crate) fn accept(&mut self, op: Op, desk: &mut Desk) -> Result<(), AllocError>
         requires { IsOpenAt op.producer desk.old }
         ensures list { OnOk result (self.new ≡ self.old ++ op ∷ []) }

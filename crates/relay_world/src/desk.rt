@@ -1,5 +1,5 @@
 //! A lane with its queue.
-ghost use Rattle.std.specs.Prelude.{◌≡◌, ℕ, ◌+◌, ◌≤◌, ◌≢◌, [], ◌∷◌, ◌++◌, None, Some, true, IsTrue, OnOk, OnErr, IfOk, IfSome, OnSome, IfNone, map, option_map, is_some, is_ok, length, nat_le, nat_lt, slice_get, vec_capacity};
+ghost use Rattle.std.specs.Prelude.{◌≡◌, ℕ, ◌+◌, ◌≤◌, ◌≢◌, [], ◌∷◌, ◌++◌, None, Some, true, IsTrue, OnOk, OnErr, IfOk, IfSome, OnSome, IfNone, map, option_map, is_some, is_ok, length, nat_le, nat_lt, replicate, slice_get, vec_capacity};
 ghost use Rattle.std.specs.List.{list_all};
 ghost use Rattle.relay_core.specs.Limits.{is_valid};
 ghost use Rattle.relay_core.specs.Walk.{report_of};
@@ -22,7 +22,7 @@ use std::alloc::{AllocError, Global};
 use std::collections::VecDeque;
 use std::marker::Model;
 
-// A lane, its queue, what its senders have done there, and what it took. Contracts see it as these.
+// A lane, its queue, what its senders have done there, and what it took. Contracts see a record of these.
 #[derive(Drop)]
 pub(crate) struct Desk {
     queue: VecDeque<Mail>,
@@ -37,9 +37,21 @@ impl Model for Desk {
 
     ghost Value = { Desk };
 
-    ghost view = { λ d. record { queue = d.queue.items; senders = d.senders.items; taken = d.taken.items; lane = d.lane } };
+    ghost view = { λ d. record { queue = d.queue.items; senders = d.senders.items; taken = d.taken.items; lane = d.lane.state } };
 
-    ghost invariant = { λ d. IsDesk (record { queue = d.queue.items; senders = d.senders.items; taken = d.taken.items; lane = d.lane }) };
+    ghost invariant = { λ d. IsDesk (record { queue = d.queue.items; senders = d.senders.items; taken = d.taken.items; lane = d.lane.state }) };
+}
+
+// A fresh desk for each lane.
+pub(crate) fn fresh_desks(alloc: Global, config: RelayConfig) -> Result<Vec<Desk>, AllocError>
+    requires { is_valid config ≡ true }
+    ensures { IfOk result (λ v. v.items ≡ replicate config.lanes (fresh_desk config)) }
+{
+    let mut desks = Vec::with_capacity(alloc, config.lanes as usize)?;
+    'desks: for _ in 0..config.lanes {
+        desks.push(Desk::new(alloc, config)?)?;
+    }
+    Ok(desks)
 }
 
 // A request that a lane has formed: its number there, and its items.
@@ -49,7 +61,7 @@ pub(crate) struct Formed {
     pub(crate) items: Vec<SentItem>,
 }
 
-// The body of a message once more. `AllocError`: there was no memory for it.
+// A copy of the body of a message. `AllocError`: out of memory.
 fn copy_of(body: &Body) -> Result<Body, AllocError>
     ensures { IfOk result (λ b. b ≡ body.now) }
 {
@@ -72,16 +84,15 @@ fn add_items(alloc: Global, batch: &[BatchItem], items: &mut Vec<SentItem>)
     }
 }
 
-// A lane forms its next request, if there is one. `AllocError`: there was no memory for it, and nothing
-// changed.
+// A lane forms its next request, if there is one. `AllocError`: out of memory; nothing changed.
 fn form(lane: &mut Lane, alloc: Global) -> Result<Option<Formed>, AllocError>
-    requires { AllBelow lane.old.flights.next lane.old.flights.batches }
-    ensures when { IfOk result (λ o. is_some o ≡ is_some (next_batch lane.old)) }
-    ensures number { IfOk result (λ o. IfSome o (λ f. f.number ≡ lane.old.flights.next)) }
+    requires { AllBelow lane.old.state.flights.next lane.old.state.flights.batches }
+    ensures when { IfOk result (λ o. is_some o ≡ is_some (next_batch lane.old.state)) }
+    ensures number { IfOk result (λ o. IfSome o (λ f. f.number ≡ lane.old.state.flights.next)) }
     ensures items { IfOk result
-        (λ o. IfSome o (λ f. f.items.items ≡ items_of (next_batch lane.old))) }
-    ensures ok { OnOk result (lane.new ≡ after_request lane.old (next_batch lane.old)) }
-    ensures unchanged { OnErr result (lane.new ≡ lane.old) }
+        (λ o. IfSome o (λ f. f.items.items ≡ items_of (next_batch lane.old.state))) }
+    ensures ok { OnOk result (lane.new.state ≡ after_request lane.old.state (next_batch lane.old.state)) }
+    ensures unchanged { OnErr result (lane.new.state ≡ lane.old.state) }
 {
     let mut items = Vec::with_capacity(alloc, lane.held() as usize)?;
     let Some(number) = lane.request()? else {
@@ -110,6 +121,15 @@ fn next_of(sender: Sender, body: &Body) -> Sender
 }
 
 impl Desk {
+    // What the lane took.
+    pub(crate) fn into_taken(self) -> Vec<Op>
+        ensures { result.items ≡ self.taken }
+    {
+        let Desk { taken, .. } = self;
+        taken
+    }
+
+    // A fresh lane with an empty queue; no sender has done anything.
     pub(crate) fn new(alloc: Global, config: RelayConfig) -> Result<Desk, AllocError>
         requires { is_valid config ≡ true }
         ensures { IfOk result (λ d. d ≡ fresh_desk config) }
@@ -157,8 +177,7 @@ impl Desk {
         self.lane.reports()
     }
 
-    // Puts a message of a sender at the back of the queue. `AllocError`: there was no memory for it, and
-    // nothing changed.
+    // Puts a message of a sender at the back of the queue. `AllocError`: out of memory; nothing changed.
     pub(crate) fn post(&mut self, sender: u32, body: Body) -> Result<(), AllocError>
         requires { IsOpenAt sender self.old }
         ensures ok { OnOk result (self.new ≡ posted sender body self.old) }
@@ -175,7 +194,7 @@ impl Desk {
         Ok(())
     }
 
-    // Why a Close of a sender is refused here, if it is, among so many producers and messages.
+    // Why a Close of a sender is refused here, if it is.
     pub(crate) fn close_refusal(
         &self,
         sender: u32,
@@ -195,7 +214,7 @@ impl Desk {
         self.full_refusal(capacity)
     }
 
-    // Whether so many messages are queued as may.
+    // `QueueFull` if the queue is at its capacity.
     pub(crate) fn full_refusal(&self, capacity: u32) -> Option<Refusal>
         ensures { result
             ≡ cause_if (nat_le capacity (length self.now.queue)) Refusal.QueueFull None }
@@ -221,7 +240,7 @@ impl Desk {
         }
     }
 
-    // The lane takes the front of its queue. `AllocError`: there was no memory for it, and nothing changed.
+    // The lane takes the front of its queue. `AllocError`: out of memory; nothing changed.
     pub(crate) fn take(&mut self) -> Result<(), AllocError>
         requires { front_refusal self.old.lane self.old.queue ≡ None }
         ensures ok { OnOk result (self.new ≡ took_front self.old) }
@@ -251,8 +270,7 @@ impl Desk {
         Ok(())
     }
 
-    // The lane forms its next request, if there is one. `AllocError`: there was no memory for it, and
-    // nothing changed.
+    // The lane forms its next request, if there is one. `AllocError`: out of memory; nothing changed.
     pub(crate) fn request(&mut self, alloc: Global) -> Result<Option<Formed>, AllocError>
         ensures when { IfOk result (λ o. is_some o ≡ is_some (next_batch self.old.lane)) }
         ensures number { IfOk result (λ o. IfSome o (λ f. f.number ≡ self.old.lane.flights.next)) }
@@ -281,7 +299,7 @@ impl Desk {
         self.lane.lost(number)
     }
 
-    // A request as a whole was answered by this status.
+    // A request as a whole was answered with this status.
     pub(crate) fn whole(&mut self, number: u64, status: u16) -> Result<Settled, NotFlying>
         requires { status ≢ 200 }
         ensures flies { is_ok result ≡ is_flying number self.old.lane }

@@ -1,4 +1,4 @@
-//! Events of the world, and what they answer.
+//! Events of the world, and what each returns.
 use relay_action::{Action, DocKey, List, OpName};
 use relay_core::Settled;
 use relay_index::Choice;
@@ -24,13 +24,17 @@ pub enum Event {
     Send(u32),
     /// The index runs an item of a sent request, as often as this comes, or refuses it.
     Run(u64, u64, Choice),
-    /// A request is answered by the outcomes of its items' runs: of each the last, or the one that is
+    /// A request is answered with the outcomes of its items' runs: for each the last, or the one that is
     /// picked for it, one pick for each item.
     Reply(u64, List<u64>),
-    /// A request as a whole is answered by a status from 201 to 599.
+    /// A request as a whole is answered with a status from 201 to 599.
     Whole(u64, u16),
     /// The reply to a request is lost.
     Lost(u64),
+    /// The relay ends and starts again in this epoch, above the current one: queues, lanes, reports and
+    /// producers are new, and so are operation numbers and closes. Sent requests keep their numbers; an old
+    /// one may still be run, and is never answered.
+    Restart(u32),
 }
 
 /// Why an event is refused. Of each event the first cause that holds is given, in the order below.
@@ -44,6 +48,7 @@ pub enum Event {
 /// - Reply: `NotSent`, `NotFlying`, `NotRun`.
 /// - Whole: `NotSent`, `NotFlying`, `BadStatus`.
 /// - Lost: `NotSent`, `NotFlying`.
+/// - Restart: `NotAbove`.
 #[derive(Clone, Copy, Debug, PartialEq, Eq, Error)]
 pub enum Refusal {
     /// The sender has closed.
@@ -55,22 +60,22 @@ pub enum Refusal {
     /// Nothing is queued.
     #[error("NothingQueued")]
     NothingQueued,
-    /// An operation stands at the front, and the lane holds as many as it may.
+    /// An operation is at the front, and the lane holds as many as it may.
     #[error("HeldFull")]
     HeldFull,
-    /// There is no batch to send, or as many requests fly as may.
+    /// There is no batch to send, or as many requests are in flight as may be.
     #[error("NoRequest")]
     NoRequest,
     /// There is no such request, or no such item.
     #[error("NotSent")]
     NotSent,
-    /// The request was answered before.
+    /// The request was answered before, or it was sent before the last restart.
     #[error("NotFlying")]
     NotFlying,
     /// An item has no such run, or there are picks and not one for each item.
     #[error("NotRun")]
     NotRun,
-    /// The index may not refuse an item with this status, or no whole request is answered by it.
+    /// The index may not refuse an item with this status, or a whole request may not be answered with it.
     #[error("BadStatus")]
     BadStatus,
     /// There is no such lane or sender.
@@ -79,9 +84,12 @@ pub enum Refusal {
     /// The producer has put 2^40 operations.
     #[error("NumbersSpent")]
     NumbersSpent,
+    /// The epoch is not above the current one, or it is over 4,194,303.
+    #[error("NotAbove")]
+    NotAbove,
 }
 
-/// What an event answers.
+/// What an event returns.
 #[derive(Clone, Copy, Debug, PartialEq, Eq)]
 pub enum StepAnswer {
     /// It was refused, and nothing changed.
@@ -92,7 +100,7 @@ pub enum StepAnswer {
     Sent(u64),
     /// An item was run, with this status.
     Ran(u16),
-    /// A request was answered, and its operations ended so.
+    /// A request was answered, and this is what became of its operations.
     Settled(Settled),
     /// All other events.
     Done,

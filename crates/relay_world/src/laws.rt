@@ -2,8 +2,8 @@
 //! their contracts are the laws.
 ghost use Rattle.relay_world.specs.Ties.{FreshIsWorld, StepsKeepTied, WorldsDeliver, FreshIsBelow, HighestIsBelow};
 
-/// A fresh world is tied to machines of delivery which share one outside, where every version that the
-/// index has is below the first one dealt; each event keeps a world tied; and a tied world delivers.
+/// A fresh world is tied to machines of delivery which share one outside, if every version that the index
+/// has is below the first one to be assigned; each event keeps a world tied; and a tied world delivers.
 pub fn tied_worlds_deliver()
     ensures fresh { FreshIsWorld }
     ensures steps { StepsKeepTied }

@@ -3,12 +3,14 @@
 //!
 //! It carries the promise of the whole: each event is refused exactly where its causes say and changes
 //! nothing then, and an accepted one changes what its rule says and nothing else; and after every list of
-//! events all that was accepted is exactly accounted for (`Delivered`), since each event keeps the world
-//! tied to the machines of delivery (`laws`).
+//! events, restarts among them, all that was accepted is exactly accounted for (`Delivered`), since each
+//! event keeps the world tied to the machines of delivery (`laws`).
 #![tactic(auto)]
 
 mod accepted;
 mod desk;
+mod ended;
+mod epoch;
 pub mod event;
 pub mod laws;
 mod names;

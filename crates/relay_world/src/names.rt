@@ -31,7 +31,7 @@ impl Model for Named {
 }
 
 impl Named {
-    // A document to which nothing was applied since the start. It takes no memory.
+    // A document to which nothing was applied since the start. It does not allocate.
     fn new(alloc: Global, before: usize) -> Named
         ensures { result ≡ record { before = before; names = [] } }
     {
@@ -55,8 +55,8 @@ impl Named {
         self.names.as_slice()
     }
 
-    // The index runs the write of an item, and the name is noted where that was applied. `AllocError`: there
-    // was no memory for it, and nothing changed.
+    // The index runs the write of an item, and the name is noted if it was applied. `AllocError`: out of
+    // memory; nothing changed.
     fn run(
         &mut self,
         index: &mut Index,
@@ -99,7 +99,7 @@ impl Model for Names {
 }
 
 impl Names {
-    // Nothing was applied. It takes no memory.
+    // Nothing was applied. It does not allocate.
     pub(crate) fn new(alloc: Global) -> Names
         ensures { result ≡ [] }
     {
@@ -118,7 +118,7 @@ impl Names {
         }
     }
 
-    // How many writes a document had at the start, where it has so many now.
+    // How many writes a document had at the start, given how many it has now.
     pub(crate) fn before(&self, key: &DocKey, now: usize) -> usize
         ensures { result ≡ before_of now (kept_among self.now (document_of key.now)) }
     {
@@ -128,8 +128,8 @@ impl Names {
         }
     }
 
-    // The index runs the write of an item, and the name is noted where that was applied. `AllocError`: there
-    // was no memory for it, and nothing changed.
+    // The index runs the write of an item, and the name is noted if it was applied. `AllocError`: out of
+    // memory; nothing changed.
     pub(crate) fn run(
         &mut self,
         index: &mut Index,

@@ -1,5 +1,5 @@
 //! What the world is made of, and each event of it.
-ghost use Rattle.std.specs.Prelude.{◌≡◌, ◌≢◌, slice_get, is_ok, if◌then◌else◌, ℕ, ◌+◌, ◌-◌, ◌^◌, ◌<◌, ◌≤◌, [], ◌∷◌, ◌++◌, None, Some, true, OnOk, OnErr, IfOk, IfSome, IsSome, map, option_map, is_some, length, replicate};
+ghost use Rattle.std.specs.Prelude.{◌≡◌, ◌≢◌, slice_get, is_ok, if◌then◌else◌, ℕ, ◌+◌, ◌-◌, ◌^◌, ◌<◌, ◌≤◌, [], ◌∷◌, ◌++◌, None, Some, true, OnOk, OnErr, IfOk, IfSome, IsSome, map, option_map, is_some, length, replicate, vec_len, vec_capacity};
 ghost use Rattle.relay_results.specs.Words.{update};
 ghost use Rattle.relay_results.specs.Outside.{Items, Whole, Lost};
 ghost use Rattle.relay_core.specs.State.{next_batch};
@@ -7,23 +7,28 @@ ghost use Rattle.relay_results.specs.Documents.{document_of};
 ghost use Rattle.relay_core.specs.Limits.{is_valid};
 ghost use Rattle.relay_core.specs.Walk.{report_of};
 ghost use Rattle.relay_world.specs.declared.event.Event.TheVariants as event;
-ghost use Rattle.relay_world.specs.State.{fresh, fresh_desk, desk_at, lane_of, accepted_from, applied, names_at, reports, request_at, item_at, is_closed, is_finished, is_written, AreKeysOf, op_with, write_at};
-ghost use Rattle.relay_world.specs.Refusals.{entries_from, flies_at, put_refusal, close_refusal, control_refusal, take_refusal, may_choose, is_flying, entry_at, entries};
-ghost use Rattle.relay_world.specs.Changes.{after_put, at_lane, posted, took_front, with_answer, answered_desk, sent_request, request_of, RunsItem};
+ghost use Rattle.relay_world.specs.State.{fresh, fresh_desk, desk_at, lane_of, accepted_from, applied, names_at, reports, request_at, item_at, is_closed, is_finished, is_written, AreKeysOf, op_among, op_with, running, write_at, place_dealt, incarnations_of};
+ghost use Rattle.relay_world.specs.Refusals.{entries_from, flies_at, put_refusal, close_refusal, control_refusal, take_refusal, may_choose, is_flying, entry_at, entries, is_above};
+ghost use Rattle.relay_world.specs.Changes.{after_put, at_lane, posted, took_front, with_answer, answered_desk, sent_request, request_of, restarted, RunsItem};
+ghost use Rattle.relay_delivery.specs.Accounted.{accepted_in};
 ghost use Rattle.relay_world.specs.Steps.{Steps};
 ghost use Rattle.relay_world.specs.Memory.{answer_of, IsItemOf, IsWriteAt, IsThere, IsOpenIn, IsSent, IsSettledAt, Forms, ArePartsOf};
 
-use crate::accepted::Accepted;
-use crate::desk::{Desk, Formed};
+use crate::accepted::{Accepted, none_accepted};
+use crate::desk::{Desk, Formed, fresh_desks};
+use crate::ended::{Ended, take_all};
+use crate::epoch::{in_new_epoch, place_dealt};
 use crate::event::{Refusal, StepAnswer};
 use crate::names::Names;
 use crate::request::{Given, SentItem, SentRequest};
 use relay_action::{Action, Body, DocKey, Op, OpName, Write, lane_of};
+use relay_core::config::EPOCH_LIMIT;
 use relay_core::{NotFlying, RelayConfig, Report, Settled};
 use relay_index::{Choice, Index, may_refuse};
 use relay_results::{ItemDone, Outcome};
 use std::alloc::{AllocError, Global};
 use std::marker::Model;
+use std::mem;
 
 // The most operations of a producer, 2^40.
 const NUMBER_LIMIT: u64 = 1_099_511_627_776;
@@ -35,6 +40,7 @@ pub(crate) struct Parts {
     config: RelayConfig,
     desks: Vec<Desk>,
     accepted: Vec<Accepted>,
+    ended: Vec<Ended>,
     sent: Vec<SentRequest>,
     index: Index,
     names: Names,
@@ -58,18 +64,19 @@ fn pick_at(picks: &[u64], place: usize) -> Option<u64>
     picks.get(place).copied()
 }
 
-// A lane forms its next request, if there is one, and it stands at the end of those that were sent.
-// `AllocError`: there was no memory for it, and nothing changed.
+// A lane forms its next request, if there is one, and it is added to those that were sent. `AllocError`:
+// out of memory; nothing changed.
 fn send_from(
     desk: &mut Desk,
     sent: &mut Vec<SentRequest>,
     alloc: Global,
+    epoch: u32,
     lane: u32,
 ) -> Result<bool, AllocError>
     ensures when { IfOk result (λ b. b ≡ is_some (next_batch desk.old.lane)) }
     ensures desk { OnOk result (desk.new ≡ sent_request desk.old) }
     ensures sent { IfOk result (λ b. sent.new.items
-        ≡ sent.old.items ++ (if b then request_of lane desk.old ∷ [] else [])) }
+        ≡ sent.old.items ++ (if b then request_of epoch lane desk.old ∷ [] else [])) }
     ensures same_desk { OnErr result (desk.new ≡ desk.old) }
     ensures same_sent { OnErr result (sent.new.items ≡ sent.old.items) }
 {
@@ -77,33 +84,10 @@ fn send_from(
     match desk.request(alloc)? {
         None => Ok(false),
         Some(Formed { number, items }) => {
-            sent.push_reserved(SentRequest::new(lane, number, items));
+            sent.push_reserved(SentRequest::new(epoch, lane, number, items));
             Ok(true)
         }
     }
-}
-
-// So many fresh desks as there are lanes. `AllocError`: there was no memory for them.
-fn fresh_desks(alloc: Global, config: RelayConfig) -> Result<Vec<Desk>, AllocError>
-    requires { is_valid config ≡ true }
-    ensures { IfOk result (λ v. v.items ≡ replicate config.lanes (fresh_desk config)) }
-{
-    let mut desks = Vec::with_capacity(alloc, config.lanes as usize)?;
-    'desks: for _ in 0..config.lanes {
-        desks.push(Desk::new(alloc, config)?)?;
-    }
-    Ok(desks)
-}
-
-// So many empty lists as there are producers. `AllocError`: there was no memory for them.
-fn none_accepted(alloc: Global, producers: u32) -> Result<Vec<Accepted>, AllocError>
-    ensures { IfOk result (λ v. v.items ≡ replicate producers []) }
-{
-    let mut accepted = Vec::with_capacity(alloc, producers as usize)?;
-    'lists: for _ in 0..producers {
-        accepted.push(Accepted::new(alloc))?;
-    }
-    Ok(accepted)
 }
 
 // Whether an index may do so.
@@ -117,7 +101,7 @@ fn may_choose(choice: Choice) -> bool
 }
 
 impl Parts {
-    // Where nothing has happened. `AllocError`: there was no memory for the lanes or the lists.
+    // Nothing has happened yet. `AllocError`: out of memory.
     pub(crate) fn new(alloc: Global, config: RelayConfig, index: Index) -> Result<Parts, AllocError>
         requires { is_valid config ≡ true }
         ensures { IfOk result (λ w. w ≡ fresh config index) }
@@ -127,6 +111,7 @@ impl Parts {
             config,
             desks: fresh_desks(alloc, config)?,
             accepted: none_accepted(alloc, config.producers)?,
+            ended: Vec::new(alloc),
             sent: Vec::new(alloc),
             index,
             names: Names::new(alloc),
@@ -151,7 +136,7 @@ impl Parts {
         self.desks.get(lane as usize)
     }
 
-    // What was accepted from a producer; nothing where there is no such producer.
+    // What was accepted from a producer; nothing if there is no such producer.
     pub(crate) fn accepted(&self, producer: u32) -> &[Op]
         ensures { result.now ≡ accepted_from self.now producer }
     {
@@ -224,12 +209,33 @@ impl Parts {
         self.sent.get(place as usize)
     }
 
-    // The operation that a lane dealt a version.
+    // The place of a version among those that a lane may assign in an epoch, if it is one of them.
+    fn dealt_at(&self, epoch: u32, version: u64) -> Option<u64>
+        ensures { result ≡ place_dealt self.now.config.deal epoch version }
+    {
+        place_dealt(self.config().deal, epoch, version)
+    }
+
+    // The operation to which a lane assigned a version, in the incarnation that did.
     fn op_with(&self, lane: u32, version: u64) -> Option<&Op>
         ensures { option_map (λ o. o.now) result ≡ op_with self.now lane version }
     {
+        'ended: for ended in self.ended.iter() {
+            if let Some(place) = self.dealt_at(ended.epoch, version) {
+                return ended.op_at(lane, place);
+            }
+        }
+        self.op_running(lane, version)
+    }
+
+    // The same, of the current incarnation alone.
+    fn op_running(&self, lane: u32, version: u64) -> Option<&Op>
+        ensures { option_map (λ o. o.now) result
+            ≡ op_among self.now.config.deal (running self.now ∷ []) lane version }
+    {
+        let place = self.dealt_at(self.config.epoch, version)?;
         match self.desk(lane) {
-            Some(desk) => desk.op_at(version.saturating_sub(self.config().first_version)),
+            Some(desk) => desk.op_at(place),
             None => None,
         }
     }
@@ -246,6 +252,62 @@ impl Parts {
         ensures { result ≡ is_closed self.now sender }
     {
         self.desks.iter().any(|desk| desk.has_closed(sender))
+    }
+}
+
+// A restart.
+impl Parts {
+    // What was accepted from a producer in the incarnation of an epoch; nothing if there was none.
+    pub(crate) fn accepted_in(&self, epoch: u32, producer: u32) -> &[Op]
+        ensures { result.now ≡ accepted_in (incarnations_of self.now) epoch producer }
+    {
+        'ended: for ended in self.ended.iter() {
+            if ended.epoch == epoch {
+                return ended.accepted(producer);
+            }
+        }
+        if self.config.epoch == epoch {
+            self.accepted(producer)
+        } else {
+            &[]
+        }
+    }
+
+    // Starts again in an epoch above the current one. All that can fail comes first. `AllocError`: out of
+    // memory; nothing changed.
+    fn begin(&mut self, epoch: u32) -> Result<(), AllocError>
+        requires { is_above self.old epoch ≡ true }
+        ensures ok { OnOk result (self.new ≡ restarted self.old epoch) }
+        ensures unchanged { OnErr result (self.new ≡ self.old) }
+    {
+        let config = in_new_epoch(self.config, epoch);
+        let lists = Vec::with_capacity(self.alloc, self.desks.len())?;
+        self.ended.reserve(1)?;
+        let desks = fresh_desks(self.alloc, config)?;
+        let accepted = none_accepted(self.alloc, config.producers)?;
+        let old_desks = mem::replace(&mut self.desks, desks);
+        let old_accepted = mem::replace(&mut self.accepted, accepted);
+        let taken = take_all(old_desks, lists);
+        self.ended.push_reserved(Ended {
+            epoch: self.config.epoch,
+            accepted: old_accepted,
+            taken,
+            sent: self.sent.len() as u64,
+        });
+        self.config = config;
+        Ok(())
+    }
+
+    // The relay ends and starts again in an epoch.
+    pub(crate) fn restart(&mut self, epoch: u32) -> Result<StepAnswer, AllocError>
+        ensures ok { IfOk result (λ x. Steps self.old (event.Restart epoch) x self.new) }
+        ensures unchanged { OnErr result (self.new ≡ self.old) }
+    {
+        if epoch <= self.config.epoch || epoch > EPOCH_LIMIT {
+            return Ok(StepAnswer::Refused(Refusal::NotAbove));
+        }
+        self.begin(epoch)?;
+        Ok(StepAnswer::Done)
     }
 }
 
@@ -297,6 +359,7 @@ impl Parts {
             return Ok(StepAnswer::Refused(refusal));
         }
         let op = Op {
+            epoch: self.config.epoch,
             producer,
             number: self.accepted(producer).len() as u64 + 1,
             key: key.copy()?,
@@ -430,6 +493,7 @@ impl Parts {
             &mut self.desks[lane as usize],
             &mut self.sent,
             self.alloc,
+            self.config.epoch,
             lane,
         )
     }
@@ -544,10 +608,13 @@ impl Parts {
 
 // Requests are answered.
 impl Parts {
-    // Whether a request flies in its lane.
+    // Whether a request is in flight in its lane.
     fn is_flying(&self, sent: &SentRequest) -> bool
         ensures { result ≡ is_flying self.now sent.now }
     {
+        if sent.epoch() != self.config.epoch {
+            return false;
+        }
         match self.desk(sent.lane()) {
             Some(desk) => desk.is_flying(sent.number()),
             None => false,
@@ -592,7 +659,7 @@ impl Parts {
         }
     }
 
-    // The entries of these items, where each has the run.
+    // The entries of these items, if each has the run.
     fn entries_for(
         &self,
         lane: u32,
@@ -612,7 +679,7 @@ impl Parts {
         Ok(Some(outcomes))
     }
 
-    // Notes what a request was answered.
+    // Notes the answer to a request.
     fn note(&mut self, request: u64, given: Given)
         requires { IsSent self.old request }
         ensures { self.new ≡ record self.old {
@@ -646,7 +713,7 @@ impl Parts {
         self.desks[lane as usize].whole(number, status)
     }
 
-    // A request of a lane was answered by entries.
+    // A request of a lane was answered with entries.
     fn settle(
         &mut self,
         lane: u32,
@@ -664,7 +731,7 @@ impl Parts {
         self.desks[lane as usize].reply(number, entries)
     }
 
-    // A request is answered by the outcomes of its items' runs.
+    // A request is answered with the outcomes of its items' runs.
     pub(crate) fn reply(&mut self, request: u64, picks: &[u64]) -> Result<StepAnswer, AllocError>
         ensures ok { IfOk result
             (λ x. Steps self.old (event.Reply request picks.now) x self.new) }
@@ -693,7 +760,7 @@ impl Parts {
         }
     }
 
-    // A request as a whole is answered by a status.
+    // A request as a whole is answered with a status.
     pub(crate) fn whole(&mut self, request: u64, status: u16) -> StepAnswer
         ensures { Steps self.old (event.Whole request status) result self.new }
     {

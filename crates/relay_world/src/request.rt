@@ -26,7 +26,7 @@ pub struct RunDone {
     pub result: DoneResult,
 }
 
-/// What was answered to a request.
+/// The answer to a request.
 #[derive(Drop)]
 pub enum Given {
     /// Nothing yet.
@@ -69,7 +69,7 @@ impl Model for SentItem {
 }
 
 impl SentItem {
-    // An item that was not run yet. It takes no memory.
+    // An item that was not run yet. It does not allocate.
     pub(crate) fn new(alloc: Global, version: u64) -> SentItem
         ensures { result ≡ record { version = version; runs = [] } }
     {
@@ -79,7 +79,7 @@ impl SentItem {
         }
     }
 
-    // The version that its operation was dealt.
+    // The version that was assigned to its operation.
     pub(crate) fn version(&self) -> u64
         ensures { result ≡ self.now.version }
     {
@@ -98,8 +98,8 @@ impl SentItem {
         run.copied()
     }
 
-    // The index runs the write of this item, and its name is noted where that was applied. `AllocError`:
-    // there was no memory for it, and nothing changed.
+    // The index runs the write of this item, and its name is noted if it was applied. `AllocError`: out of
+    // memory; nothing changed.
     pub(crate) fn run(
         &mut self,
         index: &mut Index,
@@ -133,9 +133,10 @@ impl SentItem {
     }
 }
 
-// A sent request. Contracts see it as its lane, its number there, its items and its answer.
+// A sent request. Contracts see it as its epoch, its lane, its number there, its items and its answer.
 #[derive(Drop)]
 pub(crate) struct SentRequest {
+    epoch: u32,
     lane: u32,
     number: u64,
     items: Vec<SentItem>,
@@ -148,13 +149,14 @@ impl Model for SentRequest {
 
     ghost Value = { Sent };
 
-    ghost view = { λ s. record { lane = s.lane; number = s.number; items = s.items.items; answer = answer_of s.given } };
+    ghost view = { λ s. record { epoch = s.epoch; lane = s.lane; number = s.number; items = s.items.items; answer = answer_of s.given } };
 }
 
 impl SentRequest {
     // A request that was not answered yet.
-    pub(crate) fn new(lane: u32, number: u64, items: Vec<SentItem>) -> SentRequest
+    pub(crate) fn new(epoch: u32, lane: u32, number: u64, items: Vec<SentItem>) -> SentRequest
         ensures { result ≡ record {
+          epoch = epoch;
           lane = lane;
           number = number;
           items = items.items;
@@ -162,11 +164,19 @@ impl SentRequest {
         } }
     {
         SentRequest {
+            epoch,
             lane,
             number,
             items,
             given: Given::Nothing,
         }
+    }
+
+    // The epoch in which it was sent.
+    pub(crate) fn epoch(&self) -> u32
+        ensures { result ≡ self.now.epoch }
+    {
+        self.epoch
     }
 
     // The lane that sent it.
@@ -190,15 +200,15 @@ impl SentRequest {
         self.items.as_slice()
     }
 
-    // Notes what was answered.
+    // Notes the answer.
     pub(crate) fn note(&mut self, given: Given)
         ensures { self.new ≡ sent_answer (answer_of given) self.old }
     {
         self.given = given;
     }
 
-    // The index runs an item, and its name is noted where the write was applied. `AllocError`: there was no
-    // memory for it, and nothing changed.
+    // The index runs an item, and its name is noted if the write was applied. `AllocError`: out of memory;
+    // nothing changed.
     pub(crate) fn run(
         &mut self,
         item: u64,

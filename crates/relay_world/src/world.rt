@@ -1,12 +1,14 @@
 //! The world.
-ghost use Rattle.std.specs.Prelude.{◌≡◌, ℕ, ◌+◌, ◌^◌, ◌<◌, [], true, map, take, is_some, length, IfOk, IfErr, IfSome, OnOk, OnErr};
+ghost use Rattle.std.specs.Prelude.{◌≡◌, ℕ, ◌+◌, ◌^◌, ◌<◌, [], true, map, take, slice_get, is_some, length, IfOk, IfErr, IfSome, OnOk, OnErr};
 ghost use Rattle.relay_results.specs.Documents.{document_of};
 ghost use Rattle.relay_core.specs.Limits.{is_valid};
 ghost use Rattle.relay_core.specs.Walk.{report_of};
-ghost use Rattle.relay_world.specs.State.{fresh, accepted_from, applied, names_at, reports, write_at, is_finished, AreKeysOf, IsBelow};
+ghost use Rattle.relay_world.specs.State.{fresh, accepted_from, applied, names_at, reports, write_at, is_finished, incarnations_of, AreKeysOf, IsBelow};
+ghost use Rattle.relay_delivery.specs.Accounted.{accepted_in};
+ghost use Rattle.relay_delivery.specs.Machine.{first_in};
 ghost use Rattle.relay_world.specs.Headline.{Delivered, StaysClosed};
 ghost use Rattle.relay_world.specs.Memory.{IsWriteAt};
-ghost use Rattle.relay_world.specs.Steps.{Steps, Plays, none_yet, counted};
+ghost use Rattle.relay_world.specs.Steps.{Steps, Plays, none_yet, counted, may_allocate};
 
 use crate::event::{Event, RunEnd, StepAnswer};
 use crate::parts::Parts;
@@ -52,6 +54,7 @@ fn counted(answer: StepAnswer, end: RunEnd) -> RunEnd
 fn play(parts: &mut Parts, event: &Event) -> Result<StepAnswer, AllocError>
     ensures ok { IfOk result (λ x. Steps parts.old event.now x parts.new) }
     ensures unchanged { OnErr result (parts.new ≡ parts.old) }
+    ensures memory { OnErr result (may_allocate event.now ≡ true) }
 {
     match event {
         Event::Put(producer, key, action) => parts.put(*producer, key, action),
@@ -64,6 +67,7 @@ fn play(parts: &mut Parts, event: &Event) -> Result<StepAnswer, AllocError>
         Event::Reply(request, picks) => parts.reply(*request, picks.as_slice()),
         Event::Whole(request, status) => Ok(parts.whole(*request, *status)),
         Event::Lost(request) => Ok(parts.lost(*request)),
+        Event::Restart(epoch) => parts.restart(*epoch),
     }
 }
 
@@ -73,6 +77,8 @@ fn play_all(parts: &mut Parts, events: &[Event]) -> Result<RunEnd, (u64, AllocEr
     ensures err { IfErr result (λ e. (end : RunEnd) × (end.done + end.refused ≡ e.0)
         × Plays parts.old none_yet (take e.0 events.now) end parts.new) }
     ensures unfinished { IfErr result (λ e. e.0 < length events.now) }
+    ensures memory { IfErr result
+        (λ e. IfSome (slice_get events.now e.0) (λ x. may_allocate x ≡ true)) }
 {
     let mut end = RunEnd {
         done: 0,
@@ -90,11 +96,11 @@ fn play_all(parts: &mut Parts, events: &[Event]) -> Result<RunEnd, (u64, AllocEr
 // Events are played.
 impl World {
     /// A world in which nothing has happened, over an index that may have versions from before: each has to
-    /// be below the first one that the lanes deal, as `Index::highest` tells. The config has to be valid.
-    /// `AllocError`: there was no memory for the lanes or the lists.
+    /// be below the first one of the config's epoch, which `Index::highest` tells. The config has to be valid.
+    /// `AllocError`: out of memory.
     pub fn new(alloc: Global, config: RelayConfig, index: Index) -> Result<World, AllocError>
         requires valid { is_valid config ≡ true }
-        requires below { IsBelow config.first_version index }
+        requires below { IsBelow (first_in config.epoch) index }
         ensures { IfOk result (λ w. w ≡ fresh config index) }
     {
         Ok(World {
@@ -102,12 +108,14 @@ impl World {
         })
     }
 
-    /// One event. It is refused exactly where its causes say, the first that holds, and changes nothing
-    /// then; else it changes what its rule says, and nothing else. `AllocError`: there was no memory for
-    /// it, and nothing changed. Afterwards, as before, all that was accepted is exactly accounted for.
+    /// One event. It is refused exactly if one of its causes holds, with the first that does, and changes
+    /// nothing then; else it changes what its rule says, and nothing else. Afterwards, as before, all that
+    /// was accepted is exactly accounted for. `AllocError`: out of memory; nothing changed. The answer to a
+    /// request as a whole, and the loss of one, do not allocate.
     pub fn step(&mut self, event: &Event) -> Result<StepAnswer, AllocError>
         ensures ok { IfOk result (λ x. Steps self.old event.now x self.new) }
         ensures unchanged { OnErr result (self.new ≡ self.old) }
+        ensures memory { OnErr result (may_allocate event.now ≡ true) }
         ensures delivered { Delivered self.new }
         ensures closed { StaysClosed self.old self.new }
     {
@@ -115,14 +123,17 @@ impl World {
     }
 
     /// Events one after another, also after a refused one; how many were accepted, and how many refused.
-    /// `AllocError`: there was no memory for an event; so many were finished before it, and it changed
-    /// nothing. Whatever the events and their order, all that was accepted is exactly accounted for
-    /// afterwards, and nothing more was accepted from a producer that had closed.
+    /// An error has the number of events that were finished before the one for which memory ran out; that
+    /// one changed nothing. Whatever the events and their order, restarts among them, all that was accepted
+    /// is exactly accounted for afterwards; and if the epoch is still the same, nothing more was accepted
+    /// from a producer that had closed.
     pub fn run(&mut self, events: &[Event]) -> Result<RunEnd, (u64, AllocError)>
         ensures ok { IfOk result (λ end. Plays self.old none_yet events.now end self.new) }
         ensures err { IfErr result (λ e. (end : RunEnd) × (end.done + end.refused ≡ e.0)
             × Plays self.old none_yet (take e.0 events.now) end self.new) }
         ensures unfinished { IfErr result (λ e. e.0 < length events.now) }
+        ensures memory { IfErr result
+            (λ e. IfSome (slice_get events.now e.0) (λ x. may_allocate x ≡ true)) }
         ensures delivered { Delivered self.new }
         ensures closed { StaysClosed self.old self.new }
     {
@@ -132,12 +143,20 @@ impl World {
 
 // What callers ask.
 impl World {
-    /// What was accepted from a producer, in the order in which it was put; nothing where there is no such
-    /// producer.
+    /// What was accepted from a producer since the last restart, in the order in which it was put; nothing if
+    /// there is no such producer.
     pub fn accepted(&self, producer: u32) -> &[Op]
         ensures { result.now ≡ accepted_from self.now producer }
     {
         self.parts.accepted(producer)
+    }
+
+    /// What was accepted from a producer in the incarnation of an epoch, in the order in which it was put;
+    /// nothing if that epoch or producer did not run.
+    pub fn accepted_in(&self, epoch: u32, producer: u32) -> &[Op]
+        ensures { result.now ≡ accepted_in (incarnations_of self.now) epoch producer }
+    {
+        self.parts.accepted_in(epoch, producer)
     }
 
     /// The writes that the index applied to a document since the start, in order.
@@ -164,7 +183,7 @@ impl World {
         self.parts.sent(request, item)
     }
 
-    /// What a lane has reported, in order; nothing where there is no such lane.
+    /// What a lane has reported since the last restart, in order; nothing if there is no such lane.
     pub fn reports(&self, lane: u32) -> &[Report]
         ensures { map report_of result.now ≡ reports self.now lane }
     {
@@ -172,7 +191,7 @@ impl World {
     }
 
     /// The documents that the index applied a write to since the start, deleted ones too, in byte order of
-    /// their index names and then of their ids. `AllocError`: there was no memory for them.
+    /// their index names and then of their ids. `AllocError`: out of memory.
     pub fn keys(&self) -> Result<Vec<DocKey>, AllocError>
         ensures { IfOk result (λ keys. AreKeysOf self.now keys.items) }
     {
@@ -180,7 +199,8 @@ impl World {
     }
 
     /// Whether each sender has closed at each lane, nothing is queued, and no lane holds an operation.
-    /// Where it is so, each accepted operation was applied or is reported (`complete` of `Delivered`).
+    /// If so, each operation accepted since the last restart was applied or is reported (`complete` of
+    /// `Delivered`).
     pub fn finished(&self) -> bool
         ensures answer { result ≡ is_finished self.now }
         ensures delivered { Delivered self.now }

@@ -1,5 +1,5 @@
 //! Over an index that has versions from before.
-ghost use Rattle.std.specs.Prelude.{◌≡◌, true};
+ghost use Rattle.std.specs.Prelude.{◌≡◌, ◌+◌, ◌*◌, ◌^◌, true};
 ghost use Rattle.relay_world.specs.State.{IsBelow};
 
 use crate::script::{THREE, accepts};
@@ -35,19 +35,16 @@ fn index_at_five(alloc: Global) -> Result<Index, Fail> {
     Ok(index)
 }
 
-/// A first version above those of that index.
-const SIX: RelayConfig = RelayConfig {
-    first_version: 6,
-    ..THREE
-};
+/// An epoch whose versions are above those of that index.
+const NEXT_EPOCH: RelayConfig = RelayConfig { epoch: 1, ..THREE };
 
 /// Whether the versions of an index are below the first one that is dealt.
 fn is_below(config: RelayConfig, index: &Index) -> bool
-    ensures { result ≡ true → IsBelow config.first_version index.now }
+    ensures { result ≡ true → IsBelow (config.epoch * 2 ^ 40 + 1) index.now }
 {
     match index.highest() {
         None => true,
-        Some(highest) => highest < config.first_version,
+        Some(highest) => highest <= config.epoch as u64 * 1_099_511_627_776,
     }
 }
 
@@ -113,7 +110,7 @@ fn has_only_its_own(alloc: Global, world: &mut World) -> Result<bool, Fail> {
 /// Whether a world over that index does, of a first version above those stored.
 fn goes_above(alloc: Global) -> Result<bool, Fail> {
     let index = index_at_five(alloc)?;
-    match world_over(alloc, SIX, index)? {
+    match world_over(alloc, NEXT_EPOCH, index)? {
         Some(mut world) => has_only_its_own(alloc, &mut world),
         None => Ok(false),
     }
@@ -142,6 +139,7 @@ fn stored_at_the_first(rt: HostRuntime) -> Result<(), Fail> {
 /// The first operation of producer 0: a delete of document 1.
 fn delete_of_one(alloc: Global) -> Result<Op, Fail> {
     Ok(Op {
+        epoch: 0,
         producer: 0,
         number: 1,
         key: key_of(alloc, "1")?,

@@ -8,6 +8,8 @@ mod many;
 #[cfg(test)]
 mod refusals;
 #[cfg(test)]
+mod restarts;
+#[cfg(test)]
 mod script;
 #[cfg(test)]
 mod worked;

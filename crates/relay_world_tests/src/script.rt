@@ -1,5 +1,5 @@
 //! Event lists with what each event answers, as rows, and the world that they are played on.
-use relay_action::{Action, DocKey, List};
+use relay_action::{Action, DocKey, List, OpName};
 use relay_batch::Limits;
 use relay_core::{Cause, RelayConfig, Report, Settled};
 use relay_index::{Choice, Index};
@@ -21,7 +21,8 @@ pub const THREE: RelayConfig = RelayConfig {
     },
     attempts: 3,
     in_flight: 1,
-    first_version: 1,
+    epoch: 0,
+    deal: 1_000,
 };
 
 /// An event; documents are of the index `b`, and no source deletes.
@@ -38,13 +39,19 @@ pub enum Row<'a> {
     Reply(u64, &'a [u64]),
     Whole(u64, u16),
     Lost(u64),
+    Restart(u32),
 }
 
-/// What an event answers. A put answers its number, a settled request applied, already, reported and retried.
+/// The name of an operation: epoch, producer and number.
+pub type Name = (u32, u32, u64);
+
+/// What an event answers. A put answers a name, or a number of producer 0 in epoch 0; a settled request applied,
+/// already, reported and retried.
 #[derive(Clone, Copy)]
 pub enum Says {
     No(Refusal),
     Named(u64),
+    Name(u32, u32, u64),
     Request(u64),
     Status(u16),
     Counts([u32; 4]),
@@ -78,7 +85,13 @@ fn event_of(alloc: Global, row: &Row<'_>) -> Result<Event, Fail> {
         ),
         Row::Whole(request, status) => Event::Whole(request, status),
         Row::Lost(request) => Event::Lost(request),
+        Row::Restart(epoch) => Event::Restart(epoch),
     })
+}
+
+/// Whether an operation has this name.
+pub fn is_named(name: OpName, wanted: Name) -> bool {
+    (name.epoch, name.producer, name.number) == wanted
 }
 
 fn counts_of(settled: Settled) -> [u32; 4] {
@@ -94,7 +107,10 @@ fn counts_of(settled: Settled) -> [u32; 4] {
 fn is_said(answer: StepAnswer, says: Says) -> bool {
     match (answer, says) {
         (StepAnswer::Refused(refusal), Says::No(wanted)) => refusal == wanted,
-        (StepAnswer::Put(name), Says::Named(number)) => name.number == number,
+        (StepAnswer::Put(name), Says::Named(number)) => is_named(name, (0, 0, number)),
+        (StepAnswer::Put(name), Says::Name(epoch, producer, number)) => {
+            is_named(name, (epoch, producer, number))
+        }
         (StepAnswer::Sent(request), Says::Request(number)) => request == number,
         (StepAnswer::Ran(status), Says::Status(wanted)) => status == wanted,
         (StepAnswer::Settled(settled), Says::Counts(counts)) => {
@@ -106,7 +122,7 @@ fn is_said(answer: StepAnswer, says: Says) -> bool {
 }
 
 /// A world of a config, which has to be valid, over a fresh index.
-fn world_of(alloc: Global, config: RelayConfig) -> Result<World, Fail> {
+pub fn world_of(alloc: Global, config: RelayConfig) -> Result<World, Fail> {
     if !config.valid() {
         return Err("not valid")?;
     }
@@ -120,7 +136,7 @@ fn answers(alloc: Global, world: &mut World, row: &Row<'_>, says: Says) -> Resul
 }
 
 /// Plays rows. Whether each is answered as it says.
-fn played(alloc: Global, world: &mut World, rows: &[(Row<'_>, Says)]) -> Result<bool, Fail> {
+pub fn played(alloc: Global, world: &mut World, rows: &[(Row<'_>, Says)]) -> Result<bool, Fail> {
     for (row, says) in rows {
         if !answers(alloc, world, row, *says)? {
             return Ok(false);
@@ -148,7 +164,7 @@ pub enum Given {
     Spent(u64),
 }
 
-fn is_given(report: &Report, given: Given) -> bool {
+pub fn is_given(report: &Report, given: Given) -> bool {
     let number = report.name.number;
     match (&report.cause, given) {
         (Cause::Refused { status, .. }, Given::Refused(n, wanted)) => {

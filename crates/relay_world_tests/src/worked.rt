@@ -211,38 +211,3 @@ fn statuses(rt: HostRuntime) -> Result<(), Fail> {
     );
     Ok(())
 }
-
-const LAST: RelayConfig = RelayConfig {
-    capacity: 1,
-    max_held: 1,
-    first_version: 9_000_000_000_000_000_000,
-    ..THREE
-};
-
-#[test]
-fn the_last_version(rt: HostRuntime) -> Result<(), Fail> {
-    let rows = [
-        (Row::Put(0, "1", ""), Says::Named(1)),
-        (Row::Put(0, "2", ""), Says::No(Refusal::QueueFull)),
-        (Row::Take(0), Says::Ok),
-        (Row::Put(0, "2", ""), Says::Named(2)),
-        (Row::Take(0), Says::No(Refusal::HeldFull)),
-        (Row::Send(0), Says::Request(1)),
-        (Row::Run(1, 1), Says::Status(404)),
-        (Row::Reply(1, &[]), Says::Counts([1, 0, 0, 0])),
-        (Row::Take(0), Says::Ok),
-        (Row::Close(0, 0), Says::Ok),
-        (Row::Put(0, "3", ""), Says::No(Refusal::Closed)),
-    ];
-    assert!(rt;
-        lasts(
-            rt.alloc(),
-            LAST,
-            &rows,
-            &[("1", &[1]), ("2", &[])],
-            &[Given::Spent(2)],
-            false
-        )?
-    );
-    Ok(())
-}

@@ -1,4 +1,4 @@
-use Rattle.std.proofs.Common.{take, ◌∙◌, ◌++◌, ◌∷◌, [], ap, sym, arith, rules}
+use Rattle.std.proofs.Common.{take, ◌∙◌, ◌++◌, ◌∷◌, [], ap, sym, arith}
 use Rattle.std.proofs.lemmas.List.{take_more}
 use Rattle.relay_world.specs.Steps.{none_yet}
 use Rattle.relay_world.proofs.Playing.{plays-push, counts-one}
@@ -15,4 +15,4 @@ events-preserved c =
     }
 
 pub returns-clause-unfinished : goal.returns-clause-unfinished
-returns-clause-unfinished c = search rules
+returns-clause-unfinished c = tt

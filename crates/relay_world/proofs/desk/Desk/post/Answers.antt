@@ -9,7 +9,7 @@ use Rattle.relay_world.proofs.desk.Desk.post.Goals as goal
 pub invariant_of-self-2 : goal.invariant_of-self-2
 invariant_of-self-2 c =
     let i = c.self.inside in
-    let d : Desk = record { queue = i.queue.items; senders = i.senders.items; taken = i.taken.items; lane = i.lane } in
+    let d : Desk = record { queue = i.queue.items; senders = i.senders.items; taken = i.taken.items; lane = i.lane.state } in
     let open_there : IsOpenAt c.args.sender d = subst (IsOpenAt c.args.sender) (sym c.self.view_is) c.requires in
     let there = at_index i.senders.items c.args.sender c.index.result.now (open_within i.senders.items c.args.sender open_there) c.index.ensures in
     let q = c.push_back_reserved.ensures.items ∙ ap (λ ms. ms ++ record { sender = c.args.sender; number = c.next_of-next.result.count; body = c.args.body } ∷ []) c.reserve.ensures.items in
@@ -19,7 +19,7 @@ invariant_of-self-2 c =
 pub returns-clause-ok : goal.returns-clause-ok
 returns-clause-ok c =
     let i = c.self.inside in
-    let d : Desk = record { queue = i.queue.items; senders = i.senders.items; taken = i.taken.items; lane = i.lane } in
+    let d : Desk = record { queue = i.queue.items; senders = i.senders.items; taken = i.taken.items; lane = i.lane.state } in
     let open_there : IsOpenAt c.args.sender d = subst (IsOpenAt c.args.sender) (sym c.self.view_is) c.requires in
     let there = at_index i.senders.items c.args.sender c.index.result.now (open_within i.senders.items c.args.sender open_there) c.index.ensures in
     let q = c.push_back_reserved.ensures.items ∙ ap (λ ms. ms ++ record { sender = c.args.sender; number = c.next_of-next.result.count; body = c.args.body } ∷ []) c.reserve.ensures.items in

@@ -11,7 +11,7 @@ pub returns-clause-sent : goal.returns-clause-sent
 returns-clause-sent c =
     let i = c.self.inside in
     let o = outcome_of_run (done_of c.args.index.now c.args.write.now c.args.choice) in
-    let v : Sent = record { lane = i.lane; number = i.number; items = i.items.items; answer = answer_of i.given } in
+    let v : Sent = record { epoch = c.self.inside.epoch; lane = i.lane; number = i.number; items = i.items.items; answer = answer_of i.given } in
     let s : c.saturating_sub.result ≡ c.args.item - 1 = omega (arith, c.saturating_sub.ensures) in
     let lt : c.args.item - 1 < length v.items = subst (λ (x : Sent). c.args.item - 1 < length x.items) (sym c.self.view_is) c.requires.item in
     let there = at_index i.items.items c.saturating_sub.result c.index_mut.result.now (omega (arith, s, lt)) c.index_mut.ensures.value in

@@ -1,0 +1,502 @@
+//! Epochs: restarts, what is left of earlier incarnations, and the last version of an epoch.
+use crate::script::{Given, Name, Row, Says, THREE, accepts, is_given, is_named, played, world_of};
+use relay_action::{Action, DocKey, Op};
+use relay_core::RelayConfig;
+use relay_index::Index;
+use relay_world::{Event, Refusal, StepAnswer, World};
+use std::alloc::{AllocError, Global};
+use std::test::Fail;
+
+/// A write that was applied: its version, and the name of its operation.
+type Applied = (u64, Name);
+
+/// How a world ends: how many operations of each producer were accepted in the last epoch, the writes applied to
+/// documents, what lane 0 has reported, and whether it is finished.
+#[derive(Clone, Copy)]
+struct End<'a> {
+    accepted: &'a [usize],
+    applied: &'a [(&'a str, &'a [Applied])],
+    reports: &'a [(Name, Given)],
+    finished: bool,
+}
+
+/// Whether a document has these writes, of these operations.
+fn has_writes(alloc: Global, world: &World, id: &str, rows: &[Applied]) -> Result<bool, Fail> {
+    let key = DocKey::new(alloc, "b", id)?;
+    let writes = world.applied(&key);
+    let names = world.names(&key);
+    let versions = writes
+        .iter()
+        .zip(rows)
+        .all(|(write, row)| write.version == row.0);
+    let named = names
+        .iter()
+        .zip(rows)
+        .all(|(name, row)| is_named(*name, row.1));
+    Ok(versions && named && writes.len() == rows.len() && names.len() == rows.len())
+}
+
+/// Whether these documents have these writes, and no other document has any.
+fn has_applied(alloc: Global, world: &World, rows: &[(&str, &[Applied])]) -> Result<bool, Fail> {
+    let mut good = world.keys()?.len() == rows.len();
+    for (id, writes) in rows {
+        good = has_writes(alloc, world, id, writes)? && good;
+    }
+    Ok(good)
+}
+
+/// Whether so many operations of each producer were accepted in the last epoch.
+fn has_accepted(world: &World, counts: &[usize]) -> bool {
+    let mut producer = 0u32;
+    let mut good = true;
+    for count in counts {
+        good = good && world.accepted(producer).len() == *count;
+        producer = producer.saturating_add(1);
+    }
+    good
+}
+
+/// Whether lane 0 has reported these operations, for these causes.
+fn has_reported(world: &World, rows: &[(Name, Given)]) -> bool {
+    let reports = world.reports(0);
+    let same = reports.iter().zip(rows).all(|(report, row)| is_named(report.name, row.0)
+        && is_given(report, row.1));
+    same && reports.len() == rows.len()
+}
+
+/// Whether a world ends so.
+fn ends_so(alloc: Global, world: &World, end: &End<'_>) -> Result<bool, Fail> {
+    Ok(
+        has_accepted(world, end.accepted)
+            && has_applied(alloc, world, end.applied)?
+            && has_reported(world, end.reports)
+            && world.finished() == end.finished,
+    )
+}
+
+/// Whether a world answers rows as they say, and then ends so.
+fn goes_so(
+    alloc: Global,
+    world: &mut World,
+    rows: &[(Row<'_>, Says)],
+    end: &End<'_>,
+) -> Result<bool, Fail> {
+    Ok(played(alloc, world, rows)? && ends_so(alloc, world, end)?)
+}
+
+/// Whether a fresh world of a config does.
+fn goes(
+    alloc: Global,
+    config: RelayConfig,
+    rows: &[(Row<'_>, Says)],
+    end: &End<'_>,
+) -> Result<bool, Fail> {
+    let mut world = world_of(alloc, config)?;
+    goes_so(alloc, &mut world, rows, end)
+}
+
+const FIRST_OF_ONE: u64 = 1_099_511_627_777;
+
+/// A restart while a request flies: it may still run, and settles nothing.
+const RESTARTED: [(Row<'static>, Says); 13] = [
+    (Row::Put(0, "1", "{\"a\":1}"), Says::Name(0, 0, 1)),
+    (Row::Take(0), Says::Ok),
+    (Row::Send(0), Says::Request(1)),
+    (Row::Restart(1), Says::Ok),
+    (Row::Reply(1, &[]), Says::No(Refusal::NotFlying)),
+    (Row::Put(0, "1", ""), Says::Name(1, 0, 1)),
+    (Row::Take(0), Says::Ok),
+    (Row::Run(1, 1), Says::Status(201)),
+    (Row::Send(0), Says::Request(2)),
+    (Row::Run(2, 1), Says::Status(200)),
+    (Row::Run(1, 1), Says::Status(409)),
+    (Row::Reply(2, &[]), Says::Counts([1, 0, 0, 0])),
+    (Row::Restart(1), Says::No(Refusal::NotAbove)),
+];
+
+#[test]
+fn restarted(rt: HostRuntime) -> Result<(), Fail> {
+    let end = End {
+        accepted: &[1],
+        applied: &[("1", &[(1, (0, 0, 1)), (FIRST_OF_ONE, (1, 0, 1))])],
+        reports: &[],
+        finished: false,
+    };
+    assert!(rt; goes(rt.alloc(), THREE, &RESTARTED, &end)?);
+    Ok(())
+}
+
+#[test]
+fn not_above(rt: HostRuntime) -> Result<(), Fail> {
+    let rows = [
+        (Row::Restart(0), Says::No(Refusal::NotAbove)),
+        (Row::Restart(4_194_304), Says::No(Refusal::NotAbove)),
+        (Row::Restart(4_294_967_295), Says::No(Refusal::NotAbove)),
+        (Row::Restart(3), Says::Ok),
+        (Row::Restart(2), Says::No(Refusal::NotAbove)),
+        (Row::Restart(3), Says::No(Refusal::NotAbove)),
+        (Row::Put(0, "1", ""), Says::Name(3, 0, 1)),
+        (Row::Restart(4_194_303), Says::Ok),
+        (Row::Restart(4_194_303), Says::No(Refusal::NotAbove)),
+        (Row::Put(0, "1", ""), Says::Name(4_194_303, 0, 1)),
+    ];
+    let end = End {
+        accepted: &[1],
+        applied: &[],
+        reports: &[],
+        finished: false,
+    };
+    assert!(rt; goes(rt.alloc(), THREE, &rows, &end)?);
+    Ok(())
+}
+
+/// One version a lane, in epoch 8.
+const LAST: RelayConfig = RelayConfig {
+    capacity: 1,
+    max_held: 1,
+    epoch: 8,
+    deal: 1,
+    ..THREE
+};
+
+#[test]
+fn the_last_version(rt: HostRuntime) -> Result<(), Fail> {
+    let rows = [
+        (Row::Put(0, "1", ""), Says::Name(8, 0, 1)),
+        (Row::Put(0, "2", ""), Says::No(Refusal::QueueFull)),
+        (Row::Take(0), Says::Ok),
+        (Row::Put(0, "2", ""), Says::Name(8, 0, 2)),
+        (Row::Take(0), Says::No(Refusal::HeldFull)),
+        (Row::Send(0), Says::Request(1)),
+        (Row::Run(1, 1), Says::Status(404)),
+        (Row::Reply(1, &[]), Says::Counts([1, 0, 0, 0])),
+        (Row::Take(0), Says::Ok),
+        (Row::Close(0, 0), Says::Ok),
+        (Row::Put(0, "3", ""), Says::No(Refusal::Closed)),
+    ];
+    let end = End {
+        accepted: &[2],
+        applied: &[("1", &[(8_796_093_022_209, (8, 0, 1))])],
+        reports: &[((8, 0, 2), Given::Spent(2))],
+        finished: false,
+    };
+    assert!(rt; goes(rt.alloc(), LAST, &rows, &end)?);
+    Ok(())
+}
+
+/// Two lanes, of which documents with an even id have the first, and two producers.
+const TWO_LANES: RelayConfig = RelayConfig {
+    lanes: 2,
+    producers: 2,
+    ..THREE
+};
+
+/// One operation flies and waits to be sent again, one is queued, one is reported, and a producer has closed.
+const BEFORE: [(Row<'static>, Says); 12] = [
+    (Row::Put(0, "2", "{}"), Says::Name(0, 0, 1)),
+    (Row::Put(1, "1", "{}"), Says::Name(0, 1, 1)),
+    (Row::Put(0, "4", ""), Says::Name(0, 0, 2)),
+    (Row::Take(0), Says::Ok),
+    (Row::Take(1), Says::Ok),
+    (Row::Send(0), Says::Request(1)),
+    (Row::Send(1), Says::Request(2)),
+    (Row::Run(2, 1), Says::Status(201)),
+    (Row::Lost(1), Says::Counts([0, 0, 0, 1])),
+    (Row::Whole(2, 401), Says::Counts([0, 0, 1, 0])),
+    (Row::Close(1, 1), Says::Ok),
+    (Row::Put(1, "3", ""), Says::No(Refusal::Closed)),
+];
+
+/// A restart leaves nothing queued, held, in flight, reported or closed, and numbers begin anew. The requests of
+/// the new lanes have the numbers there that the old ones had, and no answer to an old one settles them.
+const AFTER: [(Row<'static>, Says); 30] = [
+    (Row::Restart(7), Says::Ok),
+    (Row::Take(0), Says::No(Refusal::NothingQueued)),
+    (Row::Take(1), Says::No(Refusal::NothingQueued)),
+    (Row::Send(0), Says::No(Refusal::NoRequest)),
+    (Row::Lost(1), Says::No(Refusal::NotFlying)),
+    (Row::Put(1, "3", ""), Says::Name(7, 1, 1)),
+    (Row::Put(0, "2", ""), Says::Name(7, 0, 1)),
+    (Row::Take(1), Says::Ok),
+    (Row::Take(0), Says::Ok),
+    (Row::Send(1), Says::Request(3)),
+    (Row::Send(0), Says::Request(4)),
+    (Row::Reply(2, &[]), Says::No(Refusal::NotFlying)),
+    (Row::Whole(1, 503), Says::No(Refusal::NotFlying)),
+    (Row::Lost(2), Says::No(Refusal::NotFlying)),
+    (Row::Run(4, 1), Says::Status(404)),
+    (Row::Run(1, 1), Says::Status(409)),
+    (Row::Run(3, 1), Says::Status(404)),
+    (Row::Reply(3, &[]), Says::Counts([1, 0, 0, 0])),
+    (Row::Close(0, 0), Says::Ok),
+    (Row::Close(1, 0), Says::Ok),
+    (Row::Close(2, 0), Says::Ok),
+    (Row::Close(0, 1), Says::Ok),
+    (Row::Close(1, 1), Says::Ok),
+    (Row::Close(2, 1), Says::Ok),
+    (Row::Take(0), Says::Ok),
+    (Row::Take(0), Says::Ok),
+    (Row::Take(0), Says::Ok),
+    (Row::Take(1), Says::Ok),
+    (Row::Take(1), Says::Ok),
+    (Row::Take(1), Says::Ok),
+];
+
+const FIRST_OF_SEVEN: u64 = 7_696_581_394_433;
+
+const ALL_OF_SEVEN: [(&str, &[Applied]); 3] = [
+    ("1", &[(1, (0, 1, 1))]),
+    ("2", &[(FIRST_OF_SEVEN, (7, 0, 1))]),
+    ("3", &[(FIRST_OF_SEVEN, (7, 1, 1))]),
+];
+
+/// Whether these operations have these names.
+fn are_named(ops: &[Op], names: &[Name]) -> bool {
+    let same = ops
+        .iter()
+        .zip(names)
+        .all(|(op, name)| is_named(op.name(), *name));
+    same && ops.len() == names.len()
+}
+
+/// Whether these were accepted in each epoch from each producer, and nothing of another epoch or producer.
+fn keeps_what_was_accepted(world: &World) -> bool {
+    let rows: [(u32, u32, &[Name]); 7] = [
+        (0, 0, &[(0, 0, 1), (0, 0, 2)]),
+        (0, 1, &[(0, 1, 1)]),
+        (7, 0, &[(7, 0, 1)]),
+        (7, 1, &[(7, 1, 1)]),
+        (0, 2, &[]),
+        (7, 2, &[]),
+        (1, 0, &[]),
+    ];
+    rows.iter().all(|(epoch, producer, names)| are_named(
+        world.accepted_in(*epoch, *producer),
+        names,
+    ))
+}
+
+/// Whether two lanes are restarted, finish in the new epoch, and what was accepted in each is still known.
+fn restarts_two_lanes(alloc: Global) -> Result<bool, Fail> {
+    let mut world = world_of(alloc, TWO_LANES)?;
+    let before = End {
+        accepted: &[2, 1],
+        applied: &[("1", &[(1, (0, 1, 1))])],
+        reports: &[],
+        finished: false,
+    };
+    let open = End {
+        accepted: &[1, 1],
+        applied: &ALL_OF_SEVEN,
+        reports: &[],
+        finished: false,
+    };
+    let after = End {
+        finished: true,
+        ..open
+    };
+    let last = [(Row::Reply(4, &[]), Says::Counts([1, 0, 0, 0]))];
+    Ok(
+        goes_so(alloc, &mut world, &BEFORE, &before)?
+            && world.reports(1).len() == 1
+            && goes_so(alloc, &mut world, &AFTER, &open)?
+            && world.reports(1).is_empty()
+            && goes_so(alloc, &mut world, &last, &after)?
+            && keeps_what_was_accepted(&world),
+    )
+}
+
+#[test]
+fn two_lanes_and_producers(rt: HostRuntime) -> Result<(), Fail> {
+    assert!(rt; restarts_two_lanes(rt.alloc())?);
+    Ok(())
+}
+
+/// A producer puts a delete of a document.
+fn puts(alloc: Global, world: &mut World, id: &str) -> Result<(), AllocError> {
+    let key = DocKey::new(alloc, "b", id).map_err(|_| AllocError)?;
+    world.step(&Event::Put(0, key, Action::delete()))?;
+    Ok(())
+}
+
+/// A world with two operations of producer 0, of which one is in flight and one queued.
+fn in_flight(alloc: Global) -> Result<Option<World>, AllocError> {
+    if !THREE.valid() {
+        return Ok(None);
+    }
+    let mut world = World::new(alloc, THREE, Index::new(alloc))?;
+    puts(alloc, &mut world, "1")?;
+    puts(alloc, &mut world, "2")?;
+    world.step(&Event::Take(0))?;
+    world.step(&Event::Send(0))?;
+    Ok(Some(world))
+}
+
+/// Whether a world is that one.
+fn is_in_flight(world: &World) -> bool {
+    world.accepted(0).len() == 2
+        && world.accepted_in(1, 0).is_empty()
+        && world.sent(1, 1).is_some()
+        && world.sent(1, 2).is_none()
+}
+
+/// Whether that world is restarted in epoch 1, or memory was refused to it and it is as it was.
+fn restarts_or_stays(world: &mut World) -> bool {
+    match world.step(&Event::Restart(1)) {
+        Ok(answer) => {
+            answer == StepAnswer::Done
+                && world.accepted(0).is_empty()
+                && world.accepted_in(0, 0).len() == 2
+        }
+        Err(_) => is_in_flight(world) && accepts(world, &Event::Take(0)),
+    }
+}
+
+// Whichever single allocation is refused: `rt try --test --fail-alloc N`. One before the restart ends the test.
+#[test]
+fn restart_out_of_memory(rt: HostRuntime) -> Result<(), Fail> {
+    if let Ok(Some(mut world)) = in_flight(rt.alloc()) {
+        assert!(rt; restarts_or_stays(&mut world));
+    }
+    Ok(())
+}
+
+/// Three incarnations write one document. The second one's request runs in the third, before that one's own.
+const THREE_LIVES: [(Row<'static>, Says); 20] = [
+    (Row::Put(0, "1", "{}"), Says::Name(0, 0, 1)),
+    (Row::Take(0), Says::Ok),
+    (Row::Send(0), Says::Request(1)),
+    (Row::Run(1, 1), Says::Status(201)),
+    (Row::Restart(1), Says::Ok),
+    (Row::Put(0, "1", "{}"), Says::Name(1, 0, 1)),
+    (Row::Take(0), Says::Ok),
+    (Row::Send(0), Says::Request(2)),
+    (Row::Restart(5), Says::Ok),
+    (Row::Put(0, "1", "{}"), Says::Name(5, 0, 1)),
+    (Row::Take(0), Says::Ok),
+    (Row::Send(0), Says::Request(3)),
+    (Row::Run(2, 1), Says::Status(200)),
+    (Row::Run(3, 1), Says::Status(200)),
+    (Row::Run(2, 1), Says::Status(409)),
+    (Row::Run(1, 1), Says::Status(409)),
+    (Row::Reply(1, &[]), Says::No(Refusal::NotFlying)),
+    (Row::Reply(2, &[]), Says::No(Refusal::NotFlying)),
+    (Row::Reply(3, &[]), Says::Counts([1, 0, 0, 0])),
+    (Row::Restart(4), Says::No(Refusal::NotAbove)),
+];
+
+#[test]
+fn a_second_restart(rt: HostRuntime) -> Result<(), Fail> {
+    let writes = [
+        (1, (0, 0, 1)),
+        (FIRST_OF_ONE, (1, 0, 1)),
+        (5_497_558_138_881, (5, 0, 1)),
+    ];
+    let end = End {
+        accepted: &[1],
+        applied: &[("1", &writes)],
+        reports: &[],
+        finished: false,
+    };
+    assert!(rt; goes(rt.alloc(), THREE, &THREE_LIVES, &end)?);
+    Ok(())
+}
+
+/// One version a lane, in epoch 0.
+const ONE_VERSION: RelayConfig = RelayConfig { deal: 1, ..THREE };
+
+// The operation that got no version in epoch 0 is not the one that has the second of epoch 1.
+#[test]
+fn spent_before_a_restart(rt: HostRuntime) -> Result<(), Fail> {
+    let rows = [
+        (Row::Put(0, "1", "{}"), Says::Name(0, 0, 1)),
+        (Row::Put(0, "1", "{}"), Says::Name(0, 0, 2)),
+        (Row::Take(0), Says::Ok),
+        (Row::Take(0), Says::Ok),
+        (Row::Restart(1), Says::Ok),
+        (Row::Put(0, "1", "{}"), Says::Name(1, 0, 1)),
+        (Row::Take(0), Says::Ok),
+        (Row::Send(0), Says::Request(1)),
+        (Row::Run(1, 1), Says::Status(201)),
+        (Row::Reply(1, &[]), Says::Counts([1, 0, 0, 0])),
+    ];
+    let end = End {
+        accepted: &[1],
+        applied: &[("1", &[(FIRST_OF_ONE, (1, 0, 1))])],
+        reports: &[],
+        finished: false,
+    };
+    assert!(rt; goes(rt.alloc(), ONE_VERSION, &rows, &end)?);
+    Ok(())
+}
+
+/// Three deletes in one request, which is too large as a whole: each is sent by itself, the second after it ran.
+const HALVED: [(Row<'static>, Says); 15] = [
+    (Row::Put(0, "1", ""), Says::Named(1)),
+    (Row::Put(0, "2", ""), Says::Named(2)),
+    (Row::Put(0, "3", ""), Says::Named(3)),
+    (Row::Take(0), Says::Ok),
+    (Row::Take(0), Says::Ok),
+    (Row::Take(0), Says::Ok),
+    (Row::Send(0), Says::Request(1)),
+    (Row::Run(1, 2), Says::Status(404)),
+    (Row::Whole(1, 413), Says::Counts([0, 0, 0, 3])),
+    (Row::Send(0), Says::Request(2)),
+    (Row::Whole(2, 413), Says::Counts([0, 0, 1, 0])),
+    (Row::Send(0), Says::Request(3)),
+    (Row::Run(3, 1), Says::Status(409)),
+    (Row::Reply(3, &[]), Says::Counts([0, 1, 0, 0])),
+    (Row::Send(0), Says::Request(4)),
+];
+
+/// Whether an item of a request is this document under this version.
+fn has_item(alloc: Global, world: &World, request: u64, item: u64, id: &str) -> Result<bool, Fail> {
+    let key = DocKey::new(alloc, "b", id)?;
+    Ok(match world.sent(request, item) {
+        Some((sent, _)) => *sent == key,
+        None => false,
+    })
+}
+
+/// Whether the requests have these documents and no more, each under the version of its number.
+fn has_requests(alloc: Global, world: &World) -> Result<bool, Fail> {
+    let items: [(u64, u64, &str, u64); 6] = [
+        (1, 1, "1", 1),
+        (1, 2, "2", 2),
+        (1, 3, "3", 3),
+        (2, 1, "1", 1),
+        (3, 1, "2", 2),
+        (4, 1, "3", 3),
+    ];
+    let mut good = true;
+    for (request, item, id, version) in items {
+        let versioned = world
+            .sent(request, item)
+            .is_some_and(|sent| sent.1 == version);
+        good = has_item(alloc, world, request, item, id)? && versioned && good;
+    }
+    let ends: [(u64, u64); 5] = [(1, 4), (2, 2), (3, 2), (4, 2), (5, 1)];
+    Ok(
+        good && ends
+            .iter()
+            .all(|(request, item)| world.sent(*request, *item).is_none()),
+    )
+}
+
+/// Whether the rows of a halved request go so.
+fn halves(alloc: Global) -> Result<bool, Fail> {
+    let mut world = world_of(alloc, THREE)?;
+    let end = End {
+        accepted: &[3],
+        applied: &[("2", &[(2, (0, 0, 2))])],
+        reports: &[((0, 0, 1), Given::Rejected(1, 413))],
+        finished: false,
+    };
+    Ok(goes_so(alloc, &mut world, &HALVED, &end)? && has_requests(alloc, &world)?)
+}
+
+#[test]
+fn too_large_as_a_whole(rt: HostRuntime) -> Result<(), Fail> {
+    assert!(rt; halves(rt.alloc())?);
+    Ok(())
+}
