@@ -41,6 +41,7 @@ fn body_of(alloc: Global, sender: u32, number: u64) -> Result<Body, ActionFault>
     }
     let key = document(alloc)?;
     Ok(Body::Put(Op {
+        epoch: 0,
         producer: sender,
         number,
         key,
