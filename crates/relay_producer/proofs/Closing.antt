@@ -109,8 +109,8 @@ all_closed_by sender (x ∷ xs) (y ∷ ys) own h =
 lanes_kept : (old : List OpenEnd) (new : List ClosedEnd) → AllZip Closes old new → HasLanes old → HasLanes new
 lanes_kept old new h lanes = let n = count_kept old new h in (omega arith, omega arith)
 
-pub producer_closed : (producer put : ℕ) (old : List OpenEnd) (new : List ClosedEnd) → AllZip Closes old new → IsProducer (record { producer = producer; put = put; ends = old }) → IsClosedProducer (record { producer = producer; put = put; ends = new })
-producer_closed producer put old new h p = record {
+pub producer_closed : (epoch producer put : ℕ) (old : List OpenEnd) (new : List ClosedEnd) → AllZip Closes old new → IsProducer (record { epoch = epoch; producer = producer; put = put; ends = old }) → IsClosedProducer (record { producer = producer; put = put; ends = new })
+producer_closed epoch producer put old new h p = record {
   lanes = lanes_kept old new h p.lanes;
   own = all_closed_by producer old new (λ k d lt. (p.own k d lt).0) h;
   shown = (p.shown.0, put_kept producer put old new p.shown.0 h p.shown.1);

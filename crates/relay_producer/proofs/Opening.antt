@@ -39,8 +39,8 @@ own_fresh sender puts h =
 lanes_opened : (puts : List SenderEnd) → HasLanes puts → HasLanes (map opened puts)
 lanes_opened puts h = let n : length (map opened puts) ≡ length puts = length-map puts opened in (omega arith, omega arith)
 
-pub is_producer : (sender : ℕ) (puts : List SenderEnd) → HasLanes puts → AreFresh sender puts → IsProducer (record { producer = sender; put = 0; ends = map opened puts })
-is_producer sender puts lanes h = record {
+pub is_producer : (epoch sender : ℕ) (puts : List SenderEnd) → HasLanes puts → AreFresh sender puts → IsProducer (record { epoch = epoch; producer = sender; put = 0; ends = map opened puts })
+is_producer epoch sender puts lanes h = record {
   lanes = lanes_opened puts lanes;
   limit = omega arith;
   own = own_fresh sender puts h;

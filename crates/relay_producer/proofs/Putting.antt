@@ -112,8 +112,8 @@ put_more producer count ends ops op named number h =
 -- ---- the producer afterwards
 
 -- a producer with these ends
-abbrev pub with_ends : ℕ → ℕ → List OpenEnd → ProducerState
-with_ends producer put ends = record { producer = producer; put = put; ends = ends }
+abbrev pub with_ends : ℕ → ℕ → ℕ → List OpenEnd → ProducerState
+with_ends epoch producer put ends = record { epoch = epoch; producer = producer; put = put; ends = ends }
 
 own_more : (sender count k : ℕ) (body : Body) (ends : List OpenEnd) → AreEndsOf sender count ends → AreEndsOf sender (count + 1) (change_at k (with_sent body) ends)
 own_more sender count k body ends h =
@@ -134,11 +134,11 @@ own_marked sender count k ends h =
 lanes_changed : (k : ℕ) (f : OpenEnd → OpenEnd) (ends : List OpenEnd) → HasLanes ends → HasLanes (change_at k f ends)
 lanes_changed k f ends h = let n = length-change_at k f ends in (omega arith, omega arith)
 
-pub producer_puts : (producer count : ℕ) (ends new : List OpenEnd) (op : Op) → op.producer ≡ producer → op.number ≡ count + 1 → count < 2 ^ 40 → new ≡ change_at (lane_of_document op.key (length ends)) (with_sent (Put op)) ends
-    → IsProducer (with_ends producer count ends) → IsProducer (with_ends producer (count + 1) new)
-producer_puts producer count ends new op named number room is p =
+pub producer_puts : (epoch producer count : ℕ) (ends new : List OpenEnd) (op : Op) → op.producer ≡ producer → op.number ≡ count + 1 → count < 2 ^ 40 → new ≡ change_at (lane_of_document op.key (length ends)) (with_sent (Put op)) ends
+    → IsProducer (with_ends epoch producer count ends) → IsProducer (with_ends epoch producer (count + 1) new)
+producer_puts epoch producer count ends new op named number room is p =
     let k = lane_of_document op.key (length ends) in
-    subst (λ (es : List OpenEnd). IsProducer (with_ends producer (count + 1) es)) (sym is)
+    subst (λ (es : List OpenEnd). IsProducer (with_ends epoch producer (count + 1) es)) (sym is)
     (record {
       lanes = lanes_changed k (with_sent (Put op)) ends p.lanes;
       limit = omega arith;
@@ -146,9 +146,9 @@ producer_puts producer count ends new op named number room is p =
       shown = (p.shown.0 ++ op ∷ [], put_more producer count ends p.shown.0 op named number p.shown.1);
     })
 
-pub producer_marks : (producer count k : ℕ) (ends new : List OpenEnd) → new ≡ change_at k marked ends → IsProducer (with_ends producer count ends) → IsProducer (with_ends producer count new)
-producer_marks producer count k ends new is p =
-    subst (λ (es : List OpenEnd). IsProducer (with_ends producer count es)) (sym is)
+pub producer_marks : (epoch producer count k : ℕ) (ends new : List OpenEnd) → new ≡ change_at k marked ends → IsProducer (with_ends epoch producer count ends) → IsProducer (with_ends epoch producer count new)
+producer_marks epoch producer count k ends new is p =
+    subst (λ (es : List OpenEnd). IsProducer (with_ends epoch producer count es)) (sym is)
     (record {
       lanes = lanes_changed k marked ends p.lanes;
       limit = p.limit;
@@ -166,4 +166,4 @@ at_lane key f ends new lane count e at len = e ∙ ap (λ k. change_at k f ends)
 
 -- the name of its next operation
 abbrev pub next_name : ProducerState → OpName
-next_name s = record { producer = s.producer; number = s.put + 1 }
+next_name s = record { epoch = s.epoch; producer = s.producer; number = s.put + 1 }

@@ -12,8 +12,9 @@ use Rattle.relay_producer.specs.declared.ends.ClosedEnd.{ClosedEnd}
 use Rattle.relay_producer.specs.Ends.{with_sent, marked, change_at, open_puts, closed_puts, IsClosedBy}
 use Rattle.relay_producer.specs.Puts.{HasPut, HaveNoPuts}
 
--- a producer: its number, how many operations it put, and its end of each lane's queue, by lane
+-- a producer: the epoch in which it puts, its number, how many operations it put, and its end of each lane's queue, by lane
 pub record ProducerState : Type 0 where
+  pub epoch : ℕ
   pub producer : ℕ
   pub put : ℕ
   pub ends : List OpenEnd
@@ -46,15 +47,15 @@ lane_for key s = lane_of_document key (length s.ends)
 
 -- the next operation of a producer
 abbrev pub next_op : DocKey → Action → ProducerState → Op
-next_op key action s = record { producer = s.producer; number = s.put + 1; key = key; action = action }
+next_op key action s = record { epoch = s.epoch; producer = s.producer; number = s.put + 1; key = key; action = action }
 
 -- its document's lane took the operation, and nothing else changed
 abbrev pub after_put : DocKey → Action → ProducerState → ProducerState
-after_put key action s = record { producer = s.producer; put = s.put + 1; ends = change_at (lane_for key s) (with_sent (Put (next_op key action s))) s.ends }
+after_put key action s = record { epoch = s.epoch; producer = s.producer; put = s.put + 1; ends = change_at (lane_for key s) (with_sent (Put (next_op key action s))) s.ends }
 
 -- the document's lane was found gone, and nothing else changed
 abbrev pub after_gone : DocKey → ProducerState → ProducerState
-after_gone key s = record { producer = s.producer; put = s.put; ends = change_at (lane_for key s) marked s.ends }
+after_gone key s = record { epoch = s.epoch; producer = s.producer; put = s.put; ends = change_at (lane_for key s) marked s.ends }
 
 -- ---- what holds of each
 

@@ -24,12 +24,13 @@ pub struct Receipt {
     pub lane: u32,
 }
 
-/// A producer's handle. Contracts see its number, how many operations it put, and its end of each
+/// A producer's handle. Contracts see its epoch and its number, how many operations it put, and its end of each
 /// lane's queue.
 ///
 /// A lane is marked once its queue answers that the lane is gone: nothing more is sent to it.
 #[derive(Drop)]
 pub struct Producer {
+    epoch: u32,
     producer: u32,
     count: u64,
     ends: Vec<OpenEnd>,
@@ -42,29 +43,35 @@ impl Model for Producer {
 
     ghost Value = { ProducerState };
 
-    ghost view = { λ a. record { producer = a.producer; put = a.count; ends = a.ends.items } };
+    ghost view = { λ a. record { epoch = a.epoch; producer = a.producer; put = a.count; ends = a.ends.items } };
 
-    ghost invariant = { λ a. IsProducer (record { producer = a.producer; put = a.count; ends = a.ends.items })
+    ghost invariant = { λ a. IsProducer (record { epoch = a.epoch; producer = a.producer; put = a.count; ends = a.ends.items })
         × (a.closed.items ≡ [])
         × (length a.ends.items ≤ vec_capacity a.closed) };
 }
 
 impl Producer {
-    /// The handle of a producer, counted from 0, over its ends of the queues of 1 to 8 lanes, in lane
+    /// The handle of a producer of an epoch, counted from 0, over its ends of the queues of 1 to 8 lanes, in lane
     /// order, by which nothing was sent yet. It has put nothing, and no lane is marked. It reserves what
     /// its close needs: no later call takes memory. `AllocError`: there was no memory for it; the ends are
     /// dropped.
-    pub fn new(alloc: Global, producer: u32, puts: Vec<LanePut>) -> Result<Producer, AllocError>
+    pub fn new(
+        alloc: Global,
+        epoch: u32,
+        producer: u32,
+        puts: Vec<LanePut>,
+    ) -> Result<Producer, AllocError>
         requires lanes { HasLanes puts.items }
         requires fresh { AreFresh producer puts.items }
         ensures state { IfOk result
-            (λ p. p ≡ record { producer = producer; put = 0; ends = map opened puts.items }) }
+            (λ p. p ≡ record { epoch = epoch; producer = producer; put = 0; ends = map opened puts.items }) }
         ensures puts { IfOk result (λ p. open_puts p.ends ≡ puts.items) }
         ensures none { IfOk result (λ p. HasPut producer 0 (open_puts p.ends) []) }
     {
         let closed = Vec::with_capacity(alloc, puts.len())?;
         let ends = open_all(alloc, puts)?;
         Ok(Producer {
+            epoch,
             producer,
             count: 0,
             ends,
@@ -80,7 +87,7 @@ impl Producer {
     /// where its queue answers that the lane is gone, which marks it; when that comes is not promised.
     pub fn put<R: Wait>(&mut self, rt: &R, key: DocKey, action: Action) -> Result<Receipt, PutFault>
         ensures name { IfOk result
-            (λ r. r.name ≡ record { producer = self.old.producer; number = self.old.put + 1 }) }
+            (λ r. r.name ≡ record { epoch = self.old.epoch; producer = self.old.producer; number = self.old.put + 1 }) }
         ensures lane { IfOk result (λ r. r.lane ≡ lane_for key self.old) }
         ensures added { OnOk result (self.new ≡ after_put key action self.old) }
         ensures limit { OnOk result (self.old.put < 2 ^ 40) }
@@ -108,10 +115,16 @@ impl Producer {
             });
         }
         let lane = lane_of(&key, self.ends.len() as u32);
+        let epoch = self.epoch;
         let producer = self.producer;
         let number = self.count + 1;
-        let name = OpName { producer, number };
+        let name = OpName {
+            epoch,
+            producer,
+            number,
+        };
         let op = Op {
+            epoch,
             producer,
             number,
             key,
@@ -145,6 +158,7 @@ impl Producer {
             count,
             ends,
             closed,
+            ..
         } = self;
         let ends = close_all(rt, ends, closed);
         ClosedProducer {

@@ -72,6 +72,7 @@ fn puts_all<R: Wait>(
     for turn in 0..8usize {
         let (id, lane) = DOCUMENTS[if back { 7 - turn } else { turn }];
         let name = OpName {
+            epoch: 0,
             producer: sender,
             number: turn as u64 + 1,
         };
@@ -134,8 +135,8 @@ fn start(alloc: Global, lanes: u32) -> Result<(Vec<LaneTake>, Senders), AllocErr
         second,
         control,
     } = make(alloc, lanes, 16)?;
-    let first = Producer::new(alloc, 0, first)?;
-    let second = Producer::new(alloc, 1, second)?;
+    let first = Producer::new(alloc, 0, 0, first)?;
+    let second = Producer::new(alloc, 0, 1, second)?;
     let control = Control::new(alloc, 2, control)?;
     Ok((
         takes,
@@ -185,6 +186,7 @@ fn two_producers_and_the_control(rt: HostRuntime) -> Result<(), Fail> {
 // Whether a producer finds the second of two lanes gone, and puts to the first one all the same.
 fn goes_round<R: Wait>(rt: &R, alloc: Global, producer: &mut Producer) -> bool {
     let name = |number: u64| OpName {
+        epoch: 0,
         producer: 0,
         number,
     };
@@ -264,6 +266,7 @@ fn put_and_close<R: Wait>(rt: &R, alloc: Global, mut producer: Producer) -> bool
     let mut good = true;
     for turn in 0..COUNT {
         let name = OpName {
+            epoch: 0,
             producer: 0,
             number: turn + 1,
         };
@@ -283,7 +286,7 @@ fn waits<R: Threads + Wait + Clock + Copy + Send + 'static>(
         second: _,
         control: _,
     } = make(alloc, 1, 1)?;
-    let producer = Producer::new(alloc, 0, first)?;
+    let producer = Producer::new(alloc, 0, 0, first)?;
     let Some(mut take) = takes.pop() else {
         return Ok(false);
     };

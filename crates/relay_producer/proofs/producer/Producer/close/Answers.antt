@@ -6,7 +6,7 @@ use Rattle.relay_producer.proofs.Closing.{closed_identities, put_kept, producer_
 use Rattle.relay_producer.proofs.producer.Producer.close.Goals as goal
 
 pub invariant_of-result : goal.invariant_of-result
-invariant_of-result g c = producer_closed c.self.inside.producer c.self.inside.count c.self.inside.ends.items c.close_all-ends.result.items c.close_all-ends.ensures c.self.invariant.0
+invariant_of-result g c = producer_closed c.self.inside.epoch c.self.inside.producer c.self.inside.count c.self.inside.ends.items c.close_all-ends.result.items c.close_all-ends.ensures c.self.invariant.0
 
 pub returns-clause-ends : goal.returns-clause-ends
 returns-clause-ends g c =

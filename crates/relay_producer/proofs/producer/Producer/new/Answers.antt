@@ -11,7 +11,7 @@ use Rattle.relay_producer.proofs.producer.Producer.new.Goals as goal
 pub invariant_of-result : goal.invariant_of-result
 invariant_of-result c =
     let e = c.in_ok-ends.ensures in (
-      subst (λ (ends : List OpenEnd). IsProducer (record { producer = c.args.producer; put = 0; ends = ends })) (sym e) (is_producer c.args.producer c.args.puts.items c.requires.lanes c.requires.fresh),
+      subst (λ (ends : List OpenEnd). IsProducer (record { epoch = c.args.epoch; producer = c.args.producer; put = 0; ends = ends })) (sym e) (is_producer c.args.epoch c.args.producer c.args.puts.items c.requires.lanes c.requires.fresh),
       c.in_ok-closed.ensures.items,
       omega (arith, ap length e, length-map c.args.puts.items opened, c.in_ok-closed.ensures.exact),
     )
