@@ -89,17 +89,17 @@ pub have_lanes : (qs : List Queue) (lasts : List SenderEnd) (count : ℕ) → le
 have_lanes qs lasts count a b h = (omega (arith, a, b, h.0), omega (arith, a, b, h.1))
 
 -- so far the senders from this one on have their ends
-pub record DealsOn (qs : List Queue) (columns : List (List SenderEnd)) (left : ℕ) (producers : List ProducerState) : Type 0 where
+pub record DealsOn (qs : List Queue) (epoch : ℕ) (columns : List (List SenderEnd)) (left : ℕ) (producers : List ProducerState) : Type 0 where
   pub columns_left : columns ≡ map (λ q. fresh_puts q left) qs
-  pub new_ones : AreNew qs left producers
+  pub new_ones : AreNew qs epoch left producers
 
-pub deals_on : (qs : List Queue) (news : List (List SenderEnd)) (lasts : List SenderEnd) (left n : ℕ) (p : ProducerState) (producers producers' : List ProducerState) → left ≡ n + 1 → DealsOne n qs news lasts → AreNew qs left producers
-    → p ≡ record { producer = n; put = 0; ends = map opened lasts } → producers' ≡ p ∷ producers → DealsOn qs news n producers'
-deals_on qs news lasts left n p producers producers' at one new is e =
-    let new_p : p ≡ new_producer qs n = is ∙ ap (λ (l : List OpenEnd). record { producer = n; put = 0; ends = l }) one.open_ones in
+pub deals_on : (qs : List Queue) (epoch : ℕ) (news : List (List SenderEnd)) (lasts : List SenderEnd) (left n : ℕ) (p : ProducerState) (producers producers' : List ProducerState) → left ≡ n + 1 → DealsOne n qs news lasts → AreNew qs epoch left producers
+    → p ≡ record { epoch = epoch; producer = n; put = 0; ends = map opened lasts } → producers' ≡ p ∷ producers → DealsOn qs epoch news n producers'
+deals_on qs epoch news lasts left n p producers producers' at one new is e =
+    let new_p : p ≡ new_producer qs epoch n = is ∙ ap (λ (l : List OpenEnd). record { epoch = epoch; producer = n; put = 0; ends = l }) one.open_ones in
     record {
       columns_left = one.left;
-      new_ones = subst (AreNew qs n) (sym e) (new_p, subst (λ k. AreNew qs k producers) at new);
+      new_ones = subst (AreNew qs epoch n) (sym e) (new_p, subst (λ k. AreNew qs epoch k producers) at new);
     }
 
 pub controls : (qs : List Queue) (news : List (List SenderEnd)) (lasts : List SenderEnd) (n : ℕ) (k : ControlState) → DealsOne n qs news lasts → k ≡ record { sender = n; ends = map opened lasts } → k ≡ new_control qs n

@@ -138,9 +138,9 @@ module _ {W : Type 0} (describes : W → Bool) (fits : W → Outside → Type 0)
     not_memory kind f e = let k : Finished ≡ Memory = sym f ∙ e in absurd (cc)
 
   -- delivery, as a lane's end has it, is that of its summary
-  carries : (ops : List Op) (e : LaneEnd W) (s : LaneSummary W) (o : Outside) → e.lane.config ≡ c → e.lane.core.held ≡ [] → SumsUp e s → HasDistinctNames ops → GoesOn fits e.wire e.lane ops o → Carries describes fits c ops s o
+  carries : (ops : List Op) (e : LaneEnd W) (s : LaneSummary W) (o : Outside) → e.lane.state.config ≡ c → e.lane.state.core.held ≡ [] → SumsUp e s → HasDistinctNames ops → GoesOn fits e.wire e.lane.state ops o → Carries describes fits c ops s o
   carries ops e s o is none sum distinct g =
-      let conf : e.lane.core.config ≡ config_of c = sum.lane.config ∙ ap config_of is in
+      let conf : e.lane.state.core.config ≡ config_of c = sum.lane.config ∙ ap config_of is in
       let reports = sum.reports in
       record {
         outside = g.outside;
@@ -158,7 +158,7 @@ module _ {W : Type 0} (describes : W → Bool) (fits : W → Outside → Type 0)
       let all = heard_whole e.kind e.taken.taken x.messages f x.heard in
       let k = x.course in
       let totals = k.totals in
-      let held : length e.lane.core.held ≡ 0 = ap length none in
+      let held : length e.lane.state.core.held ≡ 0 = ap length none in
       let long = length-map s.reports.items report_of in
       let reports = ap length sum.reports in
       let taken : s.taken ≡ length (puts_of e.taken.taken) = sum.taken ∙ k.taken ∙ ap (λ m. length (puts_of m)) (sym all) in
@@ -170,7 +170,7 @@ module _ {W : Type 0} (describes : W → Bool) (fits : W → Outside → Type 0)
         totals = omega (arith, totals, held, long, reports, sum.applied, sum.already, sum.taken);
         delivers = λ distinct is o fit opening below.
             carries (puts_of e.taken.taken) e s o k.config none sum distinct
-            (subst (λ m. GoesOn fits e.wire e.lane (puts_of m) o) (sym all) (k.delivers is o fit opening below));
+            (subst (λ m. GoesOn fits e.wire e.lane.state (puts_of m) o) (sym all) (k.delivers is o fit opening below));
       }
 
   -- ---- all lanes

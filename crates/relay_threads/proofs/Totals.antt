@@ -8,7 +8,7 @@ use Rattle.relay_action.specs.declared.mail.Body.TheVariants as body
 use Rattle.relay_batch.specs.declared.item.BatchItem.{BatchItem}
 use Rattle.relay_results.specs.Numbers.{from_zero}
 use Rattle.relay_results.specs.Outside.{Answer}
-use Rattle.relay_results.specs.Fates.{Fate, Flies, Applied, Already, Retried, Reported}
+use Rattle.relay_results.specs.Fates.{Fate, Flies, Applied, Already, Retried, Halved, Reported}
 use Rattle.relay_delivery.specs.Machine.{Config, spent_if, kept_one, kept, reported, fate_of, how_many, is_applied_fate, is_already_fate}
 use Rattle.relay_delivery.specs.Lane as delivery
 use Rattle.relay_delivery.specs.Lane.{Entry, held_of, entry_if, kept_entry, kept_entries, launched_entry, settled, writes_at}
@@ -26,6 +26,7 @@ one_kept clock Flies e = refl
 one_kept clock Applied e = refl
 one_kept clock Already e = refl
 one_kept clock Retried e = refl
+one_kept clock (Halved cap) e = refl
 one_kept clock (Reported cause) e = refl
 
 all_kept : (g : Config) (clock number : ℕ) (ws : List Write) (a : Answer) (es : List Entry) → length (kept_entries g clock number ws a es) ≡ length (kept g number ws a (held_of es))

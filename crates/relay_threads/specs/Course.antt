@@ -13,6 +13,7 @@ use Rattle.relay_lane.specs.Rest.{IsAtRest}
 use Rattle.relay_lane.specs.Delivers.{GoesOn}
 use Rattle.relay_threads.specs.declared.lane_end.LaneEndKind.{LaneEndKind}
 use Rattle.relay_threads.specs.declared.lane_end.LaneEndKind.TheVariants.{Finished, Memory, Gone}
+use Rattle.relay_delivery.specs.Machine.{first_in}
 
 -- the operations of messages, in their order
 abbrev pub puts_of : List Mail → List Op
@@ -51,7 +52,7 @@ IsBelow first o = (k : Document) (u : ℕ) → o.stored k ≡ Some u → u < fir
 -- heard is as promised, where the wire describes it
 abbrev pub DeliversFrom : {S : Type 0} → Bool → (S → Outside → Type 0) → S → S → RelayConfig → List Mail → State → Type 0
 DeliversFrom describes fits start now c heard s =
-    IsTrue describes → (o : Outside) → fits start o → IsOpening o → IsBelow c.first_version o → GoesOn fits now s (puts_of heard) o
+    IsTrue describes → (o : Outside) → fits start o → IsOpening o → IsBelow (first_in c.epoch) o → GoesOn fits now s (puts_of heard) o
 
 -- a lane of this config that began fresh has heard these messages, and worked on its wire
 pub record Course {S : Type 0} (describes : Bool) (fits : S → Outside → Type 0) (start now : S) (c : RelayConfig) (heard : List Mail) (s : State) : Type 0 where

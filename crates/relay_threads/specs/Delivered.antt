@@ -10,6 +10,7 @@ use Rattle.relay_producer.specs.States.{ClosedProducerState}
 use Rattle.relay_threads.specs.declared.summary.LaneSummary.{LaneSummary}
 use Rattle.relay_threads.specs.Course.{IsBelow}
 use Rattle.relay_threads.specs.Finished.{Carries}
+use Rattle.relay_delivery.specs.Machine.{first_in}
 
 -- the producers numbered p, p + 1, and so on put these operations, and no others
 abbrev pub HavePut : (ℕ → List Op) → ℕ → List ClosedProducerState → Type 0
@@ -26,7 +27,7 @@ module _ {W : Type 0} (describes : W → Bool) (fits : W → Outside → Type 0)
     pub no_other : (p : ℕ) → c.producers ≤ p → taken_of taken p ≡ []
     pub count : s.taken ≡ length taken
     pub totals : s.applied + s.already + length s.reports.items ≡ s.taken
-    pub delivers : IsTrue (describes start) → (o : Outside) → fits start o → IsOpening o → IsBelow c.first_version o → Carries describes fits c taken s o
+    pub delivers : IsTrue (describes start) → (o : Outside) → fits start o → IsOpening o → IsBelow (first_in c.epoch) o → Carries describes fits c taken s o
 
   -- so it is of the lanes from this one on, each with its wire
   abbrev pub AllDelivered : ℕ → List W → List (LaneSummary W) → Type 0

@@ -19,6 +19,7 @@ use Rattle.relay_threads.specs.declared.summary.LaneSummary.{LaneSummary}
 use Rattle.relay_threads.specs.Course.{puts_of, IsBelow, EndsAs}
 use Rattle.relay_threads.specs.Faults.{FirstOf, ends_as, is_memory, is_gone_lane}
 use Rattle.relay_threads.specs.Sums.{AreMetAt}
+use Rattle.relay_delivery.specs.Machine.{first_in}
 
 module _ {W : Type 0} (describes : W → Bool) (fits : W → Outside → Type 0) (c : RelayConfig) where
   -- ---- how the lanes ended
@@ -27,7 +28,7 @@ module _ {W : Type 0} (describes : W → Bool) (fits : W → Outside → Type 0)
   pub record EndsOn (queue : Queue) (start : W) (end : LaneEnd W) : Type 0 where
     pub of_queue : end.taken.queue ≡ queue
     pub well_taken : IsWellTaken (c.producers + 1) end.taken.taken
-    pub ends : EndsAs (describes start) fits start end.wire c end.taken.taken end.kind end.lane
+    pub ends : EndsAs (describes start) fits start end.wire c end.taken.taken end.kind end.lane.state
     pub closed : end.kind ≡ Finished → (sender : ℕ) → sender < c.producers + 1 → HasDone (mail_of sender end.taken.taken)
 
   -- all of them have, in their order
@@ -76,7 +77,7 @@ module _ {W : Type 0} (describes : W → Bool) (fits : W → Outside → Type 0)
     pub no_other : (sender : ℕ) → length rows ≤ sender → mail_of sender messages ≡ []
     pub taken : s.taken ≡ length (puts_of messages)
     pub totals : s.applied + s.already + length s.reports.items ≡ s.taken
-    pub delivers : HasDistinctNames (puts_of messages) → IsTrue (describes start) → (o : Outside) → fits start o → IsOpening o → IsBelow c.first_version o → Carries (puts_of messages) s o
+    pub delivers : HasDistinctNames (puts_of messages) → IsTrue (describes start) → (o : Outside) → fits start o → IsOpening o → IsBelow (first_in c.epoch) o → Carries (puts_of messages) s o
 
   -- so it is of the lanes from this one on, each with its wire
   abbrev pub AllFinished : List (List ClosedEnd) → ℕ → List W → List (LaneSummary W) → Type 0

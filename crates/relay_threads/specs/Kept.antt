@@ -13,5 +13,5 @@ pub record KeepsCourse {W : Type 0} (describes : W → Bool) (fits : W → Outsi
   pub queue : end.taken.queue ≡ take.queue
   pub senders : end.taken.senders ≡ take.senders
   pub well_taken : IsWellTaken end.taken.senders end.taken.taken
-  pub ends : EndsAs (describes start) fits start end.wire c end.taken.taken end.kind end.lane
+  pub ends : EndsAs (describes start) fits start end.wire c end.taken.taken end.kind end.lane.state
   pub closed : end.kind ≡ Finished → (sender : ℕ) → sender < take.senders → HasDone (mail_of sender end.taken.taken)

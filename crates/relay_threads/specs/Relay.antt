@@ -24,14 +24,14 @@ pub record AreColumns (senders : ℕ) (columns : List (List SenderEnd)) : Type 0
   pub queues : List Queue
   pub fresh_ones : columns ≡ map (λ q. fresh_puts q senders) queues
 
--- a producer that has put nothing, and no lane of which was found gone
-abbrev pub new_producer : List Queue → ℕ → ProducerState
-new_producer queues p = record { producer = p; put = 0; ends = map (λ q. opened (fresh q p)) queues }
+-- a producer of an epoch that has put nothing, and no lane of which was found gone
+abbrev pub new_producer : List Queue → ℕ → ℕ → ProducerState
+new_producer queues epoch p = record { epoch = epoch; producer = p; put = 0; ends = map (λ q. opened (fresh q p)) queues }
 
 -- producers numbered p, p + 1, and so on, which have put nothing
-abbrev pub AreNew : List Queue → ℕ → List ProducerState → Type 0
-AreNew queues p [] = Unit {0}
-AreNew queues p (x ∷ xs) = (x ≡ new_producer queues p) × AreNew queues (p + 1) xs
+abbrev pub AreNew : List Queue → ℕ → ℕ → List ProducerState → Type 0
+AreNew queues epoch p [] = Unit {0}
+AreNew queues epoch p (x ∷ xs) = (x ≡ new_producer queues epoch p) × AreNew queues epoch (p + 1) xs
 
 -- the control, which has sent nothing
 abbrev pub new_control : List Queue → ℕ → ControlState

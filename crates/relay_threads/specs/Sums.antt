@@ -65,12 +65,12 @@ module _ {W : Type 0} where
 
   -- a lane's summary
   pub record SumsUp (e : LaneEnd W) (s : LaneSummary W) : Type 0 where
-    pub lane : IsLane e.lane
-    pub taken : s.taken ≡ e.lane.core.taken
-    pub applied : s.applied ≡ e.lane.core.applied
-    pub already : s.already ≡ e.lane.core.already
-    pub requests : s.requests ≡ e.lane.core.requests
-    pub reports : map report_of s.reports.items ≡ e.lane.core.reports
+    pub lane : IsLane e.lane.state
+    pub taken : s.taken ≡ e.lane.state.core.taken
+    pub applied : s.applied ≡ e.lane.state.core.applied
+    pub already : s.already ≡ e.lane.state.core.already
+    pub requests : s.requests ≡ e.lane.state.core.requests
+    pub reports : map report_of s.reports.items ≡ e.lane.state.core.reports
     pub wire : s.wire ≡ e.wire
 
   -- the summaries of the lanes from this one on, each of which was met with what was sent there

@@ -19,15 +19,15 @@ fn make_place<W: Wire, P: Pace>(
     wire: &mut W,
     pace: &mut P,
 ) -> Result<(), AllocError>
-    requires rest { IsAtRest lane.old }
+    requires rest { IsAtRest lane.old.state }
     requires out { W.out wire.old ≡ [] }
-    ensures room { OnOk result (length lane.new.core.held < lane.new.config.max_held) }
-    ensures closed { lane.new.closed ≡ lane.old.closed }
-    ensures rest { IsAtRest lane.new }
+    ensures room { OnOk result (length lane.new.state.core.held < lane.new.state.config.max_held) }
+    ensures closed { lane.new.state.closed ≡ lane.old.state.closed }
+    ensures rest { IsAtRest lane.new.state }
     ensures out { W.out wire.new ≡ [] }
     ensures describes { W.describes wire.new ≡ W.describes wire.old }
     ensures keeps { (heard : List Mail)
-        → KeepsOn (W.describes wire.old) W.fits wire.old wire.new lane.old lane.new heard heard }
+        → KeepsOn (W.describes wire.old) W.fits wire.old wire.new lane.old.state lane.new.state heard heard }
 {
     if lane.held() < lane.max_held() {
         return Ok(());
@@ -38,14 +38,14 @@ fn make_place<W: Wire, P: Pace>(
 // Takes one message from the queue into the lane, where there is room. Without memory for it the lane is
 // as before.
 fn take_message<R: Wait>(rt: &R, take: &mut LaneTake, lane: &mut Lane) -> Result<(), LaneEndKind>
-    requires room { length lane.old.core.held < lane.old.config.max_held }
-    requires senders { length lane.old.closed ≡ take.old.senders }
-    requires closed { KnowsClosed lane.old.closed take.old.taken }
-    requires rest { IsAtRest lane.old }
+    requires room { length lane.old.state.core.held < lane.old.state.config.max_held }
+    requires senders { length lane.old.state.closed ≡ take.old.senders }
+    requires closed { KnowsClosed lane.old.state.closed take.old.taken }
+    requires rest { IsAtRest lane.old.state }
     ensures same { (take.new.queue ≡ take.old.queue) × (take.new.senders ≡ take.old.senders) }
-    ensures rest { IsAtRest lane.new }
-    ensures takes { OnOk result (Takes lane.old lane.new take.old.taken take.new.taken) }
-    ensures unchanged { OnErr result (lane.new ≡ lane.old) }
+    ensures rest { IsAtRest lane.new.state }
+    ensures takes { OnOk result (Takes lane.old.state lane.new.state take.old.taken take.new.taken) }
+    ensures unchanged { OnErr result (lane.new.state ≡ lane.old.state) }
     ensures early { IfErr result (λ kind. kind ≢ LaneEndKind.Finished) }
     ensures heard { IfErr result (λ kind. Heard kind take.new.taken take.old.taken) }
 {
@@ -62,15 +62,15 @@ fn take_message<R: Wait>(rt: &R, take: &mut LaneTake, lane: &mut Lane) -> Result
 
 // Works until nothing is held.
 fn drain_all<W: Wire, P: Pace>(lane: &mut Lane, wire: &mut W, pace: &mut P) -> LaneEndKind
-    requires closed { all_closed lane.old ≡ true }
-    requires rest { IsAtRest lane.old }
+    requires closed { all_closed lane.old.state ≡ true }
+    requires rest { IsAtRest lane.old.state }
     requires out { W.out wire.old ≡ [] }
     ensures early { result ≢ LaneEndKind.Gone }
-    ensures none { result ≡ LaneEndKind.Finished → lane.new.core.held ≡ [] }
-    ensures closed { lane.new.closed ≡ lane.old.closed }
+    ensures none { result ≡ LaneEndKind.Finished → lane.new.state.core.held ≡ [] }
+    ensures closed { lane.new.state.closed ≡ lane.old.state.closed }
     ensures out { W.out wire.new ≡ [] }
     ensures keeps { (heard : List Mail)
-        → KeepsOn (W.describes wire.old) W.fits wire.old wire.new lane.old lane.new heard heard }
+        → KeepsOn (W.describes wire.old) W.fits wire.old wire.new lane.old.state lane.new.state heard heard }
 {
     match drain(lane, wire, pace) {
         Ok(()) => LaneEndKind::Finished,
@@ -86,19 +86,19 @@ fn take_next<R: Wait, W: Wire, P: Pace>(
     wire: &mut W,
     pace: &mut P,
 ) -> Result<(), LaneEndKind>
-    requires rest { IsAtRest lane.old }
-    requires senders { length lane.old.closed ≡ take.old.senders }
-    requires closed { KnowsClosed lane.old.closed take.old.taken }
+    requires rest { IsAtRest lane.old.state }
+    requires senders { length lane.old.state.closed ≡ take.old.senders }
+    requires closed { KnowsClosed lane.old.state.closed take.old.taken }
     requires out { W.out wire.old ≡ [] }
     ensures same { (take.new.queue ≡ take.old.queue) × (take.new.senders ≡ take.old.senders) }
     ensures out { W.out wire.new ≡ [] }
     ensures describes { W.describes wire.new ≡ W.describes wire.old }
     ensures ok { OnOk result
-        (KeepsOn (W.describes wire.old) W.fits wire.old wire.new lane.old lane.new take.old.taken take.new.taken) }
+        (KeepsOn (W.describes wire.old) W.fits wire.old wire.new lane.old.state lane.new.state take.old.taken take.new.taken) }
     ensures early { IfErr result (λ kind. kind ≢ LaneEndKind.Finished) }
-    ensures same_closed { IfErr result (λ kind. kind ≡ LaneEndKind.Gone → lane.new.closed ≡ lane.old.closed) }
+    ensures same_closed { IfErr result (λ kind. kind ≡ LaneEndKind.Gone → lane.new.state.closed ≡ lane.old.state.closed) }
     ensures stopped { IfErr result (λ kind. (heard : List Mail) × Heard kind take.new.taken heard
-        × KeepsOn (W.describes wire.old) W.fits wire.old wire.new lane.old lane.new take.old.taken heard) }
+        × KeepsOn (W.describes wire.old) W.fits wire.old wire.new lane.old.state lane.new.state take.old.taken heard) }
 {
     if make_place(lane, wire, pace).is_err() {
         return Err(LaneEndKind::Memory);
@@ -121,20 +121,20 @@ fn take_all<R: Wait, W: Wire, P: Pace>(
     wire: &mut W,
     pace: &mut P,
 ) -> Result<(), LaneEndKind>
-    requires fresh { lane.old ≡ fresh lane.old.config }
-    requires senders { take.old.senders ≡ lane.old.config.producers + 1 }
+    requires fresh { lane.old.state ≡ fresh lane.old.state.config }
+    requires senders { take.old.senders ≡ lane.old.state.config.producers + 1 }
     requires none_taken { take.old.taken ≡ [] }
     requires out { W.out wire.old ≡ [] }
     ensures same { (take.new.queue ≡ take.old.queue) × (take.new.senders ≡ take.old.senders) }
     ensures out { W.out wire.new ≡ [] }
     ensures describes { W.describes wire.new ≡ W.describes wire.old }
-    ensures closed { OnOk result (all_closed lane.new ≡ true) }
+    ensures closed { OnOk result (all_closed lane.new.state ≡ true) }
     ensures ok { OnOk result
-        (Course (W.describes wire.old) W.fits wire.old wire.new lane.old.config take.new.taken lane.new) }
+        (Course (W.describes wire.old) W.fits wire.old wire.new lane.old.state.config take.new.taken lane.new.state) }
     ensures early { IfErr result (λ kind. kind ≢ LaneEndKind.Finished) }
-    ensures not_closed { IfErr result (λ kind. kind ≡ LaneEndKind.Gone → all_closed lane.new ≡ false) }
+    ensures not_closed { IfErr result (λ kind. kind ≡ LaneEndKind.Gone → all_closed lane.new.state ≡ false) }
     ensures stopped { IfErr result (λ kind. (heard : List Mail) × Heard kind take.new.taken heard
-        × Course (W.describes wire.old) W.fits wire.old wire.new lane.old.config heard lane.new) }
+        × Course (W.describes wire.old) W.fits wire.old wire.new lane.old.state.config heard lane.new.state) }
 {
     'messages: for _ in rt.forever() {
         if lane.closed() {
@@ -156,13 +156,13 @@ fn work<R: Wait, W: Wire, P: Pace>(
     wire: &mut W,
     pace: &mut P,
 ) -> LaneEndKind
-    requires fresh { lane.old ≡ fresh lane.old.config }
-    requires senders { take.old.senders ≡ lane.old.config.producers + 1 }
+    requires fresh { lane.old.state ≡ fresh lane.old.state.config }
+    requires senders { take.old.senders ≡ lane.old.state.config.producers + 1 }
     requires none_taken { take.old.taken ≡ [] }
     requires out { W.out wire.old ≡ [] }
     ensures same { (take.new.queue ≡ take.old.queue) × (take.new.senders ≡ take.old.senders) }
     ensures out { W.out wire.new ≡ [] }
-    ensures ends { EndsAs (W.describes wire.old) W.fits wire.old wire.new lane.old.config take.new.taken result lane.new }
+    ensures ends { EndsAs (W.describes wire.old) W.fits wire.old wire.new lane.old.state.config take.new.taken result lane.new.state }
 {
     match take_all(rt, take, lane, wire, pace) {
         Ok(()) => drain_all(lane, wire, pace),
@@ -185,15 +185,15 @@ pub fn run_lane<R: Wait, W: Wire, P: Pace + Drop>(
     wire: W,
     pace: P,
 ) -> LaneEnd<W>
-    requires fresh { lane ≡ fresh lane.config }
-    requires senders { take.senders ≡ lane.config.producers + 1 }
+    requires fresh { lane.state ≡ fresh lane.state.config }
+    requires senders { take.senders ≡ lane.state.config.producers + 1 }
     requires none_taken { take.taken ≡ [] }
     requires out { W.out wire ≡ [] }
     ensures queue { result.taken.queue ≡ take.queue }
     ensures senders { result.taken.senders ≡ take.senders }
     ensures well_taken { IsWellTaken result.taken.senders result.taken.taken }
     ensures out { W.out result.wire ≡ [] }
-    ensures ends { EndsAs (W.describes wire) W.fits wire result.wire lane.config result.taken.taken result.kind result.lane }
+    ensures ends { EndsAs (W.describes wire) W.fits wire result.wire lane.state.config result.taken.taken result.kind result.lane.state }
     ensures closed { result.kind ≡ LaneEndKind.Finished
         → (sender : ℕ) → sender < take.senders → HasDone (mail_of sender result.taken.taken) }
 {

@@ -90,6 +90,7 @@ where
 // The handles of the senders, each over its ends of all queues.
 fn deal(
     alloc: Global,
+    epoch: u32,
     count: u32,
     columns: Vec<Vec<LanePut>>,
 ) -> Result<(Vec<Producer>, Control), AllocError>
@@ -98,7 +99,7 @@ fn deal(
     ensures count { IfOk result (λ r. vec_len r.0 ≡ count) }
     ensures producers { IfOk result (λ r. (queues : List Queue)
         → map (λ c. c.items) columns.items ≡ map (λ q. fresh_puts q (count + 1)) queues
-        → AreNew queues 0 r.0.items) }
+        → AreNew queues epoch 0 r.0.items) }
     ensures control { IfOk result (λ r. (queues : List Queue)
         → map (λ c. c.items) columns.items ≡ map (λ q. fresh_puts q (count + 1)) queues
         → r.1 ≡ new_control queues count) }
@@ -110,7 +111,7 @@ fn deal(
     while left > 0 {
         left -= 1;
         let puts = pop_each(alloc, &mut columns)?;
-        let producer = Producer::new(alloc, left, puts)?;
+        let producer = Producer::new(alloc, epoch, left, puts)?;
         producers.insert(0, producer)?;
     }
     Ok((producers, control))
@@ -134,7 +135,7 @@ where
     requires paces { vec_len paces ≡ config.lanes }
     ensures config { IfOk result (λ r. r.0.config ≡ config) }
     ensures wires { IfOk result (λ r. r.0.wires ≡ wires.items) }
-    ensures producers { IfOk result (λ r. AreNew r.0.queues 0 r.1.items) }
+    ensures producers { IfOk result (λ r. AreNew r.0.queues config.epoch 0 r.1.items) }
     ensures count { IfOk result (λ r. vec_len r.1 ≡ config.producers) }
     ensures control { IfOk result (λ r. r.2 ≡ new_control r.0.queues config.producers) }
     ensures late { IfErr result (λ e. (e ≡ StartFault.Memory) ⊎ (e ≡ StartFault.Thread)) }
@@ -145,7 +146,7 @@ where
         Ok(made) => made,
         Err(fault) => return Err(fault),
     };
-    let (producers, control) = deal(alloc, config.producers, columns)?;
+    let (producers, control) = deal(alloc, config.epoch, config.producers, columns)?;
     let relay = Relay {
         alloc,
         config,
@@ -175,7 +176,7 @@ impl<W: Wire + Drop + Send + 'static> Relay<W> {
         requires { NoneOut W.out wires.items }
         ensures config { IfOk result (λ r. r.0.config ≡ config) }
         ensures wires { IfOk result (λ r. r.0.wires ≡ wires.items) }
-        ensures producers { IfOk result (λ r. AreNew r.0.queues 0 r.1.items) }
+        ensures producers { IfOk result (λ r. AreNew r.0.queues config.epoch 0 r.1.items) }
         ensures count { IfOk result (λ r. vec_len r.1 ≡ config.producers) }
         ensures control { IfOk result (λ r. r.2 ≡ new_control r.0.queues config.producers) }
         ensures bad_config { IsErrAnd result (λ e. e ≡ StartFault.BadConfig)

@@ -45,7 +45,7 @@ where
     R: Threads + Wait + Copy + Send + 'static,
     W: Wire + Drop + Send + 'static,
     P: Pace + Drop + Send + 'static,
-    requires fresh { lane ≡ fresh config }
+    requires fresh { lane.state ≡ fresh config }
     requires senders { take.senders ≡ config.producers + 1 }
     requires none_taken { take.taken ≡ [] }
     requires out { W.out wire ≡ [] }

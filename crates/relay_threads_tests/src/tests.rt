@@ -26,7 +26,8 @@ const CONFIG: RelayConfig = RelayConfig {
     },
     attempts: 3,
     in_flight: 1,
-    first_version: 1,
+    epoch: 0,
+    deal: 1_099_511_627_775,
 };
 
 // An operation as a message.
@@ -34,6 +35,7 @@ fn body_of(alloc: Global, producer: u32, number: u64) -> Option<Body>
     ensures { IfSome result (λ b. b ≢ Body.Done) }
 {
     Some(Body::Put(Op {
+        epoch: 0,
         producer,
         number,
         key: key_of(alloc, producer, number)?,

@@ -8,7 +8,7 @@ messages-init g c = record {
   senders = refl;
   out = c.requires.out;
   describes = refl;
-  course = begins_as (g.W.Wire.describes c.args.wire.now) g.W.Wire.fits c.args.wire.now c.args.lane.now.config c.args.take.now.taken c.args.lane.now c.requires.none_taken c.requires.fresh;
+  course = begins_as (g.W.Wire.describes c.args.wire.now) g.W.Wire.fits c.args.wire.now c.args.lane.now.state.config c.args.take.now.taken c.args.lane.now.state c.requires.none_taken c.requires.fresh;
 }
 
 pub messages-preserved : goal.messages-preserved
@@ -20,7 +20,7 @@ messages-preserved g c =
       out = c.take_next.ensures.out;
       describes = c.take_next.ensures.describes ∙ i.describes;
       course =
-          course_on (g.W.Wire.describes c.args.wire.now) (g.W.Wire.describes c.messages.wire) g.W.Wire.fits c.args.wire.now c.messages.wire c.take_next.new.wire c.args.lane.now.config c.messages.lane c.take_next.new.lane
+          course_on (g.W.Wire.describes c.args.wire.now) (g.W.Wire.describes c.messages.wire) g.W.Wire.fits c.args.wire.now c.messages.wire c.take_next.new.wire c.args.lane.now.state.config c.messages.lane.state c.take_next.new.lane.state
           c.messages.take.taken c.take_next.new.take.taken i.describes i.course c.in-Ok.ensures.ok;
     }
 
@@ -30,5 +30,5 @@ returns-in-Err-clause-stopped g c =
     let x = c.in-Err.ensures.stopped in (
       x.0,
       x.1,
-      course_on (g.W.Wire.describes c.args.wire.now) (g.W.Wire.describes c.messages.wire) g.W.Wire.fits c.args.wire.now c.messages.wire c.take_next.new.wire c.args.lane.now.config c.messages.lane c.take_next.new.lane c.messages.take.taken x.0 i.describes i.course x.2,
+      course_on (g.W.Wire.describes c.args.wire.now) (g.W.Wire.describes c.messages.wire) g.W.Wire.fits c.args.wire.now c.messages.wire c.take_next.new.wire c.args.lane.now.state.config c.messages.lane.state c.take_next.new.lane.state c.messages.take.taken x.0 i.describes i.course x.2,
     )

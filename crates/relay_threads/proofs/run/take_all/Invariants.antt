@@ -8,5 +8,5 @@ invariant-messages g l = record {
   senders : l.take.senders ≡ l.fn.take.senders;
   out : g.W.Wire.out l.wire ≡ [];
   describes : g.W.Wire.describes l.wire ≡ g.W.Wire.describes l.fn.wire;
-  course : Course (g.W.Wire.describes l.fn.wire) g.W.Wire.fits l.fn.wire l.wire l.fn.lane.config l.take.taken l.lane;
+  course : Course (g.W.Wire.describes l.fn.wire) g.W.Wire.fits l.fn.wire l.wire l.fn.lane.state.config l.take.taken l.lane.state;
 }

@@ -13,11 +13,11 @@ returns-in-Err-clause-stopped g c =
     let fits = g.W.Wire.fits in
     let a = c.args.take.now.taken in
     let v = c.make_place.new.wire in
-    let s = c.make_place.new.lane in (
+    let s = c.make_place.new.lane.state in (
       a,
       c.in-Err.ensures.heard,
-      keeps_on (d c.args.wire.now) (d v) fits c.args.wire.now v v c.args.lane.now s c.take_message.new.lane a a a c.make_place.ensures.describes (c.make_place.ensures.keeps a)
-          (stays_as (d v) fits v v s c.take_message.new.lane a (λ i. v) c.in-Err.ensures.unchanged),
+      keeps_on (d c.args.wire.now) (d v) fits c.args.wire.now v v c.args.lane.now.state s c.take_message.new.lane.state a a a c.make_place.ensures.describes (c.make_place.ensures.keeps a)
+          (stays_as (d v) fits v v s c.take_message.new.lane.state a (λ i. v) c.in-Err.ensures.unchanged),
     )
 
 pub returns-in-Ok-pump-clause-ok : goal.returns-in-Ok-pump-clause-ok
@@ -27,11 +27,11 @@ returns-in-Ok-pump-clause-ok g c =
     let a = c.args.take.now.taken in
     let b = c.take_message.new.take.taken in
     let v = c.make_place.new.wire in
-    let s = c.make_place.new.lane in
-    let t = c.take_message.new.lane in
-    keeps_on (d c.args.wire.now) (d v) fits c.args.wire.now v c.pump.new.wire c.args.lane.now t c.pump.new.lane a b b c.make_place.ensures.describes
-    (keeps_on (d c.args.wire.now) (d v) fits c.args.wire.now v v c.args.lane.now s t a a b c.make_place.ensures.describes (c.make_place.ensures.keeps a) (takes (d v) fits v s t a b c.in-Ok.ensures.takes))
-    (works (d v) fits always v c.pump.new.wire t c.pump.new.lane b c.pump.ensures.worked c.pump.ensures.stays c.pump.ensures.rest c.pump.ensures.delivers)
+    let s = c.make_place.new.lane.state in
+    let t = c.take_message.new.lane.state in
+    keeps_on (d c.args.wire.now) (d v) fits c.args.wire.now v c.pump.new.wire c.args.lane.now.state t c.pump.new.lane.state a b b c.make_place.ensures.describes
+    (keeps_on (d c.args.wire.now) (d v) fits c.args.wire.now v v c.args.lane.now.state s t a a b c.make_place.ensures.describes (c.make_place.ensures.keeps a) (takes (d v) fits v s t a b c.in-Ok.ensures.takes))
+    (works (d v) fits always v c.pump.new.wire t c.pump.new.lane.state b c.pump.ensures.worked c.pump.ensures.stays c.pump.ensures.rest c.pump.ensures.delivers)
 
 pub returns-in-Err-pump-clause-stopped : goal.returns-in-Err-pump-clause-stopped
 returns-in-Err-pump-clause-stopped g c =
@@ -40,11 +40,11 @@ returns-in-Err-pump-clause-stopped g c =
     let a = c.args.take.now.taken in
     let b = c.take_message.new.take.taken in
     let v = c.make_place.new.wire in
-    let s = c.make_place.new.lane in
-    let t = c.take_message.new.lane in (
+    let s = c.make_place.new.lane.state in
+    let t = c.take_message.new.lane.state in (
       b,
       heard_all Memory b,
-      keeps_on (d c.args.wire.now) (d v) fits c.args.wire.now v c.pump.new.wire c.args.lane.now t c.pump.new.lane a b b c.make_place.ensures.describes
-          (keeps_on (d c.args.wire.now) (d v) fits c.args.wire.now v v c.args.lane.now s t a a b c.make_place.ensures.describes (c.make_place.ensures.keeps a) (takes (d v) fits v s t a b c.in-Ok.ensures.takes))
-          (works (d v) fits always v c.pump.new.wire t c.pump.new.lane b c.pump.ensures.worked c.pump.ensures.stays c.pump.ensures.rest c.pump.ensures.delivers),
+      keeps_on (d c.args.wire.now) (d v) fits c.args.wire.now v c.pump.new.wire c.args.lane.now.state t c.pump.new.lane.state a b b c.make_place.ensures.describes
+          (keeps_on (d c.args.wire.now) (d v) fits c.args.wire.now v v c.args.lane.now.state s t a a b c.make_place.ensures.describes (c.make_place.ensures.keeps a) (takes (d v) fits v s t a b c.in-Ok.ensures.takes))
+          (works (d v) fits always v c.pump.new.wire t c.pump.new.lane.state b c.pump.ensures.worked c.pump.ensures.stays c.pump.ensures.rest c.pump.ensures.delivers),
     )

@@ -4,10 +4,10 @@ use Rattle.relay_threads.proofs.run.work.Goals as goal
 pub returns-in-Ok-clause-ends : goal.returns-in-Ok-clause-ends
 returns-in-Ok-clause-ends g c =
     let t = c.take_all.new in
-    ends_drained (g.W.Wire.describes c.args.wire.now) g.W.Wire.fits c.args.wire.now t.wire c.drain_all.new.wire c.args.lane.now.config t.take.taken c.drain_all.result t.lane c.drain_all.new.lane
+    ends_drained (g.W.Wire.describes c.args.wire.now) g.W.Wire.fits c.args.wire.now t.wire c.drain_all.new.wire c.args.lane.now.state.config t.take.taken c.drain_all.result t.lane.state c.drain_all.new.lane.state
     (g.W.Wire.describes t.wire) c.take_all.ensures.describes c.in-Ok.ensures.ok (c.drain_all.ensures.keeps t.take.taken) c.in-Ok.ensures.closed c.drain_all.ensures.closed c.drain_all.ensures.none c.drain_all.ensures.early
 
 pub returns-in-Err-clause-ends : goal.returns-in-Err-clause-ends
 returns-in-Err-clause-ends g c =
     let t = c.take_all.new in
-    ends_early (g.W.Wire.describes c.args.wire.now) g.W.Wire.fits c.args.wire.now t.wire c.args.lane.now.config t.take.taken c.in-Err.kind t.lane c.in-Err.ensures.early c.in-Err.ensures.not_closed c.in-Err.ensures.stopped
+    ends_early (g.W.Wire.describes c.args.wire.now) g.W.Wire.fits c.args.wire.now t.wire c.args.lane.now.state.config t.take.taken c.in-Err.kind t.lane.state c.in-Err.ensures.early c.in-Err.ensures.not_closed c.in-Err.ensures.stopped

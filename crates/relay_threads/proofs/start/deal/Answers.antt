@@ -52,7 +52,7 @@ loop-left-preserved c =
       dealt = λ q is.
           let d = i.dealt q is in
           let one = deals_left (c.loop-left.left - 1) c.loop-left.left q _ _ _ at d.columns_left c.in_ok-puts.ensures in
-          deals_on q _ c.in_ok-puts.puts.items c.loop-left.left (c.loop-left.left - 1) c.in_ok-producer.producer _ _ at one d.new_ones c.in_ok-producer.ensures.state c.in_ok-insert.ensures.items;
+          deals_on q c.args.epoch _ c.in_ok-puts.puts.items c.loop-left.left (c.loop-left.left - 1) c.in_ok-producer.producer _ _ at one d.new_ones c.in_ok-producer.ensures.state c.in_ok-insert.ensures.items;
     }
 
 pub returns-clause-control : goal.returns-clause-control
