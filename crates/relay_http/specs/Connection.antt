@@ -1,5 +1,5 @@
 -- A connection, as its callers see it.
-use Rattle.std.specs.Prelude.{ℕ, List, [], Bool, true, false, Option, Some, None, Result, Ok, Err, if◌then◌else◌}
+use Rattle.std.specs.Prelude.{◌≡◌, ℕ, List, [], Bool, true, false, Option, Some, None, Result, Ok, Err, if◌then◌else◌}
 use Rattle.std.specs.Io.KnownBytes.{prepend_known}
 use Rattle.relay_action.specs.Streams.{one_more}
 use Rattle.relay_http.specs.declared.fault.HttpFault.{HttpFault}
@@ -21,6 +21,12 @@ pub record Connection : Type 0 where
 -- the bytes that stand: those that were read and not used, and those that the stream has left
 abbrev pub ahead : Connection → Option (List ℕ)
 ahead c = prepend_known c.held c.left
+
+-- Nothing is ahead that nobody asked for: no byte was read beyond the messages so far, and the stream shows neither bytes
+-- that it has left nor its end. A stream that shows its bytes shows one or the other.
+pub record IsQuiet (c : Connection) : Type 0 where
+  pub held : c.held ≡ []
+  pub left : c.left ≡ None
 
 -- before its first call
 abbrev pub fresh : Option (List ℕ) → Option (List ℕ) → ℕ → Connection

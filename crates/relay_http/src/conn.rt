@@ -8,12 +8,13 @@ ghost use Rattle.relay_http.specs.Request.{IsRequest, RequestPasses, RequestStat
 ghost use Rattle.relay_http.specs.Window.{window_size};
 ghost use Rattle.relay_http.specs.WrittenAnswer.{IsAnswerStatus, answer};
 ghost use Rattle.relay_http.specs.WrittenRequest.{is_host, request, Sends};
-ghost use Rattle.relay_http.specs.Connection.{ahead, fresh, is_open, is_broken, after_reply, after_request, after_write, failed_reading, failed_writing};
+ghost use Rattle.relay_http.specs.Connection.{ahead, fresh, IsQuiet, is_open, is_broken, after_reply, after_request, after_write, failed_reading, failed_writing};
 ghost use Rattle.relay_http.specs.declared.fault.HttpFault.{HttpFault};
 
 use crate::buffered::Buffered;
 use crate::fault::HttpFault;
 use crate::message::{gather_answer, gather_request, send};
+use crate::peek::Peek;
 use crate::phase::Phase;
 use crate::reply::HttpReply;
 use crate::request::HttpRequest;
@@ -88,6 +89,16 @@ impl<S: ByteStream> Conn<S> {
         ensures failed { S.failed result ≡ self.failed }
     {
         self.bytes.stream
+    }
+}
+
+impl<S: Peek> Conn<S> {
+    /// Whether nothing is ahead that nobody asked for: no byte was read beyond the messages so far, and
+    /// neither a byte nor the end of the stream came since. It does not wait, and it reads nothing.
+    pub fn is_quiet(&self) -> bool
+        ensures { IsTrue result → IsQuiet self.now }
+    {
+        self.held() == 0 && self.bytes.stream.is_quiet()
     }
 }
 
