@@ -1,7 +1,7 @@
 -- Connections that may carry further messages.
-use Rattle.std.proofs.Common.{◌≡◌, ℕ, List, [], ◌∷◌, ◌++◌, Some, None, Bool, true, false, Ok, Err, IsTrue, refl, sym, subst, ap, ◌∙◌, inl, inr}
+use Rattle.std.proofs.Common.{◌≡◌, ℕ, List, [], ◌∷◌, ◌++◌, append_assoc, arith, Some, None, Bool, true, false, Ok, Err, IsTrue, refl, subst, ap, ◌∙◌, inl, inr}
 use Rattle.std.proofs.lemmas.Bool.Decides.{eqb_tells}
-use Rattle.std.specs.Prelude.{if◌then◌else◌}
+use Rattle.std.specs.Prelude.{if◌then◌else◌, ◌==◌, ◌&&◌, length}
 use Rattle.relay_action.specs.Streams.{one_more}
 use Rattle.relay_action.specs.declared.write.Write.{Write}
 use Rattle.relay_http.specs.Connection.{Connection, fresh, is_open, phase_of, after_reply}
@@ -9,15 +9,16 @@ use Rattle.relay_http.specs.declared.reply.HttpReply.{HttpReply}
 use Rattle.relay_lane.specs.declared.wire.WireFault.{WireFault}
 use Rattle.relay_lane.specs.declared.wire.WireFault.TheVariants as fault
 use Rattle.relay_wires.specs.Numbered.{found, besides}
-use Rattle.relay_wires.specs.Carriers.{Carrier, AllOpen, AllOutOpen, PicksOne, Carries}
+use Rattle.relay_wires.specs.Carriers.{Carrier, AllFree, IsFree, AllOutOpen, PicksOne, Carries}
 
-pub open_push : (cs : List Connection) (c : Connection) → AllOpen cs → IsTrue (is_open c.phase) → AllOpen (cs ++ c ∷ [])
-open_push [] c all lasts = (lasts, tt)
-open_push (x ∷ xs) c all lasts = (all.0, open_push xs c all.1 lasts)
+pub free_push : (cs : List Connection) (c : Connection) → AllFree cs → IsFree c → AllFree (cs ++ c ∷ [])
+free_push [] c all last = (last, tt)
+free_push (x ∷ xs) c all last = (all.0, free_push xs c all.1 last)
 
-pub open_last : (cs : List Connection) (c : Connection) → AllOpen (cs ++ c ∷ []) → AllOpen cs × IsTrue (is_open c.phase)
-open_last [] c all = (tt, all.0)
-open_last (x ∷ xs) c all = let rest = open_last xs c all.1 in ((all.0, rest.0), rest.1)
+-- those before a free connection are free, and so is it
+pub free_before : (cs ds : List Connection) (c : Connection) → AllFree (cs ++ (c ∷ ds)) → AllFree cs × IsFree c
+free_before [] ds c all = (tt, all.0)
+free_before (x ∷ xs) ds c all = let rest = free_before xs ds c all.1 in ((all.0, rest.0), rest.1)
 
 pub open_found : (n : ℕ) (es : List (ℕ × Connection)) (c : Connection) → AllOutOpen es → found n es ≡ Some c → IsTrue (is_open c.phase)
 open_found n [] c all is = absurd (cc)
@@ -37,27 +38,44 @@ open_besides n (e ∷ es) all = elim (eqb_tells e.0 n) [
   | inr apart ↦ let other = apart.0 in rw other (all.0, open_besides n es all.1)
 ]
 
--- a connection that is free after a reply may carry further messages
-pub open_freed : (reply : HttpReply) (d : Connection) (free : List Connection) → d.phase ≡ after_reply (Ok reply) → AllOpen free → AllOpen (if reply.keep then free ++ d ∷ [] else free)
-open_freed reply d free is all = by reply.keep (is)
+-- a connection that is free after a reply may carry further messages, and holds no byte
+pub free_freed : (reply : HttpReply) (d : Connection) (free : List Connection) → d.phase ≡ after_reply (Ok reply) → AllFree free
+    → AllFree (if reply.keep && (length d.held == 0) then free ++ d ∷ [] else free)
+free_freed reply d free is all = elim (eqb_tells (length d.held) 0) [
+  | inl same ↦ let none = same.0 in rw none (by reply.keep is (no_bytes d.held same.1))
+  | inr apart ↦ let some = apart.0 in rw some (without reply.keep)
+]
   where
-    by : (k : Bool) → d.phase ≡ phase_of k → AllOpen (if k then free ++ d ∷ [] else free)
-    by true e = open_push free d all (ap is_open e)
-    by false e = all
+    no_bytes : (held : List ℕ) → length held ≡ 0 → held ≡ []
+    no_bytes [] e = refl
+    no_bytes (b ∷ bytes) e = absurd (omega arith)
+
+    by : (k : Bool) → d.phase ≡ phase_of k → d.held ≡ [] → AllFree (if k && true then free ++ d ∷ [] else free)
+    by true e h = free_push free d all (record { lasts = ap is_open e; clear = h })
+    by false e h = all
+
+    without : (k : Bool) → AllFree (if k && false then free ++ d ∷ [] else free)
+    without true = all
+    without false = all
 
 -- ---- a connection that could not be had
 
 pub pick_fails : (number : ℕ) (ws : List Write) (host : List ℕ) (most : ℕ) (out : List (ℕ × Connection)) (free later : List Connection) (failed counted : ℕ) (f : WireFault)
     → PicksOne free later failed counted (Err f)
     → Carries number ws (record { host = host; most = most; out = out; free = free; failed = failed }) (record { host = host; most = most; out = out; free = later; failed = counted }) (Err f)
-pick_fails number ws host most out free later failed counted fault.Send p = inr (inl (p.0, same (p.1 ∙ sym p.0) p.2))
+pick_fails number ws host most out free later failed counted fault.Send p = inr (inl (same p.0 p.1))
   where
     of : List Connection → ℕ → Carrier
     of x n = record { host = host; most = most; out = out; free = x; failed = n }
 
-    same : later ≡ free → counted ≡ one_more failed → of later counted ≡ of free (one_more failed)
-    same a b = ap (λ x. of x counted) a ∙ ap (of free) b
+    same : later ≡ [] → counted ≡ one_more failed → of later counted ≡ of [] (one_more failed)
+    same a b = ap (λ x. of x counted) a ∙ ap (of []) b
 pick_fails number ws host most out free later failed counted fault.Lost p = absurd p
 pick_fails number ws host most out free later failed counted fault.Unreadable p = absurd p
 pick_fails number ws host most out free later failed counted fault.Memory p =
-    (fresh None None 0, inr (p.0, p.1, (None, None, 0, refl)), ap (λ n. record { host = host; most = most; out = out; free = later; failed = n }) p.2)
+    (fresh None None 0, inr (p.0, (None, None, 0, refl)), ap (λ n. record { host = host; most = most; out = out; free = later; failed = n }) p.1)
+
+-- ---- free connections that are looked at, the one freed last first
+
+pub dropped_before : (old now later dropped : List Connection) (c : Connection) → old ≡ now ++ dropped → now ≡ later ++ c ∷ [] → old ≡ later ++ (c ∷ dropped)
+dropped_before old now later dropped c was is = was ∙ ap (λ x. x ++ dropped) is ∙ append_assoc later (c ∷ []) dropped

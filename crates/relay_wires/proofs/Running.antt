@@ -1,7 +1,7 @@
 -- Requests that an index serves, as runs of the outside.
 use Rattle.std.proofs.Common.{◌≡◌, ℕ, suc, zero, ◌+◌, ◌<◌, ◌≤◌, List, [], ◌∷◌, ◌++◌, length, take, Some, Bool, true, false, Result, Ok, Err, refl, sym, ap, ◌∙◌, subst, arith, inl, inr, ⊎_elim}
 use Rattle.std.proofs.Math.Seq.{take-length}
-use Rattle.std.specs.Prelude.{slice_get, option_and_then}
+use Rattle.std.specs.Prelude.{◌⊎◌, ◌≢◌, slice_get, option_and_then}
 use Rattle.relay_action.specs.declared.write.Write.{Write}
 use Rattle.relay_ndjson.specs.Bodies.{AreDealt, IsBulk}
 use Rattle.relay_ndjson.specs.Bulk.{text_of}
@@ -19,8 +19,8 @@ use Rattle.relay_results.proofs.Lists.{Mem-left, Mem-last}
 use Rattle.relay_results.proofs.Steps.{step_runs_item}
 use Rattle.relay_index.specs.States.{State, stored}
 use Rattle.relay_index.specs.Runs.{Shows, outcome_of_run}
-use Rattle.relay_index.specs.Plans.{choice_at, stepped}
-use Rattle.relay_index.specs.Serving.{Server, Answer, under, RunsAll, RunsFirst, Replies, Answers, StopsAfter}
+use Rattle.relay_index.specs.Plans.{choice_at, takes, stepped}
+use Rattle.relay_index.specs.Serving.{Server, Answer, under, too_large_text, RunsAll, RunsFirst, Replies, Answers, StopsAfter}
 use Rattle.relay_index.proofs.Ran.{run_is_of_outside}
 use Rattle.relay_index.proofs.Repeated.{scripts_may}
 use Rattle.relay_lane.specs.declared.wire.WireReply.{WireReply}
@@ -32,7 +32,7 @@ use Rattle.relay_http.specs.Framing.{reply_limit}
 use Rattle.relay_http.specs.Reply.{Reply}
 use Rattle.relay_http.specs.WrittenAnswer.{IsAnswerStatus}
 use Rattle.relay_wires.specs.Told.{Tells}
-use Rattle.relay_wires.specs.Loops.{Stops, Serves, Reads, Exchanged}
+use Rattle.relay_wires.specs.Loops.{Stops, Serves, IsRefused, Served, Reads, ReadsWhole, Exchanged}
 
 -- ---- runs one after another
 
@@ -154,12 +154,15 @@ ran_front n ws old new o sent shows s =
 
 -- ---- what the index's end serves
 
-pub serves_all : (ws : List Write) (body : List ℕ) (old new : Server) (a : Answer) → AreDealt ws → body ≡ text_of ws → Answers body old a new → Serves ws old new a.status a.text
+pub serves_all : (ws : List Write) (body : List ℕ) (old new : Server) (a : Answer) → AreDealt ws → body ≡ text_of ws → Answers body old a new → Served ws old new a.status a.text
 serves_all ws body old new a dealt is answers =
     let bulk : IsBulk body ws = subst (λ b. IsBulk b ws) (sym is) (bulk_text_is_bulk ws dealt) in
-    ⊎_elim {C = Serves ws old new a.status a.text}
-    (λ s. record { success = s.success; replies = subst (λ vs. Replies old vs a.text new) (one_bulk body s.writes ws s.reads bulk) s.replies })
+    ⊎_elim {C = Served ws old new a.status a.text}
+    (λ s. inl (record { success = s.success; replies = subst (λ vs. Replies old vs a.text new) (one_bulk body s.writes ws s.reads bulk) s.replies }))
+    (λ z. ⊎_elim {C = Served ws old new a.status a.text}
     (λ r. absurd (no_fault_in_bulk body ws r.line r.kind bulk r.breaks))
+    (λ r. inr (record { over = subst (λ b. takes old.script (length b) ≡ false) is r.over; failure = r.too_large.failure; says = r.too_large.text_of; stays = r.stays }))
+    z)
     answers
 
 -- either status of an answer is one that an answer may have
@@ -167,7 +170,10 @@ pub answer_status : (body : List ℕ) (old new : Server) (a : Answer) → Answer
 answer_status body old new a answers =
     let good : IsAnswerStatus 200 = (omega arith, omega arith, λ e. omega arith, λ e. omega arith) in
     let bad : IsAnswerStatus 400 = (omega arith, omega arith, λ e. omega arith, λ e. omega arith) in
-    ⊎_elim {C = IsAnswerStatus a.status} (λ s. subst IsAnswerStatus (sym s.success) good) (λ r. subst IsAnswerStatus (sym r.failure) bad) answers
+    let large : IsAnswerStatus 413 = (omega arith, omega arith, λ e. omega arith, λ e. omega arith) in
+    ⊎_elim {C = IsAnswerStatus a.status} (λ s. subst IsAnswerStatus (sym s.success) good)
+    (λ z. ⊎_elim {C = IsAnswerStatus a.status} (λ r. subst IsAnswerStatus (sym r.failure) bad) (λ r. subst IsAnswerStatus (sym r.too_large.failure) large) z)
+    answers
 
 pub stops : (ran : ℕ) (ws : List Write) (body : List ℕ) (old new : Server) → AreDealt ws → body ≡ text_of ws → StopsAfter ran body old new → Stops ws old new
 stops ran ws body old new dealt is after =
@@ -207,10 +213,41 @@ exchanged ws old new lost status text (Err fault.Unreadable) kept size s reads =
 exchanged ws old new lost status text (Err fault.Memory) kept size s reads = stops_after_all ws old new text s.replies
 
 pub lost_as_asked : (ws : List Write) (old new : Server) (lost : Bool) (status : ℕ) (text : List ℕ) → lost ≡ true → Serves ws old new status text → Exchanged lost ws old new (Err fault.Lost)
-lost_as_asked ws old new lost status text asked s = (s.replies.items, s.replies.runs, inl asked)
+lost_as_asked ws old new lost status text asked s = inl (s.replies.items, s.replies.runs, inl asked)
 
 pub lost_as_long : (ws : List Write) (old new : Server) (lost : Bool) (status : ℕ) (text : List ℕ) → reply_limit < length text → Serves ws old new status text → Exchanged lost ws old new (Err fault.Lost)
-lost_as_long ws old new lost status text long s = (s.replies.items, s.replies.runs, inr (subst (λ t. reply_limit < length t) s.replies.text_of long))
+lost_as_long ws old new lost status text long s = inl (s.replies.items, s.replies.runs, inr (subst (λ t. reply_limit < length t) s.replies.text_of long))
+
+-- nothing was run of it
+pub stops_unread : (ws : List Write) (old new : Server) → new ≡ old → Stops ws old new
+stops_unread ws old new stays = (0, record { within = omega arith; items = []; runs = (refl, stays) })
+
+pub told_whole : (r : Reply) (status : ℕ) (result : Result WireReply WireFault) → r.status ≡ status → status ≢ 200 → Tells r result → ReadsWhole status result
+told_whole r status (Ok (reply.Items outcomes)) e other t = absurd (other (sym e ∙ t.0))
+told_whole r status (Ok (reply.Whole s)) e other t = t.1 ∙ e
+told_whole r status (Err fault.Send) e other t = absurd t
+told_whole r status (Err fault.Lost) e other t = absurd t
+told_whole r status (Err fault.Unreadable) e other t = absurd (other (sym e ∙ t.0))
+told_whole r status (Err fault.Memory) e other t = tt
+
+pub not_success : (status : ℕ) → status ≡ 413 → status ≢ 200
+not_success status e s = omega (arith, e, s)
+
+-- a body that is too long is answered so, or its answer is lost
+pub refused : (ws : List Write) (old new : Server) (lost : Bool) (status : ℕ) (text : List ℕ) (result : Result WireReply WireFault) → lost ≡ false → IsRefused ws old new status text
+    → ReadsWhole status result → Exchanged lost ws old new result
+refused ws old new lost status text (Ok (reply.Items outcomes)) kept r reads = absurd reads
+refused ws old new lost status text (Ok (reply.Whole other)) kept r reads = (reads ∙ r.failure, r.over, r.stays, kept)
+refused ws old new lost status text (Err fault.Send) kept r reads = absurd reads
+refused ws old new lost status text (Err fault.Lost) kept r reads = absurd reads
+refused ws old new lost status text (Err fault.Unreadable) kept r reads = absurd reads
+refused ws old new lost status text (Err fault.Memory) kept r reads = stops_unread ws old new r.stays
+
+pub served_lost : (ws : List Write) (old new : Server) (lost : Bool) (status : ℕ) (text : List ℕ) → (lost ≡ true) ⊎ (reply_limit < length text) → Served ws old new status text → Exchanged lost ws old new (Err fault.Lost)
+served_lost ws old new lost status text why served = ⊎_elim {C = Exchanged lost ws old new (Err fault.Lost)}
+    (λ s. ⊎_elim {C = Exchanged lost ws old new (Err fault.Lost)} (λ a. lost_as_asked ws old new lost status text a s) (λ l. lost_as_long ws old new lost status text l s) why)
+    (λ r. inr (r.over, r.stays, ⊎_elim {C = (lost ≡ true) ⊎ (reply_limit < length too_large_text)} (λ a. inl a) (λ l. inr (subst (λ t. reply_limit < length t) r.says l)) why))
+    served
 
 -- a status of the request as a whole is not 200
 pub told_reply : (r : Reply) (result : Result WireReply WireFault) → Tells r result → IsTold result

@@ -1,5 +1,5 @@
 -- What stands outside a wire in memory, before and after its calls.
-use Rattle.std.proofs.Common.{◌≡◌, ◌≢◌, ℕ, ◌<◌, List, [], ◌∷◌, ◌++◌, length, Some, Bool, Result, Ok, Err, refl, sym, ap, ◌∙◌, subst, arith, inl, inr}
+use Rattle.std.proofs.Common.{⊎_elim, ◌≡◌, ◌≢◌, ℕ, ◌<◌, List, [], ◌∷◌, ◌++◌, length, Some, Bool, Result, Ok, Err, refl, sym, ap, ◌∙◌, subst, arith, inl, inr}
 use Rattle.std.proofs.lemmas.Bool.Decides.{eqb_tells}
 use Rattle.std.proofs.lemmas.List.{append-nil}
 use Rattle.std.specs.Prelude.{slice_get}
@@ -8,7 +8,7 @@ use Rattle.relay_results.specs.declared.outcome.Outcome.{Outcome}
 use Rattle.relay_results.specs.Words.{Mem}
 use Rattle.relay_results.specs.Numbers.{from_zero}
 use Rattle.relay_results.specs.Done.{outcomes_of}
-use Rattle.relay_results.specs.Outside.{Request, Unanswered, writes_of, Answer, Items, Lost, Outside, Sends, Answers, IsHonest, EachWasRun, MayAnswer, after}
+use Rattle.relay_results.specs.Outside.{Request, Unanswered, writes_of, Answer, Items, Whole, Lost, Outside, Sends, Answers, IsHonest, EachWasRun, MayAnswer, after}
 use Rattle.relay_results.proofs.Lists.{at-left, at-last, at-within, at-update_other}
 use Rattle.relay_index.specs.States.{State, applied, stored}
 use Rattle.relay_index.specs.Plans.{Plan}
@@ -20,7 +20,7 @@ use Rattle.relay_lane.specs.Wires.{answer_of, SendsOn, AnswersOn, ExchangesOn, I
 use Rattle.relay_wires.specs.Numbered.{numbers, found, besides}
 use Rattle.relay_wires.specs.Loops.{Loop, begun, bytes_of, MayGo, IsOut, AllBefore, AreOut, Fits, Opens, Exchanged, Receives, TakesIn, is_lost, server}
 use Rattle.relay_wires.proofs.Numbers.{found-Mem}
-use Rattle.relay_wires.proofs.Running.{no_runs, RanItems, ran_request, ran_front}
+use Rattle.relay_wires.proofs.Running.{no_runs, RanItems, ran_request, ran_front, stops_unread, not_success}
 
 -- ---- what is out stays
 
@@ -163,11 +163,19 @@ received_fits w v o number result taken m received x =
     by ws sent (Ok (reply.Items os)) r =
         let ran = ran_request (from_zero number) ws (server w) (server v) r.0 o (record { writes = ws; answer = Unanswered }, sent, refl) x.shows r.1 in
         answered_fits w v o number ws (Items os.items) (outcomes_of r.0) taken m x.out sent ran (λ matching. subst (EachWasRun ran.after.runs (from_zero number) 0) (sym r.2) ran.each)
-    by ws sent (Ok (reply.Whole status)) r = absurd r
+    by ws sent (Ok (reply.Whole status)) r =
+        let ran = ran_front (from_zero number) ws (server w) (server v) o (record { writes = ws; answer = Unanswered }, sent, refl) x.shows (stops_unread ws (server w) (server v) r.2) in
+        answered_fits w v o number ws (Whole status) (outcomes_of (stops_unread ws (server w) (server v) r.2).1.items) taken m x.out sent ran (not_success status r.0)
     by ws sent (Err fault.Send) r = absurd r
     by ws sent (Err fault.Lost) r =
-        let ran = ran_request (from_zero number) ws (server w) (server v) r.0 o (record { writes = ws; answer = Unanswered }, sent, refl) x.shows r.1 in
-        answered_fits w v o number ws Lost (outcomes_of r.0) taken m x.out sent ran tt
+        ⊎_elim {C = (p : Outside) × Fits v p × AnswersOn number Lost o p}
+        (λ s.
+        let ran = ran_request (from_zero number) ws (server w) (server v) s.0 o (record { writes = ws; answer = Unanswered }, sent, refl) x.shows s.1 in
+        answered_fits w v o number ws Lost (outcomes_of s.0) taken m x.out sent ran tt)
+        (λ s.
+        let ran = ran_front (from_zero number) ws (server w) (server v) o (record { writes = ws; answer = Unanswered }, sent, refl) x.shows (stops_unread ws (server w) (server v) s.1) in
+        answered_fits w v o number ws Lost (outcomes_of (stops_unread ws (server w) (server v) s.1).1.items) taken m x.out sent ran tt)
+        r
     by ws sent (Err fault.Unreadable) r = absurd r
     by ws sent (Err fault.Memory) r =
         let ran = ran_front (from_zero number) ws (server w) (server v) o (record { writes = ws; answer = Unanswered }, sent, refl) x.shows r in

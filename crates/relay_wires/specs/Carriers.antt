@@ -1,10 +1,10 @@
 -- A wire over connections of HTTP.
-use Rattle.std.specs.Prelude.{◌≡◌, ◌⊎◌, ℕ, ◌+◌, ◌≤◌, List, [], ◌∷◌, ◌++◌, length, Option, Some, IsTrue, Result, Ok, Err, MatchResult, if◌then◌else◌}
+use Rattle.std.specs.Prelude.{◌≡◌, ◌==◌, ◌&&◌, ◌⊎◌, ℕ, ◌+◌, ◌≤◌, List, [], ◌∷◌, ◌++◌, length, Option, Some, None, IsTrue, Result, Ok, Err, MatchResult, if◌then◌else◌}
 use Rattle.std.specs.Io.KnownBytes.{append_known}
 use Rattle.relay_action.specs.Streams.{one_more}
 use Rattle.relay_action.specs.declared.write.Write.{Write}
 use Rattle.relay_ndjson.specs.Bulk.{text_of}
-use Rattle.relay_http.specs.Connection.{Connection, ahead, fresh, is_open, after_reply, failed_reading}
+use Rattle.relay_http.specs.Connection.{Connection, IsQuiet, ahead, fresh, is_open, after_reply, failed_reading}
 use Rattle.relay_http.specs.Forms.{Begins, Took, Fails, IsOutside, IsThatOrOutside}
 use Rattle.relay_http.specs.Reply.{IsReply, ReplyStates, ReplyPasses, reply_view}
 use Rattle.relay_http.specs.WrittenRequest.{is_host, request}
@@ -33,9 +33,14 @@ pub record Carrier : Type 0 where
 abbrev pub idle : List ℕ → ℕ → ℕ → Carrier
 idle host most failed = record { host = host; most = most; out = []; free = []; failed = failed }
 
-abbrev pub AllOpen : List Connection → Type 0
-AllOpen [] = Unit {0}
-AllOpen (c ∷ cs) = IsTrue (is_open c.phase) × AllOpen cs
+-- a free connection may carry further messages, and no byte was read beyond its last reply
+pub record IsFree (c : Connection) : Type 0 where
+  pub lasts : IsTrue (is_open c.phase)
+  pub clear : c.held ≡ []
+
+abbrev pub AllFree : List Connection → Type 0
+AllFree [] = Unit {0}
+AllFree (c ∷ cs) = IsFree c × AllFree cs
 
 abbrev pub AllOutOpen : List (ℕ × Connection) → Type 0
 AllOutOpen [] = Unit {0}
@@ -45,37 +50,41 @@ AllOutOpen (e ∷ es) = IsTrue (is_open e.1.phase) × AllOutOpen es
 pub record IsCarrier (c : Carrier) (for_out for_free : ℕ) : Type 0 where
   pub host : IsTrue (is_host c.host)
   pub out : AllOutOpen c.out
-  pub free : AllOpen c.free
+  pub free : AllFree c.free
   pub few : length c.out + length c.free ≤ c.most
   pub places : c.most ≤ for_out
   pub spare : c.most ≤ for_free
 
 -- ---- a request is sent
 
--- the connection freed last is taken, or, where none is free, a fresh one
-abbrev pub TakesFree : List Connection → List Connection → Connection → Type 0
-TakesFree old new c = old ≡ new ++ c ∷ []
+-- The free connection that is quiet and was freed last is taken. Those freed after it are dropped: bytes came on them that
+-- nobody asked for, or their end.
+pub record TakesFree (old new : List Connection) (c : Connection) : Type 0 where
+  pub dropped : List Connection
+  pub free : old ≡ new ++ (c ∷ dropped)
+  pub quiet : IsQuiet c
 
 abbrev pub IsFresh : Connection → Type 0
 IsFresh c = (left : Option (List ℕ)) × (written : Option (List ℕ)) × (failed : ℕ) × (c ≡ fresh left written failed)
 
+-- so a free connection is picked, or, if none is quiet, a fresh one
 abbrev pub Picks : List Connection → List Connection → Connection → Type 0
-Picks old new c = TakesFree old new c ⊎ ((old ≡ []) × (new ≡ []) × IsFresh c)
+Picks old new c = TakesFree old new c ⊎ ((new ≡ []) × IsFresh c)
 
 -- the connection after this was written on it
 abbrev pub with_written : Connection → List ℕ → Connection
 with_written c text = record c { written = append_known c.written text }
 
 -- What sending a request with these writes does. Sent: the request was written on a connection, which it is out on now.
--- Else nothing more is out, and at most one free connection is dropped; it was not sent since as many are out as may be,
--- since the dial failed, or since a connection could not carry it.
+-- Else nothing more is out; it was not sent since as many are out as may be, since no free connection is quiet and the dial
+-- failed, or since the connection that was picked could not carry it.
 abbrev pub Carries : ℕ → List Write → Carrier → Carrier → Result (Unit {0}) WireFault → Type 0
 Carries number ws old new (Ok u) =
     (c : Connection) × Picks old.free new.free c × IsTrue (is_open c.phase) × (new.failed ≡ old.failed)
     × (new.out ≡ (number, with_written c (request old.host (text_of ws))) ∷ old.out)
 Carries number ws old new (Err fault.Send) =
     ((old.most ≤ length old.out) × (new ≡ old))
-    ⊎ ((old.free ≡ []) × (new ≡ record old { failed = one_more old.failed }))
+    ⊎ (new ≡ record old { free = []; failed = one_more old.failed })
     ⊎ ((c : Connection) × Picks old.free new.free c × (new ≡ record old { free = new.free }))
 Carries number ws old new (Err fault.Lost) = ⊥
 Carries number ws old new (Err fault.Unreadable) = ⊥
@@ -114,9 +123,9 @@ abbrev pub IsTold : Result HttpReply HttpFault → Result WireReply WireFault �
 IsTold (Ok reply) result = Tells (reply_view reply) result
 IsTold (Err f) result = result ≡ Err (fault_received f)
 
--- a connection that may carry further messages is free then
+-- a connection that may carry further messages is free then, unless bytes beyond the reply were read with it
 abbrev pub freed : Result HttpReply HttpFault → Connection → List Connection → List Connection
-freed (Ok reply) d free = if reply.keep then free ++ d ∷ [] else free
+freed (Ok reply) d free = if reply.keep && (length d.held == 0) then free ++ d ∷ [] else free
 freed (Err f) d free = free
 
 -- What receiving the reply to a number does: it is read from the connection that the request is out on, and told by the
@@ -136,13 +145,18 @@ FitsNone w o = ⊥
 
 -- ---- what private steps answer
 
+-- a free connection that is quiet, if there is one
+abbrev pub FindsFree : List Connection → List Connection → Option Connection → Type 0
+FindsFree old new (Some c) = TakesFree old new c × IsTrue (is_open c.phase)
+FindsFree old new None = new ≡ []
+
 -- a connection is picked, unless the dial failed or there was no memory for a fresh one's window
 abbrev pub PicksOne : List Connection → List Connection → ℕ → ℕ → Result Connection WireFault → Type 0
 PicksOne old new failed later (Ok c) = Picks old new c × IsTrue (is_open c.phase) × (later ≡ failed)
-PicksOne old new failed later (Err fault.Send) = (old ≡ []) × (new ≡ []) × (later ≡ one_more failed)
+PicksOne old new failed later (Err fault.Send) = (new ≡ []) × (later ≡ one_more failed)
 PicksOne old new failed later (Err fault.Lost) = ⊥
 PicksOne old new failed later (Err fault.Unreadable) = ⊥
-PicksOne old new failed later (Err fault.Memory) = (old ≡ []) × (new ≡ []) × (later ≡ failed)
+PicksOne old new failed later (Err fault.Memory) = (new ≡ []) × (later ≡ failed)
 
 -- a request was written, or its connection could not carry it
 abbrev pub IsWritten : Connection → Connection → List ℕ → Result (Unit {0}) WireFault → Type 0

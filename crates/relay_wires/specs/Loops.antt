@@ -11,8 +11,8 @@ use Rattle.relay_results.specs.Numbers.{from_zero}
 use Rattle.relay_results.specs.Outside.{Outside, Unanswered, IsOpening}
 use Rattle.relay_index.specs.States.{State}
 use Rattle.relay_index.specs.Runs.{Shows}
-use Rattle.relay_index.specs.Plans.{Plan}
-use Rattle.relay_index.specs.Serving.{Server, under, RunsAll, RunsFirst, Replies}
+use Rattle.relay_index.specs.Plans.{Plan, takes}
+use Rattle.relay_index.specs.Serving.{Server, under, too_large_text, RunsAll, RunsFirst, Replies}
 use Rattle.relay_http.specs.Framing.{reply_limit, request_limit}
 use Rattle.relay_http.specs.WrittenAnswer.{IsAnswerStatus, answer}
 use Rattle.relay_http.specs.WrittenRequest.{request}
@@ -59,17 +59,22 @@ server w = under w.index w.script
 abbrev pub is_lost : ℕ → Loop → Bool
 is_lost number w = list_any (λ n. n == number) w.lost
 
+-- the body of these writes is longer than the script takes
+abbrev pub IsOver : List Write → Server → Type 0
+IsOver ws s = takes s.script (length (text_of ws)) ≡ false
+
 -- What becomes of a request with these writes. Its entries, or the loss of its reply: all items were run, once each and in
 -- their order; the reply is lost where that was asked for, or where it is too long. Lack of memory: the first items were
--- run so, and no more. Nothing else is answered.
+-- run so, and no more. A body that is too long: nothing was run, and 413 is answered, or its loss. Nothing else is answered.
 abbrev pub Exchanged : Bool → List Write → Server → Server → Result WireReply WireFault → Type 0
 Exchanged lost ws old new (Ok (reply.Items outcomes)) =
     (items : List ItemDone) × RunsAll old ws items new × (outcomes.items ≡ outcomes_of items)
     × (lost ≡ false) × (length (reply_text 0 items) ≤ reply_limit)
-Exchanged lost ws old new (Ok (reply.Whole status)) = ⊥
+Exchanged lost ws old new (Ok (reply.Whole status)) = (status ≡ 413) × IsOver ws old × (new ≡ old) × (lost ≡ false)
 Exchanged lost ws old new (Err fault.Send) = ⊥
 Exchanged lost ws old new (Err fault.Lost) =
-    (items : List ItemDone) × RunsAll old ws items new × ((lost ≡ true) ⊎ (reply_limit < length (reply_text 0 items)))
+    ((items : List ItemDone) × RunsAll old ws items new × ((lost ≡ true) ⊎ (reply_limit < length (reply_text 0 items))))
+    ⊎ (IsOver ws old × (new ≡ old) × ((lost ≡ true) ⊎ (reply_limit < length too_large_text)))
 Exchanged lost ws old new (Err fault.Unreadable) = ⊥
 Exchanged lost ws old new (Err fault.Memory) = (ran : ℕ) × RunsFirst ran old ws new
 
@@ -124,10 +129,29 @@ Reads os (Err fault.Lost) = ⊥
 Reads os (Err fault.Unreadable) = ⊥
 Reads os (Err fault.Memory) = Unit {0}
 
+-- a reply that says this status of the request as a whole was read, unless memory ran out
+abbrev pub ReadsWhole : ℕ → Result WireReply WireFault → Type 0
+ReadsWhole status (Ok (reply.Items outcomes)) = ⊥
+ReadsWhole status (Ok (reply.Whole other)) = other ≡ status
+ReadsWhole status (Err fault.Send) = ⊥
+ReadsWhole status (Err fault.Lost) = ⊥
+ReadsWhole status (Err fault.Unreadable) = ⊥
+ReadsWhole status (Err fault.Memory) = Unit {0}
+
 -- all writes were run, and this is what is answered
 pub record Serves (ws : List Write) (old new : Server) (status : ℕ) (text : List ℕ) : Type 0 where
   pub success : status ≡ 200
   pub replies : Replies old ws text new
+
+-- the body was too long, and nothing was run
+pub record IsRefused (ws : List Write) (old new : Server) (status : ℕ) (text : List ℕ) : Type 0 where
+  pub over : IsOver ws old
+  pub failure : status ≡ 413
+  pub says : text ≡ too_large_text
+  pub stays : new ≡ old
+
+abbrev pub Served : List Write → Server → Server → ℕ → List ℕ → Type 0
+Served ws old new status text = Serves ws old new status text ⊎ IsRefused ws old new status text
 
 -- the first writes were run, and no more
 abbrev pub Stops : List Write → Server → Server → Type 0

@@ -1,31 +1,47 @@
 //! One request on one connection.
-ghost use Rattle.std.specs.Prelude.{◌≡◌, ◌∷◌, ◌++◌, [], if◌then◌else◌, ◌+◌, ◌<◌, ◌≤◌, length, vec_len, vec_capacity, IfOk, IsTrue};
+ghost use Rattle.std.specs.Prelude.{◌≡◌, ◌==◌, ◌&&◌, ◌∷◌, ◌++◌, [], if◌then◌else◌, ◌+◌, ◌<◌, ◌≤◌, length, vec_len, vec_capacity, IfOk, IsTrue};
 ghost use Rattle.relay_ndjson.specs.Bulk.{text_of};
 ghost use Rattle.relay_http.specs.Connection.{is_open};
 ghost use Rattle.relay_http.specs.Framing.{request_limit};
 ghost use Rattle.relay_http.specs.WrittenRequest.{is_host, request};
 ghost use Rattle.relay_lane.specs.Wires.{IsReply};
-ghost use Rattle.relay_wires.specs.Carriers.{AllOpen, PicksOne, IsWritten, BringsFrom, fault_received};
+ghost use Rattle.relay_wires.specs.Carriers.{AllFree, IsFree, FindsFree, PicksOne, IsWritten, BringsFrom, fault_received};
 
 use crate::dial::Dial;
 use crate::told::tell;
 use relay_action::{ByteIn, ByteOut, ByteStream, Write};
-use relay_http::{Conn, HttpFault};
+use relay_http::{Conn, HttpFault, Peek};
 use relay_lane::{WireFault, WireReply};
 use std::alloc::Global;
 
-// A connection that may carry a request: the one that was freed last, or a fresh one.
-pub(crate) fn pick<S: ByteStream + Drop, D: Dial<S>>(
+// The free connection that was freed last of those on which nothing came since. Those freed after it are
+// dropped.
+fn take_quiet<S: Peek + Drop>(free: &mut Vec<Conn<S>>) -> Option<Conn<S>>
+    requires { AllFree free.old.items }
+    ensures finds { FindsFree free.old.items free.new.items result }
+    ensures free_left { AllFree free.new.items }
+    ensures capacity { vec_capacity free.new ≡ vec_capacity free.old }
+{
+    'looking: while let Some(conn) = free.pop() {
+        if conn.is_quiet() {
+            return Some(conn);
+        }
+    }
+    None
+}
+
+// A connection that may carry a request: a free one on which nothing came, or a fresh one.
+pub(crate) fn pick<S: Peek + Drop, D: Dial<S>>(
     alloc: Global,
     free: &mut Vec<Conn<S>>,
     dial: &mut D,
 ) -> Result<Conn<S>, WireFault>
-    requires { AllOpen free.old.items }
+    requires { AllFree free.old.items }
     ensures picks { PicksOne free.old.items free.new.items (D.failed dial.old) (D.failed dial.new) result }
-    ensures open_left { AllOpen free.new.items }
+    ensures free_left { AllFree free.new.items }
     ensures capacity { vec_capacity free.new ≡ vec_capacity free.old }
 {
-    if let Some(conn) = free.pop() {
+    if let Some(conn) = take_quiet(free) {
         return Ok(conn);
     }
     let stream = match dial.dial() {
@@ -67,18 +83,19 @@ fn fault_received(fault: HttpFault) -> WireFault
     }
 }
 
-// A connection that may carry a further message is free.
-fn release<S: ByteStream + Drop>(conn: Conn<S>, lasts: bool, free: &mut Vec<Conn<S>>)
+// A connection that may carry a further message is free, unless it holds bytes beyond its last reply.
+fn release<S: ByteStream + Drop>(conn: Conn<S>, keep: bool, free: &mut Vec<Conn<S>>)
     requires { vec_len free.old < vec_capacity free.old }
-    ensures free { free.new.items ≡ (if lasts then free.old.items ++ conn ∷ [] else free.old.items) }
+    ensures free { free.new.items ≡ (if keep && (length conn.held == 0) then free.old.items ++ conn ∷ [] else free.old.items) }
     ensures capacity { vec_capacity free.new ≡ vec_capacity free.old }
 {
-    if lasts {
+    if keep && conn.held() == 0 {
         free.push_reserved(conn);
     }
 }
 
-// Reads a reply from a connection, which is free then where it may carry a further message.
+// Reads a reply from a connection. It is free then if it may carry a further message and no byte beyond the
+// reply was read.
 pub(crate) fn bring<S: ByteIn + Drop>(
     alloc: Global,
     mut conn: Conn<S>,
@@ -86,10 +103,10 @@ pub(crate) fn bring<S: ByteIn + Drop>(
 ) -> Result<WireReply, WireFault>
     requires lasts { IsTrue (is_open conn.phase) }
     requires room { vec_len free.old < vec_capacity free.old }
-    requires all_open { AllOpen free.old.items }
+    requires all_free { AllFree free.old.items }
     ensures brings { BringsFrom conn free.old.items free.new.items result }
     ensures reply { IsReply result }
-    ensures open_left { AllOpen free.new.items }
+    ensures free_left { AllFree free.new.items }
     ensures capacity { vec_capacity free.new ≡ vec_capacity free.old }
     ensures grows { vec_len free.new ≤ vec_len free.old + 1 }
 {

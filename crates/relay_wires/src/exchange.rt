@@ -1,5 +1,5 @@
 //! One request at the index's end: read, run and answered.
-ghost use Rattle.std.specs.Prelude.{◌≡◌, ◌≤◌, List, length, string_bytes, IfOk, MatchResult};
+ghost use Rattle.std.specs.Prelude.{◌≡◌, ◌≢◌, ◌≤◌, List, length, string_bytes, IfOk, MatchResult};
 ghost use Rattle.relay_action.specs.declared.write.Write.{Write};
 ghost use Rattle.relay_results.specs.declared.outcome.Outcome.{Outcome};
 ghost use Rattle.relay_results.specs.Replies.{IsReply};
@@ -7,7 +7,7 @@ ghost use Rattle.relay_index.specs.Serving.{under};
 ghost use Rattle.relay_lane.specs.Wires.{IsReply as IsTold};
 ghost use Rattle.relay_http.specs.Framing.{reply_limit};
 ghost use Rattle.relay_http.specs.WrittenAnswer.{IsAnswerStatus};
-ghost use Rattle.relay_wires.specs.Loops.{MayGo, bytes_of, Exchanged, Reads, Serves, Stops};
+ghost use Rattle.relay_wires.specs.Loops.{MayGo, bytes_of, Exchanged, Reads, ReadsWhole, Served, Stops};
 
 use crate::ends::{answer_bytes, reply_of, request_body};
 use crate::told::tell;
@@ -25,7 +25,7 @@ fn serve(
 ) -> Result<(u16, String), AllocError>
     ensures status { IfOk result (λ answer. IsAnswerStatus answer.0) }
     ensures served { (ws : List Write) → MayGo ws → bytes.items ≡ bytes_of ws → MatchResult result
-        (λ answer. Serves ws (under index.old script.old) (under index.new script.new) answer.0 (string_bytes answer.1))
+        (λ answer. Served ws (under index.old script.old) (under index.new script.new) answer.0 (string_bytes answer.1))
         (λ e. Stops ws (under index.old script.old) (under index.new script.new)) }
 {
     let body = request_body(alloc, bytes)?;
@@ -41,6 +41,7 @@ fn carry_back(alloc: Global, status: u16, text: &str) -> Result<WireReply, WireF
     requires size { length text.now ≤ reply_limit }
     ensures reply { IsTold result }
     ensures reads { (os : List Outcome) → status ≡ 200 → IsReply text.now os → Reads os result }
+    ensures whole { status ≢ 200 → ReadsWhole status result }
 {
     let bytes = match answer_bytes(alloc, status, text) {
         Ok(bytes) => bytes,

@@ -7,15 +7,18 @@ use crate::carrying::{bring, carry, pick};
 use crate::dial::Dial;
 use crate::numbered::take;
 use relay_action::{ByteIn, ByteOut, ByteStream, Write};
-use relay_http::Conn;
+use relay_http::{Conn, Peek};
 use relay_lane::{Wire, WireFault, WireReply};
 use std::alloc::{AllocError, Global};
 use std::collections::VecDeque;
 use std::marker::Model;
 
-/// A wire to an index that is reached by HTTP. Each request is out on a connection of its own; a
-/// connection whose reply lets it carry a further message is free then, and is used again before another
-/// is dialled. A fault drops the connection.
+/// A wire to an index that is reached by HTTP. Each request is out on a connection of its own. After a
+/// reply that lets the connection carry a further message, and with which no byte beyond it was read, the
+/// connection is free, and it is used again before another is dialled. A fault drops the connection.
+///
+/// Before a free connection is used again, it is looked at without waiting: if a byte came on it, or its
+/// end, it is dropped, since a reply that nobody asked for would be taken for that of the next request.
 ///
 /// It describes nothing: what stands outside is the affair of its streams.
 #[derive(Drop)]
@@ -69,7 +72,7 @@ impl<S: ByteStream + Drop, D: Dial<S> + Drop> HttpWire<S, D> {
     }
 }
 
-impl<S: ByteIn + ByteOut + Drop, D: Dial<S> + Drop> Wire for HttpWire<S, D> {
+impl<S: ByteIn + ByteOut + Peek + Drop, D: Dial<S> + Drop> Wire for HttpWire<S, D> {
     ghost use Rattle.std.specs.Prelude.{false, ℕ, ◌∷◌, ◌≤◌, length, MatchResult};
     ghost use Rattle.relay_ndjson.specs.Bodies.{AreDealt};
     ghost use Rattle.relay_ndjson.specs.Bulk.{text_of};
@@ -84,8 +87,8 @@ impl<S: ByteIn + ByteOut + Drop, D: Dial<S> + Drop> Wire for HttpWire<S, D> {
 
     ghost fits = { FitsNone };
 
-    /// Writes a request on a free connection, or on one that is dialled. `Send`: as many requests are
-    /// out as may be, the dial failed, or the connection did. `Memory`: there was no memory for the
+    /// Writes a request on a free connection on which nothing came since it was freed, or on one that is
+    /// dialled. `Send`: as many requests are out as may be, the dial failed, or the connection did. `Memory`: there was no memory for the
     /// request or for a fresh connection's window. A connection that a fault came on is dropped.
     fn send(&mut self, number: u64, writes: &[Write]) -> Result<(), WireFault>
         requires fresh { Mem number (numbers self.old.out) → ⊥ }

@@ -21,4 +21,5 @@ mod told;
 pub use dial::{Dial, DialFault};
 pub use http_wire::HttpWire;
 pub use loop_wire::LoopWire;
+pub use relay_http::Peek;
 pub use relay_lane::{Wire, WireFault, WireReply};

@@ -33,10 +33,17 @@ const NOT_SENT: Told = Told::Fault(WireFault::Send);
 const LOST: Told = Told::Fault(WireFault::Lost);
 
 const DIALS: &[(&[&[u8]], usize, usize, (Told, Told))] = &[
-    // A kept connection is used again: the second dial would fail.
-    (&[KEPT_TWICE], 1000, 2, (Told::Whole(503), Told::Whole(502))),
-    (&[KEPT, KEPT], 1000, 0, (Told::Whole(503), LOST)),
-    // One that is closed is not: the second request is dialled for.
+    // A stream in memory has all its bytes from the start, and its end after them: it is not used again.
+    (&[KEPT_TWICE], 1000, 0, (Told::Whole(503), NOT_SENT)),
+    (
+        &[KEPT_TWICE, KEPT],
+        1000,
+        0,
+        (Told::Whole(503), Told::Whole(503)),
+    ),
+    (&[KEPT, b""], 1000, 0, (Told::Whole(503), LOST)),
+    (&[KEPT, KEPT], 1000, 2, (Told::Whole(503), NOT_SENT)),
+    // Nor is one that is closed.
     (&[CLOSED], 1000, 0, (Told::Whole(503), NOT_SENT)),
     (
         &[CLOSED, KEPT],
@@ -50,7 +57,7 @@ const DIALS: &[(&[&[u8]], usize, usize, (Told, Told))] = &[
     (&[KEPT], 1000, 1, (NOT_SENT, Told::Whole(503))),
     (&[CLOSED, KEPT], 1000, 2, (Told::Whole(503), NOT_SENT)),
     // The request has 180 bytes; a stream that takes fewer fails.
-    (&[KEPT, KEPT], 180, 0, (Told::Whole(503), NOT_SENT)),
+    (&[KEPT, KEPT], 180, 0, (Told::Whole(503), Told::Whole(503))),
     (&[KEPT_TWICE, KEPT], 179, 0, (NOT_SENT, NOT_SENT)),
 ];
 

@@ -21,7 +21,8 @@ pub const CONFIG: RelayConfig = RelayConfig {
     },
     attempts: 3,
     in_flight: 1,
-    first_version: 1,
+    epoch: 0,
+    deal: 1_099_511_627_775,
 };
 
 /// A lane at rest.
@@ -64,6 +65,7 @@ fn puts(alloc: Global, desk: &mut Desk, number: u64, id: &str) -> bool {
             desk,
             0,
             Body::Put(Op {
+                epoch: 0,
                 producer: 0,
                 number,
                 key,
@@ -87,14 +89,20 @@ fn closes(desk: &mut Desk) -> bool {
     sends(desk, 0, Body::Done) && sends(desk, 1, Body::Done) && desk.lane.closed()
 }
 
-/// A closed lane that took deletes of so many documents, with the ids `1`, `2` and so on.
-pub fn filled(alloc: Global, count: u64) -> Option<Desk> {
+// A fresh lane.
+fn fresh_desk(alloc: Global) -> Option<Desk> {
     if !CONFIG.valid() {
         return None;
     }
-    let mut desk = Desk {
-        lane: Lane::new(alloc, CONFIG).ok()?,
-    };
+    match Lane::new(alloc, CONFIG) {
+        Ok(lane) => Some(Desk { lane }),
+        Err(_) => None,
+    }
+}
+
+/// A closed lane that took deletes of so many documents, with the ids `1`, `2` and so on.
+pub fn filled(alloc: Global, count: u64) -> Option<Desk> {
+    let mut desk = fresh_desk(alloc)?;
     for number in 1..=count {
         if !puts_number(alloc, &mut desk, number) {
             return None;

@@ -1,6 +1,7 @@
 //! Tests of `relay_wires`, over its public items: lanes that are drained over wires, one request at a
-//! time and several, statuses and bodies of replies, connections that are used again or not, dials and
-//! streams that fail, and requests and replies of many items.
+//! time and several, statuses and bodies of replies, connections that are used again or not, those on
+//! which something came that nobody asked for, dials and streams that fail, and requests and replies of
+//! many items.
 #![tactic(auto)]
 
 #[cfg(test)]
@@ -12,6 +13,8 @@ mod desk;
 #[cfg(test)]
 mod drains;
 #[cfg(test)]
+mod idle;
+#[cfg(test)]
 mod loops;
 #[cfg(test)]
 mod places;
@@ -19,3 +22,5 @@ mod places;
 mod replies;
 #[cfg(test)]
 mod streams;
+#[cfg(test)]
+mod turns;

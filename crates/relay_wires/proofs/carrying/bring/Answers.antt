@@ -1,6 +1,6 @@
 use Rattle.std.proofs.Common.{Ok, Err, refl, ap, subst, sym}
-use Rattle.relay_wires.specs.Carriers.{AllOpen}
-use Rattle.relay_wires.proofs.Opened.{open_freed}
+use Rattle.relay_wires.specs.Carriers.{AllFree}
+use Rattle.relay_wires.proofs.Opened.{free_freed}
 use Rattle.relay_wires.proofs.carrying.bring.Goals as goal
 
 pub returns-in-Ok-clause-brings : goal.returns-in-Ok-clause-brings
@@ -23,9 +23,9 @@ returns-in-Ok-clause-brings g c =
       free = c.release.ensures.free;
     }
 
-pub returns-in-Ok-clause-open_left : goal.returns-in-Ok-clause-open_left
-returns-in-Ok-clause-open_left g c =
-    subst AllOpen (sym c.release.ensures.free) (open_freed c.in-Ok.reply c.read_reply.new.self c.args.free.now.items (c.in-Ok.ensures.phase c.requires.lasts) c.requires.all_open)
+pub returns-in-Ok-clause-free_left : goal.returns-in-Ok-clause-free_left
+returns-in-Ok-clause-free_left g c =
+    subst AllFree (sym c.release.ensures.free) (free_freed c.in-Ok.reply c.read_reply.new.self c.args.free.now.items (c.in-Ok.ensures.phase c.requires.lasts) c.requires.all_free)
 
 pub returns-in-Err-clause-brings : goal.returns-in-Err-clause-brings
 returns-in-Err-clause-brings g c =

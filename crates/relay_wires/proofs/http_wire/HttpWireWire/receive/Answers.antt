@@ -21,7 +21,7 @@ invariant_of-self g c =
     record {
       host = c.self.invariant.host;
       out = subst AllOutOpen (sym c.take.ensures.besides) (open_besides c.args.number c.self.inside.out.items c.self.invariant.out);
-      free = c.bring.ensures.open_left;
+      free = c.bring.ensures.free_left;
       few = omega (arith, fewer, now, c.bring.ensures.grows, c.self.invariant.few);
       places = rw c.take.ensures.capacity c.self.invariant.places;
       spare = rw c.bring.ensures.capacity c.self.invariant.spare;

@@ -1,0 +1,118 @@
+//! Free connections on which something came that nobody asked for.
+ghost use Rattle.std.specs.Prelude.{◌≡◌, []};
+
+use crate::asking::{Told, asks};
+use crate::turns::{Turns, turned};
+use relay_lane::{Wire, WireFault};
+use std::alloc::Global;
+
+// 40 bytes each: a reply of 8 or 20 bytes a read ends with a read.
+const BUSY: &[u8] = b"HTTP/1.1 503 Busy\r\nContent-Length: 0\r\n\r\n";
+
+const GATE: &[u8] = b"HTTP/1.1 502 Gate\r\nContent-Length: 0\r\n\r\n";
+
+const BUSY_TWICE: &[u8] =
+    b"HTTP/1.1 503 Busy\r\nContent-Length: 0\r\n\r\nHTTP/1.1 503 Busy\r\nContent-Length: 0\r\n\r\n";
+
+const BUSY_AND_HALF: &[u8] =
+    b"HTTP/1.1 503 Busy\r\nContent-Length: 0\r\n\r\nHTTP/1.1 503 Busy\r\nConte";
+
+const BUSY_AND_ONE: &[u8] = b"HTTP/1.1 503 Busy\r\nContent-Length: 0\r\n\r\n\n";
+
+// What two deletes one after the other are told over streams with these turns.
+fn twice(alloc: Global, streams: &[Turns<'_>], piece: usize) -> (Told, Told) {
+    match turned(alloc, streams, piece, 1) {
+        Some(mut wire) => {
+            let first = asks(alloc, &mut wire, 1);
+            (first, asks(alloc, &mut wire, 2))
+        }
+        None => (Told::NotAsked, Told::NotAsked),
+    }
+}
+
+const BUSY_THEN_GATE: (Told, Told) = (Told::Whole(503), Told::Whole(502));
+
+const NOT_SENT: Told = Told::Fault(WireFault::Send);
+
+const STREAMS: &[(&[Turns<'static>], (Told, Told))] = &[
+    // Nothing came: the connection is used again, and a second dial would fail.
+    (&[&[BUSY, GATE]], BUSY_THEN_GATE),
+    // A second reply, half of one and one byte: the next request is dialled for.
+    (&[&[BUSY_TWICE, BUSY], &[GATE]], BUSY_THEN_GATE),
+    (&[&[BUSY_AND_HALF, BUSY], &[GATE]], BUSY_THEN_GATE),
+    (&[&[BUSY_AND_ONE, BUSY], &[GATE]], BUSY_THEN_GATE),
+    (&[&[BUSY_TWICE, BUSY]], (Told::Whole(503), NOT_SENT)),
+    // The end came.
+    (&[&[BUSY], &[GATE]], BUSY_THEN_GATE),
+    (&[&[BUSY]], (Told::Whole(503), NOT_SENT)),
+];
+
+// Reads that end within a reply, with it, and after it.
+const PIECES: [usize; 5] = [1, 7, 8, 40, 1000];
+
+#[test]
+fn bytes_that_nobody_asked_for(rt: HostRuntime) {
+    for (streams, wanted) in STREAMS {
+        for piece in PIECES {
+            assert!(rt;
+                twice(rt.alloc(), *streams, piece) == *wanted,
+                "{wanted:?} {piece}"
+            );
+        }
+    }
+}
+
+// Sends two requests without writes, and receives the reply to the earlier one first.
+fn answers_both<W: Wire>(wire: &mut W) -> bool
+    requires { W.out wire.old ≡ [] }
+    ensures { W.out wire.new ≡ [] }
+{
+    if let Err(_) = wire.send(1, &[]) {
+        return false;
+    }
+    if let Err(_) = wire.send(2, &[]) {
+        let _ = wire.receive(1);
+        return false;
+    }
+    let earlier = wire.receive(1).is_ok();
+    wire.receive(2).is_ok() && earlier
+}
+
+// What a delete is told over streams with these turns, once two of them are free.
+fn after_two(alloc: Global, streams: &[Turns<'_>], piece: usize) -> Told {
+    match turned(alloc, streams, piece, 2) {
+        Some(mut wire) => {
+            if !answers_both(&mut wire) {
+                return Told::NotAsked;
+            }
+            asks(alloc, &mut wire, 3)
+        }
+        None => Told::NotAsked,
+    }
+}
+
+const TWO_FREE: &[(&[Turns<'static>], Told)] = &[
+    // The one freed last.
+    (&[&[BUSY, BUSY], &[BUSY, GATE]], Told::Whole(502)),
+    // Something came on that one: the other one.
+    (&[&[BUSY, GATE], &[BUSY_TWICE, BUSY]], Told::Whole(502)),
+    (&[&[BUSY, GATE], &[BUSY]], Told::Whole(502)),
+    // On both: a third one.
+    (
+        &[&[BUSY_AND_HALF, BUSY], &[BUSY_TWICE, BUSY], &[GATE]],
+        Told::Whole(502),
+    ),
+    (&[&[BUSY], &[BUSY_TWICE, BUSY]], NOT_SENT),
+];
+
+#[test]
+fn the_next_free_one_or_a_dial(rt: HostRuntime) {
+    for (streams, wanted) in TWO_FREE {
+        for piece in PIECES {
+            assert!(rt;
+                after_two(rt.alloc(), *streams, piece) == *wanted,
+                "{wanted:?} {piece}"
+            );
+        }
+    }
+}
