@@ -165,6 +165,7 @@ pub refuses_more : (found : List (ℕ × ℕ)) (old new : Plan) (place status : 
 refuses_more found old new place status h a = record {
   statuses = λ p. a.statuses p ∙ ap (λ o. if place == p then Some status else o) (h.statuses p) ∙ sym (last_status-push found (place, status) p);
   none_run = a.ran ∙ h.none_run;
+  unlimited = a.limit ∙ h.unlimited;
 }
 
 -- a list after a refusal and a comma
@@ -224,7 +225,7 @@ last_fault whole rest plan count (fault.BadList n) h e bad =
 last_fault whole rest plan count fault.Memory h e bad = tt
 
 pub refuses_none : (plan : Plan) → plan ≡ unscripted → Refuses [] plan
-refuses_none plan h = record { statuses = λ place. ap (λ p. refusal_at p place) h; none_run = ap (λ p. p.ran) h }
+refuses_none plan h = record { statuses = λ place. ap (λ p. refusal_at p place) h; none_run = ap (λ p. p.ran) h; unlimited = ap (λ p. p.limit) h }
 
 -- what may be refused is what the test tells
 pub may_of : (status other : ℕ) → status ≡ other → MayRefuse other → MayRefuse status

@@ -20,6 +20,7 @@ pub record IsCut (c : ℕ) (text front back : List ℕ) : Type 0 where
 pub record Adds (old new : Plan) (place status : ℕ) : Type 0 where
   pub statuses : (p : ℕ) → refusal_at new p ≡ (if place == p then Some status else refusal_at old p)
   pub ran : new.ran ≡ old.ran
+  pub limit : new.limit ≡ old.limit
 
 -- why a part is not added
 abbrev pub IsPartFault : List ℕ → ℕ → ListFault → Type 0

@@ -35,10 +35,11 @@ abbrev pub last_status : List (ℕ × ℕ) → ℕ → Option ℕ
 last_status [] place = None
 last_status (x ∷ xs) place = option_or (last_status xs place) (if x.0 == place then Some x.1 else None)
 
--- the script refuses just these items, and nothing was run under it
+-- the script refuses just these items, nothing was run under it, and it takes a body of any length
 pub record Refuses (refusals : List (ℕ × ℕ)) (plan : Plan) : Type 0 where
   pub statuses : (place : ℕ) → refusal_at plan place ≡ last_status refusals place
   pub none_run : plan.ran ≡ 0
+  pub unlimited : plan.limit ≡ None
 
 -- the text is no refusal
 abbrev pub IsNoRefusal : List ℕ → Type 0
