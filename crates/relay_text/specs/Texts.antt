@@ -1,5 +1,5 @@
 -- Names, documents and causes as a person reads them.
-use Rattle.std.specs.Prelude.{ℕ, List, ◌++◌, codes, decimal}
+use Rattle.std.specs.Prelude.{ℕ, List, [], ◌++◌, ◌==◌, if◌then◌else◌, codes, decimal}
 use Rattle.relay_action.specs.declared.key.DocKey.{DocKey}
 use Rattle.relay_action.specs.declared.operation.OpName.{OpName}
 use Rattle.relay_results.specs.declared.cause.Cause.{Cause}
@@ -9,9 +9,13 @@ use Rattle.relay_results.specs.declared.cause.Cause.TheVariants as cause
 abbrev pub spaced : ℕ → List ℕ
 spaced n = codes " " ++ decimal n
 
--- the name of an operation, `P:N`
+-- nothing in epoch 0, and `E.` in any other
+abbrev pub epoch_text : ℕ → List ℕ
+epoch_text epoch = if epoch == 0 then [] else decimal epoch ++ codes "."
+
+-- the name of an operation, `P:N` in epoch 0, and `E.P:N` in any other
 abbrev pub name_text : OpName → List ℕ
-name_text name = decimal name.producer ++ codes ":" ++ decimal name.number
+name_text name = epoch_text name.epoch ++ decimal name.producer ++ codes ":" ++ decimal name.number
 
 -- a document, `INDEX/ID`
 abbrev pub document_text : DocKey → List ℕ

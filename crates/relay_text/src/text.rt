@@ -1,6 +1,6 @@
 //! Texts that are added to the end of a vector.
 ghost use Rattle.std.specs.Prelude.{◌≡◌, ◌++◌, OnOk, decimal};
-ghost use Rattle.relay_text.specs.Texts.{cause_text, document_text, name_text, spaced};
+ghost use Rattle.relay_text.specs.Texts.{cause_text, document_text, epoch_text, name_text, spaced};
 
 use itoa::Buffer;
 use relay_action::{DocKey, OpName};
@@ -23,10 +23,23 @@ pub fn add_spaced(text: &mut Vec<u8>, number: u64) -> Result<(), AllocError>
     add_number(text, number)
 }
 
-/// Adds the name of an operation, `P:N`: its producer, from 0, and its number, from 1.
+// Adds an epoch and a point, or nothing in epoch 0.
+fn add_epoch(text: &mut Vec<u8>, epoch: u32) -> Result<(), AllocError>
+    ensures { OnOk result (text.new.items ≡ text.old.items ++ epoch_text epoch) }
+{
+    if epoch == 0 {
+        return Ok(());
+    }
+    add_number(text, epoch as u64)?;
+    text.extend_from_slice(b".")
+}
+
+/// Adds the name of an operation, `P:N` in epoch 0 and `E.P:N` in any other: its epoch, its producer, from 0,
+/// and its number, from 1.
 pub fn add_name(text: &mut Vec<u8>, name: OpName) -> Result<(), AllocError>
     ensures { OnOk result (text.new.items ≡ text.old.items ++ name_text name) }
 {
+    add_epoch(text, name.epoch)?;
     add_number(text, name.producer as u64)?;
     text.extend_from_slice(b":")?;
     add_number(text, name.number)
