@@ -98,6 +98,7 @@ no_put_by text f (event.Run r i c) h = h
 no_put_by text f (event.Reply r picks) h = h
 no_put_by text f (event.Whole r s) h = h
 no_put_by text f (event.Lost r) h = h
+no_put_by text f (event.Restart e) h = h
 
 pub no_producer : (text word rest : List ℕ) → Begins text word rest → ((n : ℕ) → IsNumber word n → n < 2 ^ 32 → ⊥) → (e : Event) → Puts text e → ⊥
 no_producer text word rest b bad =

@@ -24,6 +24,7 @@ refusal_name no.NotRun = codes "NotRun"
 refusal_name no.BadStatus = codes "BadStatus"
 refusal_name no.NoSuch = codes "NoSuch"
 refusal_name no.NumbersSpent = codes "NumbersSpent"
+refusal_name no.NotAbove = codes "NotAbove"
 
 -- how the operations of a request ended: applied by it, applied already, reported, to be sent again
 abbrev pub counts_text : Settled → List ℕ

@@ -12,10 +12,10 @@ abbrev pub all_fit : List ℕ → Bool
 all_fit [] = true
 all_fit (n ∷ ns) = nat_lt n (2 ^ 32) && all_fit ns
 
--- ten numbers are a config, in this order; all but the bytes and the first version have 32 bits
+-- eleven numbers are a config, in this order; all but the bytes and how many versions are dealt have 32 bits
 abbrev pub config_of : List ℕ → Option RelayConfig
-config_of (lanes ∷ producers ∷ capacity ∷ held ∷ count ∷ bytes ∷ linger ∷ attempts ∷ flying ∷ first ∷ []) =
-    if all_fit (lanes ∷ producers ∷ capacity ∷ held ∷ count ∷ linger ∷ attempts ∷ flying ∷ []) then Some (record {
+config_of (lanes ∷ producers ∷ capacity ∷ held ∷ count ∷ bytes ∷ linger ∷ attempts ∷ flying ∷ epoch ∷ deal ∷ []) =
+    if all_fit (lanes ∷ producers ∷ capacity ∷ held ∷ count ∷ linger ∷ attempts ∷ flying ∷ epoch ∷ []) then Some (record {
       lanes = lanes;
       producers = producers;
       capacity = capacity;
@@ -23,11 +23,12 @@ config_of (lanes ∷ producers ∷ capacity ∷ held ∷ count ∷ bytes ∷ lin
       limits = record { count = count; bytes = bytes; linger = linger };
       attempts = attempts;
       in_flight = flying;
-      first_version = first;
+      epoch = epoch;
+      deal = deal;
     }) else None
 config_of other = None
 
--- the word `world` and the ten numbers of a config that is valid
+-- the word `world` and the eleven numbers of a config that is valid
 pub record IsConfigLine (line : List ℕ) (config : RelayConfig) : Type 0 where
   pub utf8 : IsUtf8 line
   pub rest : List ℕ

@@ -43,6 +43,10 @@ abbrev pub lost_of : List ℕ → Option Event
 lost_of (request ∷ []) = Some (event.Lost request)
 lost_of other = None
 
+abbrev pub restart_of : List ℕ → Option Event
+restart_of (epoch ∷ []) = if fits 32 epoch then Some (event.Restart epoch) else None
+restart_of other = None
+
 -- a request and its picks, if there are any
 abbrev pub reply_of : List ℕ → Option Event
 reply_of [] = None
@@ -59,6 +63,7 @@ event_of word numbers =
     else if bytes_eq word (codes "reply") then reply_of numbers
     else if bytes_eq word (codes "whole") then whole_of numbers
     else if bytes_eq word (codes "lost") then lost_of numbers
+    else if bytes_eq word (codes "restart") then restart_of numbers
     else None
 
 -- ---- puts

@@ -51,6 +51,7 @@ fn refusal_name(refusal: Refusal) -> &'static str
         Refusal::BadStatus => "BadStatus",
         Refusal::NoSuch => "NoSuch",
         Refusal::NumbersSpent => "NumbersSpent",
+        Refusal::NotAbove => "NotAbove",
     }
 }
 

@@ -10,8 +10,8 @@ use relay_batch::Limits;
 use relay_core::RelayConfig;
 use std::alloc::Global;
 
-/// The config of a line `world LANES PRODUCERS CAPACITY HELD COUNT BYTES LINGER ATTEMPTS FLYING FIRST`, ten
-/// decimal numbers. `Bad`: the line has another form, or the config is not valid. `Memory`: there was no memory
+/// The config of a line `world LANES PRODUCERS CAPACITY HELD COUNT BYTES LINGER ATTEMPTS FLYING EPOCH
+/// DEAL`, eleven decimal numbers. `Bad`: the line has another form, or the config is not valid. `Memory`: there was no memory
 /// for the numbers.
 pub fn read_config(alloc: Global, line: &[u8]) -> Result<RelayConfig, LineFault>
     ensures ok { IfOk result (IsConfigLine line.now) }
@@ -36,7 +36,7 @@ pub fn read_config(alloc: Global, line: &[u8]) -> Result<RelayConfig, LineFault>
     }
 }
 
-// The config that ten numbers are, if it is valid.
+// The config that eleven numbers are, if it is valid.
 fn valid_config(numbers: &[u64]) -> Option<RelayConfig>
     ensures some { IfSome result (λ c. (config_of numbers.now ≡ Some c) × (is_valid c ≡ true)) }
     ensures none { IfNone result ((c : RelayConfig) → config_of numbers.now ≡ Some c → is_valid c ≡ true → ⊥) }
@@ -47,7 +47,7 @@ fn valid_config(numbers: &[u64]) -> Option<RelayConfig>
     }
 }
 
-// The config that ten numbers are, where each fits.
+// The config that eleven numbers are, where each fits.
 fn config_of(numbers: &[u64]) -> Option<RelayConfig>
     ensures { result ≡ config_of numbers.now }
 {
@@ -62,7 +62,8 @@ fn config_of(numbers: &[u64]) -> Option<RelayConfig>
             linger,
             attempts,
             flying,
-            first,
+            epoch,
+            deal,
         ] => Some(RelayConfig {
             lanes: u32::try_from(*lanes).ok()?,
             producers: u32::try_from(*producers).ok()?,
@@ -75,7 +76,8 @@ fn config_of(numbers: &[u64]) -> Option<RelayConfig>
             },
             attempts: u32::try_from(*attempts).ok()?,
             in_flight: u32::try_from(*flying).ok()?,
-            first_version: *first,
+            epoch: u32::try_from(*epoch).ok()?,
+            deal: *deal,
         }),
         _ => None,
     }

@@ -1,7 +1,7 @@
 //! Events of a word and the numbers after it.
 ghost use Rattle.std.specs.Prelude.{◌≡◌};
 ghost use Rattle.relay_world.specs.declared.event.Event.TheVariants as event;
-ghost use Rattle.relay_script.specs.Events.{close_of, event_of, lost_of, of_lane, only_lane, reply_of, run_of, whole_of};
+ghost use Rattle.relay_script.specs.Events.{close_of, event_of, lost_of, of_lane, only_lane, reply_of, restart_of, run_of, whole_of};
 
 use relay_action::List;
 use relay_index::Choice;
@@ -21,6 +21,7 @@ pub fn event_of(word: &str, numbers: Vec<u64>) -> Option<Event>
         "reply" => reply_of(numbers),
         "whole" => whole_of(numbers.as_slice()),
         "lost" => lost_of(numbers.as_slice()),
+        "restart" => restart_of(numbers.as_slice()),
         _ => None,
     }
 }
@@ -123,6 +124,18 @@ fn lost_of(numbers: &[u64]) -> Option<Event>
 {
     match numbers {
         [request] => Some(Event::Lost(*request)),
+        _ => None,
+    }
+}
+
+fn restart_of(numbers: &[u64]) -> Option<Event>
+    ensures { result ≡ restart_of numbers.now }
+{
+    match numbers {
+        [epoch] => match u32::try_from(*epoch) {
+            Ok(epoch) => Some(Event::Restart(epoch)),
+            Err(_) => None,
+        },
         _ => None,
     }
 }

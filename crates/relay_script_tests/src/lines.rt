@@ -5,8 +5,8 @@ use relay_script::event_line::{LineFault, read_event};
 use relay_world::Event;
 use std::alloc::Global;
 
-/// The ten numbers of a config.
-fn numbers(config: RelayConfig) -> [u64; 10] {
+/// The eleven numbers of a config.
+fn numbers(config: RelayConfig) -> [u64; 11] {
     [
         config.lanes as u64,
         config.producers as u64,
@@ -17,15 +17,18 @@ fn numbers(config: RelayConfig) -> [u64; 10] {
         config.limits.linger as u64,
         config.attempts as u64,
         config.in_flight as u64,
-        config.first_version,
+        config.epoch as u64,
+        config.deal,
     ]
 }
 
 #[test]
 fn configs(rt: HostRuntime) {
-    let config = read_config(rt.alloc(), b"world 2 3 4 05 6 1027 8 9 1 10");
-    assert!(rt; config.is_ok_and(|config| numbers(config) == [2, 3, 4, 5, 6, 1027, 8, 9, 1, 10]));
-    assert!(rt; read_config(rt.alloc(), b"world 2 3 4 5 6 7 8 9 1 10") == Err(LineFault::Bad));
+    let config = read_config(rt.alloc(), b"world 2 3 4 05 6 1027 8 9 1 10 11");
+    assert!(rt;
+        config.is_ok_and(|config| numbers(config) == [2, 3, 4, 5, 6, 1027, 8, 9, 1, 10, 11])
+    );
+    assert!(rt; read_config(rt.alloc(), b"world 2 3 4 5 6 7 8 9 1 10 11") == Err(LineFault::Bad));
 }
 
 /// The numbers of an event, with that of its kind in front; of a put the producer and the lengths of its texts.
