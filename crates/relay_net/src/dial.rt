@@ -2,7 +2,7 @@
 ghost use Rattle.std.specs.Prelude.{◌≡◌, string_bytes};
 ghost use Rattle.relay_action.specs.Streams.{one_more};
 
-use relay_action::StdStream;
+use crate::socket::SocketStream;
 use relay_wires::{Dial, DialFault};
 use std::marker::Model;
 use std::net::{Net, OpenStream, TcpStream};
@@ -46,7 +46,7 @@ impl<R: Net> TcpDial<R> {
     }
 }
 
-impl<R: Net> Dial<StdStream<R::Stream>> for TcpDial<R> {
+impl<R: Net> Dial<SocketStream<R::Stream>> for TcpDial<R> {
     ghost use Rattle.std.specs.Prelude.{is_ok, if◌then◌else◌, IfOk};
 
     ghost failed = { λ d. d.1 };
@@ -57,7 +57,7 @@ impl<R: Net> Dial<StdStream<R::Stream>> for TcpDial<R> {
     /// system does.
     ///
     /// `DialFault`: the address is none, its name is not known, none answers, or the system has no socket.
-    fn dial(&mut self) -> Result<StdStream<R::Stream>, DialFault>
+    fn dial(&mut self) -> Result<SocketStream<R::Stream>, DialFault>
         ensures count { self.new.1 ≡ (if is_ok result then self.old.1 else one_more self.old.1) }
         ensures address { self.new.0 ≡ self.old.0 }
         ensures fresh { IfOk result (λ s. s.1 ≡ 0) }
@@ -68,6 +68,6 @@ impl<R: Net> Dial<StdStream<R::Stream>> for TcpDial<R> {
         if stream.set_nodelay(true).is_err() {
             return Err(self.fail());
         }
-        Ok(StdStream::new(stream))
+        Ok(SocketStream::new(stream))
     }
 }
