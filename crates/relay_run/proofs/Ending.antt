@@ -31,13 +31,13 @@ use Rattle.relay_run.specs.Handles.{Given, given_to, all_given, EndsFed, AllEndF
 
 -- the operations that it was fed join what it had put, under their names
 put_on : (s : ProducerState) (done : List Op) (ops : List Operation) → HasPut s.producer s.put (open_puts s.ends) done
-    → HasPut s.producer (after_puts s ops).put (open_puts (after_puts s ops).ends) (done ++ named s.producer (s.put + 1) ops)
+    → HasPut s.producer (after_puts s ops).put (open_puts (after_puts s ops).ends) (done ++ named s.epoch s.producer (s.put + 1) ops)
 put_on s done [] h = subst (HasPut s.producer s.put (open_puts s.ends)) (sym (append-nil done)) h
 put_on s done (op ∷ ops) h =
     let next = next_op op.0 op.1 s in
     let t = after_put op.0 op.1 s in
     let more : HasPut t.producer t.put (open_puts t.ends) (done ++ next ∷ []) = put_more s.producer s.put s.ends done next refl refl h in
-    subst (HasPut s.producer (after_puts t ops).put (open_puts (after_puts t ops).ends)) (append_assoc done (next ∷ []) (named s.producer (t.put + 1) ops)) (put_on t (done ++ next ∷ []) ops more)
+    subst (HasPut s.producer (after_puts t ops).put (open_puts (after_puts t ops).ends)) (append_assoc done (next ∷ []) (named s.epoch s.producer (t.put + 1) ops)) (put_on t (done ++ next ∷ []) ops more)
 
 same_producer : (s : ProducerState) (ops : List Operation) → (after_puts s ops).producer ≡ s.producer
 same_producer s [] = refl
@@ -55,8 +55,8 @@ fresh_at (q ∷ qs) p zero put at =
     record { sender = ap (λ (x : SenderEnd). x.sender) is; sent = ap (λ (x : SenderEnd). x.sent) is }
 fresh_at (q ∷ qs) p (suc lane) put at = fresh_at qs p lane put at
 
-new_none : (queues : List Queue) (p : ℕ) → HasPut p 0 (open_puts (new_producer queues p).ends) []
-new_none queues p = record {
+new_none : (queues : List Queue) (epoch p : ℕ) → HasPut p 0 (open_puts (new_producer queues epoch p).ends) []
+new_none queues epoch p = record {
   counted = refl;
   numbered = tt;
   senders = λ lane put at. (fresh_at queues p lane put at).sender;
@@ -82,101 +82,101 @@ stopped rest new fed after (Some fault.LaneGone) h =
     }
 
 module _ {S : Type 0} (left : S → Option (List ℕ)) (failed : S → ℕ) (index : Option (List ℕ)) where
-  fed_put : (queues : List Queue) (p : ℕ) (reader : Option S) (ops : List Operation) (after : ProducerState) (f : Option FeedFault) → IsFedFrom left failed index reader ops (new_producer queues p) after f
-      → HasPut p after.put (open_puts after.ends) (named p 1 ops)
-  fed_put queues p None ops after f h =
-      let P : List Operation × ProducerState → Type 0 = λ x. HasPut p x.1.put (open_puts x.1.ends) (named p 1 x.0) in
-      subst P (λ i. (sym h.0 i, sym h.1 i)) (new_none queues p)
-  fed_put queues p (Some reader) ops after f h =
+  fed_put : (queues : List Queue) (epoch p : ℕ) (reader : Option S) (ops : List Operation) (after : ProducerState) (f : Option FeedFault) → IsFedFrom left failed index reader ops (new_producer queues epoch p) after f
+      → HasPut p after.put (open_puts after.ends) (named epoch p 1 ops)
+  fed_put queues epoch p None ops after f h =
+      let P : List Operation × ProducerState → Type 0 = λ x. HasPut p x.1.put (open_puts x.1.ends) (named epoch p 1 x.0) in
+      subst P (λ i. (sym h.0 i, sym h.1 i)) (new_none queues epoch p)
+  fed_put queues epoch p (Some reader) ops after f h =
       let x = h.1 in
-      let all = put_on (new_producer queues p) [] x.ops (new_none queues p) in
-      let s = stopped x.rest h.0 (after_puts (new_producer queues p) x.ops) after f x.stops in
-      let P : ℕ × List SenderEnd × List Operation → Type 0 = λ y. HasPut p y.0 y.1 (named p 1 y.2) in
+      let all = put_on (new_producer queues epoch p) [] x.ops (new_none queues epoch p) in
+      let s = stopped x.rest h.0 (after_puts (new_producer queues epoch p) x.ops) after f x.stops in
+      let P : ℕ × List SenderEnd × List Operation → Type 0 = λ y. HasPut p y.0 y.1 (named epoch p 1 y.2) in
       subst P (λ i. (sym s.put i, sym s.ends i, h.2 i)) all
 
-  closed_put : (queues : List Queue) (p : ℕ) (reader : Option S) (c : ClosedProducerState) (f : Option FeedFault) (x : IsFed left failed index reader (new_producer queues p) c f) → HasPut p c.put (closed_puts c.ends) (named p 1 x.ops)
-  closed_put queues p reader c f x =
-      subst (λ n. HasPut p n (closed_puts c.ends) (named p 1 x.ops)) (sym x.same.1)
-      (put_kept p x.after.put x.after.ends c.ends (named p 1 x.ops) x.closes (fed_put queues p reader x.ops x.after f x.fed))
+  closed_put : (queues : List Queue) (epoch p : ℕ) (reader : Option S) (c : ClosedProducerState) (f : Option FeedFault) (x : IsFed left failed index reader (new_producer queues epoch p) c f) → HasPut p c.put (closed_puts c.ends) (named epoch p 1 x.ops)
+  closed_put queues epoch p reader c f x =
+      subst (λ n. HasPut p n (closed_puts c.ends) (named epoch p 1 x.ops)) (sym x.same.1)
+      (put_kept p x.after.put x.after.ends c.ends (named epoch p 1 x.ops) x.closes (fed_put queues epoch p reader x.ops x.after f x.fed))
 
   -- ---- all of them
 
   -- the same with the operations of each in a list
-  abbrev pub AreFedAs : List Queue → ℕ → List (List Operation) → List (Option S) → List (Option FeedFault) → Type 0
-  AreFedAs queues p [] readers [] = Unit {0}
-  AreFedAs queues p [] readers (f ∷ fs) = ⊥
-  AreFedAs queues p (o ∷ os) readers [] = ⊥
-  AreFedAs queues p (o ∷ os) readers (f ∷ fs) =
-      ((after : ProducerState) × IsFedFrom left failed index (first_reader readers) o (new_producer queues p) after f) × AreFedAs queues (p + 1) os (other_readers readers) fs
+  abbrev pub AreFedAs : List Queue → ℕ → ℕ → List (List Operation) → List (Option S) → List (Option FeedFault) → Type 0
+  AreFedAs queues epoch p [] readers [] = Unit {0}
+  AreFedAs queues epoch p [] readers (f ∷ fs) = ⊥
+  AreFedAs queues epoch p (o ∷ os) readers [] = ⊥
+  AreFedAs queues epoch p (o ∷ os) readers (f ∷ fs) =
+      ((after : ProducerState) × IsFedFrom left failed index (first_reader readers) o (new_producer queues epoch p) after f) × AreFedAs queues epoch (p + 1) os (other_readers readers) fs
 
-  fed_at : (queues : List Queue) (p : ℕ) (all : ℕ → List Operation) (os : List (List Operation)) (readers : List (Option S)) (fs : List (Option FeedFault)) → ((k : ℕ) → all (p + k) ≡ get_or os k []) → AreFedAs queues p os readers fs → AreFedFrom left failed index queues all p readers fs
-  fed_at queues p all [] readers [] e h = tt
-  fed_at queues p all [] readers (f ∷ fs) e h = absurd h
-  fed_at queues p all (o ∷ os) readers [] e h = absurd h
-  fed_at queues p all (o ∷ os) readers (f ∷ fs) e h =
+  fed_at : (queues : List Queue) (epoch p : ℕ) (all : ℕ → List Operation) (os : List (List Operation)) (readers : List (Option S)) (fs : List (Option FeedFault)) → ((k : ℕ) → all (p + k) ≡ get_or os k []) → AreFedAs queues epoch p os readers fs → AreFedFrom left failed index queues epoch all p readers fs
+  fed_at queues epoch p all [] readers [] e h = tt
+  fed_at queues epoch p all [] readers (f ∷ fs) e h = absurd h
+  fed_at queues epoch p all (o ∷ os) readers [] e h = absurd h
+  fed_at queues epoch p all (o ∷ os) readers (f ∷ fs) e h =
       let here : all p ≡ o = ap all (let z : p ≡ p + 0 = omega arith in z) ∙ e 0 in (
-        (h.0.0, subst (λ x. IsFedFrom left failed index (first_reader readers) x (new_producer queues p) h.0.0 f) (sym here) h.0.1),
-        fed_at queues (p + 1) all os (other_readers readers) fs (λ k. ap all (let z : p + 1 + k ≡ p + suc k = omega arith in z) ∙ e (suc k)) h.1,
+        (h.0.0, subst (λ x. IsFedFrom left failed index (first_reader readers) x (new_producer queues epoch p) h.0.0 f) (sym here) h.0.1),
+        fed_at queues epoch (p + 1) all os (other_readers readers) fs (λ k. ap all (let z : p + 1 + k ≡ p + suc k = omega arith in z) ∙ e (suc k)) h.1,
       )
 
 -- what they put
-abbrev pub HavePutAs : ℕ → List (List Operation) → List ClosedProducerState → Type 0
-HavePutAs p [] [] = Unit {0}
-HavePutAs p [] (c ∷ cs) = ⊥
-HavePutAs p (o ∷ os) [] = ⊥
-HavePutAs p (o ∷ os) (c ∷ cs) = HasPut p c.put (closed_puts c.ends) (named p 1 o) × HavePutAs (p + 1) os cs
+abbrev pub HavePutAs : ℕ → ℕ → List (List Operation) → List ClosedProducerState → Type 0
+HavePutAs epoch p [] [] = Unit {0}
+HavePutAs epoch p [] (c ∷ cs) = ⊥
+HavePutAs epoch p (o ∷ os) [] = ⊥
+HavePutAs epoch p (o ∷ os) (c ∷ cs) = HasPut p c.put (closed_puts c.ends) (named epoch p 1 o) × HavePutAs epoch (p + 1) os cs
 
-put_at : (p : ℕ) (all : ℕ → List Operation) (os : List (List Operation)) (cs : List ClosedProducerState) → ((k : ℕ) → all (p + k) ≡ get_or os k []) → HavePutAs p os cs → HavePut (λ q. named q 1 (all q)) p cs
-put_at p all [] [] e h = tt
-put_at p all [] (c ∷ cs) e h = absurd h
-put_at p all (o ∷ os) [] e h = absurd h
-put_at p all (o ∷ os) (c ∷ cs) e h =
+put_at : (epoch p : ℕ) (all : ℕ → List Operation) (os : List (List Operation)) (cs : List ClosedProducerState) → ((k : ℕ) → all (p + k) ≡ get_or os k []) → HavePutAs epoch p os cs → HavePut (λ q. named epoch q 1 (all q)) p cs
+put_at epoch p all [] [] e h = tt
+put_at epoch p all [] (c ∷ cs) e h = absurd h
+put_at epoch p all (o ∷ os) [] e h = absurd h
+put_at epoch p all (o ∷ os) (c ∷ cs) e h =
     let here : all p ≡ o = ap all (let z : p ≡ p + 0 = omega arith in z) ∙ e 0 in
-    (subst (λ x. HasPut p c.put (closed_puts c.ends) (named p 1 x)) (sym here) h.0, put_at (p + 1) all os cs (λ k. ap all (let z : p + 1 + k ≡ p + suc k = omega arith in z) ∙ e (suc k)) h.1)
+    (subst (λ x. HasPut p c.put (closed_puts c.ends) (named epoch p 1 x)) (sym here) h.0, put_at epoch (p + 1) all os cs (λ k. ap all (let z : p + 1 + k ≡ p + suc k = omega arith in z) ∙ e (suc k)) h.1)
 
 module _ {S : Type 0} (left : S → Option (List ℕ)) (failed : S → ℕ) where
   -- what is known of all that have ended
-  pub record AllFed (index : Option (List ℕ)) (queues : List Queue) (p : ℕ) (readers : List (Option S)) (ps : List ProducerState) (cs : List ClosedProducerState) (fs : List (Option FeedFault)) : Type 0 where
+  pub record AllFed (index : Option (List ℕ)) (queues : List Queue) (epoch p : ℕ) (readers : List (Option S)) (ps : List ProducerState) (cs : List ClosedProducerState) (fs : List (Option FeedFault)) : Type 0 where
     pub ops : List (List Operation)
-    pub fed : AreFedAs left failed index queues p ops readers fs
-    pub put : HavePutAs p ops cs
+    pub fed : AreFedAs left failed index queues epoch p ops readers fs
+    pub put : HavePutAs epoch p ops cs
     pub identities : map identity_of_closed cs ≡ map identity_of ps
     pub count : length fs ≡ length ps
 
-  pub all_fed : (index : Option (List ℕ)) (queues : List Queue) (p : ℕ) (readers : List (Option S)) (ps : List ProducerState) (cs : List ClosedProducerState) (fs : List (Option FeedFault)) → AreNew queues p ps → AllEndFed left failed (all_given index readers ps) cs fs
-      → AllFed index queues p readers ps cs fs
-  all_fed index queues p readers [] [] [] new h = record { ops = []; fed = tt; put = tt; identities = refl; count = refl }
-  all_fed index queues p readers [] [] (f ∷ fs) new h = absurd h
-  all_fed index queues p readers [] (c ∷ cs) fs new h = absurd h
-  all_fed index queues p readers (x ∷ ps) [] fs new h = absurd h
-  all_fed index queues p readers (x ∷ ps) (c ∷ cs) [] new h = absurd h
-  all_fed index queues p readers (x ∷ ps) (c ∷ cs) (f ∷ fs) new h =
-      let own : IsFed left failed index (first_reader readers) (new_producer queues p) c f = subst (λ (s : ProducerState). IsFed left failed index (first_reader readers) s c f) new.0 h.0 in
-      let r = all_fed index queues (p + 1) (other_readers readers) ps cs fs new.1 h.1 in
+  pub all_fed : (index : Option (List ℕ)) (queues : List Queue) (epoch p : ℕ) (readers : List (Option S)) (ps : List ProducerState) (cs : List ClosedProducerState) (fs : List (Option FeedFault)) → AreNew queues epoch p ps → AllEndFed left failed (all_given index readers ps) cs fs
+      → AllFed index queues epoch p readers ps cs fs
+  all_fed index queues epoch p readers [] [] [] new h = record { ops = []; fed = tt; put = tt; identities = refl; count = refl }
+  all_fed index queues epoch p readers [] [] (f ∷ fs) new h = absurd h
+  all_fed index queues epoch p readers [] (c ∷ cs) fs new h = absurd h
+  all_fed index queues epoch p readers (x ∷ ps) [] fs new h = absurd h
+  all_fed index queues epoch p readers (x ∷ ps) (c ∷ cs) [] new h = absurd h
+  all_fed index queues epoch p readers (x ∷ ps) (c ∷ cs) (f ∷ fs) new h =
+      let own : IsFed left failed index (first_reader readers) (new_producer queues epoch p) c f = subst (λ (s : ProducerState). IsFed left failed index (first_reader readers) s c f) new.0 h.0 in
+      let r = all_fed index queues epoch (p + 1) (other_readers readers) ps cs fs new.1 h.1 in
       let same : identity_of_closed c ≡ identity_of x = h.0.identity in
       let others = r.identities in
       record {
         ops = own.ops ∷ r.ops;
         fed = ((own.after, own.fed), r.fed);
-        put = (closed_put left failed index queues p (first_reader readers) c f own, r.put);
+        put = (closed_put left failed index queues epoch p (first_reader readers) c f own, r.put);
         identities = λ i. same i ∷ others i;
         count = ap suc r.count;
       }
 
   -- what `run` says of them
-  pub record FedAndPut (index : Option (List ℕ)) (queues : List Queue) (readers : List (Option S)) (cs : List ClosedProducerState) (fs : List (Option FeedFault)) : Type 0 where
+  pub record FedAndPut (index : Option (List ℕ)) (queues : List Queue) (epoch : ℕ) (readers : List (Option S)) (cs : List ClosedProducerState) (fs : List (Option FeedFault)) : Type 0 where
     pub ops : ℕ → List Operation
-    pub fed : AreFedFrom left failed index queues ops 0 readers fs
-    pub put : HavePut (λ p. named p 1 (ops p)) 0 cs
+    pub fed : AreFedFrom left failed index queues epoch ops 0 readers fs
+    pub put : HavePut (λ p. named epoch p 1 (ops p)) 0 cs
 
-  pub fed_and_put : (index : Option (List ℕ)) (queues : List Queue) (readers : List (Option S)) (ps : List ProducerState) (cs : List ClosedProducerState) (fs : List (Option FeedFault)) → AllFed index queues 0 readers ps cs fs → FedAndPut index queues readers cs fs
-  fed_and_put index queues readers ps cs fs h =
+  pub fed_and_put : (index : Option (List ℕ)) (queues : List Queue) (epoch : ℕ) (readers : List (Option S)) (ps : List ProducerState) (cs : List ClosedProducerState) (fs : List (Option FeedFault)) → AllFed index queues epoch 0 readers ps cs fs → FedAndPut index queues epoch readers cs fs
+  fed_and_put index queues epoch readers ps cs fs h =
       let all : ℕ → List Operation = λ k. get_or h.ops k [] in
       let same : (k : ℕ) → all (0 + k) ≡ get_or h.ops k [] = λ k. ap all (let z : 0 + k ≡ k = omega arith in z) in
       record {
         ops = all;
-        fed = fed_at left failed index queues 0 all h.ops readers fs same h.fed;
-        put = put_at 0 all h.ops cs same h.put;
+        fed = fed_at left failed index queues epoch 0 all h.ops readers fs same h.fed;
+        put = put_at epoch 0 all h.ops cs same h.put;
       }
 
   -- ---- one thread after another

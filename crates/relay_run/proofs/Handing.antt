@@ -24,15 +24,15 @@ rest [] = []
 rest (x ∷ xs) = xs
 
 -- closed producers with the identities of new ones, and the control behind them
-pub rows_back : (queues : List Queue) (p n : ℕ) (ps : List ProducerState) (cs : List ClosedProducerState) (control : ClosedControlState) → n ≡ p + length ps → AreNew queues p ps → map identity_of_closed cs ≡ map identity_of ps → identities (closed_puts control.ends) ≡ ends_of queues n → AreRows queues p (rows_of cs control)
-rows_back queues p n [] [] control count new same last = (subst (λ k. identities (closed_puts control.ends) ≡ ends_of queues k) (omega (arith, count)) last, tt)
-rows_back queues p n [] (c ∷ cs) control count new same last = absurd (no_more (identity_of_closed c) (map identity_of_closed cs) same)
-rows_back queues p n (x ∷ ps) [] control count new same last = absurd (no_more (identity_of x) (map identity_of ps) (sym same))
-rows_back queues p n (x ∷ ps) (c ∷ cs) control count new same last =
+pub rows_back : (queues : List Queue) (epoch p n : ℕ) (ps : List ProducerState) (cs : List ClosedProducerState) (control : ClosedControlState) → n ≡ p + length ps → AreNew queues epoch p ps → map identity_of_closed cs ≡ map identity_of ps → identities (closed_puts control.ends) ≡ ends_of queues n → AreRows queues p (rows_of cs control)
+rows_back queues epoch p n [] [] control count new same last = (subst (λ k. identities (closed_puts control.ends) ≡ ends_of queues k) (omega (arith, count)) last, tt)
+rows_back queues epoch p n [] (c ∷ cs) control count new same last = absurd (no_more (identity_of_closed c) (map identity_of_closed cs) same)
+rows_back queues epoch p n (x ∷ ps) [] control count new same last = absurd (no_more (identity_of x) (map identity_of ps) (sym same))
+rows_back queues epoch p n (x ∷ ps) (c ∷ cs) control count new same last =
     let head : identity_of_closed c ≡ identity_of x = ap (first (identity_of x)) same in
     let is : identity_of x ≡ (p, ends_of queues p) = ap identity_of new.0 ∙ ap (λ (es : List (Queue × ℕ)). (p, es)) (fresh_ends queues p) in
     let back : identities (closed_puts c.ends) ≡ ends_of queues p = ap (λ (i : Identity). i.1) (head ∙ is) in
-    (back, rows_back queues (p + 1) n ps cs control (omega (arith, count)) new.1 (ap rest same) last)
+    (back, rows_back queues epoch (p + 1) n ps cs control (omega (arith, count)) new.1 (ap rest same) last)
 
 -- as many come back as were given out
 pub count_back : (ps : List ProducerState) (cs : List ClosedProducerState) → map identity_of_closed cs ≡ map identity_of ps → length cs ≡ length ps
@@ -49,5 +49,5 @@ none_out_push out [] w none e = (e, tt)
 none_out_push out (x ∷ ws) w none e = (none.0, none_out_push out ws w none.1 e)
 
 -- the same of all producers
-pub rows_of_all : (queues : List Queue) (n : ℕ) (ps : List ProducerState) (cs : List ClosedProducerState) (control : ClosedControlState) → n ≡ length ps → AreNew queues 0 ps → map identity_of_closed cs ≡ map identity_of ps → identities (closed_puts control.ends) ≡ ends_of queues n → AreRows queues 0 (rows_of cs control)
-rows_of_all queues n ps cs control count new same last = rows_back queues 0 n ps cs control (omega (arith, count)) new same last
+pub rows_of_all : (queues : List Queue) (epoch n : ℕ) (ps : List ProducerState) (cs : List ClosedProducerState) (control : ClosedControlState) → n ≡ length ps → AreNew queues epoch 0 ps → map identity_of_closed cs ≡ map identity_of ps → identities (closed_puts control.ends) ≡ ends_of queues n → AreRows queues 0 (rows_of cs control)
+rows_of_all queues epoch n ps cs control count new same last = rows_back queues epoch 0 n ps cs control (omega (arith, count)) new same last

@@ -11,10 +11,10 @@ use Rattle.relay_run.specs.declared.feed.FeedFault.{FeedFault}
 use Rattle.relay_run.specs.Feeding.{Feeds}
 use Rattle.relay_run.specs.Identities.{identity_of, identity_of_closed}
 
--- operations under the names of this producer, with the numbers n, n + 1, and so on
-abbrev pub named : ℕ → ℕ → List Operation → List Op
-named producer n [] = []
-named producer n (op ∷ ops) = record { producer = producer; number = n; key = op.0; action = op.1 } ∷ named producer (n + 1) ops
+-- operations under the names of this producer of an epoch, with the numbers n, n + 1, and so on
+abbrev pub named : ℕ → ℕ → ℕ → List Operation → List Op
+named epoch producer n [] = []
+named epoch producer n (op ∷ ops) = record { epoch = epoch; producer = producer; number = n; key = op.0; action = op.1 } ∷ named epoch producer (n + 1) ops
 
 -- what `feed` answers, where this is its fault, if it has one
 abbrev pub answer_of : Option FeedFault → Result Unit FeedFault
@@ -49,8 +49,8 @@ module _ {S : Type 0} (left : S → Option (List ℕ)) (failed : S → ℕ) (ind
 
   -- The producers numbered p, p + 1, and so on, each of which had put nothing, were fed these operations, each from the reader
   -- at its place, and these are the faults that ended it.
-  abbrev pub AreFedFrom : List Queue → (ℕ → List Operation) → ℕ → List (Option S) → List (Option FeedFault) → Type 0
-  AreFedFrom queues ops p readers [] = Unit {0}
-  AreFedFrom queues ops p readers (fault ∷ faults) =
-      ((after : ProducerState) × IsFedFrom (first_reader readers) (ops p) (new_producer queues p) after fault)
-      × AreFedFrom queues ops (p + 1) (other_readers readers) faults
+  abbrev pub AreFedFrom : List Queue → ℕ → (ℕ → List Operation) → ℕ → List (Option S) → List (Option FeedFault) → Type 0
+  AreFedFrom queues epoch ops p readers [] = Unit {0}
+  AreFedFrom queues epoch ops p readers (fault ∷ faults) =
+      ((after : ProducerState) × IsFedFrom (first_reader readers) (ops p) (new_producer queues epoch p) after fault)
+      × AreFedFrom queues epoch ops (p + 1) (other_readers readers) faults

@@ -20,7 +20,7 @@ use relay_commands::exit::Exit;
 use relay_core::Report;
 use relay_http::is_host;
 use relay_lane::RelayConfig;
-use relay_net::TcpDial;
+use relay_net::{SocketStream, TcpDial};
 use relay_text::add_number;
 use relay_threads::{FinishFault, FinishFaultKind, LaneSummary, StartFault, Summary};
 use relay_wires::HttpWire;
@@ -62,7 +62,7 @@ impl RunOptions {
 }
 
 /// A wire over TCP.
-type TcpWire = HttpWire<StdStream<TcpStream>, TcpDial<HostRuntime>>;
+type TcpWire = HttpWire<SocketStream<TcpStream>, TcpDial<HostRuntime>>;
 
 // A wire to the index for each lane.
 fn make_wires(

@@ -63,8 +63,8 @@ where
     ensures wire_count { IsErrAnd result (λ e. e ≡ StartFault.WireCount) ↔ ((is_valid config ≡ true)
         × ((vec_len wires ≢ config.lanes) ⊎ (vec_len paces ≢ config.lanes))) }
     ensures delivered { IfOk result (λ r. (queues : List Queue) × (ops : ℕ → List Operation)
-        × AreFedFrom S.left S.failed (shown index.entry) queues ops 0 readers.items r.faults.items
-        × IfOk r.end (λ s. AllDelivered W.describes W.fits config (λ p. named p 1 (ops p)) 0
+        × AreFedFrom S.left S.failed (shown index.entry) queues config.epoch ops 0 readers.items r.faults.items
+        × IfOk r.end (λ s. AllDelivered W.describes W.fits config (λ p. named config.epoch p 1 (ops p)) 0
         wires.items s.lanes.items)) }
 {
     let (relay, producers, mut control) = match Relay::start(rt, alloc, config, wires, paces) {

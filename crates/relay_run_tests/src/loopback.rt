@@ -32,7 +32,8 @@ const CONFIG: RelayConfig = RelayConfig {
     },
     attempts: 3,
     in_flight: 1,
-    first_version: 1,
+    epoch: 0,
+    deal: 1_099_511_627_775,
 };
 
 // The text of an operation: it stores its own number.
