@@ -20,15 +20,16 @@ Each FILE has operations as the OpenSearch bulk API writes them (see `relay help
 producer of its own. An operation is routed by its document to one of the lanes, given the lane's next
 external version, and sent in bulk requests POST /_bulk over HTTP/1.1 to ADDR. A write that is refused with
 429 or 503, or whose request or reply is lost, is sent again with the same version, so that the index
-applies it once; the operations of a document are sent one after another.
+applies it once; the operations of a document are sent one after another. A request that is answered 413 is
+sent again in halves.
 
     relay run --to 127.0.0.1:9200 --index books ops.ndjson
 
 At the end standard output gets a line for each operation that could not be settled, by producer (the
-place of its file, from 0) and number, and then the counts:
+place of its file, from 0) and number, and then the counts. In an epoch E above 0 a name is E.P:N.
 
     report P:N INDEX/ID Refused STATUS KIND    the index refused the write
-    report P:N INDEX/ID Request STATUS         its request was refused as a whole
+    report P:N INDEX/ID Request STATUS         its request was refused as a whole; with 413, alone
     report P:N INDEX/ID Conflict               a version that is not below its own stood there before it
     report P:N INDEX/ID GaveUp SENDS           no answer settled it after so many sends
     report P:N INDEX/ID Spent                  its lane had no version left for it
@@ -44,8 +45,15 @@ It ends with status 0, with 1 where the command line is at fault, with 2 for a f
 with 3 for a file, an output or a lane's thread that failed, with 4 where it ran out of memory, and with 5
 where operations were reported; of several with the first of 4, 3, 2 and 5.
 
-Every version that the index has stored for these documents has to be below --first, and nobody else may
-write them meanwhile.";
+Versions are --epoch times 2^40 and a count from 1 in each lane: every version that the index has stored for
+these documents has to be at most --epoch times 2^40, and nobody else may write them meanwhile. Give each run
+over the same documents an epoch above those of all earlier runs; with another, each write is a conflict and
+reported.
+
+After a crash, be sure that the old process is gone, and run the same files again with the next epoch. A
+request of the old run that still arrives is applied before the new writes of its document, or not at all. If
+the old process still sends, the order of the writes holds all the same, but what it counts as applied already
+may be wrong.";
 
 // An option that is a number from `least` to `most`.
 struct NumberOption {
@@ -59,11 +67,11 @@ struct NumberOption {
 // Those of `relay run`, in the order of its help.
 const NUMBERS: &[NumberOption] = &[
     NumberOption {
-        name: "first",
-        least: 1,
-        most: 9_000_000_000_000_000_000,
-        default: "1",
-        help: "The version that each lane gives first, from 1 to 9000000000000000000",
+        name: "epoch",
+        least: 0,
+        most: 4_194_303,
+        default: "0",
+        help: "The epoch, above those of all earlier runs, from 0 to 4194303",
     },
     NumberOption {
         name: "lanes",
@@ -198,7 +206,8 @@ fn options_of(alloc: Global, matches: &ArgMatches<'_>) -> Result<RunOptions, All
         },
         attempts: number_of(matches, "attempts"),
         in_flight: number_of(matches, "flying"),
-        first_version: matches.get_one::<u64>("first").unwrap_or(0),
+        epoch: number_of(matches, "epoch"),
+        deal: 1_099_511_627_775,
     };
     Ok(RunOptions {
         files,

@@ -45,6 +45,9 @@ const REQUESTS_HELP: &str = "How many connections to serve, from 0 to 1844674407
 const REFUSE_HELP: &str =
     "Items that the index refuses, as 2:429,5:400: the place of an item from 1, counted over all requests, and a status from 400 to 599 other than 404 and 409 [default: none]";
 
+const MAX_HELP: &str =
+    "The most bytes of a request's body, from 0 to 18446744073709551615; a longer one is answered 413, and nothing of it is run [default: no limit but 16777216, past which the connection is dropped]";
+
 /// Its help and its options.
 pub fn command<'a>(alloc: Global, name: &'static str) -> Result<Command<'a>, AllocError> {
     let listen = Arg::new(alloc, "listen")
@@ -65,20 +68,30 @@ pub fn command<'a>(alloc: Global, name: &'static str) -> Result<Command<'a>, All
         .value_name("LIST")
         .action(ArgAction::Set)
         .help(REFUSE_HELP);
+    let max = Arg::new(alloc, "max")
+        .long("max")
+        .value_name("BYTES")
+        .action(ArgAction::Set)
+        .value_parser(ValueParser::unsigned(0, u64::MAX))
+        .help(MAX_HELP);
     Command::new(alloc, name)
         .about(ABOUT)
         .long_about(LONG_ABOUT)
         .arg(listen)?
         .arg(requests)?
-        .arg(refuse)
+        .arg(refuse)?
+        .arg(max)
 }
 
 /// Runs it over sockets and standard output.
 pub fn run<R: Print + Eprint + Net + AllocGlobal>(rt: &R, matches: &ArgMatches<'_>) -> Exit {
-    let script = match script_of(rt, matches) {
+    let mut script = match script_of(rt, matches) {
         Ok(script) => script,
         Err(exit) => return exit,
     };
+    if let Some(max) = matches.get_one::<u64>("max") {
+        script.too_large(max);
+    }
     let address = matches.get_str("listen").unwrap_or("");
     let requests = matches.get_one::<u64>("requests").unwrap_or(0);
     let Ok(mut listener) = TcpListen::bind(rt, address) else {

@@ -17,14 +17,14 @@ its lines are read from standard input and played one after another on a world w
 threads or sockets, and each is answered by a line on standard output. At the end stands what the
 world has come to.
 
-The first line says how the relay works, in ten numbers:
+The first line says how the relay works, in eleven numbers:
 
-    world LANES PRODUCERS CAPACITY HELD COUNT BYTES LINGER ATTEMPTS FLYING FIRST
+    world LANES PRODUCERS CAPACITY HELD COUNT BYTES LINGER ATTEMPTS FLYING EPOCH DEAL
 
 with 1 to 8 lanes, 1 to 16 producers, 1 to 65536 messages in a lane's queue and as many operations
 that a lane holds, batches of 1 to 10000 operations and 1024 to 16777216 bytes that wait for at most
-65535 ticks to be filled, 1 to 32 attempts, 1 request of a lane in flight, and the first version from
-1 to 9000000000000000000. Each further line is an event:
+65535 ticks to be filled, 1 to 32 attempts, 1 request of a lane in flight, an epoch from 0 to 4194303,
+and 1 to 1099511627775 versions that a lane deals in it. Each further line is an event:
 
     put P INDEX ID index SOURCE  producer P puts a document; SOURCE is the rest of the line
     put P INDEX ID delete        or a deletion; a document belongs to one lane
@@ -38,15 +38,16 @@ that a lane holds, batches of 1 to 10000 operations and 1024 to 16777216 bytes t
     reply R N ..                 or by its N-th run, with one number for each item
     whole R STATUS               or as a whole, by a status from 201 to 599
     lost R                       or its reply is lost
+    restart EPOCH                all begins anew in a higher epoch but the requests and the index
 
 Producers and lanes are counted from 0; the control, which closes too, is the sender after the last
 producer. Requests are counted from 1 over all lanes, items and runs from 1. One space stands between
 two words, so INDEX and ID have none; numbers are decimal digits. The last line may lack its end.
 
-Answers are `ok P:N` for a put, with the name of the operation, `ok R INDEX/ID@VERSION ..` for a
-request that was sent, `ok STATUS` for a run, `ok APPLIED ALREADY REPORTED RETRIED` for a request that
-was answered, and else `ok`. An event that may not be is answered `no NAME` and changes nothing; the
-first of these that holds:
+Answers are `ok P:N` for a put, with the name of the operation (`ok E.P:N` in an epoch E above 0),
+`ok R INDEX/ID@VERSION ..` for a request that was sent, `ok STATUS` for a run, `ok APPLIED ALREADY
+REPORTED RETRIED` for a request that was answered, and else `ok`. An event that may not be is answered
+`no NAME` and changes nothing; the first of these that holds:
 
     put           NoSuch (producer), Closed, NumbersSpent (2^40 puts), QueueFull
     close         NoSuch (lane, sender), Closed (at this lane), QueueFull
@@ -57,13 +58,14 @@ first of these that holds:
     reply         NotSent, NotFlying, NotRun
     whole         NotSent, NotFlying, BadStatus
     lost          NotSent, NotFlying
+    restart       NotAbove
 
 At the end stand `accepted P COUNT` for each producer, `applied INDEX/ID VERSION P:N` for each write
 that the index applied, by document, `report LANE P:N INDEX/ID CAUSE` for each operation that was given
 up, with Refused STATUS TYPE, Request STATUS, Conflict, GaveUp SENDS or Spent, and `finished yes` where
 all senders have closed at all lanes and nothing is queued or held, else `finished no`. As an example:
 
-    printf '%s\\n' 'world 1 1 10 10 10 4096 0 3 1 1' 'put 0 b 1 index {\"a\":1}' \\
+    printf '%s\\n' 'world 1 1 10 10 10 4096 0 3 1 0 1000' 'put 0 b 1 index {\"a\":1}' \\
         'take 0' 'send 0' 'run 1 1' 'lost 1' 'tick 0' 'take 0' 'send 0' 'run 2 1' 'reply 2' | relay world
 
 A script has at most 1000000 lines. A line of another form ends it with `line N: BadLine` on standard
