@@ -43,6 +43,7 @@ fn mail_of(alloc: Global, number: u64) -> Result<Mail, BenchFault> {
         sender: 0,
         number,
         body: Body::Put(Op {
+            epoch: 0,
             producer: 0,
             number,
             key,
@@ -151,7 +152,8 @@ pub fn measure<R: Clock>(rt: &R, alloc: Global, held: u32) -> Result<LaneTimes, 
         },
         attempts: 3,
         in_flight: 1,
-        first_version: 1,
+        epoch: 0,
+        deal: 1_099_511_627_775,
     };
     if !config.valid() {
         return Err(BenchFault::Usage);
