@@ -35,14 +35,16 @@ def writes_of(body):
 
 class Server:
     """Serves connections in threads, a request at a time on each. `plan` gives for the number of a request, from 1, the
-    name of a fault or None."""
+    name of a fault or None. A body of more than `most` bytes is answered 413: when it is there; or, if `early` is given,
+    before it is read, and then the connection is closed at once (`closes`) or once the body came (`drains`). A request
+    waits for `delay()` seconds before anything is done with it."""
 
-    def __init__(self, plan=lambda number: None, refuse=lambda meta: None):
-        self.index, self.plan, self.refuse = Index(), plan, refuse
+    def __init__(self, plan=lambda number: None, refuse=lambda meta: None, most=2**64, early=None, delay=None):
+        self.index, self.plan, self.refuse, self.most, self.early, self.delay = Index(), plan, refuse, most, early, delay
         self.requests, self.lock = 0, threading.Lock()
         self.listener = socket.create_server(("127.0.0.1", 0))
         self.port = self.listener.getsockname()[1]
-        self.heads, self.streams = [], []
+        self.heads, self.streams, self.strays = [], [], []
         threading.Thread(target=self.accept, daemon=True).start()
 
     def accept(self):
@@ -84,6 +86,8 @@ class Server:
                     came += piece
                 head, came = came.split(b"\r\n\r\n", 1)
                 length = int(next(it for it in head.split(b"\r\n") if it.lower().startswith(b"content-length:")).split(b":")[1])
+                if self.early and length > self.most:
+                    return self.refuse_early(stream, length - len(came))
                 while len(came) < length:
                     piece = self.receive(stream)
                     if not piece:
@@ -92,6 +96,14 @@ class Server:
                 body, came = came[:length], came[length:]
                 if not self.answer(stream, head, body):
                     return
+
+    def refuse_early(self, stream, left):
+        with self.lock:
+            self.requests += 1
+        self.send(stream, 413, b"<html>too large</html>", more=b"Connection: close\r\n")
+        while self.early == "drains" and left > 0:
+            piece = self.receive(stream)
+            left = left - len(piece) if piece else 0
 
     @staticmethod
     def receive(stream):
@@ -102,6 +114,8 @@ class Server:
 
     def answer(self, stream, head, body):
         """Serves one request. Whether the connection is kept."""
+        if self.delay:
+            time.sleep(self.delay())
         with self.lock:
             self.requests += 1
             self.heads.append(head)
@@ -110,6 +124,8 @@ class Server:
                 return False
             if isinstance(fault, int):
                 return self.send(stream, fault, b"{}")
+            if len(body) > self.most:
+                return self.send(stream, 413, b"{}")
             entries = []
             for kind, meta, source in writes_of(body):
                 status = self.refuse(meta)
@@ -123,7 +139,7 @@ class Server:
         if fault == "late":
             time.sleep(0.3)
         if fault == "half":
-            self.send(stream, 200, reply, cut=len(reply) // 2)
+            self.send(stream, 200, reply, cut=len(reply) // 2 + 1)
             return False
         if fault == "garbage":
             return self.send(stream, 200, b"<html>not JSON</html>")
@@ -132,6 +148,8 @@ class Server:
         if fault == "chunked":
             parts = b"".join(b"%x\r\n%s\r\n" % (len(it), it) for it in (reply[:7], reply[7:]) if it)
             return self.write(stream, b"HTTP/1.1 200 OK\r\nTransfer-Encoding: chunked\r\n\r\n" + parts + b"0\r\n\r\n")
+        if fault in ("twice", "twice late", "and a half"):
+            return self.unasked(stream, reply, fault)
         if fault == "interim":
             self.write(stream, b"HTTP/1.1 100 Continue\r\n\r\n")
             return self.send(stream, 200, reply)
@@ -143,9 +161,29 @@ class Server:
             return False
         return self.send(stream, 200, reply)
 
-    def send(self, stream, status, body, more=b"", cut=None):
-        head = b"HTTP/1.1 %d X\r\nContent-Type: application/json\r\n%sContent-Length: %d\r\n\r\n" % (status, more, len(body))
-        return self.write(stream, head + body[:cut])
+    def unasked(self, stream, reply, fault):
+        """Sends a reply, and after it, or a tenth of a second later, the same again or half of it. What comes on the
+        connection from then on is no request that is served: it is kept, to be looked at."""
+        message = self.message(200, reply)
+        second = message[: len(message) // 2] if fault == "and a half" else message
+        if fault == "twice late":
+            self.write(stream, message)
+            time.sleep(0.1)
+            self.write(stream, second)
+        else:
+            self.write(stream, message + second)
+        came = self.receive(stream)
+        with self.lock:
+            self.strays.append(came)
+        return False
+
+    @staticmethod
+    def message(status, body, more=b""):
+        return b"HTTP/1.1 %d X\r\nContent-Type: application/json\r\n%sContent-Length: %d\r\n\r\n%s" % (status, more, len(body), body)
+
+    def send(self, stream, status, body, more=b"", cut=0):
+        message = self.message(status, body, more)
+        return self.write(stream, message[: len(message) - cut])
 
     @staticmethod
     def write(stream, data):

@@ -8,8 +8,10 @@ import sys
 import apply_cases
 import client_cases
 import lines_cases
+import restart_cases
 import run_cases
 import stub_cases
+import too_large_cases
 import world_cases
 from program import RESULTS, check, run
 
@@ -24,7 +26,7 @@ def command_line():
     for kind in (b"LineLong", b"NotJson", b"UnsupportedField", b"SourceNewline", b"VersionsSpent", b"relay lines --index"):
         check("help lines names %s" % kind, kind in kinds)
     script = run(["help", "world"]).stdout
-    for word in (b"world LANES", b"put P INDEX ID index SOURCE", b"reply R N ..", b"NumbersSpent", b"BadLine", b"finished yes"):
+    for word in (b"world LANES", b"put P INDEX ID index SOURCE", b"reply R N ..", b"restart EPOCH", b"NotAbove", b"NumbersSpent", b"BadLine", b"finished yes"):
         check("help world names %s" % word, word in script)
     for args, said in (
         ([], b"subcommand"),
@@ -51,7 +53,7 @@ def command_line():
 
 
 def main():
-    for group in (*lines_cases.GROUPS, *apply_cases.GROUPS, *stub_cases.GROUPS, *client_cases.GROUPS, *run_cases.GROUPS, *world_cases.GROUPS, command_line):
+    for group in (*lines_cases.GROUPS, *apply_cases.GROUPS, *stub_cases.GROUPS, *client_cases.GROUPS, *run_cases.GROUPS, *too_large_cases.GROUPS, *restart_cases.GROUPS, *world_cases.GROUPS, command_line):
         group()
     print("%d passed, %d failed" % (RESULTS["passed"], RESULTS["failed"]))
     sys.exit(RESULTS["failed"] != 0)

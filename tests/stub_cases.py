@@ -19,9 +19,10 @@ def free_port():
 class Stub:
     """A running `relay stub`."""
 
-    def __init__(self, requests, refuse=None, stdout=subprocess.PIPE):
+    def __init__(self, requests, refuse=None, stdout=subprocess.PIPE, most=None):
         self.port = free_port()
         more = [] if refuse is None else ["--refuse", refuse]
+        more += [] if most is None else ["--max", "%d" % most]
         args = ["stub", "--listen", "127.0.0.1:%d" % self.port, "--requests", "%d" % requests, *more]
         self.process = subprocess.Popen([RELAY, *args], stdin=subprocess.DEVNULL, stdout=stdout, stderr=subprocess.PIPE)
 
@@ -82,7 +83,7 @@ def applied(body, refuse=None):
 def answers(stub, name, body, wanted, **more):
     """The body is answered so, and the connection closes."""
     status, text = wanted
-    reason = {200: "OK", 400: "Bad Request"}[status]
+    reason = {200: "OK", 400: "Bad Request", 413: "Content Too Large"}[status]
     found = stub.ask(body, **more)
     check(name, found == (status, reason, text, "close"), found if len(str(found)) < 600 else "")
 
@@ -144,6 +145,30 @@ def other_requests():
     for method, target, body in asked:
         answers(stub, "%s %s" % (method, target), body, (400, NOT_BULK), method=method, target=target)
     stub.ends("nothing of these is run", b"")
+
+
+def too_large():
+    """A longer body than --max is answered 413: it is not read as lines, and nothing of it is run. What is no bulk request
+    is not weighed."""
+    one, two = delete(b"1", 1), delete(b"2", 2)
+    refused = (413, b'{"error":{"type":"TooLarge"},"status":413}')
+    stub = Stub(6, most=len(one))
+    answers(stub, "a body at the limit", one, applied(one))
+    answers(stub, "two that are longer", one + two, refused)
+    answers(stub, "a byte more, and no lines", b"x" * (len(one) + 1), refused)
+    answers(stub, "as many bytes, and no lines", b"x" * len(one), applied(b"x" * len(one)))
+    answers(stub, "no bulk request, and longer", one + two, (400, NOT_BULK), target="/")
+    second = b'{"errors":false,"items":[{"delete":{"_id":"2","_index":"b","_seq_no":1,"_version":2,"result":"not_found","status":404}}],"took":0}'
+    answers(stub, "the second alone", two, (200, second))
+    stub.ends("what was not too large", b"applied b/1 1 delete\napplied b/2 2 delete\n")
+    stub = Stub(2, "1:429", most=0)
+    answers(stub, "no bytes are allowed, and these are some", one, refused)
+    answers(stub, "and these are none", b"", applied(b""))
+    stub.ends("nothing was run", b"")
+    stub = Stub(1, most=2**64 - 1)
+    came = stub.send(b"POST /_bulk HTTP/1.1\r\nContent-Length: 16777217\r\n\r\n")
+    check("past 16 MiB it is dropped, whatever --max says", came == b"", came)
+    stub.ends("it counts", b"")
 
 
 def dropped():
@@ -241,6 +266,8 @@ def ends():
         (["--listen", "127.0.0.1:1", "--requests", "1", "x"], b"'x'"),
         (["--listen", "127.0.0.1:1", "--requests", "1", "--refuse", "1:429,1:404"], b"pair 2 "),
         (["--listen", "127.0.0.1:1", "--requests", "1", "--bogus"], b"--bogus"),
+        (["--listen", "127.0.0.1:1", "--requests", "1", "--max", "-1"], b"-1"),
+        (["--listen", "127.0.0.1:1", "--requests", "1", "--max", "18446744073709551616"], b"18446744073709551616"),
     ):
         done = run(["stub", *args])
         check("usage: %s" % args, done.returncode == 1 and said in done.stderr and done.stdout == b"", done)
@@ -256,4 +283,4 @@ def ends():
     stub.process.communicate()
 
 
-GROUPS = (same_answers, one_index, refusals, other_requests, dropped, byte_for_byte, unread_answers, many_connections, ends)
+GROUPS = (same_answers, one_index, refusals, too_large, other_requests, dropped, byte_for_byte, unread_answers, many_connections, ends)

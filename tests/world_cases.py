@@ -4,9 +4,9 @@ import subprocess
 from program import RELAY, case, check, directory, endless
 from world_scripts import play_all
 
-THREE = "world 1 1 10 10 10 4096 0 3 1 1"
-TWO = "world 1 1 10 10 10 4096 0 2 1 1"
-LAST = 9000000000000000000
+THREE = "world 1 1 10 10 10 4096 0 3 1 0 1000"
+TWO = "world 1 1 10 10 10 4096 0 2 1 0 1000"
+EPOCHS, DEAL = 4194303, 1099511627775
 LIMIT = 1114112
 LINES = 1000000
 
@@ -89,10 +89,91 @@ def rows():
     played("or sent again", THREE, SENT + "whole 1 503 [ok 0 0 0 1]", "accepted 0 1; finished no")
     played(
         "the last version",
-        "world 1 1 1 1 10 4096 0 3 1 %d" % LAST,
-        "put 0 b 1 delete [ok 0:1]; put 0 b 2 delete [no QueueFull]; take 0 [ok]; put 0 b 2 delete [ok 0:2]; take 0 [no HeldFull]; "
-        "send 0 [ok 1 b/1@%d]; run 1 1 [ok 404]; reply 1 [ok 1 0 0 0]; take 0 [ok]; close 0 0 [ok]; put 0 b 3 delete [no Closed]" % LAST,
-        "accepted 0 2; applied b/1 %d 0:1; report 0 0:2 b/2 Spent; finished no" % LAST,
+        "world 1 1 1 1 10 4096 0 3 1 8 1",
+        "put 0 b 1 delete [ok 8.0:1]; put 0 b 2 delete [no QueueFull]; take 0 [ok]; put 0 b 2 delete [ok 8.0:2]; take 0 [no HeldFull]; "
+        "send 0 [ok 1 b/1@8796093022209]; run 1 1 [ok 404]; reply 1 [ok 1 0 0 0]; take 0 [ok]; close 0 0 [ok]; put 0 b 3 delete [no Closed]",
+        "accepted 0 2; applied b/1 8796093022209 8.0:1; report 0 8.0:2 b/2 Spent; finished no",
+    )
+
+
+def too_large():
+    """A request that is too large is sent again in halves, and one operation that is too large alone is reported."""
+    played(
+        "halves, of which one is too large alone",
+        THREE,
+        "put 0 b 1 delete [ok 0:1]; put 0 b 2 delete [ok 0:2]; put 0 b 3 delete [ok 0:3]; take 0 [ok]; take 0 [ok]; take 0 [ok]; "
+        "send 0 [ok 1 b/1@1 b/2@2 b/3@3]; run 1 2 [ok 404]; whole 1 413 [ok 0 0 0 3]; send 0 [ok 2 b/1@1]; whole 2 413 [ok 0 0 1 0]; "
+        "send 0 [ok 3 b/2@2]; run 3 1 [ok 409]; reply 3 [ok 0 1 0 0]; send 0 [ok 4 b/3@3]",
+        "accepted 0 3; applied b/2 2 0:2; report 0 0:1 b/1 Request 413; finished no",
+    )
+    played(
+        "a half is no attempt: with one attempt what is halved is sent again, and GaveUp counts both requests",
+        "world 1 1 10 10 10 4096 0 1 1 0 1000",
+        "put 0 b 1 delete [ok 0:1]; put 0 b 2 delete [ok 0:2]; take 0 [ok]; take 0 [ok]; send 0 [ok 1 b/1@1 b/2@2]; "
+        "whole 1 413 [ok 0 0 0 2]; send 0 [ok 2 b/1@1]; lost 2 [ok 0 0 1 0]; send 0 [ok 3 b/2@2]; whole 3 503 [ok 0 0 1 0]",
+        "accepted 0 2; report 0 0:1 b/1 GaveUp 2; report 0 0:2 b/2 GaveUp 2; finished no",
+    )
+    played(
+        "an item whose own status is 413 is refused",
+        THREE,
+        SENT + "run 1 1 413 [ok 413]; reply 1 [ok 0 0 1 0]",
+        "accepted 0 1; report 0 0:1 b/1 Refused 413 scripted_refusal; finished no",
+    )
+
+
+def restarts():
+    """A new incarnation in a higher epoch: all begins anew but the requests and the index."""
+    first, second, third = 1, 2**40 + 1, 3 * 2**40 + 1
+    played(
+        "a restart, and a late run of an old request",
+        THREE,
+        SENT + "restart 1 [ok]; reply 1 [no NotFlying]; put 0 b 1 delete [ok 1.0:1]; take 0 [ok]; run 1 1 [ok 201]; "
+        "send 0 [ok 2 b/1@1099511627777]; run 2 1 [ok 200]; run 1 1 [ok 409]; reply 2 [ok 1 0 0 0]; restart 1 [no NotAbove]",
+        "accepted 0 1; applied b/1 1 0:1; applied b/1 1099511627777 1.0:1; finished no",
+    )
+    played(
+        "an old request is not applied once a newer write was",
+        THREE,
+        SENT + "restart 1 [ok]; put 0 b 1 delete [ok 1.0:1]; take 0 [ok]; send 0 [ok 2 b/1@%d]; run 2 1 [ok 404]; run 1 1 [ok 409]; reply 2 [ok 1 0 0 0]" % second,
+        "accepted 0 1; applied b/1 %d 1.0:1; finished no" % second,
+    )
+    played(
+        "an old request is answered no more, in whatever way",
+        THREE,
+        SENT + "run 1 1 [ok 201]; restart 3 [ok]; lost 1 [no NotFlying]; whole 1 503 [no NotFlying]; whole 1 200 [no NotFlying]; reply 1 [no NotFlying]; "
+        "reply 1 1 [no NotFlying]; put 0 b 1 delete [ok 3.0:1]; take 0 [ok]; send 0 [ok 2 b/1@%d]; reply 1 [no NotFlying]; lost 2 [ok 0 0 0 1]; lost 2 [no NotFlying]" % third,
+        "accepted 0 1; applied b/1 %d 0:1; finished no" % first,
+    )
+    played(
+        "queues, closings, reports and what was held are gone",
+        "world 2 2 1 1 10 4096 0 1 1 0 1000",
+        "put 0 b 4 delete [ok 0:1]; close 1 1 [ok]; close 0 1 [no QueueFull]; take 1 [ok]; close 0 1 [ok]; take 0 [ok]; send 0 [ok 1 b/4@1]; "
+        "lost 1 [ok 0 0 1 0]; tick 0 [ok]; restart 7 [ok]; take 0 [no NothingQueued]; take 1 [no NothingQueued]; send 0 [no NoRequest]; "
+        "put 0 b 4 delete [ok 7.0:1]; put 1 b 4 delete [no QueueFull]; close 0 1 [ok]; take 0 [ok]; put 1 b 4 delete [ok 7.1:1]",
+        "accepted 0 1; accepted 1 1; finished no",
+    )
+    played(
+        "numbers and versions begin anew, and a second restart begins them anew",
+        THREE,
+        "put 0 b 1 delete [ok 0:1]; put 0 b 2 delete [ok 0:2]; restart 1 [ok]; put 0 b 1 delete [ok 1.0:1]; take 0 [ok]; send 0 [ok 1 b/1@%d]; run 1 1 [ok 404]; "
+        "restart 3 [ok]; put 0 b 1 delete [ok 3.0:1]; put 0 b 1 delete [ok 3.0:2]; take 0 [ok]; take 0 [ok]; send 0 [ok 2 b/1@%d]; run 1 1 [ok 409]; "
+        "run 2 1 [ok 404]; run 1 1 [ok 409]; reply 2 [ok 1 0 0 0]" % (second, third),
+        "accepted 0 2; applied b/1 %d 1.0:1; applied b/1 %d 3.0:1; finished no" % (second, third),
+    )
+    played(
+        "what was taken past the deal of an epoch is of no other epoch",
+        "world 1 1 10 10 10 4096 0 3 1 0 1",
+        "put 0 b 1 delete [ok 0:1]; put 0 b 1 delete [ok 0:2]; take 0 [ok]; take 0 [ok]; restart 1 [ok]; put 0 b 1 index {} [ok 1.0:1]; take 0 [ok]; "
+        "send 0 [ok 1 b/1@%d]; run 1 1 [ok 201]; put 0 b 1 delete [ok 1.0:2]; take 0 [ok]" % second,
+        "accepted 0 2; applied b/1 %d 1.0:1; report 0 1.0:2 b/1 Spent; finished no" % second,
+    )
+    played(
+        "not above",
+        "world 1 1 10 10 10 4096 0 3 1 5 1000",
+        "restart 0 [no NotAbove]; restart 4 [no NotAbove]; restart 5 [no NotAbove]; restart 4194304 [no NotAbove]; restart 4294967295 [no NotAbove]; "
+        "restart 6 [ok]; restart 6 [no NotAbove]; restart 4194303 [ok]; restart 4194303 [no NotAbove]; put 0 b 1 delete [ok 4194303.0:1]; take 0 [ok]; "
+        "send 0 [ok 1 b/1@%d]" % (4194303 * 2**40 + 1),
+        "accepted 0 1; finished no",
     )
 
 
@@ -100,7 +181,7 @@ def refusals():
     """Each cause of each event, and at each place the one that comes first of those that hold."""
     played(
         "of senders",
-        "world 2 2 1 10 10 4096 0 3 1 1",
+        "world 2 2 1 10 10 4096 0 3 1 0 1000",
         "put 2 b 0 delete [no NoSuch]; close 0 2 [no NoSuch]; close 3 0 [no NoSuch]; close 3 2 [no NoSuch]; tick 2 [no NoSuch]; "
         "flush 2 [no NoSuch]; take 2 [no NoSuch]; send 2 [no NoSuch]; tick 4294967295 [no NoSuch]; take 0 [no NothingQueued]; "
         "send 0 [no NoRequest]; flush 0 [ok]; tick 0 [no QueueFull]; flush 0 [no QueueFull]; close 0 0 [no QueueFull]; "
@@ -133,13 +214,13 @@ def refusals():
     )
     played(
         "a second sender's messages and a full batch",
-        "world 1 2 10 10 1 4096 5 3 1 7",
-        "put 1 b 1 delete [ok 1:1]; put 0 a 9 delete [ok 0:1]; take 0 [ok]; send 0 [ok 1 b/1@7]; take 0 [ok]; send 0 [no NoRequest]; lost 1 [ok 0 0 0 1]; send 0 [ok 2 a/9@8]",
+        "world 1 2 10 10 1 4096 5 3 1 0 1000",
+        "put 1 b 1 delete [ok 1:1]; put 0 a 9 delete [ok 0:1]; take 0 [ok]; send 0 [ok 1 b/1@1]; take 0 [ok]; send 0 [no NoRequest]; lost 1 [ok 0 0 0 1]; send 0 [ok 2 a/9@2]",
         "accepted 0 1; accepted 1 1; finished no",
     )
     played(
         "a batch lingers until it is flushed",
-        "world 1 1 10 10 10 4096 5 3 1 1",
+        "world 1 1 10 10 10 4096 5 3 1 0 1000",
         "put 0 b 1 delete [ok 0:1]; take 0 [ok]; send 0 [no NoRequest]; flush 0 [ok]; send 0 [no NoRequest]; take 0 [ok]; send 0 [ok 1 b/1@1]",
         "accepted 0 1; finished no",
     )
@@ -150,14 +231,14 @@ def many():
     lanes = [6, 1, 0, 3, 2, 5, 4, 7]
     puts = "; ".join("put %d books %d delete [ok %d:1]" % (p, p % 8, p) for p in range(16))
     takes = "; ".join("take %d [ok]; take %d [ok]; take %d [no NothingQueued]" % (lane, lane, lane) for lane in range(8))
-    sends = "; ".join("send %d [ok %d books/%d@5]; run %d 1 [ok 404]; reply %d [ok 1 0 0 0]" % (lanes[i], i + 1, i, i + 1, i + 1) for i in range(8))
-    end = "; ".join(["accepted %d 1" % p for p in range(16)] + ["applied books/%d 5 %d:1" % (i, i) for i in range(8)] + ["finished no"])
-    played("eight lanes and sixteen producers", "world 8 16 10 10 10 4096 0 3 1 5", "; ".join([puts, takes, sends]), end)
+    sends = "; ".join("send %d [ok %d books/%d@1]; run %d 1 [ok 404]; reply %d [ok 1 0 0 0]" % (lanes[i], i + 1, i, i + 1, i + 1) for i in range(8))
+    end = "; ".join(["accepted %d 1" % p for p in range(16)] + ["applied books/%d 1 %d:1" % (i, i) for i in range(8)] + ["finished no"])
+    played("eight lanes and sixteen producers", "world 8 16 10 10 10 4096 0 3 1 0 1000", "; ".join([puts, takes, sends]), end)
     closed = "; ".join("close %d %d [ok]" % (s, lane) for lane in range(8) for s in range(17))
     taken = "; ".join("take %d [ok]" % lane for lane in range(8) for _ in range(17))
     end = "; ".join(["accepted %d 0" % p for p in range(16)])
-    played("all close", "world 8 16 17 10 10 4096 0 3 1 5", "; ".join([closed, taken]), end + "; finished yes")
-    played("all but one message was taken", "world 8 16 17 10 10 4096 0 3 1 5", "; ".join([closed, taken.rsplit("; ", 1)[0]]), end + "; finished no")
+    played("all close", "world 8 16 17 10 10 4096 0 3 1 0 1000", "; ".join([closed, taken]), end + "; finished yes")
+    played("all but one message was taken", "world 8 16 17 10 10 4096 0 3 1 0 1000", "; ".join([closed, taken.rsplit("; ", 1)[0]]), end + "; finished no")
     order = ["b", "a!", "a", "b!", "\u00e9", "aa"]
     text = "; ".join("put 0 %s x delete [ok 0:%d]; take 0 [ok]" % (name, at + 1) for at, name in enumerate(order))
     sent = " ".join("%s/x@%d" % (name, at + 1) for at, name in enumerate(order))
@@ -172,17 +253,17 @@ def bad_lines():
     bad("a blank line alone", b"\n", 1)
     bad("an event first", b"take 0\n", 1)
     for text in (
-        "world", "world ", "world 1 1 10 10 10 4096 0 3 1", THREE + " 1", THREE + " ", " " + THREE, "World" + THREE[5:], THREE.replace(" ", "  ", 1),
-        "world 0 1 10 10 10 4096 0 3 1 1", "world 9 1 10 10 10 4096 0 3 1 1", "world 1 0 10 10 10 4096 0 3 1 1", "world 1 17 10 10 10 4096 0 3 1 1",
-        "world 1 1 0 10 10 4096 0 3 1 1", "world 1 1 65537 10 10 4096 0 3 1 1", "world 1 1 10 0 10 4096 0 3 1 1", "world 1 1 10 65537 10 4096 0 3 1 1",
-        "world 1 1 10 10 0 4096 0 3 1 1", "world 1 1 10 10 10001 4096 0 3 1 1", "world 1 1 10 10 10 1023 0 3 1 1", "world 1 1 10 10 10 16777217 0 3 1 1",
-        "world 1 1 10 10 10 4096 65536 3 1 1", "world 1 1 10 10 10 4096 0 0 1 1", "world 1 1 10 10 10 4096 0 33 1 1", "world 1 1 10 10 10 4096 0 3 0 1",
-        "world 1 1 10 10 10 4096 0 3 2 1", "world 1 1 10 10 10 4096 0 3 1 0", "world 1 1 10 10 10 4096 0 3 1 %d" % (LAST + 1),
-        "world 4294967297 1 10 10 10 4096 0 3 1 1", "world 1 1 10 10 10 4096 4294967296 3 1 1", "world 1 1 10 10 10 4096 0 3 1 18446744073709551617",
-        "world 1 1 10 10 10 18446744073709552640 0 3 1 1", "world +1 1 10 10 10 4096 0 3 1 1", "world 1 1 10 10 10 4096 0 3 1 -1", "world 1 1 10 10 10 4096 0 3 1 x",
+        "world", "world ", "world 1 1 10 10 10 4096 0 3 1", "world 1 1 10 10 10 4096 0 3 1 0", THREE + " 1", THREE + " ", " " + THREE, "World" + THREE[5:], THREE.replace(" ", "  ", 1),
+        "world 0 1 10 10 10 4096 0 3 1 0 1000", "world 9 1 10 10 10 4096 0 3 1 0 1000", "world 1 0 10 10 10 4096 0 3 1 0 1000", "world 1 17 10 10 10 4096 0 3 1 0 1000",
+        "world 1 1 0 10 10 4096 0 3 1 0 1000", "world 1 1 65537 10 10 4096 0 3 1 0 1000", "world 1 1 10 0 10 4096 0 3 1 0 1000", "world 1 1 10 65537 10 4096 0 3 1 0 1000",
+        "world 1 1 10 10 0 4096 0 3 1 0 1000", "world 1 1 10 10 10001 4096 0 3 1 0 1000", "world 1 1 10 10 10 1023 0 3 1 0 1000", "world 1 1 10 10 10 16777217 0 3 1 0 1000",
+        "world 1 1 10 10 10 4096 65536 3 1 0 1000", "world 1 1 10 10 10 4096 0 0 1 0 1000", "world 1 1 10 10 10 4096 0 33 1 0 1000", "world 1 1 10 10 10 4096 0 3 0 0 1000",
+        "world 1 1 10 10 10 4096 0 3 2 0 1000", "world 1 1 10 10 10 4096 0 3 1 0 0", "world 1 1 10 10 10 4096 0 3 1 0 %d" % (DEAL + 1), "world 1 1 10 10 10 4096 0 3 1 %d 1000" % (EPOCHS + 1),
+        "world 4294967297 1 10 10 10 4096 0 3 1 0 1000", "world 1 1 10 10 10 4096 4294967296 3 1 0 1000", "world 1 1 10 10 10 4096 0 3 1 0 18446744073709551617", "world 1 1 10 10 10 4096 0 3 1 4294967296 1000",
+        "world 1 1 10 10 10 18446744073709552640 0 3 1 0 1000", "world +1 1 10 10 10 4096 0 3 1 0 1000", "world 1 1 10 10 10 4096 0 3 1 -1 1000", "world 1 1 10 10 10 4096 0 3 1 0 -1", "world 1 1 10 10 10 4096 0 3 1 0 x",
     ):
         bad("config %s" % text, text.encode() + b"\n", 1)
-    for text in ("world 8 16 65536 65536 10000 16777216 65535 32 1 %d" % LAST, "world 1 1 1 1 1 1024 0 1 1 1", "world 001 1 10 10 10 04096 00 3 1 01"):
+    for text in ("world 8 16 65536 65536 10000 16777216 65535 32 1 %d %d" % (EPOCHS, DEAL), "world 1 1 1 1 1 1024 0 1 1 0 1", "world 001 1 10 10 10 04096 00 3 1 00 01000"):
         producers = int(text.split()[2])
         case("config %s" % text, ["world"], text.encode(), b"".join(b"accepted %d 0\n" % p for p in range(producers)) + b"finished no\n", b"", 0)
     for text in (
@@ -190,7 +271,7 @@ def bad_lines():
         b"take 4294967296", b"take 18446744073709551616", b"take 1.0", b"TAKE 0", b"took 0", b"tick", b"flush x", b"send 0,0", b"close 0", b"close 0 0 0", b"close 4294967296 0",
         b"close 0 4294967296", b"run 1", b"run 1 1 1 1", b"run 1 1 65536", b"run 18446744073709551616 1", b"run 1 18446744073709551616", b"run 1 1 +400", b"reply", b"reply x",
         b"reply 1 ", b"reply 1  1", b"reply 1 18446744073709551616", b"reply 1 1 x", b"whole 1", b"whole 1 65536", b"whole 1 401 1", b"lost", b"lost 1 1", b"lost 18446744073709551616",
-        b"world 1 1 10 10 10 4096 0 3 1 1", b"\xff", b"take 0\xff", b"put", b"put 0", b"put 0 b", b"put 0 b 1", b"put 0 b 1 ", b"put 0 b 1 index", b"put 0 b 1 index ",
+        b"world 1 1 10 10 10 4096 0 3 1 0 1000", b"restart", b"restart ", b"restart 1 1", b"restart -1", b"restart 4294967296", b"\xff", b"take 0\xff", b"put", b"put 0", b"put 0 b", b"put 0 b 1", b"put 0 b 1 ", b"put 0 b 1 index", b"put 0 b 1 index ",
         b"put 0 b 1 delete ", b"put 0 b 1 delete x", b"put 0 b 1 deleted", b"put 0 b 1 update x", b"put 0 b  delete", b"put 0  1 delete", b"put 0  b 1 delete", b"put  0 b 1 delete",
         b"put 4294967296 b 1 delete", b"put x b 1 delete", b"put 0 b 1\tdelete", b"put 0 b 1 index a\rb", b"put 0 b 1 index a\xff", b"put 0 b\xff 1 delete",
         b"put 0 %s 1 delete" % (b"i" * 256), b"put 0 b %s delete" % (b"i" * 513), b"put 0 b 1 index %s" % (b"x" * 1048577),
@@ -264,4 +345,4 @@ def scripts():
     check("2,000 random scripts", not failures, failures[:5])
 
 
-GROUPS = (rows, refusals, many, bad_lines, limits, devices, prompt, scripts)
+GROUPS = (rows, too_large, restarts, refusals, many, bad_lines, limits, devices, prompt, scripts)

@@ -9,7 +9,7 @@ import subprocess
 import sys
 import time
 
-LAST = 9000000000000000000
+EPOCHS, DEAL = 4194303, 1099511627775
 
 
 def lane_of(index, identity, lanes):
@@ -37,21 +37,29 @@ class Script:
         pick = self.random.choice
         self.lanes, self.producers = pick((1, 1, 2, 3, 8)), pick((1, 2, 3, 16))
         self.capacity, self.held = pick((1, 2, 5, 100, 65536)), pick((1, 2, 5, 100, 65536))
-        self.attempts, self.first = pick((1, 2, 3, 3, 32)), pick((1, 1, 1, 77, 2**56, LAST, LAST - 2, LAST - 5))
-        self.config = [self.lanes, self.producers, self.capacity, self.held, pick((1, 2, 3, 10000)), pick((1024, 1100, 16777216)), pick((0, 0, 1, 3, 65535)), self.attempts, 1, self.first]
+        self.attempts, self.epoch, self.deal = pick((1, 2, 3, 3, 32)), pick((0, 0, 0, 1, 77, EPOCHS - 1, EPOCHS)), pick((1, 3, 6, 1000, DEAL, DEAL))
+        self.config = [self.lanes, self.producers, self.capacity, self.held, pick((1, 2, 3, 10000)), pick((1024, 1100, 16777216)), pick((0, 0, 1, 3, 65535)), self.attempts, 1, self.epoch, self.deal]
         names = ["a", "b-2", "\u00fc"][: pick((1, 1, 3))]
         self.documents = [(pick(names), str(n)) for n in range(pick((1, 2, 4, 30)))]
-        self.faults = pick((0, 0.1, 0.5))
+        self.faults, self.deaths = pick((0, 0.1, 0.5)), pick((0, 0, 0.01, 0.05))
         self.text, self.said = [], []
         self.process = subprocess.Popen([relay, "world"], stdin=subprocess.PIPE, stdout=subprocess.PIPE, stderr=subprocess.PIPE)
         self.write("world " + " ".join(map(str, self.config)))
-        self.accepted = [[] for _ in range(self.producers)]  # the document and the action of each put
-        self.queues = [[] for _ in range(self.lanes)]  # `put`, `tick`, `flush` or `done`
-        self.closed = set()  # pairs of a sender and a lane
-        self.requests = []  # of each its lane, its items, the runs of each, and whether it was answered
-        self.taken, self.settled = [0] * self.lanes, [0] * self.lanes  # of each lane how many puts it took, and how many of them ended
-        self.whole = []  # a request and the status that it was answered with
+        self.requests = []  # of each its lane, its items, the runs of each, and whether an answer to it is taken no more
+        self.whole = []  # a request and the status that it was answered with, if that reported what it carried
         self.index, self.applied = {}, {}  # by document: the version that is stored, and the versions and statuses that were applied
+        self.accepted = {}  # by epoch and producer: the document and the action of each put
+        self.versions = {}  # by the name of an operation: the version that it was taken under
+        self.begin()
+
+    def begin(self):
+        """What is new in each incarnation."""
+        for producer in range(self.producers):
+            self.accepted[self.epoch, producer] = []
+        self.queues = [[] for _ in range(self.lanes)]  # the name of an operation that was put, `tick`, `flush` or `done`
+        self.closed = set()  # pairs of a sender and a lane
+        self.taken, self.settled = [0] * self.lanes, [0] * self.lanes  # of each lane how many puts it took, and how many of them ended
+        self.caps = {}  # by document and version: how many items a request with it may have, unless it is alone
 
     def write(self, line):
         self.text.append(line)
@@ -77,9 +85,11 @@ class Script:
         elif len(self.queues[lane]) >= self.capacity:
             expect(words == ["no", "QueueFull"], words)
         else:
-            self.accepted[producer].append((document, action))
-            expect(words == ["ok", "%d:%d" % (producer, len(self.accepted[producer]))], words)
-            self.queues[lane].append("put")
+            accepted = self.accepted[self.epoch, producer]
+            accepted.append((document, action))
+            epoch = "" if self.epoch == 0 else "%d." % self.epoch
+            expect(words == ["ok", "%s%d:%d" % (epoch, producer, len(accepted))], words)
+            self.queues[lane].append((self.epoch, producer, len(accepted)))
 
     def post(self, line, lane, kind, sender):
         words = self.ask(line)
@@ -106,12 +116,15 @@ class Script:
         if not self.queues[lane]:
             expect(words == ["no", "NothingQueued"], words)
         elif words == ["ok"]:
-            if self.queues[lane].pop(0) == "put":
+            front = self.queues[lane].pop(0)
+            if isinstance(front, tuple):
                 self.taken[lane] += 1
-                if self.first + self.taken[lane] - 1 > LAST:
+                if self.taken[lane] > self.deal:
                     self.settled[lane] += 1
+                else:
+                    self.versions[front] = self.epoch * 2**40 + self.taken[lane]
         else:
-            expect(words == ["no", "HeldFull"] and self.queues[lane][0] == "put" and self.holds(lane) == self.held, words)
+            expect(words == ["no", "HeldFull"] and isinstance(self.queues[lane][0], tuple) and self.holds(lane) == self.held, words)
         return words == ["ok"]
 
     def holds(self, lane):
@@ -129,7 +142,9 @@ class Script:
         for document in documents:
             expect(lane_of(*document.split("/"), self.lanes) == lane, "another lane's document", words)
         expect(all(request["answered"] for request in self.requests if request["lane"] == lane), "two in flight", words)
-        self.requests.append({"lane": lane, "items": [(document, int(version)) for document, version in items], "runs": [[] for _ in items], "answered": False})
+        items = [(document, int(version)) for document, version in items]
+        expect(len(items) == 1 or all(len(items) <= self.caps.get(item, len(items)) for item in items), "past the cap of one of them", words)
+        self.requests.append({"lane": lane, "items": items, "runs": [[] for _ in items], "answered": False})
         return len(self.requests)
 
     def run(self, request, item, status=None):
@@ -169,9 +184,14 @@ class Script:
             entry = self.requests[request - 1]
             expect(sum(counts) == len(entry["items"]), "counts", words)
             expect(whole is None or counts[:2] == [0, 0], "applied without an entry", words)
+            if whole == 413:
+                count = len(entry["items"])
+                expect(counts == ([0, 0, 0, count] if count > 1 else [0, 0, 1, 0]), "not halved", words)
+                self.caps.update((item, count // 2) for item in entry["items"])
+                entry["halved"] = count > 1
             entry["answered"] = True
             self.settled[entry["lane"]] += sum(counts[:3])
-            if whole:
+            if whole and not entry.get("halved"):
                 self.whole.append((request, whole))
 
     def reply(self, request, picks=()):
@@ -185,6 +205,17 @@ class Script:
     def lost(self, request):
         self.answer("lost %d" % request, request, None, 0)
 
+    def restart(self, epoch):
+        words = self.ask("restart %d" % epoch)
+        if epoch <= self.epoch or epoch > EPOCHS:
+            expect(words == ["no", "NotAbove"], words)
+            return
+        expect(words == ["ok"], words)
+        self.epoch = epoch
+        for request in self.requests:
+            request["answered"] = True
+        self.begin()
+
     # Which events come.
 
     def any_request(self):
@@ -197,7 +228,9 @@ class Script:
 
     def any_event(self):
         roll, lane = self.random.random(), self.random.randrange(self.lanes)
-        if roll < 0.2:
+        if self.random.random() < self.deaths:
+            self.restart(self.epoch + self.random.choice((1, 1, 1, 2, 1000, 0, -1, 2**22)) if self.epoch else self.random.choice((1, 0, 5, EPOCHS)))
+        elif roll < 0.2:
             self.put()
         elif roll < 0.4:
             self.take(lane)
@@ -213,7 +246,7 @@ class Script:
         elif roll < 0.88:
             self.lost(self.any_request())
         elif roll < 0.91:
-            self.answered_whole(self.any_request(), self.random.choice((503, 429, 502, 504, 401, 413, 201, 599, 200, 600, 403, 500)))
+            self.answered_whole(self.any_request(), self.random.choice((503, 429, 502, 504, 401, 413, 413, 413, 413, 201, 599, 200, 600, 403, 500)))
         elif roll < 0.97:
             self.control("tick", lane)
         elif roll < 0.985:
@@ -262,6 +295,8 @@ class Script:
                     self.run(request, item, 429 if self.random.random() < self.faults else None)
                 if self.random.random() < self.faults:
                     self.lost(request)
+                elif len(self.requests[request - 1]["items"]) > 1 and self.random.random() < self.faults:
+                    self.answered_whole(request, 413)
                 else:
                     self.reply(request)
 
@@ -281,7 +316,8 @@ class Script:
     # What stands at the end.
 
     def judge(self, lines):
-        expect([words for words in lines if words[0] == "accepted"] == [["accepted", str(p), str(len(ops))] for p, ops in enumerate(self.accepted)], "accepted", lines)
+        accepted = [self.accepted[self.epoch, producer] for producer in range(self.producers)]
+        expect([words for words in lines if words[0] == "accepted"] == [["accepted", str(p), str(len(ops))] for p, ops in enumerate(accepted)], "accepted", lines)
         named = self.attribution([words[1:] for words in lines if words[0] == "applied"])
         reported = self.reported([words[1:] for words in lines if words[0] == "report"])
         expect(len(lines) == self.producers + sum(map(len, self.applied.values())) + len(reported) + 1, "lines", lines)
@@ -289,28 +325,35 @@ class Script:
         done = closed and not any(self.queues) and not any(map(self.holds, range(self.lanes)))
         expect(lines[-1] == ["finished", "yes" if done else "no"], "finished", lines[-1])
         if done:
-            for producer, ops in enumerate(self.accepted):
+            for producer, ops in enumerate(accepted):
                 for number in range(1, len(ops) + 1):
-                    expect((producer, number) in named or (producer, number) in reported, "neither applied nor reported", producer, number)
+                    name = (self.epoch, producer, number)
+                    expect(name in named or name in reported, "neither applied nor reported", name)
 
     def operation(self, name, document):
-        """An operation that was accepted, by its name, and its action."""
+        """An operation that was accepted in some epoch, by its name, and its action."""
+        epoch, name = name.split(".") if "." in name else ("0", name)
         producer, number = map(int, name.split(":"))
-        expect(producer < self.producers and 1 <= number <= len(self.accepted[producer]), "not accepted", name)
-        of, action = self.accepted[producer][number - 1]
+        accepted = self.accepted.get((int(epoch), producer), [])
+        expect(1 <= number <= len(accepted), "not accepted", epoch, name)
+        of, action = accepted[number - 1]
         expect("/".join(of) == document, "of another document", name)
-        return (producer, number), action
+        return (int(epoch), producer, number), action
 
     def attribution(self, lines):
-        """The names are those of distinct operations, one for each write that was applied, with its action, in producer order."""
-        named, last, versions, live = set(), {}, {}, set()
+        """The names are those of distinct operations, one for each write that was applied, with its action and under the version
+        that it was taken under, in each epoch in producer order, and epochs one after another."""
+        named, last, epochs, versions, live = set(), {}, {}, {}, set()
         expect([words[0] for words in lines] == sorted((words[0] for words in lines), key=lambda d: [part.encode() for part in d.split("/")]), "order of documents")
         for document, version, name in lines:
             operation, action = self.operation(name, document)
             expect(operation not in named, "named twice", name)
             named.add(operation)
-            expect(last.get((document, operation[0]), 0) < operation[1], "not in producer order", name)
-            last[document, operation[0]] = operation[1]
+            expect(epochs.get(document, 0) <= operation[0], "an earlier epoch after a later one", name)
+            epochs[document] = operation[0]
+            expect(last.get((document, *operation[:2]), 0) < operation[2], "not in producer order", name)
+            last[document, *operation[:2]] = operation[2]
+            expect(self.versions.get(operation) == int(version), "another version", name)
             place = versions.setdefault(document, [])
             place.append(int(version))
             expect(len(place) <= len(self.applied.get(document, [])), "applied and never run", document)
@@ -321,23 +364,26 @@ class Script:
         return named
 
     def reported(self, lines):
-        """Each report is on an accepted operation, none on one twice, and something that happened is its cause."""
+        """Each report is on an operation that was accepted in this epoch, none on one twice, and what happened is its cause."""
         reported, order = set(), [int(words[0]) for words in lines]
         expect(order == sorted(order), "order of lanes")
         for lane, name, document, cause, *more in lines:
             operation, _ = self.operation(name, document)
             expect(operation not in reported, "reported twice", name)
             reported.add(operation)
+            expect(operation[0] == self.epoch, "another epoch's report", name)
             expect(lane_of(*document.split("/"), self.lanes) == int(lane), "another lane's report", name)
-            sent = [(number, place) for number, request in enumerate(self.requests, 1) for place, item in enumerate(request["items"]) if item[0] == document]
+            item = (document, self.versions.get(operation))
+            sent = [(number, request["items"].index(item)) for number, request in enumerate(self.requests, 1) if item in request["items"]]
             runs = [status for number, place in sent for status in self.requests[number - 1]["runs"][place]]
+            tries = [number for number, _ in sent if not self.requests[number - 1].get("halved")]
             expect(
                 {
                     "Refused": lambda: len(more) == 2 and int(more[0]) in runs and more[1] == "scripted_refusal",
                     "Request": lambda: len(more) == 1 and any((number, int(more[0])) in self.whole for number, _ in sent),
-                    "Conflict": lambda: not more and 409 in runs,
-                    "GaveUp": lambda: len(more) == 1 and self.attempts <= int(more[0]) <= len(sent),
-                    "Spent": lambda: not more and self.taken[int(lane)] > LAST - self.first + 1,
+                    "Conflict": lambda: not more and len(sent) == 1 and 409 in runs,
+                    "GaveUp": lambda: len(more) == 1 and int(more[0]) == len(sent) and self.attempts <= len(tries),
+                    "Spent": lambda: not more and not sent and self.taken[int(lane)] > self.deal,
                 }[cause](),
                 "cause",
                 name,
