@@ -1,6 +1,7 @@
-// The two ends that every relay needs, in plain Rust: `bulk serve NANOSECONDS` is an index that answers each bulk
-// request with success, at once or after so long for each operation; `bulk ready PORT FILE..` sends requests that stand
-// ready in files, one connection a file, and reads each reply to its end.
+// The two ends that every relay needs, in plain Rust: `bulk serve NANOSECONDS [MOST]` is an index that answers each bulk
+// request with success, at once or after that long for each operation, and one whose body has more than MOST bytes with
+// 413; `bulk ready PORT FILE..` sends requests that stand ready in files, one connection a file, and reads each reply to
+// its end.
 use std::fs::File;
 use std::io::{self, BufRead, BufReader, Write};
 use std::net::{TcpListener, TcpStream};
@@ -93,22 +94,26 @@ fn about(reply: &mut Vec<u8>) -> io::Result<()> {
     write!(reply, "{{\"version\":{{\"number\":\"7.17.6\",\"build_flavor\":\"default\"}},\"tagline\":\"You Know, for Search\",\"answered\":{count}}}")
 }
 
-fn serve_connection(stream: TcpStream, nanoseconds: u64) -> io::Result<()> {
+fn serve_connection(stream: TcpStream, nanoseconds: u64, most: usize) -> io::Result<()> {
     stream.set_nodelay(true)?;
     let mut input = BufReader::with_capacity(262_144, stream.try_clone()?);
     let mut output = stream;
     let (mut message, mut line, mut reply) = (Vec::new(), Vec::new(), Vec::new());
     while let Some(head) = read_message(&mut input, &mut message)? {
         let start = Instant::now();
+        let mut status = "200 OK";
         if message.starts_with(b"GET ") {
             about(&mut reply)?;
+        } else if message.len() - head > most {
+            status = "413 Content Too Large";
+            reply.clear();
         } else {
             let count = answer(&message[head..], &mut line, &mut reply)?;
             let due = Duration::from_nanos(count * nanoseconds);
             thread::sleep(due.saturating_sub(start.elapsed()));
             ANSWERED.fetch_add(count, Ordering::SeqCst);
         }
-        let mut text = format!("HTTP/1.1 200 OK\r\nX-Elastic-Product: Elasticsearch\r\nContent-Type: application/json\r\nContent-Length: {}\r\n\r\n", reply.len()).into_bytes();
+        let mut text = format!("HTTP/1.1 {status}\r\nX-Elastic-Product: Elasticsearch\r\nContent-Type: application/json\r\nContent-Length: {}\r\n\r\n", reply.len()).into_bytes();
         text.extend_from_slice(&reply);
         output.write_all(&text)?;
     }
@@ -116,12 +121,12 @@ fn serve_connection(stream: TcpStream, nanoseconds: u64) -> io::Result<()> {
 }
 
 // Serves until it is stopped. Its one line is its port.
-fn serve(nanoseconds: u64) -> io::Result<()> {
+fn serve(nanoseconds: u64, most: usize) -> io::Result<()> {
     let listener = TcpListener::bind("127.0.0.1:0")?;
     println!("{}", listener.local_addr()?.port());
     for stream in listener.incoming() {
         let stream = stream?;
-        thread::spawn(move || serve_connection(stream, nanoseconds));
+        thread::spawn(move || serve_connection(stream, nanoseconds, most));
     }
     Ok(())
 }
@@ -160,8 +165,9 @@ fn ready(port: &str, paths: &[String]) -> io::Result<()> {
 fn main() -> io::Result<()> {
     let words: Vec<String> = std::env::args().skip(1).collect();
     match words.split_first().map(|(command, rest)| (command.as_str(), rest)) {
-        Some(("serve", [nanoseconds])) => serve(nanoseconds.parse().expect("nanoseconds")),
+        Some(("serve", [nanoseconds])) => serve(nanoseconds.parse().expect("nanoseconds"), usize::MAX),
+        Some(("serve", [nanoseconds, most])) => serve(nanoseconds.parse().expect("nanoseconds"), most.parse().expect("bytes")),
         Some(("ready", [port, paths @ ..])) => ready(port, paths),
-        _ => panic!("usage: bulk serve NANOSECONDS, bulk ready PORT FILE.."),
+        _ => panic!("usage: bulk serve NANOSECONDS [MOST], bulk ready PORT FILE.."),
     }
 }

@@ -25,6 +25,9 @@ CAPACITY = 2 * COUNT
 SERVERS = ((0, "that answers at once"), (4000, "that takes 4 microseconds an operation"))
 # The most that `relay run` is to take of the time of the others with the server that takes its time: the project's goals.
 GOALS = {"ready bodies": 1.5, "plain Rust": 1.0, "streaming_bulk": 1.0}
+# The most bytes that a server with a limit takes, the bytes of a source that it is measured with, and how many times the
+# server without a limit it may cost.
+MOST, LARGE, HALVES_GOAL = 60_000, 1000, 1.5
 # By how many KiB ten times the operations may raise the memory.
 GROWTH = 2048
 # Interpreters that may have the helpers: this one, and the one that Debian's package is for.
@@ -34,8 +37,9 @@ PYTHONS = (sys.executable, "/usr/bin/python3")
 class Server:
     """A running `bulk serve`."""
 
-    def __init__(self, bulk, nanoseconds):
-        self.process = subprocess.Popen([bulk, "serve", str(nanoseconds)], stdout=subprocess.PIPE, text=True)
+    def __init__(self, bulk, nanoseconds, most=None):
+        words = [str(nanoseconds)] + ([] if most is None else [str(most)])
+        self.process = subprocess.Popen([bulk, "serve", *words], stdout=subprocess.PIPE, text=True)
         self.port = self.process.stdout.readline().strip()
 
     def answered(self):
@@ -188,6 +192,23 @@ def measure_memory(folder, relay, tools, operations):
     print("  the memory did not grow by more than %d KiB" % GROWTH)
 
 
+def measure_halves(folder, relay, tools, operations):
+    """A server that takes at most 60,000 bytes, beside the same server without a limit: all is applied."""
+    paths = make_files(folder, 1, operations, LARGE)
+    for nanoseconds, called in SERVERS:
+        times = {None: [], MOST: []}
+        for _ in range(TURNS):
+            for most, walls in times.items():
+                with Server(tools["bulk"], nanoseconds, most) as server:
+                    wall, _, _, told = once(run_command(relay, server.port, 1, paths))
+                if told != "applied %d already 0 reported 0\n" % operations:
+                    sys.exit("relay run with a limit of %s bytes: %s" % (most, told[-300:]))
+                walls.append(wall)
+        ratio = plain_rust.median([limited / free for limited, free in zip(times[MOST], times[None])])
+        told = "met" if ratio <= HALVES_GOAL else "MISSED"
+        print("run: %d operations of %d bytes, a server %s with a limit of %d bytes: %.2f of its time without one (goal %.1f: %s)" % (operations, LARGE, called, MOST, ratio, HALVES_GOAL, told))
+
+
 def measure(folder, relay, operations=OPERATIONS):
     tools = {"bulk": plain_rust.build(folder, "bulk"), "forward": plain_rust.build(folder, "forward", "serde_json", "serde/derive"), "python": helpers()}
     if not tools["bulk"]:
@@ -200,5 +221,6 @@ def measure(folder, relay, operations=OPERATIONS):
     for shape in SHAPES:
         for size in SIZES:
             measure_shape(folder, relay, tools, shape, size, operations)
+    measure_halves(folder, relay, tools, operations)
     print("run: the memory of 1 file and 1 lane, operations of 100 bytes")
     measure_memory(folder, relay, tools, operations)
