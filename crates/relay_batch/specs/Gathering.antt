@@ -1,5 +1,5 @@
 -- A batch that is gathered: which answer an offer gets, and when the batch is ready.
-use Rattle.std.specs.Prelude.{ℕ, ◌≤◌, ◌+◌, ◌-◌, min, Bool, false, ◌||◌, ◌&&◌, ◌==◌, nat_lt, nat_le, if◌then◌else◌, List, [], ◌∷◌, ◌++◌, length, Result, Ok, Err}
+use Rattle.std.specs.Prelude.{ℕ, ◌+◌, ◌-◌, min, Bool, false, ◌||◌, ◌&&◌, ◌==◌, nat_lt, nat_le, if◌then◌else◌, List, [], ◌∷◌, ◌++◌, length, Result, Ok, Err}
 use Rattle.std.specs.List.{list_any}
 use Rattle.relay_batch.specs.Batches.{bytes_of, count_of}
 use Rattle.relay_batch.specs.declared.item.Limits.{Limits}

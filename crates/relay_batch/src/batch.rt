@@ -5,8 +5,8 @@ ghost use Rattle.relay_batch.specs.Batches.{HasDistinctDocuments};
 use crate::item::BatchItem;
 use std::marker::Model;
 
-/// A batch: one item or more, of distinct documents, in the order in which they were added. Contracts
-/// see it as the list of its items.
+/// A batch: one item or more, of distinct documents, in the order in which they were added.
+/// Contracts see it as the list of its items.
 #[derive(Debug, Drop)]
 pub struct Batch {
     held: Vec<BatchItem>,

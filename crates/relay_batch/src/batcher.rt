@@ -99,8 +99,9 @@ impl Batcher {
         }
     }
 
-    /// Offers an item. The answer is the first of [`Offer`] that holds; only `Added` changes the batch.
-    /// `AllocError`: there was no memory for an item that was to be added, and the batch is as before.
+    /// Offers an item. It returns the first of [`Offer`] that holds; only `Added` changes the
+    /// batch. `AllocError`: the allocation for an item that was to be added failed, and the batch
+    /// is unchanged.
     pub fn offer(&mut self, item: BatchItem) -> Result<Offer, AllocError>
         ensures answer { IfOk result (λ o. o ≡ answer_to item self.old) }
         ensures refused { OnErr result (answer_to item self.old ≡ Offer.Added) }
@@ -123,10 +124,10 @@ impl Batcher {
         Ok(Offer::Added)
     }
 
-    /// Whether the batch is to be sent when the clock stands at `now`, in ticks: it is not empty, and it
-    /// has as many items as its limit or one of their caps says, or as many bytes as its limit or more, or
-    /// its first item's `taken_at` and the linger time together are at or below `now`. They are added as numbers without end, so no
-    /// clock is refused, not even one before the item was taken. It takes no memory.
+    /// Whether the batch is to be sent at the clock `now`, in ticks: it is not empty, and it has as
+    /// many items as its limit or the least of their caps, or at least as many bytes as its limit,
+    /// or its first item's `taken_at` plus the linger time is at most `now`. The sum does not
+    /// overflow, so any clock is valid, even one before the item was taken. It does not allocate.
     pub fn ready(&self, now: u64) -> bool
         ensures { result ≡ is_ready now self.now }
     {
@@ -142,8 +143,8 @@ impl Batcher {
         }
     }
 
-    /// What the batch has room for until it reaches its limits and the caps of its items: the items and
-    /// the bytes that it has fewer than they say, 0 where it has as many or more. It takes no memory.
+    /// The items and the bytes that may still be added until the batch reaches its limits and the
+    /// caps of its items; 0 if it has reached them. It does not allocate.
     pub fn room(&self) -> Room
         ensures { result ≡ room_of self.now }
     {
@@ -153,8 +154,8 @@ impl Batcher {
         }
     }
 
-    /// The batch of the items, which keeps its limits, or `None` where there is no item. It takes no
-    /// memory.
+    /// The batch of the items, which keeps its limits, or `None` if there is no item. It does not
+    /// allocate.
     pub fn close(self) -> Option<Batch>
         ensures items { MatchOption result (self.items ≡ []) (λ b. b ≡ self.items) }
         ensures kept { IsBatch self.limits self.items }
