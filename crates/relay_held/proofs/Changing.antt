@@ -1,13 +1,12 @@
 -- What a change of one queue makes of the held list.
-use Rattle.std.proofs.Common.{◌≡◌, ℕ, zero, suc, ◌+◌, ◌<◌, ◌≤◌, List, [], ◌∷◌, ◌++◌, length, Option, Some, None, Bool, true, false, refl, sym, ap, ◌∙◌, subst, ⊎_elim, inl, inr, arith, drop}
-use Rattle.std.specs.Prelude.{if◌then◌else◌, cond, not, nat_lt, filter, unwrap_or, slice_get, IsSome}
+use Rattle.std.proofs.Common.{◌≡◌, ℕ, ◌<◌, List, [], ◌∷◌, ◌++◌, Option, Some, Bool, true, false, refl, sym, ap, ◌∙◌, subst, ⊎_elim, arith, drop}
+use Rattle.std.specs.Prelude.{if◌then◌else◌, cond, filter, unwrap_or, slice_get}
 use Rattle.std.specs.List.{IsDistinct}
 use Rattle.std.specs.Map.{lookup, keys_of}
 use Rattle.std.specs.Cmp.{IsEquivalence}
 use Rattle.indexmap.specs.IndexMap.{IndexMap, Updates}
 use Rattle.relay_action.specs.declared.key.DocKey.{DocKey}
-use Rattle.relay_results.specs.Documents.{Document, document_of, same_document}
-use Rattle.relay_results.proofs.Lists.{apart_tests, true_or_false}
+use Rattle.relay_results.proofs.Lists.{true_or_false}
 use Rattle.relay_held.specs.declared.kept.Kept.{Kept}
 use Rattle.relay_held.specs.Queues.{AllAbove, AllUnder, Rises, same_key, is_of, first_of, with_first, without_first, on_first, merged, queue_of, IsMerge, Changes}
 use Rattle.relay_held.proofs.Merging.{same_self, same_along, same_back, apart_back, none_twice, merge_is}

@@ -1,16 +1,16 @@
 -- As many documents have queues as are held, since no queue is empty.
-use Rattle.std.proofs.Common.{◌≡◌, ℕ, ◌+◌, ◌<◌, List, [], ◌∷◌, ◌++◌, length, Option, Some, None, Bool, true, false, ◌||◌, refl, sym, ap, ◌∙◌, subst, ⊎_elim, arith}
-use Rattle.std.specs.Prelude.{if◌then◌else◌, cond, not, map, filter, unwrap_or, Result, Ok, Err, IsOk, OnOk}
+use Rattle.std.proofs.Common.{◌≡◌, ℕ, ◌+◌, ◌<◌, List, [], ◌∷◌, length, Option, Some, None, Bool, true, false, ◌||◌, refl, sym, ap, ◌∙◌, subst, ⊎_elim, arith}
+use Rattle.std.specs.Prelude.{if◌then◌else◌, cond, not, filter, unwrap_or, Result, Ok, Err, IsOk, OnOk}
 use Rattle.std.specs.List.{IsDistinct, list_any}
 use Rattle.std.specs.Map.{lookup, keys_of}
 use Rattle.relay_action.specs.declared.key.DocKey.{DocKey}
 use Rattle.relay_results.specs.Documents.{Document, document_of, same_document}
 use Rattle.relay_results.proofs.Same.{same_document-true}
-use Rattle.relay_results.proofs.Lists.{apart_tests, true_or_false, none_some, some_same, or_left, or_right}
+use Rattle.relay_results.proofs.Lists.{true_or_false, none_some, some_same, or_left, or_right}
 use Rattle.relay_held.specs.declared.kept.Kept.{Kept}
 use Rattle.relay_held.specs.Queues.{same_key, is_of, on_first, queue_of, documents, distinct, NoneEmpty, IsMerge, Changes}
 use Rattle.relay_held.proofs.Changing.{same_queue}
-use Rattle.relay_held.proofs.Merging.{NoneTwice, none_twice, same_self, same_along, same_back, apart_back, rest_merge, first_queue}
+use Rattle.relay_held.proofs.Merging.{NoneTwice, none_twice, same_self, same_along, apart_back, rest_merge, first_queue}
 
 -- ---- how many documents the held operations are of
 

@@ -1,17 +1,15 @@
 -- The first due tick of all heads that wait is that of the eligible operations.
-use Rattle.std.proofs.Common.{◌≡◌, ℕ, zero, suc, ◌+◌, ◌-◌, ◌<◌, ◌≤◌, List, [], ◌∷◌, ◌++◌, length, Option, Some, None, Bool, true, false, ◌&&◌, refl, sym, ap, ◌∙◌, subst, ⊎_elim, inl, inr, arith, drop}
+use Rattle.std.proofs.Common.{◌≡◌, ℕ, zero, suc, ◌+◌, ◌≤◌, List, [], ◌∷◌, ◌++◌, Option, Some, None, true, refl, sym, ap, ◌∙◌, subst, ⊎_elim, inl, inr, arith, drop}
 use Rattle.std.specs.Prelude.{◌⊎◌, if◌then◌else◌, cond, filter, slice_get, not, min, unwrap_or}
 use Rattle.std.specs.List.{IsDistinct}
 use Rattle.std.specs.Map.{keys_of, lookup}
 use Rattle.relay_action.specs.declared.key.DocKey.{DocKey}
-use Rattle.relay_results.specs.Documents.{document_of}
 use Rattle.relay_results.specs.Words.{Mem}
-use Rattle.relay_results.proofs.Lists.{true_or_false, none_some, some_same, and_left, and_right, and_both, not_true, Mem-filter, filter-Mem, Mem-left, Mem-right, Mem-cases, at-Mem, Mem-at}
+use Rattle.relay_results.proofs.Lists.{true_or_false, some_same, and_left, and_right, and_both, not_true, Mem-filter, filter-Mem, Mem-left, Mem-right, Mem-cases}
 use Rattle.relay_held.specs.declared.kept.Kept.{Kept}
 use Rattle.relay_held.specs.Kept.{waits_here}
-use Rattle.relay_held.specs.Queues.{Rises, same_key, first_of, is_later_kept, is_eligible_kept, sooner, first_due_kept, waiting_if, waiting_heads, with_due, queue_of, IsMerge}
+use Rattle.relay_held.specs.Queues.{same_key, is_eligible_kept, sooner, first_due_kept, waiting_if, waiting_heads, with_due, queue_of, IsMerge}
 use Rattle.relay_held.proofs.Changing.{first_is}
-use Rattle.relay_held.proofs.Placed.{queue_at}
 use Rattle.relay_held.proofs.Heads.{first_mem, first_not_later, not_later_first, first_of_queue}
 
 -- ---- the least due tick

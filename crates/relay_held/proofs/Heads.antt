@@ -11,13 +11,12 @@ use Rattle.std.proofs.lemmas.Map.Keys.{IsDistinct-IsPermutation}
 use Rattle.relay_action.specs.declared.key.DocKey.{DocKey}
 use Rattle.relay_results.specs.Documents.{Document, document_of, same_document}
 use Rattle.relay_results.specs.Words.{Mem}
-use Rattle.relay_results.proofs.Same.{same_document-true}
-use Rattle.relay_results.proofs.Lists.{apart_tests, true_or_false, none_some, some_same, and_left, and_right, and_both, not_true, equal, equal_test, Mem-filter, filter-Mem, any_true, any_from, any_false, or_left, or_right}
+use Rattle.relay_results.proofs.Lists.{apart_tests, true_or_false, some_same, and_left, and_right, and_both, not_true, equal, equal_test, Mem-filter, filter-Mem, or_left, or_right}
 use Rattle.relay_held.specs.declared.kept.Kept.{Kept}
 use Rattle.relay_held.specs.declared.held.Head.{Head}
 use Rattle.relay_held.specs.Kept.{waits_here}
-use Rattle.relay_held.specs.Queues.{AllAbove, Rises, same_key, is_of, first_of, is_later_kept, is_candidate_kept, candidates_kept, Holding, IsHead, AreHeads, is_due, head_if, due_from, merged, queue_of, IsMerge}
-use Rattle.relay_held.proofs.Merging.{NoneTwice, none_twice, same_self, same_along, same_back, apart_back, no_lt, rises_filter, rest_merge, first_queue}
+use Rattle.relay_held.specs.Queues.{AllAbove, Rises, same_key, is_of, first_of, is_later_kept, is_candidate_kept, candidates_kept, Holding, IsHead, AreHeads, is_due, head_if, due_from, queue_of, IsMerge}
+use Rattle.relay_held.proofs.Merging.{none_twice, same_self, same_along, same_back, apart_back, no_lt, rises_filter, rest_merge}
 use Rattle.relay_held.proofs.Changing.{first_is}
 use Rattle.relay_held.proofs.Placed.{key_at, queue_at}
 

@@ -1,6 +1,6 @@
 -- What each change makes of what is held.
-use Rattle.std.proofs.Common.{◌≡◌, ℕ, zero, suc, ◌+◌, ◌-◌, ◌<◌, ◌≤◌, List, [], ◌∷◌, ◌++◌, length, length-append, Option, Some, None, Bool, true, false, refl, sym, ap, ◌∙◌, subst, ⊎_elim, inl, inr, arith, drop}
-use Rattle.std.specs.Prelude.{if◌then◌else◌, cond, filter, slice_get}
+use Rattle.std.proofs.Common.{◌≡◌, ℕ, zero, suc, ◌+◌, ◌-◌, ◌<◌, ◌≤◌, List, [], ◌∷◌, ◌++◌, length, length-append, Some, None, Bool, true, false, refl, sym, ap, ◌∙◌, subst, ⊎_elim, arith, drop}
+use Rattle.std.specs.Prelude.{if◌then◌else◌, filter, slice_get}
 use Rattle.std.specs.List.{IsDistinct}
 use Rattle.std.specs.Map.{keys_of}
 use Rattle.relay_action.specs.declared.key.DocKey.{DocKey}
@@ -8,7 +8,7 @@ use Rattle.relay_action.specs.declared.write.Write.{Write}
 use Rattle.relay_results.proofs.Lists.{true_or_false, none_some}
 use Rattle.relay_held.specs.declared.kept.Kept.{Kept}
 use Rattle.relay_held.specs.Kept.{launch_one, back_at, halved_at}
-use Rattle.relay_held.specs.Queues.{AllUnder, same_key, is_of, first_of, with_first, without_first, on_first, merged, queue_of, AllWait, OnlyFirstsFly, IsMerge, NoneEmpty, IsHolding, Changes}
+use Rattle.relay_held.specs.Queues.{AllUnder, same_key, is_of, first_of, with_first, without_first, on_first, merged, queue_of, AllWait, OnlyFirstsFly, NoneEmpty, IsHolding, Changes}
 use Rattle.relay_held.proofs.Changing.{Keeps, push_merges, with_merges, without_merges, holds_of, first_is, filter_push, filter_with_same, filter_with_apart, filter_without_same, filter_without_apart}
 use Rattle.relay_held.proofs.Counting.{filled_on}
 

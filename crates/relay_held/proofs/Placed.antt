@@ -1,16 +1,16 @@
 -- A queue is written by its place or by its document.
-use Rattle.std.proofs.Common.{◌≡◌, ℕ, zero, suc, ◌+◌, ◌<◌, ◌≤◌, List, [], ◌∷◌, ◌++◌, length, Option, Some, None, Bool, true, false, refl, sym, ap, ◌∙◌, subst, ⊎_elim, inl, inr, arith, drop}
-use Rattle.std.specs.Prelude.{if◌then◌else◌, cond, filter, unwrap_or, slice_get, option_map, map, IfSome, OnErr, OnOk, Result, Ok, Err}
+use Rattle.std.proofs.Common.{◌≡◌, ℕ, zero, suc, List, [], ◌∷◌, Some, None, false, refl, sym, ap, ◌∙◌, subst, ⊎_elim}
+use Rattle.std.specs.Prelude.{cond, unwrap_or, slice_get, option_map, OnErr, OnOk, Result, Ok, Err}
 use Rattle.std.specs.List.{IsDistinct}
 use Rattle.std.specs.Map.{lookup, keys_of, set_value}
-use Rattle.indexmap.specs.IndexMap.{IndexMap, Updates, with_value_at, set_value_at}
+use Rattle.indexmap.specs.IndexMap.{IndexMap, with_value_at, set_value_at}
 use Rattle.indexmap.proofs.CallerLemmas.{updates-with_value_at}
 use Rattle.relay_action.specs.declared.key.DocKey.{DocKey}
-use Rattle.relay_results.proofs.Lists.{apart_tests, true_or_false, none_some, some_same}
+use Rattle.relay_results.proofs.Lists.{true_or_false, none_some, some_same}
 use Rattle.relay_held.specs.declared.kept.Kept.{Kept}
-use Rattle.relay_held.specs.Queues.{same_key, is_of, on_first, queue_of, Changes}
+use Rattle.relay_held.specs.Queues.{same_key, on_first, queue_of, Changes}
 use Rattle.relay_held.proofs.Merging.{NoneTwice, none_twice, same_self, apart_back}
-use Rattle.relay_held.proofs.Changing.{changes_of, changes_none, same_key_laws}
+use Rattle.relay_held.proofs.Changing.{changes_of, same_key_laws}
 
 none_at : (a : DocKey) (es : List (DocKey × List Kept)) (i : ℕ) (k : DocKey) (q : List Kept) → lookup (same_key a) es ≡ None → slice_get es i ≡ Some (k, q) → same_key a k ≡ false
 none_at a [] i k q n e = absurd (cc)

@@ -1,7 +1,7 @@
 -- The held list, and the queues of documents that it is made of.
-use Rattle.std.specs.Prelude.{◌≡◌, ℕ, ◌+◌, ◌<◌, List, [], ◌∷◌, ◌++◌, Option, Some, None, unwrap_or, Bool, true, false, cond, not, ◌&&◌, nat_lt, nat_le, min, map, filter, length, drop, slice_get, if◌then◌else◌}
+use Rattle.std.specs.Prelude.{◌≡◌, ℕ, ◌+◌, ◌<◌, List, [], ◌∷◌, ◌++◌, Option, Some, None, unwrap_or, Bool, true, cond, not, ◌&&◌, nat_lt, nat_le, min, map, filter, length, drop, slice_get, if◌then◌else◌}
 use Rattle.std.specs.List.{list_any}
-use Rattle.std.specs.Map.{lookup, keys_of}
+use Rattle.std.specs.Map.{lookup}
 use Rattle.relay_action.specs.declared.key.DocKey.{DocKey}
 use Rattle.relay_results.specs.Documents.{Document, document_of, same_document}
 use Rattle.relay_held.specs.declared.kept.Kept.{Kept}

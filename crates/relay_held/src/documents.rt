@@ -24,7 +24,7 @@ pub(crate) fn count(documents: &IndexMap<DocKey, Queue>) -> usize
     documents.len()
 }
 
-// The first operation of a document, which there is a place for.
+// Adds a document with its first operation; the map has room for it.
 fn add(documents: &mut IndexMap<DocKey, Queue>, key: DocKey, one: Kept)
     requires room { 1 ≤ spare documents.old }
     requires none { lookup (same_key key) documents.old.entries ≡ None }
@@ -36,7 +36,7 @@ fn add(documents: &mut IndexMap<DocKey, Queue>, key: DocKey, one: Kept)
     let _ = documents.insert(key, queue);
 }
 
-/// One more operation of its document, behind those that are there. All growths come first.
+/// One more operation of its document, after those that are there. Every allocation comes first.
 pub(crate) fn push(documents: &mut IndexMap<DocKey, Queue>, one: Kept) -> Result<(), NotHeld>
     ensures ok { OnOk result (Changes documents.old.entries documents.new.entries one.key
         (queue_of documents.old.entries one.key ++ one ∷ [])) }
@@ -58,7 +58,7 @@ pub(crate) fn push(documents: &mut IndexMap<DocKey, Queue>, one: Kept) -> Result
     Ok(())
 }
 
-/// The first of the document at a place is sent, and its write is taken out.
+/// The first operation of the document at a place is sent, and its write is taken out.
 pub(crate) fn launch(
     documents: &mut IndexMap<DocKey, Queue>,
     at: usize,
@@ -78,7 +78,7 @@ pub(crate) fn launch(
     queue.launch(number, place)
 }
 
-/// The first of the document of a write waits again.
+/// The first operation of a write's document waits again.
 pub(crate) fn land(documents: &mut IndexMap<DocKey, Queue>, due: u64, write: Write)
     ensures landed { Changes documents.old.entries documents.new.entries write.key
         (on_first (back_at due write) (queue_of documents.old.entries write.key)) }
@@ -90,7 +90,7 @@ pub(crate) fn land(documents: &mut IndexMap<DocKey, Queue>, due: u64, write: Wri
     }
 }
 
-/// The first of the document of a write waits again under this cap.
+/// The first operation of a write's document waits again under this cap.
 pub(crate) fn halve(documents: &mut IndexMap<DocKey, Queue>, due: u64, cap: u32, write: Write)
     ensures halved { Changes documents.old.entries documents.new.entries write.key
         (on_first (halved_at due cap write) (queue_of documents.old.entries write.key)) }
@@ -102,7 +102,7 @@ pub(crate) fn halve(documents: &mut IndexMap<DocKey, Queue>, due: u64, cap: u32,
     }
 }
 
-/// Takes out the first of a document.
+/// Takes out the first operation of a document.
 pub(crate) fn take(documents: &mut IndexMap<DocKey, Queue>, key: &DocKey) -> Option<Kept>
     ensures taken { Changes documents.old.entries documents.new.entries key.now
         (drop 1 (queue_of documents.old.entries key.now)) }
@@ -122,7 +122,7 @@ pub(crate) fn take(documents: &mut IndexMap<DocKey, Queue>, key: &DocKey) -> Opt
     }
 }
 
-/// The first of a document.
+/// The first operation of a document.
 pub(crate) fn first<'a>(documents: &'a IndexMap<DocKey, Queue>, key: &DocKey) -> Option<&'a Kept>
     ensures { option_copied result ≡ slice_get (queue_of documents.now.entries key.now) 0 }
 {
@@ -139,7 +139,7 @@ fn is_due(one: &Kept, clock: u64) -> bool
     one.flies.is_none() && one.due <= clock
 }
 
-// Where the first of a queue is found, where it is due.
+// Notes where the first operation of a queue is, if it is due.
 fn add_head(heads: &mut Vec<Head>, queue: &Queue, at: usize, clock: u64) -> Result<(), AllocError>
     ensures ok { OnOk result (heads.new.items
         ≡ heads.old.items ++ head_if clock at (slice_get queue.now 0)) }
@@ -155,7 +155,7 @@ fn add_head(heads: &mut Vec<Head>, queue: &Queue, at: usize, clock: u64) -> Resu
     Ok(())
 }
 
-/// Where the first of each document is found that waits and is due, in the order of the documents.
+/// Where the first operations are that wait and are due, in the order of the documents.
 pub(crate) fn due(
     alloc: Global,
     documents: &IndexMap<DocKey, Queue>,
@@ -191,7 +191,7 @@ fn sooner(due: u64, other: Option<u64>) -> u64
     }
 }
 
-// The due tick of the first of a queue, where it waits, or the other one, where that is sooner.
+// The sooner of the due tick of a queue's first operation, if that waits, and the other one.
 fn with_due(queue: &Queue, first: Option<u64>) -> Option<u64>
     ensures { result ≡ with_due (slice_get queue.now 0) first }
 {
@@ -203,7 +203,7 @@ fn with_due(queue: &Queue, first: Option<u64>) -> Option<u64>
     }
 }
 
-/// The due tick of the first of a document that waits and is due first.
+/// The earliest due tick of the first operations that wait.
 pub(crate) fn first_due(documents: &IndexMap<DocKey, Queue>) -> Option<u64>
     ensures first { result ≡ first_due_kept (waiting_heads documents.now.entries) }
     ensures unique { IsDistinct same_key (keys_of documents.now.entries) }
@@ -218,7 +218,7 @@ pub(crate) fn first_due(documents: &IndexMap<DocKey, Queue>) -> Option<u64>
     first
 }
 
-/// The first of the document at a place.
+/// The first operation of the document at a place.
 pub(crate) fn head(documents: &IndexMap<DocKey, Queue>, at: usize) -> &Kept
     requires { at < length documents.now.entries }
     ensures { (k : DocKey) → slice_get (keys_of documents.now.entries) at ≡ Some k

@@ -13,14 +13,14 @@ use relay_action::{DocKey, Write};
 use std::alloc::{AllocError, Global};
 use std::marker::Model;
 
-/// An operation that there was no memory for.
+/// The operation comes back: an allocation failed.
 #[derive(Debug, Drop)]
 pub struct NotHeld {
     /// The operation.
     pub one: Kept,
 }
 
-/// Where the first of a document is found.
+/// Where to find the first operation of a document.
 #[derive(Clone, Copy, Debug, PartialEq, Eq)]
 pub struct Head {
     /// Its version.
@@ -48,7 +48,7 @@ impl Model for Held {
 }
 
 impl Held {
-    /// Nothing is held. It takes no memory.
+    /// Nothing is held. It does not allocate.
     pub fn new(alloc: Global) -> Held
         ensures { result ≡ record { list = []; order = [] } }
     {
@@ -66,7 +66,7 @@ impl Held {
         self.count
     }
 
-    /// How many documents they are of.
+    /// How many documents the held operations are of.
     pub fn documents(&self) -> usize
         ensures order { result ≡ length self.now.order }
         ensures documents { result ≡ distinct (documents self.now.list) }
@@ -74,7 +74,7 @@ impl Held {
         count(&self.documents)
     }
 
-    /// The first of a document, if something is held of it.
+    /// The first operation of a document, if one is held.
     pub fn first(&self, key: &DocKey) -> Option<&Kept>
         ensures first { option_copied result ≡ first_of key.now self.now.list }
         ensures rises { Rises self.now.list }
@@ -83,7 +83,7 @@ impl Held {
         first(&self.documents, key)
     }
 
-    /// The first of the document at a place.
+    /// The first operation of the document at a place.
     pub fn head(&self, at: usize) -> &Kept
         requires { at < length self.now.order }
         ensures { (k : DocKey) → slice_get self.now.order at ≡ Some k
@@ -92,8 +92,8 @@ impl Held {
         head(&self.documents, at)
     }
 
-    /// Holds one more, whose version is above all others. Where there is no memory for it it comes back,
-    /// and nothing changed.
+    /// Holds one more operation, whose version is above all others. If an allocation fails, the
+    /// operation comes back and nothing has changed.
     pub fn push(&mut self, one: Kept) -> Result<(), NotHeld>
         requires above { AllUnder one.version self.old.list }
         requires waits { one.flies ≡ None }
@@ -111,7 +111,7 @@ impl Held {
         }
     }
 
-    /// The first of the document at a place is sent, and its write is taken out.
+    /// The first operation of the document at a place is sent, and its write is taken out.
     pub fn launch(&mut self, at: usize, number: u64, place: u64) -> Option<Write>
         requires { at < length self.old.order }
         ensures list { (k : DocKey) → slice_get self.old.order at ≡ Some k
@@ -123,7 +123,7 @@ impl Held {
         launch(&mut self.documents, at, number, place)
     }
 
-    /// The first of the document of a write waits again.
+    /// The first operation of a write's document waits again.
     pub fn land(&mut self, due: u64, write: Write)
         ensures list { self.new.list ≡ with_first write.key (back_at due write) self.old.list }
         ensures order { self.new.order ≡ self.old.order }
@@ -131,7 +131,8 @@ impl Held {
         land(&mut self.documents, due, write);
     }
 
-    /// The first of the document of a write waits again under this cap, and its try is given back.
+    /// The first operation of a write's document waits again under this cap, and its attempt is
+    /// given back.
     pub fn halve(&mut self, due: u64, cap: u32, write: Write)
         ensures list { self.new.list ≡ with_first write.key (halved_at due cap write) self.old.list }
         ensures order { self.new.order ≡ self.old.order }
@@ -139,7 +140,7 @@ impl Held {
         halve(&mut self.documents, due, cap, write);
     }
 
-    /// Takes out the first of a document.
+    /// Takes out the first operation of a document.
     pub fn take(&mut self, key: &DocKey) -> Option<Kept>
         ensures list { self.new.list ≡ without_first key.now self.old.list }
         ensures one { result ≡ first_of key.now self.old.list }
@@ -153,9 +154,9 @@ impl Held {
         }
     }
 
-    /// Where the first of each document is found that waits and is due, in rising version. `AllocError`:
-    /// there was no memory for the places; something is due then. Nothing behind the first of a document
-    /// is looked at.
+    /// Where to find the operations that may be sent at a tick, in rising version: each is the
+    /// first of its document, waits and is due. `AllocError`: the allocation of the places failed;
+    /// some operation may be sent then.
     pub fn heads(&self, alloc: Global, clock: u64) -> Result<Vec<Head>, AllocError>
         ensures heads { IfOk result (λ ds. AreHeads self.now ds.items (candidates_kept self.now.list clock)) }
         ensures err { OnErr result (0 < length (candidates_kept self.now.list clock)) }
@@ -165,7 +166,7 @@ impl Held {
         Ok(heads)
     }
 
-    /// The due tick of the eligible operation that is due first.
+    /// The earliest due tick of the operations that wait and are the first of their document.
     pub fn first_due(&self) -> Option<u64>
         ensures { result ≡ first_due_kept (filter (is_eligible_kept self.now.list) self.now.list) }
     {

@@ -1,4 +1,4 @@
-//! What a lane holds, as it stands in memory.
+//! A held operation, as it is in memory.
 use relay_action::{ActionKind, DocKey, OpName, Write};
 
 /// A place of a request in flight.
@@ -10,7 +10,7 @@ pub struct Spot {
     pub place: u64,
 }
 
-/// A held operation. Its write is here while it waits, and stands in its request while it flies.
+/// A held operation. Its write is here while it waits, and in its request while it is in flight.
 #[derive(Debug, Drop)]
 pub struct Kept {
     /// Its name.
@@ -19,21 +19,21 @@ pub struct Kept {
     pub key: DocKey,
     /// The kind of its action.
     pub kind: ActionKind,
-    /// The version that it was dealt.
+    /// The version that it was assigned.
     pub version: u64,
-    /// How many bytes its lines have.
+    /// The length of its lines, in bytes.
     pub bytes: u64,
-    /// The most operations of a request that it stands in, unless it is alone there.
+    /// The most operations of a request that carries it, unless it is alone there.
     pub cap: u32,
     /// The clock when it was taken, in ticks.
     pub taken_at: u64,
-    /// The tick from which on it may be sent.
+    /// The first tick at which it may be sent.
     pub due: u64,
     /// How many requests carried it.
     pub sends: u32,
-    /// How many of them count as tries.
+    /// How many of them count as attempts.
     pub attempts: u32,
-    /// Where it flies, if it does.
+    /// Its place in a request, while it is in flight.
     pub flies: Option<Spot>,
     /// Its write, while it waits.
     pub write: Option<Write>,

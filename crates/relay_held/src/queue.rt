@@ -65,7 +65,7 @@ fn halve_one(one: &mut Kept, due: u64, cap: u32, write: Write)
 }
 
 impl Queue {
-    /// The queue of one operation. It takes no memory.
+    /// The queue of one operation. It does not allocate.
     pub(crate) fn of(alloc: Global, one: Kept) -> Queue
         ensures { result ≡ one ∷ [] }
     {
@@ -75,7 +75,7 @@ impl Queue {
         }
     }
 
-    /// One more comes last.
+    /// Adds one operation at the end.
     pub(crate) fn push(&mut self, one: Kept) -> Result<(), NotHeld>
         ensures ok { OnOk result (self.new ≡ self.old ++ one ∷ []) }
         ensures err { OnErr result (self.new ≡ self.old) }
@@ -109,7 +109,7 @@ impl Queue {
         land_one(&mut self.head, due, write);
     }
 
-    /// The first waits again under this cap, and its try is given back.
+    /// The first waits again under this cap, and its attempt is given back.
     pub(crate) fn halve(&mut self, due: u64, cap: u32, write: Write)
         ensures { self.new ≡ on_first (halved_at due cap write) self.old }
     {
@@ -129,7 +129,7 @@ impl Queue {
         }
     }
 
-    /// The first, where it is the last one.
+    /// The operation of a queue of one.
     pub(crate) fn into_head(self) -> Kept
         ensures { self ≡ result ∷ drop 1 self }
     {

@@ -11,13 +11,18 @@ fn heads_at(alloc: Global, desk: &Desk, clock: u64) -> Result<[u64; 2], Fail> {
     Ok([version(heads.get(0)), version(heads.get(1))])
 }
 
+// What becomes of an operation once it is sent.
+#[derive(Clone, Copy)]
+enum After {
+    Flies,
+    /// It waits until this tick.
+    Waits(u64),
+    /// It waits until this tick, under this cap.
+    WaitsUnder(u64, u32),
+}
+
 // Sends the first operation that may be sent at a tick. The version of its write.
-fn sends(
-    alloc: Global,
-    desk: &mut Desk,
-    clock: u64,
-    lands: Option<(u64, u32)>,
-) -> Result<u64, Fail> {
+fn sends(alloc: Global, desk: &mut Desk, clock: u64, after: After) -> Result<u64, Fail> {
     let heads = desk.held.heads(alloc, clock)?;
     let Some(head) = heads.get(0) else {
         return Err("none may be sent")?;
@@ -26,15 +31,16 @@ fn sends(
         return Err("no write")?;
     };
     let version = write.version;
-    match lands {
-        Some((due, 0)) => land(desk, due, write),
-        Some((due, cap)) => halve(desk, due, cap, write),
-        None => {}
+    match after {
+        After::Flies => {}
+        After::Waits(due) => land(desk, due, write),
+        After::WaitsUnder(due, cap) => halve(desk, due, cap, write),
     }
     Ok(version)
 }
 
-// Of the first operation of a document: version, due tick, cap, sends, attempts, and where it flies.
+// Of the first operation of a document: version, due tick, cap, sends, attempts, and where it
+// flies.
 fn first_of(
     alloc: Global,
     desk: &Desk,
@@ -83,16 +89,16 @@ fn who_may_be_sent(rt: HostRuntime) -> Result<(), Fail> {
 fn sent_and_back(rt: HostRuntime) -> Result<(), Fail> {
     let alloc = rt.alloc();
     let mut desk = three(alloc).ok_or("not held")?;
-    assert!(rt; sends(alloc, &mut desk, 4, None)? == 1);
+    assert!(rt; sends(alloc, &mut desk, 4, After::Flies)? == 1);
     let spot = Some(Spot {
         request: 7,
         place: 2,
     });
     assert!(rt; first_of(alloc, &desk, 0)? == (1, 0, 10, 1, 1, spot));
     assert!(rt; desk.held.first_due() == Some(5));
-    assert!(rt; sends(alloc, &mut desk, 5, Some((9, 0)))? == 3);
+    assert!(rt; sends(alloc, &mut desk, 5, After::Waits(9))? == 3);
     assert!(rt; first_of(alloc, &desk, 1)? == (3, 9, 10, 1, 1, None));
-    assert!(rt; sends(alloc, &mut desk, 9, Some((9, 4)))? == 3);
+    assert!(rt; sends(alloc, &mut desk, 9, After::WaitsUnder(9, 4))? == 3);
     assert!(rt; first_of(alloc, &desk, 1)? == (3, 9, 4, 2, 1, None));
     Ok(())
 }

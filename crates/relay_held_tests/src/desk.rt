@@ -57,8 +57,8 @@ fn kept_of(alloc: Global, document: u64, version: u64, due: u64) -> Option<Kept>
     })
 }
 
-/// Holds a delete of a document under the next version. It tries once more if memory is refused. Whether it
-/// is held.
+/// Holds a delete of a document under the next version. It tries once more if memory is refused.
+/// Whether it is held.
 pub fn push(alloc: Global, desk: &mut Desk, document: u64, due: u64) -> bool {
     if desk.next == u64::MAX || desk.held.len() > 1_000 {
         return false;

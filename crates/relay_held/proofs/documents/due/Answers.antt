@@ -1,5 +1,5 @@
 use Rattle.std.proofs.Common.{◌≡◌, ◌∙◌, sym, ap, subst, refl, ◌<◌, ◌+◌, length, ◌++◌, Some, arith}
-use Rattle.std.specs.Prelude.{slice_get, option_map, OnErr}
+use Rattle.std.specs.Prelude.{slice_get, option_map}
 use Rattle.std.specs.Map.Iter.{deref_pair}
 use Rattle.relay_held.specs.Queues.{due_from, head_if}
 use Rattle.relay_held.proofs.Heads.{due_step, due_longer}

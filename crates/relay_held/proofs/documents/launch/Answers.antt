@@ -1,8 +1,7 @@
-use Rattle.std.proofs.Common.{◌≡◌, ◌∙◌, sym, ap, refl, subst, ◌++◌, ◌∷◌, [], Some, None, drop, length, arith, ◌<◌}
+use Rattle.std.proofs.Common.{◌≡◌, sym, subst}
 use Rattle.std.specs.Prelude.{slice_get, IfSome}
 use Rattle.relay_held.specs.Kept.{launch_one}
 use Rattle.relay_held.specs.Queues.{queue_of}
-use Rattle.relay_held.specs.declared.kept.Kept.{Kept}
 use Rattle.relay_held.proofs.Placed.{placed, keys_set, queue_at, same_document_at}
 use Rattle.relay_held.proofs.documents.launch.Goals as goal
 

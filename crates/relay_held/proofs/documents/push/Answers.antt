@@ -1,4 +1,4 @@
-use Rattle.std.proofs.Common.{◌≡◌, ◌∙◌, sym, ap, refl, subst, ◌++◌, ◌∷◌, [], Some, None, drop, length, arith, ◌<◌}
+use Rattle.std.proofs.Common.{◌≡◌, ◌∙◌, sym, refl, subst, ◌++◌, ◌∷◌, [], length, arith, ◌<◌}
 use Rattle.relay_held.proofs.Placed.{set_same, on_err_map}
 use Rattle.std.specs.Prelude.{List, Result, Ok, Err, OnOk, OnErr, IsSome}
 use Rattle.relay_held.specs.declared.kept.Kept.{Kept}

@@ -1,4 +1,4 @@
-use Rattle.std.proofs.Common.{◌≡◌, ◌∙◌, sym, ap, subst}
+use Rattle.std.proofs.Common.{◌∙◌, sym, ap, subst}
 use Rattle.std.specs.Prelude.{slice_get}
 use Rattle.relay_held.specs.Queues.{first_of, Rises, OnlyFirstsFly, Holding}
 use Rattle.relay_held.proofs.Changing.{first_is}

@@ -1,4 +1,4 @@
-use Rattle.std.proofs.Common.{◌≡◌, ◌∙◌, sym, ap}
+use Rattle.std.proofs.Common.{◌∙◌, ap}
 use Rattle.std.specs.Prelude.{filter}
 use Rattle.relay_held.specs.Queues.{first_due_kept, is_eligible_kept}
 use Rattle.relay_held.proofs.Dues.{first_due_is}

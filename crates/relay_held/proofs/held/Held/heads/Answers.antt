@@ -1,4 +1,4 @@
-use Rattle.std.proofs.Common.{◌≡◌, ◌∙◌, sym, ap, subst, refl, ◌<◌, length}
+use Rattle.std.proofs.Common.{subst, ◌<◌, length}
 use Rattle.relay_held.specs.Queues.{Holding, AreHeads, candidates_kept}
 use Rattle.std.specs.List.Sorted.{IsPermutation}
 use Rattle.relay_held.proofs.Heads.{sorted_heads, some_candidate}

@@ -1,4 +1,4 @@
-use Rattle.std.proofs.Common.{◌≡◌, ◌∙◌, sym, ap, refl, subst, ◌++◌, ◌∷◌, [], Some, None, drop, length, arith, ◌<◌}
+use Rattle.std.proofs.Common.{◌∙◌, ap}
 use Rattle.relay_held.specs.Kept.{back_at}
 use Rattle.relay_held.specs.Queues.{with_first}
 use Rattle.relay_held.proofs.Holding.{back_keeps, with_becomes}

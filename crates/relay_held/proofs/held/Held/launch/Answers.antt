@@ -1,4 +1,4 @@
-use Rattle.std.proofs.Common.{◌≡◌, ◌∙◌, sym, ap, refl, subst, ◌++◌, ◌∷◌, [], Some, None, drop, length, arith, ◌<◌}
+use Rattle.std.proofs.Common.{◌≡◌, ◌∙◌, sym, ap, subst, length, ◌<◌}
 use Rattle.std.specs.Prelude.{slice_get, IfSome}
 use Rattle.relay_held.specs.Kept.{launch_one}
 use Rattle.relay_held.specs.Queues.{with_first, first_of}

@@ -1,4 +1,4 @@
-use Rattle.std.proofs.Common.{◌≡◌, ◌∙◌, sym, ap, refl, subst, ◌++◌, ◌∷◌, [], Some, None, drop, length, arith, ◌<◌}
+use Rattle.std.proofs.Common.{◌∙◌, sym, ap, subst, ◌++◌, ◌∷◌, []}
 use Rattle.relay_held.specs.Queues.{AllUnder, Holding}
 use Rattle.relay_held.proofs.Holding.{push_becomes}
 use Rattle.relay_held.proofs.held.Held.push.Goals as goal

@@ -1,4 +1,4 @@
-use Rattle.std.proofs.Common.{◌≡◌, ◌∙◌, sym, ap, refl, subst, ◌++◌, ◌∷◌, [], Some, None, drop, length, arith, ◌<◌}
+use Rattle.std.proofs.Common.{◌∙◌, sym, ap}
 use Rattle.relay_held.specs.Queues.{without_first, first_of}
 use Rattle.relay_held.proofs.Holding.{take_becomes, none_becomes, first_here}
 use Rattle.relay_held.proofs.held.Held.take.Goals as goal
