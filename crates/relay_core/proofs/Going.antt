@@ -14,9 +14,8 @@ use Rattle.relay_results.proofs.Lists.{apart_tests, true_or_false, some_same, eq
 use Rattle.relay_held.specs.declared.kept.Kept.{Kept}
 use Rattle.relay_held.specs.declared.held.Head.{Head}
 use Rattle.relay_held.specs.Queues.{AllAbove, Rises, Holding, IsHead, AreHeads, same_key, is_of, first_of, with_first, candidates_kept, is_candidate_kept}
-use Rattle.relay_held.proofs.Merging.{same_along, rises_filter}
-use Rattle.relay_held.proofs.Changing.{Keeps, first_is, filter_with_apart, rises_with}
-use Rattle.relay_held.proofs.Holding.{launch_keeps}
+use Rattle.relay_held.proofs.Merging.{same_along}
+use Rattle.relay_held.proofs.Changing.{Keeps, first_is, filter_with_apart}
 use Rattle.relay_held.proofs.Heads.{above_mem, first_mem}
 use Rattle.relay_core.specs.Walk.{waits_here, item_of_kept, is_next, launch_one, launched_kept, freight}
 

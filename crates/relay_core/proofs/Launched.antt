@@ -1,5 +1,5 @@
 -- A batch is sent: the held list as it is read afterwards, and what is kept.
-use Rattle.std.proofs.Common.{◌≡◌, ℕ, ◌+◌, ◌<◌, ◌≤◌, List, [], ◌∷◌, ◌++◌, length, length-append, Option, Bool, Some, None, true, false, ◌==◌, refl, sym, ap, subst, ⊎_elim, inl, inr, arith, drop}
+use Rattle.std.proofs.Common.{◌≡◌, ℕ, ◌+◌, ◌<◌, ◌≤◌, List, [], ◌∷◌, ◌++◌, length, length-append, Option, Some, None, true, false, ◌==◌, refl, sym, ap, subst, ⊎_elim, inl, inr, arith, drop}
 use Rattle.std.specs.Prelude.{if◌then◌else◌, map, option_to_list}
 use Rattle.std.proofs.lemmas.Bool.{lt-ltb}
 use Rattle.relay_action.specs.declared.write.Write.{Write}

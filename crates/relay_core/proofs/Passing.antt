@@ -1,11 +1,10 @@
 -- An answer is passed along the writes of its request, one after another: what each makes of the held list.
-use Rattle.std.proofs.Common.{◌≡◌, ℕ, zero, suc, ◌+◌, ◌<◌, ◌≤◌, List, [], ◌∷◌, ◌++◌, length, Option, Some, None, Bool, true, false, refl, sym, ap, ◌∙◌, subst, ⊎_elim, inl, inr, arith, drop}
+use Rattle.std.proofs.Common.{◌≡◌, ℕ, ◌+◌, ◌≤◌, List, [], ◌∷◌, ◌++◌, length, Option, Some, None, Bool, true, false, refl, sym, ap, ◌∙◌, subst, ⊎_elim, inl, inr, arith, drop}
 use Rattle.std.specs.Prelude.{if◌then◌else◌, filter, slice_get}
 use Rattle.relay_action.specs.declared.key.DocKey.{DocKey}
 use Rattle.relay_action.specs.declared.write.Write.{Write}
 use Rattle.relay_results.specs.declared.outcome.Outcome.{Outcome}
 use Rattle.relay_results.specs.Words.{Mem}
-use Rattle.relay_results.specs.Documents.{document_of}
 use Rattle.relay_results.specs.Fates.{Fate, Flies, Applied, Already, Retried, Halved, Reported}
 use Rattle.relay_delivery.specs.Machine as machine
 use Rattle.relay_results.proofs.Lists.{apart_tests, true_or_false, some_same, none_some, filter-Mem}
@@ -15,7 +14,7 @@ use Rattle.relay_held.specs.Queues.{same_key, is_of, first_of, with_first, witho
 use Rattle.relay_held.proofs.Merging.{same_self}
 use Rattle.relay_held.proofs.Changing.{first_is}
 use Rattle.relay_core.specs.declared.fates.Way.{Way}
-use Rattle.relay_core.specs.Walk.{flies_here, fate_met, fate_one, after_one, back, back_halved, met_maybe, reports_maybe, reports_one, tally_maybe, report_of, tally, kept_walk, reports_walk, tally_walk}
+use Rattle.relay_core.specs.Walk.{flies_here, fate_met, fate_one, after_one, back, back_halved, met_maybe, reports_maybe, reports_one, tally_maybe, tally, kept_walk, reports_walk, tally_walk}
 use Rattle.relay_core.specs.Memory.{Given, further, rest_if, IsMet, Carries}
 use Rattle.relay_core.proofs.Settling.{settles, met_ends, rest_drop}
 

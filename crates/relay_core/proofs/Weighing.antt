@@ -1,20 +1,15 @@
 -- What is gathered keeps the limits of a batch, and its bytes are those of the text that is sent.
-use Rattle.std.proofs.Common.{◌≡◌, List, [], ◌∷◌, length, refl, ap, ◌∙◌, subst, inl, inr, arith, length-append}
+use Rattle.std.proofs.Common.{◌≡◌, List, [], ◌∷◌, length, refl, ap, ◌∙◌, inl, inr, arith, length-append}
 use Rattle.std.specs.Prelude.{map}
 use Rattle.std.proofs.lemmas.List.Sums.{sum_by-cons}
 use Rattle.relay_ndjson.specs.Bulk.{write_text, text_of}
 use Rattle.relay_batch.specs.declared.item.BatchItem.{BatchItem}
-use Rattle.relay_batch.specs.declared.item.Limits.{Limits}
-use Rattle.relay_batch.specs.declared.offer.Offer.{Offer}
-use Rattle.relay_batch.specs.declared.offer.Offer.TheVariants.{Busy, Closed, Added}
-use Rattle.relay_batch.specs.Batches.{IsBatch, bytes_of}
-use Rattle.relay_batch.specs.Gathering.{Gathering, answer_to}
-use Rattle.relay_batch.proofs.Added.{item_added}
+use Rattle.relay_batch.specs.Batches.{bytes_of}
 use Rattle.relay_results.specs.Words.{Mem}
 use Rattle.relay_delivery.specs.Machine.{write_of}
-use Rattle.relay_delivery.specs.Lane.{Entry, candidates, writes_of_all}
-use Rattle.relay_core.specs.Rule.{by_answer, with_item, offered, item_of}
-use Rattle.relay_core.specs.State.{gathering, next_entries}
+use Rattle.relay_delivery.specs.Lane.{Entry, writes_of_all}
+use Rattle.relay_core.specs.Rule.{item_of}
+use Rattle.relay_core.specs.State.{next_entries}
 use Rattle.relay_core.specs.Flights.{RequestsKeepLimits}
 use Rattle.relay_core.proofs.Flights.{earlier_ones_settled}
 use Rattle.relay_core.proofs.Forming.{items_of_operations}

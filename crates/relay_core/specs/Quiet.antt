@@ -1,12 +1,10 @@
 -- A shortcut past the sending rule, which changes nothing of it: until when no batch can be due.
-use Rattle.std.specs.Prelude.{◌≡◌, ℕ, ◌+◌, ◌*◌, ◌^◌, ◌%◌, ◌-◌, ◌<◌, ◌≤◌, List, [], ◌∷◌, length, Bool, true, false, ◌&&◌, nat_lt, fold, slice_index_or, if◌then◌else◌}
-use Rattle.relay_action.specs.declared.key.DocKey.{DocKey}
+use Rattle.std.specs.Prelude.{◌≡◌, ℕ, ◌+◌, ◌-◌, ◌<◌, ◌≤◌, List, [], length, Bool, false, ◌&&◌, nat_lt, if◌then◌else◌}
 use Rattle.relay_batch.specs.declared.item.Limits.{Limits}
 use Rattle.relay_batch.specs.declared.item.Room.{Room}
 use Rattle.relay_batch.specs.declared.item.BatchItem.{BatchItem}
 use Rattle.relay_batch.specs.Batches.{bytes_of, count_of}
 use Rattle.relay_batch.specs.Gathering.{Gathering, is_lingered}
-use Rattle.relay_held.specs.declared.kept.Kept.{Kept}
 use Rattle.relay_core.specs.Rule.{offered, closes, is_marked}
 
 abbrev pub empty : Limits → Gathering

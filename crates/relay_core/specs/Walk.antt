@@ -1,12 +1,11 @@
 -- The held list as it stands in memory, and the walks over it.
 pub use Rattle.relay_held.specs.Kept.{waits_here, more, launch_one, back_at, halved_at}
 pub use Rattle.relay_held.specs.Queues.{with_first, without_first, first_of, OnlyFirstsFly, is_of, is_later_kept, is_candidate_kept, is_eligible_kept, first_due_kept}
-use Rattle.std.specs.Prelude.{ℕ, ◌+◌, ◌-◌, List, [], ◌∷◌, ◌++◌, Option, Some, None, Bool, true, false, ◌&&◌, ◌==◌, not, nat_lt, nat_le, drop, filter, map, slice_get, option_to_list, if◌then◌else◌}
-use Rattle.std.specs.List.{list_any}
+use Rattle.std.specs.Prelude.{ℕ, ◌+◌, ◌-◌, List, [], ◌∷◌, ◌++◌, Option, Some, None, Bool, true, false, ◌&&◌, ◌==◌, drop, filter, map, slice_get, option_to_list, if◌then◌else◌}
 use Rattle.relay_action.specs.declared.write.Write.{Write}
 use Rattle.relay_batch.specs.declared.item.BatchItem.{BatchItem}
 use Rattle.relay_results.specs.declared.outcome.Outcome.{Outcome}
-use Rattle.relay_results.specs.Documents.{Document, document_of, same_document}
+use Rattle.relay_results.specs.Documents.{document_of}
 use Rattle.relay_results.specs.Fates.{fate_of_entry}
 use Rattle.relay_results.specs.Fates as of
 use Rattle.relay_delivery.specs.Machine as machine

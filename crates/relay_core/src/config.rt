@@ -32,13 +32,14 @@ pub const LINGER_LIMIT: u32 = 65_535;
 /// The most attempts of an operation.
 pub const ATTEMPT_LIMIT: u32 = 32;
 
-/// The most requests of a lane that fly at one time. Lanes work with any number; only one is valid yet.
+/// The most requests of a lane that are in flight at one time. A lane works with any number; only
+/// one is valid yet.
 pub const FLYING_LIMIT: u32 = 1;
 
 /// The last epoch.
 pub const EPOCH_LIMIT: u32 = 4_194_303;
 
-/// The most versions that a lane deals in an epoch, 2^40 - 1.
+/// The most versions that a lane assigns in an epoch, 2^40 - 1.
 pub const DEAL_LIMIT: u64 = 1_099_511_627_775;
 
 /// How a relay works.
@@ -52,17 +53,17 @@ pub struct RelayConfig {
     pub capacity: u32,
     /// How many operations a lane holds: 1 to 65,536.
     pub max_held: u32,
-    /// The limits of a batch: a count of 1 to 10,000, 1,024 to 16,777,216 bytes, and a linger time of at
-    /// most 65,535 ticks.
+    /// The limits of a batch: a count of 1 to 10,000, 1,024 to 16,777,216 bytes, and a linger time
+    /// of at most 65,535 ticks.
     pub limits: Limits,
     /// How many requests may carry an operation before it is given up: 1 to 32.
     pub attempts: u32,
-    /// How many requests of a lane fly at most: 1.
+    /// The most requests of a lane in flight: 1.
     pub in_flight: u32,
-    /// The epoch, above those of all earlier incarnations: 0 to 4,194,303. A version is the epoch times
-    /// 2^40, and a count from 1 in each lane.
+    /// The epoch, above those of all earlier incarnations: 0 to 4,194,303. A version is the epoch
+    /// times 2^40 plus a count from 1 in each lane.
     pub epoch: u32,
-    /// How many versions a lane deals: 1 to 1,099,511,627,775.
+    /// How many versions a lane assigns: 1 to 1,099,511,627,775.
     pub deal: u64,
 }
 

@@ -10,11 +10,11 @@ use relay_results::{Cause, ItemVerdict, Outcome, verdict};
 /// What the answer of a whole request makes of its operations.
 #[derive(Clone, Copy, Debug)]
 pub enum Way {
-    /// Each goes by its entry, and where it has none it is tried again.
+    /// Each goes by its entry; one without an entry is tried again.
     ByEntry,
     /// Each is reported with this status.
     Reported(u16),
-    /// Each waits to be sent again, in requests of at most so many.
+    /// Each waits to be sent again, in requests of at most this many.
     Halved(u32),
 }
 
@@ -27,7 +27,7 @@ pub enum Fate {
     Already,
     /// It waits to be sent again.
     Retried,
-    /// It waits to be sent again under this cap, and its try is given back.
+    /// It waits to be sent again under this cap, and its attempt is given back.
     Halved(u32),
     /// It ends with a report.
     Reported(Cause),
@@ -75,8 +75,8 @@ fn fate_next(kind: ActionKind, entry: Option<Outcome>, sends: u32, attempts: u32
     }
 }
 
-/// What an answer makes of a held operation: what the status of the whole request says, or else
-/// its entry, and where it has none it is tried again. It takes no memory.
+/// What an answer makes of a held operation: what the status of the whole request says, or else its
+/// entry; without an entry it is tried again. It does not allocate.
 pub(crate) fn fate_in(one: &Kept, whole: Way, entry: Option<Outcome>, max: u32) -> Fate
     ensures { said result
         ≡ fate_or whole

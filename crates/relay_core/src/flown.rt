@@ -14,7 +14,7 @@ use relay_action::Write;
 use relay_held::Held;
 use relay_results::Outcome;
 
-/// The writes of a request, counted from 0, if it flies.
+/// The writes of a request, counted from 0, if it is in flight.
 pub(crate) fn find_writes(flown: &[Sent], number: u64) -> Option<&[Write]>
     ensures found { is_some result ≡ has_number number flown.now }
     ensures writes { IfSome result (λ ws. ws.now ≡ writes_in flown.now number) }
@@ -28,7 +28,7 @@ pub(crate) fn find_writes(flown: &[Sent], number: u64) -> Option<&[Write]>
     None
 }
 
-// Takes the writes of a request, if it flies.
+// Takes out the writes of a request, if it is in flight.
 fn take_flown(flown: &mut Vec<Sent>, number: u64) -> Option<Sent>
     ensures found { is_some result ≡ has_number number flown.old.items }
     ensures writes { IfSome result (λ x. x.writes.items ≡ writes_in flown.old.items number) }
@@ -43,7 +43,8 @@ fn take_flown(flown: &mut Vec<Sent>, number: u64) -> Option<Sent>
     None
 }
 
-/// The operations of a request, counted from 0, meet its answer. Where it does not fly, nothing changes.
+/// Settles the operations of a request, counted from 0, by its answer. Nothing changes if it is not
+/// in flight.
 pub(crate) fn settle_flown(
     held: &mut Held,
     flown: &mut Vec<Sent>,

@@ -10,7 +10,8 @@ use relay_batch::{Batch, BatchItem, Batcher, Limits, Offer, Room};
 use relay_held::{Head, Held};
 use std::alloc::{AllocError, Global};
 
-// The item of a held operation. Its own version numbers its document, since nothing older is held of it.
+// The item of a held operation. Its own version serves as the number of its document, since nothing
+// older is held of that document.
 fn item_of(one: &Kept) -> BatchItem
     ensures { result ≡ item_of_kept one.now }
 {
@@ -31,7 +32,7 @@ pub struct Gathered {
     pub batcher: Batcher,
     /// Whether an offer was closed.
     pub closed: bool,
-    /// Where the candidates are found, in rising version.
+    /// Where to find the candidates, in rising version.
     pub heads: Vec<Head>,
 }
 
@@ -91,10 +92,10 @@ fn is_asked(is_ready: bool, closed: bool, is_flushed: bool, all_closed: bool) ->
 pub struct Due {
     /// The batch that is to be sent now, if one is.
     pub batch: Option<Batch>,
-    /// Where its operations and the other candidates are found, in rising version.
+    /// Where to find its operations and the other candidates, in rising version.
     pub heads: Vec<Head>,
-    /// Where there is room, nothing is to be sent before more than this was taken, unless a tick passes, a
-    /// flush comes, a sender closes, or an answer.
+    /// Nothing is to be sent before more than this was taken, unless a tick passes, a flush or an
+    /// answer comes, or a sender closes.
     pub room: Room,
 }
 
@@ -112,7 +113,7 @@ pub(crate) fn is_roomy(room: Room) -> bool
     room.items > 0 && room.bytes > 0
 }
 
-/// What is left of it after an operation of so many bytes.
+/// What is left of it after an operation of this many bytes.
 pub(crate) fn less(room: Room, bytes: u64) -> Room
     ensures { result ≡ less bytes room }
 {
@@ -126,7 +127,7 @@ pub(crate) fn less(room: Room, bytes: u64) -> Room
     }
 }
 
-/// The batch that is to be sent now, if one is; and else how long the rule need not be asked.
+/// The batch that is to be sent now, if one is; if not, how long the rule need not be asked.
 pub(crate) fn due_batch(
     alloc: Global,
     held: &Held,

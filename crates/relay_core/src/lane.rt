@@ -29,12 +29,13 @@ use relay_results::{Cause, Outcome, matches};
 use std::alloc::{AllocError, Global};
 use std::marker::Model;
 
-/// A lane: what it holds, what flies, and what it reports. Contracts see it as a `State`.
+/// A lane: what it holds, what is in flight, and what it reports. Contracts see its `State`, and
+/// apart from that its looks.
 #[derive(Debug, Drop)]
 pub struct Lane {
     alloc: Global,
     config: RelayConfig,
-    // The first version that it deals.
+    // The first version that it assigns.
     first: u64,
     clock: u64,
     mark: u64,
@@ -42,7 +43,7 @@ pub struct Lane {
     applied: u64,
     already: u64,
     closed: Vec<bool>,
-    // Where there is room, no batch is due before more than this was taken.
+    // While this is not used up, no batch is due.
     room: Room,
     held: Held,
     flight: Flight,
@@ -75,7 +76,7 @@ fn one_later(n: u64) -> u64
     if n < u64::MAX { n + 1 } else { n }
 }
 
-// What the status of a whole request of so many items makes of each.
+// What the status of a whole request makes of each of its items.
 fn way_of(status: u16, items: usize) -> Way
     requires { items ≤ 4294967295 }
     ensures { result ≡ (if is_halved items status then Way.Halved (items / 2)
@@ -89,9 +90,9 @@ fn way_of(status: u16, items: usize) -> Way
 }
 
 impl Lane {
-    /// A lane that holds nothing, of a config that is valid. Its senders are the producers, numbered from
-    /// 0, and the control, numbered one past the last of them. `AllocError`: there was no memory for the
-    /// places in flight or for the senders.
+    /// A lane that holds nothing, of a valid config. Its senders are the producers, numbered from
+    /// 0, and the control, numbered one past the last of them. `AllocError`: the allocation of the
+    /// places in flight or of the senders failed.
     pub fn new(alloc: Global, config: RelayConfig) -> Result<Lane, AllocError>
         requires { is_valid config ≡ true }
         ensures { IfOk result (λ l. l ≡ record { state = fresh config; looks = 0 }) }
@@ -115,7 +116,7 @@ impl Lane {
         })
     }
 
-    /// A tick of the clock passes. The clock stays at 2^64 - 1.
+    /// A tick of the clock passes. The clock saturates at `u64::MAX`.
     pub fn tick(&mut self)
         ensures ticked { self.new.state ≡ ticked self.old.state }
         ensures looks { self.new.looks ≡ self.old.looks }
@@ -124,8 +125,8 @@ impl Lane {
         self.clock = one_later(self.clock);
     }
 
-    /// Sets the flush mark to the last version dealt: what was taken until now is to be sent, full batch
-    /// or not. Where none was dealt it does nothing.
+    /// Sets the flush mark to the last version assigned: what was taken until now is to be sent,
+    /// full batch or not. It does nothing if no version was assigned yet.
     pub fn flush(&mut self)
         ensures flushed { self.new.state ≡ flushed self.old.state }
         ensures looks { self.new.looks ≡ self.old.looks }
@@ -150,7 +151,7 @@ impl Lane {
         self.closed.len() as u32
     }
 
-    /// How many operations it holds at most.
+    /// The most operations that it holds.
     pub fn max_held(&self) -> u32
         ensures { result ≡ self.now.state.config.max_held }
     {
@@ -171,7 +172,7 @@ impl Lane {
         self.reports.as_slice()
     }
 
-    /// The reports, where the lane itself is not needed any more.
+    /// The reports, taken out of a lane that is no longer needed.
     pub fn into_reports(self) -> Vec<Report>
         ensures { map report_of result.items ≡ self.state.core.reports }
     {
@@ -197,8 +198,8 @@ impl Lane {
         }
     }
 
-    /// How many ticks have to pass until the first eligible operation is due: one that waits, and that has
-    /// no older one of its document before it. 0 where one is due, `None` where none is eligible.
+    /// The ticks until the first eligible operation is due: one that waits, and of whose document
+    /// nothing older is held. 0 if one is due already, `None` if none is eligible.
     pub fn due_in(&self) -> Option<u64>
         ensures { result ≡ due_in self.now.state }
     {
@@ -208,8 +209,9 @@ impl Lane {
         }
     }
 
-    /// How many held operations were looked at, to see whether they may be sent, since the lane was made. It
-    /// stays at 2^64 - 1.
+    /// How many held operations [`Lane::request`] looked at since the lane was made, to see whether
+    /// they may be sent. A call adds at most one for each document that is held, whatever it
+    /// returns. The count saturates at `u64::MAX`. What a call says of the lane says nothing of it.
     pub fn looks(&self) -> u64
         ensures { result ≡ self.now.looks }
     {
@@ -226,7 +228,7 @@ impl Lane {
 
 // Messages are taken.
 impl Lane {
-    // Takes an operation that there is a place for.
+    // Takes an operation into a lane that has a place for it.
     fn take_put(&mut self, op: Op) -> Result<(), NoRoom>
         requires { length self.old.state.core.held < self.old.state.config.max_held }
         ensures ok { OnOk result (self.new.state ≡ taken self.old.state op) }
@@ -263,11 +265,11 @@ impl Lane {
         }
     }
 
-    /// Takes a message of a known sender. An operation is dealt the next version and held, or reported as
-    /// Spent where none is left; a Tick is a [`Lane::tick`], a Flush a [`Lane::flush`], and a Done closes
-    /// its sender. The room for the operation's later report is made too. The faults are those of
-    /// [`TakeFault`], the first that holds, `Memory` of an operation alone; the message comes back then,
-    /// and the lane is as before.
+    /// Takes a message of a known sender. An operation is assigned the next version and held, or
+    /// reported as Spent if none is left; a Tick is a [`Lane::tick`], a Flush a [`Lane::flush`],
+    /// and a Done closes its sender. Room for the operation's later report is allocated here. The
+    /// faults are those of [`TakeFault`], the first that holds; `Memory` only for an operation. The
+    /// message comes back then, and the lane is unchanged.
     pub fn take(&mut self, mail: Mail) -> Result<(), (TakeFault, Mail)>
         requires { mail.sender < length self.old.state.closed }
         ensures ok { OnOk result (self.new.state ≡ after_take self.old.state mail.sender mail.body) }
@@ -321,12 +323,15 @@ impl Lane {
 
 // Requests are formed.
 impl Lane {
-    /// Forms the next request and gives its number, 1 for the first and one more each time. `None` where
-    /// as many fly as may, or where no batch is to be sent: the operations that wait, are due, and have
-    /// no older one of their document before them are gathered in rising version until the batch is
-    /// closed, and they go where the batch is full, ready or flushed, or where the lane is closed. Each
-    /// of them has one send and one attempt more. `AllocError`: there was no memory for the batch or for
-    /// its writes, and the lane is as before; a place was free then, and some operation may be sent.
+    /// Forms the next request and returns its number, 1 for the first and one more each time. The
+    /// operations that wait, are due, and have nothing older of their document held are gathered in
+    /// rising version until the batch is closed. They go if the batch is full, ready or flushed, or
+    /// if the lane is closed; each of them then has one send and one attempt more. `None` if no
+    /// place in flight is free, or if no batch is to be sent. `AllocError`: the allocation of the
+    /// batch or of its writes failed, and the state is unchanged; a place was free then, and some
+    /// operation may be sent.
+    ///
+    /// It looks at most at one operation of each document: see [`Lane::looks`].
     pub fn request(&mut self) -> Result<Option<u64>, AllocError>
         ensures when { IfOk result (λ o. is_some o ≡ is_some (next_batch self.old.state)) }
         ensures number { IfOk result (λ o. IfSome o (λ n. n ≡ self.old.state.flights.next)) }
@@ -389,7 +394,7 @@ impl Lane {
         find_writes(&self.flown, number - 1)
     }
 
-    /// The batch of a request in flight, if one flies under the number.
+    /// The batch of the request of this number, if it is in flight.
     pub fn items(&self, number: u64) -> Option<&[BatchItem]>
         ensures { option_map (λ b. b.now) result ≡ batch_at number self.now.state.flights }
     {
@@ -402,7 +407,7 @@ impl Lane {
 
 // Requests are answered.
 impl Lane {
-    // What the answer of a request makes of the lane, where it flies.
+    // Settles a request by its answer, if it is in flight.
     fn settle(&mut self, number: u64, whole: Way, outcomes: Vec<Outcome>) -> Option<Settled>
         requires first { 1 ≤ number }
         requires halves { IsHalf whole (length (writes_of number self.old.state)) }
@@ -438,9 +443,10 @@ impl Lane {
         }
     }
 
-    /// The reply to a request was lost, could not be read, or the request could not be sent: each of its
-    /// operations waits to be sent again, or is given up where its attempts are used up. [`NotFlying`]:
-    /// no request flies under the number, and the lane is as before. It takes no memory.
+    /// The reply to a request was lost or could not be read, or the request could not be sent: each
+    /// of its operations waits to be sent again, or is given up if its attempts are used up.
+    /// [`NotFlying`]: no request of this number is in flight, and the lane is unchanged. It does
+    /// not allocate.
     pub fn lost(&mut self, number: u64) -> Result<Settled, NotFlying>
         ensures flies { is_ok result ≡ is_flying number self.old.state }
         ensures ok { OnOk result (self.new.state ≡ answered self.old.state number Lost) }
@@ -458,11 +464,12 @@ impl Lane {
         }
     }
 
-    /// A request as a whole was answered by a status other than 200. After 413 each of two operations or
-    /// more waits to be sent again at once, in requests of at most half as many, and the attempt does not
-    /// count; after 429, 502, 503 and 504 it is as [`Lane::lost`]; after any other, and after 413 to a
-    /// single operation, each is reported with the status. [`NotFlying`]:
-    /// no request flies under the number, and the lane is as before. It takes no memory.
+    /// A request as a whole was answered by a status other than 200. After 413 to two operations or
+    /// more, each waits to be sent again at once, in requests of at most half as many, and the
+    /// attempt does not count. After 429, 502, 503 and 504 the request counts as lost, as in
+    /// [`Lane::lost`]. After any other status, and after 413 to a single operation, each is
+    /// reported with the status. [`NotFlying`]: no request of this number is in flight, and the
+    /// lane is unchanged. It does not allocate.
     pub fn whole(&mut self, number: u64, status: u16) -> Result<Settled, NotFlying>
         requires { status ≢ 200 }
         ensures flies { is_ok result ≡ is_flying number self.old.state }
@@ -483,9 +490,10 @@ impl Lane {
         }
     }
 
-    /// A request was answered by status 200 and these outcomes. Where they match it, each operation ends
-    /// by the verdict on its outcome; else it is as [`Lane::lost`]. [`NotFlying`]: no request flies under
-    /// the number, and the lane is as before. It takes no memory.
+    /// A request was answered by status 200 and these outcomes. If they match it, each operation
+    /// ends by the verdict on its outcome; if not, the request counts as lost, as in
+    /// [`Lane::lost`]. [`NotFlying`]: no request of this number is in flight, and the lane is
+    /// unchanged. It does not allocate.
     pub fn reply(&mut self, number: u64, outcomes: Vec<Outcome>) -> Result<Settled, NotFlying>
         ensures flies { is_ok result ≡ is_flying number self.old.state }
         ensures ok { OnOk result (self.new.state ≡ answered self.old.state number (Items outcomes.items)) }

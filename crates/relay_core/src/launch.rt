@@ -18,7 +18,7 @@ fn load(writes: &mut Vec<Write>, write: Option<Write>)
     }
 }
 
-/// The first operations of those that may go are sent: their writes move into the request.
+/// Sends the first `count` of the operations that may go: their writes move into the request.
 pub(crate) fn launch(
     held: &mut Held,
     number: u64,

@@ -1,8 +1,9 @@
-//! How a lane's calls are steps of delivery. These functions do nothing; their contracts are the laws.
+//! How a lane's calls are steps of delivery. These functions do nothing; their contracts are the
+//! laws.
 ghost use Rattle.relay_core.specs.Ties.{FreshFits, TakeFits, RequestFits, RunFits, AnswerFits};
 ghost use Rattle.relay_core.specs.Flights.{EarlierOnesSettled, ItemsAreOfOperations, RequestsKeepLimits};
 
-/// A fresh lane fits an opening, and each call takes a lane that fits an outside to one that fits the
+/// A new lane fits an opening, and each call takes a lane that fits an outside to one that fits the
 /// outside after it.
 pub fn calls_keep_fitting()
     ensures fresh { FreshFits }
@@ -12,9 +13,9 @@ pub fn calls_keep_fitting()
     ensures answer { AnswerFits }
 {}
 
-/// Which operations the next request carries: each is held, waits and is due, and no operation of its
-/// document that was taken before it is held any more; its items are theirs, in the order of its writes;
-/// and it keeps the limits of a batch, in bytes of the text that is sent.
+/// Which operations the next request carries: each is held, waits and is due, and no operation of
+/// its document that was taken before it is still held; its items are theirs, in the order of its
+/// writes; and it keeps the limits of a batch, in bytes of the text that is sent.
 pub fn requests_are_formed()
     ensures earlier { EarlierOnesSettled }
     ensures items { ItemsAreOfOperations }

@@ -17,7 +17,7 @@ use relay_held::Held;
 use relay_results::{Cause, Outcome};
 use std::vec::IntoIter;
 
-// The ticks of the pause that follows so many attempts.
+// The ticks of the pause after this many attempts.
 fn pause(attempts: u32) -> u64
     ensures { result ≡ min (2 ^ (attempts - 1)) 64 }
 {
@@ -52,7 +52,7 @@ fn next_of<T: Drop>(items: &mut IntoIter<T>) -> Option<T>
     items.next()
 }
 
-// The first of a document ends with a report.
+// The first operation of a document ends with a report.
 fn report(held: &mut Held, write: Write, cause: Cause, reports: &mut Vec<Report>)
     requires room { vec_len reports.old < vec_capacity reports.old }
     ensures held { held.new.list ≡ without_first write.key held.old.list }
@@ -70,7 +70,7 @@ fn report(held: &mut Held, write: Write, cause: Cause, reports: &mut Vec<Report>
     }
 }
 
-// The first of a document waits again.
+// The first operation of a document waits again.
 fn land(held: &mut Held, write: Write, clock: u64, attempts: u32)
     ensures { (h : Kept) → h.attempts ≡ attempts → first_of write.key held.old.list ≡ Some h
         → held.new.list ≡ with_first write.key (back clock write) held.old.list }
@@ -78,7 +78,7 @@ fn land(held: &mut Held, write: Write, clock: u64, attempts: u32)
     held.land(due_after(clock, attempts), write);
 }
 
-// The first of a document meets its fate.
+// The first operation of a document meets its fate.
 fn meet(
     held: &mut Held,
     fate: Fate,
@@ -164,7 +164,8 @@ fn settle_one(
     }
 }
 
-/// What flies in a request is settled by its answer, write by write; there is room for the reports.
+/// Settles the operations of a request by its answer, write by write; there is room for the
+/// reports.
 pub(crate) fn settle_walk(
     held: &mut Held,
     reports: &mut Vec<Report>,

@@ -1,4 +1,4 @@
-//! What the calls of a lane answer.
+//! What the calls of a lane return.
 use thiserror::Error;
 
 /// How the operations of a request ended.
@@ -12,11 +12,11 @@ pub struct Settled {
     pub reported: u32,
     /// How many wait to be sent again.
     pub retried: u32,
-    /// False where outcomes were given that did not match the request.
+    /// False if outcomes were given that did not match the request.
     pub matched: bool,
 }
 
-/// Why a message is not taken. The first that holds is given, in this order.
+/// Why a message is not taken: the first of these that holds.
 #[derive(Clone, Copy, Debug, PartialEq, Eq, Error)]
 pub enum TakeFault {
     /// Its sender's Done was taken.
@@ -25,7 +25,7 @@ pub enum TakeFault {
     /// It is a Put, and the lane holds as many operations as it may.
     #[error("HeldFull")]
     HeldFull,
-    /// There was no memory for the operation or for its later report.
+    /// An allocation failed, for the operation or for its later report.
     #[error("Memory")]
     Memory,
 }

@@ -59,7 +59,7 @@ pub(crate) fn kept_of(op: Op, key: DocKey, version: u64, clock: u64, cap: u32) -
     }
 }
 
-/// The operation, where it was not held.
+/// The operation back, if it was not held.
 pub(crate) fn op_of(one: Kept) -> Op
     requires { is_some one.write ≡ true }
     ensures { IfSome one.write (λ w. result ≡ record {
@@ -83,7 +83,7 @@ pub(crate) fn op_of(one: Kept) -> Op
     }
 }
 
-/// A message that is handed back.
+/// A refused message, with the reason.
 pub(crate) fn refused(fault: TakeFault, sender: u32, number: u64, body: Body) -> (TakeFault, Mail)
     ensures { result ≡ (fault, record { sender = sender; number = number; body = body }) }
 {

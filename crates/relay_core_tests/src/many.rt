@@ -30,8 +30,8 @@ fn carried(lane: &mut Lane) -> Result<usize, AllocError> {
     }
 }
 
-// A lane takes 65,536 operations, of one document or of as many, and one more. What became of that one, how
-// many are held, and how many the next request carries.
+// A lane takes 65,536 operations, of one document or of as many, and one more. What became of that
+// one, how many are held, and how many the next request carries.
 fn filled(
     alloc: Global,
     lane: &mut Lane,
@@ -77,8 +77,8 @@ fn applies_one(alloc: Global, lane: &mut Lane) -> Result<bool, Fail> {
     )
 }
 
-// Deletes of one document, each sent and settled as applied in a request of its own. How many are held then,
-// and how many were looked at.
+// Deletes of one document, each sent and settled as applied in a request of its own. How many are
+// held then, and how many were looked at.
 fn one_by_one(alloc: Global, lane: &mut Lane, count: u64) -> Result<(u32, u64), Fail> {
     for number in 0..count {
         if !is_put(alloc, lane, number, 0)? {
@@ -141,7 +141,8 @@ fn begun(alloc: Global) -> Result<(Lane, Mail), Fail> {
     Ok((lane, mail))
 }
 
-// Takes a message, once more where memory was refused the first time, which is to have changed nothing.
+// Takes a message, once more where memory was refused the first time, which is to have changed
+// nothing.
 fn takes(lane: &mut Lane, mail: Mail) -> bool {
     if mail.sender >= lane.senders() {
         return false;
@@ -158,7 +159,8 @@ fn takes(lane: &mut Lane, mail: Mail) -> bool {
     }
 }
 
-// Whether the first request goes, by a second call where the first was refused memory and changed nothing.
+// Whether the first request goes, by a second call where the first was refused memory and changed
+// nothing.
 fn sends(lane: &mut Lane) -> bool {
     match lane.request() {
         Ok(number) => number == Some(1),
@@ -168,7 +170,8 @@ fn sends(lane: &mut Lane) -> bool {
     }
 }
 
-// Whichever allocation is refused, a call that answers so has changed nothing, and goes the next time.
+// Whichever allocation is refused, a call that answers so has changed nothing, and goes the next
+// time.
 #[test]
 fn refusals(rt: HostRuntime) -> Result<(), Fail> {
     let (mut lane, mail) = begun(rt.alloc())?;

@@ -1,11 +1,11 @@
-use Rattle.std.proofs.Common.{inl, inr, ◌≡◌, ◌∙◌, ◌+◌, ◌<◌, ◌∷◌, [], sym, ap, subst, refl, arith, length, drop, List, Some, true, get_or, vec_len}
+use Rattle.std.proofs.Common.{inl, inr, ◌≡◌, ◌∙◌, ◌+◌, sym, ap, subst, arith, drop}
 use Rattle.relay_batch.specs.declared.offer.Offer.{Offer}
 use Rattle.relay_batch.specs.declared.offer.Offer.TheVariants.{Busy, Closed, Added}
 use Rattle.std.specs.Prelude.{◌⊎◌, map, slice_get}
 use Rattle.relay_results.proofs.Lists.{some_same}
 use Rattle.relay_held.specs.declared.held.Head.{Head}
-use Rattle.relay_held.specs.Queues.{candidates_kept, AreHeads, IsHead, first_of}
-use Rattle.relay_batch.specs.Gathering.{Gathering, answer_to, after_offer}
+use Rattle.relay_held.specs.Queues.{candidates_kept, IsHead}
+use Rattle.relay_batch.specs.Gathering.{answer_to, after_offer}
 use Rattle.relay_core.specs.Rule.{offered, closes}
 use Rattle.relay_core.specs.Walk.{item_of_kept}
 use Rattle.relay_core.proofs.Going.{next_of, within, items_next, offer_closed, offer_on}

@@ -1,4 +1,4 @@
-use Rattle.std.proofs.Common.{◌≡◌, [], length, drop}
+use Rattle.std.proofs.Common.{◌≡◌, [], drop}
 use Rattle.std.specs.Prelude.{map}
 use Rattle.relay_held.specs.Queues.{candidates_kept, AreHeads}
 use Rattle.relay_core.specs.Walk.{items_of_kept, item_of_kept}

@@ -1,8 +1,8 @@
-use Rattle.std.proofs.Common.{◌≡◌, ◌∙◌, ℕ, ◌+◌, ◌-◌, ◌<◌, ◌≤◌, ◌++◌, ◌∷◌, List, [], Some, sym, ap, subst, refl, arith, length, drop, take, append_assoc}
-use Rattle.std.specs.Prelude.{map, slice_get, option_to_list, IfSome}
+use Rattle.std.proofs.Common.{◌≡◌, ◌∙◌, ℕ, ◌+◌, ◌-◌, ◌++◌, ◌∷◌, List, [], sym, ap, subst, refl, arith, drop, take, append_assoc}
+use Rattle.std.specs.Prelude.{map, option_to_list, IfSome}
 use Rattle.relay_held.specs.declared.kept.Kept.{Kept}
 use Rattle.relay_held.specs.declared.held.Head.{Head}
-use Rattle.relay_held.specs.Queues.{Holding, AllAbove, Rises, AreHeads, first_of, with_first, candidates_kept, is_candidate_kept}
+use Rattle.relay_held.specs.Queues.{Holding, Rises, AreHeads, with_first, candidates_kept, is_candidate_kept}
 use Rattle.relay_held.proofs.Merging.{rises_filter}
 use Rattle.relay_held.proofs.Changing.{rises_with}
 use Rattle.relay_held.proofs.Holding.{launch_keeps}

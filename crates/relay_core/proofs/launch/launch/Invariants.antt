@@ -1,4 +1,4 @@
-use Rattle.std.proofs.Common.{◌≡◌, ◌+◌, ◌-◌, ◌≤◌, ◌++◌, length, take, drop, vec_len, vec_capacity}
+use Rattle.std.proofs.Common.{◌≡◌, ◌+◌, ◌-◌, ◌≤◌, ◌++◌, take, drop, vec_len, vec_capacity}
 use Rattle.std.specs.Prelude.{map}
 use Rattle.relay_held.specs.Queues.{candidates_kept, AreHeads, Rises}
 use Rattle.relay_core.specs.Walk.{item_of_kept, launched_kept, freight}

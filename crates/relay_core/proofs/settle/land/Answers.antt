@@ -1,4 +1,4 @@
-use Rattle.std.proofs.Common.{◌≡◌, ◌∙◌, sym, ap}
+use Rattle.std.proofs.Common.{◌∙◌, sym, ap}
 use Rattle.relay_delivery.specs.Lane.{backoff}
 use Rattle.relay_held.specs.Kept.{back_at}
 use Rattle.relay_core.specs.Walk.{back}

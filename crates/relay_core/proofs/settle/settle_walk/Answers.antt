@@ -1,4 +1,4 @@
-use Rattle.std.proofs.Common.{◌≡◌, ◌∙◌, ℕ, ◌+◌, ◌≤◌, ◌++◌, List, [], sym, ap, subst, refl, arith, length, drop, append_assoc, Some, None}
+use Rattle.std.proofs.Common.{◌≡◌, ◌∙◌, ◌+◌, ◌++◌, [], sym, ap, subst, refl, arith, length, drop, append_assoc, Some}
 use Rattle.std.specs.Prelude.{map, slice_get}
 use Rattle.std.specs.Vec.Iter.{into_iter_items}
 use Rattle.relay_delivery.specs.Machine.{is_applied_fate, is_already_fate}

@@ -18,7 +18,7 @@ use Rattle.relay_batch.specs.Batches.{IsBatch}
 use Rattle.relay_core.proofs.Sending.{not_it, from_zero_on, launched_seen, none_above, once_more, writes_more_other, writes_more_here, beside_more, beside_length, all_below}
 use Rattle.relay_core.proofs.Forming.{formed, ok_const}
 use Rattle.relay_core.specs.Quiet.{is_roomy}
-use Rattle.std.specs.Prelude.{None, Result, Ok, Err, OnErr, Option, List, Bool, is_some, nat_lt, if◌then◌else◌}
+use Rattle.std.specs.Prelude.{Result, Ok, Err, OnErr, List, Bool, is_some}
 use Rattle.std.proofs.lemmas.List.{length-map}
 use Rattle.relay_batch.specs.declared.item.BatchItem.{BatchItem}
 use Rattle.relay_delivery.specs.Lane.{candidates}
@@ -27,7 +27,6 @@ use Rattle.relay_core.specs.Rule.{batch_of}
 use Rattle.relay_core.specs.State.{all_closed}
 use Rattle.relay_core.specs.Quiet.{IsQuiet}
 use Rattle.relay_core.specs.Walk.{items_of_kept}
-use Rattle.relay_core.proofs.Quiet.{quiet_none}
 use Rattle.relay_core.proofs.Reading.{offers_seen}
 use Rattle.relay_core.proofs.Forming.{candidates_of_batch}
 use Rattle.relay_core.proofs.Entering.{front_of, heads_count, length_launched, batch_now, none_now}

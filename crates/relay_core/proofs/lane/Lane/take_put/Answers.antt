@@ -1,6 +1,4 @@
-use Rattle.std.proofs.Common.{◌≡◌, ◌^◌, ◌+◌, ◌-◌, ◌<◌, ◌≤◌, ◌++◌, ◌∷◌, [], refl, sym, ap, ◌∙◌, subst, true, false, length, length-append, arith}
-use Rattle.std.proofs.lemmas.List.{map-append}
-use Rattle.relay_results.specs.declared.cause.Cause.TheVariants.{Spent}
+use Rattle.std.proofs.Common.{◌≡◌, ◌^◌, ◌+◌, ◌-◌, ◌<◌, ◌≤◌, ◌++◌, ◌∷◌, [], refl, sym, ap, ◌∙◌, subst, true, length, length-append, arith}
 use Rattle.std.specs.Prelude.{map, min, nat_lt}
 use Rattle.std.proofs.lemmas.Bool.{lt-ltb}
 use Rattle.relay_delivery.specs.Machine.{spent_if}
@@ -14,7 +12,7 @@ use Rattle.relay_core.specs.Walk.{report_of, items_of_kept}
 use Rattle.relay_core.specs.State.{State, bytes_of, taken}
 use Rattle.relay_core.specs.Memory.{entries, writes_in, kept_new, AllUnder, tries_left}
 use Rattle.relay_core.specs.View.{seen}
-use Rattle.relay_core.proofs.Taken.{entries_new, under_more, under_same, readable_more, left_more, entries_length, on_ok, with_none, ltb_no}
+use Rattle.relay_core.proofs.Taken.{entries_new, under_more, under_same, readable_more, left_more, entries_length, on_ok, with_none}
 use Rattle.relay_core.proofs.Valid.{valid_facts}
 use Rattle.relay_delivery.proofs.Halving.{halvings_few}
 use Rattle.relay_core.specs.State.{Seen}
