@@ -4,7 +4,7 @@ use Rattle.std.specs.Prelude.{◌&&◌, ◌||◌, not, nat_lt, nat_le, map, filt
 use Rattle.std.specs.List.{list_any}
 use borrow.Author.Tests.{ltb-true, ltb-false, leb-true, leb-false}
 use Rattle.relay_batch.specs.declared.item.BatchItem.{BatchItem}
-use Rattle.relay_batch.specs.declared.offer.Offer.TheVariants.{Closed, Added}
+use Rattle.relay_batch.specs.declared.offer.Offer.TheVariants.{Added}
 use Rattle.relay_batch.specs.Gathering.{answer_to, is_ready}
 use Rattle.relay_results.specs.Words.{Mem}
 use Rattle.relay_results.specs.Documents.{document_of, same_document}

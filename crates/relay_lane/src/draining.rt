@@ -12,9 +12,9 @@ use crate::wire::Wire;
 use relay_core::Lane;
 use std::alloc::AllocError;
 
-/// Sends and settles every request that is ready, and gives their number. No tick passes. `AllocError`:
-/// there was no memory for a request; the lane is as the last settled request left it, and the call may
-/// be made again.
+/// Sends and settles every request that is ready, and returns how many. No tick passes.
+/// `AllocError`: the allocation of a request failed; the lane is as the last settled request left
+/// it, and the call may be repeated.
 pub fn pump<W: Wire>(lane: &mut Lane, wire: &mut W) -> Result<u64, AllocError>
     requires rest { IsAtRest lane.old.state }
     requires out { W.out wire.old ≡ [] }
@@ -39,7 +39,7 @@ pub fn pump<W: Wire>(lane: &mut Lane, wire: &mut W) -> Result<u64, AllocError>
     Ok(sent)
 }
 
-// Sends, repeats and settles until fewer than so many operations are held.
+// Sends, repeats and settles until fewer than `least` operations are held.
 fn work<W: Wire, P: Pace>(
     lane: &mut Lane,
     wire: &mut W,
@@ -70,9 +70,10 @@ fn work<W: Wire, P: Pace>(
     Ok(())
 }
 
-/// Flushes, and then sends, repeats and settles until fewer than `max_held` operations are held; where nothing is ready it pauses and ticks as [`drain`] does. So a lane that has
-/// room is flushed and no more. `AllocError`: there was no memory for a request; the lane is as the last
-/// settled request left it, and the call may be made again.
+/// Flushes, and then sends, repeats and settles until fewer than `max_held` operations are held. If
+/// nothing is ready it pauses and ticks, as [`drain`] does. So a lane that has room is only
+/// flushed. `AllocError`: the allocation of a request failed; the lane is as the last settled
+/// request left it, and the call may be repeated.
 pub fn make_room<W: Wire, P: Pace>(
     lane: &mut Lane,
     wire: &mut W,
@@ -98,10 +99,11 @@ pub fn make_room<W: Wire, P: Pace>(
     work(lane, wire, pace, most)
 }
 
-/// Sends, repeats and settles until a closed lane holds nothing: by at most as many requests as the
-/// operations that it holds have attempts, and 14 more for each, since a request that is too large is halved. Where nothing is ready it pauses until the first operation
-/// that may be sent is due, and ticks so often. `AllocError`: there was no memory for a request; the lane
-/// is as the last settled request left it, and the call may be made again.
+/// Sends, repeats and settles until a closed lane holds nothing. It sends at most `attempts + 14`
+/// requests for each operation held: 14 since a request that is too large is halved. If nothing is
+/// ready it pauses until the first operation that may be sent is due, and ticks the clock by as
+/// much. `AllocError`: the allocation of a request failed; the lane is as the last settled request
+/// left it, and the call may be repeated.
 pub fn drain<W: Wire, P: Pace>(
     lane: &mut Lane,
     wire: &mut W,

@@ -2,10 +2,10 @@
 ghost use Rattle.relay_core.specs.Ties.{FreshFits, TakeFits};
 ghost use Rattle.relay_lane.specs.Laws.{FreshRests, TakeRests, TurnsKeep, WorksOn, LeftAtMost, LeftIsTries};
 
-/// A fresh lane is at rest and fits every opening, in which nothing was sent and every stored version is
-/// below the first one dealt; and whatever it takes, it stays at rest and fits. So the conditions of
-/// [`crate::pump`], [`crate::make_room`] and [`crate::drain`] are met, and what they promise holds, of
-/// each lane that only took messages and worked by these calls.
+/// A new lane is at rest and fits every opening, in which nothing was sent and every stored version
+/// is below the first one assigned; and whatever it takes, it stays at rest and fits. So a lane
+/// that only took messages and worked by [`crate::pump`], [`crate::make_room`] and [`crate::drain`]
+/// meets their conditions, and what they promise holds of it.
 pub fn lanes_begin()
     ensures fresh { FreshRests }
     ensures opening { FreshFits }
@@ -13,15 +13,15 @@ pub fn lanes_begin()
     ensures fits { TakeFits }
 {}
 
-/// What turns add up to: the requests and the ticks that they are, within what the lane might send; and a
-/// call that is made again after lack of memory goes on from where the first one stopped.
+/// What turns add up to: their requests and ticks, within what the lane might send. A call that is
+/// repeated after a failed allocation goes on from where the first one stopped.
 pub fn turns_add_up()
     ensures keep { TurnsKeep }
     ensures on { WorksOn }
 {}
 
-/// How many requests a lane may still send: at most as many as it holds operations, times the attempts;
-/// and where each has attempts left, exactly these.
+/// How many requests a lane may still send: at most `attempts + 14` for each operation held; and if
+/// each has attempts left, exactly the tries that they have left.
 pub fn requests_are_bounded()
     ensures most { LeftAtMost }
     ensures tries { LeftIsTries }

@@ -12,7 +12,7 @@ use crate::wire::Wire;
 use relay_core::Lane;
 use std::alloc::AllocError;
 
-/// Sends the lane's next request and settles it, where there is one. Whether there was one.
+/// Sends the lane's next request and settles it. Whether there was one.
 pub(crate) fn send_next<W: Wire>(lane: &mut Lane, wire: &mut W) -> Result<bool, AllocError>
     requires rest { IsAtRest lane.old.state }
     requires out { W.out wire.old ≡ [] }
@@ -37,7 +37,7 @@ pub(crate) fn send_next<W: Wire>(lane: &mut Lane, wire: &mut W) -> Result<bool, 
     Ok(true)
 }
 
-/// Pauses until the first operation that may be sent is due, and ticks so often.
+/// Pauses until the first operation that may be sent is due, and ticks the clock by as much.
 pub(crate) fn wait<P: Pace>(lane: &mut Lane, pace: &mut P)
     requires { IsDueLater lane.old.state }
     ensures lane { IfSome (due_in lane.old.state) (λ n. lane.new.state ≡ after_ticks n lane.old.state) }

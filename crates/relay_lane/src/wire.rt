@@ -37,12 +37,12 @@ pub enum WireFault {
     Memory,
 }
 
-/// The way from a lane to an index. Requests go by number, from 1; a number is out from a `send` that
-/// answers `Ok` until its `receive`.
+/// The way from a lane to an index. Requests go by number, from 1; a number is out from a `send`
+/// that answers `Ok` until its `receive`.
 ///
-/// A wire may describe what stands outside: then, for each outside that fits it before a call, one fits it
-/// after the call to which the call led. A wire that does not says so by `describes`, and nothing is
-/// asked of its `fits`.
+/// A wire may describe what stands outside: then, for each outside that fits it before a call, one
+/// fits it after the call to which the call led. A wire that does not says so by `describes`, and
+/// nothing is asked of its `fits`.
 pub trait Wire {
     /// The numbers that are out.
     ghost out: { Self → List ℕ };
@@ -53,9 +53,9 @@ pub trait Wire {
     /// What may stand outside.
     ghost fits: { Self → Outside → Type 0 };
 
-    /// Sends the writes as the request of this number: at most 10,000 of them, whose versions were dealt,
-    /// and whose bulk text has at most 16,777,216 bytes. After a fault the number is not out, and the
-    /// request counts as sent and lost.
+    /// Sends the writes as the request of this number: at most 10,000 of them, whose versions were
+    /// dealt, and whose bulk text has at most 16,777,216 bytes. After a fault the number is not
+    /// out, and the request counts as sent and lost.
     fn send(&mut self, number: u64, writes: &[Write]) -> Result<(), WireFault>
         requires fresh { Mem number (out self.old) → ⊥ }
         requires few { length writes.now ≤ 10000 }

@@ -48,8 +48,8 @@ fn drained(alloc: Global, desk: &mut Desk, wire: &mut IndexWire) -> Option<Total
     Some(desk.lane.totals())
 }
 
-// Each is applied, the first of each document in the first request, and so on: a request looks at each document
-// once, and one more call finds nothing to look at.
+// Each is applied, the first of each document in the first request, and so on: a request looks at
+// each document once, and one more call finds nothing to look at.
 #[test]
 fn three_of_each(rt: HostRuntime) -> Result<(), Fail> {
     let mut desk = desk_of(rt.alloc(), ALL_AT_ONCE).ok_or("no desk")?;
