@@ -14,7 +14,7 @@ use Rattle.relay_action.specs.Lanes.{lane_of_document}
 use Rattle.relay_queue.specs.Sent.{message}
 use Rattle.relay_queue.specs.Ends.{SenderEnd}
 use Rattle.relay_producer.specs.declared.ends.OpenEnd.{OpenEnd}
-use Rattle.relay_producer.specs.Ends.{with_sent, one_more, marked, open_puts, identity, identities, change_at}
+use Rattle.relay_producer.specs.Ends.{with_sent, one_more, marked, is_gone_at, open_puts, identity, identities, change_at}
 use Rattle.relay_producer.specs.Puts.{puts_of, ops_for, AreNumberedBy, HasPut}
 use Rattle.relay_producer.specs.States.{AreEndsOf, HasLanes, ProducerState, IsProducer}
 use Rattle.relay_producer.proofs.Closing.{puts_of-append}
@@ -167,3 +167,17 @@ at_lane key f ends new lane count e at len = e ∙ ap (λ k. change_at k f ends)
 -- the name of its next operation
 abbrev pub next_name : ProducerState → OpName
 next_name s = record { epoch = s.epoch; producer = s.producer; number = s.put + 1 }
+
+-- ---- a lane that is marked
+
+-- the end at a lane says whether the lane is marked
+pub gone_here : (xs : List OpenEnd) (lane : ℕ) (x : OpenEnd) → lane < length xs → x ≡ get_or xs lane x → is_gone_at xs lane ≡ x.gone
+gone_here [] lane x lt at = absurd (omega arith)
+gone_here (y ∷ ys) zero x lt at = ap (λ (e : OpenEnd). e.gone) (sym at)
+gone_here (y ∷ ys) (suc lane) x lt at = gone_here ys lane x (omega arith) at
+
+-- to mark a lane that is marked changes nothing
+pub marked_already : (xs : List OpenEnd) (lane : ℕ) → is_gone_at xs lane ≡ true → xs ≡ change_at lane marked xs
+marked_already [] lane gone = refl
+marked_already (y ∷ ys) zero gone = λ i. record { put = y.put; gone = gone i } ∷ ys
+marked_already (y ∷ ys) (suc lane) gone = ap (λ l. y ∷ l) (marked_already ys lane gone)

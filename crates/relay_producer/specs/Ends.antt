@@ -73,6 +73,12 @@ identity put = (put.queue, put.sender)
 abbrev pub identities : List SenderEnd → List (Queue × ℕ)
 identities puts = map identity puts
 
+-- the lane is marked
+abbrev pub is_gone_at : List OpenEnd → ℕ → Bool
+is_gone_at [] lane = false
+is_gone_at (e ∷ es) zero = e.gone
+is_gone_at (e ∷ es) (suc lane) = is_gone_at es lane
+
 -- the ends with the one of this lane changed so
 abbrev pub change_at : ℕ → (OpenEnd → OpenEnd) → List OpenEnd → List OpenEnd
 change_at lane change [] = []

@@ -1,5 +1,5 @@
 -- What contracts see of a producer and of the control.
-use Rattle.std.specs.Prelude.{◌≡◌, ℕ, ◌+◌, ◌<◌, ◌≤◌, ◌^◌, List, length}
+use Rattle.std.specs.Prelude.{◌≡◌, ℕ, ◌+◌, ◌<◌, ◌≤◌, ◌^◌, Bool, List, length}
 use Rattle.std.specs.List.{All}
 use Rattle.relay_action.specs.declared.key.DocKey.{DocKey}
 use Rattle.relay_action.specs.declared.action.Action.{Action}
@@ -9,7 +9,7 @@ use Rattle.relay_action.specs.Lanes.{lane_of_document}
 use Rattle.relay_queue.specs.Ends.{SenderEnd, fresh}
 use Rattle.relay_producer.specs.declared.ends.OpenEnd.{OpenEnd}
 use Rattle.relay_producer.specs.declared.ends.ClosedEnd.{ClosedEnd}
-use Rattle.relay_producer.specs.Ends.{with_sent, marked, change_at, open_puts, closed_puts, IsClosedBy}
+use Rattle.relay_producer.specs.Ends.{with_sent, marked, is_gone_at, change_at, open_puts, closed_puts, IsClosedBy}
 use Rattle.relay_producer.specs.Puts.{HasPut, HaveNoPuts}
 
 -- a producer: the epoch in which it puts, its number, how many operations it put, and its end of each lane's queue, by lane
@@ -44,6 +44,10 @@ AreFresh sender puts = All (λ p. p ≡ fresh p.queue sender) puts
 -- the lane of a document among the producer's lanes
 abbrev pub lane_for : DocKey → ProducerState → ℕ
 lane_for key s = lane_of_document key (length s.ends)
+
+-- the document's lane is marked
+abbrev pub is_lane_gone : DocKey → ProducerState → Bool
+is_lane_gone key s = is_gone_at s.ends (lane_for key s)
 
 -- the next operation of a producer
 abbrev pub next_op : DocKey → Action → ProducerState → Op

@@ -1,10 +1,10 @@
 //! A producer's handle: it puts operations, each to the lane of its document.
-ghost use Rattle.std.specs.Prelude.{◌≡◌, ◌+◌, ◌<◌, ◌^◌, ◌↔◌, List, [], ◌∷◌, ◌++◌, false, map, Some, IfOk, IfErr, OnOk, OnErr, IsErrAnd};
-ghost use Rattle.std.specs.List.{All, count_by, slice_get};
+ghost use Rattle.std.specs.Prelude.{◌≡◌, ◌+◌, ◌<◌, ◌^◌, ◌↔◌, List, [], ◌∷◌, ◌++◌, true, false, map, Some, IfOk, IfErr, OnOk, OnErr, IsErrAnd};
+ghost use Rattle.std.specs.List.{All, count_by};
 ghost use Rattle.relay_action.specs.declared.operation.Op.{Op};
 ghost use Rattle.relay_producer.specs.Ends.{opened, open_puts, closed_puts, identities, is_gone, IsClosedBy, ClosesAll};
 ghost use Rattle.relay_producer.specs.Puts.{HasPut};
-ghost use Rattle.relay_producer.specs.States.{AreFresh, HasLanes, lane_for, next_op, after_put, after_gone};
+ghost use Rattle.relay_producer.specs.States.{AreFresh, HasLanes, lane_for, is_lane_gone, next_op, after_put, after_gone};
 
 use crate::ends::{ClosedEnd, OpenEnd};
 use crate::fault::{PutFault, PutFaultKind};
@@ -50,6 +50,13 @@ impl Model for Producer {
         × (length a.ends.items ≤ vec_capacity a.closed) };
 }
 
+// An operation that is not put, for this reason.
+fn refused(kind: PutFaultKind, key: DocKey, action: Action) -> PutFault
+    ensures { result ≡ record { kind = kind; key = key; action = action } }
+{
+    PutFault { kind, key, action }
+}
+
 impl Producer {
     /// The handle of a producer of an epoch, counted from 0, over its ends of the queues of 1 to 8 lanes, in lane
     /// order, by which nothing was sent yet. It has put nothing, and no lane is marked. It reserves what
@@ -82,22 +89,23 @@ impl Producer {
     /// Puts an operation: sends it, under the next number, to the lane of its document, and answers its
     /// name and the lane. It waits while that lane's queue is full, and takes no memory.
     ///
-    /// Both refusals hand key and action back, use no number and send nothing. `NumbersSpent` comes first,
-    /// exactly where this producer has put 2^40 operations. `LaneGone` comes where the lane is marked, and
-    /// where its queue answers that the lane is gone, which marks it; when that comes is not promised.
+    /// Both refusals hand key and action back, use no number and send nothing. In this order: `LaneGone` if
+    /// the lane is marked; `NumbersSpent` if this producer has put 2^40 operations; `LaneGone` if the queue
+    /// says that the lane is gone, which marks it; when that comes is not promised.
     pub fn put<R: Wait>(&mut self, rt: &R, key: DocKey, action: Action) -> Result<Receipt, PutFault>
         ensures name { IfOk result
             (λ r. r.name ≡ record { epoch = self.old.epoch; producer = self.old.producer; number = self.old.put + 1 }) }
         ensures lane { IfOk result (λ r. r.lane ≡ lane_for key self.old) }
         ensures added { OnOk result (self.new ≡ after_put key action self.old) }
         ensures limit { OnOk result (self.old.put < 2 ^ 40) }
-        ensures reached { OnOk result ((e : OpenEnd)
-            → slice_get self.old.ends (lane_for key self.old) ≡ Some e → e.gone ≡ false) }
+        ensures reached { OnOk result (is_lane_gone key self.old ≡ false) }
         ensures back { IfErr result (λ e. (e.key ≡ key) × (e.action ≡ action)) }
+        ensures marked { is_lane_gone key self.old ≡ true
+            → IsErrAnd result (λ e. e.kind ≡ PutFaultKind.LaneGone) }
         ensures gone { IfErr result
             (λ e. e.kind ≡ PutFaultKind.LaneGone → self.new ≡ after_gone key self.old) }
         ensures spent { IsErrAnd result (λ e. e.kind ≡ PutFaultKind.NumbersSpent)
-            ↔ (self.old.put ≡ 2 ^ 40) }
+            ↔ ((is_lane_gone key self.old ≡ false) × (self.old.put ≡ 2 ^ 40)) }
         ensures unchanged { IfErr result
             (λ e. e.kind ≡ PutFaultKind.NumbersSpent → self.new ≡ self.old) }
         ensures same { identities (open_puts self.new.ends) ≡ identities (open_puts self.old.ends) }
@@ -107,14 +115,13 @@ impl Producer {
             (ops ++ next_op key action self.old ∷ [])) }
         ensures refused { OnErr result (open_puts self.new.ends ≡ open_puts self.old.ends) }
     {
-        if self.count >= PUT_LIMIT {
-            return Err(PutFault {
-                kind: PutFaultKind::NumbersSpent,
-                key,
-                action,
-            });
-        }
         let lane = lane_of(&key, self.ends.len() as u32);
+        if self.ends[lane as usize].gone {
+            return Err(refused(PutFaultKind::LaneGone, key, action));
+        }
+        if self.count >= PUT_LIMIT {
+            return Err(refused(PutFaultKind::NumbersSpent, key, action));
+        }
         let epoch = self.epoch;
         let producer = self.producer;
         let number = self.count + 1;

@@ -1,13 +1,18 @@
-use Rattle.std.proofs.Common.{arith, sym, ap, subst, refl, length, List, [], ◌∷◌, ◌++◌, ◌+◌, ◌<◌, ◌∙◌}
+use Rattle.std.proofs.Common.{◌≡◌, ℕ, Bool, true, false, arith, sym, ap, subst, refl, length, get_or, List, [], ◌∷◌, ◌++◌, ◌+◌, ◌<◌, ◌∙◌}
 use Rattle.std.specs.Prelude.{◌^◌}
+use Rattle.std.proofs.lemmas.Bool.{true≢false}
+use Rattle.relay_producer.specs.declared.fault.PutFault.{PutFault}
+use Rattle.relay_producer.specs.declared.fault.PutFaultKind.{PutFaultKind}
+use Rattle.relay_producer.specs.declared.fault.PutFaultKind.TheVariants.{LaneGone, NumbersSpent}
+use Rattle.relay_action.specs.declared.key.DocKey.{DocKey}
 use Rattle.relay_action.specs.declared.operation.Op.{Op}
 use Rattle.relay_action.specs.declared.mail.Body.TheVariants.{Put}
 use Rattle.relay_action.specs.Lanes.{lane_of_document}
 use Rattle.relay_producer.specs.declared.ends.OpenEnd.{OpenEnd}
-use Rattle.relay_producer.specs.Ends.{with_sent, marked, open_puts, identities}
+use Rattle.relay_producer.specs.Ends.{with_sent, marked, is_gone_at, open_puts, identities}
 use Rattle.relay_producer.specs.Puts.{HasPut}
-use Rattle.relay_producer.specs.States.{ProducerState, lane_for, next_op, after_put, after_gone}
-use Rattle.relay_producer.proofs.Putting.{at_lane, with_ends, next_name, same_count, put_more, producer_puts, producer_marks, same_identities, same_marked}
+use Rattle.relay_producer.specs.States.{ProducerState, lane_for, is_lane_gone, next_op, after_put, after_gone}
+use Rattle.relay_producer.proofs.Putting.{gone_here, marked_already, at_lane, with_ends, next_name, same_count, put_more, producer_puts, producer_marks, same_identities, same_marked}
 use Rattle.relay_producer.proofs.producer.Producer.put.Goals as goal
 
 pub invariant_of-self : goal.invariant_of-self
@@ -92,3 +97,56 @@ returns-in-Err-clause-spent g c =
     let room : c.self.inside.count < 2 ^ 40 = omega arith in
     let put = ap (λ (s : ProducerState). s.put) c.self.view_is in
     (λ kind. absurd (cc), λ full. absurd (omega arith))
+
+-- what the end at the document's lane says is what the producer shows
+shows : (ends : List OpenEnd) (lane : ℕ) (e : OpenEnd) (s : ProducerState) (b : Bool) (key : DocKey) → lane < length ends → e ≡ get_or ends lane e → lane ≡ lane_of_document key (length ends) → s.ends ≡ ends → e.gone ≡ b → is_lane_gone key s ≡ b
+shows ends lane e s b key lt at is same gone =
+    ap (λ (xs : List OpenEnd). is_gone_at xs (lane_of_document key (length xs))) same ∙ sym (ap (is_gone_at ends) is) ∙ gone_here ends lane e lt at ∙ gone
+
+apart : (kind : PutFaultKind) → kind ≡ LaneGone → kind ≡ NumbersSpent → ⊥
+apart kind g n = cc
+
+-- to find a lane gone that is marked changes nothing
+marked_there : (key : DocKey) (s : ProducerState) → is_lane_gone key s ≡ true → s ≡ after_gone key s
+marked_there key s gone = λ i. record { epoch = s.epoch; producer = s.producer; put = s.put; ends = marked_already s.ends (lane_for key s) gone i }
+
+pub returns-then-index-clause-gone : goal.returns-then-index-clause-gone
+returns-then-index-clause-gone g c kind =
+    let lt : c.lane_of-lane.result < length c.self.inside.ends.items = omega (arith, c.lane_of-lane.ensures.bound, c.len.ensures, c.self.inside.ends.ok.0) in
+    let same = sym (ap (λ (s : ProducerState). s.ends) c.self.view_is) in
+    marked_there c.args.key c.args.self.now (shows c.self.inside.ends.items c.lane_of-lane.result c.index.result.now c.args.self.now true c.args.key lt c.index.ensures (c.lane_of-lane.ensures.value ∙ ap (lane_of_document c.args.key) (c.len.ensures ∙ c.self.inside.ends.ok.0)) same c.if-index.true)
+
+pub returns-then-index-clause-spent : goal.returns-then-index-clause-spent
+returns-then-index-clause-spent g c =
+    let lt : c.lane_of-lane.result < length c.self.inside.ends.items = omega (arith, c.lane_of-lane.ensures.bound, c.len.ensures, c.self.inside.ends.ok.0) in
+    let same = sym (ap (λ (s : ProducerState). s.ends) c.self.view_is) in
+    let gone = shows c.self.inside.ends.items c.lane_of-lane.result c.index.result.now c.args.self.now true c.args.key lt c.index.ensures (c.lane_of-lane.ensures.value ∙ ap (lane_of_document c.args.key) (c.len.ensures ∙ c.self.inside.ends.ok.0)) same c.if-index.true in
+    (λ spent. absurd (apart c.refused.result.kind (ap (λ (f : PutFault). f.kind) c.refused.ensures) spent), λ h. absurd (true≢false (sym gone ∙ h.0)))
+
+pub returns-then-self-ge-PUT_LIMIT-clause-marked : goal.returns-then-self-ge-PUT_LIMIT-clause-marked
+returns-then-self-ge-PUT_LIMIT-clause-marked g c marked =
+    let lt : c.lane_of-lane.result < length c.self.inside.ends.items = omega (arith, c.lane_of-lane.ensures.bound, c.len.ensures, c.self.inside.ends.ok.0) in
+    let same = sym (ap (λ (s : ProducerState). s.ends) c.self.view_is) in
+    let free = shows c.self.inside.ends.items c.lane_of-lane.result c.index.result.now c.args.self.now false c.args.key lt c.index.ensures (c.lane_of-lane.ensures.value ∙ ap (lane_of_document c.args.key) (c.len.ensures ∙ c.self.inside.ends.ok.0)) same c.if-index.false in
+    absurd (true≢false (sym marked ∙ free))
+
+pub returns-then-self-ge-PUT_LIMIT-clause-spent : goal.returns-then-self-ge-PUT_LIMIT-clause-spent
+returns-then-self-ge-PUT_LIMIT-clause-spent g c =
+    let lt : c.lane_of-lane.result < length c.self.inside.ends.items = omega (arith, c.lane_of-lane.ensures.bound, c.len.ensures, c.self.inside.ends.ok.0) in
+    let same = sym (ap (λ (s : ProducerState). s.ends) c.self.view_is) in
+    let free = shows c.self.inside.ends.items c.lane_of-lane.result c.index.result.now c.args.self.now false c.args.key lt c.index.ensures (c.lane_of-lane.ensures.value ∙ ap (lane_of_document c.args.key) (c.len.ensures ∙ c.self.inside.ends.ok.0)) same c.if-index.false in
+    let put = ap (λ (s : ProducerState). s.put) c.self.view_is in
+    let limit = c.self.invariant.0.limit in
+    (λ spent. (free, omega arith), λ h. ap (λ (f : PutFault). f.kind) c.refused-then-self-ge-PUT_LIMIT.ensures)
+
+pub returns-in-Ok-clause-reached : goal.returns-in-Ok-clause-reached
+returns-in-Ok-clause-reached g c =
+    let lt : c.lane_of-lane.result < length c.self.inside.ends.items = omega (arith, c.lane_of-lane.ensures.bound, c.len.ensures, c.self.inside.ends.ok.0) in
+    let same = sym (ap (λ (s : ProducerState). s.ends) c.self.view_is) in
+    shows c.self.inside.ends.items c.lane_of-lane.result c.index.result.now c.args.self.now false c.args.key lt c.index.ensures (c.lane_of-lane.ensures.value ∙ ap (lane_of_document c.args.key) (c.len.ensures ∙ c.self.inside.ends.ok.0)) same c.if-index.false
+
+pub returns-in-Ok-clause-marked : goal.returns-in-Ok-clause-marked
+returns-in-Ok-clause-marked g c marked =
+    let lt : c.lane_of-lane.result < length c.self.inside.ends.items = omega (arith, c.lane_of-lane.ensures.bound, c.len.ensures, c.self.inside.ends.ok.0) in
+    let same = sym (ap (λ (s : ProducerState). s.ends) c.self.view_is) in
+    true≢false (sym marked ∙ shows c.self.inside.ends.items c.lane_of-lane.result c.index.result.now c.args.self.now false c.args.key lt c.index.ensures (c.lane_of-lane.ensures.value ∙ ap (lane_of_document c.args.key) (c.len.ensures ∙ c.self.inside.ends.ok.0)) same c.if-index.false)
