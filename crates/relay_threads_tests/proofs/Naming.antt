@@ -17,15 +17,15 @@ fresh_names [] p = refl
 fresh_names (q ∷ qs) p = ap (λ l. (q, p) ∷ l) (fresh_names qs p)
 
 -- the rows of what closed are those of what was new
-pub rows_fit : (qs : List Queue) (p : ℕ) (cs : List ClosedProducerState) (ps : List ProducerState) (k : ClosedControlState) → closed_names cs ≡ open_names ps → AreNew qs p ps → identities (closed_puts k.ends) ≡ ends_of qs (p + length ps) → AreRows qs p (rows_of cs k)
-rows_fit qs p [] [] k e new own = (own ∙ ap (ends_of qs) (let z : p + 0 ≡ p = omega arith in z), tt)
-rows_fit qs p [] (y ∷ ys) k e new own = absurd (cc)
-rows_fit qs p (c ∷ cs) [] k e new own = absurd (cc)
-rows_fit qs p (c ∷ cs) (y ∷ ys) k e new own =
+pub rows_fit : (qs : List Queue) (epoch p : ℕ) (cs : List ClosedProducerState) (ps : List ProducerState) (k : ClosedControlState) → closed_names cs ≡ open_names ps → AreNew qs epoch p ps → identities (closed_puts k.ends) ≡ ends_of qs (p + length ps) → AreRows qs p (rows_of cs k)
+rows_fit qs epoch p [] [] k e new own = (own ∙ ap (ends_of qs) (let z : p + 0 ≡ p = omega arith in z), tt)
+rows_fit qs epoch p [] (y ∷ ys) k e new own = absurd (cc)
+rows_fit qs epoch p (c ∷ cs) [] k e new own = absurd (cc)
+rows_fit qs epoch p (c ∷ cs) (y ∷ ys) k e new own =
     let heads : identities (closed_puts c.ends) ≡ identities (open_puts y.ends) = cc in
     let tails : closed_names cs ≡ open_names ys = cc in
     let first = heads ∙ ap (λ (x : ProducerState). identities (open_puts x.ends)) new.0 ∙ fresh_names qs p in
-    (first, rows_fit qs (p + 1) cs ys k tails new.1 (own ∙ ap (ends_of qs) (let z : p + length (y ∷ ys) ≡ p + 1 + length ys = omega arith in z)))
+    (first, rows_fit qs epoch (p + 1) cs ys k tails new.1 (own ∙ ap (ends_of qs) (let z : p + length (y ∷ ys) ≡ p + 1 + length ys = omega arith in z)))
 
 pub same_count : (cs : List ClosedProducerState) (ps : List ProducerState) → closed_names cs ≡ open_names ps → length cs ≡ length ps
 same_count [] [] e = refl

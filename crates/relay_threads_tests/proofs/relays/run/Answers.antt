@@ -21,4 +21,4 @@ finish-requires-clause-rows g c κs within =
     let own = control_fits qs c.args.config.producers c.in-Ok.started.2 c.close.result c.in-Ok.ensures.control c.close.ensures.ends in
     let n : c.args.config.producers ≡ 0 + length opened.items = omega (arith, opened.ok.0, c.in-Ok.ensures.count) in
     let all : identities (closed_puts c.close.result.ends) ≡ ends_of qs (0 + length opened.items) = own ∙ ap (ends_of qs) n in
-    rows_fit qs 0 closed.items opened.items c.close.result e c.in-Ok.ensures.producers all
+    rows_fit qs c.args.config.epoch 0 closed.items opened.items c.close.result e c.in-Ok.ensures.producers all
