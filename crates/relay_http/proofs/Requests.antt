@@ -1,10 +1,10 @@
 -- The request that is written is one of the grammar.
-use Rattle.std.proofs.Common.{◌≡◌, ℕ, ◌<◌, ◌^◌, Bool, true, false, ◌&&◌, List, [], ◌∷◌, ◌++◌, length, IsTrue, rules, refl, ap, ◌∙◌, sym, arith, append_assoc, codes, append-nil, drop, length-append}
+use Rattle.std.proofs.Common.{◌≡◌, ℕ, ◌<◌, ◌^◌, Bool, true, false, ◌&&◌, List, [], ◌∷◌, ◌++◌, length, IsTrue, rules, refl, ap, ◌∙◌, sym, arith, append_assoc, codes, append-nil, drop, length-append, Result, Ok, Err}
 use Rattle.std.proofs.lemmas.Bool.{false≢true}
 use Rattle.httparse.specs.Grammar.{crlf, RequestHead, Field, IsRequestHead, print_request, IsField, AllPass, is_value_byte, is_token_byte, is_uri_byte}
 use Rattle.std.specs.List.{list_all}
 use Rattle.std.proofs.lemmas.Str.{IsUtf8-from_ascii}
-use Rattle.std.specs.Prelude.{IsAscii, nat_lt, slice_index}
+use Rattle.std.specs.Prelude.{IsAscii, nat_lt, slice_index, OnOk, is_ok, if◌then◌else◌}
 use Rattle.std.proofs.lemmas.Grind.{common_steps}
 use Rattle.std.proofs.lemmas.List.Elements.{All-cons, All-nil}
 use Rattle.httparse.proofs.OnLiterals.{httparse_on_literals}
@@ -77,6 +77,18 @@ head_joined host digits t1 t2 t3 t4 t5 e1 e2 e3 e4 e5 =
   where
     regroup : (a h b d z : List ℕ) → (((a ++ h) ++ b) ++ d) ++ z ≡ a ++ (h ++ (b ++ (d ++ z)))
     regroup a h b d z = simp (append_assoc)
+
+-- so it is where the last part was appended
+pub head_ended : {A E : Type 0} (last : Result A E) (host digits e t1 t2 t3 t4 t5 : List ℕ)
+    → t1 ≡ codes "POST /_bulk HTTP/1.1" ++ (crlf_bytes ++ codes "Host: ")
+    → t2 ≡ t1 ++ host
+    → t3 ≡ t2 ++ (crlf_bytes ++ (codes "Content-Type: application/x-ndjson" ++ (crlf_bytes ++ codes "Content-Length: ")))
+    → t4 ≡ t3 ++ digits
+    → e ≡ crlf_bytes ++ crlf_bytes
+    → t5 ≡ (if is_ok last then t4 ++ e else t4)
+    → OnOk last (t5 ≡ head_text host digits)
+head_ended (Ok u) host digits e t1 t2 t3 t4 t5 e1 e2 e3 e4 e5 e6 = head_joined host digits t1 t2 t3 t4 t5 e1 e2 e3 e4 (e6 ∙ ap (λ w. t4 ++ w) e5)
+head_ended (Err f) host digits e t1 t2 t3 t4 t5 e1 e2 e3 e4 e5 e6 = tt
 
 -- no request that is written is a proper prefix of another
 pub no_prefix : (h1 h2 b1 b2 x : List ℕ)

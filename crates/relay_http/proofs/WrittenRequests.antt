@@ -1,14 +1,13 @@
 -- The request that is written is a request.
-use Rattle.std.proofs.Common.{◌≡◌, ℕ, ◌<◌, ◌≤◌, ◌-◌, ◌^◌, true, false, List, [], ◌∷◌, ◌++◌, length, length-append, drop, refl, ap, ◌∙◌, sym, arith, ◌&&◌, nat_lt, nat_le}
+use Rattle.std.proofs.Common.{◌≡◌, ℕ, ◌<◌, ◌≤◌, ◌^◌, true, false, List, [], ◌∷◌, length, refl, ap, sym, arith, ◌&&◌, nat_lt, nat_le}
 use Rattle.std.specs.List.{list_all}
 use Rattle.std.specs.Fmt.{decimal}
 use Rattle.std.proofs.lemmas.Bool.{and_from}
 use Rattle.std.proofs.lemmas.Bool.Decides.{nat_tests}
 use Rattle.std.proofs.lemmas.Fmt.{length-decimal-le}
-use Rattle.std.proofs.Math.Seq.{drop-append_seam}
 use Rattle.std.proofs.lemmas.Grind.{common_steps}
 use Rattle.httparse.specs.Grammar.{is_value_byte}
-use Rattle.relay_http.specs.WrittenRequest.{head_room, head_text, written_head, is_visible, is_host, request, EndsWith}
+use Rattle.relay_http.specs.WrittenRequest.{head_room, head_text, written_head, is_visible, is_host, request}
 use Rattle.relay_http.specs.Request.{IsRequest, request_headers, request_info}
 use Rattle.relay_http.specs.Framing.{keeps}
 use Rattle.relay_http.specs.Fields.{same_word}
@@ -33,20 +32,6 @@ host_size host good =
 -- a head has room
 pub head_fits : (host : List ℕ) (n : ℕ) → is_host host ≡ true → n < 2 ^ 64 → length (head_text host (decimal n)) ≤ head_room
 head_fits host n good small = head_size host (decimal n) (host_size host good) (digits_size n small)
-
--- a head right before the body that stands behind the room is the request
-pub gathered : (host body room before head text : List ℕ) (total start : ℕ)
-    → length room ≡ head_room
-    → before ≡ room ++ body
-    → total ≡ length before
-    → head ≡ head_text host (decimal (total - head_room))
-    → EndsWith text start (head ++ drop head_room before)
-    → EndsWith text start (request host body)
-gathered host body room before head text total start spare is n made ends =
-    let rest : drop head_room before ≡ body = ap (drop head_room) is ∙ ap (λ k. drop k (room ++ body)) (sym spare) ∙ drop-append_seam room body in
-    let sum = ap length is ∙ length-append room body in
-    let size : total - head_room ≡ length body = omega (arith, spare, n, sum) in
-    ends ∙ ap (λ w. head ++ w) rest ∙ ap (λ w. w ++ body) (made ∙ ap (λ k. head_text host (decimal k)) size)
 
 keeps_written : (host digits : List ℕ) → keeps 1 (request_headers (written_head host digits)) ≡ true
 unfolding same_word

@@ -1,12 +1,13 @@
 -- What the private steps of a connection answer.
 use Rattle.std.specs.Prelude.{◌≡◌, ◌≤◌, ◌⊎◌, ◌^◌, ◌&&◌, ◌==◌, nat_lt, ℕ, List, [], ◌∷◌, ◌++◌, length, take, Bool, false, if◌then◌else◌, Option, Some, None, Result, Ok, Err}
 use Rattle.std.specs.Char.{is_ascii_digit}
-use Rattle.std.specs.Io.KnownBytes.{IsAtEnd, prepend_known}
+use Rattle.std.specs.Io.KnownBytes.{IsAtEnd, append_known, prepend_known}
 use Rattle.std.specs.List.{list_all}
 use Rattle.std.specs.Str.Parse.{digits_value}
 use Rattle.httparse.specs.Ascii.{crlf_bytes}
 use Rattle.relay_http.specs.Chunked.{IsSizeLine, IsTrailerText, IsChunkedAfter}
 use Rattle.relay_http.specs.Forms.{Form, Begins, Took, Fails}
+use Rattle.relay_http.specs.WrittenRequest.{SendsFront}
 use Rattle.relay_http.specs.declared.buffered.Buffered.{Buffered}
 use Rattle.relay_http.specs.declared.chunk.SizeLine.{SizeLine}
 use Rattle.relay_http.specs.declared.fault.HttpFault.{HttpFault}
@@ -108,3 +109,19 @@ significant (b ∷ bytes) = if b == 48 then significant bytes else b ∷ bytes
 -- 1*DIGIT, below 2 ^ 64
 abbrev pub fits_number : List ℕ → Bool
 fits_number text = nat_lt 0 (length text) && (list_all is_ascii_digit text && nat_lt (digits_value 10 text) (2 ^ 64))
+
+-- ---- a request is written piece by piece
+
+-- what was gathered went out, and nothing is gathered; or its front did
+abbrev pub Flushes : List ℕ → List ℕ → Option (List ℕ) → Option (List ℕ) → Result (Unit {0}) HttpFault → Type 0
+Flushes before after old new (Ok _) = (new ≡ append_known old before) × (after ≡ [])
+Flushes before after old new (Err fault.Write) = SendsFront before old new
+Flushes before after old new (Err f) = ⊥
+
+-- Lines were added to what was gathered, of which the front went out. If memory was refused, all that was gathered before
+-- went out, and no more.
+abbrev pub Gathers : List ℕ → List ℕ → List ℕ → Option (List ℕ) → Option (List ℕ) → Result (Unit {0}) HttpFault → Type 0
+Gathers lines before after old new (Ok _) = (piece : List ℕ) × (new ≡ append_known old piece) × (piece ++ after ≡ before ++ lines)
+Gathers lines before after old new (Err fault.Write) = SendsFront (before ++ lines) old new
+Gathers lines before after old new (Err fault.Memory) = new ≡ append_known old before
+Gathers lines before after old new (Err f) = ⊥

@@ -1,10 +1,12 @@
 -- The request that carries a bulk body (RFC 9112, section 3), as it is written.
-use Rattle.std.specs.Prelude.{◌≡◌, ◌&&◌, ℕ, ◌<◌, nat_le, nat_lt, Bool, List, [], ◌∷◌, ◌++◌, length, take, drop, codes, Option, Result, Ok, Err}
+use Rattle.std.specs.Prelude.{◌≡◌, ◌⊎◌, ◌&&◌, ℕ, ◌<◌, nat_le, nat_lt, Bool, List, [], ◌∷◌, ◌++◌, length, take, codes, Option, Result, Ok, Err}
 use Rattle.std.specs.Fmt.{decimal}
 use Rattle.std.specs.Io.KnownBytes.{append_known}
 use Rattle.std.specs.List.{list_all}
 use Rattle.httparse.specs.Ascii.{crlf_bytes}
 use Rattle.httparse.specs.Grammar.{RequestHead, Field, crlf}
+use Rattle.relay_action.specs.declared.write.Write.{Write}
+use Rattle.relay_ndjson.specs.Bulk.{text_of}
 use Rattle.relay_http.specs.declared.fault.HttpFault.{HttpFault}
 use Rattle.relay_http.specs.declared.fault.HttpFault.TheVariants as fault
 
@@ -50,13 +52,27 @@ written_head host digits = record {
   last = crlf;
 }
 
--- the room that is left for a head before its body is put together, which no head exceeds
+-- the most bytes that the head of a request with a host of this length has
 abbrev pub head_room : ℕ
 head_room = 512
 
--- what stands in a text from this place on is the message
-abbrev pub EndsWith : List ℕ → ℕ → List ℕ → Type 0
-EndsWith text start message = drop start text ≡ message
+-- the front of a text went out, less than all of it
+abbrev pub SendsFront : List ℕ → Option (List ℕ) → Option (List ℕ) → Type 0
+SendsFront text old new = (sent : ℕ) × (sent < length text) × (new ≡ append_known old (take sent text))
+
+-- the head of the request with these writes went out, and the lines of the first of them, less than all
+abbrev pub SendsFirst : List ℕ → List Write → Option (List ℕ) → Option (List ℕ) → Type 0
+SendsFirst host ws old new =
+    (count : ℕ) × (count < length ws)
+    × (new ≡ append_known old (head_text host (decimal (length (text_of ws))) ++ text_of (take count ws)))
+
+-- What a write of the request with these writes leaves: all of it, or the front of it if a write failed. If memory was
+-- refused, nothing went out, or the head and the lines of the first writes.
+abbrev pub SendsRequest : List ℕ → List Write → Option (List ℕ) → Option (List ℕ) → Result (Unit {0}) HttpFault → Type 0
+SendsRequest host ws old new (Ok _) = new ≡ append_known old (request host (text_of ws))
+SendsRequest host ws old new (Err fault.Write) = SendsFront (request host (text_of ws)) old new
+SendsRequest host ws old new (Err fault.Memory) = (new ≡ old) ⊎ SendsFirst host ws old new
+SendsRequest host ws old new (Err f) = ⊥
 
 -- what a write of this message leaves: all of it, or a part where a write failed, or nothing
 abbrev pub Sends : List ℕ → Option (List ℕ) → Option (List ℕ) → Result (Unit {0}) HttpFault → Type 0

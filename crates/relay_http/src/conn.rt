@@ -7,13 +7,14 @@ ghost use Rattle.relay_http.specs.Reply.{IsReply, ReplyPasses, ReplyStates, repl
 ghost use Rattle.relay_http.specs.Request.{IsRequest, RequestPasses, RequestStates, TookRequest, IsFound};
 ghost use Rattle.relay_http.specs.Window.{window_size};
 ghost use Rattle.relay_http.specs.WrittenAnswer.{IsAnswerStatus, answer};
-ghost use Rattle.relay_http.specs.WrittenRequest.{is_host, request, Sends};
+ghost use Rattle.relay_http.specs.WrittenRequest.{is_host, request, Sends, SendsRequest};
 ghost use Rattle.relay_http.specs.Connection.{ahead, fresh, IsQuiet, is_open, is_broken, after_reply, after_request, after_write, failed_reading, failed_writing};
 ghost use Rattle.relay_http.specs.declared.fault.HttpFault.{HttpFault};
 
 use crate::buffered::Buffered;
 use crate::fault::HttpFault;
-use crate::message::{gather_answer, gather_request, send};
+use crate::message::{gather_answer, send};
+use crate::outgoing::write_bulk;
 use crate::peek::Peek;
 use crate::phase::Phase;
 use crate::reply::HttpReply;
@@ -23,8 +24,9 @@ use relay_action::{ByteIn, ByteOut, ByteStream, Write};
 use std::alloc::{AllocError, Global};
 use std::marker::Model;
 
-/// A connection over a stream. It holds a window of 16,384 bytes, which `new` makes, and the room of the
-/// longest message that it wrote.
+/// A connection over a stream. It holds a window of 16,384 bytes, which `new` makes, and room for
+/// what it writes: for a piece of a request and the lines of one write, or for the longest answer
+/// that it wrote.
 ///
 /// A call that answers a fault breaks it, and so does a message after which there is no other: then
 /// each call answers `Broken` and leaves it as it is.
@@ -32,7 +34,7 @@ use std::marker::Model;
 pub struct Conn<S: ByteStream> {
     bytes: Buffered<S>,
     phase: Phase,
-    /// The message that is being written; its room is kept.
+    /// The answer or the piece of a request that is being written; its room is kept.
     text: Vec<u8>,
 }
 
@@ -93,8 +95,9 @@ impl<S: ByteStream> Conn<S> {
 }
 
 impl<S: Peek> Conn<S> {
-    /// Whether nothing is ahead that nobody asked for: no byte was read beyond the messages so far, and
-    /// neither a byte nor the end of the stream came since. It does not wait, and it reads nothing.
+    /// Whether nothing is ahead that nobody asked for: no byte was read beyond the messages so far,
+    /// and neither a byte nor the end of the stream came since. It does not wait, and it reads
+    /// nothing.
     pub fn is_quiet(&self) -> bool
         ensures { IsTrue result → IsQuiet self.now }
     {
@@ -173,8 +176,10 @@ impl<S: ByteIn + Drop> Conn<S> {
 }
 
 impl<S: ByteOut + Drop> Conn<S> {
-    /// Writes the request that carries these writes to this host, with the bulk text of the writes as
-    /// its body. The faults: `Broken`, `Memory` (nothing went out) and `Write`.
+    /// Writes the request that carries these writes, at most 10,000, to this host, with the bulk
+    /// text of the writes as its body. It goes out in pieces of some 64 KiB, so that no whole body
+    /// is in memory. The faults: `Broken`, `Memory` and `Write`. After the last two a part of the
+    /// request may be out.
     pub fn write_request(
         &mut self,
         alloc: Global,
@@ -182,11 +187,13 @@ impl<S: ByteOut + Drop> Conn<S> {
         writes: &[Write],
     ) -> Result<(), HttpFault>
         requires host { IsTrue (is_host host.now) }
+        requires few { length writes.now ≤ 10000 }
         requires size { length (text_of writes.now) ≤ request_limit }
         // A connection that carries no further message answers Broken, and stays as it is.
         ensures broken { IsFalse (is_open self.old.phase) → (result ≡ Err HttpFault.Broken) × (self.new ≡ self.old) }
-        // The request went out; after Write a part of it did, and after Memory nothing.
-        ensures sent { IsTrue (is_open self.old.phase) → Sends (request host.now (text_of writes.now)) self.old.written self.new.written result }
+        // The request went out; after Write the front of it did, and after Memory nothing, or the
+        // head and the lines of the first writes.
+        ensures sent { IsTrue (is_open self.old.phase) → SendsRequest host.now writes.now self.old.written self.new.written result }
         // And that text is the request of what was given.
         ensures message { IsRequest (request host.now (text_of writes.now)) false (record { bulk = true; body = text_of writes.now; keep = true }) }
         ensures phase { IsTrue (is_open self.old.phase) → self.new.phase ≡ after_write true result }
@@ -235,25 +242,6 @@ impl<S: ByteOut + Drop> Conn<S> {
         let result = write_text(&mut self.bytes.stream, &mut self.text, status, body, lasts);
         self.phase = Phase::after(result.is_ok() && lasts);
         result
-    }
-}
-
-// Writes the request that carries these writes, put together in the text.
-fn write_bulk<S: ByteOut>(
-    alloc: Global,
-    stream: &mut S,
-    text: &mut Vec<u8>,
-    host: &str,
-    writes: &[Write],
-) -> Result<(), HttpFault>
-    requires { IsTrue (is_host host.now) }
-    ensures sent { Sends (request host.now (text_of writes.now)) (S.written stream.old) (S.written stream.new) result }
-    ensures failed { S.failed stream.new ≡ failed_writing result (S.failed stream.old) }
-    ensures left { S.left stream.new ≡ S.left stream.old }
-{
-    match gather_request(alloc, text, host, writes) {
-        Err(_) => Err(HttpFault::Memory),
-        Ok(start) => send(stream, &text[start..]),
     }
 }
 

@@ -5,9 +5,9 @@ use relay_action::{ByteStream, MemStream};
 
 /// A stream that tells, without waiting, whether something came that was not read.
 pub trait Peek: ByteStream {
-    /// Whether nothing came that was not read: neither a byte nor the end of the stream. It does not
-    /// wait, and it reads nothing. A stream that shows its bytes has either bytes left or reached its
-    /// end, so it is never quiet.
+    /// Whether nothing came that was not read: neither a byte nor the end of the stream. It does
+    /// not wait, and it reads nothing. A stream that shows its bytes has either bytes left or
+    /// reached its end, so it is never quiet.
     fn is_quiet(&self) -> bool
         ensures { IsTrue result → Self.left self.now ≡ None };
 }

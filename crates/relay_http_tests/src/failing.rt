@@ -1,13 +1,22 @@
 //! Streams that move 7 bytes at a time and of which one call fails, at each place in turn.
+ghost use Rattle.std.specs.Prelude.{◌≤◌, length};
+ghost use Rattle.relay_ndjson.specs.Bulk.{text_of};
+
 use crate::reading::over_failing;
-use relay_action::MemStream;
+use crate::written::one_write;
+use relay_action::{MemStream, Write};
 use relay_http::HttpFault;
+use relay_ndjson::bulk_len;
 use std::alloc::{AllocError, Global};
+use std::test::Fail;
 
 const REPLY: &[u8] =
     b"HTTP/1.1 100 Continue\r\n\r\nHTTP/1.1 200 OK\r\nTransfer-Encoding: chunked\r\n\r\n5\r\nhello\r\n6\r\n world\r\n0\r\n\r\n";
 
 const REQUEST: &[u8] = b"POST /_bulk HTTP/1.1\r\nContent-Length: 11\r\n\r\nhello world";
+
+const BULK: &[u8] =
+    b"POST /_bulk HTTP/1.1\r\nHost: a\r\nContent-Type: application/x-ndjson\r\nContent-Length: 78\r\n\r\n{\"delete\":{\"_id\":\"2\",\"_index\":\"books\",\"version\":2,\"version_type\":\"external\"}}\n";
 
 const ANSWER: &[u8] =
     b"HTTP/1.1 200 OK\r\nContent-Type: application/json\r\nContent-Length: 11\r\n\r\nhello world";
@@ -50,26 +59,40 @@ fn each_read_of_a_request_fails_in_turn(rt: HostRuntime) {
     assert!(rt; request_failing(rt.alloc(), reads + 1) == Ok((Ok(true), true)));
 }
 
-// How many bytes a stream was given, where they are the first ones of the answer.
-fn sent(stream: &MemStream) -> Option<usize> {
-    if ANSWER.starts_with(stream.written()) {
+// How many bytes a stream was given, if they are the first ones of this message.
+fn sent(stream: &MemStream, message: &[u8]) -> Option<usize> {
+    if message.starts_with(stream.written()) {
         Some(stream.written().len())
     } else {
         None
     }
 }
 
-// The answer to a write of an answer, whether the connection is open after it, and how many bytes went
-// out, where they are the first ones of the answer.
-fn answer_failing(
-    alloc: Global,
-    room: usize,
-    fail_at: u64,
-) -> Result<(Result<(), HttpFault>, bool, Option<usize>), AllocError> {
+// What a write answers, whether the connection is open after it, and how many bytes went out, if
+// they are the first ones of the message.
+type Written = (Result<(), HttpFault>, bool, Option<usize>);
+
+fn answer_failing(alloc: Global, room: usize, fail_at: u64) -> Result<Written, AllocError> {
     let mut conn = over_failing(alloc, b"", 7, room, fail_at)?;
     let done = conn.write_answer(alloc, 200, "hello world", true);
     let open = conn.is_open();
-    Ok((done, open, sent(&conn.into_stream())))
+    Ok((done, open, sent(&conn.into_stream(), ANSWER)))
+}
+
+// The same of a request.
+fn bulk_failing(
+    alloc: Global,
+    writes: &[Write],
+    room: usize,
+    fail_at: u64,
+) -> Result<Written, AllocError>
+    requires few { length writes.now ≤ 1 }
+    requires size { length (text_of writes.now) ≤ 1000 }
+{
+    let mut conn = over_failing(alloc, b"", 7, room, fail_at)?;
+    let done = conn.write_request(alloc, "a", writes);
+    let open = conn.is_open();
+    Ok((done, open, sent(&conn.into_stream(), BULK)))
 }
 
 #[test]
@@ -90,4 +113,28 @@ fn each_write_fails_in_turn(rt: HostRuntime) {
     assert!(rt;
         answer_failing(rt.alloc(), ANSWER.len(), 0) == Ok((Ok(()), true, Some(ANSWER.len())))
     );
+}
+
+#[test]
+fn each_write_of_a_request_fails_in_turn(rt: HostRuntime) -> Result<(), Fail> {
+    let bulk = one_write(rt.alloc())?;
+    let writes = bulk.as_slice();
+    assert!(rt; writes.len() == 1 && bulk_len(writes) == 78);
+    for fail_at in 1..=(BULK.len() as u64).div_ceil(7) {
+        let sent = 7 * (fail_at as usize - 1);
+        assert!(rt;
+            bulk_failing(rt.alloc(), writes, 1000, fail_at)
+                == Ok((Err(HttpFault::Write), false, Some(sent)))
+        );
+    }
+    for room in 0..BULK.len() {
+        assert!(rt;
+            bulk_failing(rt.alloc(), writes, room, 0)
+                == Ok((Err(HttpFault::Write), false, Some(room)))
+        );
+    }
+    assert!(rt;
+        bulk_failing(rt.alloc(), writes, BULK.len(), 0) == Ok((Ok(()), true, Some(BULK.len())))
+    );
+    Ok(())
 }

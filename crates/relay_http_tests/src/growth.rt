@@ -1,6 +1,12 @@
-//! A length that is promised takes no memory before its bytes come.
+//! A length that is promised takes no memory before its bytes come, and no body of a request is in
+//! memory.
+ghost use Rattle.std.specs.Prelude.{None};
+
+use crate::large::writes_of;
 use crate::reading::{reads_reply, reads_request};
-use relay_http::HttpFault;
+use relay_action::{ByteOut, ByteStream, StreamFailed, Write};
+use relay_http::{Conn, HttpFault};
+use relay_ndjson::bulk_len;
 use std::alloc::{AllocError, Global};
 use std::fs;
 use std::test::Fail;
@@ -54,6 +60,52 @@ fn lengths_without_bodies(rt: HostRuntime) -> Result<(), Fail> {
         "what was held before hides what is taken now"
     );
     assert!(rt; have_ended(rt.alloc()) == Ok(true));
+    assert!(rt; measure(&rt)?.peak < before.peak.saturating_add(ROOM));
+    Ok(())
+}
+
+// A stream that takes what it is given, and keeps nothing.
+#[derive(Drop)]
+struct Sink;
+
+impl ByteStream for Sink {
+    ghost left = { λ s. None };
+
+    ghost written = { λ s. None };
+
+    ghost failed = { λ s. 0 };
+}
+
+impl ByteOut for Sink {
+    fn write(&mut self, bytes: &[u8]) -> Result<usize, StreamFailed> {
+        Ok(bytes.len())
+    }
+}
+
+// Whether a request of some 16 MiB with these writes is written.
+fn is_written(alloc: Global, writes: &[Write]) -> bool {
+    if writes.len() > 10_000 {
+        return false;
+    }
+    let bytes = bulk_len(writes);
+    if bytes < 16_000_000 || bytes > 16_777_216 {
+        return false;
+    }
+    match Conn::new(alloc, Sink) {
+        Ok(mut conn) => conn.write_request(alloc, "a", writes).is_ok(),
+        Err(_) => false,
+    }
+}
+
+#[test]
+fn a_large_request(rt: HostRuntime) -> Result<(), Fail> {
+    let writes = writes_of(rt.alloc(), 10_000, 1_590).ok_or("no memory")?;
+    let before = measure(&rt)?;
+    assert!(rt;
+        before.peak < before.size.saturating_add(ROOM),
+        "what was held before hides what is taken now"
+    );
+    assert!(rt; is_written(rt.alloc(), writes.as_slice()));
     assert!(rt; measure(&rt)?.peak < before.peak.saturating_add(ROOM));
     Ok(())
 }

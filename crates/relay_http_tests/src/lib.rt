@@ -8,6 +8,8 @@ mod failing;
 #[cfg(test)]
 mod growth;
 #[cfg(test)]
+mod large;
+#[cfg(test)]
 mod limits;
 #[cfg(test)]
 mod peers;

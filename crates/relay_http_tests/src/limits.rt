@@ -70,6 +70,13 @@ const HEADS: &[Row] = &[
     (
         b"HTTP/1.1 200 OK\r\nX: ",
         b"a",
+        16_364,
+        b"aaaa\r\nContent-Length: 2\r\n\r\nok",
+        Err(HttpFault::HeadLong),
+    ),
+    (
+        b"HTTP/1.1 200 OK\r\nX: ",
+        b"a",
         16_363,
         b"",
         Err(HttpFault::Ended),
@@ -88,19 +95,24 @@ const HEADS: &[Row] = &[
         b"Content-Length: 2\r\n\r\nok",
         Err(HttpFault::HeadLong),
     ),
-    (
-        b"",
-        b"\n",
-        16_384,
-        b"HTTP/1.1 200 OK\r\nContent-Length: 2\r\n\r\nok",
-        Err(HttpFault::HeadLong),
-    ),
 ];
+
+// Empty lines before a head, after each of which what came is looked at again.
+const EMPTY_LINES: &[Row] = &[(
+    b"",
+    b"\n",
+    16_384,
+    b"HTTP/1.1 200 OK\r\nContent-Length: 2\r\n\r\nok",
+    Err(HttpFault::HeadLong),
+)];
 
 #[test]
 fn heads_at_their_limits(rt: HostRuntime) {
-    for piece in [7, 100_000] {
+    for piece in PIECES {
         assert!(rt; are_read(rt.alloc(), HEADS, piece) == Ok(true));
+    }
+    for piece in [100, 100_000] {
+        assert!(rt; are_read(rt.alloc(), EMPTY_LINES, piece) == Ok(true));
     }
 }
 
@@ -182,7 +194,7 @@ const CHUNKS: &[Row] = &[
 
 #[test]
 fn chunks_at_their_limits(rt: HostRuntime) {
-    for piece in [7, 100_000] {
+    for piece in PIECES {
         assert!(rt; are_read(rt.alloc(), CHUNKS, piece) == Ok(true));
     }
 }

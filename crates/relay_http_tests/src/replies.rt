@@ -43,6 +43,18 @@ const WITH_A_LENGTH: &[(&[u8], Reply)] = &[
         Err(HttpFault::Malformed),
     ),
     (
+        b"HTTP/1.1 200 OK\r\nContent-Length: -2\r\n\r\nok",
+        Err(HttpFault::Malformed),
+    ),
+    (
+        b"HTTP/1.1 200 OK\r\nContent-Length: 0x2\r\n\r\nok",
+        Err(HttpFault::Malformed),
+    ),
+    (
+        b"HTTP/1.1 200 OK\r\nContent-Length: 0 2\r\n\r\nok",
+        Err(HttpFault::Malformed),
+    ),
+    (
         b"HTTP/1.1 200 OK\r\nContent-Length: \r\n\r\nok",
         Err(HttpFault::Malformed),
     ),
@@ -168,6 +180,10 @@ const CODINGS: &[(&[u8], Reply)] = &[
         Ok((200, b"ok", true)),
     ),
     (
+        b"HTTP/1.1 200 OK\r\ncontent-encoding: identity\r\nCONTENT-LENGTH: 2\r\n\r\nok",
+        Ok((200, b"ok", true)),
+    ),
+    (
         b"HTTP/1.1 200 OK\r\nContent-Encoding: \r\nContent-Length: 2\r\n\r\nok",
         Ok((200, b"ok", true)),
     ),
@@ -218,6 +234,10 @@ const HEADS_AND_STATUSES: &[(&[u8], Reply)] = &[
     ),
     (
         b"HTTP/1.1 200 OK\r\nX: a\r\n b\r\nContent-Length: 2\r\n\r\nok",
+        Err(HttpFault::Malformed),
+    ),
+    (
+        b"HTTP/1.1 200 OK\r\nX: a\0b\r\nContent-Length: 2\r\n\r\nok",
         Err(HttpFault::Malformed),
     ),
     (

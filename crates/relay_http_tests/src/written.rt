@@ -11,8 +11,8 @@ use relay_ndjson::bulk_len;
 use std::alloc::{AllocError, Global};
 use std::test::Fail;
 
-// A delete with version 2.
-fn one_write(alloc: Global) -> Result<Vec<Write>, Fail> {
+/// A delete with version 2.
+pub fn one_write(alloc: Global) -> Result<Vec<Write>, Fail> {
     let mut writes = Vec::new(alloc);
     writes.push(Write {
         key: DocKey::new(alloc, "books", "2")?,
@@ -36,6 +36,7 @@ fn is_request(
     wanted: &[u8],
 ) -> Result<bool, AllocError>
     requires host { IsTrue (is_host host.now) }
+    requires few { length writes.now ≤ 1 }
     requires size { length (text_of writes.now) ≤ 1000 }
 {
     let mut conn = over(alloc, b"", 5)?;
@@ -72,7 +73,8 @@ fn a_request_without_writes(rt: HostRuntime) {
 
 // Whether a request with these writes, one without any and an answer are written one after another.
 fn writes_in_turn(alloc: Global, conn: &mut Conn<MemStream>, writes: &[Write]) -> bool
-    requires { length (text_of writes.now) ≤ 1000 }
+    requires few { length writes.now ≤ 1 }
+    requires size { length (text_of writes.now) ≤ 1000 }
 {
     conn.write_request(alloc, "a", writes).is_ok()
         && conn.write_request(alloc, "a", &[]).is_ok()

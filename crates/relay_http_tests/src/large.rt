@@ -1,0 +1,124 @@
+//! Requests that go out in many pieces, and those for which memory is refused.
+use crate::reading::over_failing;
+use relay_action::{Action, DocKey, Write};
+use relay_http::HttpFault;
+use relay_ndjson::bulk_len;
+use std::alloc::{AllocError, Global};
+
+// A write of the document with this id, under this version.
+fn write_of(alloc: Global, id: &str, version: u64, source: &str) -> Option<Write> {
+    Some(Write {
+        key: DocKey::new(alloc, "a", id).ok()?,
+        version,
+        action: Action::index(alloc, source).ok()?,
+    })
+}
+
+// A text of so many bytes.
+fn text_of(alloc: Global, size: usize) -> Result<String, AllocError> {
+    let mut text = String::new(alloc);
+    for _byte in 0..size {
+        text.push('x')?;
+    }
+    Ok(text)
+}
+
+/// So many writes, each of a document of its own with a source of so many bytes.
+pub fn writes_of(alloc: Global, count: u64, size: usize) -> Option<Vec<Write>> {
+    let source = text_of(alloc, size).ok()?;
+    let mut writes = Vec::new(alloc);
+    for number in 1..=count {
+        let id = format!(in alloc; "{number}").ok()?;
+        let write = write_of(alloc, id.as_str(), number, source.as_str())?;
+        if writes.push(write).is_err() {
+            return None;
+        }
+    }
+    Some(writes)
+}
+
+// The lines of these writes.
+fn lines_of(alloc: Global, count: u64, size: usize) -> Result<String, AllocError> {
+    let source = text_of(alloc, size)?;
+    let mut lines = String::new(alloc);
+    for number in 1..=count {
+        let line = format!(in alloc;
+            "{{\"index\":{{\"_id\":\"{number}\",\"_index\":\"a\",\"version\":{number},\"version_type\":\"external\"}}}}\n{source}\n"
+        )?;
+        lines.push_str(line.as_str())?;
+    }
+    Ok(lines)
+}
+
+// The request with these lines.
+fn request_of(alloc: Global, lines: &str) -> Result<String, AllocError> {
+    let size = lines.len();
+    format!(in alloc;
+        "POST /_bulk HTTP/1.1\r\nHost: a\r\nContent-Type: application/x-ndjson\r\nContent-Length: {size}\r\n\r\n{lines}"
+    )
+}
+
+// What a write of the request with these writes leaves on a stream that takes so many bytes at a
+// time: the answer, and whether these bytes went out, or, if memory was refused, none or a front of
+// them with the head.
+fn leaves(alloc: Global, writes: &[Write], wanted: &str, piece: usize) -> Result<bool, AllocError> {
+    if piece == 0 || writes.len() > 10_000 || bulk_len(writes) > 16_777_216 {
+        return Ok(false);
+    }
+    let mut conn = over_failing(alloc, b"", piece, wanted.len(), 0)?;
+    let done = conn.write_request(alloc, "a", writes);
+    let open = conn.is_open();
+    let stream = conn.into_stream();
+    Ok(match done {
+        Ok(()) => open && stream.written() == wanted.as_bytes(),
+        Err(HttpFault::Memory) => {
+            !open
+                && is_front(
+                    stream.written(),
+                    wanted.as_bytes(),
+                    bulk_len(writes) as usize,
+                )
+        }
+        Err(_) => false,
+    })
+}
+
+// Whether nothing went out, or the head and a part of the body, which has so many bytes.
+fn is_front(written: &[u8], wanted: &[u8], body: usize) -> bool {
+    written.is_empty()
+        || (wanted.starts_with(written) && written.len().saturating_add(body) >= wanted.len())
+}
+
+// Whether the request with so many writes is written as it is to be. `None`: there was no memory
+// for the test.
+fn is_written(alloc: Global, count: u64, size: usize, piece: usize) -> Option<bool> {
+    let writes = writes_of(alloc, count, size)?;
+    let lines = lines_of(alloc, count, size).ok()?;
+    let wanted = request_of(alloc, lines.as_str()).ok()?;
+    leaves(alloc, writes.as_slice(), wanted.as_str(), piece).ok()
+}
+
+#[test]
+fn ten_thousand_writes(rt: HostRuntime) {
+    assert!(rt; is_written(rt.alloc(), 10_000, 1_000, 100_000) == Some(true));
+}
+
+#[test]
+fn a_byte_at_a_time(rt: HostRuntime) {
+    assert!(rt; is_written(rt.alloc(), 100, 1_000, 1) == Some(true));
+}
+
+// A source alone may be longer than what goes out at a time.
+#[test]
+fn long_sources(rt: HostRuntime) {
+    for size in [61_000, 65_536, 1_000_000] {
+        assert!(rt; is_written(rt.alloc(), 3, size, 100_000) == Some(true));
+    }
+}
+
+// It passes whichever allocation is refused, so that each can be in turn (`rt try --test
+// --fail-alloc N`). The third write does not fit the room that was made before.
+#[test]
+fn memory_that_is_refused(rt: HostRuntime) {
+    assert!(rt; is_written(rt.alloc(), 3, 30_000, 100_000) != Some(false));
+}
