@@ -14,8 +14,8 @@ use relay_http::{Conn, HttpFault, Peek};
 use relay_lane::{WireFault, WireReply};
 use std::alloc::Global;
 
-// The free connection that was freed last of those on which nothing came since. Those freed after it are
-// dropped.
+// The free connection that was freed last of those on which nothing came since. Those freed after
+// it are dropped.
 fn take_quiet<S: Peek + Drop>(free: &mut Vec<Conn<S>>) -> Option<Conn<S>>
     requires { AllFree free.old.items }
     ensures finds { FindsFree free.old.items free.new.items result }
@@ -63,6 +63,7 @@ pub(crate) fn carry<S: ByteOut + Drop>(
 ) -> Result<(), WireFault>
     requires lasts { IsTrue (is_open conn.old.phase) }
     requires host { IsTrue (is_host host.now) }
+    requires few { length writes.now ≤ 10000 }
     requires size { length (text_of writes.now) ≤ request_limit }
     ensures { IsWritten conn.old conn.new (request host.now (text_of writes.now)) result }
 {
@@ -83,7 +84,8 @@ fn fault_received(fault: HttpFault) -> WireFault
     }
 }
 
-// A connection that may carry a further message is free, unless it holds bytes beyond its last reply.
+// A connection that may carry a further message is free, unless it holds bytes beyond its last
+// reply.
 fn release<S: ByteStream + Drop>(conn: Conn<S>, keep: bool, free: &mut Vec<Conn<S>>)
     requires { vec_len free.old < vec_capacity free.old }
     ensures free { free.new.items ≡ (if keep && (length conn.held == 0) then free.old.items ++ conn ∷ [] else free.old.items) }
@@ -94,8 +96,8 @@ fn release<S: ByteStream + Drop>(conn: Conn<S>, keep: bool, free: &mut Vec<Conn<
     }
 }
 
-// Reads a reply from a connection. It is free then if it may carry a further message and no byte beyond the
-// reply was read.
+// Reads a reply from a connection. It is free then if it may carry a further message and no byte
+// beyond the reply was read.
 pub(crate) fn bring<S: ByteIn + Drop>(
     alloc: Global,
     mut conn: Conn<S>,

@@ -13,12 +13,14 @@ use std::alloc::{AllocError, Global};
 use std::collections::VecDeque;
 use std::marker::Model;
 
-/// A wire to an index that is reached by HTTP. Each request is out on a connection of its own. After a
-/// reply that lets the connection carry a further message, and with which no byte beyond it was read, the
-/// connection is free, and it is used again before another is dialled. A fault drops the connection.
+/// A wire to an index that is reached by HTTP. Each request is out on a connection of its own.
+/// After a reply that lets the connection carry a further message, and with which no byte beyond it
+/// was read, the connection is free, and it is used again before another is dialled. A fault drops
+/// the connection.
 ///
-/// Before a free connection is used again, it is looked at without waiting: if a byte came on it, or its
-/// end, it is dropped, since a reply that nobody asked for would be taken for that of the next request.
+/// Before a free connection is used again, it is looked at without waiting: if a byte came on it,
+/// or its end, it is dropped, since a reply that nobody asked for would be taken for that of the
+/// next request.
 ///
 /// It describes nothing: what stands outside is the affair of its streams.
 #[derive(Drop)]
@@ -87,9 +89,10 @@ impl<S: ByteIn + ByteOut + Peek + Drop, D: Dial<S> + Drop> Wire for HttpWire<S, 
 
     ghost fits = { FitsNone };
 
-    /// Writes a request on a free connection on which nothing came since it was freed, or on one that is
-    /// dialled. `Send`: as many requests are out as may be, the dial failed, or the connection did. `Memory`: there was no memory for the
-    /// request or for a fresh connection's window. A connection that a fault came on is dropped.
+    /// Writes a request on a free connection on which nothing came since it was freed, or on one
+    /// that is dialled. `Send`: as many requests are out as may be, the dial failed, or the
+    /// connection did. `Memory`: there was no memory for the request, of which a part may be out,
+    /// or for a fresh connection's window. A connection that a fault came on is dropped.
     fn send(&mut self, number: u64, writes: &[Write]) -> Result<(), WireFault>
         requires fresh { Mem number (numbers self.old.out) → ⊥ }
         requires few { length writes.now ≤ 10000 }

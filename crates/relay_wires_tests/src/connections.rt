@@ -33,7 +33,8 @@ const NOT_SENT: Told = Told::Fault(WireFault::Send);
 const LOST: Told = Told::Fault(WireFault::Lost);
 
 const DIALS: &[(&[&[u8]], usize, usize, (Told, Told))] = &[
-    // A stream in memory has all its bytes from the start, and its end after them: it is not used again.
+    // A stream in memory has all its bytes from the start, and its end after them: it is not used
+    // again.
     (&[KEPT_TWICE], 1000, 0, (Told::Whole(503), NOT_SENT)),
     (
         &[KEPT_TWICE, KEPT],

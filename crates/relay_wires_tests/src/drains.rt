@@ -9,19 +9,19 @@ use relay_lane::{Wire, drain};
 use relay_wires::LoopWire;
 use std::alloc::{AllocError, Global};
 
-// What a drain came to.
+/// What a drain came to.
 #[derive(Clone, Copy, Debug, PartialEq, Eq)]
-struct Came {
-    requests: u64,
-    pauses: u64,
-    ticks: u64,
-    applied: u64,
-    already: u64,
-    reports: usize,
+pub struct Came {
+    pub requests: u64,
+    pub pauses: u64,
+    pub ticks: u64,
+    pub applied: u64,
+    pub already: u64,
+    pub reports: usize,
 }
 
-// Drains a closed lane over a wire. `None`: there was no memory, or it is not closed.
-fn drained<W: Wire>(desk: &mut Desk, wire: &mut W) -> Option<Came>
+/// Drains a closed lane over a wire. `None`: there was no memory, or it is not closed.
+pub fn drained<W: Wire>(desk: &mut Desk, wire: &mut W) -> Option<Came>
     requires { W.out wire.old ≡ [] }
 {
     let mut pace = NO_PAUSES;
@@ -57,8 +57,8 @@ fn looped(alloc: Global, lost: u64) -> Option<LoopWire>
     Some(wire)
 }
 
-// What a drain in memory comes to, and how many writes the index applied.
-fn came_to(alloc: Global, desk: &mut Desk, wire: &mut LoopWire) -> Option<(Came, usize)>
+/// What a drain in memory comes to, and how many writes the index applied.
+pub fn came_to(alloc: Global, desk: &mut Desk, wire: &mut LoopWire) -> Option<(Came, usize)>
     requires { wire.old.out ≡ [] }
 {
     let came = drained(desk, wire)?;

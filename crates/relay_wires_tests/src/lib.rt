@@ -1,7 +1,7 @@
-//! Tests of `relay_wires`, over its public items: lanes that are drained over wires, one request at a
-//! time and several, statuses and bodies of replies, connections that are used again or not, those on
-//! which something came that nobody asked for, dials and streams that fail, and requests and replies of
-//! many items.
+//! Tests of `relay_wires`, over its public items: lanes that are drained over wires, one request at
+//! a time and several, statuses and bodies of replies, connections that are used again or not,
+//! those on which something came that nobody asked for, dials and streams that fail, replies that
+//! are refused, and requests and replies of many items.
 #![tactic(auto)]
 
 #[cfg(test)]
@@ -13,6 +13,8 @@ mod desk;
 #[cfg(test)]
 mod drains;
 #[cfg(test)]
+mod hostile;
+#[cfg(test)]
 mod idle;
 #[cfg(test)]
 mod loops;
@@ -22,5 +24,7 @@ mod places;
 mod replies;
 #[cfg(test)]
 mod streams;
+#[cfg(test)]
+mod too_large;
 #[cfg(test)]
 mod turns;

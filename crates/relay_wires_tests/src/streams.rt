@@ -7,13 +7,16 @@ use relay_http::is_host;
 use relay_wires::{Dial, DialFault, HttpWire};
 use std::alloc::{AllocError, Global};
 
-/// What is dialled: streams that give these bytes, one after another, and take so many; and which dial
-/// fails, counted from 1 (0: none). A dial where no stream is left fails, too.
+/// What is dialled: streams that give these bytes, one after another, take so many, and move so
+/// many at a time; which call of the first of them fails; and which dial fails, counted from 1 (0:
+/// none). A dial where no stream is left fails, too.
 #[derive(Drop)]
 pub struct Streams<'a> {
     pub alloc: Global,
     pub inputs: &'a [&'a [u8]],
     pub room: usize,
+    pub piece: usize,
+    pub first_fails_at: u64,
     pub fail_at: usize,
     calls: usize,
     next: usize,
@@ -26,8 +29,14 @@ impl Streams<'_> {
         ensures { self.new.failed ≡ self.old.failed }
     {
         let input = self.inputs.get(self.next)?;
+        let fails_at = if self.next == 0 {
+            self.first_fails_at
+        } else {
+            0
+        };
         self.next = self.next.saturating_add(1);
-        MemStream::new(self.alloc, input.to_vec(self.alloc).ok()?, self.room, 7, 0).ok()
+        let bytes = input.to_vec(self.alloc).ok()?;
+        MemStream::new(self.alloc, bytes, self.room, self.piece.max(1), fails_at).ok()
     }
 }
 
@@ -49,6 +58,17 @@ impl Dial<MemStream> for Streams<'_> {
 /// A wire over such streams.
 pub type Wired<'a> = HttpWire<MemStream, Streams<'a>>;
 
+// A wire to a host over these streams, of which at most `most` requests are out.
+fn wired_over<'a>(alloc: Global, streams: Streams<'a>, most: u32) -> Option<Wired<'a>>
+    ensures { IfSome result (λ w. w.out ≡ []) }
+{
+    let host = format!(in alloc; "127.0.0.1:9200").ok()?;
+    if !is_host(host.as_str()) {
+        return None;
+    }
+    HttpWire::new(alloc, streams, host, most).ok()
+}
+
 /// A wire to a host, of which at most `most` requests are out, over streams with these bytes.
 pub fn wired<'a>(
     alloc: Global,
@@ -63,14 +83,36 @@ pub fn wired<'a>(
         alloc,
         inputs,
         room,
+        piece: 7,
+        first_fails_at: 0,
         fail_at,
         calls: 0,
         next: 0,
         failed: 0,
     };
-    let host = format!(in alloc; "127.0.0.1:9200").ok()?;
-    if !is_host(host.as_str()) {
-        return None;
-    }
-    HttpWire::new(alloc, streams, host, most).ok()
+    wired_over(alloc, streams, most)
+}
+
+/// A wire to a host, of which one request is out at most, over streams with these bytes that move
+/// so many at a time, of the first of which one call fails; 0 is none of them.
+pub fn wired_failing<'a>(
+    alloc: Global,
+    inputs: &'a [&'a [u8]],
+    piece: usize,
+    first_fails_at: u64,
+) -> Option<Wired<'a>>
+    ensures { IfSome result (λ w. w.out ≡ []) }
+{
+    let streams = Streams {
+        alloc,
+        inputs,
+        room: 1000,
+        piece,
+        first_fails_at,
+        fail_at: 0,
+        calls: 0,
+        next: 0,
+        failed: 0,
+    };
+    wired_over(alloc, streams, 1)
 }

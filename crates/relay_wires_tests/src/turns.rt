@@ -10,8 +10,9 @@ use std::alloc::Global;
 /// What comes on a stream: something after each request, and its end after the last.
 pub type Turns<'a> = &'a [&'a [u8]];
 
-/// A stream on which the bytes of a turn come when a request is written, and the end with those of the last.
-/// A read gives at most `piece` of those that came. It takes each write whole, and shows no bytes.
+/// A stream on which the bytes of a turn come when a request is written, and the end with those of
+/// the last. A read gives at most `piece` of those that came. It takes each write whole, and shows
+/// no bytes.
 #[derive(Drop)]
 pub struct TurnStream<'a> {
     turns: Turns<'a>,
@@ -41,7 +42,8 @@ impl ByteIn for TurnStream<'_> {
 
 impl ByteOut for TurnStream<'_> {
     fn write(&mut self, bytes: &[u8]) -> Result<usize, StreamFailed> {
-        // Bytes that nobody asked for are read first, so that they are seen if they are taken for a reply.
+        // Bytes that nobody asked for are read first, so that they are seen if they are taken for a
+        // reply.
         if !self.writing && self.came.is_empty() {
             if let Some(turn) = self.turns.get(self.next) {
                 self.came = *turn;
