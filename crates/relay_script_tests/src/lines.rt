@@ -51,6 +51,7 @@ fn parts(event: &Event) -> [u64; 4] {
         Event::Reply(request, picks) => [8, *request, picks.as_slice().len() as u64, 0],
         Event::Whole(request, status) => [9, *request, *status as u64, 0],
         Event::Lost(request) => [10, *request, 0, 0],
+        Event::Restart(epoch) => [11, *epoch as u64, 0, 0],
     }
 }
 
@@ -77,6 +78,7 @@ const EVENTS: &[(&[u8], [u64; 4])] = &[
         b"lost 18446744073709551615",
         [10, 18446744073709551615, 0, 0],
     ),
+    (b"restart 4294967295", [11, 4294967295, 0, 0]),
 ];
 
 #[test]
