@@ -1,9 +1,10 @@
 //! Sockets of TCP behind the traits of the relay: `TcpDial` makes a connection to an index for each
 //! stream that a wire over HTTP asks for, and `TcpListen` hands out the connections that come to a
-//! server. `SocketStream` is such a connection, which can be asked whether something came. It stands on `relay_wires` for dials and on `relay_stub` for listeners.
+//! server. `SocketStream` is such a connection, which can be asked whether something came. It
+//! stands on `relay_wires` for dials and on `relay_stub` for listeners.
 //!
-//! What a socket gives or takes, and when it waits, no contract says. What is promised is that a failed
-//! call is answered as one, and counted.
+//! What a socket gives or takes, and when it waits, no contract says. What is promised is that a
+//! failed call is answered as one, and counted.
 #![tactic(auto)]
 
 pub mod dial;

@@ -8,9 +8,9 @@ use std::io::{ErrorKind, Read, Write};
 use std::marker::Model;
 use std::net::OpenStream;
 
-/// A socket that was connected, as a stream which can also be asked whether something came. It shows no
-/// bytes and counts the calls that failed; at 2^64 - 1 the count stays. Each read and each write makes one
-/// call of the socket, of any error of which it answers [`StreamFailed`].
+/// A socket that was connected, as a stream which can also be asked whether something came. It
+/// shows no bytes and counts the calls that failed; at 2^64 - 1 the count stays. Each read and each
+/// write makes one call of the socket, of any error of which it answers [`StreamFailed`].
 #[derive(Drop)]
 pub struct SocketStream<T> {
     socket: T,
@@ -77,9 +77,9 @@ impl<T: Write> ByteOut for SocketStream<T> {
 }
 
 impl<T: OpenStream> Peek for SocketStream<T> {
-    /// Whether nothing came that was not read. It asks the socket for a byte without waiting and without
-    /// taking it. A socket that answers anything but that there is none yet is not quiet: a byte came, its
-    /// end, or an error.
+    /// Whether nothing came that was not read. It asks the socket for a byte without waiting and
+    /// without taking it. A socket that answers anything but that there is none yet is not quiet: a
+    /// byte came, its end, or an error.
     fn is_quiet(&self) -> bool {
         if self.socket.set_nonblocking(true).is_err() {
             return false;
