@@ -53,11 +53,13 @@ pub(crate) struct WriteTask {
     ghost turns_in_range: { 0 < turns },
 }
 
-// How many operations the lane that is measured holds.
+// How many operations the lane that is measured holds, and on how many documents.
 #[derive(Clone, Copy)]
 pub(crate) struct HeldTask {
     held: u32,
+    documents: u32,
     ghost held_in_range: { (0 < held) × (held ≤ 65536) },
+    ghost documents_in_range: { 0 < documents },
 }
 
 // The number of a word, where it is one from 1 to `most`.
@@ -82,6 +84,13 @@ fn queue_task(senders: &str, capacity: &str, count: &str) -> Option<Task> {
     }))
 }
 
+// The lane that two words name.
+fn lane_task(held: &str, documents: &str) -> Option<Task> {
+    let held = number_of(held, 65_536)? as u32;
+    let documents = number_of(documents, 65_536)? as u32;
+    Some(Task::Lane(HeldTask { held, documents }))
+}
+
 // The readings that two words name.
 fn read_task(piece: &str, turns: &str) -> Option<Task> {
     let piece = number_of(piece, MOST)? as usize;
@@ -104,9 +113,10 @@ pub(crate) fn task_of(words: &[String]) -> Option<Task> {
         [_, name, turns] if name.as_str() == "replies" => {
             Some(Task::Replies(number_of(turns.as_str(), MOST)?))
         }
-        [_, name, held] if name.as_str() == "lane" => Some(Task::Lane(HeldTask {
-            held: number_of(held.as_str(), 65_536)? as u32,
-        })),
+        [_, name, held] if name.as_str() == "lane" => lane_task(held.as_str(), held.as_str()),
+        [_, name, held, documents] if name.as_str() == "lane" => {
+            lane_task(held.as_str(), documents.as_str())
+        }
         [_, name, piece, turns] if name.as_str() == "http-read" => {
             read_task(piece.as_str(), turns.as_str())
         }
@@ -164,10 +174,11 @@ fn run_replies<R: Clock + Input + Print + AllocGlobal>(
     Ok(())
 }
 
-// Measures a lane, and prints how long an operation took at its take, in a request and in its reply.
+// Measures a lane, and prints how long an operation took at its take, in a request and in its reply, and how
+// long one question for the first due tick took.
 fn run_lane<R: Clock + Print + AllocGlobal>(rt: &R, task: HeldTask) -> Result<(), BenchFault> {
-    let HeldTask { held } = task;
-    let times = lane::measure(rt, rt.alloc(), held)?;
+    let HeldTask { held, documents } = task;
+    let times = lane::measure(rt, rt.alloc(), held, documents)?;
     if times.sent == 0 {
         return Err(BenchFault::Lane);
     }
@@ -175,14 +186,15 @@ fn run_lane<R: Clock + Print + AllocGlobal>(rt: &R, task: HeldTask) -> Result<()
     let request = tenths_each(times.request, times.sent as u64);
     let reply = tenths_each(times.reply, times.sent as u64);
     println!(rt;
-        "{held} held, {} sent, take {}.{}, request {}.{}, reply {}.{} ns an operation",
+        "{held} held, {} sent, take {}.{}, request {}.{}, reply {}.{} ns an operation, due {} ns",
         times.sent,
         take / 10,
         take % 10,
         request / 10,
         request % 10,
         reply / 10,
-        reply % 10
+        reply % 10,
+        times.due
     )?;
     Ok(())
 }

@@ -136,7 +136,8 @@ fn write_once<R: Clock>(
     writes: &[Write],
     room: usize,
 ) -> Result<u64, BenchFault>
-    requires { length (text_of writes.now) ≤ 16777216 }
+    requires few { length writes.now ≤ 10000 }
+    requires size { length (text_of writes.now) ≤ 16777216 }
     ensures { IfOk result (λ n. n ≤ 10 ^ 18) }
 {
     let mut conn = connect(alloc, Vec::new(alloc), room, PIECE)?;

@@ -1,8 +1,9 @@
-//! A lane that holds many operations: they are taken, a request of at most 500 is formed, and it is answered.
-ghost use Rattle.std.specs.Prelude.{◌≤◌, ◌^◌, IfOk};
+//! A lane that holds many operations: they are taken, and requests are formed and answered until 500 of them
+//! were applied, or all.
+ghost use Rattle.std.specs.Prelude.{◌<◌, ◌≤◌, ◌^◌, IfOk};
 
 use crate::fault::BenchFault;
-use crate::rate::nanoseconds_since;
+use crate::rate::{capped, nanoseconds_since};
 use relay_action::{Action, Body, DocKey, Mail, Op, Text, Write};
 use relay_batch::Limits;
 use relay_core::{Lane, RelayConfig};
@@ -20,19 +21,23 @@ const SOURCE: &str =
 /// What the calls of a lane took.
 #[derive(Clone, Copy, Debug, PartialEq, Eq)]
 pub struct LaneTimes {
-    /// The operations that the request carried, all of which its reply applied.
+    /// The operations that the requests carried, all of which their replies applied.
     pub sent: u32,
     /// The nanoseconds of all takes, at most 10^18.
     pub take: u64,
-    /// The nanoseconds of the request, at most 10^18.
+    /// The nanoseconds of all requests, at most 10^18.
     pub request: u64,
-    /// The nanoseconds of the reply, at most 10^18.
+    /// The nanoseconds of all replies, at most 10^18.
     pub reply: u64,
+    /// The nanoseconds of one question for the first due tick, at most 10^18.
+    pub due: u64,
 }
 
-// The message that puts the operation with this number, each on a document of its own.
-fn mail_of(alloc: Global, number: u64) -> Result<Mail, BenchFault> {
-    let id = format!(in alloc; "{number}")?;
+// The message that puts the operation with this number on one of so many documents.
+fn mail_of(alloc: Global, number: u64, documents: u32) -> Result<Mail, BenchFault>
+    requires { 0 < documents }
+{
+    let id = format!(in alloc; "{}", number % documents as u64)?;
     let Ok(key) = DocKey::new(alloc, "books", id.as_str()) else {
         return Err(BenchFault::Memory);
     };
@@ -52,10 +57,12 @@ fn mail_of(alloc: Global, number: u64) -> Result<Mail, BenchFault> {
     })
 }
 
-fn mails_of(alloc: Global, count: u32) -> Result<Vec<Mail>, BenchFault> {
+fn mails_of(alloc: Global, count: u32, documents: u32) -> Result<Vec<Mail>, BenchFault>
+    requires { 0 < documents }
+{
     let mut mails = Vec::new(alloc);
     for number in 0..count {
-        let mail = mail_of(alloc, number as u64 + 1)?;
+        let mail = mail_of(alloc, number as u64 + 1, documents)?;
         if mails.push(mail).is_err() {
             return Err(BenchFault::Memory);
         }
@@ -110,35 +117,81 @@ fn answer<R: Clock>(
     Ok((settled.applied, nanoseconds))
 }
 
-// Takes so many operations, and forms and answers one request.
-fn drive<R: Clock>(
-    rt: &R,
-    alloc: Global,
-    lane: &mut Lane,
-    mails: Vec<Mail>,
-) -> Result<LaneTimes, BenchFault>
-    ensures { IfOk result (λ t. (t.take ≤ 10 ^ 18) × (t.request ≤ 10 ^ 18) × (t.reply ≤ 10 ^ 18)) }
+// Forms a request and answers it: how many operations it carried, and how long the request and its reply took.
+fn exchange<R: Clock>(rt: &R, alloc: Global, lane: &mut Lane) -> Result<(u32, u64, u64), BenchFault>
+    ensures { IfOk result (λ r. (r.1 ≤ 10 ^ 18) × (r.2 ≤ 10 ^ 18)) }
 {
-    let start = Instant::now(rt)?;
-    take_all(lane, mails)?;
-    let take = nanoseconds_since(rt, start)?;
     let start = Instant::now(rt)?;
     let Some(number) = lane.request()? else {
         return Err(BenchFault::Lane);
     };
     let request = nanoseconds_since(rt, start)?;
     let (sent, reply) = answer(rt, alloc, lane, number)?;
+    Ok((sent, request, reply))
+}
+
+// Forms and answers requests until so many operations were sent: how many were, and how long all requests and
+// all replies took.
+fn exchange_all<R: Clock>(
+    rt: &R,
+    alloc: Global,
+    lane: &mut Lane,
+    wanted: u32,
+) -> Result<(u32, u64, u64), BenchFault>
+    ensures { IfOk result (λ r. (r.1 ≤ 10 ^ 18) × (r.2 ≤ 10 ^ 18)) }
+{
+    let mut sent = 0u32;
+    let mut requests = 0u64;
+    let mut replies = 0u64;
+    for _ in 0..wanted {
+        if sent < wanted {
+            let (more, request, reply) = exchange(rt, alloc, lane)?;
+            sent = sent.saturating_add(more);
+            requests = capped(requests.saturating_add(request));
+            replies = capped(replies.saturating_add(reply));
+        }
+    }
+    Ok((sent, requests, replies))
+}
+
+// Takes so many operations, and forms and answers requests until 500 of them were sent, or all.
+fn drive<R: Clock>(
+    rt: &R,
+    alloc: Global,
+    lane: &mut Lane,
+    mails: Vec<Mail>,
+    wanted: u32,
+) -> Result<LaneTimes, BenchFault>
+    ensures { IfOk result (λ t. (t.take ≤ 10 ^ 18) × (t.request ≤ 10 ^ 18) × (t.reply ≤ 10 ^ 18) × (t.due ≤ 10 ^ 18)) }
+{
+    let start = Instant::now(rt)?;
+    take_all(lane, mails)?;
+    let take = nanoseconds_since(rt, start)?;
+    let start = Instant::now(rt)?;
+    let first = lane.due_in();
+    let due = nanoseconds_since(rt, start)?;
+    if first != Some(0) {
+        return Err(BenchFault::Lane);
+    }
+    let (sent, request, reply) = exchange_all(rt, alloc, lane, wanted)?;
     Ok(LaneTimes {
         sent,
         take,
         request,
         reply,
+        due,
     })
 }
 
-/// Measures a lane that takes and holds so many operations, of 100 bytes each.
-pub fn measure<R: Clock>(rt: &R, alloc: Global, held: u32) -> Result<LaneTimes, BenchFault>
-    ensures { IfOk result (λ t. (t.take ≤ 10 ^ 18) × (t.request ≤ 10 ^ 18) × (t.reply ≤ 10 ^ 18)) }
+/// Measures a lane that takes and holds so many operations, of 100 bytes each, on so many documents.
+pub fn measure<R: Clock>(
+    rt: &R,
+    alloc: Global,
+    held: u32,
+    documents: u32,
+) -> Result<LaneTimes, BenchFault>
+    requires { 0 < documents }
+    ensures { IfOk result (λ t. (t.take ≤ 10 ^ 18) × (t.request ≤ 10 ^ 18) × (t.reply ≤ 10 ^ 18) × (t.due ≤ 10 ^ 18)) }
 {
     let config = RelayConfig {
         lanes: 1,
@@ -158,7 +211,7 @@ pub fn measure<R: Clock>(rt: &R, alloc: Global, held: u32) -> Result<LaneTimes, 
     if !config.valid() {
         return Err(BenchFault::Usage);
     }
-    let mails = mails_of(alloc, held)?;
+    let mails = mails_of(alloc, held, documents)?;
     let mut lane = Lane::new(alloc, config)?;
-    drive(rt, alloc, &mut lane, mails)
+    drive(rt, alloc, &mut lane, mails, held.min(BATCH))
 }
