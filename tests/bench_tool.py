@@ -19,7 +19,7 @@ HTTP_REPLY = b"HTTP/1.1 200 OK\r\nContent-Length: 5\r\n\r\nhello"
 def measures(args, said, stdin=b""):
     """It does what it is told, and says what it did, with times of a tenth of a nanosecond."""
     done = run(args, stdin)
-    wanted = re.escape(said).replace(rb"TIME", rb"[0-9]+\.[0-9]") + rb"\n"
+    wanted = re.escape(said).replace(rb"TIME", rb"[0-9]+\.[0-9]").replace(rb"WHOLE", rb"[0-9]+") + rb"\n"
     found = (done.stdout, done.stderr, done.returncode)
     check("bench: %s" % args, re.fullmatch(wanted, done.stdout) and found[1:] == (b"", 0), found)
 
@@ -44,11 +44,16 @@ def queues():
 
 
 def lanes():
-    """Fewer operations than a request carries, and more."""
-    measures(["lane", "3"], b"3 held, 3 sent, take TIME, request TIME, reply TIME ns an operation")
-    measures(["lane", "501"], b"501 held, 500 sent, take TIME, request TIME, reply TIME ns an operation")
+    """Fewer operations than a request carries, and more; and many of one document, which go one after another."""
+    times = b"take TIME, request TIME, reply TIME ns an operation, due WHOLE ns"
+    measures(["lane", "3"], b"3 held, 3 sent, " + times)
+    measures(["lane", "501"], b"501 held, 500 sent, " + times)
+    measures(["lane", "600", "1"], b"600 held, 500 sent, " + times)
+    measures(["lane", "10", "2"], b"10 held, 10 sent, " + times)
     refuses(["lane", "0"], USAGE)
     refuses(["lane", "65537"], USAGE)
+    refuses(["lane", "1", "0"], USAGE)
+    refuses(["lane", "1", "65537"], USAGE)
 
 
 def replies():

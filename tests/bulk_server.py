@@ -85,6 +85,7 @@ class Server:
                         return
                     came += piece
                 head, came = came.split(b"\r\n\r\n", 1)
+                early = self.answers_early(stream)
                 length = int(next(it for it in head.split(b"\r\n") if it.lower().startswith(b"content-length:")).split(b":")[1])
                 if self.early and length > self.most:
                     return self.refuse_early(stream, length - len(came))
@@ -94,7 +95,7 @@ class Server:
                         return
                     came += piece
                 body, came = came[:length], came[length:]
-                if not self.answer(stream, head, body):
+                if not early and not self.answer(stream, head, body):
                     return
 
     def refuse_early(self, stream, left):
@@ -104,6 +105,10 @@ class Server:
         while self.early == "drains" and left > 0:
             piece = self.receive(stream)
             left = left - len(piece) if piece else 0
+
+    def answers_early(self, stream):
+        """Whether a request is answered once its head came, and not served."""
+        return False
 
     @staticmethod
     def receive(stream):

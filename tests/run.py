@@ -8,6 +8,8 @@ import sys
 import apply_cases
 import client_cases
 import lines_cases
+import option_cases
+import reply_cases
 import restart_cases
 import run_cases
 import stub_cases
@@ -53,7 +55,7 @@ def command_line():
 
 
 def main():
-    for group in (*lines_cases.GROUPS, *apply_cases.GROUPS, *stub_cases.GROUPS, *client_cases.GROUPS, *run_cases.GROUPS, *too_large_cases.GROUPS, *restart_cases.GROUPS, *world_cases.GROUPS, command_line):
+    for group in (*lines_cases.GROUPS, *apply_cases.GROUPS, *stub_cases.GROUPS, *client_cases.GROUPS, *run_cases.GROUPS, *option_cases.GROUPS, *reply_cases.GROUPS, *too_large_cases.GROUPS, *restart_cases.GROUPS, *world_cases.GROUPS, command_line):
         group()
     print("%d passed, %d failed" % (RESULTS["passed"], RESULTS["failed"]))
     sys.exit(RESULTS["failed"] != 0)

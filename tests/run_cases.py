@@ -165,6 +165,15 @@ def replies_that_nobody_asked_for():
             server.close()
 
 
+def connections_used_again():
+    """A kept connection on which nothing came carries the next request: a lane makes do with one."""
+    producers = [[("%d" % p, '{"n":%d}' % n) for n in range(4)] for p in range(2)]
+    server = Server()
+    done = paced_run(server, producers, "--lanes", "1")
+    check("used again", done == (0, b"applied 8 already 0 reported 0\n", b"") and len(server.streams) == 1, (done, len(server.streams)))
+    server.close()
+
+
 def connections_closed_while_idle():
     """A kept connection that the server closes between two requests costs the second no attempt."""
     producers = [[("%d" % p, '{"n":%d}' % n) for n in range(4)] for p in range(2)]
@@ -282,4 +291,4 @@ def options():
             check("usage: run %s" % args[:4], done.returncode == 1 and said in done.stderr and done.stdout == b"", (done.returncode, done.stderr))
 
 
-GROUPS = (stub, faults, replies_that_nobody_asked_for, connections_closed_while_idle, server_that_comes_back, memory, no_server, files_at_fault, options)
+GROUPS = (stub, faults, replies_that_nobody_asked_for, connections_used_again, connections_closed_while_idle, server_that_comes_back, memory, no_server, files_at_fault, options)
