@@ -1,7 +1,7 @@
 // One reply of HTTP read again and again in plain Rust, with httparse and a vector, and one request written again and
 // again: `http read TURNS < REPLY`, `http write WRITES BYTES TURNS`.
 use std::hint::black_box;
-use std::io::{self, Read, Write};
+use std::io::{self, BufWriter, Read, Write};
 use std::time::Instant;
 
 // What a head says: its status, its bytes, the body's length and whether the body is chunked.
@@ -121,26 +121,43 @@ struct Document {
     source: String,
 }
 
-fn append(text: &mut Vec<u8>, document: &Document) {
-    text.extend_from_slice(b"{\"index\":{\"_id\":");
-    serde_json::to_writer(&mut *text, &document.id).expect("a text");
-    text.extend_from_slice(b",\"_index\":");
-    serde_json::to_writer(&mut *text, &document.index).expect("a text");
-    write!(text, ",\"version\":{},\"version_type\":\"external\"}}}}\n", document.version).expect("a line");
-    text.extend_from_slice(document.source.as_bytes());
-    text.push(b'\n');
+// How long a text is in a JSON string.
+fn quoted_len(text: &str) -> usize {
+    let escaped = |byte| match byte {
+        b'"' | b'\\' | 8 | 9 | 10 | 12 | 13 => 2,
+        0..=31 => 6,
+        _ => 1,
+    };
+    2 + text.bytes().map(escaped).sum::<usize>()
 }
 
-fn write_request(stream: &mut Vec<u8>, documents: &[Document]) -> usize {
-    let mut body = Vec::new();
+// How long the lines of a document are.
+fn lines_len(document: &Document) -> usize {
+    let marks = "{\"index\":{\"_id\":,\"_index\":,\"version\":,\"version_type\":\"external\"}}\n\n".len();
+    let digits = document.version.ilog10() as usize + 1;
+    marks + quoted_len(&document.id) + quoted_len(&document.index) + digits + document.source.len()
+}
+
+fn append(out: &mut impl Write, document: &Document) -> io::Result<()> {
+    out.write_all(b"{\"index\":{\"_id\":")?;
+    serde_json::to_writer(&mut *out, &document.id)?;
+    out.write_all(b",\"_index\":")?;
+    serde_json::to_writer(&mut *out, &document.index)?;
+    write!(out, ",\"version\":{},\"version_type\":\"external\"}}}}\n", document.version)?;
+    out.write_all(document.source.as_bytes())?;
+    out.write_all(b"\n")
+}
+
+// The head, with the length that the lines will have, and then line by line.
+fn write_request(stream: &mut Vec<u8>, documents: &[Document]) -> io::Result<usize> {
+    let size = documents.iter().map(lines_len).sum();
+    let mut out = BufWriter::with_capacity(65536, stream);
+    write!(out, "POST /_bulk HTTP/1.1\r\nHost: {}\r\nContent-Type: application/x-ndjson\r\nContent-Length: {}\r\n\r\n", "127.0.0.1:9200", size)?;
     for document in documents {
-        append(&mut body, document);
+        append(&mut out, document)?;
     }
-    let mut text = Vec::new();
-    write!(text, "POST /_bulk HTTP/1.1\r\nHost: {}\r\nContent-Type: application/x-ndjson\r\nContent-Length: {}\r\n\r\n", "127.0.0.1:9200", body.len()).expect("a head");
-    text.extend_from_slice(&body);
-    stream.write_all(&text).expect("a write");
-    body.len()
+    out.flush()?;
+    Ok(size)
 }
 
 fn write(count: u64, size: usize, turns: u64) {
@@ -151,7 +168,7 @@ fn write(count: u64, size: usize, turns: u64) {
     for _ in 0..turns {
         let mut stream = Vec::with_capacity(bytes + 1024);
         let start = Instant::now();
-        bytes = write_request(&mut stream, black_box(&documents));
+        bytes = write_request(&mut stream, black_box(&documents)).expect("a request");
         nanoseconds += start.elapsed().as_nanos();
         black_box(&stream);
     }

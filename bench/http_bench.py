@@ -5,7 +5,7 @@ import plain_rust
 
 TURNS = 5
 # The most that a reading or a writing may take of the plain program's time: a body with a length, a chunked one, a request.
-TARGETS = {"length": 1.3, "chunked": 1.5, "request": 1.3}
+TARGETS = {"length": 1.3, "chunked": 1.5, "request": 1.2}
 # Bodies: how many bytes, and how often they are read.
 BODIES = ((50 * 1024, 2000), (16 * 1024 * 1024, 10))
 CHUNK = 4096

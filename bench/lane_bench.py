@@ -1,20 +1,48 @@
-"""Measures a lane's calls at few and at many held operations: take, a request of 500 and its reply."""
+"""Measures a lane's calls at few and at many held operations, on documents of their own and on one hot document: take,
+requests and their replies until 500 operations were sent, one question for the first due tick, and the peak memory."""
 import re
 import subprocess
+import tempfile
+import time
+
+from lines_bench import peak_of
 
 TURNS = 5
-HELD = (1000, 65536)
-WORDS = ("take", "request", "reply")
+FEW, MANY = 1000, 65536
+WORDS = ("take", "request", "reply", "due")
+# What the operations are on, how many documents that are for so many operations, and how many times the cost of an
+# operation at few held may be that at many: the project's goals.
+SHAPES = (("documents of their own", lambda held: held, 1.5), ("one hot document", lambda held: 1, 1.1))
+
+
+def once(program, held, documents):
+    """The nanoseconds of each call, and the peak memory in KiB."""
+    with tempfile.TemporaryFile("w+") as out:
+        process = subprocess.Popen([program, "lane", str(held), str(documents)], stdout=out)
+        peak = 0
+        while process.poll() is None:
+            peak = max(peak, peak_of(process.pid))
+            time.sleep(0.001)
+        out.seek(0)
+        told = out.read()
+    return {word: float(re.search(word + r" ([0-9.]+)", told).group(1)) for word in WORDS}, peak
+
+
+def best_of(program, held, documents):
+    best, peak = {}, 0
+    for _ in range(TURNS):
+        spent, memory = once(program, held, documents)
+        best = {word: min(spent[word], best.get(word, spent[word])) for word in WORDS}
+        peak = max(peak, memory)
+    return best, peak
 
 
 def measure(folder, program):
-    for held in HELD:
-        best = {}
-        for _ in range(TURNS):
-            told = subprocess.run([program, "lane", str(held)], capture_output=True, text=True, check=True).stdout
-            for word in WORDS:
-                spent = float(re.search(word + r" ([0-9.]+)", told).group(1))
-                best[word] = min(spent, best.get(word, spent))
-        print("lane: %d held, a request of 500, best of %d" % (held, TURNS))
-        for word in WORDS:
-            print("  %-8s %10.1f ns an operation" % (word, best[word]))
+    for called, documents_of, goal in SHAPES:
+        (few, little), (many, much) = (best_of(program, held, documents_of(held)) for held in (FEW, MANY))
+        print("lane: %d and %d held, %s, best of %d" % (FEW, MANY, called, TURNS))
+        for word in WORDS[:3]:
+            print("  %-8s %10.1f %10.1f ns an operation  %.2f" % (word, few[word], many[word], many[word] / few[word]))
+        print("  %-8s %10.0f %10.0f ns a question" % ("due", few["due"], many["due"]))
+        ratio = sum(many[word] for word in WORDS[:3]) / sum(few[word] for word in WORDS[:3])
+        print("  memory %d and %d KiB; an operation costs %.2f of what it costs at %d held (goal %.1f: %s)" % (little, much, ratio, FEW, goal, "met" if ratio <= goal else "MISSED"))
