@@ -5,7 +5,7 @@ use Rattle.relay_action.specs.declared.operation.Op.{Op}
 use Rattle.relay_results.specs.Words.{Mem}
 use Rattle.relay_results.specs.Documents.{Document, document_of}
 use Rattle.relay_results.specs.Outside.{Continues}
-use Rattle.relay_results.proofs.Lists.{Mem-left, Mem-right, Mem-last, Mem-push_cases}
+use Rattle.relay_results.proofs.Lists.{at-Mem, Mem-left, Mem-right, Mem-last, Mem-push_cases}
 use Rattle.relay_results.proofs.Steps.{continues_itself, continues_on}
 use Rattle.relay_delivery.specs.Attribution.{IsAttribution}
 use Rattle.relay_delivery.specs.Machine.{Config}
@@ -13,6 +13,8 @@ use Rattle.relay_delivery.specs.Delivery.{terms_of}
 use Rattle.relay_delivery.specs.Together.{Together, act, outside_of}
 use Rattle.relay_delivery.specs.Restarts.{Incarnation, incarnation_of, Life, born, Happening, Acts, Restarts, happen, EpochsAreAbove, MayBe, lived, AllMayBe}
 use Rattle.relay_delivery.specs.Accounted.{accepted_over, op_dealt, ops_over, attributed_together, SoundTogether, CompleteTogether, FreshTogether, ActTogether, RestartTogether, TogetherMay, TogetherRuns, TogetherContinues, first_of}
+use Rattle.relay_delivery.proofs.Queues.{taken_distinct, was_accepted}
+use Rattle.relay_delivery.proofs.Versions.{version_in, version_there}
 use Rattle.relay_delivery.proofs.Joined.{versions, assignment, true_report, once, in_one_lane, all_accounted}
 use Rattle.relay_delivery.proofs.Sharing.{true_all, happens_in_lanes}
 use Rattle.relay_delivery.proofs.Gathered.{w, runs_once}
@@ -94,6 +96,9 @@ sound_together g lane_of ended s c =
       by_epoch = λ k. (its_parts g lane_of ended s f k).by_epoch;
       versions = versions g lane_of past s.lanes lanes;
       assignment = assignment g lane_of past s.lanes lanes;
+      assigned = λ l place o at.
+          ap (λ n. version_in g.first g.deals (s.lanes.lane n).taken o) (was_accepted g lane_of past s.lanes lanes l o (at-Mem (s.lanes.lane l).taken place o at)).1
+          ∙ version_there g.first g.deals (s.lanes.lane l).taken place o (taken_distinct g lane_of past s.lanes lanes l) at;
       true_reports = λ l r m.
           let x = true_report g lane_of past s.lanes lanes l r m in
           record {

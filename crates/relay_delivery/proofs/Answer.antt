@@ -459,7 +459,7 @@ module _ (g : Config) (past : Write → Type 0) (c : Core) (f : CoreFacts g past
     nothing_lost = λ place o s. somewhere place o s (f.nothing_lost place o s);
   }
 
-no_unanswered : (runs : List Ran) (number : ℕ) (ws : List Write) (a : Answer) → IsHonest runs number ws a → a ≡ Unanswered → ⊥
+pub no_unanswered : (runs : List Ran) (number : ℕ) (ws : List Write) (a : Answer) → IsHonest runs number ws a → a ≡ Unanswered → ⊥
 no_unanswered runs number ws a h e = subst (λ b. IsHonest runs number ws b) e h
 
 pub answer_keeps : (g : Config) (past : Write → Type 0) (c : Core) (f : CoreFacts g past c) (number : ℕ) (a : Answer) → MayAnswer c.outside number a → CoreFacts g past (settle g number a c)

@@ -14,6 +14,8 @@ pub mod Whole
 pub mod Earliest
 pub mod Bounded
 pub mod Fitting
+pub mod Tallies
+pub mod Counts
 pub mod Played
 pub mod Excluded
 pub mod Working

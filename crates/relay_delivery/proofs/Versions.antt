@@ -1,6 +1,7 @@
 -- The assignment of versions, by places.
 use Rattle.std.proofs.Common.{◌≡◌, ℕ, zero, suc, ◌+◌, ◌<◌, ◌≤◌, List, [], ◌∷◌, Option, Some, None, Bool, true, false, refl, sym, ap, ◌∙◌, subst, ⊎_elim, arith}
-use Rattle.std.specs.Prelude.{slice_get, if◌then◌else◌, map}
+use Rattle.std.specs.Prelude.{slice_get, nat_lt, if◌then◌else◌, map}
+use borrow.Author.Tests.{ltb-true, ltb-false}
 use Rattle.relay_action.specs.declared.operation.Op.{Op}
 use Rattle.relay_results.specs.Words.{Mem, AllDistinct}
 use Rattle.relay_results.specs.Documents.{name_of, same_op}
@@ -61,3 +62,15 @@ none_over first left taken o i u d s past e =
     let names = (same_op-true o p.op p.same).name in
     let at = distinct_places (map name_of taken) i p.place (name_of o) d (at-map name_of taken i o s) (at-map name_of taken p.place p.op p.stands ∙ ap Some (sym names)) in
     let w = p.within in omega (arith, at, w, past)
+
+-- each has that of its place, if there is one
+pub version_there : (first left : ℕ) (taken : List Op) (place : ℕ) (o : Op) → AllDistinct (map name_of taken) → slice_get taken place ≡ Some o → version_in first left taken o ≡ (if nat_lt place left then Some (first + place) else None)
+version_there first left taken place o distinct at = by (nat_lt place left) refl
+  where
+    none : (v : Option ℕ) → left ≤ place → version_in first left taken o ≡ v → v ≡ None
+    none None past e = refl
+    none (Some u) past e = absurd (none_over first left taken o place u distinct at past e)
+
+    by : (b : Bool) → nat_lt place left ≡ b → version_in first left taken o ≡ (if b then Some (first + place) else None)
+    by true e = version_of taken first left place o distinct at (ltb-true _ _ e)
+    by false e = none (version_in first left taken o) (ltb-false _ _ e) refl

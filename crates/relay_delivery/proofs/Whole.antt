@@ -13,7 +13,7 @@ use Rattle.relay_delivery.specs.Delivery.{taken_of, attributed, IsTrueReport, Is
 use Rattle.relay_results.proofs.Lists.{equal_test, at-Mem, at-within, Mem-at, map-Mem, filter-Mem, some_same, sub-filter, sub-map, Mem-sub, AllDistinct-sub}
 use Rattle.relay_delivery.proofs.Facts.{IsDealt, IsOfOne, SpentFact, CauseFact, CoreFacts}
 use Rattle.relay_delivery.proofs.Ordered.{ops-in_order, ops-same, op-of, of-op}
-use Rattle.relay_delivery.proofs.Versions.{version_in, version_of, is_assignment, none_over}
+use Rattle.relay_delivery.proofs.Versions.{version_in, version_of, is_assignment, none_over, version_there}
 use Rattle.relay_delivery.proofs.Names.{taken_once, reported_once}
 use Rattle.relay_delivery.proofs.Keeps.{none_past, facts_of, own_sent}
 
@@ -102,6 +102,7 @@ module _ (g : Config) (c : Core) (f : CoreFacts g none_past c) (distinct : AllDi
     in_order = in_order;
     versions = version_in g.first g.deals c.taken;
     assignment = is_assignment g.first g.deals c.taken;
+    assigned = λ place o at. version_there g.first g.deals c.taken place o distinct at;
     true_reports = reports_true g none_past c f distinct;
     once = reports_once g none_past c f distinct;
   }

@@ -9,7 +9,7 @@ use Rattle.relay_results.specs.Laws.{RunsItem}
 use Rattle.relay_delivery.specs.Attribution.{IsAttribution, IsInProducerOrder, AreByEpoch, is_in}
 use Rattle.relay_delivery.specs.Causes.{IsAssignment, IsTrueCause}
 use Rattle.relay_delivery.specs.Machine.{Config, Report}
-use Rattle.relay_delivery.specs.Delivery.{terms_of, names_of}
+use Rattle.relay_delivery.specs.Delivery.{terms_of, names_of, assigned_at}
 use Rattle.relay_delivery.specs.Lanes.{IsFinished}
 use Rattle.relay_delivery.specs.Together.{Origin, Together, Act, Plain, SendsFrom, RunsAt, AnswersAt, run_at, act, MayAct, IsFreshTogether, outside_of}
 use Rattle.relay_delivery.specs.Restarts.{Incarnation, with_running, restarted, IsOfNow, IsAbove, CameAboutTogether}
@@ -64,13 +64,14 @@ pub record IsTrueTogether (g : Config) (lane_of : Document → ℕ) (s : Togethe
 
 -- Over all incarnations the writes applied to each document are those of distinct accepted operations, in each incarnation
 -- each producer's in its order, and those of an earlier incarnation before those of every later one. Of the last one each
--- report has a true cause, by one assignment of versions for all lanes; and none is reported twice.
+-- report has a true cause, by one assignment of versions, which is that of all lanes; and none is reported twice.
 pub record IsSoundTogether (g : Config) (lane_of : Document → ℕ) (ended : List Incarnation) (s : Together) (ops : Document → List Op) : Type 0 where
   pub attribution : (k : Document) → IsAttribution (accepted_over (with_running ended g s)) k ((outside_of lane_of s).applied k) (ops k)
   pub in_order : (k : Document) (e : ℕ) → IsInProducerOrder (accepted_in (with_running ended g s) e) (filter (is_in e) (ops k))
   pub by_epoch : (k : Document) → AreByEpoch (ops k)
   pub versions : Op → Option ℕ
   pub assignment : IsAssignment versions
+  pub assigned : (l place : ℕ) (o : Op) → slice_get (s.lanes.lane l).taken place ≡ Some o → versions o ≡ assigned_at g place
   pub true_reports : (l : ℕ) (r : Report) → Mem r (reports_of s l) → IsTrueTogether g lane_of s versions l r
   pub once : (l : ℕ) → AllDistinct (names_of (reports_of s l))
   pub in_one_lane : (l m : ℕ) (r q : Report) → Mem r (reports_of s l) → Mem q (reports_of s m) → r.name ≡ q.name → l ≡ m

@@ -1,5 +1,5 @@
 -- What is promised of the operations that a lane took.
-use Rattle.std.specs.Prelude.{◌≡◌, ◌⊎◌, ℕ, ◌+◌, ◌-◌, ◌<◌, ◌≤◌, List, [], ◌∷◌, ◌++◌, Option, Some, option_to_list, slice_get, map, filter, length}
+use Rattle.std.specs.Prelude.{◌≡◌, ◌⊎◌, ℕ, ◌+◌, ◌-◌, ◌<◌, ◌≤◌, List, [], ◌∷◌, ◌++◌, Option, Some, None, option_to_list, slice_get, nat_lt, if◌then◌else◌, map, filter, length}
 use Rattle.relay_action.specs.declared.write.Write.{Write}
 use Rattle.relay_action.specs.declared.operation.Op.{Op}
 use Rattle.relay_action.specs.declared.operation.OpName.{OpName}
@@ -30,13 +30,19 @@ pub record IsTrueReport (g : Config) (taken : List Op) (s : Outside) (versions :
 abbrev pub names_of : List Report → List OpName
 names_of reports = map (λ (r : Report). r.name) reports
 
+-- the version of the operation at a place of what was taken, if there is one left for it
+abbrev pub assigned_at : Config → ℕ → Option ℕ
+assigned_at g place = if nat_lt place g.deals then Some (version_at g place) else None
+
 -- The writes applied to each document are those of distinct operations that were taken, each producer's in its order; each
--- report has a true cause, by one assignment of versions; and none is reported twice.
+-- report has a true cause, by one assignment of versions, which is that by the places of what was taken; and none is reported
+-- twice.
 pub record IsSound (g : Config) (taken : List Op) (reports : List Report) (s : Outside) (ops : Document → List Op) : Type 0 where
   pub attribution : (k : Document) → IsAttribution (taken_of taken) k (s.applied k) (ops k)
   pub in_order : (k : Document) → IsInProducerOrder (taken_of taken) (ops k)
   pub versions : Op → Option ℕ
   pub assignment : IsAssignment versions
+  pub assigned : (place : ℕ) (o : Op) → slice_get taken place ≡ Some o → versions o ≡ assigned_at g place
   pub true_reports : (r : Report) → Mem r reports → IsTrueReport g taken s versions r
   pub once : AllDistinct (names_of reports)
 

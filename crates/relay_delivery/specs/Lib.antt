@@ -4,6 +4,7 @@ pub mod Machine
 pub mod Delivery
 pub mod Bound
 pub mod Lane
+pub mod Counts
 pub mod Numbered
 pub mod Lanes
 pub mod Together

@@ -2,6 +2,7 @@
 //! their contracts are the laws.
 ghost use Rattle.relay_delivery.specs.Schedules.{LostThenAlready, LateRunChangesNothing, RunTwice, RefusedOrRejected, NoVersionLeft, BusyThenNext, GivenUpAndApplied, ThreeThenOne, HalvedThenAlone};
 ghost use Rattle.relay_delivery.specs.Worked.{MachineWorks, StoredVersionsBelow, EarlierOnesFirst, OneVersionForAllTries};
+ghost use Rattle.relay_delivery.specs.Counts.{CountsAlways, CountsWhereItFits};
 ghost use Rattle.relay_delivery.specs.Laws.{NoneTwice, NoneOutOfOrder, NoneOfOtherAction, NoneOfOtherDocument, NoneUnaccepted, NoneLeftOut, NotGivenUpAfterOne, NotGivenUpWhenSettled, NoConflictAfterTwo, NotRefusedWithoutStatus, NotRefusedWithoutError, NotSpentWithinLimit, NotRefusedWhenBusy, NotReportedUnsent, NotRejectedWithoutAnswer, NotRejectedWhenRetried, NotGivenUpForHalves, NotRejectedWhenHalved, NoConflictWithoutRun, NoneReportedTwice, NoneReportedUntaken, AssignsTwo, NotAssignedTwice, PlaysFromOpening};
 
 /// Worked schedules of one operation meet the definitions: applied and lost, then a conflict with
@@ -82,4 +83,11 @@ pub fn reports_exclude()
 pub fn assignments_differ()
     ensures deals { AssignsTwo }
     ensures twice { NotAssignedTwice }
+{}
+
+/// What a lane counts as applied, and as already, is what the answers to its requests say: the places
+/// answered as a success, and those answered by a conflict where two requests at least carried the write.
+pub fn counts_follow_answers()
+    ensures always { CountsAlways }
+    ensures fits { CountsWhereItFits }
 {}
