@@ -118,3 +118,14 @@ fn taken_out(rt: HostRuntime) -> Result<(), Fail> {
     }
     Ok(())
 }
+
+// Whichever allocation is refused, the operation is held when it is pushed again.
+#[test]
+fn refusals(rt: HostRuntime) {
+    let alloc = rt.alloc();
+    let mut desk = empty_desk(alloc);
+    for due in 0..3u64 {
+        assert!(rt; push(alloc, &mut desk, 0, due) || push(alloc, &mut desk, 0, due));
+    }
+    assert!(rt; desk.held.len() == 3 && desk.held.documents() == 1);
+}
