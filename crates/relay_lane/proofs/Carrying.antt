@@ -7,6 +7,7 @@ use Rattle.relay_results.specs.Numbers.{from_zero}
 use Rattle.relay_results.specs.Outside.{Answer, Outside, Event, Sends, Runs, Answers, MayHappen, Continues, after, after_all, AllMayHappen}
 use Rattle.relay_results.proofs.Steps.{continues_itself, continues_on, event_continues}
 use Rattle.relay_delivery.specs.Lane.{writes_of_all}
+use Rattle.relay_delivery.proofs.Counts.{counts_where}
 use Rattle.relay_delivery.proofs.Fitting.{sound_where, complete_where, total_where}
 use Rattle.relay_core.specs.State.{State, next_batch, next_entries, after_request, answered, is_flying, IsLane}
 use Rattle.relay_core.specs.Ties.{Fits}
@@ -17,10 +18,14 @@ use Rattle.relay_lane.specs.Delivers.{IsDelivered, GoesOn, Delivers}
 -- ---- what is promised of each lane and outside that fit
 
 pub delivered : (s : State) (taken : List Op) (o : Outside) → Fits s taken o → IsDelivered s taken o
-delivered s taken o f = record {
-  sound = sound_where s.core taken o f;
-  complete = λ none distinct. complete_where s.core taken o f distinct none;
-}
+delivered s taken o f =
+    let counts = counts_where s.core taken o f in
+    record {
+      sound = sound_where s.core taken o f;
+      complete = λ none distinct. complete_where s.core taken o f distinct none;
+      applied = counts.0;
+      already = counts.1;
+    }
 
 pub goes_on : {S : Type 0} (fits : S → Outside → Type 0) (w : S) (s : State) (taken : List Op) (o p : Outside) → fits w p → Continues o p → Fits s taken p → GoesOn fits w s taken o
 goes_on fits w s taken o p fitting continues f = record { outside = p; fitting = fitting; continues = continues; lane = f; delivered = delivered s taken p f }

@@ -2,15 +2,18 @@
 use Rattle.std.specs.Prelude.{◌≡◌, List, [], Bool, IsTrue}
 use Rattle.relay_action.specs.declared.operation.Op.{Op}
 use Rattle.relay_results.specs.Outside.{Outside, Continues}
+use Rattle.relay_delivery.specs.Counts.{settled_applied, settled_already}
 use Rattle.relay_delivery.specs.Delivery.{HasDistinctNames, IsSound, IsComplete, attributed}
 use Rattle.relay_core.specs.State.{State}
 use Rattle.relay_core.specs.Ties.{Fits}
 
--- delivery is sound, and where nothing is held it is complete, by the same attribution, if no two operations that the lane
--- took have one name
+-- Delivery is sound, and if nothing is held it is complete, by the same attribution, if no two operations that the lane took
+-- have one name; and what the lane counts as applied, and as applied already, is what the answers to its requests say.
 pub record IsDelivered (s : State) (taken : List Op) (o : Outside) : Type 0 where
   pub sound : HasDistinctNames taken → IsSound s.core.config taken s.core.reports o (attributed s.core.config taken o)
   pub complete : s.core.held ≡ [] → HasDistinctNames taken → IsComplete taken s.core.reports (attributed s.core.config taken o)
+  pub applied : s.core.applied ≡ settled_applied o.requests
+  pub already : s.core.already ≡ settled_already o.requests
 
 -- there is an outside that fits the wire now and continues the one before; the lane and it came about by the same steps,
 -- and delivery is as promised
