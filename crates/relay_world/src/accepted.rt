@@ -52,7 +52,7 @@ impl Accepted {
         Accepted { ops }
     }
 
-    // The operations, lent.
+    // The operations.
     pub(crate) fn as_slice(&self) -> &[Op]
         ensures { result.now ≡ self.now }
     {

@@ -1,5 +1,5 @@
 //! A lane with its queue.
-ghost use Rattle.std.specs.Prelude.{◌≡◌, ℕ, ◌+◌, ◌≤◌, ◌≢◌, [], ◌∷◌, ◌++◌, None, Some, true, IsTrue, OnOk, OnErr, IfOk, IfSome, OnSome, IfNone, map, option_map, is_some, is_ok, length, nat_le, nat_lt, replicate, slice_get, vec_capacity};
+ghost use Rattle.std.specs.Prelude.{◌≡◌, if◌then◌else◌, ℕ, ◌+◌, ◌≤◌, ◌≢◌, [], ◌∷◌, ◌++◌, None, Some, true, IsTrue, OnOk, OnErr, IfOk, IfSome, OnSome, IfNone, map, option_map, is_some, is_ok, length, nat_le, nat_lt, replicate, slice_get, vec_capacity};
 ghost use Rattle.std.specs.List.{list_all};
 ghost use Rattle.relay_core.specs.Limits.{is_valid};
 ghost use Rattle.relay_core.specs.Walk.{report_of};
@@ -8,11 +8,11 @@ ghost use Rattle.relay_results.specs.Outside.{Items, Whole, Lost};
 ghost use Rattle.relay_results.specs.Matching.{matches};
 ghost use Rattle.relay_world.specs.State.{fresh_desk, has_closed, is_done};
 ghost use Rattle.relay_world.specs.Refusals.{cause_if, front_refusal};
-ghost use Rattle.relay_world.specs.Changes.{after_mail, posted, took_front, sent_request, answered_desk, item_of, items_of};
+ghost use Rattle.relay_world.specs.Changes.{after_mail, posted, took_front, sent_request, request_of, answered_desk, item_of, items_of};
 ghost use Rattle.relay_world.specs.Memory.{AllBelow, IsOpenAt};
 
 use crate::event::Refusal;
-use crate::request::SentItem;
+use crate::request::{SentItem, SentRequest};
 use crate::sender::Sender;
 use relay_action::{Body, Mail, Op};
 use relay_batch::BatchItem;
@@ -101,6 +101,32 @@ fn form(lane: &mut Lane, alloc: Global) -> Result<Option<Formed>, AllocError>
     let batch = lane.items(number).unwrap();
     add_items(alloc, batch, &mut items);
     Ok(Some(Formed { number, items }))
+}
+
+// A lane forms its next request, if there is one, and it is added to those that were sent. `AllocError`:
+// out of memory; nothing changed.
+pub(crate) fn send_from(
+    desk: &mut Desk,
+    sent: &mut Vec<SentRequest>,
+    alloc: Global,
+    epoch: u32,
+    lane: u32,
+) -> Result<bool, AllocError>
+    ensures when { IfOk result (λ b. b ≡ is_some (next_batch desk.old.lane)) }
+    ensures desk { OnOk result (desk.new ≡ sent_request desk.old) }
+    ensures sent { IfOk result (λ b. sent.new.items
+        ≡ sent.old.items ++ (if b then request_of epoch lane desk.old ∷ [] else [])) }
+    ensures same_desk { OnErr result (desk.new ≡ desk.old) }
+    ensures same_sent { OnErr result (sent.new.items ≡ sent.old.items) }
+{
+    sent.reserve(1)?;
+    match desk.request(alloc)? {
+        None => Ok(false),
+        Some(Formed { number, items }) => {
+            sent.push_reserved(SentRequest::new(epoch, lane, number, items));
+            Ok(true)
+        }
+    }
 }
 
 // Whether each sender has closed.
@@ -281,7 +307,7 @@ impl Desk {
         form(&mut self.lane, alloc)
     }
 
-    // Whether a request flies.
+    // Whether a request is in flight.
     pub(crate) fn is_flying(&self, number: u64) -> bool
         ensures { result ≡ is_flying number self.now.lane }
     {
@@ -311,7 +337,7 @@ impl Desk {
         self.lane.whole(number, status)
     }
 
-    // A request was answered by these entries.
+    // A request was answered with these entries.
     pub(crate) fn reply(
         &mut self,
         number: u64,

@@ -1,21 +1,20 @@
 //! What the world is made of, and each event of it.
-ghost use Rattle.std.specs.Prelude.{◌≡◌, ◌≢◌, slice_get, is_ok, if◌then◌else◌, ℕ, ◌+◌, ◌-◌, ◌^◌, ◌<◌, ◌≤◌, [], ◌∷◌, ◌++◌, None, Some, true, OnOk, OnErr, IfOk, IfSome, IsSome, map, option_map, is_some, length, replicate, vec_len, vec_capacity};
+ghost use Rattle.std.specs.Prelude.{◌≡◌, ◌≢◌, slice_get, is_ok, ◌-◌, ◌^◌, ◌<◌, [], ◌∷◌, None, Some, true, OnOk, OnErr, IfOk, IfSome, map, option_map, is_some, length};
 ghost use Rattle.relay_results.specs.Words.{update};
 ghost use Rattle.relay_results.specs.Outside.{Items, Whole, Lost};
-ghost use Rattle.relay_core.specs.State.{next_batch};
 ghost use Rattle.relay_results.specs.Documents.{document_of};
 ghost use Rattle.relay_core.specs.Limits.{is_valid};
 ghost use Rattle.relay_core.specs.Walk.{report_of};
 ghost use Rattle.relay_world.specs.declared.event.Event.TheVariants as event;
-ghost use Rattle.relay_world.specs.State.{fresh, fresh_desk, desk_at, lane_of, accepted_from, applied, names_at, reports, request_at, item_at, is_closed, is_finished, is_written, AreKeysOf, op_among, op_with, running, write_at, place_dealt, incarnations_of};
+ghost use Rattle.relay_world.specs.State.{fresh, desk_at, lane_of, accepted_from, applied, names_at, reports, request_at, item_at, is_closed, is_finished, is_written, AreKeysOf, op_among, op_with, running, write_at, place_dealt, incarnations_of};
 ghost use Rattle.relay_world.specs.Refusals.{entries_from, flies_at, put_refusal, close_refusal, control_refusal, take_refusal, may_choose, is_flying, entry_at, entries, is_above};
-ghost use Rattle.relay_world.specs.Changes.{after_put, at_lane, posted, took_front, with_answer, answered_desk, sent_request, request_of, restarted, RunsItem};
+ghost use Rattle.relay_world.specs.Changes.{after_put, at_lane, posted, took_front, with_answer, answered_desk, restarted, RunsItem};
 ghost use Rattle.relay_delivery.specs.Accounted.{accepted_in};
 ghost use Rattle.relay_world.specs.Steps.{Steps};
 ghost use Rattle.relay_world.specs.Memory.{answer_of, IsItemOf, IsWriteAt, IsThere, IsOpenIn, IsSent, IsSettledAt, Forms, ArePartsOf};
 
 use crate::accepted::{Accepted, none_accepted};
-use crate::desk::{Desk, Formed, fresh_desks};
+use crate::desk::{Desk, fresh_desks, send_from};
 use crate::ended::{Ended, take_all};
 use crate::epoch::{in_new_epoch, place_dealt};
 use crate::event::{Refusal, StepAnswer};
@@ -64,33 +63,7 @@ fn pick_at(picks: &[u64], place: usize) -> Option<u64>
     picks.get(place).copied()
 }
 
-// A lane forms its next request, if there is one, and it is added to those that were sent. `AllocError`:
-// out of memory; nothing changed.
-fn send_from(
-    desk: &mut Desk,
-    sent: &mut Vec<SentRequest>,
-    alloc: Global,
-    epoch: u32,
-    lane: u32,
-) -> Result<bool, AllocError>
-    ensures when { IfOk result (λ b. b ≡ is_some (next_batch desk.old.lane)) }
-    ensures desk { OnOk result (desk.new ≡ sent_request desk.old) }
-    ensures sent { IfOk result (λ b. sent.new.items
-        ≡ sent.old.items ++ (if b then request_of epoch lane desk.old ∷ [] else [])) }
-    ensures same_desk { OnErr result (desk.new ≡ desk.old) }
-    ensures same_sent { OnErr result (sent.new.items ≡ sent.old.items) }
-{
-    sent.reserve(1)?;
-    match desk.request(alloc)? {
-        None => Ok(false),
-        Some(Formed { number, items }) => {
-            sent.push_reserved(SentRequest::new(epoch, lane, number, items));
-            Ok(true)
-        }
-    }
-}
-
-// Whether an index may do so.
+// Whether an index may be told to do this.
 fn may_choose(choice: Choice) -> bool
     ensures { result ≡ may_choose choice }
 {
@@ -119,9 +92,9 @@ impl Parts {
     }
 }
 
-// What is asked.
+// Look-ups.
 impl Parts {
-    // How it works.
+    // The config, and that what is in memory fits it.
     fn config(&self) -> RelayConfig
         ensures config { result ≡ self.now.config }
         ensures kept { ArePartsOf self.now }
@@ -255,7 +228,7 @@ impl Parts {
     }
 }
 
-// A restart.
+// Restarts, and what was accepted before them.
 impl Parts {
     // What was accepted from a producer in the incarnation of an epoch; nothing if there was none.
     pub(crate) fn accepted_in(&self, epoch: u32, producer: u32) -> &[Op]
@@ -689,7 +662,7 @@ impl Parts {
         self.sent[request.saturating_sub(1) as usize].note(given);
     }
 
-    // A request of a lane was lost.
+    // The reply to a request of a lane was lost.
     fn lose(&mut self, lane: u32, number: u64) -> Result<Settled, NotFlying>
         requires { IsThere self.old lane }
         ensures flies { is_ok result ≡ flies_at number (desk_at self.old lane) }

@@ -141,7 +141,7 @@ impl World {
     }
 }
 
-// What callers ask.
+// Look-ups.
 impl World {
     /// What was accepted from a producer since the last restart, in the order in which it was put; nothing if
     /// there is no such producer.

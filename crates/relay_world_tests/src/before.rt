@@ -44,7 +44,7 @@ fn is_below(config: RelayConfig, index: &Index) -> bool
 {
     match index.highest() {
         None => true,
-        Some(highest) => highest <= config.epoch as u64 * 1_099_511_627_776,
+        Some(highest) => u128::from(highest) < u128::from(config.epoch) * 1_099_511_627_776 + 1,
     }
 }
 
