@@ -147,6 +147,8 @@ module _ {W : Type 0} (describes : W → Bool) (fits : W → Outside → Type 0)
         fitting = subst (λ w. fits w g.outside) (sym sum.wire) g.fitting;
         continues = g.continues;
         requests = sum.requests ∙ g.lane.is_of.requests ∙ ap (λ (x : Outside). length x.requests) g.lane.outside;
+        applied = sum.applied ∙ g.delivered.applied;
+        already = sum.already ∙ g.delivered.already;
         sound = subst (λ (z : Config × List Report). IsSound z.0 ops z.1 g.outside (attributed z.0 ops g.outside)) (λ i. (conf i, sym reports i)) (g.delivered.sound distinct);
         complete = subst (λ (z : Config × List Report). IsComplete ops z.1 (attributed z.0 ops g.outside)) (λ i. (conf i, sym reports i)) (g.delivered.complete none distinct);
       }

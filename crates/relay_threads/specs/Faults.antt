@@ -1,7 +1,10 @@
 -- Which lane is the first that did not finish well.
-use Rattle.std.specs.Prelude.{◌≡◌, ◌<◌, ℕ, zero, suc, Bool, true, false, ◌||◌, List, [], ◌∷◌, Option, Some, None, slice_get}
+use Rattle.std.specs.Prelude.{◌≡◌, ◌<◌, ℕ, zero, suc, Bool, true, false, ◌||◌, List, [], ◌∷◌, length, Option, Some, None, slice_get}
 use Rattle.relay_producer.specs.declared.ends.ClosedEnd.{ClosedEnd}
 use Rattle.relay_producer.specs.Ends.{is_gone}
+use Rattle.relay_threads.specs.declared.fault.FinishFault.{FinishFault}
+use Rattle.relay_threads.specs.declared.fault.FinishFaultKind.{FinishFaultKind}
+use Rattle.relay_threads.specs.declared.fault.FinishFaultKind.TheVariants as kind
 use Rattle.relay_threads.specs.declared.lane_end.LaneEnd.{LaneEnd}
 use Rattle.relay_threads.specs.declared.lane_end.LaneEndKind.{LaneEndKind}
 use Rattle.relay_threads.specs.declared.lane_end.LaneEndKind.TheVariants.{Finished, Memory, Gone}
@@ -41,3 +44,24 @@ is_gone_in_any (row ∷ rows) lane = is_gone_in row lane || is_gone_in_any rows 
 -- the lane has ended as Gone, or a closed handle has marked it
 abbrev pub is_gone_lane : {W : Type 0} → List (LaneEnd W) → List (List ClosedEnd) → ℕ → Bool
 is_gone_lane ends rows lane = ends_as is_gone_kind ends lane || is_gone_in_any rows lane
+
+-- ---- faults
+
+-- no lane ended as Memory; nor did one end as Gone, or was marked
+abbrev pub NoneMemory : {W : Type 0} → List (LaneEnd W) → Type 0
+NoneMemory ends = FirstOf (ends_as is_memory ends) (length ends) None
+
+abbrev pub NoneLost : {W : Type 0} → List (LaneEnd W) → List (List ClosedEnd) → Type 0
+NoneLost ends rows = FirstOf (is_gone_lane ends rows) (length ends) None
+
+-- A fault of this kind tells of this lane: the first that ended as Memory; if none did, the first that ended as Gone or that
+-- a closed handle has marked; if there is none of either, lane 0.
+abbrev pub IsFaultOf : {W : Type 0} → List (LaneEnd W) → List (List ClosedEnd) → FinishFaultKind → ℕ → Type 0
+IsFaultOf ends rows kind.LaneMemory lane = FirstOf (ends_as is_memory ends) (length ends) (Some lane)
+IsFaultOf ends rows kind.LaneGone lane = NoneMemory ends × FirstOf (is_gone_lane ends rows) (length ends) (Some lane)
+IsFaultOf ends rows kind.Memory lane = NoneMemory ends × NoneLost ends rows × (lane ≡ 0)
+
+-- what went wrong with lanes that have ended, if anything did
+abbrev pub TellsFault : {W : Type 0} → List (LaneEnd W) → List (List ClosedEnd) → Option FinishFault → Type 0
+TellsFault ends rows None = NoneMemory ends × NoneLost ends rows
+TellsFault ends rows (Some fault) = IsFaultOf ends rows fault.kind fault.lane × (fault.kind ≡ kind.Memory → ⊥)

@@ -1,8 +1,9 @@
 -- What is promised of a relay whose lanes have ended.
-use Rattle.std.specs.Prelude.{◌≡◌, ◌+◌, ◌<◌, ◌≤◌, ℕ, Bool, IsTrue, List, [], ◌∷◌, Some, None, map, length}
+use Rattle.std.specs.Prelude.{◌≡◌, ◌+◌, ◌<◌, ◌≤◌, ℕ, Bool, IsTrue, List, [], ◌∷◌, map, length}
 use Rattle.relay_action.specs.declared.operation.Op.{Op}
 use Rattle.relay_action.specs.declared.mail.Mail.{Mail}
 use Rattle.relay_results.specs.Outside.{Outside, IsOpening, Continues}
+use Rattle.relay_delivery.specs.Counts.{settled_applied, settled_already}
 use Rattle.relay_delivery.specs.Delivery.{HasDistinctNames, IsSound, IsComplete, attributed}
 use Rattle.relay_queue.specs.Ends.{Queue}
 use Rattle.relay_queue.specs.Sent.{mail_of, HasDone, IsWellTaken}
@@ -11,13 +12,11 @@ use Rattle.relay_core.specs.State.{config_of}
 use Rattle.relay_core.specs.Walk.{report_of}
 use Rattle.relay_producer.specs.declared.ends.ClosedEnd.{ClosedEnd}
 use Rattle.relay_threads.specs.declared.fault.FinishFault.{FinishFault}
-use Rattle.relay_threads.specs.declared.fault.FinishFaultKind.{FinishFaultKind}
-use Rattle.relay_threads.specs.declared.fault.FinishFaultKind.TheVariants as kind
 use Rattle.relay_threads.specs.declared.lane_end.LaneEnd.{LaneEnd}
 use Rattle.relay_threads.specs.declared.lane_end.LaneEndKind.TheVariants.{Finished}
 use Rattle.relay_threads.specs.declared.summary.LaneSummary.{LaneSummary}
 use Rattle.relay_threads.specs.Course.{puts_of, IsBelow, EndsAs}
-use Rattle.relay_threads.specs.Faults.{FirstOf, ends_as, is_memory, is_gone_lane}
+use Rattle.relay_threads.specs.Faults.{IsFaultOf}
 use Rattle.relay_threads.specs.Sums.{AreMetAt}
 use Rattle.relay_delivery.specs.Machine.{first_in}
 
@@ -42,14 +41,6 @@ module _ {W : Type 0} (describes : W → Bool) (fits : W → Outside → Type 0)
 
   -- ---- faults
 
-  -- a fault of this kind tells of this lane
-  abbrev pub IsFaultOf : List (LaneEnd W) → List (List ClosedEnd) → FinishFaultKind → ℕ → Type 0
-  IsFaultOf ends rows kind.LaneMemory lane = FirstOf (ends_as is_memory ends) (length ends) (Some lane)
-  IsFaultOf ends rows kind.LaneGone lane =
-      FirstOf (ends_as is_memory ends) (length ends) None × FirstOf (is_gone_lane ends rows) (length ends) (Some lane)
-  IsFaultOf ends rows kind.Memory lane =
-      FirstOf (ends_as is_memory ends) (length ends) None × FirstOf (is_gone_lane ends rows) (length ends) None × (lane ≡ 0)
-
   -- the lanes have ended, and this is what went wrong
   pub record HasFault (queues : List Queue) (wires : List W) (rows : List (List ClosedEnd)) (fault : FinishFault) : Type 0 where
     pub ends : List (LaneEnd W)
@@ -58,13 +49,16 @@ module _ {W : Type 0} (describes : W → Bool) (fits : W → Outside → Type 0)
 
   -- ---- delivery
 
-  -- an outside fits the wire of the summary and continues the one before; beside it delivery of these operations is sound
-  -- and complete, and so many requests were sent
+  -- An outside fits the wire of the summary and continues the one before. Beside it delivery of these operations is sound
+  -- and complete, that many requests were sent, and that many operations ended as applied, and as applied already, by their
+  -- answers.
   pub record Carries (ops : List Op) (s : LaneSummary W) (before : Outside) : Type 0 where
     pub outside : Outside
     pub fitting : fits s.wire outside
     pub continues : Continues before outside
     pub requests : s.requests ≡ length outside.requests
+    pub applied : s.applied ≡ settled_applied outside.requests
+    pub already : s.already ≡ settled_already outside.requests
     pub sound : IsSound (config_of c) ops (map report_of s.reports.items) outside (attributed (config_of c) ops outside)
     pub complete : IsComplete ops (map report_of s.reports.items) (attributed (config_of c) ops outside)
 

@@ -5,7 +5,7 @@ ghost use Rattle.relay_queue.specs.Sent.{mail_of, HasDone};
 ghost use Rattle.relay_producer.specs.Ends.{is_gone, closed_puts};
 ghost use Rattle.relay_producer.specs.Puts.{HaveNoPuts};
 ghost use Rattle.relay_threads.specs.Delivered.{HavePut, AllDelivered};
-ghost use Rattle.relay_threads.specs.Faults.{FirstOf, is_gone_in, is_gone_in_any, is_gone_lane, ends_as, is_memory, is_gone_kind};
+ghost use Rattle.relay_threads.specs.Faults.{FirstOf, TellsFault, is_gone_in, is_gone_in_any, is_gone_lane, ends_as, is_memory, is_gone_kind};
 ghost use Rattle.relay_threads.specs.Finished.{AllFinished, HasFault};
 ghost use Rattle.relay_threads.specs.Relay.{AreRows, rows_of};
 ghost use Rattle.relay_threads.specs.Sums.{IsClosedOn, AreClosedOn, IsMet, AreMet, AreDone, NoneGone, queues_taken, SumsUp, AllSumUp};
@@ -99,6 +99,28 @@ fn first_gone<W: Drop>(ends: &Vec<LaneEnd<W>>, rows: &Vec<Vec<ClosedEnd>>) -> Op
         }
     }
     None
+}
+
+/// What went wrong with lanes that have ended, by the ends and by the closed handles' ends of their queues, a
+/// row for each handle: `LaneMemory` of the first lane that ended as Memory; if none did, `LaneGone` of the
+/// first that ended as Gone or that a handle has marked. `None`: each lane has finished, and none is marked.
+pub fn fault_of<W: Drop>(ends: &Vec<LaneEnd<W>>, rows: &Vec<Vec<ClosedEnd>>) -> Option<FinishFault>
+    requires { vec_len ends.now ≤ 8 }
+    ensures { TellsFault ends.now.items (map (λ r. r.items) rows.now.items) result }
+{
+    if let Some(lane) = first_memory(ends) {
+        return Some(FinishFault {
+            kind: FinishFaultKind::LaneMemory,
+            lane,
+        });
+    }
+    match first_gone(ends, rows) {
+        Some(lane) => Some(FinishFault {
+            kind: FinishFaultKind::LaneGone,
+            lane,
+        }),
+        None => None,
+    }
 }
 
 // ---- what is given back
@@ -233,17 +255,8 @@ impl<W: Wire + Drop + Send + 'static> Relay<W> {
         } = self;
         let ends = join_all(rt, lanes, ends);
         let rows = give_back(rows, producers, control);
-        if let Some(lane) = first_memory(&ends) {
-            return Err(FinishFault {
-                kind: FinishFaultKind::LaneMemory,
-                lane,
-            });
-        }
-        if let Some(lane) = first_gone(&ends, &rows) {
-            return Err(FinishFault {
-                kind: FinishFaultKind::LaneGone,
-                lane,
-            });
+        if let Some(fault) = fault_of(&ends, &rows) {
+            return Err(fault);
         }
         match sum_up_all(alloc, ends, rows) {
             Ok(lanes) => Ok(Summary { lanes }),

@@ -20,6 +20,7 @@ pub mod summary;
 pub mod thread;
 
 pub use fault::{FinishFault, FinishFaultKind, StartFault};
+pub use finish::fault_of;
 pub use lane_end::{LaneEnd, LaneEndKind};
 pub use relay::Relay;
 pub use run::run_lane;
