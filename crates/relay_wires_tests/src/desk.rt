@@ -29,15 +29,15 @@ pub const CONFIG: RelayConfig = RelayConfig {
 #[derive(Drop)]
 pub struct Desk {
     pub lane: Lane,
-    ghost rest: { IsAtRest lane } by { IsAtRest-prop lane },
+    ghost rest: { IsAtRest lane.state } by { IsAtRest-prop lane.state },
 }
 
 // Takes a message of a known sender. The fault, if it is not taken.
 fn take(lane: &mut Lane, mail: Mail) -> Option<TakeFault>
-    requires known { mail.sender < length lane.old.closed }
-    requires rest { IsAtRest lane.old }
-    ensures rest { IsAtRest lane.new }
-    ensures config { lane.new.config ≡ lane.old.config }
+    requires known { mail.sender < length lane.old.state.closed }
+    requires rest { IsAtRest lane.old.state }
+    ensures rest { IsAtRest lane.new.state }
+    ensures config { lane.new.state.config ≡ lane.old.state.config }
 {
     if let Err((fault, _)) = lane.take(mail) {
         return Some(fault);
