@@ -147,11 +147,11 @@ fn exchange_all<R: Clock>(
         if sent < wanted {
             let (more, request, reply) = exchange(rt, alloc, lane)?;
             sent = sent.saturating_add(more);
-            requests = capped(requests.saturating_add(request));
-            replies = capped(replies.saturating_add(reply));
+            requests = requests.saturating_add(request);
+            replies = replies.saturating_add(reply);
         }
     }
-    Ok((sent, requests, replies))
+    Ok((sent, capped(requests), capped(replies)))
 }
 
 // Takes so many operations, and forms and answers requests until 500 of them were sent, or all.
