@@ -162,6 +162,9 @@ impl<W: Wire + Drop + Send + 'static> Relay<W> {
     /// on the lane's wire and pauses by its pace, both those at the lane's place; and the handles of the
     /// senders, the producers numbered from 0 and the control. No lock stands between lanes.
     ///
+    /// It is up to the caller that the epoch of the config is above those of all earlier relays over the same
+    /// documents, and that the relay before this one has ended.
+    ///
     /// At a fault wires and paces are dropped, and lanes that were started end by themselves.
     pub fn start<R, P>(
         rt: R,
