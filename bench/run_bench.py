@@ -205,8 +205,10 @@ def measure_halves(folder, relay, tools, operations):
                     sys.exit("relay run with a limit of %s bytes: %s" % (most, told[-300:]))
                 walls.append(wall)
         ratio = plain_rust.median([limited / free for limited, free in zip(times[MOST], times[None])])
-        told = "met" if ratio <= HALVES_GOAL else "MISSED"
-        print("run: %d operations of %d bytes, a server %s with a limit of %d bytes: %.2f of its time without one (goal %.1f: %s)" % (operations, LARGE, called, MOST, ratio, HALVES_GOAL, told))
+        line = "run: %d operations of %d bytes, a server %s with a limit of %d bytes: %.2f of its time without one" % (operations, LARGE, called, MOST, ratio)
+        if nanoseconds:
+            line += " (goal %.1f: %s)" % (HALVES_GOAL, "met" if ratio <= HALVES_GOAL else "MISSED")
+        print(line)
 
 
 def measure(folder, relay, operations=OPERATIONS):

@@ -120,7 +120,7 @@ const NUMBERS: &[NumberOption] = &[
         least: 1,
         most: 32,
         default: "8",
-        help: "How many requests carry an operation at most, 1 to 32",
+        help: "How many requests carry an operation at most, beside those halved after a 413, 1 to 32",
     },
     NumberOption {
         name: "flying",
