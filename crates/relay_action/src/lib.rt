@@ -10,6 +10,7 @@ pub mod action;
 pub mod fault;
 pub mod key;
 pub mod lane;
+pub mod laws;
 pub mod list;
 mod long;
 pub mod mail;

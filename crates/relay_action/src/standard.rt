@@ -33,6 +33,13 @@ impl<T> StdStream<T> {
         StdStream { inner, failed: 0 }
     }
 
+    /// What it stands over.
+    pub fn get_ref(&self) -> &T
+        ensures { result.now ≡ self.now.0 }
+    {
+        &self.inner
+    }
+
     // Counts a failed call.
     fn fail(&mut self) -> StreamFailed
         ensures { self.new ≡ (self.old.0, one_more self.old.1) }

@@ -308,6 +308,7 @@ fn streams_of_std(rt: HostRuntime) -> Result<(), Fail> {
     let mut writer = StdStream::new(Vec::new(rt.alloc()));
     assert_eq!(rt; write_all(&mut writer, b"abc"), Ok(()));
     let mut room = [0; 2];
+    assert_eq!(rt; reader.get_ref().len(), 0);
     let mut full = StdStream::new(room.as_mut_slice());
     assert_eq!(rt; write_all(&mut full, b"abc"), Err(2));
     Ok(())

@@ -1,5 +1,6 @@
 pub mod Plain
 pub mod Parts
+pub mod Appended
 pub mod ReadsBack
 pub mod UsualLines
 pub mod Pieces

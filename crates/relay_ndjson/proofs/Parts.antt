@@ -7,16 +7,16 @@ use Rattle.relay_action.specs.Actions.{kind_of, kind_name}
 use Rattle.relay_action.specs.declared.action.Action.{Action}
 use Rattle.relay_action.specs.declared.action.Action.TheVariants.{Index, Delete}
 use Rattle.relay_action.specs.declared.write.Write.{Write}
-use Rattle.relay_ndjson.specs.Bulk.{action_text, opening, source_line, write_text}
+use Rattle.relay_ndjson.specs.Bulk.{action_text, line_end, opening}
 
 -- an action line, byte for byte
 pub action_text-parts : (w : Write) → action_text w ≡ opening w.action ++ (escape w.key.id ++ (codes "\",\"_index\":\"" ++ (escape w.key.index ++ (codes "\",\"version\":" ++ (decimal w.version ++ codes ",\"version_type\":\"external\"}}")))))
 unfolding action_text serde_json_on_literals
 action_text-parts w = elim w.action as (λ a. action_text (record w { action = a }) ≡ opening a ++ (escape w.key.id ++ (codes "\",\"_index\":\"" ++ (escape w.key.index ++ (codes "\",\"version\":" ++ (decimal w.version ++ codes ",\"version_type\":\"external\"}}")))))) [ Index s ↦ simp append_assoc | Delete ↦ simp append_assoc ]
 
--- the lines of a write, appended part by part
-pub lines_in_parts : (before : List ℕ) (w : Write) → before ++ opening w.action ++ escape w.key.id ++ codes "\",\"_index\":\"" ++ escape w.key.index ++ codes "\",\"version\":" ++ decimal w.version ++ codes ",\"version_type\":\"external\"}}\n" ++ source_line w.action ≡ before ++ write_text w
-lines_in_parts before w =
+-- an action line and its end, appended part by part
+pub line_in_parts : (before : List ℕ) (w : Write) → before ++ opening w.action ++ escape w.key.id ++ codes "\",\"_index\":\"" ++ escape w.key.index ++ codes "\",\"version\":" ++ decimal w.version ++ codes ",\"version_type\":\"external\"}}\n" ≡ before ++ (action_text w ++ line_end)
+line_in_parts before w =
     rw (action_text-parts w) (simp append_assoc)
 
 pub length-quoted : (text : List ℕ) → length (quoted text) ≡ length (escape text) + 2

@@ -6,7 +6,9 @@ use Rattle.std.proofs.lemmas.List.{take-append-drop}
 use Rattle.memchr.specs.Find.{Nowhere, Passes, IsFirstByte, is_byte}
 use Rattle.std.specs.Io.KnownBytes.{prepend_known, IsAtEnd}
 use Rattle.relay_ndjson.specs.Lines.{IsUnbroken, IsRaw, line_limit}
-use Rattle.relay_ndjson.specs.Steps.{IsAddFault, TakesPart, TakesLine, EndsLine}
+use Rattle.relay_ndjson.specs.LineReading.{TakesBytes, end_bytes}
+use Rattle.relay_ndjson.specs.Steps.{IsAddFault, TakesPart, TakesLine, EndsLine, PartHasBytes}
+use Rattle.relay_ndjson.specs.declared.lines.LineEnd.{LineEnd}
 use Rattle.relay_ndjson.specs.declared.lines.Line.{Line}
 use Rattle.relay_ndjson.specs.declared.lines.Line.TheVariants as line
 use Rattle.relay_ndjson.specs.declared.lines.Part.TheVariants as part
@@ -84,6 +86,18 @@ part_ended begun piece added text rest end u f e r n d =
       ap (λ p. begun ++ p) s.1 ∙ (sym (append_assoc begun (take end piece) (10 ∷ drop (end + 1) piece)) ∙ (ap (λ x. x ++ 10 ∷ drop (end + 1) piece) (sym e) ∙ ap (λ x. added ++ 10 ∷ x) (sym d))),
     )
 
+-- the same, with the bytes of the line that was ended
+pub part_bytes : (begun piece added text rest : List ℕ) (at : ℕ) (end : LineEnd) → IsUnbroken begun → IsFirstByte (is_byte 10) piece (Some at) → added ≡ begun ++ take at piece → IsRaw text added → length text ≤ line_limit → added ++ 10 ∷ [] ≡ text ++ end_bytes end → rest ≡ drop (at + 1) piece → PartHasBytes begun piece text rest end (Ok part.End)
+part_bytes begun piece added text rest at end u f e r n b d = (
+  (added, rw e (unbroken_append begun (take at piece) u (first_feed piece at f).0), r, n, sym b),
+  ap (λ p. begun ++ p) (first_feed piece at f).1
+      ∙ (sym (append_assoc begun (take at piece) (10 ∷ drop (at + 1) piece))
+      ∙ (ap (λ x. x ++ 10 ∷ drop (at + 1) piece) (sym e)
+      ∙ (ap (λ x. added ++ 10 ∷ x) (sym d)
+      ∙ (sym (append_assoc added (10 ∷ []) rest)
+      ∙ ap (λ x. x ++ rest) b)))),
+)
+
 pub whole_unbroken : (begun piece : List ℕ) → IsUnbroken begun → IsFirstByte (is_byte 10) piece None → IsUnbroken (begun ++ piece)
 whole_unbroken begun piece u f = unbroken_append begun piece u (nowhere_unbroken piece f)
 
@@ -99,6 +113,10 @@ rejoined begun piece raw later old left e f =
 pub line_ended : (begun piece text rest : List ℕ) (old left : Option (List ℕ)) → old ≡ prepend_known begun (prepend_known piece left) → TakesPart begun piece text rest (Ok part.End) → TakesLine old (prepend_known rest left) text (Ok line.Ended)
 line_ended begun piece text rest old left e p =
     (p.0, p.1, p.2, p.3, rejoined begun piece (p.0 ++ 10 ∷ []) rest old left e (p.4 ∙ sym (append_assoc p.0 (10 ∷ []) rest)))
+
+pub bytes_ended : (begun piece text rest : List ℕ) (end : LineEnd) (old left : Option (List ℕ)) → old ≡ prepend_known begun (prepend_known piece left) → PartHasBytes begun piece text rest end (Ok part.End) → TakesBytes old (prepend_known rest left) text end
+bytes_ended begun piece text rest end old left e p =
+    record { line = inl p.0; taken = rejoined begun piece (text ++ end_bytes end) rest old left e p.1 }
 
 pub line_refused : (begun piece text rest : List ℕ) (old new left : Option (List ℕ)) (k : LineKind) → old ≡ prepend_known begun (prepend_known piece left) → TakesPart begun piece text rest (Err k) → TakesLine old new text (Err k)
 line_refused begun piece text rest old new left k e p =

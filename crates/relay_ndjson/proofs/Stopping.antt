@@ -4,7 +4,7 @@ use Rattle.std.specs.Str.{is_utf8}
 use Rattle.serde_json.specs.Data.{Data}
 use Rattle.serde_json.specs.Read.{read}
 use Rattle.relay_action.specs.Actions.{kind_named}
-use Rattle.relay_action.specs.Faults.{key_fault}
+use Rattle.relay_action.specs.Faults.{key_fault, source_fault}
 use Rattle.relay_action.specs.declared.action.ActionKind.TheVariants as action
 use Rattle.relay_action.specs.declared.fault.ActionFault.{ActionFault}
 use Rattle.relay_action.specs.declared.key.DocKey.{DocKey}
@@ -13,7 +13,8 @@ use Rattle.relay_ndjson.specs.declared.kind.LineKind.{LineKind}
 use Rattle.relay_ndjson.specs.declared.kind.LineKind.TheVariants as kind
 use Rattle.relay_ndjson.specs.Names.{has_only}
 use Rattle.relay_ndjson.specs.Lines.{IsOfOneLine, IsLineBefore, IsRaw, StopsInLine, TakesText, TakesBlank, is_read, line_limit}
-use Rattle.relay_ndjson.specs.Metadata.{Says, is_document, is_field, index_of, id_of, action_of, fault_or, id_fault, document_fault, metadata_fault, value_fault, line_fault}
+use Rattle.relay_ndjson.specs.LineReading.{TakesNext}
+use Rattle.relay_ndjson.specs.Metadata.{Says, is_document, is_field, index_of, id_of, action_of, fault_or, id_fault, document_fault, metadata_fault, value_fault, line_fault, source_line_fault}
 use Rattle.relay_ndjson.specs.Operations.{blank_limit, counted, Position, Stops}
 use Rattle.relay_ndjson.specs.Steps.{SkipsBlank, StopsInSource}
 use Rattle.relay_ndjson.proofs.Asking.{decide}
@@ -60,6 +61,13 @@ no_read_line default text k e =
     elim (decide (is_utf8 text)) [
       | inr f ↦ no_read_some kind.NotJson refl k (rw f at e)
       | inl t ↦ no_read_or kind.NotJson (value_fault default) (read text) refl (no_read_value default) k (rw t at e)
+    ]
+
+no_read_source : (text : List ℕ) → NoRead (source_line_fault text)
+no_read_source text k e =
+    elim (decide (is_utf8 text)) [
+      | inr f ↦ no_read_some kind.NotJson refl k (rw f at e)
+      | inl t ↦ no_read_action (source_fault text) k (rw t at e)
     ]
 
 -- ---- a line that was taken
@@ -110,6 +118,12 @@ action_stops default old new text k s f =
       line = omega (arith, s.6);
       stop = stops_after s.1 new.ahead new.held text k s.4 no;
     }
+
+-- a line that is no source, or for which there is no memory
+pub line_stops : (old new : Position) (line : ℕ) (text : List ℕ) (k : LineKind) → TakesNext old.ahead new.ahead old.count new.count text (Ok true) → (k ≡ kind.Memory) ⊎ (source_line_fault text ≡ Some k) → StopsInSource old new line (record { line = new.count; kind = k })
+line_stops old new line text k t f =
+    let no : is_read k ≡ false = elim f [ inl m ↦ ap is_read m | inr e ↦ no_read_source text k e ] in
+    inl (t.1, stops_after old.ahead new.ahead new.held text k t.0 no)
 
 -- a source that is none, or for which there is no memory
 pub source_stops : (default : Option (List ℕ)) (old mid new : Position) (text : List ℕ) (key : DocKey) (e : InputFault) → SkipsBlank old mid text (Ok true) → Says default text action.Index key.index key.id → StopsInSource mid new mid.count e → Stops default old new e

@@ -1,16 +1,26 @@
 -- A reader of lines, and what it takes of its stream.
-use Rattle.std.specs.Prelude.{◌≡◌, ℕ, ◌⊎◌, List, Bool, true, false, Option, Result, Ok, Err, ◌==◌}
+use Rattle.std.specs.Prelude.{◌≡◌, ℕ, ◌⊎◌, List, [], ◌∷◌, ◌++◌, Bool, true, false, Option, Result, Ok, Err, ◌==◌}
 use Rattle.std.specs.List.{list_any}
-use Rattle.std.specs.Io.KnownBytes.{IsAtEnd}
+use Rattle.std.specs.Io.KnownBytes.{IsAtEnd, prepend_known}
 use Rattle.relay_action.specs.Streams.{one_more}
 use Rattle.relay_ndjson.specs.declared.kind.InputFault.{InputFault}
 use Rattle.relay_ndjson.specs.declared.kind.LineKind.TheVariants as kind
-use Rattle.relay_ndjson.specs.Lines.{IsLong, TakesText}
+use Rattle.relay_ndjson.specs.declared.lines.LineEnd.{LineEnd}
+use Rattle.relay_ndjson.specs.declared.lines.LineEnd.TheVariants as end
+use Rattle.relay_ndjson.specs.Lines.{IsLineBefore, IsLong, TakesText}
 
--- a reader of lines: what was read and not used yet, the line that was taken last, and how many were taken
+-- the bytes of what ends a line
+abbrev pub end_bytes : LineEnd → List ℕ
+end_bytes end.Feed = 10 ∷ []
+end_bytes end.ReturnFeed = 13 ∷ 10 ∷ []
+end_bytes end.Open = []
+
+-- a reader of lines: what was read and not used yet, the line that was taken last and what ended it, and how many were
+-- taken
 pub record LineReading : Type 0 where
   pub held : List ℕ
   pub text : List ℕ
+  pub end : LineEnd
   pub count : ℕ
 
 -- the end of a line stands among the bytes
@@ -23,3 +33,8 @@ TakesNext old new count after text (Ok true) = TakesText old new text × (after 
 TakesNext old new count after text (Ok false) = IsAtEnd old × (new ≡ old) × (after ≡ count)
 TakesNext old new count after text (Err e) =
     (e.line ≡ one_more count) × ((e.kind ≡ kind.Read) ⊎ (e.kind ≡ kind.Memory) ⊎ ((e.kind ≡ kind.LineLong) × IsLong old))
+
+-- a line with this text was taken from the front, and its bytes are the text and what ends it
+pub record TakesBytes (old new : Option (List ℕ)) (text : List ℕ) (end : LineEnd) : Type 0 where
+  pub line : IsLineBefore new text (text ++ end_bytes end)
+  pub taken : old ≡ prepend_known (text ++ end_bytes end) new

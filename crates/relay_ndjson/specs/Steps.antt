@@ -12,10 +12,12 @@ use Rattle.relay_ndjson.specs.declared.kind.LineKind.TheVariants as kind
 use Rattle.relay_ndjson.specs.declared.lines.NumberedOperation.{NumberedOperation}
 use Rattle.relay_ndjson.specs.declared.lines.Line.{Line}
 use Rattle.relay_ndjson.specs.declared.lines.Line.TheVariants as line
+use Rattle.relay_ndjson.specs.declared.lines.LineEnd.{LineEnd}
 use Rattle.relay_ndjson.specs.declared.lines.Part.{Part}
 use Rattle.relay_ndjson.specs.declared.lines.Part.TheVariants as part
-use Rattle.relay_ndjson.specs.Lines.{IsUnbroken, IsRaw, IsPastLimit, IsLong, TakesText, TakesBlank, StopsInLine, is_read, line_limit}
+use Rattle.relay_ndjson.specs.Lines.{IsUnbroken, IsRaw, IsLine, IsPastLimit, IsLong, TakesText, TakesBlank, StopsInLine, is_read, line_limit}
 use Rattle.relay_ndjson.specs.Operations.{blank_limit, counted, line_count, TakesOperation, HoldsNoMore, BreaksSource, IsFault, Position}
+use Rattle.relay_ndjson.specs.LineReading.{TakesBytes, end_bytes}
 use Rattle.relay_ndjson.specs.Bodies.{BeginsWithLine, IsLinesOf}
 
 -- ---- a line
@@ -40,6 +42,17 @@ TakesLine old new text (Ok line.Ended) = (raw : List ℕ) × IsUnbroken raw × I
 TakesLine old new text (Ok line.Open) = IsUnbroken text × (text ≢ []) × (length text ≤ line_limit) × (old ≡ prepend_known text new) × IsAtEnd new
 TakesLine old new text (Ok line.Absent) = IsAtEnd old × (new ≡ old)
 TakesLine old new text (Err k) = (k ≡ kind.Read) ⊎ (k ≡ kind.Memory) ⊎ ((k ≡ kind.LineLong) × IsLong old)
+
+-- where a line ended, its bytes are its text and what ends it
+abbrev pub PartHasBytes : List ℕ → List ℕ → List ℕ → List ℕ → LineEnd → Result Part LineKind → Type 0
+PartHasBytes begun piece text rest end (Ok part.End) = IsLine text (text ++ end_bytes end) × (begun ++ piece ≡ (text ++ end_bytes end) ++ rest)
+PartHasBytes begun piece text rest end other = Unit {0}
+
+abbrev pub LineHasBytes : Option (List ℕ) → Option (List ℕ) → List ℕ → LineEnd → Result Line LineKind → Type 0
+LineHasBytes old new text end (Ok line.Ended) = TakesBytes old new text end
+LineHasBytes old new text end (Ok line.Open) = TakesBytes old new text end
+LineHasBytes old new text end (Ok line.Absent) = Unit {0}
+LineHasBytes old new text end (Err k) = Unit {0}
 
 -- where the input ends after these bytes, they are the last line, or nothing was left, or they are too many
 abbrev pub EndsLine : List ℕ → Result Line LineKind → Type 0

@@ -1,8 +1,8 @@
 //! Writes as bulk lines.
 ghost use Rattle.std.specs.Prelude.{◌≡◌, ◌++◌, IfOk, OnOk, OnErr, codes, decimal};
-ghost use Rattle.relay_ndjson.specs.Bulk.{source_line, write_text, text_of, opening, Begins, ActionLinesReadBack};
+ghost use Rattle.relay_ndjson.specs.Bulk.{action_text, line_end, source_line, write_text, text_of, opening, Begins, ActionLinesReadBack};
 ghost use Rattle.relay_ndjson.specs.Escapes.{EscapesByTable};
-ghost use Rattle.relay_ndjson.specs.Sends.{WritesText, FailsOnWrite};
+ghost use Rattle.relay_ndjson.specs.Sends.{AppendsFirst, WritesText, FailsOnWrite};
 
 use crate::quoted::{between_quotes, escape_of};
 use itoa::Buffer;
@@ -39,14 +39,36 @@ pub fn append_write(alloc: Global, text: &mut Vec<u8>, write: &Write) -> Result<
     done
 }
 
+/// Appends the action line of a write to a text, with its end, and nothing of its source, for whoever
+/// writes a long source from where it lies. `AllocError`: there was no memory for it, and the text is as
+/// before.
+pub fn append_action_line(
+    alloc: Global,
+    text: &mut Vec<u8>,
+    write: &Write,
+) -> Result<(), AllocError>
+    ensures ok { OnOk result (text.new.items ≡ text.old.items ++ (action_text write.now ++ line_end)) }
+    ensures err { OnErr result (text.new.items ≡ text.old.items) }
+{
+    let length = text.len();
+    let done = append_line(alloc, text, write);
+    if done.is_err() {
+        text.truncate(length);
+    }
+    done
+}
+
 /// Appends the bulk text of writes to a text: their lines, one after another. `AllocError`: there was no
-/// memory for them, and the text may hold some of them.
+/// memory for them, and the lines of the first of them were appended, of fewer than all.
 pub fn append_bulk(text: &mut Vec<u8>, writes: &[Write]) -> Result<(), AllocError>
-    ensures { OnOk result (text.new.items ≡ text.old.items ++ text_of writes.now) }
+    ensures ok { OnOk result (text.new.items ≡ text.old.items ++ text_of writes.now) }
+    ensures err { OnErr result (AppendsFirst text.old.items text.new.items writes.now) }
 {
     let alloc = *text.allocator();
     for write in writes {
-        append_write(alloc, text, write)?;
+        if let Err(refused) = append_write(alloc, text, write) {
+            return Err(refused);
+        }
     }
     Ok(())
 }
@@ -134,10 +156,10 @@ fn append_source(text: &mut Vec<u8>, action: &Action) -> Result<(), AllocError>
     Ok(())
 }
 
-// Appends the lines of a write. An error leaves some of them.
-#[tactic(auto, using(crate::proofs::Parts::lines_in_parts))]
-fn append_lines(alloc: Global, text: &mut Vec<u8>, write: &Write) -> Result<(), AllocError>
-    ensures ok { OnOk result (text.new.items ≡ text.old.items ++ write_text write.now) }
+// Appends an action line and its end. An error leaves some of it.
+#[tactic(auto, using(crate::proofs::Parts::line_in_parts))]
+fn append_line(alloc: Global, text: &mut Vec<u8>, write: &Write) -> Result<(), AllocError>
+    ensures ok { OnOk result (text.new.items ≡ text.old.items ++ (action_text write.now ++ line_end)) }
     ensures front { Begins text.old.items text.new.items }
 {
     let id = escape_of(alloc, write.key.id())?;
@@ -148,6 +170,14 @@ fn append_lines(alloc: Global, text: &mut Vec<u8>, write: &Write) -> Result<(), 
         between_quotes(write.key.id(), &id),
         between_quotes(write.key.index(), &index),
     )?;
-    append_version(text, write.version)?;
+    append_version(text, write.version)
+}
+
+// Appends the lines of a write. An error leaves some of them.
+fn append_lines(alloc: Global, text: &mut Vec<u8>, write: &Write) -> Result<(), AllocError>
+    ensures ok { OnOk result (text.new.items ≡ text.old.items ++ write_text write.now) }
+    ensures front { Begins text.old.items text.new.items }
+{
+    append_line(alloc, text, write)?;
     append_source(text, &write.action)
 }

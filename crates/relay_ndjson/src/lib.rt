@@ -8,7 +8,7 @@
 //! its kind.
 #![tactic(auto)]
 
-mod action_line;
+pub mod action_line;
 pub mod body;
 pub mod bulk;
 pub mod input;
@@ -24,12 +24,14 @@ mod quoted;
 mod usual;
 mod versioned_line;
 
+pub use action_line::{read_action, read_source};
 pub use body::read_bulk;
-pub use bulk::{TextFault, append_bulk, append_write, bulk_text, write_write};
+pub use bulk::{TextFault, append_action_line, append_bulk, append_write, bulk_text, write_write};
 pub use input::Input;
 pub use kind::{BulkFault, InputFault, LineKind};
 pub use length::{bulk_len, write_len};
 pub use line_reader::LineReader;
-pub use lines::{BLANK_LIMIT, LINE_LIMIT};
+pub use lines::{BLANK_LIMIT, LINE_LIMIT, LineEnd};
 pub use parser::{Parser, Phase};
+pub use quoted::has_escapes;
 pub use relay_action::LAST_VERSION;

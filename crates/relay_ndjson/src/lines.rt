@@ -1,11 +1,12 @@
 //! Lines of a producer, and the operations that stand on them.
-ghost use Rattle.std.specs.Prelude.{◌≡◌, ◌<◌, ◌≤◌, ◌↔◌, ◌++◌, ℕ, List, Option, [], true, false, OnOk, OnErr, IfErr, IfSome, IfNone, IsTrue, length, slice_index};
+ghost use Rattle.std.specs.Prelude.{◌≡◌, ◌<◌, ◌≤◌, ◌↔◌, ◌∷◌, ◌++◌, ℕ, List, Option, [], true, false, OnOk, OnErr, IfOk, IfErr, IfSome, IfNone, IsTrue, length, slice_index};
 ghost use Rattle.std.specs.Bool.{OnTrue, OnFalse};
 ghost use Rattle.std.specs.Io.KnownBytes.{prepend_known};
 ghost use Rattle.relay_action.specs.Limits.{is_line_end};
 ghost use Rattle.relay_action.specs.Streams.{most};
 ghost use Rattle.relay_ndjson.specs.Lines.{IsUnbroken, IsRaw, IsPastLimit, StopsInLine, line_limit, piece_limit};
-ghost use Rattle.relay_ndjson.specs.Steps.{IsStart, IsAddFault, TakesPart, TakesLine, EndsLine, failed_by};
+ghost use Rattle.relay_ndjson.specs.LineReading.{TakesBytes, end_bytes};
+ghost use Rattle.relay_ndjson.specs.Steps.{IsStart, IsAddFault, TakesPart, TakesLine, EndsLine, PartHasBytes, LineHasBytes, failed_by};
 ghost use Rattle.relay_ndjson.specs.Reading.{HoldsTwoLines};
 
 use crate::action_line::{read_action, read_source};
@@ -33,6 +34,30 @@ pub enum Line {
     Absent,
 }
 
+/// What ends a line.
+#[derive(Clone, Copy, Debug, PartialEq, Eq)]
+pub enum LineEnd {
+    /// A line feed.
+    Feed,
+    /// A carriage return and a line feed.
+    ReturnFeed,
+    /// Nothing: the input ends after the line.
+    Open,
+}
+
+impl LineEnd {
+    /// Its bytes.
+    pub fn bytes(self) -> &'static [u8]
+        ensures { result.now ≡ end_bytes self }
+    {
+        match self {
+            LineEnd::Feed => b"\n",
+            LineEnd::ReturnFeed => b"\r\n",
+            LineEnd::Open => b"",
+        }
+    }
+}
+
 /// What a piece gave of a line.
 #[derive(Clone, Copy, Debug, PartialEq, Eq)]
 pub enum Part {
@@ -56,6 +81,7 @@ pub struct NumberedOperation {
 pub struct Lines {
     pub piece: Piece,
     pub text: Vec<u8>,
+    pub end: LineEnd,
     pub count: u64,
     pub scratch: Scratch,
     ghost in_range: { count ≤ most },
@@ -76,6 +102,7 @@ impl Lines {
         Lines {
             piece: Piece::new(alloc),
             text: Vec::new(alloc),
+            end: LineEnd::Open,
             count: 0,
             scratch: Scratch::new(alloc),
         }
@@ -87,12 +114,13 @@ impl Lines {
         requires start { IsStart self.old.text.items }
         ensures part { TakesPart self.old.text.items self.old.piece self.new.text.items self.new.piece result }
         ensures kept { OnErr result (self.new.piece ≡ self.old.piece) }
+        ensures bytes { PartHasBytes self.old.text.items self.old.piece self.new.text.items self.new.piece self.new.end result }
         ensures count { self.new.count ≡ self.old.count }
     {
         match memchr(b'\n', self.piece.held()) {
             Some(end) => {
                 add(&mut self.text, &self.piece.held()[..end])?;
-                drop_return(&mut self.text);
+                self.end = drop_return(&mut self.text);
                 self.piece.skip(end + 1);
                 Ok(Part::End)
             }
@@ -111,12 +139,15 @@ impl Lines {
             (prepend_known self.new.piece (R.left reader.new)) self.new.text.items result }
         ensures stop { IfErr result (StopsInLine (prepend_known self.old.piece (R.left reader.old))
             (prepend_known self.new.piece (R.left reader.new)) self.new.piece) }
+        ensures bytes { LineHasBytes (prepend_known self.old.piece (R.left reader.old))
+            (prepend_known self.new.piece (R.left reader.new)) self.new.text.items self.new.end result }
         ensures failed { R.failed reader.new ≡ failed_by result (R.failed reader.old) }
         ensures count { self.new.count ≡ self.old.count }
     {
         self.text.clear();
         'pieces: loop {
             if !self.piece.refill(reader)? {
+                self.end = LineEnd::Open;
                 return end_of_line(self.text.as_slice());
             }
             match self.take_part()? {
@@ -132,6 +163,9 @@ impl Lines {
             (prepend_known self.new.piece (R.left reader.new)) self.old.count self.new.count self.new.text.items result }
         ensures stop { IfErr result (λ e. StopsInLine (prepend_known self.old.piece (R.left reader.old))
             (prepend_known self.new.piece (R.left reader.new)) self.new.piece e.kind) }
+        ensures uncounted { OnErr result (self.new.count ≡ self.old.count) }
+        ensures bytes { IfOk result (λ found. OnTrue found (TakesBytes (prepend_known self.old.piece (R.left reader.old))
+            (prepend_known self.new.piece (R.left reader.new)) self.new.text.items self.new.end)) }
         ensures failed { R.failed reader.new ≡ failed_after result (R.failed reader.old) }
     {
         let number = self.count.saturating_add(1);
@@ -284,15 +318,18 @@ fn add(line: &mut Vec<u8>, bytes: &[u8]) -> Result<(), LineKind>
     line.extend_from_slice(bytes).map_err(|_| LineKind::Memory)
 }
 
-// Drops the carriage return before a line feed.
-fn drop_return(line: &mut Vec<u8>)
+// Drops the carriage return before a line feed, and tells what ends the line.
+fn drop_return(line: &mut Vec<u8>) -> LineEnd
     requires { IsStart line.old.items }
     ensures raw { IsRaw line.new.items line.old.items }
     ensures length { length line.new.items ≤ line_limit }
+    ensures end { line.old.items ++ 10 ∷ [] ≡ line.new.items ++ end_bytes result }
 {
     if line.last() == Some(&b'\r') {
         line.pop();
+        return LineEnd::ReturnFeed;
     }
+    LineEnd::Feed
 }
 
 // What the bytes of a line are where the input ends after them.

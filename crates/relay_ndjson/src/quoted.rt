@@ -1,9 +1,10 @@
 //! Texts as they stand in JSON strings (RFC 8259, section 7).
-ghost use Rattle.std.specs.Prelude.{◌≡◌, IfOk};
+ghost use Rattle.std.specs.Prelude.{◌≡◌, ◌&&◌, not, IfOk};
 ghost use Rattle.std.specs.List.{list_all};
 ghost use Rattle.json.specs.Print.{escape};
 ghost use Rattle.relay_ndjson.specs.Escapes.{is_plain_byte, IsEscapeOf};
 
+use relay_action::Write;
 use serde_json::Value;
 use std::alloc::{AllocError, Global};
 
@@ -32,6 +33,14 @@ pub fn between_quotes<'t>(text: &'t str, string: &'t Option<String>) -> &'t [u8]
         }
         None => text.as_bytes(),
     }
+}
+
+/// Whether the id or the index name of a write's document needs an escape in its action line. Such a line
+/// takes memory beside the room of the text that it is appended to.
+pub fn has_escapes(write: &Write) -> bool
+    ensures { result ≡ not (list_all is_plain_byte write.now.key.id && list_all is_plain_byte write.now.key.index) }
+{
+    !(is_plain(write.key.id().as_bytes()) && is_plain(write.key.index().as_bytes()))
 }
 
 // Whether a byte stands for itself in a JSON string.

@@ -1,6 +1,9 @@
 //! Bulk text and its length, and a write that fails in mid-stream.
 use relay_action::{Action, ActionFault, DocKey, MemStream, Write};
-use relay_ndjson::{TextFault, append_write, bulk_len, bulk_text, write_len, write_write};
+use relay_ndjson::{
+    TextFault, append_action_line, append_bulk, append_write, bulk_len, bulk_text, has_escapes,
+    write_len, write_write,
+};
 use std::alloc::{AllocError, Global};
 use std::test::Fail;
 
@@ -68,6 +71,25 @@ fn a_write_is_appended(rt: HostRuntime) -> Result<(), Fail> {
     Ok(())
 }
 
+// Whether the action line of a write is appended to what was there before, without its source, and then
+// the lines of both writes.
+fn is_appended_apart(alloc: Global, write: &Write, writes: &[Write]) -> Result<bool, AllocError> {
+    let mut text = b"x".to_vec(alloc)?;
+    append_action_line(alloc, &mut text, write)?;
+    append_bulk(&mut text, writes)?;
+    let text = text.as_slice();
+    Ok(text.len() == 251 && text.starts_with(b"x{\"index\"") && text.ends_with(TWO_LINES))
+}
+
+#[test]
+fn an_action_line_and_writes_are_appended(rt: HostRuntime) -> Result<(), Fail> {
+    let write = indexing(rt.alloc())?;
+    let writes = two_writes(rt.alloc())?;
+    assert!(rt; is_appended_apart(rt.alloc(), &write, &writes) == Ok(true));
+    assert!(rt; !has_escapes(&write));
+    Ok(())
+}
+
 // Whether a write is written as these bytes, and has their length.
 fn is_written(alloc: Global, write: &Write, wanted: &[u8]) -> Result<bool, AllocError> {
     let mut out = MemStream::new(alloc, Vec::new(alloc), 1000, 3, 0)?;
@@ -89,6 +111,7 @@ fn texts_are_escaped(rt: HostRuntime) -> Result<(), Fail> {
     let wanted =
         b"{\"delete\":{\"_id\":\"\\b\\t\\n\\f\\r\\\"\\\\/\\u001f\",\"_index\":\"\xc3\xa9\x7f\",\"version\":18446744073709551615,\"version_type\":\"external\"}}\n";
     let write = deletion_of_signs(rt.alloc())?;
+    assert!(rt; has_escapes(&write));
     assert!(rt; is_written(rt.alloc(), &write, wanted) == Ok(true));
     Ok(())
 }

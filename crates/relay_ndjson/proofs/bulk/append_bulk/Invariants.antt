@@ -1,7 +1,7 @@
-use Rattle.std.proofs.Common.{◌≡◌, ◌++◌, drop}
+use Rattle.std.proofs.Common.{◌≡◌, ◌++◌, take}
 use Rattle.relay_ndjson.specs.Bulk.{text_of}
 use Rattle.relay_ndjson.proofs.bulk.append_bulk.Given as goal
 
--- the text so far and that of the writes to come is the text before and the whole text
+-- the text before, and the lines of the writes so far
 abbrev pub invariant-loop-write : goal.invariant-loop-write
-invariant-loop-write l = l.text.items ++ text_of (drop l.write-index l.writes) ≡ l.fn.text.items ++ text_of l.writes
+invariant-loop-write l = l.text.items ≡ l.fn.text.items ++ text_of (take l.write-index l.writes)

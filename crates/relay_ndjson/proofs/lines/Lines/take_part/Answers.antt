@@ -1,7 +1,7 @@
 use Rattle.std.proofs.Common.{◌∙◌, ap, length, drop, []}
 use Rattle.std.proofs.Math.Seq.{drop-length}
 use Rattle.std.proofs.lemmas.Result.{err_from_is_err_and}
-use Rattle.relay_ndjson.proofs.Pieces.{part_refused, part_ended, whole_unbroken, whole_refused}
+use Rattle.relay_ndjson.proofs.Pieces.{part_refused, part_ended, part_bytes, whole_unbroken, whole_refused}
 use Rattle.relay_ndjson.proofs.lines.Lines.take_part.Goals as goal
 
 pub returns-in_err-add-in-Some-clause-part : goal.returns-in_err-add-in-Some-clause-part
@@ -22,7 +22,13 @@ pub returns-in_ok-add-in-Some-clause-part : goal.returns-in_ok-add-in-Some-claus
 returns-in_ok-add-in-Some-clause-part c =
     let feed = rw c.held.ensures at c.in-Some.ensures in
     let added = rw c.held-in-Some.ensures at c.in_ok-add-in-Some.ensures.ok.0 in
-    part_ended c.args.self.now.text.items c.args.self.now.piece c.add.new.line.items c.drop_return.new.line.items c.skip.new.self c.in-Some.end c.requires.unbroken feed added c.drop_return.ensures.raw c.drop_return.ensures.length c.skip.ensures
+    part_ended c.args.self.now.text.items c.args.self.now.piece c.add.new.line.items c.drop_return-self.new.line.items c.skip.new.self c.in-Some.end c.requires.unbroken feed added c.drop_return-self.ensures.raw c.drop_return-self.ensures.length c.skip.ensures
+
+pub returns-in_ok-add-in-Some-clause-bytes : goal.returns-in_ok-add-in-Some-clause-bytes
+returns-in_ok-add-in-Some-clause-bytes c =
+    let feed = rw c.held.ensures at c.in-Some.ensures in
+    let added = rw c.held-in-Some.ensures at c.in_ok-add-in-Some.ensures.ok.0 in
+    part_bytes c.args.self.now.text.items c.args.self.now.piece c.add.new.line.items c.drop_return-self.new.line.items c.skip.new.self c.in-Some.end c.drop_return-self.result c.requires.unbroken feed added c.drop_return-self.ensures.raw c.drop_return-self.ensures.length c.drop_return-self.ensures.end c.skip.ensures
 
 pub returns-in_ok-add-in-None-clause-part : goal.returns-in_ok-add-in-None-clause-part
 returns-in_ok-add-in-None-clause-part c =
