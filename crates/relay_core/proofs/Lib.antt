@@ -20,3 +20,4 @@ pub mod Weighing
 pub mod Quiet
 pub mod Looking
 pub mod Shown
+pub mod Lasting

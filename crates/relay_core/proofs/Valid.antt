@@ -25,7 +25,7 @@ valid_facts c t =
     let t5 = and_right (is_from_to 1 65536 c.max_held) _ t4 in
     let t6 = and_right (are_valid_limits c.limits) _ t5 in
     let t7 = and_right (is_from_to 1 32 c.attempts) _ t6 in
-    let t8 = and_right (is_from_to 1 1 c.in_flight) _ t7 in
+    let t8 = and_right (is_from_to 1 8 c.in_flight) _ t7 in
     record {
       producers = (within 1 16 c.producers (and_left _ _ t2)).1;
       held = (within 1 65536 c.max_held (and_left _ _ t4)).1;

@@ -17,7 +17,7 @@ none_of : (o : Option Spot) → option_map place_at o ≡ None → o ≡ None
 none_of None e = refl
 none_of (Some p) e = absurd (cc)
 
-kept_at : (max next : ℕ) (h : Kept) (hs : List Kept) → AllKept max next hs → Mem h hs → IsKept max next h
+pub kept_at : (max next : ℕ) (h : Kept) (hs : List Kept) → AllKept max next hs → Mem h hs → IsKept max next h
 kept_at max next h [] a m = absurd m
 kept_at max next h (x ∷ hs) a (inl e) = subst (IsKept max next) (sym e) a.0
 kept_at max next h (x ∷ hs) a (inr m) = kept_at max next h hs a.1 m

@@ -10,7 +10,7 @@ is_from_to least most n = nat_le least n && nat_le n most
 abbrev pub are_valid_limits : Limits → Bool
 are_valid_limits l = is_from_to 1 10000 l.count && (is_from_to 1024 16777216 l.bytes && nat_le l.linger 65535)
 
--- each number is within its limits; more than one request in flight is not valid yet
+-- each number is within its limits
 abbrev pub is_valid : RelayConfig → Bool
 is_valid c =
     is_from_to 1 8 c.lanes
@@ -19,6 +19,6 @@ is_valid c =
     && (is_from_to 1 65536 c.max_held
     && (are_valid_limits c.limits
     && (is_from_to 1 32 c.attempts
-    && (is_from_to 1 1 c.in_flight
+    && (is_from_to 1 8 c.in_flight
     && (nat_le c.epoch 4194303
     && is_from_to 1 1099511627775 c.deal)))))))

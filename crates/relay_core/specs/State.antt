@@ -1,6 +1,6 @@
 -- A lane as its callers see it, and what each call makes of it.
-use Rattle.std.specs.Prelude.{◌≡◌, ℕ, ◌+◌, ◌-◌, ◌^◌, ◌≤◌, List, [], ◌∷◌, Option, Some, None, option_map, Bool, not, true, false, ◌==◌, ◌&&◌, nat_lt, min, map, filter, length, replicate, slice_set, slice_index_or, if◌then◌else◌}
-use Rattle.std.specs.List.{list_all}
+use Rattle.std.specs.Prelude.{◌≡◌, ℕ, ◌+◌, ◌-◌, ◌^◌, ◌<◌, ◌≤◌, List, [], ◌∷◌, Option, Some, None, option_map, Bool, not, true, false, ◌==◌, ◌&&◌, nat_lt, min, map, filter, length, replicate, slice_set, slice_index_or, if◌then◌else◌}
+use Rattle.std.specs.List.{list_all, list_any}
 use Rattle.relay_action.specs.declared.write.Write.{Write}
 use Rattle.relay_action.specs.declared.operation.Op.{Op}
 use Rattle.relay_action.specs.declared.mail.Body.{Body}
@@ -11,11 +11,12 @@ use Rattle.relay_batch.specs.Gathering.{Gathering}
 use Rattle.relay_flight.specs.Flying as flight
 use Rattle.relay_results.specs.Words.{Mem}
 use Rattle.relay_results.specs.Documents.{document_of, write_for}
-use Rattle.relay_results.specs.Numbers.{from_zero}
+use Rattle.relay_results.specs.Numbers.{from_one, from_zero}
 use Rattle.relay_results.specs.Outside.{Answer}
 use Rattle.relay_results.specs.Fates as fates
 use Rattle.relay_held.specs.Queues.{distinct}
-use Rattle.relay_delivery.specs.Machine.{Config, Held, in_epoch, version_at, write_of, how_many, is_applied_fate, is_already_fate}
+use Rattle.relay_delivery.specs.Bound.{halvings}
+use Rattle.relay_delivery.specs.Machine.{Config, Held, Place, in_epoch, version_at, write_of, how_many, is_applied_fate, is_already_fate}
 use Rattle.relay_delivery.specs.Lane as delivery
 use Rattle.relay_core.specs.declared.config.RelayConfig.{RelayConfig}
 use Rattle.relay_core.specs.declared.settled.TakeFault.{TakeFault}
@@ -145,6 +146,15 @@ is_flying number s = delivery.is_flying number s.core
 abbrev pub writes_of : ℕ → State → List Write
 writes_of number s = delivery.writes_at (from_zero number) s.core.flying
 
+-- the number of the first of them
+abbrev pub first_number : List delivery.Flying → Option ℕ
+first_number [] = None
+first_number (f ∷ fs) = Some (from_one f.request)
+
+-- the number of the oldest request in flight
+abbrev pub oldest : State → Option ℕ
+oldest s = first_number s.core.flying
+
 abbrev pub answered : State → ℕ → Answer → State
 answered s number a = record s { core = delivery.answered s.core number a; flights = flight.settled number s.flights }
 
@@ -199,18 +209,53 @@ is_finished s = all_closed s && (length s.core.held == 0)
 
 -- ---- what always holds
 
+-- the last tick of a clock
+abbrev pub last_tick : ℕ
+last_tick = 18446744073709551615
+
 -- the bytes of what waits are those of its lines
 abbrev pub AreWeighed : List delivery.Entry → Type 0
 AreWeighed es = (e : delivery.Entry) → Mem e es → e.held.flies ≡ None → e.bytes ≡ length (write_text (write_of e.held))
 
--- It works within its limits, has all its senders, and holds and sends no more than it may; requests are numbered one
--- after another, below 2^63.
+-- a place in a request that is in flight, which has no more writes than this cap, or carries one operation
+pub record IsPlaceIn (fs : List delivery.Flying) (cap : ℕ) (p : Place) : Type 0 where
+  pub flies : list_any (λ (f : delivery.Flying). f.request == p.request) fs ≡ true
+  pub room : 1 < length (delivery.writes_at p.request fs) → length (delivery.writes_at p.request fs) ≤ cap
+
+-- A held operation has a version that was assigned, and is due at a tick that comes. While it waits it has attempts left,
+-- and while it flies its request is in flight. The sends that do not count as attempts are those that halved its cap.
+pub record IsInOrder (s : State) (e : delivery.Entry) : Type 0 where
+  pub assigned : e.held.version < s.core.config.first + min s.core.taken s.core.config.deals
+  pub due : e.due ≤ last_tick
+  pub waits : e.held.flies ≡ None → e.held.attempts < s.core.config.max
+  pub flies : (p : Place) → e.held.flies ≡ Some p → IsPlaceIn s.core.flying e.held.cap p
+  pub attempts : e.held.attempts ≤ s.core.config.max
+  pub halved : e.held.sends + halvings e.held.cap ≤ e.held.attempts + 14
+
+-- each is held under a version above those before it
+abbrev pub VersionsRise : List Held → Type 0
+VersionsRise [] = Unit {0}
+VersionsRise (h ∷ hs) = ((j : Held) → Mem j hs → h.version < j.version) × VersionsRise hs
+
+-- the requests in flight have rising numbers, from the least on and below the next
+abbrev pub AreNumbered : ℕ → ℕ → List delivery.Flying → Type 0
+AreNumbered least next [] = Unit {0}
+AreNumbered least next (f ∷ fs) = (least ≤ f.request) × (f.request < next) × AreNumbered (f.request + 1) next fs
+
+-- It works within its limits, has all its senders, and holds and sends no more than it may; what it holds is in order;
+-- requests are numbered one after another, below 2^63, and each in flight has its batch.
 pub record IsLane (s : State) : Type 0 where
   pub valid : is_valid s.config ≡ true
   pub config : s.core.config ≡ config_of s.config
   pub senders : length s.closed ≡ s.config.producers + 1
+  pub clock : s.core.clock ≤ last_tick
   pub held : length s.core.held ≤ s.config.max_held
+  pub assigned : length s.core.held ≤ min s.core.taken s.core.config.deals
   pub weighed : AreWeighed s.core.held
+  pub in_order : (e : delivery.Entry) → Mem e s.core.held → IsInOrder s e
+  pub rises : VersionsRise (delivery.held_of s.core.held)
   pub flying : length s.flights.batches ≤ s.config.in_flight
+  pub beside : length s.core.flying ≡ length s.flights.batches
+  pub numbered : AreNumbered 0 s.core.requests s.core.flying
   pub next : s.flights.next ≡ s.core.requests + 1
   pub numbers : s.core.requests ≤ 2 ^ 62

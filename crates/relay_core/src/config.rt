@@ -32,9 +32,8 @@ pub const LINGER_LIMIT: u32 = 65_535;
 /// The most attempts of an operation.
 pub const ATTEMPT_LIMIT: u32 = 32;
 
-/// The most requests of a lane that are in flight at one time. A lane works with any number; only
-/// one is valid yet.
-pub const FLYING_LIMIT: u32 = 1;
+/// The most requests of a lane that are in flight at one time.
+pub const FLYING_LIMIT: u32 = 8;
 
 /// The last epoch.
 pub const EPOCH_LIMIT: u32 = 4_194_303;
@@ -58,7 +57,7 @@ pub struct RelayConfig {
     pub limits: Limits,
     /// How many requests may carry an operation before it is given up: 1 to 32.
     pub attempts: u32,
-    /// The most requests of a lane in flight: 1.
+    /// The most requests of a lane in flight: 1 to 8.
     pub in_flight: u32,
     /// The epoch, above those of all earlier incarnations: 0 to 4,194,303. A version is the epoch
     /// times 2^40 plus a count from 1 in each lane.

@@ -10,7 +10,7 @@ ghost use Rattle.relay_delivery.specs.Lane.{candidates};
 ghost use Rattle.relay_core.specs.Limits.{is_valid};
 ghost use Rattle.relay_core.specs.Walk.{report_of};
 ghost use Rattle.relay_core.specs.Memory.{SaysAs, IsHalf};
-ghost use Rattle.relay_core.specs.State.{fresh, taken, after_take, take_fault, is_put, all_closed, later, ticked, flushed, is_flying, writes_of, answered, AreCounts, next_batch, after_request, looked, due_in, is_finished, IsLane};
+ghost use Rattle.relay_core.specs.State.{fresh, taken, after_take, take_fault, is_put, all_closed, later, ticked, flushed, is_flying, oldest, writes_of, answered, AreCounts, next_batch, after_request, looked, due_in, is_finished, IsLane};
 
 use crate::config::{RelayConfig, first_in};
 use crate::fates::Way;
@@ -158,6 +158,13 @@ impl Lane {
         self.config.max_held
     }
 
+    /// The most requests that it has in flight.
+    pub fn in_flight(&self) -> u32
+        ensures { result ≡ self.now.state.config.in_flight }
+    {
+        self.config.in_flight
+    }
+
     /// How many operations are held.
     pub fn held(&self) -> u32
         ensures { result ≡ length self.now.state.core.held }
@@ -190,6 +197,8 @@ impl Lane {
           requests = self.now.state.core.requests;
         } }
     {
+        // (read for its range)
+        let _clock = self.clock;
         Totals {
             taken: self.taken,
             applied: self.applied,
@@ -392,6 +401,21 @@ impl Lane {
             return None;
         }
         find_writes(&self.flown, number - 1)
+    }
+
+    /// The number of the oldest request in flight, `None` if none is.
+    pub fn oldest(&self) -> Option<u64>
+        ensures { result ≡ oldest self.now.state }
+    {
+        let sent = self.flown.first()?;
+        Some(sent.number + 1)
+    }
+
+    /// How many requests are in flight.
+    pub fn flying(&self) -> u32
+        ensures { result ≡ length self.now.state.core.flying }
+    {
+        self.flight.flying()
     }
 
     /// The batch of the request of this number, if it is in flight.

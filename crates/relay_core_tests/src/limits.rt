@@ -5,7 +5,7 @@ use relay_core::{RelayConfig, TakeFault};
 use std::test::Fail;
 
 // Each number one below, at and one above its limits.
-const CONFIGS: [(RelayConfig, bool); 22] = [
+const CONFIGS: [(RelayConfig, bool); 23] = [
     (RelayConfig { lanes: 0, ..CONFIG }, false),
     (RelayConfig { lanes: 8, ..CONFIG }, true),
     (RelayConfig { lanes: 9, ..CONFIG }, false),
@@ -116,7 +116,14 @@ const CONFIGS: [(RelayConfig, bool); 22] = [
     ),
     (
         RelayConfig {
-            in_flight: 2,
+            in_flight: 8,
+            ..CONFIG
+        },
+        true,
+    ),
+    (
+        RelayConfig {
+            in_flight: 9,
             ..CONFIG
         },
         false,

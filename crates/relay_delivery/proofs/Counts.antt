@@ -368,7 +368,7 @@ stays_head Retried h e = absurd (cc)
 stays_head (Halved cap) h e = absurd (cc)
 stays_head (Reported cause) h e = absurd (cc)
 
-stays_in : (g : Config) (number : ℕ) (ws : List Write) (a : Answer) (hs : List Held) (h : Held) → Mem h hs → turn g number ws a h ≡ Flies → Mem h (kept g number ws a hs)
+pub stays_in : (g : Config) (number : ℕ) (ws : List Write) (a : Answer) (hs : List Held) (h : Held) → Mem h hs → turn g number ws a h ≡ Flies → Mem h (kept g number ws a hs)
 stays_in g number ws a [] h m e = elim m [ ]
 stays_in g number ws a (x ∷ hs) h m e = ⊎_elim {C = Mem h (kept g number ws a (x ∷ hs))}
     (λ s. Mem-left h (kept_one (turn g number ws a x) x) (kept g number ws a hs) (subst (λ z. Mem z (kept_one (turn g number ws a x) x)) (sym s) (stays_head (turn g number ws a x) x (ap (turn g number ws a) (sym s) ∙ e))))

@@ -1,69 +1,67 @@
 -- What flies is the earliest held operation of its document.
-use Rattle.std.proofs.Common.{◌≡◌, ℕ, ◌≤◌, List, [], ◌∷◌, Option, Some, None, refl, sym, ap, ◌∙◌, subst, ⊎_elim, arith, length}
-use Rattle.std.specs.Prelude.{slice_get, nat_lt}
+use Rattle.std.proofs.Common.{◌≡◌, ℕ, ◌+◌, ◌<◌, ◌≤◌, List, [], ◌∷◌, ◌++◌, Bool, Option, Some, None, refl, sym, ap, ◌∙◌, subst, ⊎_elim, arith, length}
+use Rattle.std.specs.Prelude.{slice_get, nat_lt, map}
 use Rattle.relay_action.specs.declared.write.Write.{Write}
 use Rattle.relay_action.specs.declared.operation.Op.{Op}
 use Rattle.relay_results.specs.Words.{Mem}
 use Rattle.relay_results.specs.Documents.{document_of}
 use Rattle.relay_results.specs.Outside.{Answer}
 use Rattle.relay_results.proofs.Lists.{at-Mem, Mem-cases, Mem-map}
-use Rattle.relay_delivery.specs.Machine.{Config, Core, Held, Place, Step, Takes, Sends, Runs, Answers, held_if, place_of, launched_at, launched, kept, writes_or, step, steps_of, MaySend, MayStep, AllMayStep}
+use Rattle.relay_delivery.specs.Machine.{Config, Core, Held, Place, Step, Takes, Sends, Runs, Answers, held_if, place_of, launched_at, launched, kept, writes_or, step, steps_of, IsEligible, MayStep, AllMayStep}
 use Rattle.relay_delivery.specs.Delivery.{EarliestFlies, OneFlies}
 use Rattle.relay_delivery.proofs.Facts.{CoreFacts}
 use Rattle.relay_delivery.proofs.Dealt.{dealt_before}
 use Rattle.relay_delivery.proofs.Take.{is_new_held}
-use Rattle.relay_delivery.proofs.Send.{launched_op, launched_version, launched_here}
+use Rattle.relay_delivery.proofs.Send.{launched_op, launched_version, launched_among}
 use Rattle.relay_delivery.proofs.Fates.{turn, kept-from, kept_version, kept_op}
 use Rattle.relay_delivery.proofs.Keeps.{none_past, fresh_facts, step_keeps, facts_of}
 
-abbrev FliesFirst : List Held → Type 0
+abbrev pub FliesFirst : List Held → Type 0
 FliesFirst hs = (h j : Held) (f : Place) → Mem h hs → Mem j hs → h.flies ≡ Some f → document_of j.op.key ≡ document_of h.op.key → h.version ≤ j.version
 
 -- ---- take
 
-take_first : (g : Config) (c : Core) (o : Op) → CoreFacts g none_past c → FliesFirst c.held → FliesFirst (step g (Takes o) c).held
-take_first g c o facts first h j f mh mj flies doc =
-    let b = nat_lt (length c.taken) g.deals in
-    let more = held_if b g (length c.taken) o in
+pub take_first : (b : Bool) (g : Config) (place : ℕ) (o : Op) (hs : List Held) → ((h : Held) → Mem h hs → h.version < g.first + place) → FliesFirst hs → FliesFirst (hs ++ held_if b g place o)
+take_first b g place o hs below first h j f mh mj flies doc =
+    let more = held_if b g place o in
     ⊎_elim {C = h.version ≤ j.version}
     (λ old. ⊎_elim {C = h.version ≤ j.version}
     (λ y. first h j f old y flies doc)
     (λ y.
-    let n = is_new_held b g (length c.taken) o j y in
+    let n = is_new_held b g place o j y in
     let v = ap (λ (x : Held). x.version) n.1 in
-    let lt = dealt_before g c.taken h.op h.version (facts.held h old).dealt in omega (arith, v, lt))
-    (Mem-cases j c.held more mj))
+    let lt = below h old in omega (arith, v, lt))
+    (Mem-cases j hs more mj))
     (λ new.
-    let n = is_new_held b g (length c.taken) o h new in
+    let n = is_new_held b g place o h new in
     let e = ap (λ (x : Held). x.flies) n.1 in absurd (cc (e, flies)))
-    (Mem-cases h c.held more mh)
+    (Mem-cases h hs more mh)
 
 -- ---- send
 
-module _ (g : Config) (c : Core) (facts : CoreFacts g none_past c) (first : FliesFirst c.held) (chosen : List Held) (may : MaySend c chosen) where
+module _ (hs chosen : List Held) (alone : (h j : Held) → Mem h hs → Mem j hs → h.version ≡ j.version → h ≡ j) (eligible : (h : Held) → Mem h chosen → IsEligible hs h) (n : ℕ) (first : FliesFirst hs) where
   -- by whether it was chosen
-  launched_first : (n : ℕ) (h j : Held) (f : Place) (p : Option ℕ) → place_of h.version chosen ≡ p → Mem h c.held → Mem j c.held → (launched_at n h p).flies ≡ Some f → document_of j.op.key ≡ document_of h.op.key → h.version ≤ j.version
-  launched_first n h j f None e mh mj flies doc = first h j f mh mj flies doc
-  launched_first n h j f (Some place) e mh mj flies doc =
-      let l = launched_here g none_past c facts chosen may h mh place e in
-      (may.eligible h (at-Mem chosen place h l.stands)).first j mj doc
+  launched_first : (h j : Held) (f : Place) (p : Option ℕ) → place_of h.version chosen ≡ p → Mem h hs → Mem j hs → (launched_at n h p).flies ≡ Some f → document_of j.op.key ≡ document_of h.op.key → h.version ≤ j.version
+  launched_first h j f None e mh mj flies doc = first h j f mh mj flies doc
+  launched_first h j f (Some place) e mh mj flies doc =
+      let l = launched_among hs chosen alone eligible h mh place e in
+      (eligible h (at-Mem chosen place h l.stands)).first j mj doc
 
-  send_first : FliesFirst (step g (Sends chosen) c).held
+  pub send_first : FliesFirst (map (launched n chosen) hs)
   send_first h j f mh mj flies doc =
-      let n = length c.outside.requests in
-      let x = Mem-map (launched n chosen) h c.held mh in
-      let y = Mem-map (launched n chosen) j c.held mj in
+      let x = Mem-map (launched n chosen) h hs mh in
+      let y = Mem-map (launched n chosen) j hs mj in
       let vx : h.version ≡ x.0.version = ap (λ (z : Held). z.version) x.2 ∙ launched_version n x.0 (place_of x.0.version chosen) in
       let vy : j.version ≡ y.0.version = ap (λ (z : Held). z.version) y.2 ∙ launched_version n y.0 (place_of y.0.version chosen) in
       let ox : h.op ≡ x.0.op = ap (λ (z : Held). z.op) x.2 ∙ launched_op n x.0 (place_of x.0.version chosen) in
       let oy : j.op ≡ y.0.op = ap (λ (z : Held). z.op) y.2 ∙ launched_op n y.0 (place_of y.0.version chosen) in
       let doc' = ap (λ (o : Op). document_of o.key) (sym oy) ∙ doc ∙ ap (λ (o : Op). document_of o.key) ox in
-      let le = launched_first n x.0 y.0 f (place_of x.0.version chosen) refl x.1 y.1 (sym (ap (λ (z : Held). z.flies) x.2) ∙ flies) doc' in
+      let le = launched_first x.0 y.0 f (place_of x.0.version chosen) refl x.1 y.1 (sym (ap (λ (z : Held). z.flies) x.2) ∙ flies) doc' in
       omega (arith, vx, vy, le)
 
 -- ---- answer
 
-answer_first : (g : Config) (number : ℕ) (ws : List Write) (a : Answer) (hs : List Held) → FliesFirst hs → FliesFirst (kept g number ws a hs)
+pub answer_first : (g : Config) (number : ℕ) (ws : List Write) (a : Answer) (hs : List Held) → FliesFirst hs → FliesFirst (kept g number ws a hs)
 answer_first g number ws a hs first h j f mh mj flies doc =
     let x = kept-from g number ws a hs h mh in
     let y = kept-from g number ws a hs j mj in
@@ -85,8 +83,9 @@ answer_first g number ws a hs first h j f mh mj flies doc =
 -- ---- steps
 
 step_first : (g : Config) (c : Core) (s : Step) → CoreFacts g none_past c → FliesFirst c.held → MayStep s c → FliesFirst (step g s c).held
-step_first g c (Takes o) facts first may = take_first g c o facts first
-step_first g c (Sends chosen) facts first may = send_first g c facts first chosen may
+step_first g c (Takes o) facts first may =
+    take_first (nat_lt (length c.taken) g.deals) g (length c.taken) o c.held (λ h m. dealt_before g c.taken h.op h.version (facts.held h m).dealt) first
+step_first g c (Sends chosen) facts first may = send_first c.held chosen facts.alone may.eligible (length c.outside.requests) first
 step_first g c (Runs r) facts first may = first
 step_first g c (Answers number a) facts first may = answer_first g number (writes_or (slice_get c.outside.requests number)) a c.held first
 

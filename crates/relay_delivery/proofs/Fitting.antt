@@ -39,7 +39,7 @@ next s s' taken taken' out out' f st same may is took outside_is = record {
 
 -- ---- take
 
-held_new : (b : Bool) (s : State) (o : Op) (bytes : ℕ) → held_of (entry_if b s o bytes) ≡ held_if b s.config s.taken o
+pub held_new : (b : Bool) (s : State) (o : Op) (bytes : ℕ) → held_of (entry_if b s o bytes) ≡ held_if b s.config s.taken o
 held_new true s o bytes = refl
 held_new false s o bytes = refl
 
@@ -73,22 +73,21 @@ distinct_versions (h ∷ hs) r = (
   distinct_versions hs r.1,
 )
 
-module _ (past : Write → Type 0) (s : State) (c : Core) (chosen : List Entry) (part : IsSubsequence chosen (candidates s)) (within : KeepsCaps (held_of chosen)) (is : IsOf s c) (facts : CoreFacts s.config past c) where
-  among : IsSubsequence (held_of chosen) c.held
-  among = subst (λ hs. IsSubsequence (held_of chosen) hs) is.held
-      (sub-map (λ (e : Entry). e.held) chosen s.held (sub_joined chosen (candidates s) s.held part (filter_sub (is_candidate s) s.held)))
+module _ (s : State) (chosen : List Entry) (part : IsSubsequence chosen (candidates s)) where
+  pub among : IsSubsequence (held_of chosen) (held_of s.held)
+  among = sub-map (λ (e : Entry). e.held) chosen s.held (sub_joined chosen (candidates s) s.held part (filter_sub (is_candidate s) s.held))
 
-  eligible : (h : Held) → Mem h (held_of chosen) → IsEligible c.held h
-  eligible h m =
+  pub eligible_here : (h : Held) → Mem h (held_of chosen) → IsEligible (held_of s.held) h
+  eligible_here h m =
       let e = Mem-map (λ (x : Entry). x.held) h chosen m in
       let t = (Mem-filter (is_candidate s) e.0 s.held (Mem-sub e.0 chosen (candidates s) part e.1)).1 in
       let w = and_left _ _ t in
       let n = not_true _ (and_right (nat_le e.0.due s.clock) _ (and_right (waits e.0.held.flies) _ t)) in
       record {
-        is_held = Mem-sub h (held_of chosen) c.held among m;
+        is_held = Mem-sub h (held_of chosen) (held_of s.held) among m;
         waits = ap (λ (x : Held). x.flies) e.2 ∙ waits_none e.0.held.flies w;
         first = λ j mj doc.
-            let no = any_false (λ (x : Held). same_document (document_of x.op.key) (document_of e.0.held.op.key) && nat_lt x.version e.0.held.version) j (held_of s.held) n (subst (λ hs. Mem j hs) (sym is.held) mj) in
+            let no = any_false (λ (x : Held). same_document (document_of x.op.key) (document_of e.0.held.op.key) && nat_lt x.version e.0.held.version) j (held_of s.held) n mj in
             let doc' : document_of j.op.key ≡ document_of e.0.held.op.key = doc ∙ ap (λ (x : Held). document_of x.op.key) e.2 in
             let d : same_document (document_of j.op.key) (document_of e.0.held.op.key) ≡ true = ap (same_document (document_of j.op.key)) (sym doc') ∙ same_document-self (document_of j.op.key) in
             let v = ap (λ (x : Held). x.version) e.2 in
@@ -98,11 +97,15 @@ module _ (past : Write → Type 0) (s : State) (c : Core) (chosen : List Entry) 
             (true_or_false (nat_lt j.version e.0.held.version));
       }
 
+  pub distinct_here : AreRising (held_of s.held) → AllDistinct (map (λ (h : Held). h.version) (held_of chosen))
+  distinct_here rising = AllDistinct-sub (map (λ (h : Held). h.version) (held_of chosen)) (map (λ (h : Held). h.version) (held_of s.held)) (distinct_versions (held_of s.held) rising)
+      (sub-map (λ (h : Held). h.version) (held_of chosen) (held_of s.held) among)
+
+module _ (past : Write → Type 0) (s : State) (c : Core) (chosen : List Entry) (part : IsSubsequence chosen (candidates s)) (within : KeepsCaps (held_of chosen)) (is : IsOf s c) (facts : CoreFacts s.config past c) where
   pub may_send : MaySend c (held_of chosen)
   may_send = record {
-    eligible = eligible;
-    distinct = AllDistinct-sub (map (λ (h : Held). h.version) (held_of chosen)) (map (λ (h : Held). h.version) c.held) (distinct_versions c.held facts.in_rise)
-        (sub-map (λ (h : Held). h.version) (held_of chosen) c.held among);
+    eligible = λ h m. subst (λ hs. IsEligible hs h) is.held (eligible_here s chosen part h m);
+    distinct = distinct_here s chosen part (subst (λ hs. AreRising hs) (sym is.held) facts.in_rise);
     caps = within;
   }
 

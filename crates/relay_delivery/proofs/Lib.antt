@@ -16,6 +16,7 @@ pub mod Bounded
 pub mod Fitting
 pub mod Tallies
 pub mod Counts
+pub mod Reached
 pub mod Played
 pub mod Excluded
 pub mod Working

@@ -12,7 +12,7 @@ use Rattle.relay_results.specs.declared.cause.Cause.{Cause}
 use Rattle.relay_results.specs.declared.cause.Cause.TheVariants as cause
 use Rattle.relay_delivery.specs.Causes.{carries, is_try, CarriedAt, IsAnswered, IsTrueOf}
 use Rattle.relay_results.proofs.Same.{same_write-true}
-use Rattle.relay_delivery.specs.Machine.{Config, Core, Held, write_of, place_of, launched_at, launched, send, MaySend}
+use Rattle.relay_delivery.specs.Machine.{Config, Core, Held, write_of, place_of, launched_at, launched, send, IsEligible, MaySend}
 use Rattle.relay_results.proofs.Lists.{true_or_false, equal, equal_test, at-left, at-last, at-cases, at-Mem, at-map, map-at, Mem-map, map-Mem, count-push, distinct_places, some_same}
 use Rattle.relay_delivery.proofs.Facts.{IsOfOne, IsSent, IsFlying, HeldFact, RunFact, IndexFact, AreRising, CoreFacts, is_held_as}
 use Rattle.relay_delivery.proofs.Dealt.{of_held, carried_at, carries_at, carries_its, sent-push_cases}
@@ -87,6 +87,22 @@ count-sent o n chosen (h ∷ hs) =
     let e = ap (λ (x : Op). one_if (is_held_as o (record { op = x; version = h.version; sends = 0; attempts = 0; cap = 0; flies = None }))) (launched_op n h (place_of h.version chosen)) in
     let r = count-sent o n chosen hs in omega arith
 
+-- one that was chosen by its version stands at that place, and waited
+pub record IsAmong (chosen : List Held) (h : Held) (place : ℕ) : Type 0 where
+  pub stands : slice_get chosen place ≡ Some h
+  pub waits : h.flies ≡ None
+
+pub launched_among : (held chosen : List Held) → ((h j : Held) → Mem h held → Mem j held → h.version ≡ j.version → h ≡ j) → ((h : Held) → Mem h chosen → IsEligible held h)
+    → (h : Held) → Mem h held → (place : ℕ) → place_of h.version chosen ≡ Some place → IsAmong chosen h place
+launched_among held chosen alone eligible h m place e =
+    let a = at_place chosen h.version place e in
+    let el = eligible a.held (at-Mem chosen place a.held a.stands) in
+    let same = alone a.held h el.is_held m a.version_is in
+    record {
+      stands = a.stands ∙ ap Some same;
+      waits = subst (λ (k : Held). k.flies ≡ None) same el.waits;
+    }
+
 -- ---- the new request
 
 module _ (g : Config) (past : Write → Type 0) (c : Core) (f : CoreFacts g past c) (chosen : List Held) (may : MaySend c chosen) where
@@ -148,13 +164,7 @@ module _ (g : Config) (past : Write → Type 0) (c : Core) (f : CoreFacts g past
 
   pub launched_here : (h : Held) → Mem h c.held → (place : ℕ) → place_of h.version chosen ≡ Some place → IsLaunched h place
   launched_here h m place e =
-      let a = at_place chosen h.version place e in
-      let el = may.eligible a.held (at-Mem chosen place a.held a.stands) in
-      let same = f.alone a.held h el.is_held m a.version_is in
-      record {
-        stands = a.stands ∙ ap Some same;
-        waits = subst (λ (k : Held). k.flies ≡ None) same el.waits;
-      }
+      let l = launched_among c.held chosen f.alone may.eligible h m place e in record { stands = l.stands; waits = l.waits }
 
   held-chosen : (h : Held) → Mem h c.held → (place : ℕ) → place_of h.version chosen ≡ Some place → HeldFact g c.taken (requests ++ new ∷ []) (launched_at (length requests) h (Some place))
   unfolding new

@@ -29,7 +29,7 @@ one_new : (b : Bool) (g : Config) (k : ℕ) (o : Op) (n : OpName) → count (is_
 one_new true g k o n = omega arith
 one_new false g k o n = omega arith
 
-one_length : (b : Bool) (g : Config) (k : ℕ) (o : Op) → length (held_if b g k o) + length (spent_if b o) ≡ 1
+pub one_length : (b : Bool) (g : Config) (k : ℕ) (o : Op) → length (held_if b g k o) + length (spent_if b o) ≡ 1
 one_length true g k o = refl
 one_length false g k o = refl
 
@@ -40,7 +40,7 @@ AreRising-push (h ∷ hs) k r below = (
   AreRising-push hs k r.1 (λ z m. below z (inr m)),
 )
 
-rising_if : (b : Bool) (hs : List Held) (g : Config) (n : ℕ) (o : Op) → AreRising hs → ((h : Held) → Mem h hs → h.version < g.first + n) → AreRising (hs ++ held_if b g n o)
+pub rising_if : (b : Bool) (hs : List Held) (g : Config) (n : ℕ) (o : Op) → AreRising hs → ((h : Held) → Mem h hs → h.version < g.first + n) → AreRising (hs ++ held_if b g n o)
 rising_if true hs g n o r below = AreRising-push hs (held_at g n o) r below
 rising_if false hs g n o r below = subst (λ xs. AreRising xs) (sym (append-nil hs)) r
 

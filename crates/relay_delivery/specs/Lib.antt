@@ -5,6 +5,7 @@ pub mod Delivery
 pub mod Bound
 pub mod Lane
 pub mod Counts
+pub mod Reached
 pub mod Numbered
 pub mod Lanes
 pub mod Together

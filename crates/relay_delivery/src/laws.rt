@@ -3,6 +3,7 @@
 ghost use Rattle.relay_delivery.specs.Schedules.{LostThenAlready, LateRunChangesNothing, RunTwice, RefusedOrRejected, NoVersionLeft, BusyThenNext, GivenUpAndApplied, ThreeThenOne, HalvedThenAlone};
 ghost use Rattle.relay_delivery.specs.Worked.{MachineWorks, StoredVersionsBelow, EarlierOnesFirst, OneVersionForAllTries};
 ghost use Rattle.relay_delivery.specs.Counts.{CountsAlways, CountsWhereItFits};
+ghost use Rattle.relay_delivery.specs.Reached.{FreshReached, CallReached, ReachedHolds};
 ghost use Rattle.relay_delivery.specs.Laws.{NoneTwice, NoneOutOfOrder, NoneOfOtherAction, NoneOfOtherDocument, NoneUnaccepted, NoneLeftOut, NotGivenUpAfterOne, NotGivenUpWhenSettled, NoConflictAfterTwo, NotRefusedWithoutStatus, NotRefusedWithoutError, NotSpentWithinLimit, NotRefusedWhenBusy, NotReportedUnsent, NotRejectedWithoutAnswer, NotRejectedWhenRetried, NotGivenUpForHalves, NotRejectedWhenHalved, NoConflictWithoutRun, NoneReportedTwice, NoneReportedUntaken, AssignsTwo, NotAssignedTwice, PlaysFromOpening};
 
 /// Worked schedules of one operation meet the definitions: applied and lost, then a conflict with
@@ -90,4 +91,14 @@ pub fn assignments_differ()
 pub fn counts_follow_answers()
     ensures always { CountsAlways }
     ensures fits { CountsWhereItFits }
+{}
+
+/// What holds of a lane whatever it is answered, by an index or by anything else: held operations rise in
+/// version; each, and that of each write in flight, was taken, and has the version that its place was
+/// assigned; no document is in flight twice; and each operation that was taken is held, counted as applied
+/// or reported.
+pub fn any_answers_keep_order()
+    ensures fresh { FreshReached }
+    ensures call { CallReached }
+    ensures holds { ReachedHolds }
 {}

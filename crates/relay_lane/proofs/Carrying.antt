@@ -4,15 +4,17 @@ use Rattle.relay_action.specs.declared.operation.Op.{Op}
 use Rattle.relay_action.specs.declared.write.Write.{Write}
 use Rattle.relay_batch.specs.declared.item.BatchItem.{BatchItem}
 use Rattle.relay_results.specs.Numbers.{from_zero}
-use Rattle.relay_results.specs.Outside.{Answer, Outside, Event, Sends, Runs, Answers, MayHappen, Continues, after, after_all, AllMayHappen}
+use Rattle.relay_results.specs.Outside.{Answer, Lost, Outside, Event, Sends, Runs, Answers, MayHappen, Continues, after, after_all, AllMayHappen}
 use Rattle.relay_results.proofs.Steps.{continues_itself, continues_on, event_continues}
 use Rattle.relay_delivery.specs.Lane.{writes_of_all}
 use Rattle.relay_delivery.proofs.Counts.{counts_where}
 use Rattle.relay_delivery.proofs.Fitting.{sound_where, complete_where, total_where}
-use Rattle.relay_core.specs.State.{State, next_batch, next_entries, after_request, answered, is_flying, IsLane}
+use Rattle.relay_core.specs.State.{State, next_batch, next_entries, answered, is_flying, IsLane}
 use Rattle.relay_core.specs.Ties.{Fits}
 use Rattle.relay_core.proofs.Tying.{request_fits, run_fits, answer_fits}
-use Rattle.relay_lane.specs.Wires.{IsRun, AreRuns, RunsOn, SendsOn, AnswersOn, ExchangesOn, IsNext, ShowsNext}
+use Rattle.relay_lane.proofs.Out.{request_flies}
+use Rattle.relay_lane.specs.Wires.{IsRun, AreRuns, RunsOn, SendsOn, AnswersOn, ExchangesOn, IsNext, Shows, ShowsNext}
+use Rattle.relay_lane.specs.Turns.{after_send, after_fail}
 use Rattle.relay_lane.specs.Delivers.{IsDelivered, GoesOn, Delivers}
 
 -- ---- what is promised of each lane and outside that fit
@@ -77,29 +79,34 @@ pub exchange_continues : (number : ℕ) (ws : List Write) (a : Answer) (o p : Ou
 exchange_continues number ws a o p x =
     continues_on o x.between p (sends_continue ws o x.between x.sends) (answers_continue number a x.between p x.answers)
 
--- a lane that fits before a request fits after its answer settled it
-pub exchange_fits : (s : State) (items : List BatchItem) (number : ℕ) (a : Answer) (taken : List Op) (o p : Outside) → next_batch s ≡ Some items
-    → is_flying number (after_request s (next_batch s)) ≡ true
-    → ExchangesOn number (writes_of_all (next_entries s)) a o p → Fits s taken o
-    → Fits (answered (after_request s (next_batch s)) number a) taken p
-exchange_fits s items number a taken o p some flies x f =
-    let t = after_request s (next_batch s) in
-    let ws = writes_of_all (next_entries s) in
-    let sent = runs_on t taken (after (Sends ws) o) x.between x.sends.runs (request_fits s items taken o some f) in
-    let ran = runs_on t taken x.between x.answers.before x.answers.runs sent in
-    subst (Fits (answered t number a) taken) (sym x.answers.reached) (answer_fits t number a taken x.answers.before flies x.answers.may ran)
-
 -- the request of a lane is the next one outside
 pub number_is_next : (s : State) (taken : List Op) (o : Outside) → IsLane s → Fits s taken o → IsNext s.flights.next o
 number_is_next s taken o l f = l.next ∙ ap (λ n. n + 1) (total_where s.core taken o f).1
 
-pub delivers_exchange : {S : Type 0} (d : Bool) (fits : S → Outside → Type 0) (v w : S) (s : State) (items : List BatchItem) (number : ℕ) (ws : List Write) (a : Answer)
-    → IsLane s → next_batch s ≡ Some items → number ≡ s.flights.next → ws ≡ writes_of_all (next_entries s)
-    → is_flying number (after_request s (next_batch s)) ≡ true
-    → ShowsNext d fits v w number (ExchangesOn number ws a)
-    → Delivers d fits v w s (answered (after_request s (next_batch s)) number a)
-delivers_exchange d fits v w s items number ws a l some is_number are_writes flies shows d_true taken o f fit =
-    let x = shows d_true o f (is_number ∙ number_is_next s taken o l fit) in
-    let e = subst (λ us. ExchangesOn number us a o x.0) are_writes x.2 in
-    goes_on fits w (answered (after_request s (next_batch s)) number a) taken o x.0 x.1 (exchange_continues number ws a o x.0 x.2)
-    (exchange_fits s items number a taken o x.0 some flies e fit)
+module _ {S : Type 0} (d : Bool) (fits : S → Outside → Type 0) (v w : S) (s : State) (l : IsLane s) (items : List BatchItem) (some : next_batch s ≡ Some items) (ws : List Write) (are : ws ≡ writes_of_all (next_entries s)) where
+  -- a request that was sent
+  pub delivers_send : ShowsNext d fits v w s.flights.next (SendsOn ws) → Delivers d fits v w s (after_send s)
+  delivers_send shows d_true taken o f fit =
+      let x = shows d_true o f (number_is_next s taken o l fit) in
+      let e = subst (λ us. SendsOn us o x.0) are x.2 in
+      goes_on fits w (after_send s) taken o x.0 x.1 (sends_continue (writes_of_all (next_entries s)) o x.0 e)
+      (runs_on (after_send s) taken (after (Sends (writes_of_all (next_entries s))) o) x.0 e.runs (request_fits s items taken o some fit))
+
+  -- ... and one that could not be sent
+  pub delivers_fail : ShowsNext d fits v w s.flights.next (ExchangesOn s.flights.next ws Lost) → Delivers d fits v w s (after_fail s)
+  delivers_fail shows d_true taken o f fit =
+      let x = shows d_true o f (number_is_next s taken o l fit) in
+      let e = subst (λ us. ExchangesOn s.flights.next us Lost o x.0) are x.2 in
+      let us = writes_of_all (next_entries s) in
+      let sent = runs_on (after_send s) taken (after (Sends us) o) e.between e.sends.runs (request_fits s items taken o some fit) in
+      let ran = runs_on (after_send s) taken e.between e.answers.before e.answers.runs sent in
+      goes_on fits w (after_fail s) taken o x.0 x.1 (exchange_continues s.flights.next us Lost o x.0 e)
+      (subst (Fits (after_fail s) taken) (sym e.answers.reached) (answer_fits (after_send s) s.flights.next Lost taken e.answers.before (request_flies s l items some) e.answers.may ran))
+
+-- the answer to a request
+pub delivers_answer : {S : Type 0} (d : Bool) (fits : S → Outside → Type 0) (v w : S) (s : State) (number : ℕ) (a : Answer) → is_flying number s ≡ true → Shows d fits v w (AnswersOn number a) → Delivers d fits v w s (answered s number a)
+delivers_answer d fits v w s number a flies shows d_true taken o f fit =
+    let x = shows d_true o f in
+    let ran = runs_on s taken o x.2.before x.2.runs fit in
+    goes_on fits w (answered s number a) taken o x.0 x.1 (answers_continue number a o x.0 x.2)
+    (subst (Fits (answered s number a) taken) (sym x.2.reached) (answer_fits s number a taken x.2.before flies x.2.may ran))

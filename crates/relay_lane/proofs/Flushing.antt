@@ -1,16 +1,14 @@
 -- A lane that was flushed, and how far its config goes.
-use Rattle.std.proofs.Common.{◌≡◌, ℕ, ◌+◌, ◌-◌, ◌<◌, List, [], ◌∷◌, Option, Some, None, Bool, true, refl, sym, ap, ◌∙◌, subst, ⊎_elim, inr, arith}
+use Rattle.std.proofs.Common.{◌≡◌, ℕ, ◌+◌, ◌-◌, ◌<◌, List, [], ◌∷◌, length, Option, Some, None, Bool, true, refl, sym, ap, ◌∙◌, subst, ⊎_elim, inr, arith}
 use Rattle.std.specs.Prelude.{◌==◌, min, if◌then◌else◌}
 use Rattle.relay_batch.specs.declared.item.BatchItem.{BatchItem}
 use Rattle.relay_results.proofs.Lists.{true_or_false, equal}
 use Rattle.relay_core.specs.declared.config.RelayConfig.{RelayConfig}
-use Rattle.relay_core.specs.State.{State, next_batch, after_request, flushed, mark_of}
-use Rattle.relay_lane.specs.Rest.{IsAtRest}
-use Rattle.relay_lane.specs.Turns.{Turn, Exchanges, Pauses, after_turn, after_turns, AllMayTurn, Worked, holds, is_full}
+use Rattle.relay_results.specs.Words.{Mem}
+use Rattle.relay_delivery.specs.Lane.{Entry}
+use Rattle.relay_core.specs.State.{State, IsLane, next_batch, after_request, flushed, mark_of}
+use Rattle.relay_lane.specs.Turns.{Turn, Sends, Fails, Settles, Pauses, after_turn, after_turns, AllMayTurn, Worked, holds, holds_some, is_full}
 use Rattle.relay_lane.specs.Steps.{IsPressed}
-
-pub flushed_rests : (s : State) → IsAtRest s → IsAtRest (flushed s)
-flushed_rests s r = record { batches = r.batches; flying = r.flying; clock = r.clock; held = r.held; rises = r.rises }
 
 mark_is : (s : State) → 0 < s.core.taken → mark_of s ≡ s.core.config.first + min s.core.taken s.core.config.deals - 1
 mark_is s some = ⊎_elim {C = mark_of s ≡ s.core.config.first + min s.core.taken s.core.config.deals - 1}
@@ -18,12 +16,16 @@ mark_is s some = ⊎_elim {C = mark_of s ≡ s.core.config.first + min s.core.ta
     (λ t. ap (λ b. if b then s.mark else s.core.config.first + min s.core.taken s.core.config.deals - 1) t)
     (true_or_false (s.core.taken == 0))
 
-pub flushed_pressed : (s : State) → IsAtRest s → IsPressed (flushed s)
-flushed_pressed s r e m =
-    let w = r.held e m in
-    let v = w.first in
-    let d = w.dealt in
-    let k = mark_is s (omega (arith, v, d)) in
+not_empty : (e : Entry) (es : List Entry) → Mem e es → 0 < length es
+not_empty e [] m = absurd m
+not_empty e (x ∷ es) m = omega arith
+
+pub flushed_pressed : (s : State) → IsLane s → IsPressed (flushed s)
+flushed_pressed s l e m =
+    let d = (l.in_order e m).assigned in
+    let some = l.assigned in
+    let n = not_empty e s.core.held m in
+    let k = mark_is s (omega (arith, some, n)) in
     inr (omega (arith, d, k))
 
 -- ---- the config stays
@@ -33,23 +35,32 @@ asked_config s None = refl
 asked_config s (Some items) = refl
 
 turn_config : (t : Turn) (s : State) → (after_turn t s).config ≡ s.config
-turn_config (Exchanges a) s = asked_config s (next_batch s)
+turn_config Sends s = asked_config s (next_batch s)
+turn_config Fails s = asked_config s (next_batch s)
+turn_config (Settles a) s = refl
 turn_config (Pauses n) s = refl
 
 turns_config : (ts : List Turn) (s : State) → (after_turns ts s).config ≡ s.config
 turns_config [] s = refl
 turns_config (t ∷ ts) s = turns_config ts (after_turn t s) ∙ turn_config t s
 
-pub worked_config : (going : State → Bool) (s t : State) → Worked going s t → t.config ≡ s.config
+pub worked_config : (going : Turn → State → Bool) (s t : State) → Worked going s t → t.config ≡ s.config
 worked_config going s t w = ap (λ (x : State). x.config) w.reached ∙ turns_config w.turns s
 
 all_full : (n : ℕ) (ts : List Turn) (s : State) → n ≡ s.config.max_held → AllMayTurn (holds n) ts s → AllMayTurn is_full ts s
 all_full n [] s e may = tt
 all_full n (t ∷ ts) s e may = (
-  subst (λ k. holds k s ≡ true) e may.0,
+  subst (λ k. holds k t s ≡ true) e may.0,
   may.1,
   all_full n ts (after_turn t s) (e ∙ sym (ap (λ (c : RelayConfig). c.max_held) (turn_config t s))) may.2,
 )
 
 pub worked_full : (n : ℕ) (s t : State) → n ≡ s.config.max_held → Worked (holds n) s t → Worked is_full s t
 worked_full n s t e w = record { turns = w.turns; may = all_full n w.turns s e w.may; reached = w.reached }
+
+all_some : (ts : List Turn) (s : State) → AllMayTurn (holds 1) ts s → AllMayTurn holds_some ts s
+all_some [] s may = tt
+all_some (t ∷ ts) s may = (may.0, may.1, all_some ts (after_turn t s) may.2)
+
+pub worked_some : (s t : State) → Worked (holds 1) s t → Worked holds_some s t
+worked_some s t w = record { turns = w.turns; may = all_some w.turns s w.may; reached = w.reached }

@@ -1,10 +1,11 @@
 pub mod Limits
-pub mod Exchanging
+pub mod Out
+pub mod Sends
 pub mod Waiting
 pub mod Ticking
 pub mod Sending
 pub mod Carrying
 pub mod Flushing
-pub mod Resting
 pub mod Counting
 pub mod Stepping
+pub mod Reaching

@@ -1,5 +1,5 @@
 -- What a request carries keeps the limits of a batch, and so those of a wire.
-use Rattle.std.proofs.Common.{◌≡◌, ℕ, ◌+◌, ◌*◌, ◌<◌, ◌≤◌, List, [], ◌∷◌, ◌++◌, length, Option, Some, None, Bool, true, false, ◌&&◌, refl, sym, ap, ◌∙◌, subst, ⊎_elim, inl, inr, arith, length-append, append_assoc}
+use Rattle.std.proofs.Common.{◌≡◌, ℕ, ◌+◌, ◌*◌, ◌<◌, ◌≤◌, List, [], ◌∷◌, ◌++◌, length, Bool, true, false, ◌&&◌, refl, sym, ap, ◌∙◌, subst, ⊎_elim, inl, inr, arith, length-append, append_assoc}
 use Rattle.std.specs.Prelude.{◌⊎◌, ◌||◌, nat_lt, nat_le, min, map, if◌then◌else◌}
 use Rattle.std.proofs.lemmas.List.{length-map}
 use Rattle.std.proofs.lemmas.List.Sums.{sum_by_push, sum_by-cons}
@@ -21,23 +21,23 @@ use Rattle.relay_batch.specs.Batches.{bytes_of, count_of}
 use Rattle.relay_batch.specs.Gathering.{Gathering, holds_document, passes_count, passes_bytes, answer_to}
 use Rattle.relay_results.specs.Words.{Mem}
 use Rattle.relay_results.proofs.Lists.{and_left, and_right, Mem-sub, filter_sub, sub_joined}
-use Rattle.relay_delivery.specs.Machine.{Config, Place, write_of}
-use Rattle.relay_delivery.specs.Lane.{Entry, held_of, waits, is_candidate, candidates, writes_of_all}
+use Rattle.relay_delivery.specs.Machine.{Config, write_of}
+use Rattle.relay_delivery.specs.Lane.{Entry, held_of, is_candidate, candidates, writes_of_all}
 use Rattle.relay_core.specs.declared.config.RelayConfig.{RelayConfig}
 use Rattle.relay_core.specs.Limits.{is_from_to, are_valid_limits, is_valid}
 use Rattle.relay_core.specs.Rule.{by_answer, chosen, item_of, with_item}
 use Rattle.relay_core.specs.State.{State, gathering, next_entries, IsLane}
 use Rattle.relay_core.proofs.Tying.{chosen_sub}
+use Rattle.relay_core.proofs.Flights.{earlier_ones_settled}
 use Rattle.relay_core.proofs.Quiet.{count_most}
 use Rattle.relay_core.proofs.Valid.{valid_facts}
-use Rattle.relay_lane.specs.Rest.{IsWaiting, IsAtRest}
 
 -- ---- of a valid config
 
 pub record ValidLimits (c : RelayConfig) : Type 0 where
   pub count : (1 ≤ c.limits.count) × (c.limits.count ≤ 10000)
   pub bytes : c.limits.bytes ≤ 16777216
-  pub places : 1 ≤ c.in_flight
+  pub places : (1 ≤ c.in_flight) × (c.in_flight ≤ 8)
 
 within : (least most n : ℕ) → is_from_to least most n ≡ true → (least ≤ n) × (n ≤ most)
 within least most n t = (leb-true _ _ (and_left _ _ t), leb-true _ _ (and_right (nat_le least n) _ t))
@@ -54,18 +54,14 @@ valid_limits c t =
     record {
       count = within 1 10000 c.limits.count (and_left _ _ l);
       bytes = (within 1024 16777216 c.limits.bytes (and_left _ _ (and_right (is_from_to 1 10000 c.limits.count) _ l))).1;
-      places = (within 1 1 c.in_flight (and_left _ _ t7)).0;
+      places = within 1 8 c.in_flight (and_left _ _ t7);
     }
 
--- ---- at rest
+-- ---- small facts
 
 pub nothing : {A : Type 0} (xs : List A) → length xs ≡ 0 → xs ≡ []
 nothing [] e = refl
 nothing (x ∷ xs) e = absurd (omega (arith, e))
-
-pub waits_none : (p : Option Place) → waits p ≡ true → p ≡ None
-waits_none None t = refl
-waits_none (Some f) t = absurd (cc)
 
 -- ---- a batch
 
@@ -126,27 +122,31 @@ chosen_keeps (e ∷ es) g k =
 pub among : (s : State) (e : Entry) → Mem e (next_entries s) → Mem e s.core.held
 among s e m = Mem-sub e (next_entries s) s.core.held (sub_joined (next_entries s) (candidates s.core) s.core.held (chosen_sub (candidates s.core) (gathering s)) (filter_sub (is_candidate s.core) s.core.held)) m
 
-text_bytes : (g : Config) (n : ℕ) (es : List Entry) → ((e : Entry) → Mem e es → IsWaiting g n e) → length (text_of (writes_of_all es)) ≡ bytes_of (map item_of es)
-text_bytes g n [] w = refl
-text_bytes g n (e ∷ es) w =
-    let here = (w e (inl refl)).bytes in
-    let rest = text_bytes g n es (λ x m. w x (inr m)) in
+-- what is sent waits, so that its bytes are those of its lines
+weighed : (s : State) → IsLane s → (e : Entry) → Mem e (next_entries s) → e.bytes ≡ length (write_text (write_of e.held))
+weighed s l e m = l.weighed e (among s e m) (earlier_ones_settled s e m).waits
+
+text_bytes : (es : List Entry) → ((e : Entry) → Mem e es → e.bytes ≡ length (write_text (write_of e.held))) → length (text_of (writes_of_all es)) ≡ bytes_of (map item_of es)
+text_bytes [] w = refl
+text_bytes (e ∷ es) w =
+    let here = w e (inl refl) in
+    let rest = text_bytes es (λ x m. w x (inr m)) in
     let len = length-append (write_text (write_of e.held)) (text_of (writes_of_all es)) in
     let sum : bytes_of (map item_of (e ∷ es)) ≡ e.bytes + bytes_of (map item_of es) = sum_by-cons (λ (x : BatchItem). x.bytes) (item_of e) (map item_of es) in
     omega (arith, here, rest, len, sum)
 
-version_small : (s : State) → IsLane s → (e : Entry) → IsWaiting s.core.config s.core.taken e → e.held.version ≤ last_version
-version_small s l e w =
+version_small : (s : State) → IsLane s → (e : Entry) → Mem e s.core.held → e.held.version ≤ last_version
+version_small s l e m =
     let first = ap (λ (c : Config). c.first) l.config in
     let deals = ap (λ (c : Config). c.deals) l.config in
-    let v = w.dealt in
+    let v = (l.in_order e m).assigned in
     let e = (valid_facts s.config l.valid).epoch in
     let d = (valid_facts s.config l.valid).deal.1 in
     omega (arith, first, deals, v, e, d)
 
-dealt_all : (s : State) → IsLane s → (es : List Entry) → ((e : Entry) → Mem e es → IsWaiting s.core.config s.core.taken e) → AreDealt (writes_of_all es)
-dealt_all s l [] w = All-nil (λ (x : Write). x.version ≤ last_version)
-dealt_all s l (e ∷ es) w = All-cons (λ (x : Write). x.version ≤ last_version) (write_of e.held) (writes_of_all es) (version_small s l e (w e (inl refl))) (dealt_all s l es (λ x m. w x (inr m)))
+dealt_all : (es : List Entry) → ((e : Entry) → Mem e es → e.held.version ≤ last_version) → AreDealt (writes_of_all es)
+dealt_all [] w = All-nil (λ (x : Write). x.version ≤ last_version)
+dealt_all (e ∷ es) w = All-cons (λ (x : Write). x.version ≤ last_version) (write_of e.held) (writes_of_all es) (w e (inl refl)) (dealt_all es (λ x m. w x (inr m)))
 
 -- a line, with its end
 raw_short : (text raw : List ℕ) → IsRaw text raw → length text ≤ line_limit → length raw ≤ line_limit + 1
@@ -184,14 +184,15 @@ one_short w v =
     let len = ap length b.4 ∙ length-append b.0 b.1 in
     omega (arith, front, rest, len)
 
-text_short : (s : State) → IsLane s → (es : List Entry) → ((e : Entry) → Mem e es → IsWaiting s.core.config s.core.taken e) → Keeps s.config.limits (map item_of es) → length (text_of (writes_of_all es)) ≤ 16777216
-text_short s l [] w k = omega arith
-text_short s l (e ∷ []) w k = one_short (write_of e.held) (version_small s l e (w e (inl refl)))
-text_short s l (e ∷ d ∷ es) w k =
+text_short : (c : RelayConfig) → is_valid c ≡ true → (es : List Entry) → ((e : Entry) → Mem e es → e.bytes ≡ length (write_text (write_of e.held))) → ((e : Entry) → Mem e es → e.held.version ≤ last_version)
+    → Keeps c.limits (map item_of es) → length (text_of (writes_of_all es)) ≤ 16777216
+text_short c valid [] w v k = omega arith
+text_short c valid (e ∷ []) w v k = one_short (write_of e.held) (v e (inl refl))
+text_short c valid (e ∷ d ∷ es) w v k =
     let all = e ∷ d ∷ es in
-    let n = text_bytes s.core.config s.core.taken all w in
+    let n = text_bytes all w in
     let m = k.weighed (let len = length-map es item_of in omega (arith, len)) in
-    let b = (valid_limits s.config l.valid).bytes in
+    let b = (valid_limits c valid).bytes in
     omega (arith, n, m, b)
 
 -- ---- what a request carries
@@ -206,10 +207,10 @@ few_items l [] some k = omega arith
 few_items l (i ∷ []) some k = omega (arith, some)
 few_items l (i ∷ j ∷ is) some k = k.counted (omega arith)
 
-pub requests_fit : (s : State) → IsLane s → IsAtRest s → IsFit s
-requests_fit s l r =
+pub requests_fit : (s : State) → IsLane s → IsFit s
+requests_fit s l =
     let es = next_entries s in
-    let w : (e : Entry) → Mem e es → IsWaiting s.core.config s.core.taken e = λ e m. r.held e (among s e m) in
+    let small : (e : Entry) → Mem e es → e.held.version ≤ last_version = λ e m. version_small s l e (among s e m) in
     let k : Keeps s.config.limits (map item_of es) = chosen_keeps (candidates s.core) (gathering s) (record { counted = λ lt. omega arith; weighed = λ lt. omega arith }) in
     let c = few_items s.config.limits (map item_of es) (valid_limits s.config l.valid).count.0 k in
     let v = (valid_limits s.config l.valid).count.1 in
@@ -218,6 +219,6 @@ requests_fit s l r =
     let d = length-map (held_of es) write_of in
     record {
       few = omega (arith, c, v, a, b, d);
-      dealt = dealt_all s l es w;
-      bytes = text_short s l es w k;
+      dealt = dealt_all es small;
+      bytes = text_short s.config l.valid es (weighed s l) small k;
     }

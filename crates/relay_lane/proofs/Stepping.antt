@@ -1,60 +1,138 @@
 -- One turn of a loop: what it keeps and what falls.
-use Rattle.std.proofs.Common.{◌≡◌, ℕ, ◌+◌, ◌*◌, ◌^◌, ◌<◌, ◌≤◌, length, Option, Some, None, Bool, true, false, refl, sym, ap, ◌∙◌, subst, ⊎_elim, inl, inr, arith}
-use Rattle.std.specs.Prelude.{◌⊎◌, is_some}
+use Rattle.std.proofs.Common.{◌≡◌, ◌≢◌, ℕ, ◌+◌, ◌*◌, ◌<◌, ◌≤◌, List, length, Option, Some, None, Bool, true, false, refl, sym, ap, ◌∙◌, subst, ⊎_elim, inl, inr, arith}
+use Rattle.std.specs.Prelude.{◌⊎◌, is_some, not}
 use Rattle.std.specs.List.{list_all}
 use Rattle.std.proofs.Math.Nat.{mul-le-mul_left}
-use Rattle.relay_results.specs.Outside.{Outside}
-use Rattle.relay_results.proofs.Steps.{continues_itself}
-use Rattle.relay_delivery.specs.Machine.{Config}
-use Rattle.relay_delivery.specs.Lane.{Entry}
+use Rattle.relay_batch.specs.declared.item.BatchItem.{BatchItem}
+use Rattle.relay_results.specs.Outside.{Answer, Outside, Unanswered, Lost}
 use Rattle.relay_results.specs.Words.{Mem}
+use Rattle.relay_results.proofs.Steps.{continues_itself}
 use Rattle.relay_delivery.proofs.Fitting.{clock_fits}
-use Rattle.relay_core.specs.State.{State, all_closed, next_batch, due_in, IsLane}
+use Rattle.relay_delivery.specs.Lane.{Entry}
+use Rattle.relay_core.specs.State.{State, IsLane, all_closed, next_batch, after_request, answered, due_in}
 use Rattle.relay_core.specs.Ties.{Fits}
 use Rattle.relay_core.proofs.Valid.{valid_facts}
-use Rattle.relay_lane.specs.Rest.{IsAtRest}
-use Rattle.relay_lane.specs.Turns.{Exchanges, Pauses, after_ticks, Worked, Paused, sends_left}
-use Rattle.relay_lane.specs.Steps.{Exchanged, IsPressed}
+use Rattle.relay_lane.specs.Turns.{Turn, Sends, Fails, Settles, Pauses, after_send, after_fail, after_answer, after_ticks, after_turn, MayTurn, Worked, Paused, sends_in, ticks_in, pumps, sends_first, sends_left}
+use Rattle.relay_lane.specs.Steps.{Asked, IsPressed}
 use Rattle.relay_lane.specs.Delivers.{Delivers}
 use Rattle.relay_lane.specs.Laws.{Keeps}
-use Rattle.relay_lane.proofs.Exchanging.{done, done_is, done_from, done_mark}
-use Rattle.relay_lane.proofs.Counting.{works_on, worked_turn, some_batch, keeps_exchange, left_at_most}
+use Rattle.relay_lane.proofs.Limits.{valid_limits}
+use Rattle.relay_lane.proofs.Out.{oldest_is, oldest_number, flying_first, one_fewer, flying_more, flying_again}
+use Rattle.relay_lane.proofs.Sends.{request_takes, fail_takes, left_answered, from_sent, from_answered}
+use Rattle.relay_lane.proofs.Counting.{works_on, worked_turn, some_batch, turn_keeps, left_at_most}
 use Rattle.relay_lane.proofs.Carrying.{goes_on}
 
--- ---- a request
+-- ---- what each turn of a loop gives
 
-pub exchanged : (b : Bool) (s t : State) → b ≡ true → Exchanged b s t → Exchanged true s t
-exchanged b s t e x = subst (λ c. Exchanged c s t) e x
+-- a turn was taken: so many requests were sent, and of what may be sent and of what flies so much is left
+pub record Turned (x : Turn) (s t : State) : Type 0 where
+  pub may : MayTurn x s
+  pub reached : t ≡ after_turn x s
+  pub keeps : Keeps (sends_in x) (ticks_in x) s t
+  pub left : sends_in x + sends_left t ≤ sends_left s
+  pub falls : sends_left t * 2 + length t.core.flying + 1 ≤ sends_left s * 2 + length s.core.flying
+  pub pressed : IsPressed s → IsPressed t
 
-pub unchanged : (b : Bool) (s t : State) → b ≡ false → Exchanged b s t → t ≡ s
-unchanged b s t e x = subst (λ c. Exchanged c s t) e x
+keeps_as : (m n : ℕ) (s t u : State) → u ≡ t → Keeps m n s t → Keeps m n s u
+keeps_as m n s t u e k = subst (Keeps m n s) (sym e) k
 
-pub exchanged_keeps : (s t : State) → IsLane s → IsAtRest s → is_some (next_batch s) ≡ true → Exchanged true s t → Keeps 1 0 s t
-exchanged_keeps s t l r some x =
+-- operations with versions of those that were held, under the same mark, are sent as soon as those were
+pressed_as : (s t : State) → t.mark ≡ s.mark → t.closed ≡ s.closed → ((d : Entry) → Mem d t.core.held → (e : Entry) × Mem e s.core.held × (d.held.version ≡ e.held.version)) → IsPressed s → IsPressed t
+pressed_as s t mark closed from p d m =
+    let f = from d m in
+    ⊎_elim {C = (all_closed t ≡ true) ⊎ (d.held.version ≤ t.mark)}
+    (λ c. inl (ap (λ bs. list_all (λ (z : Bool). z) bs) closed ∙ c))
+    (λ marked. let v = f.2 in inr (omega (arith, marked, v, mark)))
+    (p f.0 f.1)
+
+sent_mark : (s : State) (b : Option (List BatchItem)) → ((after_request s b).mark ≡ s.mark) × ((after_request s b).closed ≡ s.closed)
+sent_mark s None = (refl, refl)
+sent_mark s (Some items) = (refl, refl)
+
+from_failed : (s : State) (items : List BatchItem) → next_batch s ≡ Some items → (d : Entry) → Mem d (after_fail s).core.held → (e : Entry) × Mem e s.core.held × (d.held.version ≡ e.held.version)
+from_failed s items some d m =
+    let x = from_answered (after_send s) s.flights.next Lost d m in
+    let y = from_sent s items some x.0 x.1 in
+    (y.0, y.1, x.2 ∙ y.2)
+
+sends_turned : (s t : State) → IsLane s → is_some (next_batch s) ≡ true → t ≡ after_send s → Turned Sends s t
+sends_turned s t l some e =
     let b = some_batch (next_batch s) some in
-    subst (Keeps 1 0 s) (sym x.2) (keeps_exchange s b.0 x.0 l.next r b.1 x.1)
+    let takes = request_takes s b.0 b.1 in
+    let more = flying_more s l b.0 b.1 in
+    let left = ap sends_left e in
+    let flying = ap (λ (x : State). length x.core.flying) e in
+    let mark = sent_mark s (next_batch s) in
+    record {
+      may = some;
+      reached = e;
+      keeps = keeps_as 1 0 s (after_send s) t e (turn_keeps Sends s some);
+      left = omega (arith, takes, left);
+      falls = omega (arith, takes, left, more, flying);
+      pressed = λ p. subst IsPressed (sym e) (pressed_as s (after_send s) mark.0 mark.1 (from_sent s b.0 b.1) p);
+    }
 
-pub exchanged_worked : (going : State → Bool) (s0 s t : State) → Worked going s0 s → going s ≡ true → is_some (next_batch s) ≡ true → Exchanged true s t → Worked going s0 t
-exchanged_worked going s0 s t w g some x = works_on going s0 s t w (worked_turn going (Exchanges x.0) s t g (some, x.1) x.2)
-
-pub exchanged_pressed : (s t : State) → IsLane s → IsAtRest s → is_some (next_batch s) ≡ true → Exchanged true s t → IsPressed s → IsPressed t
-exchanged_pressed s t l r some x p =
+fails_turned : (s t : State) → IsLane s → is_some (next_batch s) ≡ true → t ≡ after_fail s → Turned Fails s t
+fails_turned s t l some e =
     let b = some_batch (next_batch s) some in
-    let d = done s l.next r b.0 b.1 x.0 x.1 in
-    let e : t ≡ d = x.2 ∙ done_is s l.next r b.0 b.1 x.0 x.1 in
-    let k = done_mark s l.next r b.0 b.1 x.0 x.1 in
-    let here : IsPressed d = λ y m.
-    let f = done_from s l.next r b.0 b.1 x.0 x.1 y m in
-    ⊎_elim {C = (all_closed d ≡ true) ⊎ (y.held.version ≤ d.mark)}
-    (λ closed. inl (ap (λ bs. list_all (λ (z : Bool). z) bs) k.1 ∙ closed))
-    (λ marked. let v = f.2 in let n = k.0 in inr (omega (arith, marked, v, n)))
-    (p f.0 f.1) in
-    subst IsPressed (sym e) here
+    let takes = fail_takes s b.0 b.1 in
+    let again = ap length (flying_again s l b.0 b.1) in
+    let left = ap sends_left e in
+    let flying = ap (λ (x : State). length x.core.flying) e in
+    let mark = sent_mark s (next_batch s) in
+    record {
+      may = some;
+      reached = e;
+      keeps = keeps_as 1 0 s (after_fail s) t e (turn_keeps Fails s some);
+      left = omega (arith, takes, left);
+      falls = omega (arith, takes, left, again, flying);
+      pressed = λ p. subst IsPressed (sym e) (pressed_as s (after_fail s) mark.0 mark.1 (from_failed s b.0 b.1) p);
+    }
+
+-- a request was sent, or could not be
+pub record Sent (s t : State) : Type 0 where
+  pub turn : Turn
+  pub turned : Turned turn s t
+  pub one : sends_in turn ≡ 1
+  pub no_tick : ticks_in turn ≡ 0
+  pub may_pump : pumps turn s ≡ true
+  pub goes_first : sends_first turn s ≡ true
+
+pub asked_sent : (b : Bool) (s t : State) → IsLane s → b ≡ is_some (next_batch s) → b ≡ true → Asked b s t → Sent s t
+asked_sent b s t l some is asked = ⊎_elim {C = Sent s t}
+    (λ e. record { turn = Sends; turned = sends_turned s t l (sym some ∙ is) e; one = refl; no_tick = refl; may_pump = refl; goes_first = refl })
+    (λ e. record { turn = Fails; turned = fails_turned s t l (sym some ∙ is) e; one = refl; no_tick = refl; may_pump = refl; goes_first = refl })
+    (subst (λ c. Asked c s t) is asked)
+
+pub not_asked : (b : Bool) (s t : State) → b ≡ false → Asked b s t → t ≡ s
+not_asked b s t e x = subst (λ c. Asked c s t) e x
+
+-- the oldest was answered
+pub settles_turned : (s t : State) (a : Answer) → IsLane s → 0 < length s.core.flying → a ≢ Unanswered → t ≡ after_answer a s → Turned (Settles a) s t
+settles_turned s t a l some answers e =
+    let n = flying_first s some in
+    let o = oldest_is s n.0 n.1 in
+    let at : after_answer a s ≡ answered s n.0 a = ap (λ k. answered s k a) (oldest_number s l n.0 o) in
+    let k = left_answered s n.0 a l answers in
+    let fewer = one_fewer s l n.0 o a in
+    let left = ap sends_left (e ∙ at) in
+    let flying = ap (λ (x : State). length x.core.flying) (e ∙ at) in
+    record {
+      may = (some, answers);
+      reached = e;
+      keeps = keeps_as 0 0 s (after_answer a s) t e (turn_keeps (Settles a) s (some, answers));
+      left = omega (arith, k, left);
+      falls = omega (arith, k, left, fewer, flying);
+      pressed = λ p. subst IsPressed (sym (e ∙ at)) (pressed_as s (answered s n.0 a) refl refl (from_answered s n.0 a) p);
+    }
+
+pub turned_worked : (going : Turn → State → Bool) (s0 s t : State) (x : Turn) → Worked going s0 s → going x s ≡ true → Turned x s t → Worked going s0 t
+turned_worked going s0 s t x w g k = works_on going s0 s t w (worked_turn going x s t g k.may k.reached)
 
 -- ---- a pause
 
-pub paused_worked : (going : State → Bool) (s0 s t : State) (n : ℕ) → Worked going s0 s → going s ≡ true → next_batch s ≡ None → due_in s ≡ Some n → t ≡ after_ticks n s → Worked going s0 t
-paused_worked going s0 s t n w g none due e = works_on going s0 s t w (worked_turn going (Pauses n) s t g (none, due) e)
+pub paused_worked : (going : Turn → State → Bool) (s0 s t : State) (n : ℕ) → Worked going s0 s → going (Pauses n) s ≡ true → length s.core.flying ≡ 0 → next_batch s ≡ None → due_in s ≡ Some n → t ≡ after_ticks n s → Worked going s0 t
+paused_worked going s0 s t n w g still none due e = works_on going s0 s t w (worked_turn going (Pauses n) s t g (still, none, due) e)
 
 pub none_of : {A : Type 0} (b : Option A) → false ≡ is_some b → b ≡ None
 none_of None e = refl
@@ -79,31 +157,31 @@ delivers_ticks d fits w s t n e d_true taken o f l =
 
 -- ---- how many
 
--- no cap is above the count of a valid config
-pub low_caps : (s : State) → IsLane s → IsAtRest s → (e : Entry) → Mem e s.core.held → e.held.cap < 2 ^ 14
-low_caps s l r e m =
-    let c = (r.held e m).cap in
-    let first = ap (λ (c : Config). c.cap) l.config in
-    let most = (valid_facts s.config l.valid).count.1 in
-    let p : 2 ^ 14 ≡ 16384 = refl in
-    omega (arith, c, first, most, p)
-
-pub sends_small : (s : State) → IsLane s → IsAtRest s → sends_left s ≤ 3014656
-sends_small s l r =
+pub sends_small : (s : State) → IsLane s → sends_left s ≤ 3014656
+sends_small s l =
     let v = valid_facts s.config l.valid in
-    let max = ap (λ (c : Config). c.max) l.config in
-    let some = v.tries.0 in
-    let most = left_at_most s (omega (arith, max, some)) (low_caps s l r) in
+    let most = left_at_most s l in
     let few = v.tries.1 in
     let held = l.held in
     let limit = v.held in
-    let m = mul-le-mul_left (length s.core.held) (let k : s.core.config.max + 14 ≤ 46 = omega (arith, max, few) in k) in
+    let m = mul-le-mul_left (length s.core.held) (let k : s.config.attempts + 14 ≤ 46 = omega (arith, few) in k) in
     omega (arith, most, held, limit, m)
 
-pub most_sent : (s t : State) → IsLane s → IsAtRest s → t.core.requests + sends_left t ≤ s.core.requests + sends_left s → t.core.requests ≤ s.core.requests + length s.core.held * (s.config.attempts + 14)
-most_sent s t l r bound =
-    let max = ap (λ (c : Config). c.max) l.config in
-    let some = (valid_facts s.config l.valid).tries.0 in
-    let most = left_at_most s (omega (arith, max, some)) (low_caps s l r) in
-    let same : length s.core.held * (s.core.config.max + 14) ≡ length s.core.held * (s.config.attempts + 14) = ap (λ n. length s.core.held * (n + 14)) max in
-    omega (arith, bound, most, same)
+pub most_sent : (s t : State) → IsLane s → t.core.requests + sends_left t ≤ s.core.requests + sends_left s → t.core.requests ≤ s.core.requests + length s.core.held * (s.config.attempts + 14)
+most_sent s t l bound = let most = left_at_most s l in omega (arith, bound, most)
+
+-- ---- what a test says
+
+pub worked_same : (going : Turn → State → Bool) (s0 s t : State) → t ≡ s → Worked going s0 s → Worked going s0 t
+worked_same going s0 s t e w = subst (Worked going s0) (sym e) w
+
+-- far fewer fly than a number of 32 bits says
+pub few_fly : (s : State) → IsLane s → length s.core.flying ≤ 8
+few_fly s l =
+    let b = l.beside in
+    let f = l.flying in
+    let p = (valid_limits s.config l.valid).places.1 in
+    omega (arith, b, f, p)
+
+pub none_ready : (b : Bool) (s t : State) → t ≡ s → b ≡ false → b ≡ is_some (next_batch s) → not (is_some (next_batch t)) ≡ true
+none_ready b s t e no_one is = ap (λ (x : State). not (is_some (next_batch x))) e ∙ ap not (sym is ∙ no_one)

@@ -3,8 +3,7 @@ use Rattle.std.proofs.Common.{◌≡◌, ℕ, ◌+◌, ◌<◌, Option, Some, tr
 use Rattle.std.specs.Prelude.{IfSome, nat_lt, if◌then◌else◌}
 use borrow.Author.Tests.{ltb-false}
 use Rattle.relay_results.proofs.Lists.{true_or_false}
-use Rattle.relay_core.specs.State.{State, ticked}
-use Rattle.relay_lane.specs.Rest.{last_tick}
+use Rattle.relay_core.specs.State.{State, last_tick, ticked}
 use Rattle.relay_lane.specs.Turns.{after_ticks}
 
 at_clock : State → ℕ → State

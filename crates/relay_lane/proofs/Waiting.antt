@@ -1,6 +1,6 @@
 -- Where nothing is to be sent, the first operation that may be sent is due later.
 use Rattle.std.proofs.Common.{◌≡◌, ℕ, ◌-◌, ◌<◌, ◌≤◌, List, [], ◌∷◌, length, Option, Some, None, Bool, true, false, refl, sym, ap, ◌∙◌, subst, ⊎_elim, inl, inr, arith}
-use Rattle.std.specs.Prelude.{◌&&◌, ◌||◌, not, nat_lt, nat_le, map, filter, min, option_map, if◌then◌else◌}
+use Rattle.std.specs.Prelude.{◌==◌, ◌&&◌, ◌||◌, not, nat_lt, nat_le, map, filter, min, option_map, if◌then◌else◌}
 use Rattle.std.specs.List.{list_any}
 use borrow.Author.Tests.{ltb-true, ltb-false, leb-true, leb-false}
 use Rattle.relay_batch.specs.declared.item.BatchItem.{BatchItem}
@@ -9,12 +9,11 @@ use Rattle.relay_batch.specs.Gathering.{answer_to, is_ready}
 use Rattle.relay_results.specs.Words.{Mem}
 use Rattle.relay_results.specs.Documents.{document_of, same_document}
 use Rattle.relay_results.proofs.Lists.{true_or_false, and_left, and_right, and_both, or_left, or_right, Mem-filter, filter-Mem, Mem-map}
-use Rattle.relay_delivery.specs.Machine.{Held}
-use Rattle.relay_delivery.specs.Lane.{Entry, held_of, waits, is_candidate, candidates}
+use Rattle.relay_delivery.specs.Machine.{Held, Place}
+use Rattle.relay_delivery.specs.Lane.{Entry, Flying, held_of, waits, is_candidate, candidates}
 use Rattle.relay_core.specs.Rule.{by_answer, offered, closes, chosen, item_of, with_item, is_marked, goes, batch_if}
 use Rattle.relay_core.specs.State.{State, all_closed, gathering, next_batch, is_eligible, sooner, first_due, IsLane}
 use Rattle.relay_core.proofs.Launching.{offered_chosen}
-use Rattle.relay_lane.specs.Rest.{IsAtRest}
 use Rattle.relay_lane.specs.Steps.{IsPressed, IsDueLater}
 use Rattle.relay_lane.proofs.Limits.{valid_limits}
 
@@ -106,11 +105,23 @@ above_test a b lt = ⊎_elim {C = nat_le a b ≡ false} (λ t. let k = leb-true 
 pub within_test : (a b : ℕ) → a ≤ b → nat_le a b ≡ true
 within_test a b le = ⊎_elim {C = nat_le a b ≡ true} (λ t. t) (λ t. let k = leb-false a b t in absurd (omega (arith, k, le))) (true_or_false (nat_le a b))
 
+none_there : (fs : List Flying) (p : Place) → length fs ≡ 0 → list_any (λ (f : Flying). f.request == p.request) fs ≡ true → ⊥
+none_there [] p e t = cc
+none_there (f ∷ fs) p e t = absurd (omega (arith, e))
+
+waits_where : (o : Option Place) → ((p : Place) → o ≡ Some p → ⊥) → waits o ≡ true
+waits_where None none = refl
+waits_where (Some p) none = absurd (none p refl)
+
 -- the first offer is taken
 first_added : (s : State) (i : BatchItem) → answer_to i (gathering s) ≡ Added
 first_added s i = refl
 
-module _ (s : State) (l : IsLane s) (r : IsAtRest s) (pressed : IsPressed s) where
+module _ (s : State) (l : IsLane s) (still : length s.core.flying ≡ 0) (pressed : IsPressed s) where
+  -- nothing flies
+  all_wait : (e : Entry) → Mem e s.core.held → waits e.held.flies ≡ true
+  all_wait e m = waits_where e.held.flies (λ p is. none_there s.core.flying p still ((l.in_order e m).flies p is).flies)
+
   batch_of_first : (c : Entry) (cs : List Entry) → candidates s.core ≡ c ∷ cs → Mem c s.core.held → next_batch s ≡ None → ⊥
   batch_of_first c cs are m none =
       let v = valid_limits s.config l.valid in
@@ -130,11 +141,11 @@ module _ (s : State) (l : IsLane s) (r : IsAtRest s) (pressed : IsPressed s) whe
       (λ marked. or_left (is_marked s.mark o.items) _ (ap (is_marked s.mark) items ∙ within_test _ _ marked))
       (pressed c m))) in
       let goes_now : goes s.core.clock s.mark (all_closed s) o (closes all g) ≡ true = and_both (nat_lt 0 (length o.items)) _ some due in
-      let places = r.batches in
-      let few = v.places in
+      let places = l.beside in
+      let few = v.places.0 in
       not_none (next_batch s) o.items
       (if_goes (nat_lt (length s.flights.batches) s.config.in_flight) _ o.items
-      (below_test _ _ (omega (arith, places, few)))
+      (below_test _ _ (omega (arith, places, still, few)))
       (ap (λ b. batch_if b o.items) goes_now))
       none
 
@@ -148,11 +159,11 @@ module _ (s : State) (l : IsLane s) (r : IsAtRest s) (pressed : IsPressed s) whe
   later_at (h ∷ hs) are some none =
       let o = oldest h hs in
       let held = subst (Mem o.0) (sym are) o.1 in
-      let e = eligible s o.0 (r.held o.0 held).waits (λ j m. o.2 j (subst (Mem j) are m)) in
+      let e = eligible s o.0 (all_wait o.0 held) (λ j m. o.2 j (subst (Mem j) are m)) in
       let f = some_first (filter (is_eligible s) s.core.held) o.0 (filter-Mem (is_eligible s) o.0 s.core.held held e) in
       let y = Mem-filter (is_eligible s) f.one s.core.held f.among in
       let at = f.at in
-      let end = (r.held f.one y.0).due in
+      let end = (l.in_order f.one y.0).due in
       let later : s.core.clock < f.due = ⊎_elim {C = s.core.clock < f.due}
       (λ t. absurd (none_due (candidates s.core) refl none f.one
       (filter-Mem (is_candidate s.core) f.one s.core.held y.0

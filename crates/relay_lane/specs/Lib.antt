@@ -1,6 +1,7 @@
 pub mod Wires
-pub mod Rest
+pub mod Out
 pub mod Turns
 pub mod Steps
 pub mod Delivers
+pub mod Reached
 pub mod Laws

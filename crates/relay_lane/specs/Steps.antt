@@ -1,16 +1,19 @@
--- What the private functions of a drain do.
+-- What the private functions do.
 use Rattle.std.specs.Prelude.{◌≡◌, ◌≢◌, ◌⊎◌, ◌+◌, ◌≤◌, ◌<◌, ℕ, Bool, true, false, Some}
 use Rattle.relay_results.specs.Words.{Mem}
 use Rattle.relay_results.specs.Outside.{Answer, Unanswered}
 use Rattle.relay_delivery.specs.Lane.{Entry}
-use Rattle.relay_core.specs.State.{State, all_closed, due_in}
-use Rattle.relay_lane.specs.Rest.{last_tick}
-use Rattle.relay_lane.specs.Turns.{after_exchange}
+use Rattle.relay_core.specs.State.{State, last_tick, all_closed, due_in}
+use Rattle.relay_lane.specs.Turns.{after_send, after_fail, after_answer}
 
--- a request was sent and given some answer, or nothing changed
-abbrev pub Exchanged : Bool → State → State → Type 0
-Exchanged true s t = (a : Answer) × (a ≢ Unanswered) × (t ≡ after_exchange a s)
-Exchanged false s t = t ≡ s
+-- a request was sent, or could not be sent; or nothing changed
+abbrev pub Asked : Bool → State → State → Type 0
+Asked true s t = (t ≡ after_send s) ⊎ (t ≡ after_fail s)
+Asked false s t = t ≡ s
+
+-- the oldest request was given an answer
+abbrev pub Settled : State → State → Type 0
+Settled s t = (a : Answer) × (a ≢ Unanswered) × (t ≡ after_answer a s)
 
 -- whatever is due of it is sent: the lane is closed, or all that it holds was flushed
 abbrev pub IsPressed : State → Type 0

@@ -1,45 +1,59 @@
 -- What a lane does that works on a wire, turn by turn, and how many requests it may send.
-use Rattle.std.specs.Prelude.{◌≡◌, ◌≢◌, ◌+◌, ◌-◌, ℕ, List, [], ◌∷◌, Option, Some, None, is_some, ◌≤◌, Bool, true, nat_lt, nat_le, length, if◌then◌else◌}
-use Rattle.relay_results.specs.Outside.{Answer, Unanswered}
+use Rattle.std.specs.Prelude.{◌≡◌, ◌≢◌, ◌+◌, ◌-◌, ◌<◌, ℕ, List, [], ◌∷◌, Option, Some, None, unwrap_or, is_some, ◌≤◌, Bool, true, false, not, ◌&&◌, nat_lt, nat_le, length, if◌then◌else◌}
+use Rattle.relay_results.specs.Outside.{Answer, Unanswered, Lost}
 use Rattle.relay_delivery.specs.Bound.{halvings}
+use Rattle.relay_delivery.specs.Machine.{Place}
 use Rattle.relay_delivery.specs.Lane.{Entry}
-use Rattle.relay_core.specs.State.{State, next_batch, after_request, answered, due_in}
-use Rattle.relay_lane.specs.Rest.{last_tick}
+use Rattle.relay_core.specs.State.{State, last_tick, next_batch, after_request, answered, oldest, due_in}
 
 -- ---- turns
 
--- its next request is sent and given an answer, or so many ticks pass
+-- its next request is sent; or it cannot be sent, and counts as lost; the oldest request in flight is answered; or so many
+-- ticks pass
 pub data Turn : Type 0 where
-  Exchanges : Answer → Turn
+  Sends : Turn
+  Fails : Turn
+  Settles : Answer → Turn
   Pauses : ℕ → Turn
 
-abbrev pub after_exchange : Answer → State → State
-after_exchange a s = answered (after_request s (next_batch s)) s.flights.next a
+abbrev pub after_send : State → State
+after_send s = after_request s (next_batch s)
+
+abbrev pub after_fail : State → State
+after_fail s = answered (after_send s) s.flights.next Lost
+
+abbrev pub after_answer : Answer → State → State
+after_answer a s = answered s (unwrap_or (oldest s) 0) a
 
 abbrev pub after_ticks : ℕ → State → State
 after_ticks n s = record s { core = record s.core { clock = s.core.clock + n } }
 
 abbrev pub after_turn : Turn → State → State
-after_turn (Exchanges a) s = after_exchange a s
+after_turn Sends s = after_send s
+after_turn Fails s = after_fail s
+after_turn (Settles a) s = after_answer a s
 after_turn (Pauses n) s = after_ticks n s
 
--- where a batch is to be sent it is sent, and an answer comes; where none is, it pauses until the first operation is due
+-- where a batch is to be sent it is sent, where a request is in flight it is answered, and where neither can be, it pauses
+-- until the first operation is due
 abbrev pub MayTurn : Turn → State → Type 0
-MayTurn (Exchanges a) s = (is_some (next_batch s) ≡ true) × (a ≢ Unanswered)
-MayTurn (Pauses n) s = (next_batch s ≡ None) × (due_in s ≡ Some n)
+MayTurn Sends s = is_some (next_batch s) ≡ true
+MayTurn Fails s = is_some (next_batch s) ≡ true
+MayTurn (Settles a) s = (0 < length s.core.flying) × (a ≢ Unanswered)
+MayTurn (Pauses n) s = (length s.core.flying ≡ 0) × (next_batch s ≡ None) × (due_in s ≡ Some n)
 
 -- turns one after another
 abbrev pub after_turns : List Turn → State → State
 after_turns [] s = s
 after_turns (t ∷ ts) s = after_turns ts (after_turn t s)
 
--- each of them is taken while this test holds
-abbrev pub AllMayTurn : (State → Bool) → List Turn → State → Type 0
+-- each of them is taken where this test holds
+abbrev pub AllMayTurn : (Turn → State → Bool) → List Turn → State → Type 0
 AllMayTurn going [] s = Unit {0}
-AllMayTurn going (t ∷ ts) s = (going s ≡ true) × MayTurn t s × AllMayTurn going ts (after_turn t s)
+AllMayTurn going (t ∷ ts) s = (going t s ≡ true) × MayTurn t s × AllMayTurn going ts (after_turn t s)
 
 -- the lane has worked so: nothing but these turns changed it
-pub record Worked (going : State → Bool) (old new : State) : Type 0 where
+pub record Worked (going : Turn → State → Bool) (old new : State) : Type 0 where
   pub turns : List Turn
   pub may : AllMayTurn going turns old
   pub reached : new ≡ after_turns turns old
@@ -50,47 +64,81 @@ pub record Stays (old new : State) : Type 0 where
   pub closed : new.closed ≡ old.closed
   pub taken : new.core.taken ≡ old.core.taken
 
--- how many requests were sent
-abbrev pub exchanges : List Turn → ℕ
-exchanges [] = 0
-exchanges (Exchanges a ∷ ts) = 1 + exchanges ts
-exchanges (Pauses n ∷ ts) = exchanges ts
+-- how many requests a turn sends, or tries to send
+abbrev pub sends_in : Turn → ℕ
+sends_in Sends = 1
+sends_in Fails = 1
+sends_in (Settles a) = 0
+sends_in (Pauses n) = 0
 
--- how many ticks passed
+-- how many ticks pass in it
+abbrev pub ticks_in : Turn → ℕ
+ticks_in Sends = 0
+ticks_in Fails = 0
+ticks_in (Settles a) = 0
+ticks_in (Pauses n) = n
+
+abbrev pub requests : List Turn → ℕ
+requests [] = 0
+requests (t ∷ ts) = sends_in t + requests ts
+
 abbrev pub ticks : List Turn → ℕ
 ticks [] = 0
-ticks (Exchanges a ∷ ts) = ticks ts
-ticks (Pauses n ∷ ts) = n + ticks ts
+ticks (t ∷ ts) = ticks_in t + ticks ts
 
 -- what a pace shows went up by so many ticks, where it shows a number and that does not end
 abbrev pub Paused : ℕ → Option ℕ → Option ℕ → Type 0
 Paused n old new = (p : ℕ) → old ≡ Some p → p + n ≤ last_tick → new ≡ Some (p + n)
 
--- ---- how long it goes on
+-- ---- which turns are taken, and how long it goes on
 
-abbrev pub always : State → Bool
-always s = true
+-- all places in flight are taken
+abbrev pub is_crowded : State → Bool
+is_crowded s = nat_le s.config.in_flight (length s.core.flying)
 
--- it holds so many operations, or more
-abbrev pub holds : ℕ → State → Bool
-holds least s = nat_le least (length s.core.held)
+-- whatever is ready is sent, an answer is waited for only where no place is free, and no tick passes
+abbrev pub pumps : Turn → State → Bool
+pumps Sends s = true
+pumps Fails s = true
+pumps (Settles a) s = is_crowded s
+pumps (Pauses n) s = false
 
-abbrev pub holds_some : State → Bool
-holds_some s = holds 1 s
+-- nothing is sent, and no tick passes
+abbrev pub collects : Turn → State → Bool
+collects Sends s = false
+collects Fails s = false
+collects (Settles a) s = true
+collects (Pauses n) s = false
 
-abbrev pub is_full : State → Bool
-is_full s = holds s.config.max_held s
+-- an answer is waited for only where nothing is to be sent
+abbrev pub sends_first : Turn → State → Bool
+sends_first Sends s = true
+sends_first Fails s = true
+sends_first (Settles a) s = not (is_some (next_batch s))
+sends_first (Pauses n) s = true
+
+-- as long as it holds so many operations, or more
+abbrev pub holds : ℕ → Turn → State → Bool
+holds least t s = nat_le least (length s.core.held) && sends_first t s
+
+abbrev pub holds_some : Turn → State → Bool
+holds_some t s = holds 1 t s
+
+abbrev pub is_full : Turn → State → Bool
+is_full t s = holds s.config.max_held t s
 
 -- ---- how many requests it may send
 
--- one operation may go into as many requests as it has attempts left, and into one at least, and into one more for each
--- halving of its cap
-abbrev pub sends_of : ℕ → ℕ → ℕ
-sends_of most attempts = if nat_lt attempts most then most - attempts else 1
+-- One operation that waits may go into as many requests as it has attempts left, and into one at least; one that flies,
+-- into as many as it has left.
+abbrev pub sends_of : ℕ → ℕ → Option Place → ℕ
+sends_of most attempts None = if nat_lt attempts most then most - attempts else 1
+sends_of most attempts (Some p) = most - attempts
 
+-- ... and each into one more for each halving of its cap
 abbrev pub sends_among : ℕ → List Entry → ℕ
 sends_among most [] = 0
-sends_among most (e ∷ es) = sends_of most e.held.attempts + halvings e.held.cap + sends_among most es
+sends_among most (e ∷ es) = sends_of most e.held.attempts e.held.flies + halvings e.held.cap + sends_among most es
 
 abbrev pub sends_left : State → ℕ
 sends_left s = sends_among s.core.config.max s.core.held

@@ -1,42 +1,73 @@
 //! A lane sends, repeats and settles over a wire.
 ghost use Rattle.std.specs.Prelude.{◌≡◌, ◌+◌, ◌*◌, ◌-◌, ◌<◌, ◌≤◌, [], None, true, length, IfOk, OnOk, OnErr};
 ghost use Rattle.relay_core.specs.State.{next_batch, all_closed, flushed};
-ghost use Rattle.relay_lane.specs.Rest.{IsAtRest};
-ghost use Rattle.relay_lane.specs.Turns.{Worked, Stays, always, holds, holds_some, is_full, Paused, sends_left};
+ghost use Rattle.relay_lane.specs.Out.{out_of};
+ghost use Rattle.relay_lane.specs.Turns.{Worked, Stays, pumps, collects, holds, holds_some, is_full, Paused, sends_left};
 ghost use Rattle.relay_lane.specs.Steps.{IsPressed};
 ghost use Rattle.relay_lane.specs.Delivers.{Delivers};
 
 use crate::pace::Pace;
-use crate::turn::{send_next, wait};
+use crate::turn::{send_next, settle_oldest, wait};
 use crate::wire::Wire;
 use relay_core::Lane;
 use std::alloc::AllocError;
 
-/// Sends and settles every request that is ready, and returns how many. No tick passes.
-/// `AllocError`: the allocation of a request failed; the lane is as the last settled request left
-/// it, and the call may be repeated.
+/// Sends every request that is ready, and returns how many. If all places in flight are taken, it
+/// waits for the answer to the oldest request and settles it, so that the next one can go. No tick
+/// passes. What is still in flight at the end is settled by a later call, or by [`collect`].
+/// `AllocError`: the allocation of a request failed; the lane is as the turns before left it, and
+/// the call may be repeated.
 pub fn pump<W: Wire>(lane: &mut Lane, wire: &mut W) -> Result<u64, AllocError>
-    requires rest { IsAtRest lane.old.state }
-    requires out { W.out wire.old ≡ [] }
+    requires out { W.out wire.old ≡ out_of lane.old.state }
     ensures requests { IfOk result (λ n. lane.new.state.core.requests ≡ lane.old.state.core.requests + n) }
     ensures done { OnOk result (next_batch lane.new.state ≡ None) }
+    ensures place { OnOk result (length lane.new.state.core.flying < lane.new.state.config.in_flight) }
     ensures memory { OnErr result (0 < length lane.new.state.core.held) }
-    ensures worked { Worked always lane.old.state lane.new.state }
+    ensures worked { Worked pumps lane.old.state lane.new.state }
     ensures clock { lane.new.state.core.clock ≡ lane.old.state.core.clock }
     ensures bound { lane.new.state.core.requests + sends_left lane.new.state
         ≤ lane.old.state.core.requests + sends_left lane.old.state }
     ensures stays { Stays lane.old.state lane.new.state }
-    ensures rest { IsAtRest lane.new.state }
+    ensures out { W.out wire.new ≡ out_of lane.new.state }
+    ensures describes { W.describes wire.new ≡ W.describes wire.old }
+    ensures delivers { Delivers (W.describes wire.old) W.fits wire.old wire.new lane.old.state lane.new.state }
+{
+    let _ = lane.totals();
+    let places = lane.in_flight();
+    let mut sent: u64 = 0;
+    'turns: loop {
+        if send_next(lane, wire)? {
+            sent += 1;
+        } else if lane.flying() >= places {
+            settle_oldest(lane, wire);
+        } else {
+            return Ok(sent);
+        }
+    }
+}
+
+/// Waits for the answer to each request in flight, the oldest first, and settles it. Returns how
+/// many there were. Nothing is sent, no tick passes, and the lane allocates nothing.
+pub fn collect<W: Wire>(lane: &mut Lane, wire: &mut W) -> u64
+    requires out { W.out wire.old ≡ out_of lane.old.state }
+    ensures count { result ≡ length lane.old.state.core.flying }
+    ensures none { lane.new.state.core.flying ≡ [] }
+    ensures worked { Worked collects lane.old.state lane.new.state }
+    ensures requests { lane.new.state.core.requests ≡ lane.old.state.core.requests }
+    ensures clock { lane.new.state.core.clock ≡ lane.old.state.core.clock }
+    ensures bound { sends_left lane.new.state ≤ sends_left lane.old.state }
+    ensures stays { Stays lane.old.state lane.new.state }
     ensures out { W.out wire.new ≡ [] }
     ensures describes { W.describes wire.new ≡ W.describes wire.old }
     ensures delivers { Delivers (W.describes wire.old) W.fits wire.old wire.new lane.old.state lane.new.state }
 {
     let _ = lane.totals();
-    let mut sent: u64 = 0;
-    'requests: while send_next(lane, wire)? {
-        sent += 1;
+    let mut settled: u64 = 0;
+    'answers: while lane.flying() > 0 {
+        settle_oldest(lane, wire);
+        settled += 1;
     }
-    Ok(sent)
+    settled
 }
 
 // Sends, repeats and settles until fewer than `least` operations are held.
@@ -47,9 +78,8 @@ fn work<W: Wire, P: Pace>(
     least: u32,
 ) -> Result<(), AllocError>
     requires some { 1 ≤ least }
-    requires rest { IsAtRest lane.old.state }
     requires pressed { IsPressed lane.old.state }
-    requires out { W.out wire.old ≡ [] }
+    requires out { W.out wire.old ≡ out_of lane.old.state }
     ensures done { OnOk result (length lane.new.state.core.held < least) }
     ensures memory { OnErr result (least ≤ length lane.new.state.core.held) }
     ensures worked { Worked (holds least) lane.old.state lane.new.state }
@@ -57,13 +87,17 @@ fn work<W: Wire, P: Pace>(
         ≤ lane.old.state.core.requests + sends_left lane.old.state }
     ensures paused { Paused (lane.new.state.core.clock - lane.old.state.core.clock) (P.paused pace.old) (P.paused pace.new) }
     ensures stays { Stays lane.old.state lane.new.state }
-    ensures rest { IsAtRest lane.new.state }
-    ensures out { W.out wire.new ≡ [] }
+    ensures out { W.out wire.new ≡ out_of lane.new.state }
     ensures describes { W.describes wire.new ≡ W.describes wire.old }
     ensures delivers { Delivers (W.describes wire.old) W.fits wire.old wire.new lane.old.state lane.new.state }
 {
     'turns: while lane.held() >= least {
-        if !send_next(lane, wire)? {
+        if send_next(lane, wire)? {
+            continue;
+        }
+        if lane.flying() > 0 {
+            settle_oldest(lane, wire); // so that no answer waits out a pause
+        } else {
             wait(lane, pace);
         }
     }
@@ -71,16 +105,16 @@ fn work<W: Wire, P: Pace>(
 }
 
 /// Flushes, and then sends, repeats and settles until fewer than `max_held` operations are held. If
-/// nothing is ready it pauses and ticks, as [`drain`] does. So a lane that has room is only
-/// flushed. `AllocError`: the allocation of a request failed; the lane is as the last settled
-/// request left it, and the call may be repeated.
+/// nothing is ready it settles the oldest request in flight; if none is in flight either, it pauses
+/// and ticks, as [`drain`] does. So a lane that has room is only flushed. `AllocError`: the
+/// allocation of a request failed; the lane is as the turns before left it, and the call may be
+/// repeated.
 pub fn make_room<W: Wire, P: Pace>(
     lane: &mut Lane,
     wire: &mut W,
     pace: &mut P,
 ) -> Result<(), AllocError>
-    requires rest { IsAtRest lane.old.state }
-    requires out { W.out wire.old ≡ [] }
+    requires out { W.out wire.old ≡ out_of lane.old.state }
     ensures done { OnOk result (length lane.new.state.core.held < lane.new.state.config.max_held) }
     ensures memory { OnErr result (lane.new.state.config.max_held ≤ length lane.new.state.core.held) }
     ensures worked { Worked is_full (flushed lane.old.state) lane.new.state }
@@ -88,8 +122,7 @@ pub fn make_room<W: Wire, P: Pace>(
         ≤ lane.old.state.core.requests + sends_left lane.old.state }
     ensures paused { Paused (lane.new.state.core.clock - lane.old.state.core.clock) (P.paused pace.old) (P.paused pace.new) }
     ensures stays { Stays lane.old.state lane.new.state }
-    ensures rest { IsAtRest lane.new.state }
-    ensures out { W.out wire.new ≡ [] }
+    ensures out { W.out wire.new ≡ out_of lane.new.state }
     ensures describes { W.describes wire.new ≡ W.describes wire.old }
     ensures delivers { Delivers (W.describes wire.old) W.fits wire.old wire.new lane.old.state lane.new.state }
 {
@@ -101,17 +134,17 @@ pub fn make_room<W: Wire, P: Pace>(
 
 /// Sends, repeats and settles until a closed lane holds nothing. It sends at most `attempts + 14`
 /// requests for each operation held: 14 since a request that is too large is halved. If nothing is
-/// ready it pauses until the first operation that may be sent is due, and ticks the clock by as
-/// much. `AllocError`: the allocation of a request failed; the lane is as the last settled request
-/// left it, and the call may be repeated.
+/// ready it settles the oldest request in flight; if none is in flight either, it pauses until the
+/// first operation that may be sent is due, and ticks the clock by as much. `AllocError`: the
+/// allocation of a request failed; the lane is as the turns before left it, and the call may be
+/// repeated.
 pub fn drain<W: Wire, P: Pace>(
     lane: &mut Lane,
     wire: &mut W,
     pace: &mut P,
 ) -> Result<(), AllocError>
     requires closed { all_closed lane.old.state ≡ true }
-    requires rest { IsAtRest lane.old.state }
-    requires out { W.out wire.old ≡ [] }
+    requires out { W.out wire.old ≡ out_of lane.old.state }
     ensures done { OnOk result (lane.new.state.core.held ≡ []) }
     ensures memory { OnErr result (0 < length lane.new.state.core.held) }
     ensures worked { Worked holds_some lane.old.state lane.new.state }
@@ -121,8 +154,7 @@ pub fn drain<W: Wire, P: Pace>(
         ≤ lane.old.state.core.requests + length lane.old.state.core.held * (lane.old.state.config.attempts + 14) }
     ensures paused { Paused (lane.new.state.core.clock - lane.old.state.core.clock) (P.paused pace.old) (P.paused pace.new) }
     ensures stays { Stays lane.old.state lane.new.state }
-    ensures rest { IsAtRest lane.new.state }
-    ensures out { W.out wire.new ≡ [] }
+    ensures out { W.out wire.new ≡ out_of lane.new.state }
     ensures describes { W.describes wire.new ≡ W.describes wire.old }
     ensures delivers { Delivers (W.describes wire.old) W.fits wire.old wire.new lane.old.state lane.new.state }
 {

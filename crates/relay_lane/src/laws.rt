@@ -1,28 +1,42 @@
 //! What follows from the definitions. These functions do nothing; their contracts are the laws.
 ghost use Rattle.relay_core.specs.Ties.{FreshFits, TakeFits};
-ghost use Rattle.relay_lane.specs.Laws.{FreshRests, TakeRests, TurnsKeep, WorksOn, LeftAtMost, LeftIsTries};
+ghost use Rattle.relay_lane.specs.Reached.{FreshIsReached, TakeIsReached, TurnIsReached, WorkIsReached, ReachedIsOrderly};
+ghost use Rattle.relay_lane.specs.Laws.{NothingIsOut, TakeKeepsOut, TurnsKeep, WorksOn, LeftAtMost, LeftIsTries};
 
-/// A new lane is at rest and fits every opening, in which nothing was sent and every stored version
-/// is below the first one assigned; and whatever it takes, it stays at rest and fits. So a lane
-/// that only took messages and worked by [`crate::pump`], [`crate::make_room`] and [`crate::drain`]
-/// meets their conditions, and what they promise holds of it.
+/// Nothing of a new lane is out, and it fits every opening, in which nothing was sent and every
+/// stored version is below the first one assigned; and whatever it takes, what is out stays, and it
+/// fits. So a lane that only took messages and worked by [`crate::pump`], [`crate::collect`],
+/// [`crate::make_room`] and [`crate::drain`] meets their conditions, and what they promise holds of
+/// it.
 pub fn lanes_begin()
-    ensures fresh { FreshRests }
+    ensures fresh { NothingIsOut }
     ensures opening { FreshFits }
-    ensures take { TakeRests }
+    ensures take { TakeKeepsOut }
     ensures fits { TakeFits }
 {}
 
-/// What turns add up to: their requests and ticks, within what the lane might send. A call that is
-/// repeated after a failed allocation goes on from where the first one stopped.
+/// What turns add up to: their requests and ticks. A call that is repeated after a failed
+/// allocation goes on from where the first one stopped.
 pub fn turns_add_up()
     ensures keep { TurnsKeep }
     ensures on { WorksOn }
 {}
 
-/// How many requests a lane may still send: at most `attempts + 14` for each operation held; and if
-/// each has attempts left, exactly the tries that they have left.
+/// How many requests a lane may still send: the tries that are left to what it holds, and so at
+/// most `attempts + 14` for each operation held.
 pub fn requests_are_bounded()
     ensures most { LeftAtMost }
     ensures tries { LeftIsTries }
+{}
+
+/// Whatever the wire answers, also one that describes no outside: a new lane is reached, and each message
+/// and each turn leads on, so a lane that only took messages and worked is reached. What is held and in
+/// flight then is what was taken, under the versions assigned; no document is in flight twice; and the
+/// counts add up.
+pub fn lanes_stay_orderly()
+    ensures fresh { FreshIsReached }
+    ensures take { TakeIsReached }
+    ensures turn { TurnIsReached }
+    ensures work { WorkIsReached }
+    ensures orderly { ReachedIsOrderly }
 {}

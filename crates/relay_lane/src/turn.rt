@@ -1,27 +1,27 @@
-//! One turn of a lane at work: a request over the wire, or a pause.
-ghost use Rattle.std.specs.Prelude.{◌≡◌, ◌<◌, [], is_some, length, IfOk, OnErr, IfSome};
+//! One turn of a lane at work: a request is sent, the oldest one is answered, or the lane pauses.
+ghost use Rattle.std.specs.Prelude.{◌≡◌, ◌<◌, is_some, length, IfOk, OnErr, IfSome};
 ghost use Rattle.relay_core.specs.State.{next_batch, due_in, IsLane};
-ghost use Rattle.relay_lane.specs.Rest.{IsAtRest};
+ghost use Rattle.relay_lane.specs.Out.{out_of};
 ghost use Rattle.relay_lane.specs.Turns.{after_ticks, Paused};
-ghost use Rattle.relay_lane.specs.Steps.{Exchanged, IsDueLater};
+ghost use Rattle.relay_lane.specs.Steps.{Asked, Settled, IsDueLater};
 ghost use Rattle.relay_lane.specs.Delivers.{Delivers};
 
-use crate::exchange::{exchange, settle};
+use crate::exchange::settle;
 use crate::pace::Pace;
 use crate::wire::Wire;
 use relay_core::Lane;
 use std::alloc::AllocError;
 
-/// Sends the lane's next request and settles it. Whether there was one.
+/// Sends the lane's next request, and settles it as lost if it could not be sent. Whether there was
+/// one.
 pub(crate) fn send_next<W: Wire>(lane: &mut Lane, wire: &mut W) -> Result<bool, AllocError>
-    requires rest { IsAtRest lane.old.state }
-    requires out { W.out wire.old ≡ [] }
+    requires out { W.out wire.old ≡ out_of lane.old.state }
     ensures lane { IsLane lane.old.state }
     ensures some { IfOk result (λ sent. sent ≡ is_some (next_batch lane.old.state)) }
-    ensures turn { IfOk result (λ sent. Exchanged sent lane.old.state lane.new.state) }
+    ensures turn { IfOk result (λ sent. Asked sent lane.old.state lane.new.state) }
     ensures unchanged { OnErr result (lane.new.state ≡ lane.old.state) }
     ensures held { OnErr result (0 < length lane.old.state.core.held) }
-    ensures out { W.out wire.new ≡ [] }
+    ensures out { W.out wire.new ≡ out_of lane.new.state }
     ensures describes { W.describes wire.new ≡ W.describes wire.old }
     ensures delivers { Delivers (W.describes wire.old) W.fits wire.old wire.new lane.old.state lane.new.state }
 {
@@ -29,12 +29,34 @@ pub(crate) fn send_next<W: Wire>(lane: &mut Lane, wire: &mut W) -> Result<bool, 
     let Some(number) = lane.request()? else {
         return Ok(false);
     };
-    let answer = match lane.writes(number) {
-        Some(writes) => exchange(wire, number, writes),
+    let sent = match lane.writes(number) {
+        Some(writes) => wire.send(number, writes),
         None => unreachable!(),
     };
-    settle(lane, number, answer);
-    Ok(true)
+    match sent {
+        Ok(()) => Ok(true),
+        Err(fault) => {
+            settle(lane, number, Err(fault));
+            Ok(true)
+        }
+    }
+}
+
+/// Waits for the answer to the oldest request in flight, which settles it.
+pub(crate) fn settle_oldest<W: Wire>(lane: &mut Lane, wire: &mut W)
+    requires some { 0 < length lane.old.state.core.flying }
+    requires out { W.out wire.old ≡ out_of lane.old.state }
+    ensures lane { IsLane lane.old.state }
+    ensures turn { Settled lane.old.state lane.new.state }
+    ensures out { W.out wire.new ≡ out_of lane.new.state }
+    ensures describes { W.describes wire.new ≡ W.describes wire.old }
+    ensures delivers { Delivers (W.describes wire.old) W.fits wire.old wire.new lane.old.state lane.new.state }
+{
+    let _ = lane.totals();
+    if let Some(number) = lane.oldest() {
+        let answer = wire.receive(number);
+        settle(lane, number, answer);
+    }
 }
 
 /// Pauses until the first operation that may be sent is due, and ticks the clock by as much.

@@ -1,7 +1,6 @@
 //! A lane that messages are put into, and a pace that notes its pauses.
-ghost use Rattle.std.specs.Prelude.{◌≡◌, ◌<◌, ℕ, length};
-ghost use Rattle.relay_lane.specs.Rest.{IsAtRest};
-ghost use Rattle.relay_lane.proofs.Resting.{IsAtRest-prop};
+ghost use Rattle.std.specs.Prelude.{◌≡◌, ◌<◌, ℕ, [], length, IfSome};
+ghost use Rattle.relay_lane.specs.Out.{out_of};
 
 use relay_action::{Action, Body, DocKey, Mail, Op};
 use relay_batch::Limits;
@@ -25,18 +24,16 @@ pub const CONFIG: RelayConfig = RelayConfig {
     deal: 1_099_511_627_775,
 };
 
-/// A lane at rest.
+/// A lane.
 #[derive(Drop)]
 pub struct Desk {
     pub lane: Lane,
-    ghost rest: { IsAtRest lane.state } by { IsAtRest-prop lane.state },
 }
 
 // Takes a message of a known sender. The fault, if it is not taken.
 fn take(lane: &mut Lane, mail: Mail) -> Option<TakeFault>
     requires known { mail.sender < length lane.old.state.closed }
-    requires rest { IsAtRest lane.old.state }
-    ensures rest { IsAtRest lane.new.state }
+    ensures out { out_of lane.new.state ≡ out_of lane.old.state }
     ensures config { lane.new.state.config ≡ lane.old.state.config }
 {
     if let Err((fault, _)) = lane.take(mail) {
@@ -46,7 +43,9 @@ fn take(lane: &mut Lane, mail: Mail) -> Option<TakeFault>
 }
 
 /// A desk with a fresh lane of a config, which has to be valid. `None`: there was no memory for it.
-pub fn desk_of(alloc: Global, config: RelayConfig) -> Option<Desk> {
+pub fn desk_of(alloc: Global, config: RelayConfig) -> Option<Desk>
+    ensures { IfSome result (λ d. out_of d.lane.state ≡ []) }
+{
     if !config.valid() {
         return None;
     }
@@ -57,7 +56,9 @@ pub fn desk_of(alloc: Global, config: RelayConfig) -> Option<Desk> {
 }
 
 /// Takes a message of a sender. Whether it was taken.
-pub fn sends(desk: &mut Desk, sender: u32, body: Body) -> bool {
+pub fn sends(desk: &mut Desk, sender: u32, body: Body) -> bool
+    ensures { out_of desk.new.lane.state ≡ out_of desk.old.lane.state }
+{
     if sender >= desk.lane.senders() {
         return false;
     }
@@ -80,7 +81,9 @@ fn op_of(alloc: Global, number: u64, id: &str, source: &str) -> Option<Op> {
 }
 
 /// Puts an operation of the first producer that indexes a source. Whether it was taken.
-pub fn puts(alloc: Global, desk: &mut Desk, number: u64, id: &str, source: &str) -> bool {
+pub fn puts(alloc: Global, desk: &mut Desk, number: u64, id: &str, source: &str) -> bool
+    ensures { out_of desk.new.lane.state ≡ out_of desk.old.lane.state }
+{
     match op_of(alloc, number, id, source) {
         Some(op) => sends(desk, 0, Body::Put(op)),
         None => false,
@@ -88,7 +91,9 @@ pub fn puts(alloc: Global, desk: &mut Desk, number: u64, id: &str, source: &str)
 }
 
 /// The producer and the control close. Whether the lane is closed.
-pub fn closes(desk: &mut Desk) -> bool {
+pub fn closes(desk: &mut Desk) -> bool
+    ensures { out_of desk.new.lane.state ≡ out_of desk.old.lane.state }
+{
     sends(desk, 0, Body::Done) && sends(desk, 1, Body::Done) && desk.lane.closed()
 }
 

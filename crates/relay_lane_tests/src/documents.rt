@@ -1,5 +1,7 @@
 //! A thousand documents with three operations each.
-ghost use Rattle.std.specs.Prelude.{◌≡◌, None};
+ghost use Rattle.relay_lane.specs.Out.{out_of};
+ghost use Rattle.std.specs.Option.{option_to_list};
+ghost use Rattle.std.specs.Prelude.{◌≡◌};
 
 use crate::desk::{CONFIG, Desk, NO_PAUSES, closes, desk_of, puts};
 use crate::wires::{IndexWire, Way, count_applied, wire_of};
@@ -23,7 +25,9 @@ const ALL_AT_ONCE: RelayConfig = RelayConfig {
 };
 
 // Puts each document, then each once more, and so on. Whether all were taken.
-fn puts_all(alloc: Global, desk: &mut Desk) -> Result<bool, AllocError> {
+fn puts_all(alloc: Global, desk: &mut Desk) -> Result<bool, AllocError>
+    ensures { out_of desk.new.lane.state ≡ out_of desk.old.lane.state }
+{
     for number in 0..OPERATIONS {
         let id = format!(in alloc; "{}", number % DOCUMENTS)?;
         let source = format!(in alloc; "{number}")?;
@@ -36,7 +40,7 @@ fn puts_all(alloc: Global, desk: &mut Desk) -> Result<bool, AllocError> {
 
 // Drains the lane. `None`: not all was taken, or an allocation failed.
 fn drained(alloc: Global, desk: &mut Desk, wire: &mut IndexWire) -> Option<Totals>
-    requires { wire.old.flying ≡ None }
+    requires { option_to_list wire.old.flying ≡ out_of desk.old.lane.state }
 {
     let taken = puts_all(alloc, desk).ok()?;
     closes(desk);

@@ -1,5 +1,7 @@
 //! Worked examples.
-ghost use Rattle.std.specs.Prelude.{◌≡◌, None};
+ghost use Rattle.relay_lane.specs.Out.{out_of};
+ghost use Rattle.std.specs.Option.{option_to_list};
+ghost use Rattle.std.specs.Prelude.{◌≡◌, [], IfSome};
 
 use crate::desk::{CONFIG, Desk, NO_PAUSES, Notes, closes, desk_of, puts, sends};
 use crate::wires::{IndexWire, Way, count_applied, wire_of};
@@ -48,7 +50,9 @@ fn look_at(alloc: Global, lane: &Lane, wire: &IndexWire, pace: &Notes) -> Result
 }
 
 // A lane that took an operation for each of these documents.
-fn filled(alloc: Global, ids: &[&str]) -> Option<Desk> {
+fn filled(alloc: Global, ids: &[&str]) -> Option<Desk>
+    ensures { IfSome result (λ d. out_of d.lane.state ≡ []) }
+{
     let mut desk = desk_of(alloc, CONFIG)?;
     for i in 0..ids.len() {
         if !puts(alloc, &mut desk, i as u64, ids[i], "{}") {
@@ -60,15 +64,15 @@ fn filled(alloc: Global, ids: &[&str]) -> Option<Desk> {
 
 // Drains a lane that is closed. Whether it had memory enough.
 fn drains_once(desk: &mut Desk, wire: &mut IndexWire, pace: &mut Notes) -> bool
-    requires { wire.old.flying ≡ None }
-    ensures { wire.new.flying ≡ None }
+    requires { option_to_list wire.old.flying ≡ out_of desk.old.lane.state }
+    ensures { option_to_list wire.new.flying ≡ out_of desk.new.lane.state }
 {
     desk.lane.closed() && drain(&mut desk.lane, wire, pace).is_ok()
 }
 
 // What the drain of a lane that closes comes to. `None`: there was no memory, or something was held after it.
 fn came_to(alloc: Global, desk: &mut Desk, wire: &mut IndexWire) -> Option<Came>
-    requires { wire.old.flying ≡ None }
+    requires { option_to_list wire.old.flying ≡ out_of desk.old.lane.state }
 {
     let mut pace = NO_PAUSES;
     closes(desk);
@@ -266,7 +270,7 @@ fn faults(rt: HostRuntime) {
 
 // What pump answers, the requests that were sent, and how many are held then.
 fn pumped_over(desk: &mut Desk, wire: &mut IndexWire) -> Option<(u64, u64, u32)>
-    requires { wire.old.flying ≡ None }
+    requires { option_to_list wire.old.flying ≡ out_of desk.old.lane.state }
 {
     let sent = pump(&mut desk.lane, wire).ok()?;
     Some((sent, wire.sends, desk.lane.held()))
@@ -301,7 +305,7 @@ fn pumps(rt: HostRuntime) {
 
 // How many are held after room was made, the requests that were sent, and the ticks that were paused.
 fn roomed_over(desk: &mut Desk, wire: &mut IndexWire) -> Option<(u32, u64, u64)>
-    requires { wire.old.flying ≡ None }
+    requires { option_to_list wire.old.flying ≡ out_of desk.old.lane.state }
 {
     let mut pace = NO_PAUSES;
     make_room(&mut desk.lane, wire, &mut pace).ok()?;
@@ -341,7 +345,9 @@ fn makes_room(rt: HostRuntime) {
 }
 
 // A lane that took these, at the second attempt at the latest.
-fn filled_at_last(alloc: Global, ids: &[&str]) -> Option<Desk> {
+fn filled_at_last(alloc: Global, ids: &[&str]) -> Option<Desk>
+    ensures { IfSome result (λ d. out_of d.lane.state ≡ []) }
+{
     match filled(alloc, ids) {
         Some(desk) => Some(desk),
         None => filled(alloc, ids),
@@ -350,7 +356,7 @@ fn filled_at_last(alloc: Global, ids: &[&str]) -> Option<Desk> {
 
 // Whether the drain of a lane that closes ends; or it has lost nothing, and the next one ends.
 fn drains_at_last(desk: &mut Desk, wire: &mut IndexWire) -> bool
-    requires { wire.old.flying ≡ None }
+    requires { option_to_list wire.old.flying ≡ out_of desk.old.lane.state }
 {
     let mut pace = NO_PAUSES;
     closes(desk);

@@ -1,5 +1,7 @@
 //! A wire that loses every request, and describes what stands outside: that it was sent, and lost.
-ghost use Rattle.std.specs.Prelude.{◌≡◌, None};
+ghost use Rattle.relay_lane.specs.Out.{out_of};
+ghost use Rattle.std.specs.Option.{option_to_list};
+ghost use Rattle.std.specs.Prelude.{◌≡◌};
 
 use crate::desk::{CONFIG, Desk, NO_PAUSES, closes, desk_of, puts};
 use relay_action::Write;
@@ -38,7 +40,7 @@ impl Wire for Losing {
 
 // Drains a lane that is closed. Whether it had memory enough.
 fn drains(desk: &mut Desk, wire: &mut Losing) -> bool
-    requires { wire.old.flying ≡ None }
+    requires { option_to_list wire.old.flying ≡ out_of desk.old.lane.state }
 {
     let mut pace = NO_PAUSES;
     desk.lane.closed() && drain(&mut desk.lane, wire, &mut pace).is_ok()

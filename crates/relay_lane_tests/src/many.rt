@@ -1,5 +1,7 @@
 //! Ten thousand operations of a hundred documents over a wire that fails by a seed.
-ghost use Rattle.std.specs.Prelude.{◌≡◌, ◌<◌, None};
+ghost use Rattle.relay_lane.specs.Out.{out_of};
+ghost use Rattle.std.specs.Option.{option_to_list};
+ghost use Rattle.std.specs.Prelude.{◌≡◌, ◌<◌};
 
 use crate::desk::{CONFIG, Desk, NO_PAUSES, Notes, closes, desk_of, puts};
 use crate::wires::{IndexWire, Way, count_applied, wire_of};
@@ -31,7 +33,9 @@ fn document_of(number: u64) -> u64
 }
 
 // Puts an operation whose source is its number. Whether it was taken.
-fn puts_number(alloc: Global, desk: &mut Desk, number: u64) -> Result<bool, AllocError> {
+fn puts_number(alloc: Global, desk: &mut Desk, number: u64) -> Result<bool, AllocError>
+    ensures { out_of desk.new.lane.state ≡ out_of desk.old.lane.state }
+{
     let id = format!(in alloc; "{}", document_of(number))?;
     let source = format!(in alloc; "{number}")?;
     Ok(puts(alloc, desk, number, id.as_str(), source.as_str()))
@@ -45,8 +49,8 @@ fn step(
     pace: &mut Notes,
     number: u64,
 ) -> Result<bool, AllocError>
-    requires { wire.old.flying ≡ None }
-    ensures { wire.new.flying ≡ None }
+    requires { option_to_list wire.old.flying ≡ out_of desk.old.lane.state }
+    ensures { option_to_list wire.new.flying ≡ out_of desk.new.lane.state }
 {
     if desk.lane.held() == desk.lane.max_held() {
         make_room(&mut desk.lane, wire, pace)?;
@@ -58,7 +62,7 @@ fn step(
 
 // All of them are taken, and the lane is drained.
 fn played(alloc: Global, desk: &mut Desk, wire: &mut IndexWire) -> Result<bool, AllocError>
-    requires { wire.old.flying ≡ None }
+    requires { option_to_list wire.old.flying ≡ out_of desk.old.lane.state }
 {
     let mut pace = NO_PAUSES;
     for number in 1..OPERATIONS + 1 {
@@ -113,7 +117,7 @@ fn is_as_put(alloc: Global, index: &Index) -> bool {
 // What the operations come to. `None`: not all were taken and drained, one is reported, or the index is not as
 // they were put.
 fn totals_of(alloc: Global, desk: &mut Desk, wire: &mut IndexWire) -> Option<Totals>
-    requires { wire.old.flying ≡ None }
+    requires { option_to_list wire.old.flying ≡ out_of desk.old.lane.state }
 {
     if played(alloc, desk, wire) == Ok(true)
         && desk.lane.reports().is_empty()

@@ -1,5 +1,7 @@
 //! A wire round an index that describes what stands outside: the index runs each request once, and some of
 //! the replies are lost.
+ghost use Rattle.relay_lane.specs.Out.{out_of};
+ghost use Rattle.std.specs.Option.{option_to_list};
 ghost use Rattle.std.specs.Prelude.{◌≡◌, ℕ, Some, None};
 ghost use Rattle.relay_results.specs.Outside.{Outside, write_at};
 ghost use Rattle.relay_index.specs.Runs.{Shows};
@@ -92,7 +94,7 @@ impl Wire for Telling {
 
 // Drains a lane that is closed. Whether it had memory enough.
 fn drains(desk: &mut Desk, wire: &mut Telling) -> bool
-    requires { wire.old.flying ≡ None }
+    requires { option_to_list wire.old.flying ≡ out_of desk.old.lane.state }
 {
     let mut pace = NO_PAUSES;
     if !desk.lane.closed() {
@@ -115,7 +117,9 @@ fn empty(alloc: Global) -> Telling
 }
 
 // Puts three operations of one document, and closes. Whether the lane is closed.
-fn closes_with_three(alloc: Global, desk: &mut Desk) -> bool {
+fn closes_with_three(alloc: Global, desk: &mut Desk) -> bool
+    ensures { out_of desk.new.lane.state ≡ out_of desk.old.lane.state }
+{
     for number in 1..4u64 {
         if !puts(alloc, desk, number, "1", "{}") {
             return false;
@@ -126,7 +130,7 @@ fn closes_with_three(alloc: Global, desk: &mut Desk) -> bool {
 
 // Whether three operations of one document are sent by five requests, and applied once each.
 fn applies_once(alloc: Global, desk: &mut Desk, wire: &mut Telling) -> bool
-    requires { wire.old.flying ≡ None }
+    requires { option_to_list wire.old.flying ≡ out_of desk.old.lane.state }
 {
     closes_with_three(alloc, desk)
         && drains(desk, wire)

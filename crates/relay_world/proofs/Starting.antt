@@ -40,14 +40,14 @@ valid_in c epoch within v =
     let v5 = and_right (is_from_to 1 65536 c.max_held) _ v4 in
     let v6 = and_right (are_valid_limits c.limits) _ v5 in
     let v7 = and_right (is_from_to 1 32 c.attempts) _ v6 in
-    let v8 = and_right (is_from_to 1 1 c.in_flight) _ v7 in
+    let v8 = and_right (is_from_to 1 8 c.in_flight) _ v7 in
     and_both (is_from_to 1 8 c.lanes) _ (and_left _ _ v)
     (and_both (is_from_to 1 16 c.producers) _ (and_left _ _ v2)
     (and_both (is_from_to 1 65536 c.capacity) _ (and_left _ _ v3)
     (and_both (is_from_to 1 65536 c.max_held) _ (and_left _ _ v4)
     (and_both (are_valid_limits c.limits) _ (and_left _ _ v5)
     (and_both (is_from_to 1 32 c.attempts) _ (and_left _ _ v6)
-    (and_both (is_from_to 1 1 c.in_flight) _ (and_left _ _ v7)
+    (and_both (is_from_to 1 8 c.in_flight) _ (and_left _ _ v7)
     (and_both (nat_le epoch 4194303) _ within (and_right (nat_le c.epoch 4194303) _ v8))))))))
 
 -- what a restart makes of the parts, one by one

@@ -1,6 +1,7 @@
 use Rattle.std.proofs.Common.{◌≡◌, ◌<◌, List, [], length, arith}
 use Rattle.std.specs.Prelude.{Result, Ok, Err, OnOk}
 use Rattle.relay_lane.proofs.Limits.{nothing}
+use Rattle.relay_lane.proofs.Flushing.{worked_some}
 use Rattle.relay_lane.proofs.Stepping.{most_sent}
 use Rattle.relay_lane.proofs.draining.drain.Goals as goal
 
@@ -11,5 +12,8 @@ none_held (Err e) xs few = few
 pub returns-clause-done : goal.returns-clause-done
 returns-clause-done g c = none_held c.work.result c.work.new.lane.state.core.held c.work.ensures.done
 
+pub returns-clause-worked : goal.returns-clause-worked
+returns-clause-worked g c = worked_some c.args.lane.now.state c.work.new.lane.state c.work.ensures.worked
+
 pub returns-clause-most : goal.returns-clause-most
-returns-clause-most g c = most_sent c.args.lane.now.state c.work.new.lane.state c.totals.ensures.lane c.requires.rest c.work.ensures.bound
+returns-clause-most g c = most_sent c.args.lane.now.state c.work.new.lane.state c.totals.ensures.lane c.work.ensures.bound

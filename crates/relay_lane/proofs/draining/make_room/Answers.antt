@@ -2,17 +2,13 @@ use Rattle.std.proofs.Common.{◌≡◌, ℕ, ◌<◌, ◌≤◌, sym, ap, ◌�
 use Rattle.std.specs.Prelude.{OnOk, OnErr}
 use Rattle.relay_core.specs.declared.config.RelayConfig.{RelayConfig}
 use Rattle.relay_core.specs.State.{State, flushed}
-use Rattle.relay_lane.specs.Rest.{IsAtRest}
 use Rattle.relay_lane.specs.Turns.{Worked, holds}
 use Rattle.relay_lane.specs.Steps.{IsPressed}
-use Rattle.relay_lane.proofs.Flushing.{flushed_rests, flushed_pressed, worked_config, worked_full}
+use Rattle.relay_lane.proofs.Flushing.{flushed_pressed, worked_config, worked_full}
 use Rattle.relay_lane.proofs.draining.make_room.Goals as goal
 
-pub work-requires-clause-rest : goal.work-requires-clause-rest
-work-requires-clause-rest g c = subst IsAtRest (sym c.flush.ensures.flushed) (flushed_rests c.args.lane.now.state c.requires.rest)
-
 pub work-requires-clause-pressed : goal.work-requires-clause-pressed
-work-requires-clause-pressed g c = subst IsPressed (sym c.flush.ensures.flushed) (flushed_pressed c.args.lane.now.state c.requires.rest)
+work-requires-clause-pressed g c = subst IsPressed (sym c.flush.ensures.flushed) (flushed_pressed c.args.lane.now.state c.totals.ensures.lane)
 
 -- the config of a lane that worked is the one that it had
 the_same : (n : ℕ) (s u t : State) → n ≡ s.config.max_held → u ≡ flushed s → Worked (holds n) u t → n ≡ t.config.max_held

@@ -1,21 +1,24 @@
-use Rattle.std.proofs.Common.{refl, sym, ◌∙◌, arith}
-use Rattle.relay_lane.specs.Turns.{always}
-use Rattle.relay_lane.proofs.Counting.{worked_none, stays_itself, stays_on}
+use Rattle.std.proofs.Common.{◌≡◌, ◌<◌, true, refl, ap, ◌∙◌, arith, length}
+use Rattle.relay_core.specs.declared.config.RelayConfig.{RelayConfig}
+use Rattle.relay_core.specs.State.{State}
+use Rattle.relay_lane.specs.Turns.{Settles, pumps, is_crowded, sends_left}
+use Rattle.relay_lane.proofs.Counting.{worked_none, stays_itself, stays_on, stays_as}
 use Rattle.relay_lane.proofs.Carrying.{delivers_itself, delivers_on}
-use Rattle.relay_lane.proofs.Stepping.{exchanged, exchanged_keeps, exchanged_worked, sends_small}
+use Rattle.relay_lane.proofs.Limits.{valid_limits}
+use Rattle.relay_lane.proofs.Waiting.{within_test}
+use Rattle.relay_lane.proofs.Stepping.{asked_sent, not_asked, settles_turned, turned_worked, worked_same, sends_small}
 use Rattle.relay_lane.proofs.draining.pump.Goals as goal
 
-pub requests-init : goal.requests-init
-requests-init g c =
+pub turns-init : goal.turns-init
+turns-init g c =
     let s = c.args.lane.now.state in
-    let small = sends_small s c.totals.ensures.lane c.requires.rest in
+    let small = sends_small s c.totals.ensures.lane in
     record {
-      rest = c.requires.rest;
       stays = stays_itself s;
       sent = omega arith;
       left = omega arith;
       few = omega (arith, small);
-      worked = worked_none always s s refl;
+      worked = worked_none pumps s s refl;
       clock = refl;
       out = c.requires.out;
       describes = refl;
@@ -24,41 +27,82 @@ requests-init g c =
 
 pub returns-in_err-send_next-clause-delivers : goal.returns-in_err-send_next-clause-delivers
 returns-in_err-send_next-clause-delivers g c =
-    delivers_on (g.W.Wire.describes c.args.wire.now) (g.W.Wire.describes c.requests.wire) g.W.Wire.fits c.args.wire.now c.requests.wire c.send_next.new.wire c.args.lane.now.state c.requests.lane.state c.send_next.new.lane.state
-    c.requests.invariant.describes c.requests.invariant.delivers c.send_next.ensures.delivers
+    delivers_on (g.W.Wire.describes c.args.wire.now) (g.W.Wire.describes c.turns.wire) g.W.Wire.fits c.args.wire.now c.turns.wire c.send_next.new.wire c.args.lane.now.state c.turns.lane.state c.send_next.new.lane.state
+    c.turns.invariant.describes c.turns.invariant.delivers c.send_next.ensures.delivers
 
-pub returns-clause-delivers : goal.returns-clause-delivers
-returns-clause-delivers g c =
-    delivers_on (g.W.Wire.describes c.args.wire.now) (g.W.Wire.describes c.requests.wire) g.W.Wire.fits c.args.wire.now c.requests.wire c.send_next.new.wire c.args.lane.now.state c.requests.lane.state c.send_next.new.lane.state
-    c.requests.invariant.describes c.requests.invariant.delivers c.send_next.ensures.delivers
+pub returns-else-flying-places-clause-delivers : goal.returns-else-flying-places-clause-delivers
+returns-else-flying-places-clause-delivers g c =
+    delivers_on (g.W.Wire.describes c.args.wire.now) (g.W.Wire.describes c.turns.wire) g.W.Wire.fits c.args.wire.now c.turns.wire c.send_next.new.wire c.args.lane.now.state c.turns.lane.state c.send_next.new.lane.state
+    c.turns.invariant.describes c.turns.invariant.delivers c.send_next.ensures.delivers
 
-pub requests-smaller : goal.requests-smaller
-requests-smaller g c =
-    let s = c.requests.lane.state in
+-- ---- where a request was sent
+
+pub turns-smaller-then-branch : goal.turns-smaller-then-branch
+turns-smaller-then-branch g c =
+    let k = asked_sent c.in_ok-send_next.field-0 c.turns.lane.state c.send_next.new.lane.state c.send_next.ensures.lane c.in_ok-send_next.ensures.some c.if-branch.true c.in_ok-send_next.ensures.turn in
+    let f = k.turned.falls in
+    omega (arith, f)
+
+pub turns-preserved-then-branch : goal.turns-preserved-then-branch
+turns-preserved-then-branch g c =
+    let i = c.turns.invariant in
+    let s0 = c.args.lane.now.state in
+    let s = c.turns.lane.state in
     let t = c.send_next.new.lane.state in
-    let sent = c.in_ok-send_next.field-0 in
-    let x = exchanged sent s t c.if-branch.true c.in_ok-send_next.ensures.turn in
-    let left = (exchanged_keeps s t c.send_next.ensures.lane c.requests.invariant.rest (sym c.in_ok-send_next.ensures.some ∙ c.if-branch.true) x).left in
-    omega (arith, left)
-
-pub requests-preserved : goal.requests-preserved
-requests-preserved g c =
-    let i = c.requests.invariant in
-    let s = c.requests.lane.state in
-    let t = c.send_next.new.lane.state in
-    let sent = c.in_ok-send_next.field-0 in
-    let x = exchanged sent s t c.if-branch.true c.in_ok-send_next.ensures.turn in
-    let some = sym c.in_ok-send_next.ensures.some ∙ c.if-branch.true in
-    let k = exchanged_keeps s t c.send_next.ensures.lane i.rest some x in
+    let k = asked_sent c.in_ok-send_next.field-0 s t c.send_next.ensures.lane c.in_ok-send_next.ensures.some c.if-branch.true c.in_ok-send_next.ensures.turn in
+    let one = k.one in
+    let keeps = k.turned.keeps in
     record {
-      rest = k.rest;
-      stays = stays_on c.args.lane.now.state s t i.stays k.stays;
-      sent = (let a = i.sent in let b = k.requests in omega (arith, a, b));
-      left = (let a = i.left in let b = k.left in omega (arith, a, b));
+      stays = stays_on s0 s t i.stays keeps.stays;
+      sent = (let a = i.sent in let b = keeps.requests in omega (arith, a, b, one));
+      left = (let a = i.left in let b = k.turned.left in omega (arith, a, b, one));
       few = i.few;
-      worked = exchanged_worked always c.args.lane.now.state s t i.worked refl some x;
-      clock = (let a = i.clock in let b = k.clock in omega (arith, a, b));
+      worked = turned_worked pumps s0 s t k.turn i.worked k.may_pump k.turned;
+      clock = (let a = i.clock in let b = keeps.clock in let n = k.no_tick in omega (arith, a, b, n));
       out = c.send_next.ensures.out;
       describes = c.send_next.ensures.describes ∙ i.describes;
-      delivers = delivers_on (g.W.Wire.describes c.args.wire.now) (g.W.Wire.describes c.requests.wire) g.W.Wire.fits c.args.wire.now c.requests.wire c.send_next.new.wire c.args.lane.now.state s t i.describes i.delivers c.send_next.ensures.delivers;
+      delivers = delivers_on (g.W.Wire.describes c.args.wire.now) (g.W.Wire.describes c.turns.wire) g.W.Wire.fits c.args.wire.now c.turns.wire c.send_next.new.wire s0 s t i.describes i.delivers c.send_next.ensures.delivers;
+    }
+
+-- ---- where no place is free
+
+pub turns-smaller : goal.turns-smaller
+turns-smaller g c =
+    let s = c.turns.lane.state in
+    let t = c.send_next.new.lane.state in
+    let same = not_asked c.in_ok-send_next.field-0 s t c.if-branch.false c.in_ok-send_next.ensures.turn in
+    let x = c.settle_oldest.ensures.turn in
+    let some : 0 < length t.core.flying = (let a = c.if-flying-places.true in let b = c.flying.ensures in let p = c.in_flight-places.ensures in let v = (valid_limits c.args.lane.now.state.config c.totals.ensures.lane.valid).places.0 in omega (arith, a, b, p, v)) in
+    let k = settles_turned t c.settle_oldest.new.lane.state x.0 c.settle_oldest.ensures.lane some x.1 x.2 in
+    let f = k.falls in
+    let left = ap (λ (y : State). sends_left y) same in
+    let flying = ap (λ (y : State). length y.core.flying) same in
+    omega (arith, f, left, flying)
+
+pub turns-preserved : goal.turns-preserved
+turns-preserved g c =
+    let i = c.turns.invariant in
+    let s0 = c.args.lane.now.state in
+    let s = c.turns.lane.state in
+    let t = c.send_next.new.lane.state in
+    let u = c.settle_oldest.new.lane.state in
+    let same = not_asked c.in_ok-send_next.field-0 s t c.if-branch.false c.in_ok-send_next.ensures.turn in
+    let x = c.settle_oldest.ensures.turn in
+    let some : 0 < length t.core.flying = (let a = c.if-flying-places.true in let b = c.flying.ensures in let p = c.in_flight-places.ensures in let v = (valid_limits c.args.lane.now.state.config c.totals.ensures.lane.valid).places.0 in omega (arith, a, b, p, v)) in
+    let k = settles_turned t u x.0 c.settle_oldest.ensures.lane some x.1 x.2 in
+    let requests = ap (λ (y : State). y.core.requests) same in
+    let left = ap (λ (y : State). sends_left y) same in
+    let clock = ap (λ (y : State). y.core.clock) same in
+    let crowded : is_crowded t ≡ true = within_test _ _ (let a = c.if-flying-places.true in let b = c.flying.ensures in let p = c.in_flight-places.ensures in let d = ap (λ (y : State). y.config.in_flight) same in let e = ap (λ (y : RelayConfig). y.in_flight) i.stays.config in omega (arith, a, b, p, d, e)) in
+    record {
+      stays = stays_on s0 t u (stays_as s0 s t i.stays same) k.keeps.stays;
+      sent = (let a = i.sent in let b = k.keeps.requests in omega (arith, a, b, requests));
+      left = (let a = i.left in let b = k.left in omega (arith, a, b, left));
+      few = i.few;
+      worked = turned_worked pumps s0 t u (Settles x.0) (worked_same pumps s0 s t same i.worked) crowded k;
+      clock = (let a = i.clock in let b = k.keeps.clock in omega (arith, a, b, clock));
+      out = c.settle_oldest.ensures.out;
+      describes = c.settle_oldest.ensures.describes ∙ c.send_next.ensures.describes ∙ i.describes;
+      delivers = delivers_on (g.W.Wire.describes c.args.wire.now) (g.W.Wire.describes c.send_next.new.wire) g.W.Wire.fits c.args.wire.now c.send_next.new.wire c.settle_oldest.new.wire s0 t u (c.send_next.ensures.describes ∙ i.describes)
+          (delivers_on (g.W.Wire.describes c.args.wire.now) (g.W.Wire.describes c.turns.wire) g.W.Wire.fits c.args.wire.now c.turns.wire c.send_next.new.wire s0 s t i.describes i.delivers c.send_next.ensures.delivers) c.settle_oldest.ensures.delivers;
     }

@@ -3,6 +3,7 @@ use Rattle.relay_core.specs.State.{IsLane}
 use Rattle.relay_core.specs.Memory.{writes_in}
 use Rattle.relay_core.proofs.Taken.{entries_length}
 use Rattle.relay_core.proofs.Weighed.{weighed_seen}
+use Rattle.relay_core.proofs.Lasting.{held_in_order, rises_seen, same_many, numbers_seen}
 use Rattle.relay_core.specs.State.{Seen}
 use Rattle.relay_core.proofs.lane.Lane.totals.Goals as goal
 
@@ -15,9 +16,15 @@ returns-clause-lane c =
       valid = v.config;
       config = λ j. record { epoch = i.config.epoch; first = v.begins j; deals = i.config.deal; max = i.config.attempts; cap = i.config.limits.count };
       senders = (let n = v.senders in omega arith);
+      clock = omega arith;
       held = (let n = entries_length i.held.list (writes_in i.flown.items) in let f = v.few in omega arith);
+      assigned = (let n = entries_length i.held.list (writes_in i.flown.items) in let d = v.done in omega (arith, n, d));
       weighed = weighed_seen i.config.attempts (i.flight.next - 1) (writes_in i.flown.items) i.held.list v.readable.kept;
+      in_order = held_in_order i v;
+      rises = rises_seen (writes_in i.flown.items) i.held.list v.readable.rises;
       flying = (let w = v.flight.within in let m = v.most in omega arith);
+      beside = same_many i.flown.items i.flight.batches v.beside;
+      numbered = numbers_seen i v;
       next = omega (arith, begun);
       numbers = (let l = v.left in let d = v.dealt in omega (arith, l, d, begun));
     })
