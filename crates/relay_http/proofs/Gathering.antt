@@ -1,5 +1,5 @@
 -- A request that goes out piece by piece.
-use Rattle.std.proofs.Common.{◌≡◌, ℕ, ◌+◌, ◌<◌, ◌≤◌, List, [], ◌++◌, length, take, drop, get_or, Option, None, Some, Result, Ok, Err, refl, ap, sym, ◌∙◌, inr, arith, append_assoc, append-nil, length-append}
+use Rattle.std.proofs.Common.{◌≡◌, ℕ, ◌+◌, ◌<◌, ◌≤◌, List, [], ◌++◌, length, take, drop, get_or, subst, Option, None, Some, Result, Ok, Err, refl, ap, sym, ◌∙◌, inl, inr, arith, append_assoc, append-nil, length-append}
 use Rattle.std.proofs.lemmas.Grind.{common_steps, flat_map-append}
 use Rattle.std.proofs.lemmas.List.{take-append-drop, take-append-le}
 use Rattle.std.proofs.Math.Seq.{take-append-add}
@@ -7,8 +7,8 @@ use Rattle.std.specs.Fmt.{decimal}
 use Rattle.std.specs.Io.KnownBytes.{append_known}
 use Rattle.relay_action.proofs.Shown.{append_known-append}
 use Rattle.relay_action.specs.declared.write.Write.{Write}
-use Rattle.relay_ndjson.specs.Bulk.{write_text, text_of}
-use Rattle.relay_http.specs.Steps.{Flushes, Gathers}
+use Rattle.relay_ndjson.specs.Bulk.{action_text, line_end, source_line, write_text, text_of}
+use Rattle.relay_http.specs.Steps.{Begun, Flushes, Gathers, SendsBoth}
 use Rattle.relay_http.specs.WrittenRequest.{head_text, request, SendsFront, SendsRequest}
 use Rattle.relay_http.specs.declared.fault.HttpFault.{HttpFault}
 use Rattle.relay_http.specs.declared.fault.HttpFault.TheVariants as fault
@@ -36,6 +36,14 @@ front_behind old now new out piece rest all e is f =
       omega (arith, total, both, few),
       f.2 ∙ ap (λ x. append_known x (take f.0 piece)) e ∙ append_known-append old out (take f.0 piece) ∙ ap (append_known old) (sym behind),
     )
+
+-- the second of two texts was cut
+pub second_cut : (old now new : Option (List ℕ)) (first second : List ℕ) → now ≡ append_known old first → SendsFront second now new → SendsFront (first ++ second) old new
+second_cut old now new first second e f = front_behind old now new first second [] (first ++ second) e (sym (append-nil (first ++ second))) f
+
+-- and the first
+pub first_cut : (old new : Option (List ℕ)) (first second : List ℕ) → SendsFront first old new → SendsFront (first ++ second) old new
+first_cut old new first second f = front_behind old old new [] first second (first ++ second) (sym (append_known-nil old)) refl f
 
 -- what follows the lines of the first writes
 text_behind : (head : List ℕ) (ws : List Write) (i : ℕ) → head ++ text_of ws ≡ (head ++ text_of (take i ws)) ++ text_of (drop i ws)
@@ -142,3 +150,61 @@ not_flushed lines text after left now new fault.Ended s = s
 not_flushed lines text after left now new fault.Read s = s
 not_flushed lines text after left now new fault.TooManyInterim s = s
 not_flushed lines text after left now new fault.Broken s = s
+
+-- ---- a source goes out from where it lies
+
+lines_cut : (before first source le lines : List ℕ) (line : List ℕ) → first ≡ before ++ line → lines ≡ line ++ (source ++ le) → before ++ lines ≡ (first ++ source) ++ le
+lines_cut before first source le lines line e f =
+    ap (λ x. before ++ x) f ∙ sym (append_assoc before line (source ++ le)) ∙ sym (append_assoc (before ++ line) source le) ∙ ap (λ x. (x ++ source) ++ le) (sym e)
+
+pub source_cut : (w : Write) (before first source after : List ℕ) (now new : Option (List ℕ)) (f : HttpFault)
+    → source_line w.action ≡ source ++ line_end → first ≡ before ++ (action_text w ++ line_end)
+    → SendsBoth (first ++ source) now new (Err f) → Gathers (write_text w) before after now new (Err f)
+source_cut w before first source after now new fault.Write s e b =
+    let all = lines_cut before first source line_end (write_text w) (action_text w ++ line_end) e (ap (λ x. (action_text w ++ line_end) ++ x) s) in
+    front_behind now now new [] (first ++ source) line_end (before ++ write_text w) (sym (append_known-nil now)) all b
+source_cut w before first source after now new fault.Memory s e b = absurd b
+source_cut w before first source after now new fault.Malformed s e b = b
+source_cut w before first source after now new fault.HeadLong s e b = b
+source_cut w before first source after now new fault.BodyLong s e b = b
+source_cut w before first source after now new fault.CodedBody s e b = b
+source_cut w before first source after now new fault.BothLengths s e b = b
+source_cut w before first source after now new fault.Ended s e b = b
+source_cut w before first source after now new fault.Read s e b = b
+source_cut w before first source after now new fault.TooManyInterim s e b = b
+source_cut w before first source after now new fault.Broken s e b = b
+
+-- ---- the head
+
+pub head_gathered : (host : List ℕ) (ws : List Write) (old new : Option (List ℕ)) (text : List ℕ) → Begun (head_text host (decimal (length (text_of ws)))) text old new (Ok tt) → IsUnderWay host ws 0 old new text
+head_gathered host ws old new text b =
+    let head = head_text host (decimal (length (text_of ws))) in
+    record { out = b.0; went = b.1; gathered = b.2 ∙ sym (append-nil head) }
+
+pub head_fails : (host : List ℕ) (ws : List Write) (old new : Option (List ℕ)) (text : List ℕ) (f : HttpFault) → Begun (head_text host (decimal (length (text_of ws)))) text old new (Err f) → SendsRequest host ws old new (Err f)
+head_fails host ws old new text fault.Write b = first_cut old new (head_text host (decimal (length (text_of ws)))) (text_of ws) b
+head_fails host ws old new text fault.Memory b = inl b
+head_fails host ws old new text fault.Malformed b = b
+head_fails host ws old new text fault.HeadLong b = b
+head_fails host ws old new text fault.BodyLong b = b
+head_fails host ws old new text fault.CodedBody b = b
+head_fails host ws old new text fault.BothLengths b = b
+head_fails host ws old new text fault.Ended b = b
+head_fails host ws old new text fault.Read b = b
+head_fails host ws old new text fault.TooManyInterim b = b
+head_fails host ws old new text fault.Broken b = b
+
+-- a gathered head goes out
+pub head_flushed : (head text after : List ℕ) (old new : Option (List ℕ)) (r : Result (Unit {0}) HttpFault) → text ≡ head → Flushes text after old new r → Begun head after old new r
+head_flushed head text after old new (Ok done) e f = (text, f.0, ap (λ x. text ++ x) f.1 ∙ append-nil text ∙ e)
+head_flushed head text after old new (Err fault.Write) e f = subst (λ (x : List ℕ). SendsFront x old new) e f
+head_flushed head text after old new (Err fault.Memory) e f = absurd f
+head_flushed head text after old new (Err fault.Malformed) e f = f
+head_flushed head text after old new (Err fault.HeadLong) e f = f
+head_flushed head text after old new (Err fault.BodyLong) e f = f
+head_flushed head text after old new (Err fault.CodedBody) e f = f
+head_flushed head text after old new (Err fault.BothLengths) e f = f
+head_flushed head text after old new (Err fault.Ended) e f = f
+head_flushed head text after old new (Err fault.Read) e f = f
+head_flushed head text after old new (Err fault.TooManyInterim) e f = f
+head_flushed head text after old new (Err fault.Broken) e f = f

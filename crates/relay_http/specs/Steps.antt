@@ -112,6 +112,19 @@ fits_number text = nat_lt 0 (length text) && (list_all is_ascii_digit text && na
 
 -- ---- a request is written piece by piece
 
+-- A head was gathered, of which the front went out; or its front did, and no more; or there was no memory, and nothing did.
+abbrev pub Begun : List ℕ → List ℕ → Option (List ℕ) → Option (List ℕ) → Result (Unit {0}) HttpFault → Type 0
+Begun head text old new (Ok _) = (piece : List ℕ) × (new ≡ append_known old piece) × (piece ++ text ≡ head)
+Begun head text old new (Err fault.Write) = SendsFront head old new
+Begun head text old new (Err fault.Memory) = new ≡ old
+Begun head text old new (Err f) = ⊥
+
+-- a text went out, or its front did
+abbrev pub SendsBoth : List ℕ → Option (List ℕ) → Option (List ℕ) → Result (Unit {0}) HttpFault → Type 0
+SendsBoth text old new (Ok _) = new ≡ append_known old text
+SendsBoth text old new (Err fault.Write) = SendsFront text old new
+SendsBoth text old new (Err f) = ⊥
+
 -- what was gathered went out, and nothing is gathered; or its front did
 abbrev pub Flushes : List ℕ → List ℕ → Option (List ℕ) → Option (List ℕ) → Result (Unit {0}) HttpFault → Type 0
 Flushes before after old new (Ok _) = (new ≡ append_known old before) × (after ≡ [])

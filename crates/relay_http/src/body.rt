@@ -2,6 +2,8 @@
 ghost use Rattle.std.specs.Prelude.{◌≡◌, ◌<◌, ◌≤◌, ℕ, List, length, Some, IfOk, IfErr, MatchResult, if◌then◌else◌};
 ghost use Rattle.relay_action.specs.Streams.{one_more};
 ghost use Rattle.relay_http.specs.Body.{IsSized, IsRest, IsBody, IsLongBody, IsLongRest};
+ghost use Rattle.relay_http.specs.Refusals.{BodyFault};
+ghost use Rattle.relay_http.specs.declared.framing.Framing.TheVariants as framing;
 ghost use Rattle.relay_http.specs.Steps.{Moved, TookData, pending};
 ghost use Rattle.relay_http.specs.Connection.{is_read};
 ghost use Rattle.relay_http.specs.Forms.{Took, Fails, IsOutside, IsThatOrOutside};
@@ -57,6 +59,7 @@ impl<S: ByteIn + Drop> Buffered<S> {
 
     // Moves so many bytes to the end of a content.
     pub(crate) fn read_data(&mut self, size: usize, into: &mut Content) -> Result<(), HttpFault>
+        ensures why { IfErr result (IsThatOrOutside HttpFault.Ended) }
         ensures answer { MatchResult result (λ u. TookData size (pending S.left self.old) (pending S.left self.new) into.old into.new) (Fails (IsSized size) (pending S.left self.old) (S.left self.new.stream)) }
         ensures count { S.failed self.new.stream ≡ (if is_read result then one_more (S.failed self.old.stream) else S.failed self.old.stream) }
         ensures written { S.written self.new.stream ≡ S.written self.old.stream }
@@ -74,6 +77,7 @@ impl<S: ByteIn + Drop> Buffered<S> {
 
     // Reads a body of so many bytes.
     pub(crate) fn read_sized(&mut self, alloc: Global, size: usize) -> Result<Vec<u8>, HttpFault>
+        ensures why { IfErr result (IsThatOrOutside HttpFault.Ended) }
         ensures answer { MatchResult result (λ body. Took (IsSized size) (pending S.left self.old) (pending S.left self.new) body.items) (Fails (IsSized size) (pending S.left self.old) (S.left self.new.stream)) }
         ensures count { S.failed self.new.stream ≡ (if is_read result then one_more (S.failed self.old.stream) else S.failed self.old.stream) }
         ensures written { S.written self.new.stream ≡ S.written self.old.stream }
@@ -89,6 +93,7 @@ impl<S: ByteIn + Drop> Buffered<S> {
     pub(crate) fn read_rest(&mut self, alloc: Global, limit: usize) -> Result<Vec<u8>, HttpFault>
         requires { limit < 4294967296 }
         ensures long { (stream : List ℕ) → IsLongRest limit stream → pending S.left self.old ≡ Some stream → MatchResult result (λ body. ⊥) (IsThatOrOutside HttpFault.BodyLong) }
+        ensures why { (stream : List ℕ) → pending S.left self.old ≡ Some stream → IfErr result (BodyFault limit framing.ToEnd stream) }
         ensures answer { MatchResult result (λ body. Took (IsRest limit) (pending S.left self.old) (pending S.left self.new) body.items) (Fails (IsRest limit) (pending S.left self.old) (S.left self.new.stream)) }
         ensures count { S.failed self.new.stream ≡ (if is_read result then one_more (S.failed self.old.stream) else S.failed self.old.stream) }
         ensures written { S.written self.new.stream ≡ S.written self.old.stream }
@@ -113,6 +118,7 @@ impl<S: ByteIn + Drop> Buffered<S> {
     ) -> Result<Vec<u8>, HttpFault>
         requires { limit < 4294967296 }
         ensures long { (stream : List ℕ) → IsLongBody limit framing stream → pending S.left self.old ≡ Some stream → MatchResult result (λ body. ⊥) (IsThatOrOutside HttpFault.BodyLong) }
+        ensures why { (stream : List ℕ) → pending S.left self.old ≡ Some stream → IfErr result (BodyFault limit framing stream) }
         ensures answer { MatchResult result (λ body. Took (IsBody limit framing) (pending S.left self.old) (pending S.left self.new) body.items) (Fails (IsBody limit framing) (pending S.left self.old) (S.left self.new.stream)) }
         ensures count { S.failed self.new.stream ≡ (if is_read result then one_more (S.failed self.old.stream) else S.failed self.old.stream) }
         ensures written { S.written self.new.stream ≡ S.written self.old.stream }

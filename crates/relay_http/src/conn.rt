@@ -3,6 +3,7 @@ ghost use Rattle.std.specs.Prelude.{◌≡◌, ◌≤◌, ◌++◌, ◌&&◌, no
 ghost use Rattle.relay_ndjson.specs.Bulk.{text_of};
 ghost use Rattle.relay_http.specs.Forms.{Took, Fails, Begins, IsOutside, IsThatOrOutside};
 ghost use Rattle.relay_http.specs.Framing.{reply_limit, request_limit};
+ghost use Rattle.relay_http.specs.Refusals.{ReplyFault, RequestFault};
 ghost use Rattle.relay_http.specs.Reply.{IsReply, ReplyPasses, ReplyStates, reply_view};
 ghost use Rattle.relay_http.specs.Request.{IsRequest, RequestPasses, RequestStates, TookRequest, IsFound};
 ghost use Rattle.relay_http.specs.Window.{window_size};
@@ -116,6 +117,8 @@ impl<S: ByteIn + Drop> Conn<S> {
         // A reply that stands there is answered, and the bytes after it stay.
         ensures found { (stream : List ℕ) (there : Begins IsReply stream) → IsTrue (is_open self.old.phase) → ahead self.old ≡ Some stream
             → MatchResult result (λ reply. (reply_view reply ≡ there.value) × (ahead self.new ≡ Some there.rest)) IsOutside }
+        // Which fault is answered says what stands there.
+        ensures why { (stream : List ℕ) → IsTrue (is_open self.old.phase) → ahead self.old ≡ Some stream → IfErr result (ReplyFault stream) }
         // A fault that the heads there state is answered.
         ensures stated { (stream : List ℕ) (f : HttpFault) → ReplyStates stream f → IsTrue (is_open self.old.phase) → ahead self.old ≡ Some stream
             → MatchResult result (λ reply. ⊥) (IsThatOrOutside f) }
@@ -149,6 +152,8 @@ impl<S: ByteIn + Drop> Conn<S> {
         // A request that stands there is answered, and the bytes after it stay.
         ensures found { (stream : List ℕ) (there : Begins IsRequest stream) → IsTrue (is_open self.old.phase) → ahead self.old ≡ Some stream
             → MatchResult result (IsFound there (ahead self.new)) IsOutside }
+        // Which fault is answered says what stands there.
+        ensures why { (stream : List ℕ) → IsTrue (is_open self.old.phase) → ahead self.old ≡ Some stream → IfErr result (RequestFault stream) }
         // A fault that the head there states is answered.
         ensures stated { (stream : List ℕ) (f : HttpFault) → RequestStates stream f → IsTrue (is_open self.old.phase) → ahead self.old ≡ Some stream
             → MatchResult result (λ request. ⊥) (IsThatOrOutside f) }

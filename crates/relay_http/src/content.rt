@@ -12,7 +12,7 @@ use std::alloc::{AllocError, Global};
 use std::marker::Model;
 
 /// The most bytes by which the room of a content grows before they came.
-pub const PIECE: usize = 65536;
+pub const PIECE: usize = 65_536;
 
 /// The bytes of a body that came, in a vector with room for some more. The room grows with what came,
 /// and never at once to what a length promises.
@@ -96,7 +96,7 @@ impl Content {
 // Makes room after the first bytes, where there is none.
 fn make_room(bytes: &mut Vec<u8>, filled: usize, more: usize) -> Result<(), AllocError>
     requires filled { filled ≤ vec_len bytes.old }
-    requires more { (0 < more) × (more ≤ 65536) }
+    requires more { (0 < more) × (more ≤ PIECE) }
     ensures room { OnOk result (filled < vec_len bytes.new) }
     ensures same { take filled bytes.new.items ≡ take filled bytes.old.items }
     ensures longer { vec_len bytes.old ≤ vec_len bytes.new }

@@ -9,6 +9,8 @@ ghost use Rattle.relay_http.specs.Framing.{framing_of, framing_of_fields, framin
 use crate::elements::{all_agree, lists_word};
 use crate::fault::HttpFault;
 use crate::framing::Framing;
+use crate::reply::REPLY_LIMIT;
+use crate::request::REQUEST_LIMIT;
 use crate::word::{parse_number, same_word, trim_ows};
 use httparse::spans::HeaderSpan;
 
@@ -234,7 +236,7 @@ pub fn framing(status: u16, buf: &[u8], headers: &[HeaderSpan]) -> Result<Framin
     if status == 204 || status == 304 {
         return Ok(Framing::Absent);
     }
-    framing_of_fields(buf, headers, 67_108_864, Framing::ToEnd)
+    framing_of_fields(buf, headers, REPLY_LIMIT as u64, Framing::ToEnd)
 }
 
 /// Where the body of a request ends.
@@ -242,7 +244,7 @@ pub fn request_framing(buf: &[u8], headers: &[HeaderSpan]) -> Result<Framing, Ht
     requires { All (IsHeaderWithin (length buf.now)) headers.now }
     ensures { result ≡ framing_of_request (map (header_bytes buf.now) headers.now) }
 {
-    framing_of_fields(buf, headers, 16_777_216, Framing::Absent)
+    framing_of_fields(buf, headers, REQUEST_LIMIT as u64, Framing::Absent)
 }
 
 /// Whether the head lets the connection carry a further message.

@@ -1,5 +1,7 @@
 //! The head of a reply (RFC 9112, sections 4 and 5).
-ghost use Rattle.std.specs.Prelude.{◌≡◌, ◌<◌, ◌≤◌, length, Ok, None};
+ghost use Rattle.std.specs.Prelude.{◌≡◌, ◌<◌, ◌≤◌, ◌++◌, ℕ, List, IfErr, length, Ok, None};
+ghost use Rattle.httparse.specs.Grammar.{NeverHasResponse};
+ghost use Rattle.relay_http.specs.Refusals.{OverrunsHead, PieceFault};
 ghost use Rattle.relay_http.specs.Steps.{Finds};
 ghost use Rattle.relay_http.specs.Reply.{IsHead, head_limit};
 
@@ -9,6 +11,12 @@ use crate::framing::Framing;
 use crate::piece::Piece;
 use httparse::spans::{EMPTY_HEADER_SPAN, parse_response};
 use httparse::{Error, Status};
+
+/// The most bytes of a head, its empty line among them.
+pub const HEAD_LIMIT: usize = 16_384;
+
+/// The most fields of a head or a trailer.
+pub const FIELD_LIMIT: usize = 64;
 
 /// What the head of a reply says.
 #[derive(Clone, Copy, Debug, PartialEq, Eq)]
@@ -24,10 +32,14 @@ pub struct HeadInfo {
 impl Piece for HeadInfo {
     ghost form = { IsHead };
 
-    ghost size = { 16384 };
+    ghost breaks = { NeverHasResponse };
+
+    ghost overruns = { OverrunsHead };
+
+    ghost size = { head_limit };
 
     fn most() -> usize {
-        16384
+        HEAD_LIMIT
     }
 
     fn find(buf: &[u8]) -> Result<Option<(HeadInfo, usize)>, HttpFault> {
@@ -40,9 +52,10 @@ impl Piece for HeadInfo {
 pub fn find_head(buf: &[u8]) -> Result<Option<(HeadInfo, usize)>, HttpFault>
     requires { length buf.now ≤ head_limit }
     ensures found { Finds IsHead buf.now result }
-    ensures none { result ≡ Ok None → length buf.now < 16384 }
+    ensures why { IfErr result (λ f. (more : List ℕ) → PieceFault NeverHasResponse OverrunsHead (buf.now ++ more) f) }
+    ensures none { result ≡ Ok None → length buf.now < head_limit }
 {
-    let mut headers = [EMPTY_HEADER_SPAN; 64];
+    let mut headers = [EMPTY_HEADER_SPAN; FIELD_LIMIT];
     match parse_response(buf, &mut headers) {
         Ok(Status::Complete(head)) => {
             let fields = &headers[..head.headers];
@@ -53,7 +66,7 @@ pub fn find_head(buf: &[u8]) -> Result<Option<(HeadInfo, usize)>, HttpFault>
             };
             Ok(Some((info, head.len)))
         }
-        Ok(Status::Partial) if buf.len() < 16384 => Ok(None),
+        Ok(Status::Partial) if buf.len() < HEAD_LIMIT => Ok(None),
         Ok(Status::Partial) => Err(HttpFault::HeadLong),
         Err(Error::TooManyHeaders) => Err(HttpFault::HeadLong),
         Err(_) => Err(HttpFault::Malformed),

@@ -1,29 +1,33 @@
 //! Requests as they are written, piece by piece (RFC 9112, section 3).
-ghost use Rattle.std.specs.Prelude.{◌≡◌, ◌≤◌, length, OnOk};
+ghost use Rattle.std.specs.Prelude.{◌≡◌, ◌≤◌, ◌<◌, ◌++◌, length, OnOk, IfSome};
 ghost use Rattle.std.specs.Fmt.{decimal};
-ghost use Rattle.relay_ndjson.specs.Bulk.{write_text};
+ghost use Rattle.relay_ndjson.specs.Bulk.{line_end, source_line, text_of, write_text};
 ghost use Rattle.relay_http.specs.Connection.{failed_writing};
 ghost use Rattle.relay_http.specs.WrittenRequest.{head_text, SendsRequest};
-ghost use Rattle.relay_http.specs.Steps.{Flushes, Gathers};
+ghost use Rattle.relay_http.specs.Steps.{Begun, Flushes, Gathers, SendsBoth};
 
 use crate::fault::HttpFault;
 use itoa::Buffer;
-use relay_action::{ByteOut, Write, write_all};
-use relay_ndjson::{append_write, bulk_len};
+use relay_action::{Action, ByteOut, Write, write_all};
+use relay_ndjson::{append_action_line, append_write, bulk_len, has_escapes};
 use std::alloc::{AllocError, Global};
 
 // From how many bytes on what was gathered goes out.
-const PIECE: usize = 61_440;
+const PIECE: usize = 60_416;
 
-// The room that is made for what is gathered, which the lines of most writes beyond a piece fit.
-const ROOM: u64 = 65_536;
+// The room that is made for what is gathered: a piece, the longest action line, which has 4,693 bytes,
+// and the longest source that is gathered. So no lines make it grow.
+const ROOM: u64 = 81_920;
+
+// From how many bytes on a source goes out from where it lies. A shorter one is sooner copied.
+const LONG_SOURCE: usize = 16_384;
 
 // More bytes than a head has.
 const HEAD_ROOM: u64 = 512;
 
 // Writes the request that carries these writes to this host. What goes out is gathered in the text,
-// a piece at a time. If memory is refused, what was gathered goes out before that is answered: then
-// the head did.
+// a piece at a time, and a long source goes out from where it lies. If memory is refused after the
+// head was made, the head is out.
 pub(crate) fn write_bulk<S: ByteOut>(
     alloc: Global,
     stream: &mut S,
@@ -36,8 +40,8 @@ pub(crate) fn write_bulk<S: ByteOut>(
     ensures failed { S.failed stream.new ≡ failed_writing result (S.failed stream.old) }
     ensures left { S.left stream.new ≡ S.left stream.old }
 {
-    if let Err(_) = begin(text, host, bulk_len(writes)) {
-        return Err(HttpFault::Memory);
+    if let Err(fault) = start(stream, text, host, writes) {
+        return Err(fault);
     }
     for write in writes {
         if let Err(fault) = gather(alloc, stream, text, write) {
@@ -45,6 +49,34 @@ pub(crate) fn write_bulk<S: ByteOut>(
         }
     }
     flush(stream, text)
+}
+
+// Gathers the head, and sends it ahead where a line may need memory that may be refused. A request that
+// takes several pieces is not looked through for that: one more of them costs less than the look.
+fn start<S: ByteOut>(
+    stream: &mut S,
+    text: &mut Vec<u8>,
+    host: &str,
+    writes: &[Write],
+) -> Result<(), HttpFault>
+    requires { length writes.now ≤ 10000 }
+    ensures sent { Begun (head_text host.now (decimal (length (text_of writes.now)))) text.new.items (S.written stream.old) (S.written stream.new) result }
+    ensures failed { S.failed stream.new ≡ failed_writing result (S.failed stream.old) }
+    ensures left { S.left stream.new ≡ S.left stream.old }
+{
+    let size = bulk_len(writes);
+    if let Err(_) = begin(text, host, size) {
+        return Err(HttpFault::Memory);
+    }
+    if size > ROOM || takes_memory(writes) {
+        return flush(stream, text);
+    }
+    Ok(())
+}
+
+// Whether the lines of a write may take memory beside the room that is made for what is gathered.
+fn takes_memory(writes: &[Write]) -> bool {
+    writes.iter().any(|write| has_escapes(write))
 }
 
 // Makes a text the head of the request to this host with a body of so many bytes, and makes room
@@ -62,9 +94,38 @@ fn begin(text: &mut Vec<u8>, host: &str, size: u64) -> Result<(), AllocError>
     text.extend_from_slice(b"\r\n\r\n")
 }
 
+// Adds the lines of a write to what was gathered, of which the front goes out, or sends them.
+fn gather<S: ByteOut>(
+    alloc: Global,
+    stream: &mut S,
+    text: &mut Vec<u8>,
+    write: &Write,
+) -> Result<(), HttpFault>
+    ensures sent { Gathers (write_text write.now) text.old.items text.new.items (S.written stream.old) (S.written stream.new) result }
+    ensures failed { S.failed stream.new ≡ failed_writing result (S.failed stream.old) }
+    ensures left { S.left stream.new ≡ S.left stream.old }
+{
+    match long_source(write) {
+        Some(source) => send_source(alloc, stream, text, write, source),
+        None => gather_lines(alloc, stream, text, write),
+    }
+}
+
+// The source of a write, where it is long.
+fn long_source(write: &Write) -> Option<&[u8]>
+    ensures { IfSome result (λ source. source_line write.now.action ≡ source.now ++ line_end) }
+{
+    match &write.action {
+        Action::Index(source) if source.text().len() >= LONG_SOURCE => {
+            Some(source.text().as_bytes())
+        }
+        _ => None,
+    }
+}
+
 // Adds the lines of a write to what was gathered, which goes out if it makes a piece. If memory is
 // refused, what was gathered before goes out.
-fn gather<S: ByteOut>(
+fn gather_lines<S: ByteOut>(
     alloc: Global,
     stream: &mut S,
     text: &mut Vec<u8>,
@@ -84,6 +145,59 @@ fn gather<S: ByteOut>(
         return Ok(());
     }
     flush(stream, text)
+}
+
+// Sends what was gathered, the action line of a write and its source, and gathers the line end after
+// it. If memory is refused, what was gathered before goes out.
+fn send_source<S: ByteOut>(
+    alloc: Global,
+    stream: &mut S,
+    text: &mut Vec<u8>,
+    write: &Write,
+    source: &[u8],
+) -> Result<(), HttpFault>
+    requires { source_line write.now.action ≡ source.now ++ line_end }
+    ensures sent { Gathers (write_text write.now) text.old.items text.new.items (S.written stream.old) (S.written stream.new) result }
+    ensures failed { S.failed stream.new ≡ failed_writing result (S.failed stream.old) }
+    ensures left { S.left stream.new ≡ S.left stream.old }
+{
+    if let Err(_) = append_action_line(alloc, text, write) {
+        return match flush(stream, text) {
+            Ok(()) => Err(HttpFault::Memory),
+            Err(fault) => Err(fault),
+        };
+    }
+    match send_both(stream, text.as_slice(), source) {
+        Err(fault) => Err(fault),
+        Ok(()) => {
+            keep_line_end(text);
+            Ok(())
+        }
+    }
+}
+
+// Writes one text and then another. `Err`: a write failed.
+fn send_both<S: ByteOut>(stream: &mut S, first: &[u8], second: &[u8]) -> Result<(), HttpFault>
+    ensures sent { SendsBoth (first.now ++ second.now) (S.written stream.old) (S.written stream.new) result }
+    ensures failed { S.failed stream.new ≡ failed_writing result (S.failed stream.old) }
+    ensures left { S.left stream.new ≡ S.left stream.old }
+{
+    if let Err(_) = write_all(stream, first) {
+        return Err(HttpFault::Write);
+    }
+    if let Err(_) = write_all(stream, second) {
+        return Err(HttpFault::Write);
+    }
+    Ok(())
+}
+
+// Leaves a line end of what was gathered, in the room that stands.
+fn keep_line_end(text: &mut Vec<u8>)
+    requires { 0 < length text.old.items }
+    ensures { text.new.items ≡ line_end }
+{
+    text.truncate(1);
+    text[0] = b'\n';
 }
 
 // Hands what was gathered to the stream.

@@ -1,7 +1,9 @@
 //! Streams that tell whether something came.
 ghost use Rattle.std.specs.Prelude.{◌≡◌, None, false, IsTrue};
 
-use relay_action::{ByteStream, MemStream};
+use relay_action::{ByteStream, MemStream, StdStream};
+use std::io::ErrorKind;
+use std::net::OpenStream;
 
 /// A stream that tells, without waiting, whether something came that was not read.
 pub trait Peek: ByteStream {
@@ -18,5 +20,22 @@ impl Peek for MemStream {
         ensures { result ≡ false }
     {
         false
+    }
+}
+
+impl<T: OpenStream> Peek for StdStream<T> {
+    /// Whether nothing came that was not read. It asks the socket for a byte without waiting and
+    /// without taking it. A socket that answers anything but that there is none yet is not quiet: a
+    /// byte came, its end, or an error.
+    fn is_quiet(&self) -> bool {
+        let socket = self.get_ref();
+        if socket.set_nonblocking(true).is_err() {
+            return false;
+        }
+        let quiet = match socket.peek(&mut [0; 1]) {
+            Ok(_) => false,
+            Err(error) => error.kind() == ErrorKind::WouldBlock,
+        };
+        quiet && socket.set_nonblocking(false).is_ok()
     }
 }

@@ -1,9 +1,11 @@
 //! Pieces of a message that are looked for at the front of the window.
-ghost use Rattle.std.specs.Prelude.{◌≡◌, ◌<◌, ◌≤◌, ℕ, List, Bool, length, Ok, None, Err, IfOk, OnOk, OnErr, IsTrue, IsFalse, is_ok, if◌then◌else◌};
+ghost use Rattle.std.specs.Prelude.{◌≡◌, ◌<◌, ◌≤◌, ◌++◌, ℕ, List, Some, IfErr, Bool, length, Ok, None, Err, IfOk, OnOk, OnErr, IsTrue, IsFalse, is_ok, if◌then◌else◌};
 ghost use Rattle.std.specs.Io.KnownBytes.{IsAtEnd};
 ghost use Rattle.relay_action.specs.Streams.{one_more};
 ghost use Rattle.relay_http.specs.Steps.{Finds, Answers, pending};
 ghost use Rattle.relay_http.specs.Connection.{is_read};
+ghost use Rattle.relay_http.specs.Refusals.{PieceFault};
+ghost use Rattle.relay_http.specs.Window.{window_size};
 
 use crate::buffered::Buffered;
 use crate::fault::HttpFault;
@@ -18,22 +20,29 @@ pub trait Piece: Copy {
     /// The most bytes that it has.
     ghost size: { ℕ };
 
+    /// The bytes break its grammar, whatever follows them.
+    ghost breaks: { List ℕ → Type 0 };
+
+    /// The bytes are more than it may have, or say more.
+    ghost overruns: { List ℕ → Type 0 };
+
     /// The most bytes that it has.
     fn most() -> usize
-        ensures { (result ≡ Self.size) × (result ≤ 16384) };
+        ensures { (result ≡ Self.size) × (result ≤ window_size) };
 
     /// Looks for the piece at the front of the bytes, and answers it with its length. `None`: more
     /// bytes may make one.
     fn find(buf: &[u8]) -> Result<Option<(Self, usize)>, HttpFault>
-        requires { length buf.now ≤ 16384 }
+        requires { length buf.now ≤ window_size }
         ensures found { Finds Self.form buf.now result }
+        ensures why { IfErr result (λ f. (more : List ℕ) → PieceFault Self.breaks Self.overruns (buf.now ++ more) f) }
         ensures none { result ≡ Ok None → length buf.now < Self.size };
 }
 
 impl<S: ByteIn + Drop> Buffered<S> {
     // Reads until a line feed came, so many bytes stand in the window, or the stream ended. `false`: it ended.
     fn fill_line(&mut self, most: usize) -> Result<bool, HttpFault>
-        requires { (length self.old.window < most) × (most ≤ 16384) }
+        requires { (length self.old.window < most) × (most ≤ window_size) }
         ensures stands { OnOk result (pending S.left self.old ≡ pending S.left self.new) }
         ensures more { IfOk result (λ more. IsTrue more → length self.old.window < length self.new.window) }
         ensures longer { OnOk result (length self.old.window ≤ length self.new.window) }
@@ -60,6 +69,7 @@ impl<S: ByteIn + Drop> Buffered<S> {
     // the stream ended, since each piece ends in a line feed.
     pub(crate) fn read_piece<P: Piece>(&mut self) -> Result<P, HttpFault>
         ensures answer { Answers P.form (pending S.left self.old) (pending S.left self.new) (S.left self.new.stream) result }
+        ensures why { (stream : List ℕ) → pending S.left self.old ≡ Some stream → IfErr result (PieceFault P.breaks P.overruns stream) }
         ensures count { S.failed self.new.stream ≡ (if is_read result then one_more (S.failed self.old.stream) else S.failed self.old.stream) }
         ensures written { S.written self.new.stream ≡ S.written self.old.stream }
     {
@@ -77,7 +87,7 @@ impl<S: ByteIn + Drop> Buffered<S> {
                 return Err(HttpFault::Ended);
             }
             match self.fill_line(P::most()) {
-                Err(fault) => return Err(fault),
+                Err(_) => return Err(HttpFault::Read),
                 Ok(more) => ended = !more,
             }
         }

@@ -1,11 +1,15 @@
 //! The head of a request (RFC 9112, sections 3 and 5).
-ghost use Rattle.std.specs.Prelude.{◌≡◌, ◌<◌, ◌≤◌, length, Ok, None, codes, ◌&&◌, bytes_eq};
+ghost use Rattle.std.specs.Prelude.{◌≡◌, ◌<◌, ◌≤◌, ◌++◌, ℕ, List, IfErr, length, Ok, None, codes, ◌&&◌, bytes_eq};
+ghost use Rattle.httparse.specs.Grammar.{NeverHasRequest};
+ghost use Rattle.relay_http.specs.Refusals.{OverrunsRequestHead, PieceFault};
 ghost use Rattle.relay_http.specs.Steps.{Finds};
+ghost use Rattle.relay_http.specs.Reply.{head_limit};
 ghost use Rattle.relay_http.specs.Request.{IsRequestInfo};
 
 use crate::fault::HttpFault;
 use crate::fields;
 use crate::framing::Framing;
+use crate::head::{FIELD_LIMIT, HEAD_LIMIT};
 use crate::piece::Piece;
 use httparse::spans::{EMPTY_HEADER_SPAN, parse_request};
 use httparse::{Error, Status};
@@ -24,10 +28,14 @@ pub struct RequestInfo {
 impl Piece for RequestInfo {
     ghost form = { IsRequestInfo };
 
-    ghost size = { 16384 };
+    ghost breaks = { NeverHasRequest };
+
+    ghost overruns = { OverrunsRequestHead };
+
+    ghost size = { head_limit };
 
     fn most() -> usize {
-        16384
+        HEAD_LIMIT
     }
 
     fn find(buf: &[u8]) -> Result<Option<(RequestInfo, usize)>, HttpFault> {
@@ -45,11 +53,12 @@ fn is_bulk(method: &[u8], target: &[u8]) -> bool
 /// Looks for a whole head at the front of the bytes, and answers it with its length. The faults:
 /// `Malformed`, and `HeadLong` where it has more than 64 fields or more than 16,384 bytes.
 pub fn find_request_head(buf: &[u8]) -> Result<Option<(RequestInfo, usize)>, HttpFault>
-    requires { length buf.now ≤ 16384 }
+    requires { length buf.now ≤ head_limit }
     ensures found { Finds IsRequestInfo buf.now result }
-    ensures none { result ≡ Ok None → length buf.now < 16384 }
+    ensures why { IfErr result (λ f. (more : List ℕ) → PieceFault NeverHasRequest OverrunsRequestHead (buf.now ++ more) f) }
+    ensures none { result ≡ Ok None → length buf.now < head_limit }
 {
-    let mut headers = [EMPTY_HEADER_SPAN; 64];
+    let mut headers = [EMPTY_HEADER_SPAN; FIELD_LIMIT];
     match parse_request(buf, &mut headers) {
         Ok(Status::Complete(head)) => {
             let fields = &headers[..head.headers];
@@ -60,7 +69,7 @@ pub fn find_request_head(buf: &[u8]) -> Result<Option<(RequestInfo, usize)>, Htt
             };
             Ok(Some((info, head.len)))
         }
-        Ok(Status::Partial) if buf.len() < 16384 => Ok(None),
+        Ok(Status::Partial) if buf.len() < HEAD_LIMIT => Ok(None),
         Ok(Status::Partial) => Err(HttpFault::HeadLong),
         Err(Error::TooManyHeaders) => Err(HttpFault::HeadLong),
         Err(_) => Err(HttpFault::Malformed),

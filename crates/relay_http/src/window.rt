@@ -11,7 +11,7 @@ use std::alloc::{AllocError, Global};
 use std::marker::Model;
 
 /// The most bytes that a window holds.
-pub const WINDOW_SIZE: usize = 16384;
+pub const WINDOW_SIZE: usize = 16_384;
 
 /// The bytes that were read and not used yet, at most 16,384, which `new` reserves.
 #[derive(Drop)]
@@ -23,12 +23,13 @@ pub struct Window {
 
 impl Model for Window {
     ghost use Rattle.std.specs.Prelude.{◌≡◌, ◌≤◌, ◌-◌, ℕ, take, drop, vec_len, List};
+    ghost use Rattle.relay_http.specs.Window.{window_size};
 
     ghost Value = { List ℕ };
 
     ghost view = { λ w. take (w.to - w.from) (drop w.from w.bytes.items) };
 
-    ghost invariant = { λ w. (w.from ≤ w.to) × (w.to ≤ 16384) × (vec_len w.bytes ≡ 16384) };
+    ghost invariant = { λ w. (w.from ≤ w.to) × (w.to ≤ window_size) × (vec_len w.bytes ≡ window_size) };
 }
 
 impl Window {

@@ -25,10 +25,15 @@ fn text_of(alloc: Global, size: usize) -> Result<String, AllocError> {
 
 /// So many writes, each of a document of its own with a source of so many bytes.
 pub fn writes_of(alloc: Global, count: u64, size: usize) -> Option<Vec<Write>> {
+    writes_named(alloc, "", count, size)
+}
+
+// The same, where each id begins with this.
+fn writes_named(alloc: Global, start: &str, count: u64, size: usize) -> Option<Vec<Write>> {
     let source = text_of(alloc, size).ok()?;
     let mut writes = Vec::new(alloc);
     for number in 1..=count {
-        let id = format!(in alloc; "{number}").ok()?;
+        let id = format!(in alloc; "{start}{number}").ok()?;
         let write = write_of(alloc, id.as_str(), number, source.as_str())?;
         if writes.push(write).is_err() {
             return None;
@@ -37,13 +42,13 @@ pub fn writes_of(alloc: Global, count: u64, size: usize) -> Option<Vec<Write>> {
     Some(writes)
 }
 
-// The lines of these writes.
-fn lines_of(alloc: Global, count: u64, size: usize) -> Result<String, AllocError> {
+// The lines of these writes, whose ids begin with this in a JSON string.
+fn lines_of(alloc: Global, start: &str, count: u64, size: usize) -> Result<String, AllocError> {
     let source = text_of(alloc, size)?;
     let mut lines = String::new(alloc);
     for number in 1..=count {
         let line = format!(in alloc;
-            "{{\"index\":{{\"_id\":\"{number}\",\"_index\":\"a\",\"version\":{number},\"version_type\":\"external\"}}}}\n{source}\n"
+            "{{\"index\":{{\"_id\":\"{start}{number}\",\"_index\":\"a\",\"version\":{number},\"version_type\":\"external\"}}}}\n{source}\n"
         )?;
         lines.push_str(line.as_str())?;
     }
@@ -89,13 +94,24 @@ fn is_front(written: &[u8], wanted: &[u8], body: usize) -> bool {
         || (wanted.starts_with(written) && written.len().saturating_add(body) >= wanted.len())
 }
 
-// Whether the request with so many writes is written as it is to be. `None`: there was no memory
-// for the test.
-fn is_written(alloc: Global, count: u64, size: usize, piece: usize) -> Option<bool> {
-    let writes = writes_of(alloc, count, size)?;
-    let lines = lines_of(alloc, count, size).ok()?;
+// Whether the request with so many writes, whose ids begin with a text that stands so in a JSON
+// string, is written as it is to be. `None`: there was no memory for the test.
+fn is_written_named(
+    alloc: Global,
+    start: (&str, &str),
+    count: u64,
+    size: usize,
+    piece: usize,
+) -> Option<bool> {
+    let writes = writes_named(alloc, start.0, count, size)?;
+    let lines = lines_of(alloc, start.1, count, size).ok()?;
     let wanted = request_of(alloc, lines.as_str()).ok()?;
     leaves(alloc, writes.as_slice(), wanted.as_str(), piece).ok()
+}
+
+// The same with ids that stand for themselves.
+fn is_written(alloc: Global, count: u64, size: usize, piece: usize) -> Option<bool> {
+    is_written_named(alloc, ("", ""), count, size, piece)
 }
 
 #[test]
@@ -108,17 +124,21 @@ fn a_byte_at_a_time(rt: HostRuntime) {
     assert!(rt; is_written(rt.alloc(), 100, 1_000, 1) == Some(true));
 }
 
-// A source alone may be longer than what goes out at a time.
+// A source of 16,384 bytes goes out from where it lies, and one alone may be longer than what goes
+// out at a time.
 #[test]
 fn long_sources(rt: HostRuntime) {
-    for size in [61_000, 65_536, 1_000_000] {
+    for size in [16_383, 16_384, 65_536, 1_000_000] {
         assert!(rt; is_written(rt.alloc(), 3, size, 100_000) == Some(true));
     }
 }
 
-// It passes whichever allocation is refused, so that each can be in turn (`rt try --test
-// --fail-alloc N`). The third write does not fit the room that was made before.
+// An id with a quote takes memory when its line is written, and the head is out before. The test
+// passes whichever allocation is refused, so that each can be in turn (`rt try --test --fail-alloc
+// N`): then nothing is out, or the whole head and a part of the body.
 #[test]
 fn memory_that_is_refused(rt: HostRuntime) {
-    assert!(rt; is_written(rt.alloc(), 3, 30_000, 100_000) != Some(false));
+    for size in [100, 30_000] {
+        assert!(rt; is_written_named(rt.alloc(), ("\"", "\\\""), 3, size, 100_000) != Some(false));
+    }
 }

@@ -59,6 +59,35 @@ fn a_request(rt: HostRuntime) -> Result<(), Fail> {
     Ok(())
 }
 
+// Whether a request with these writes is read back as it is written, with this body, and nothing after it.
+fn reads_back(alloc: Global, writes: &[Write], body: &'static [u8]) -> Result<bool, AllocError>
+    requires few { length writes.now ≤ 1 }
+    requires size { length (text_of writes.now) ≤ 1000 }
+{
+    let mut conn = over(alloc, b"", 5)?;
+    let done = conn.write_request(alloc, "a", writes).is_ok();
+    let stream = conn.into_stream();
+    let mut other = over(alloc, stream.written(), 5)?;
+    Ok(
+        done && gives_request(alloc, &mut other, Ok(Some((true, body, true))))
+            && gives_request(alloc, &mut other, Ok(None)),
+    )
+}
+
+#[test]
+fn a_request_is_read_back(rt: HostRuntime) -> Result<(), Fail> {
+    let writes = one_write(rt.alloc())?;
+    assert!(rt; writes.len() == 1 && bulk_len(writes.as_slice()) == 78);
+    assert!(rt;
+        reads_back(
+            rt.alloc(),
+            writes.as_slice(),
+            b"{\"delete\":{\"_id\":\"2\",\"_index\":\"books\",\"version\":2,\"version_type\":\"external\"}}\n"
+        ) == Ok(true)
+    );
+    Ok(())
+}
+
 #[test]
 fn a_request_without_writes(rt: HostRuntime) {
     assert!(rt;
@@ -138,8 +167,17 @@ fn answers(rt: HostRuntime) {
             alloc,
             418,
             "ok",
-            true,
-            b"HTTP/1.1 418 \r\nContent-Type: application/json\r\nContent-Length: 2\r\n\r\nok"
+            false,
+            b"HTTP/1.1 418 \r\nContent-Type: application/json\r\nContent-Length: 2\r\nConnection: close\r\n\r\nok"
+        ) == Ok(true)
+    );
+    assert!(rt;
+        is_answer(
+            alloc,
+            200,
+            "{}",
+            false,
+            b"HTTP/1.1 200 OK\r\nContent-Type: application/json\r\nContent-Length: 2\r\nConnection: close\r\n\r\n{}"
         ) == Ok(true)
     );
     assert!(rt;

@@ -1,5 +1,5 @@
 use Rattle.std.proofs.Common.{◌∙◌}
-use Rattle.relay_http.proofs.Gathering.{one_further, stops_there, last_piece}
+use Rattle.relay_http.proofs.Gathering.{head_fails, head_gathered, one_further, stops_there, last_piece}
 use Rattle.relay_http.proofs.outgoing.write_bulk.Goals as goal
 
 pub returns-in-Err-gather-clause-sent : goal.returns-in-Err-gather-clause-sent
@@ -19,3 +19,7 @@ pub returns-clause-sent : goal.returns-clause-sent
 returns-clause-sent g c =
     last_piece c.args.host.now c.args.writes.now c.loop-write.write-index _ _ _ c.loop-write.text.items c.flush.new.text.items c.flush.result
     c.loop-write-test.false c.loop-write.invariant.under_way c.flush.ensures.sent
+
+pub returns-in-Err-clause-sent : goal.returns-in-Err-clause-sent
+returns-in-Err-clause-sent g c =
+    head_fails c.args.host.now c.args.writes.now _ _ c.start.new.text.items c.in-Err.fault c.in-Err.ensures.sent

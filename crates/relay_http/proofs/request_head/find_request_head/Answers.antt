@@ -1,6 +1,9 @@
 use Rattle.std.proofs.Common.{rules, ◌≤◌, ◌&&◌, ◌∙◌, arith, inr, refl}
 use Rattle.std.specs.Prelude.{codes, bytes_eq}
 use Rattle.relay_http.proofs.Arrivals.{request_at, request_full}
+use Rattle.std.proofs.Common.{inl, ap, Err}
+use Rattle.httparse.specs.Grammar.{HasNoRequest}
+use Rattle.relay_http.proofs.Refusing.{full_front, more_request}
 use Rattle.relay_http.proofs.request_head.find_request_head.Goals as goal
 
 pub returns-in-Ok-Partial-2-clause-found : goal.returns-in-Ok-Partial-2-clause-found
@@ -17,3 +20,12 @@ returns-in-Ok-Complete-clause-found c =
     let few : c.in-Ok-Complete.head.headers ≤ 64 = search (rules, within.count_fits) in
     let bulk = c.is_bulk.ensures ∙ (λ i. bytes_eq (c.of.ensures i) (codes "POST") && bytes_eq (c.of-in-Ok-Complete.ensures i) (codes "/_bulk")) in
     (within.len_fits, request_at c.args.buf.now c.parse_request.new.headers c.in-Ok-Complete.head found.0 c.is_bulk.result c.request_framing.result c.keeps.result found.1 few short bulk c.request_framing.ensures c.keeps.ensures)
+
+pub returns-in-Ok-Partial-2-clause-why : goal.returns-in-Ok-Partial-2-clause-why
+returns-in-Ok-Partial-2-clause-why c = λ more.
+    let none = rw c.in-Ok-Partial.field-0-is at c.in-Ok-Partial.ensures.partial in
+    inl (full_front HasNoRequest 16384 c.args.buf.now more (omega (arith, c.requires, c.if-buf-lt-HEAD_LIMIT.false)) none)
+
+pub returns-in-Err-TooManyHeaders-clause-why : goal.returns-in-Err-TooManyHeaders-clause-why
+returns-in-Err-TooManyHeaders-clause-why c = λ more.
+    inr (more_request _ 64 c.args.buf.now more (search rules) (c.in-Err-TooManyHeaders.ensures.too_many (ap Err c.in-Err-TooManyHeaders.field-0-is)))

@@ -8,6 +8,9 @@ use Rattle.relay_http.proofs.Messages.{begins_then, then_leads}
 use Rattle.relay_http.proofs.Replies.{begins_body, reply_unique, stated_never, heads_unique, heads_either, info_stated}
 use Rattle.relay_http.proofs.Passing.{refused_here}
 use Rattle.relay_http.proofs.Unique.{fails_found, took_found, stated_outside, stated_fault, stated_framed, framed_fault, framed_same}
+use Rattle.relay_http.proofs.Refusing.{heads_refused, heads_state, reply_body_refused}
+use Rattle.relay_http.specs.declared.reply.HttpReply.{HttpReply}
+use Rattle.relay_http.proofs.Refusing.{none_failed}
 use Rattle.relay_http.proofs.buffered.Buffered.next_reply.Goals as goal
 
 pub returns-in-Err-clause-answer : goal.returns-in-Err-clause-answer
@@ -83,3 +86,20 @@ pub returns-clause-long : goal.returns-clause-long
 returns-clause-long g c = λ stream passes stands.
     let same = framed_same IsHeads (heads_unique 8) (λ i. i.framing) _ _ c.in-Ok.info c.in-Ok.ensures.answer stream passes.heads stands c.in-Ok-framing.framing passes.framing passes.framed c.in-Ok-framing.is in
     c.in-Ok-read_body.ensures.long passes.heads.rest (subst (λ f. IsLongBody reply_limit f passes.heads.rest) same.0 passes.long) same.1
+
+pub returns-in-Err-clause-why : goal.returns-in-Err-clause-why
+returns-in-Err-clause-why g c = λ stream stands. heads_refused stream c.in-Err.fault (c.in-Err.ensures.why stream stands)
+
+pub returns-in-Err-framing-clause-why : goal.returns-in-Err-framing-clause-why
+returns-in-Err-framing-clause-why g c = λ stream stands.
+    let t = c.in-Ok.ensures.answer in
+    heads_state _ _ c.in-Ok.info c.in-Err-framing.fault t c.in-Err-framing.is (info_stated 8 t.front t.ends c.in-Ok.info t.message c.in-Err-framing.fault c.in-Err-framing.is) stream stands
+
+pub returns-in-Err-read_body-clause-why : goal.returns-in-Err-read_body-clause-why
+returns-in-Err-read_body-clause-why g c = λ stream stands.
+    reply_body_refused _ _ c.in-Ok.info c.in-Ok-framing.framing c.in-Err-read_body.fault c.in-Ok.ensures.answer c.in-Ok-framing.is c.in-Err-read_body.ensures.why stream stands
+
+pub returns-in-Err-framing-clause-count : goal.returns-in-Err-framing-clause-count
+returns-in-Err-framing-clause-count g c =
+    let t = c.in-Ok.ensures.answer in
+    none_failed HttpReply c.in-Err-framing.fault _ _ (info_stated 8 t.front t.ends c.in-Ok.info t.message c.in-Err-framing.fault c.in-Err-framing.is) c.in-Ok.ensures.count

@@ -58,3 +58,7 @@ returns-in-Err-read_whole_request-clause-long g c = λ stream passes stands. c.i
 pub returns-in-Ok-read_whole_request-clause-long :
     goal.returns-in-Ok-read_whole_request-clause-long
 returns-in-Ok-read_whole_request-clause-long g c = λ stream passes stands. c.in-Ok-read_whole_request.ensures.long stream passes (c.in-Ok.ensures.stands ∙ stands)
+
+pub returns-in-Err-read_whole_request-clause-why :
+    goal.returns-in-Err-read_whole_request-clause-why
+returns-in-Err-read_whole_request-clause-why g c = λ stream stands. c.in-Err-read_whole_request.ensures.why stream (c.in-Ok.ensures.stands ∙ stands)

@@ -8,6 +8,8 @@ use Rattle.relay_http.proofs.Leading.{fails_behind}
 use Rattle.relay_http.proofs.Chunks.{begins_data, begins_end}
 use Rattle.relay_http.proofs.LongBodies.{content_there, crlf_there, left_of}
 use Rattle.relay_http.proofs.Unique.{fails_found}
+use Rattle.relay_http.specs.Refusals.{HasNoChunkEnd, OverrunsNever}
+use Rattle.relay_http.proofs.Refusing.{cut_piece, end_refused}
 use Rattle.relay_http.proofs.buffered.Buffered.read_chunk.Goals as goal
 
 pub returns-in-Err-clause-answer : goal.returns-in-Err-clause-answer
@@ -39,3 +41,10 @@ returns-in-Err-read_piece-clause-whole g c = λ stream there stands.
     let d = c.in-Ok.ensures.answer in
     let r = left_of d.piece (pending g.S.ByteStream.left c.read_data.new.self) _ stream d.split stands in
     fails_found IsCrlf _ _ c.in-Err-read_piece.fault c.in-Err-read_piece.ensures.answer r.0 (crlf_there _ c.args.size stream d.piece r.0 there d.length_is r.2) r.1
+
+pub returns-in-Err-clause-why : goal.returns-in-Err-clause-why
+returns-in-Err-clause-why g c = λ stream stands. cut_piece (HasNoChunkEnd c.args.size) OverrunsNever stream c.in-Err.fault c.in-Err.ensures.why
+
+pub returns-in-Err-read_piece-clause-why : goal.returns-in-Err-read_piece-clause-why
+returns-in-Err-read_piece-clause-why g c = λ stream stands.
+    end_refused c.args.size _ _ _ _ c.in-Err-read_piece.fault c.in-Ok.ensures.answer c.in-Err-read_piece.ensures.why stream stands

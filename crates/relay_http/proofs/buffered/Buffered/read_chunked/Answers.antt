@@ -10,6 +10,7 @@ use Rattle.relay_http.proofs.Passing.{stood_behind, refused_here}
 use Rattle.relay_http.proofs.Chunks.{size_leads, chunk_leads, zero_leads, begins_piece, begins_trailer, too_long}
 use Rattle.relay_http.proofs.LongBodies.{long_begins, line_taken, chunk_taken, chunk_there}
 use Rattle.relay_http.proofs.Unique.{fails_found}
+use Rattle.relay_http.proofs.Refusing.{IsBehindChunks, chunk_passed, content_refused, limit_passed, line_refused, no_chunk_passed, size_refused, trailer_refused}
 use Rattle.relay_http.proofs.buffered.Buffered.read_chunked.Goals as goal
 
 pub chunks-init : goal.chunks-init
@@ -19,6 +20,7 @@ chunks-init g c =
       few = search rules;
       front = ([], sym (prepend_known-nil _), subst (λ b. Leads (IsChunked c.args.limit) (IsChunkedAfter c.args.limit b) []) (sym nothing) (leads_none (IsChunked c.args.limit)));
       long = λ s there stands. (s, subst (λ b. IsLongChunked c.args.limit b s) (sym nothing) there, stands);
+      behind = subst (IsBehindChunks _ _) (sym nothing) (no_chunk_passed _);
       count = refl;
       written = refl;
     }
@@ -84,6 +86,7 @@ chunks-preserved g c =
           let fits : length c.chunks.body + c.in-Ok.line.size ≤ c.args.limit = omega (arith, few, below) in
           let q = line_taken c.args.limit c.chunks.body r.0 _ _ c.in-Ok.line.size r.1 r.2 t fits in
           chunk_taken c.args.limit c.chunks.body _ q.0 _ _ c.in-Ok.line.size q.2 q.1 d;
+      behind = chunk_passed _ _ _ _ c.chunks.body _ c.in-Ok.line c.chunks.invariant.behind t some d;
       count = search rules;
       written = search rules;
     }
@@ -118,3 +121,24 @@ returns-in-Err-read_chunk-clause-long g c = λ s there stands.
     let below : c.in-Ok.line.size ≤ c.args.limit - length c.chunks.body = search rules in
     let q = line_taken c.args.limit c.chunks.body r.0 _ _ c.in-Ok.line.size r.1 r.2 c.in-Ok.ensures.answer (omega (arith, few, below)) in
     inr (c.in-Err-read_chunk.ensures.whole q.0 (chunk_there c.args.limit c.chunks.body q.0 c.in-Ok.line.size q.2) q.1)
+
+pub returns-in-Err-clause-why : goal.returns-in-Err-clause-why
+returns-in-Err-clause-why g c = λ stream stands.
+    line_refused c.args.limit _ _ c.chunks.body c.in-Err.fault c.chunks.invariant.behind (λ r e. size_refused r c.in-Err.fault (c.in-Err.ensures.why r e)) stream stands
+
+pub returns-in-Err-read_piece-clause-why : goal.returns-in-Err-read_piece-clause-why
+returns-in-Err-read_piece-clause-why g c = λ stream stands.
+    let none : c.in-Ok.line.size ≡ 0 = search rules in
+    line_refused c.args.limit _ _ c.chunks.body c.in-Err-read_piece.fault c.chunks.invariant.behind
+    (trailer_refused _ _ c.in-Ok.line c.in-Err-read_piece.fault c.in-Ok.ensures.answer none c.in-Err-read_piece.ensures.why) stream stands
+
+pub returns-then-size-limit-clause-why : goal.returns-then-size-limit-clause-why
+returns-then-size-limit-clause-why g c = λ stream stands.
+    let past : c.args.limit - length c.chunks.body < c.in-Ok.line.size = search rules in
+    limit_passed c.args.limit _ _ _ c.chunks.body c.in-Ok.line c.chunks.invariant.behind c.in-Ok.ensures.answer (omega (arith, past)) stream stands
+
+pub returns-in-Err-read_chunk-clause-why : goal.returns-in-Err-read_chunk-clause-why
+returns-in-Err-read_chunk-clause-why g c = λ stream stands.
+    let some : 0 < c.in-Ok.line.size = search rules in
+    line_refused c.args.limit _ _ c.chunks.body c.in-Err-read_chunk.fault c.chunks.invariant.behind
+    (content_refused _ _ c.in-Ok.line c.in-Err-read_chunk.fault c.in-Ok.ensures.answer some c.in-Err-read_chunk.ensures.why) stream stands

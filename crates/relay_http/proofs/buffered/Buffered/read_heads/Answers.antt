@@ -5,6 +5,7 @@ use Rattle.relay_http.proofs.Stands.{prepend_known-nil}
 use Rattle.relay_http.proofs.Leading.{leads_none, leads_on, fails_behind, took_behind}
 use Rattle.relay_http.proofs.Replies.{interim_leads, last_is, begins_head}
 use Rattle.relay_http.proofs.Passing.{stood_behind, eight}
+use Rattle.relay_http.proofs.Refusing.{head_refused, none_passed, one_passed}
 use Rattle.relay_http.proofs.buffered.Buffered.read_heads.Goals as goal
 
 pub returns-in-Err-clause-answer : goal.returns-in-Err-clause-answer
@@ -35,6 +36,7 @@ heads-preserved g c =
     record {
       few = omega (arith, below);
       front = (f.0 ++ t.front, stood_behind f.0 t.front _ _ _ f.1 t.split, eight c.heads.passed (f.0 ++ t.front) below (leads_on IsHeads (IsHeadsWith (8 - c.heads.passed)) (IsHeadsWith (8 - c.heads.passed - 1)) f.0 t.front f.2 (interim_leads (8 - c.heads.passed) t.front t.ends c.in-Ok.info t.message interim (omega (arith, below)))));
+      behind = one_passed _ _ _ c.heads.passed c.in-Ok.info c.heads.invariant.behind t interim;
       count = search rules;
       written = search rules;
     }
@@ -43,6 +45,11 @@ pub heads-init : goal.heads-init
 heads-init g c = record {
   few = search rules;
   front = ([], sym (prepend_known-nil _), leads_none IsHeads);
+  behind = none_passed _;
   count = refl;
   written = refl;
 }
+
+pub returns-in-Err-clause-why : goal.returns-in-Err-clause-why
+returns-in-Err-clause-why g c = λ stream stands.
+    head_refused _ _ c.heads.passed c.in-Err.fault c.heads.invariant.behind c.heads.invariant.few c.in-Err.ensures.why stream stands

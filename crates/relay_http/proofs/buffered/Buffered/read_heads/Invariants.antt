@@ -2,6 +2,7 @@ use Rattle.std.proofs.Common.{◌≡◌, ◌-◌, ◌≤◌, List, ℕ}
 use Rattle.std.specs.Io.KnownBytes.{prepend_known}
 use Rattle.relay_http.specs.Steps.{pending}
 use Rattle.relay_http.proofs.Leading.{Leads}
+use Rattle.relay_http.proofs.Refusing.{IsBehindInterim}
 use Rattle.relay_http.specs.Reply.{IsHeads, IsHeadsWith}
 use Rattle.relay_http.proofs.buffered.Buffered.read_heads.Given as goal
 
@@ -12,6 +13,7 @@ invariant-heads g l =
     record {
       few : l.passed ≤ 8;
       front : (x : List ℕ) × (pending show.left l.fn.self ≡ prepend_known x (pending show.left l.self)) × Leads IsHeads (IsHeadsWith (8 - l.passed)) x;
+      behind : IsBehindInterim (pending show.left l.fn.self) (pending show.left l.self) l.passed;
       count : show.failed l.self.stream ≡ show.failed l.fn.self.stream;
       written : show.written l.self.stream ≡ show.written l.fn.self.stream;
     }

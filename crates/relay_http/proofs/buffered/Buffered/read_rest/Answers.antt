@@ -1,6 +1,9 @@
 use Rattle.std.proofs.Common.{rules, ◌<◌, ◌++◌, ◌∙◌, sym, arith, length, length-append}
 use Rattle.relay_http.proofs.Bodies.{rest_never}
 use Rattle.relay_http.proofs.Stands.{prepend_known-append}
+use Rattle.std.proofs.Common.{inr}
+use Rattle.relay_http.specs.declared.framing.Framing.TheVariants.{ToEnd}
+use Rattle.relay_http.proofs.Refusing.{cut_body, rest_passed}
 use Rattle.relay_http.proofs.buffered.Buffered.read_rest.Goals as goal
 
 pub returns-clause-answer : goal.returns-clause-answer
@@ -14,3 +17,11 @@ returns-clause-answer g c =
       stood = c.reading.invariant.taken ∙ sym (prepend_known-append items window (g.S.ByteStream.left c.reading.self.stream));
       never = rest_never c.args.limit (items ++ window) (omega (arith, size, long));
     }
+
+pub returns-clause-why : goal.returns-clause-why
+returns-clause-why g c = λ stream stands.
+    let long : c.args.limit < length c.reading.body = search rules in
+    rest_passed c.args.limit c.reading.body _ _ c.reading.invariant.taken long stream stands
+
+pub returns-in-Err-clause-why : goal.returns-in-Err-clause-why
+returns-in-Err-clause-why g c = λ stream stands. cut_body c.args.limit ToEnd stream c.in-Err.fault (inr c.in-Err.ensures.err)

@@ -8,6 +8,9 @@ use Rattle.relay_http.proofs.Messages.{begins_then, then_leads}
 use Rattle.relay_http.proofs.Passing.{refused_here}
 use Rattle.relay_http.proofs.Arrivals.{request_head_unique, request_either, request_stated, begins_request_body, request_never}
 use Rattle.relay_http.proofs.Unique.{stated_outside, stated_fault, stated_framed, framed_fault, framed_same}
+use Rattle.relay_http.proofs.Refusing.{request_body_refused, request_head_refused, request_head_states}
+use Rattle.relay_http.specs.declared.request.HttpRequest.{HttpRequest}
+use Rattle.relay_http.proofs.Refusing.{none_failed}
 use Rattle.relay_http.proofs.buffered.Buffered.read_whole_request.Goals as goal
 
 pub returns-in-Err-clause-answer : goal.returns-in-Err-clause-answer
@@ -71,3 +74,20 @@ pub returns-clause-long : goal.returns-clause-long
 returns-clause-long g c = λ stream passes stands.
     let same = framed_same IsRequestInfo request_head_unique (λ i. i.framing) _ _ c.in-Ok.info c.in-Ok.ensures.answer stream passes.head stands c.in-Ok-framing.framing passes.framing passes.framed c.in-Ok-framing.is in
     c.in-Ok-read_body.ensures.long passes.head.rest (subst (λ f. IsLongBody request_limit f passes.head.rest) same.0 passes.long) same.1
+
+pub returns-in-Err-clause-why : goal.returns-in-Err-clause-why
+returns-in-Err-clause-why g c = λ stream stands. request_head_refused stream c.in-Err.fault (c.in-Err.ensures.why stream stands)
+
+pub returns-in-Err-framing-clause-why : goal.returns-in-Err-framing-clause-why
+returns-in-Err-framing-clause-why g c = λ stream stands.
+    let t = c.in-Ok.ensures.answer in
+    request_head_states _ _ c.in-Ok.info c.in-Err-framing.fault t c.in-Err-framing.is (request_stated t.front t.ends c.in-Ok.info t.message c.in-Err-framing.fault c.in-Err-framing.is) stream stands
+
+pub returns-in-Err-read_body-clause-why : goal.returns-in-Err-read_body-clause-why
+returns-in-Err-read_body-clause-why g c = λ stream stands.
+    request_body_refused _ _ c.in-Ok.info c.in-Ok-framing.framing c.in-Err-read_body.fault c.in-Ok.ensures.answer c.in-Ok-framing.is c.in-Err-read_body.ensures.why stream stands
+
+pub returns-in-Err-framing-clause-count : goal.returns-in-Err-framing-clause-count
+returns-in-Err-framing-clause-count g c =
+    let t = c.in-Ok.ensures.answer in
+    none_failed HttpRequest c.in-Err-framing.fault _ _ (request_stated t.front t.ends c.in-Ok.info t.message c.in-Err-framing.fault c.in-Err-framing.is) c.in-Ok.ensures.count

@@ -2,7 +2,7 @@ use Rattle.std.proofs.Common.{ℕ, List, Err, subst}
 use Rattle.relay_ndjson.specs.Bulk.{write_text}
 use Rattle.relay_http.specs.Steps.{Gathers}
 use Rattle.relay_http.proofs.Gathering.{not_flushed}
-use Rattle.relay_http.proofs.outgoing.gather.Goals as goal
+use Rattle.relay_http.proofs.outgoing.gather_lines.Goals as goal
 
 pub returns-in-Err-flush-clause-sent : goal.returns-in-Err-flush-clause-sent
 returns-in-Err-flush-clause-sent g c =
