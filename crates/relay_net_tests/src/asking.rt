@@ -3,11 +3,11 @@ ghost use Rattle.std.specs.Prelude.{◌≡◌, ◌∷◌, ◌≤◌, [], length,
 ghost use Rattle.relay_ndjson.specs.Bodies.{AreDealt};
 ghost use Rattle.relay_ndjson.specs.Bulk.{text_of};
 
-use relay_action::{Action, DocKey, Write};
+use relay_action::{Action, DocKey, StdStream, Write};
 use relay_http::is_host;
 use relay_index::{Index, Script};
 use relay_ndjson::bulk_len;
-use relay_net::{SocketStream, TcpDial, TcpListen};
+use relay_net::{TcpDial, TcpListen};
 use relay_stub::stub_serve;
 use relay_wires::{HttpWire, Wire, WireFault, WireReply};
 use std::alloc::Global;
@@ -85,7 +85,7 @@ pub fn wired<R: Net + Copy>(
     alloc: Global,
     net: R,
     address: String,
-) -> Option<HttpWire<SocketStream<R::Stream>, TcpDial<R>>>
+) -> Option<HttpWire<StdStream<R::Stream>, TcpDial<R>>>
     ensures { IfSome result (λ w. w.out ≡ []) }
 {
     let host = address.clone().ok()?;

@@ -21,17 +21,18 @@ use Rattle.relay_wires.specs.Told.{Tells}
 -- ---- the wire
 
 -- The host that requests name, and how many requests may be out at most; the connections that requests are out on, with
--- the newest first; those that are free, with the one freed last at the end; and how many dials failed.
+-- the newest first; those that are free, with the one freed last at the end; how many dials failed, and how many were made.
 pub record Carrier : Type 0 where
   pub host : List ℕ
   pub most : ℕ
   pub out : List (ℕ × Connection)
   pub free : List Connection
   pub failed : ℕ
+  pub dialled : ℕ
 
 -- no request is out and no connection is free
-abbrev pub idle : List ℕ → ℕ → ℕ → Carrier
-idle host most failed = record { host = host; most = most; out = []; free = []; failed = failed }
+abbrev pub idle : List ℕ → ℕ → ℕ → ℕ → Carrier
+idle host most failed dialled = record { host = host; most = most; out = []; free = []; failed = failed; dialled = dialled }
 
 -- a free connection may carry further messages, and no byte was read beyond its last reply
 pub record IsFree (c : Connection) : Type 0 where
@@ -67,9 +68,9 @@ pub record TakesFree (old new : List Connection) (c : Connection) : Type 0 where
 abbrev pub IsFresh : Connection → Type 0
 IsFresh c = (left : Option (List ℕ)) × (written : Option (List ℕ)) × (failed : ℕ) × (c ≡ fresh left written failed)
 
--- so a free connection is picked, or, if none is quiet, a fresh one
-abbrev pub Picks : List Connection → List Connection → Connection → Type 0
-Picks old new c = TakesFree old new c ⊎ ((new ≡ []) × IsFresh c)
+-- So a free connection is picked, and none is dialled; or, where none is left, one is, and it is the fresh one.
+abbrev pub Picks : List Connection → List Connection → ℕ → ℕ → Connection → Type 0
+Picks old new before after c = (TakesFree old new c × (after ≡ before)) ⊎ ((new ≡ []) × IsFresh c × (after ≡ one_more before))
 
 -- the connection after this was written on it
 abbrev pub with_written : Connection → List ℕ → Connection
@@ -80,15 +81,15 @@ with_written c text = record c { written = append_known c.written text }
 -- failed, or since the connection that was picked could not carry it.
 abbrev pub Carries : ℕ → List Write → Carrier → Carrier → Result (Unit {0}) WireFault → Type 0
 Carries number ws old new (Ok u) =
-    (c : Connection) × Picks old.free new.free c × IsTrue (is_open c.phase) × (new.failed ≡ old.failed)
+    (c : Connection) × Picks old.free new.free old.dialled new.dialled c × IsTrue (is_open c.phase) × (new.failed ≡ old.failed)
     × (new.out ≡ (number, with_written c (request old.host (text_of ws))) ∷ old.out)
 Carries number ws old new (Err fault.Send) =
     ((old.most ≤ length old.out) × (new ≡ old))
-    ⊎ (new ≡ record old { free = []; failed = one_more old.failed })
-    ⊎ ((c : Connection) × Picks old.free new.free c × (new ≡ record old { free = new.free }))
+    ⊎ (new ≡ record old { free = []; failed = one_more old.failed; dialled = one_more old.dialled })
+    ⊎ ((c : Connection) × Picks old.free new.free old.dialled new.dialled c × (new ≡ record old { free = new.free; dialled = new.dialled }))
 Carries number ws old new (Err fault.Lost) = ⊥
 Carries number ws old new (Err fault.Unreadable) = ⊥
-Carries number ws old new (Err fault.Memory) = (c : Connection) × Picks old.free new.free c × (new ≡ record old { free = new.free })
+Carries number ws old new (Err fault.Memory) = (c : Connection) × Picks old.free new.free old.dialled new.dialled c × (new ≡ record old { free = new.free; dialled = new.dialled })
 
 -- ---- a reply is received
 
@@ -151,12 +152,12 @@ FindsFree old new (Some c) = TakesFree old new c × IsTrue (is_open c.phase)
 FindsFree old new None = new ≡ []
 
 -- a connection is picked, unless the dial failed or there was no memory for a fresh one's window
-abbrev pub PicksOne : List Connection → List Connection → ℕ → ℕ → Result Connection WireFault → Type 0
-PicksOne old new failed later (Ok c) = Picks old new c × IsTrue (is_open c.phase) × (later ≡ failed)
-PicksOne old new failed later (Err fault.Send) = (new ≡ []) × (later ≡ one_more failed)
-PicksOne old new failed later (Err fault.Lost) = ⊥
-PicksOne old new failed later (Err fault.Unreadable) = ⊥
-PicksOne old new failed later (Err fault.Memory) = (new ≡ []) × (later ≡ failed)
+abbrev pub PicksOne : List Connection → List Connection → ℕ → ℕ → ℕ → ℕ → Result Connection WireFault → Type 0
+PicksOne old new failed later before after (Ok c) = Picks old new before after c × IsTrue (is_open c.phase) × (later ≡ failed)
+PicksOne old new failed later before after (Err fault.Send) = (new ≡ []) × (later ≡ one_more failed) × (after ≡ one_more before)
+PicksOne old new failed later before after (Err fault.Lost) = ⊥
+PicksOne old new failed later before after (Err fault.Unreadable) = ⊥
+PicksOne old new failed later before after (Err fault.Memory) = (new ≡ []) × (later ≡ failed) × (after ≡ one_more before)
 
 -- a request was written, or its connection could not carry it
 abbrev pub IsWritten : Connection → Connection → List ℕ → Result (Unit {0}) WireFault → Type 0

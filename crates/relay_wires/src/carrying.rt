@@ -37,7 +37,7 @@ pub(crate) fn pick<S: Peek + Drop, D: Dial<S>>(
     dial: &mut D,
 ) -> Result<Conn<S>, WireFault>
     requires { AllFree free.old.items }
-    ensures picks { PicksOne free.old.items free.new.items (D.failed dial.old) (D.failed dial.new) result }
+    ensures picks { PicksOne free.old.items free.new.items (D.failed dial.old) (D.failed dial.new) (D.dialled dial.old) (D.dialled dial.new) result }
     ensures free_left { AllFree free.new.items }
     ensures capacity { vec_capacity free.new ≡ vec_capacity free.old }
 {

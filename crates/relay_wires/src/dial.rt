@@ -14,7 +14,11 @@ pub trait Dial<S> {
     /// How many of its calls failed. At 2^64 - 1 the count stays.
     ghost failed: { Self → ℕ };
 
+    /// How many calls were made. At 2^64 - 1 the count stays.
+    ghost dialled: { Self → ℕ };
+
     /// A fresh stream. After [`DialFault`] there is none.
     fn dial(&mut self) -> Result<S, DialFault>
-        ensures { failed self.new ≡ (if is_ok result then failed self.old else one_more (failed self.old)) };
+        ensures failed { failed self.new ≡ (if is_ok result then failed self.old else one_more (failed self.old)) }
+        ensures dialled { dialled self.new ≡ one_more (dialled self.old) };
 }

@@ -46,10 +46,11 @@ impl<S: ByteStream, D: Dial<S>> Model for HttpWire<S, D> {
       out = w.out.items;
       free = w.free.items;
       failed = D.failed w.dial;
+      dialled = D.dialled w.dial;
     } };
 
     ghost invariant = { λ w. IsCarrier
-        (record { host = string_bytes w.host; most = w.most; out = w.out.items; free = w.free.items; failed = D.failed w.dial })
+        (record { host = string_bytes w.host; most = w.most; out = w.out.items; free = w.free.items; failed = D.failed w.dial; dialled = D.dialled w.dial })
         (deque_capacity w.out) (vec_capacity w.free) };
 }
 
@@ -59,7 +60,7 @@ impl<S: ByteStream + Drop, D: Dial<S> + Drop> HttpWire<S, D> {
     /// for the places.
     pub fn new(alloc: Global, dial: D, host: String, max: u32) -> Result<HttpWire<S, D>, AllocError>
         requires { IsTrue (is_host (string_bytes host)) }
-        ensures { IfOk result (λ w. w ≡ idle (string_bytes host) max (D.failed dial)) }
+        ensures { IfOk result (λ w. w ≡ idle (string_bytes host) max (D.failed dial) (D.dialled dial)) }
     {
         let out = VecDeque::with_capacity(alloc, max as usize)?;
         let free = Vec::with_capacity(alloc, max as usize)?;
@@ -111,7 +112,10 @@ impl<S: ByteIn + ByteOut + Peek + Drop, D: Dial<S> + Drop> Wire for HttpWire<S, 
             Ok(conn) => conn,
             Err(fault) => return Err(fault),
         };
-        carry(self.alloc, &mut conn, &self.host, writes)?;
+        match carry(self.alloc, &mut conn, &self.host, writes) {
+            Err(fault) => return Err(fault),
+            Ok(()) => {}
+        }
         self.out.push_front_reserved((number, conn));
         Ok(())
     }

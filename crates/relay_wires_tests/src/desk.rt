@@ -1,7 +1,6 @@
 //! A lane that deletes are put into, and a pace that notes its pauses.
-ghost use Rattle.std.specs.Prelude.{◌≡◌, ◌<◌, ℕ, length};
-ghost use Rattle.relay_lane.specs.Rest.{IsAtRest};
-ghost use Rattle.relay_lane.proofs.Resting.{IsAtRest-prop};
+ghost use Rattle.std.specs.Prelude.{◌≡◌, ◌<◌, ℕ, [], length, IfSome};
+ghost use Rattle.relay_lane.specs.Out.{out_of};
 
 use relay_action::{Action, Body, DocKey, Mail, Op};
 use relay_batch::Limits;
@@ -25,18 +24,16 @@ pub const CONFIG: RelayConfig = RelayConfig {
     deal: 1_099_511_627_775,
 };
 
-/// A lane at rest.
+/// A lane.
 #[derive(Drop)]
 pub struct Desk {
     pub lane: Lane,
-    ghost rest: { IsAtRest lane.state } by { IsAtRest-prop lane.state },
 }
 
 // Takes a message of a known sender. The fault, if it is not taken.
 fn take(lane: &mut Lane, mail: Mail) -> Option<TakeFault>
     requires known { mail.sender < length lane.old.state.closed }
-    requires rest { IsAtRest lane.old.state }
-    ensures rest { IsAtRest lane.new.state }
+    ensures out { out_of lane.new.state ≡ out_of lane.old.state }
     ensures config { lane.new.state.config ≡ lane.old.state.config }
 {
     if let Err((fault, _)) = lane.take(mail) {
@@ -46,7 +43,9 @@ fn take(lane: &mut Lane, mail: Mail) -> Option<TakeFault>
 }
 
 // Takes a message of a sender. Whether it was taken.
-fn sends(desk: &mut Desk, sender: u32, body: Body) -> bool {
+fn sends(desk: &mut Desk, sender: u32, body: Body) -> bool
+    ensures { out_of desk.new.lane.state ≡ out_of desk.old.lane.state }
+{
     if sender >= desk.lane.senders() {
         return false;
     }
@@ -59,7 +58,9 @@ fn sends(desk: &mut Desk, sender: u32, body: Body) -> bool {
 }
 
 // Puts a delete of a document. Whether it was taken.
-fn puts(alloc: Global, desk: &mut Desk, number: u64, id: &str) -> bool {
+fn puts(alloc: Global, desk: &mut Desk, number: u64, id: &str) -> bool
+    ensures { out_of desk.new.lane.state ≡ out_of desk.old.lane.state }
+{
     match DocKey::new(alloc, "b", id) {
         Ok(key) => sends(
             desk,
@@ -77,32 +78,53 @@ fn puts(alloc: Global, desk: &mut Desk, number: u64, id: &str) -> bool {
 }
 
 // Puts a delete of the document whose id is this number. Whether it was taken.
-fn puts_number(alloc: Global, desk: &mut Desk, number: u64) -> bool {
+fn puts_number(alloc: Global, desk: &mut Desk, number: u64) -> bool
+    ensures { out_of desk.new.lane.state ≡ out_of desk.old.lane.state }
+{
     match format!(in alloc; "{number}") {
         Ok(id) => puts(alloc, desk, number, id.as_str()),
         Err(_) => false,
     }
 }
 
-// The producer and the control close. Whether the lane is closed.
-fn closes(desk: &mut Desk) -> bool {
+/// The producer and the control close. Whether the lane is closed.
+pub fn closes(desk: &mut Desk) -> bool
+    ensures { out_of desk.new.lane.state ≡ out_of desk.old.lane.state }
+{
     sends(desk, 0, Body::Done) && sends(desk, 1, Body::Done) && desk.lane.closed()
 }
 
-// A fresh lane.
-fn fresh_desk(alloc: Global) -> Option<Desk> {
-    if !CONFIG.valid() {
+// A fresh lane of a config, which has to be valid.
+fn fresh_desk(alloc: Global, config: RelayConfig) -> Option<Desk>
+    ensures { IfSome result (λ d. out_of d.lane.state ≡ []) }
+{
+    if !config.valid() {
         return None;
     }
-    match Lane::new(alloc, CONFIG) {
+    match Lane::new(alloc, config) {
         Ok(lane) => Some(Desk { lane }),
         Err(_) => None,
     }
 }
 
+/// A lane of a config that took a delete of each of these documents in turn.
+pub fn with_deletes(alloc: Global, config: RelayConfig, ids: &[&str]) -> Option<Desk>
+    ensures { IfSome result (λ d. out_of d.lane.state ≡ []) }
+{
+    let mut desk = fresh_desk(alloc, config)?;
+    for i in 0..ids.len() {
+        if !puts(alloc, &mut desk, i as u64, ids[i]) {
+            return None;
+        }
+    }
+    Some(desk)
+}
+
 /// A closed lane that took deletes of so many documents, with the ids `1`, `2` and so on.
-pub fn filled(alloc: Global, count: u64) -> Option<Desk> {
-    let mut desk = fresh_desk(alloc)?;
+pub fn filled(alloc: Global, count: u64) -> Option<Desk>
+    ensures { IfSome result (λ d. out_of d.lane.state ≡ []) }
+{
+    let mut desk = fresh_desk(alloc, CONFIG)?;
     for number in 1..=count {
         if !puts_number(alloc, &mut desk, number) {
             return None;

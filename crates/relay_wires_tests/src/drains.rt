@@ -1,5 +1,6 @@
 //! Lanes that are drained over wires.
 ghost use Rattle.std.specs.Prelude.{◌≡◌, [], IfSome};
+ghost use Rattle.relay_lane.specs.Out.{out_of};
 ghost use Rattle.relay_wires.specs.Numbered.{numbers};
 
 use crate::desk::{Desk, NO_PAUSES, filled};
@@ -22,7 +23,7 @@ pub struct Came {
 
 /// Drains a closed lane over a wire. `None`: there was no memory, or it is not closed.
 pub fn drained<W: Wire>(desk: &mut Desk, wire: &mut W) -> Option<Came>
-    requires { W.out wire.old ≡ [] }
+    requires { W.out wire.old ≡ out_of desk.old.lane.state }
 {
     let mut pace = NO_PAUSES;
     if !desk.lane.closed() || drain(&mut desk.lane, wire, &mut pace).is_err() {
@@ -59,7 +60,7 @@ fn looped(alloc: Global, lost: u64) -> Option<LoopWire>
 
 /// What a drain in memory comes to, and how many writes the index applied.
 pub fn came_to(alloc: Global, desk: &mut Desk, wire: &mut LoopWire) -> Option<(Came, usize)>
-    requires { wire.old.out ≡ [] }
+    requires { numbers wire.old.out ≡ out_of desk.old.lane.state }
 {
     let came = drained(desk, wire)?;
     Some((came, count_applied(alloc, wire.index()).ok()?))
@@ -68,6 +69,13 @@ pub fn came_to(alloc: Global, desk: &mut Desk, wire: &mut LoopWire) -> Option<(C
 // The same of deletes of so many documents, where the reply to one number is lost.
 fn in_memory(alloc: Global, count: u64, lost: u64) -> Option<(Came, usize)> {
     came_to(alloc, &mut filled(alloc, count)?, &mut looped(alloc, lost)?)
+}
+
+// The highest version in an index in memory after deletes of three documents, and how many documents it has.
+fn after_three(alloc: Global) -> Option<(Option<u64>, usize)> {
+    let mut wire = looped(alloc, 0)?;
+    drained(&mut filled(alloc, 3)?, &mut wire)?;
+    Some((wire.index().highest(), wire.index().keys(alloc).ok()?.len()))
 }
 
 // What deletes of three documents come to over streams with these bytes.
@@ -100,6 +108,11 @@ const ALL_AT_ONCE: Came = Came {
 #[test]
 fn a_lost_reply_in_memory(rt: HostRuntime) {
     assert!(rt; in_memory(rt.alloc(), 3, 1) == Some((LOST_ONCE, 3)));
+}
+
+#[test]
+fn three_deletes(rt: HostRuntime) {
+    assert!(rt; after_three(rt.alloc()) == Some((Some(3), 3)));
 }
 
 #[test]

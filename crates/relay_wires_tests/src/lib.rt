@@ -23,6 +23,8 @@ mod places;
 #[cfg(test)]
 mod replies;
 #[cfg(test)]
+mod several;
+#[cfg(test)]
 mod streams;
 #[cfg(test)]
 mod too_large;

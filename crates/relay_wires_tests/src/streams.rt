@@ -21,12 +21,14 @@ pub struct Streams<'a> {
     calls: usize,
     next: usize,
     failed: u64,
+    dialled: u64,
 }
 
 impl Streams<'_> {
     // The next of them, where there is one and memory for it.
     fn stream(&mut self) -> Option<MemStream>
-        ensures { self.new.failed ≡ self.old.failed }
+        ensures failed { self.new.failed ≡ self.old.failed }
+        ensures dialled { self.new.dialled ≡ self.old.dialled }
     {
         let input = self.inputs.get(self.next)?;
         let fails_at = if self.next == 0 {
@@ -43,8 +45,11 @@ impl Streams<'_> {
 impl Dial<MemStream> for Streams<'_> {
     ghost failed = { λ d. d.failed };
 
+    ghost dialled = { λ d. d.dialled };
+
     fn dial(&mut self) -> Result<MemStream, DialFault> {
         self.calls = self.calls.saturating_add(1);
+        self.dialled = self.dialled.saturating_add(1);
         if self.calls != self.fail_at {
             if let Some(stream) = self.stream() {
                 return Ok(stream);
@@ -89,6 +94,7 @@ pub fn wired<'a>(
         calls: 0,
         next: 0,
         failed: 0,
+        dialled: 0,
     };
     wired_over(alloc, streams, most)
 }
@@ -113,6 +119,7 @@ pub fn wired_failing<'a>(
         calls: 0,
         next: 0,
         failed: 0,
+        dialled: 0,
     };
     wired_over(alloc, streams, 1)
 }

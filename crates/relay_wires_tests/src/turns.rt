@@ -68,12 +68,16 @@ pub struct TurnDial<'a> {
     piece: usize,
     next: usize,
     failed: u64,
+    dialled: u64,
 }
 
 impl<'a> Dial<TurnStream<'a>> for TurnDial<'a> {
     ghost failed = { λ d. d.failed };
 
+    ghost dialled = { λ d. d.dialled };
+
     fn dial(&mut self) -> Result<TurnStream<'a>, DialFault> {
+        self.dialled = self.dialled.saturating_add(1);
         if let Some(turns) = self.streams.get(self.next) {
             self.next = self.next.saturating_add(1);
             return Ok(TurnStream {
@@ -103,6 +107,7 @@ pub fn turned<'a>(
         piece,
         next: 0,
         failed: 0,
+        dialled: 0,
     };
     let host = format!(in alloc; "127.0.0.1:9200").ok()?;
     if !is_host(host.as_str()) {

@@ -47,6 +47,7 @@ returns-clause-brings g c =
       out = c.self.inside.out.items;
       free = c.self.inside.free.items;
       failed = g.D.Dial.failed c.self.inside.dial;
+      dialled = g.D.Dial.dialled c.self.inside.dial;
     } in
     let new : Carrier = record old { out = c.take.new.out.items; free = c.bring.new.free.items } in
     let brings : Brings c.args.number old new c.bring.result = record {

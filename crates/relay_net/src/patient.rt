@@ -1,0 +1,102 @@
+//! Dials that wait for an index that is away.
+ghost use Rattle.std.specs.Prelude.{◌≡◌, ◌+◌, ◌≤◌, is_ok, if◌then◌else◌, OnErr, IfOk};
+ghost use Rattle.relay_action.specs.Streams.{one_more, FailedSince};
+
+use relay_wires::{Dial, DialFault};
+use std::marker::Model;
+use std::thread;
+use std::time::{Clock, Duration, Instant};
+
+/// A dial that tries again, a second after each failure, until so many seconds have gone by. Contracts see the
+/// dial that it makes do with, for how many seconds it tries, how many calls failed and how many were made; at
+/// 2^64 - 1 a count stays. All its tries are one call.
+#[derive(Drop)]
+pub struct PatientDial<D, C: Clock> {
+    dial: D,
+    clock: C,
+    patience: u32,
+    failed: u64,
+    dialled: u64,
+}
+
+impl<D, C: Clock> Model for PatientDial<D, C> {
+    ghost use Rattle.std.specs.Prelude.{ℕ};
+
+    ghost Value = { D × ℕ × ℕ × ℕ };
+
+    ghost view = { λ p. (p.dial, p.patience, p.failed, p.dialled) };
+}
+
+impl<D, C: Clock> PatientDial<D, C> {
+    /// What tries by this dial for so many seconds, by this clock. With 0 it tries once.
+    pub fn new(dial: D, clock: C, patience: u32) -> PatientDial<D, C>
+        ensures { result ≡ (dial, patience, 0, 0) }
+    {
+        PatientDial {
+            dial,
+            clock,
+            patience,
+            failed: 0,
+            dialled: 0,
+        }
+    }
+
+    // Counts a failed call.
+    fn fail(&mut self) -> DialFault
+        ensures { self.new ≡ (self.old.0, self.old.1, one_more self.old.2, self.old.3) }
+    {
+        self.failed = self.failed.saturating_add(1);
+        DialFault
+    }
+
+    // Whether the patience is used up, as far as the clock can tell.
+    fn is_over(&self, start: Option<Instant>) -> bool {
+        let Some(start) = start else {
+            return false;
+        };
+        match start.elapsed(&self.clock) {
+            Ok(spent) => spent >= Duration::from_secs(self.patience as u64),
+            Err(_) => false,
+        }
+    }
+
+    // Waits a second.
+    fn pause(&self) {
+        thread::sleep(&self.clock, Duration::from_secs(1));
+    }
+}
+
+impl<S, D: Dial<S>, C: Clock> Dial<S> for PatientDial<D, C> {
+    ghost failed = { λ p. p.2 };
+
+    ghost dialled = { λ p. p.3 };
+
+    /// The first stream that a try of the dial gives. The first try is made at once, and at most `patience`
+    /// more follow, each a second after the one before it, as long as the seconds since the start of the call
+    /// are below `patience`. Without a clock their number alone ends them.
+    ///
+    /// `DialFault`: each try failed.
+    fn dial(&mut self) -> Result<S, DialFault>
+        ensures count { self.new.2 ≡ (if is_ok result then self.old.2 else one_more self.old.2) }
+        ensures dialled { self.new.3 ≡ one_more self.old.3 }
+        ensures patience { self.new.1 ≡ self.old.1 }
+        ensures failed { OnErr result (FailedSince (D.failed self.old.0) (D.failed self.new.0)) }
+        ensures tries { D.failed self.new.0 ≤ D.failed self.old.0 + self.old.1 + 1 }
+    {
+        self.dialled = self.dialled.saturating_add(1);
+        let start = Instant::now(&self.clock).ok();
+        if let Ok(stream) = self.dial.dial() {
+            return Ok(stream);
+        }
+        'tries: for _ in 0..self.patience {
+            if self.is_over(start) {
+                break;
+            }
+            self.pause();
+            if let Ok(stream) = self.dial.dial() {
+                return Ok(stream);
+            }
+        }
+        Err(self.fail())
+    }
+}

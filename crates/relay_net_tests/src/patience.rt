@@ -1,0 +1,105 @@
+//! Dials that try again, by a clock that goes on while they wait.
+ghost use Rattle.std.specs.Prelude.{◌≡◌};
+
+use relay_net::PatientDial;
+use relay_wires::{Dial, DialFault};
+use std::io;
+use std::io::ErrorKind;
+use std::sync::atomic::{AtomicU64, Ordering};
+use std::time::{Clock, Duration};
+
+// A clock that counts the seconds for which it was slept by, and those that are added to it. It can be one
+// that cannot be read.
+#[derive(Clone, Copy)]
+struct Slept<'a> {
+    seconds: &'a AtomicU64,
+    is_read: bool,
+}
+
+impl Clock for Slept<'_> {
+    fn monotonic(&self) -> Result<Duration, io::Error> {
+        if self.is_read {
+            Ok(Duration::from_secs(self.seconds.load(Ordering::SeqCst)))
+        } else {
+            Err(io::Error::from(ErrorKind::Unsupported))
+        }
+    }
+
+    fn since_1970(&self) -> Result<Duration, io::Error> {
+        Err(io::Error::from(ErrorKind::Unsupported))
+    }
+
+    fn sleep(&self, duration: Duration) {
+        self.seconds.fetch_add(duration.as_secs(), Ordering::SeqCst);
+    }
+}
+
+// A dial that fails so often, and takes so many seconds each time.
+#[derive(Drop)]
+struct Failing<'a> {
+    failures: u32,
+    cost: u64,
+    seconds: &'a AtomicU64,
+    failed: u64,
+    dialled: u64,
+}
+
+impl Dial<()> for Failing<'_> {
+    ghost failed = { λ d. d.failed };
+
+    ghost dialled = { λ d. d.dialled };
+
+    fn dial(&mut self) -> Result<(), DialFault> {
+        self.dialled = self.dialled.saturating_add(1);
+        self.seconds.fetch_add(self.cost, Ordering::SeqCst);
+        if self.failures == 0 {
+            return Ok(());
+        }
+        self.failures -= 1;
+        self.failed = self.failed.saturating_add(1);
+        Err(DialFault)
+    }
+}
+
+// Whether a dial that fails so often gives a stream at last, and after how many seconds.
+fn dials(patience: u32, failures: u32, cost: u64, is_read: bool) -> (bool, u64) {
+    let seconds = AtomicU64::new(0);
+    let clock = Slept {
+        seconds: &seconds,
+        is_read,
+    };
+    let failing = Failing {
+        failures,
+        cost,
+        seconds: &seconds,
+        failed: 0,
+        dialled: 0,
+    };
+    let made = PatientDial::new(failing, clock, patience).dial().is_ok();
+    (made, seconds.load(Ordering::SeqCst))
+}
+
+// How patient it is, how often the dial fails, the seconds of a try, whether the clock can be read, and
+// whether there is a stream after how many seconds.
+const ROWS: &[(u32, u32, u64, bool, (bool, u64))] = &[
+    (0, 0, 0, true, (true, 0)),
+    (0, 1, 0, true, (false, 0)),
+    (3, 0, 0, true, (true, 0)),
+    (3, 3, 0, true, (true, 3)),
+    (3, 4, 0, true, (false, 3)),
+    (3, 3, 0, false, (true, 3)),
+    (3, 4, 0, false, (false, 3)),
+    (10, 100, 4, true, (false, 14)),
+    (10, 100, 10, true, (false, 10)),
+];
+
+#[test]
+fn tries_until_the_time_is_over(rt: HostRuntime) {
+    for (patience, failures, cost, is_read, wanted) in ROWS {
+        let found = dials(*patience, *failures, *cost, *is_read);
+        assert!(rt;
+            found == *wanted,
+            "patience {patience}, failures {failures}"
+        );
+    }
+}

@@ -1,0 +1,36 @@
+//! Calls of connections that wait for a limited time.
+use crate::asking::address_of;
+use relay_action::ByteIn;
+use relay_net::{TcpDial, TcpListen};
+use relay_wires::Dial;
+use std::alloc::Global;
+use std::net::Net;
+use std::time::{Clock, Duration, Instant};
+
+// Whether a read of a connection fails on which nothing comes.
+fn read_fails<R: Net>(net: &R, address: String) -> Option<bool> {
+    let mut stream = TcpDial::new(net, address).with_timeout(1).dial().ok()?;
+    Some(stream.read(&mut [0; 1]).is_err())
+}
+
+// The same of one to a listener that takes no connection.
+fn silent_read_fails<R: Net>(alloc: Global, net: &R) -> Option<bool> {
+    let listener = TcpListen::bind(net, "127.0.0.1:0").ok()?;
+    read_fails(net, address_of(alloc, &listener)?)
+}
+
+// The time that this takes, if it fails as it is to.
+fn silent_read_takes<R: Net + Clock>(alloc: Global, rt: &R) -> Option<Duration> {
+    let start = Instant::now(rt).ok()?;
+    match silent_read_fails(alloc, rt) {
+        Some(true) => start.elapsed(rt).ok(),
+        _ => None,
+    }
+}
+
+#[test]
+fn a_read_that_waits_too_long(rt: HostRuntime) {
+    let taken = silent_read_takes(rt.alloc(), &rt);
+    let limit = Duration::from_millis(900)..Duration::from_secs(20);
+    assert!(rt; matches!(&taken, Some(taken) if limit.contains(taken)));
+}
