@@ -254,6 +254,7 @@ module _ {W : Type 0} (describes : W → Bool) (fits : W → Outside → Type 0)
         no_other = all.no_other;
         count = f.taken;
         totals = f.totals;
+        reached = f.reached;
         delivers = f.delivers all.distinct;
       } where
         long_ends : (xs : List ClosedProducerState) → length (map (λ (x : ClosedProducerState). x.ends) xs) ≡ length xs

@@ -1,17 +1,35 @@
 -- How a lane ends.
-use Rattle.std.proofs.Common.{◌≡◌, ◌≢◌, ℕ, ◌+◌, ◌<◌, List, [], ◌++◌, Bool, true, false, sym, ap, ◌∙◌, subst, arith, length, append-nil}
+use Rattle.std.proofs.Common.{◌≡◌, ◌≢◌, ℕ, ◌+◌, ◌<◌, List, [], ◌∷◌, ◌++◌, Bool, true, false, sym, ap, ◌∙◌, subst, arith, length, append-nil}
+use Rattle.std.specs.Prelude.{unwrap_or}
 use Rattle.std.specs.List.{list_all}
 use Rattle.relay_action.specs.declared.mail.Mail.{Mail}
 use Rattle.relay_results.specs.Outside.{Outside}
 use Rattle.relay_queue.specs.Sent.{mail_of, HasDone}
 use Rattle.relay_core.specs.declared.config.RelayConfig.{RelayConfig}
-use Rattle.relay_core.specs.State.{State, all_closed}
+use Rattle.relay_core.specs.State.{State, all_closed, oldest}
+use Rattle.relay_lane.specs.Turns.{Turn, Sends, Fails, Settles, Pauses, after_answer, after_turns, AllMayTurn, Worked, Stays, collects}
+use Rattle.relay_lane.specs.Delivers.{Delivers}
+use Rattle.relay_lane.proofs.Sends.{none_left}
 use Rattle.relay_threads.specs.declared.lane_end.LaneEndKind.{LaneEndKind}
 use Rattle.relay_threads.specs.declared.lane_end.LaneEndKind.TheVariants.{Finished, Memory, Gone}
 use Rattle.relay_threads.specs.Course.{KnowsOpen, OneIsOpen, Heard, Course, EndsAs}
 use Rattle.relay_threads.specs.Steps.{KeepsOn}
 use Rattle.relay_threads.proofs.Hearing.{heard_all, all_done, done_more, one_open}
-use Rattle.relay_threads.proofs.Keeping.{course_on}
+use Rattle.relay_threads.proofs.Keeping.{course_on, works}
+
+-- ---- what is in flight is settled
+
+turns_none : (ts : List Turn) (s : State) → AllMayTurn collects ts s → s.core.held ≡ [] → (after_turns ts s).core.held ≡ []
+turns_none [] s may none = none
+turns_none (Sends ∷ ts) s may none = absurd (let k = may.0 in cc)
+turns_none (Fails ∷ ts) s may none = absurd (let k = may.0 in cc)
+turns_none (Settles a ∷ ts) s may none = turns_none ts (after_answer a s) may.2 (none_left s (unwrap_or (oldest s) 0) a none)
+turns_none (Pauses n ∷ ts) s may none = absurd (let k = may.0 in cc)
+
+collected_none : (s t : State) → Worked collects s t → s.core.held ≡ [] → t.core.held ≡ []
+collected_none s t w none = ap (λ (x : State). x.core.held) w.reached ∙ turns_none w.turns s w.may none
+
+-- ---- how it ends
 
 gone_apart : (kind : LaneEndKind) → kind ≡ Gone → kind ≡ Memory → ⊥
 gone_apart kind g m = cc
@@ -45,6 +63,18 @@ module _ {S : Type 0} (d : Bool) (fits : S → Outside → Type 0) where
     closed = λ f. ap (list_all (λ (b : Bool). b)) stays ∙ closed;
     not_closed = λ g. absurd (early g);
     none_held = none;
+  }
+
+  -- what was in flight is settled then
+  pub ends_collected : (start v w : S) (c : RelayConfig) (taken : List Mail) (kind : LaneEndKind) (s t : State) (e : Bool) → e ≡ d → EndsAs d fits start v c taken kind s
+      → Worked collects s t → Stays s t → Delivers e fits v w s t → EndsAs d fits start w c taken kind t
+  ends_collected start v w c taken kind s t e same x worked stays delivers = record {
+    messages = x.messages;
+    heard = x.heard;
+    course = course_on d e fits start v w c s t x.messages x.messages same x.course (works e fits collects v w s t x.messages worked stays delivers);
+    closed = λ f. ap (list_all (λ (b : Bool). b)) stays.closed ∙ x.closed f;
+    not_closed = x.not_closed;
+    none_held = λ f. collected_none s t worked (x.none_held f);
   }
 
   -- where it finished, it took each sender's Done

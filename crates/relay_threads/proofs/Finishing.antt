@@ -10,6 +10,7 @@ use Rattle.relay_results.specs.Outside.{Outside, IsOpening}
 use Rattle.relay_delivery.specs.Delivery.{HasDistinctNames, IsSound, IsComplete, attributed}
 use Rattle.relay_delivery.specs.Machine.{Config, Report}
 use Rattle.relay_delivery.specs.Lane as delivery
+use Rattle.relay_delivery.specs.Reached.{Reached}
 use Rattle.relay_queue.specs.Ends.{Queue}
 use Rattle.relay_queue.specs.Sent.{mail_of, HasDone, IsWellTaken}
 use Rattle.relay_core.specs.declared.config.RelayConfig.{RelayConfig}
@@ -170,6 +171,17 @@ module _ {W : Type 0} (describes : W → Bool) (fits : W → Outside → Type 0)
         no_other = λ sender le. on.well_taken.no_other sender (omega (arith, count, le));
         taken = taken;
         totals = omega (arith, totals, held, long, reports, sum.applied, sum.already, sum.taken);
+        reached = record {
+          state = e.lane.state.core;
+          reached = subst (λ m. Reached e.lane.state.core (puts_of m)) (sym all) k.reached.core;
+          config = sum.lane.config ∙ ap config_of k.config;
+          none_held = none;
+          taken = sum.taken;
+          applied = sum.applied;
+          already = sum.already;
+          requests = sum.requests;
+          reports = sum.reports;
+        };
         delivers = λ distinct is o fit opening below.
             carries (puts_of e.taken.taken) e s o k.config none sum distinct
             (subst (λ m. GoesOn fits e.wire e.lane.state (puts_of m) o) (sym all) (k.delivers is o fit opening below));

@@ -8,11 +8,13 @@ use Rattle.relay_core.specs.declared.config.RelayConfig.{RelayConfig}
 use Rattle.relay_core.specs.State.{State, fresh, flushed, after_take}
 use Rattle.relay_core.specs.Ties.{Fits, ops_of}
 use Rattle.relay_core.proofs.Tying.{fresh_fits, take_fits}
-use Rattle.relay_lane.specs.Rest.{IsAtRest}
-use Rattle.relay_lane.specs.Turns.{Worked, Stays}
+use Rattle.relay_lane.specs.Turns.{Turn, Worked, Stays}
 use Rattle.relay_lane.specs.Delivers.{GoesOn, Delivers}
+use Rattle.relay_lane.specs.Reached.{IsReached}
+use Rattle.relay_lane.specs.Out.{out_of}
+use Rattle.relay_lane.proofs.Out.{take_keeps_out}
 use Rattle.relay_lane.proofs.Carrying.{goes_on}
-use Rattle.relay_lane.proofs.Resting.{fresh_rests, take_rests}
+use Rattle.relay_lane.proofs.Reaching.{fresh_is_reached, take_is_reached, work_is_reached}
 use Rattle.relay_threads.specs.Course.{puts_of, KnowsClosed, KnowsOpen, DeliversFrom, Course}
 use Rattle.relay_threads.specs.Steps.{Takes, KeepsOn}
 use Rattle.relay_threads.proofs.Totals.{worked_totals, take_totals, take_counts}
@@ -28,8 +30,8 @@ module _ {S : Type 0} (d : Bool) (fits : S → Outside → Type 0) where
     senders = length-replicate (c.producers + 1) _;
     closed = none_known (c.producers + 1) [];
     not_closed = λ p lt e d. d;
-    rest = fresh_rests c;
     totals = refl;
+    reached = fresh_is_reached c;
     delivers = λ is o f opening below. goes_on fits w (fresh c) [] o o f (continues_itself o) (fresh_fits c o opening below);
   }
 
@@ -53,28 +55,28 @@ module _ {S : Type 0} (d : Bool) (fits : S → Outside → Type 0) where
       let y = new is (puts_of heard) x.outside x.fitting x.lane in
       goes_on fits w t (puts_of heard) o y.outside y.fitting (continues_on o x.outside y.outside x.continues y.continues) y.lane
 
-  pub works : (going : State → Bool) (v w : S) (s t : State) (heard : List Mail) → Worked going s t → Stays s t → IsAtRest t → Delivers d fits v w s t → KeepsOn d fits v w s t heard heard
-  works going v w s t heard worked stays rest delivers start c k = record {
+  pub works : (going : Turn → State → Bool) (v w : S) (s t : State) (heard : List Mail) → Worked going s t → Stays s t → Delivers d fits v w s t → KeepsOn d fits v w s t heard heard
+  works going v w s t heard worked stays delivers start c k = record {
     config = stays.config ∙ k.config;
     taken = stays.taken ∙ k.taken;
     senders = ap length stays.closed ∙ k.senders;
     closed = subst (λ l. KnowsClosed l heard) (sym stays.closed) k.closed;
     not_closed = subst (λ l. KnowsOpen l heard) (sym stays.closed) k.not_closed;
-    rest = rest;
     totals = worked_totals going s t worked k.totals;
+    reached = work_is_reached going s t (puts_of heard) worked k.reached;
     delivers = further start v w s t c heard delivers k.delivers;
   }
 
   -- the same after a flush
-  pub works_flushed : (going : State → Bool) (v w : S) (s t : State) (heard : List Mail) → Worked going (flushed s) t → Stays s t → IsAtRest t → Delivers d fits v w s t → KeepsOn d fits v w s t heard heard
-  works_flushed going v w s t heard worked stays rest delivers start c k = record {
+  pub works_flushed : (going : Turn → State → Bool) (v w : S) (s t : State) (heard : List Mail) → Worked going (flushed s) t → Stays s t → Delivers d fits v w s t → KeepsOn d fits v w s t heard heard
+  works_flushed going v w s t heard worked stays delivers start c k = record {
     config = stays.config ∙ k.config;
     taken = stays.taken ∙ k.taken;
     senders = ap length stays.closed ∙ k.senders;
     closed = subst (λ l. KnowsClosed l heard) (sym stays.closed) k.closed;
     not_closed = subst (λ l. KnowsOpen l heard) (sym stays.closed) k.not_closed;
-    rest = rest;
     totals = worked_totals going (flushed s) t worked k.totals;
+    reached = work_is_reached going (flushed s) t (puts_of heard) worked (record { core = k.reached.core; next = k.reached.next });
     delivers = further start v w s t c heard delivers k.delivers;
   }
 
@@ -99,8 +101,8 @@ module _ {S : Type 0} (d : Bool) (fits : S → Outside → Type 0) where
         senders = take_senders s m.sender m.body ∙ k.senders;
         closed = knows_take s heard m k.closed;
         not_closed = open_take s heard m lt k.not_closed;
-        rest = take_rests s m.sender m.body k.rest;
         totals = take_totals s m.sender m.body k.totals;
+        reached = subst (IsReached (after_take s m.sender m.body)) (sym (puts_push heard m)) (take_is_reached s m.sender m.body (puts_of heard) k.reached);
         delivers = heard_more start w s c heard m k.delivers;
       }
 
@@ -112,10 +114,10 @@ pub keeps_on : {S : Type 0} (d e : Bool) (fits : S → Outside → Type 0) (u v 
 keeps_on d e fits u v w r s t a b c same x y start g k =
     subst (λ z. Course z fits start w g c t) same (y start g (subst (λ z. Course z fits start v g b s) (sym same) (x start g k)))
 
--- a message that was taken, or refused, leaves a lane at rest
-pub rests_after : {A E : Type 0} (r : Result A E) (s t : State) (m : Mail) → OnOk r (t ≡ after_take s m.sender m.body) → OnErr r (t ≡ s) → IsAtRest s → IsAtRest t
-rests_after (Ok x) s t m ok err r = subst IsAtRest (sym ok) (take_rests s m.sender m.body r)
-rests_after (Err x) s t m ok err r = subst IsAtRest (sym err) r
+-- a message that was taken, or refused, leaves what is out
+pub out_after : {A E : Type 0} (r : Result A E) (s t : State) (m : Mail) → OnOk r (t ≡ after_take s m.sender m.body) → OnErr r (t ≡ s) → out_of t ≡ out_of s
+out_after (Ok x) s t m ok err = ap out_of ok ∙ take_keeps_out s m.sender m.body
+out_after (Err x) s t m ok err = ap out_of err
 
 pub course_on : {S : Type 0} (d e : Bool) (fits : S → Outside → Type 0) (start v w : S) (g : RelayConfig) (s t : State) (a b : List Mail) → e ≡ d → Course d fits start v g a s → KeepsOn e fits v w s t a b → Course d fits start w g b t
 course_on d e fits start v w g s t a b same k x = subst (λ z. Course z fits start w g b t) same (x start g (subst (λ z. Course z fits start v g a s) (sym same) k))

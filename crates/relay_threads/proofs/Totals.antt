@@ -1,22 +1,22 @@
 -- Each operation that was taken is held, was applied or is reported, whatever a lane does.
 use Rattle.std.proofs.Common.{◌≡◌, ℕ, ◌+◌, List, [], ◌∷◌, ◌++◌, Option, Some, None, Bool, true, false, refl, sym, ap, ◌∙◌, subst, arith, length, length-append}
-use Rattle.std.specs.Prelude.{nat_lt, map}
+use Rattle.std.specs.Prelude.{nat_lt, map, unwrap_or}
 use Rattle.relay_action.specs.declared.write.Write.{Write}
 use Rattle.relay_action.specs.declared.operation.Op.{Op}
 use Rattle.relay_action.specs.declared.mail.Body.{Body}
 use Rattle.relay_action.specs.declared.mail.Body.TheVariants as body
 use Rattle.relay_batch.specs.declared.item.BatchItem.{BatchItem}
 use Rattle.relay_results.specs.Numbers.{from_zero}
-use Rattle.relay_results.specs.Outside.{Answer}
+use Rattle.relay_results.specs.Outside.{Answer, Lost}
 use Rattle.relay_results.specs.Fates.{Fate, Flies, Applied, Already, Retried, Halved, Reported}
 use Rattle.relay_delivery.specs.Machine.{Config, spent_if, kept_one, kept, reported, fate_of, how_many, is_applied_fate, is_already_fate}
 use Rattle.relay_delivery.specs.Lane as delivery
 use Rattle.relay_delivery.specs.Lane.{Entry, held_of, entry_if, kept_entry, kept_entries, launched_entry, settled, writes_at}
 use Rattle.relay_delivery.proofs.Fates.{totals-settled}
 use Rattle.std.proofs.lemmas.List.{length-map}
-use Rattle.relay_core.specs.State.{State, after_take, after_request, next_batch, next_entries, answered, bytes_of}
+use Rattle.relay_core.specs.State.{State, after_take, after_request, next_batch, next_entries, answered, oldest, bytes_of}
 use Rattle.relay_core.specs.Ties.{ops_of}
-use Rattle.relay_lane.specs.Turns.{Turn, Exchanges, Pauses, after_turn, after_turns, Worked}
+use Rattle.relay_lane.specs.Turns.{Turn, Sends, Fails, Settles, Pauses, after_send, after_turn, after_turns, Worked}
 use Rattle.relay_threads.specs.Course.{HasTotals}
 
 -- ---- requests and answers
@@ -62,14 +62,16 @@ answered_totals s number a t = settled_totals s.core (from_zero number) (writes_
 -- ---- turns
 
 turn_totals : (t : Turn) (s : State) → HasTotals s → HasTotals (after_turn t s)
-turn_totals (Exchanges a) s h = answered_totals (after_request s (next_batch s)) s.flights.next a (asked_totals s (next_batch s) h)
+turn_totals Sends s h = asked_totals s (next_batch s) h
+turn_totals Fails s h = answered_totals (after_send s) s.flights.next Lost (asked_totals s (next_batch s) h)
+turn_totals (Settles a) s h = answered_totals s (unwrap_or (oldest s) 0) a h
 turn_totals (Pauses n) s h = h
 
 turns_totals : (ts : List Turn) (s : State) → HasTotals s → HasTotals (after_turns ts s)
 turns_totals [] s h = h
 turns_totals (t ∷ ts) s h = turns_totals ts (after_turn t s) (turn_totals t s h)
 
-pub worked_totals : (going : State → Bool) (s t : State) → Worked going s t → HasTotals s → HasTotals t
+pub worked_totals : (going : Turn → State → Bool) (s t : State) → Worked going s t → HasTotals s → HasTotals t
 worked_totals going s t w h = subst HasTotals (sym w.reached) (turns_totals w.turns s h)
 
 -- ---- messages

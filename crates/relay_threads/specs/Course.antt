@@ -9,8 +9,8 @@ use Rattle.relay_queue.specs.Sent.{mail_of, HasDone}
 use Rattle.relay_core.specs.declared.config.RelayConfig.{RelayConfig}
 use Rattle.relay_core.specs.State.{State, all_closed, is_put}
 use Rattle.relay_core.specs.Ties.{ops_of}
-use Rattle.relay_lane.specs.Rest.{IsAtRest}
 use Rattle.relay_lane.specs.Delivers.{GoesOn}
+use Rattle.relay_lane.specs.Reached.{IsReached}
 use Rattle.relay_threads.specs.declared.lane_end.LaneEndKind.{LaneEndKind}
 use Rattle.relay_threads.specs.declared.lane_end.LaneEndKind.TheVariants.{Finished, Memory, Gone}
 use Rattle.relay_delivery.specs.Machine.{first_in}
@@ -54,15 +54,16 @@ abbrev pub DeliversFrom : {S : Type 0} → Bool → (S → Outside → Type 0) �
 DeliversFrom describes fits start now c heard s =
     IsTrue describes → (o : Outside) → fits start o → IsOpening o → IsBelow (first_in c.epoch) o → GoesOn fits now s (puts_of heard) o
 
--- a lane of this config that began fresh has heard these messages, and worked on its wire
+-- A lane of this config that began fresh has heard these messages, and worked on its wire; it came to its state by calls that
+-- it may make, whatever the wire answered.
 pub record Course {S : Type 0} (describes : Bool) (fits : S → Outside → Type 0) (start now : S) (c : RelayConfig) (heard : List Mail) (s : State) : Type 0 where
   pub config : s.config ≡ c
   pub taken : s.core.taken ≡ length (puts_of heard)
   pub senders : length s.closed ≡ c.producers + 1
   pub closed : KnowsClosed s.closed heard
   pub not_closed : KnowsOpen s.closed heard
-  pub rest : IsAtRest s
   pub totals : HasTotals s
+  pub reached : IsReached s (puts_of heard)
   pub delivers : DeliversFrom describes fits start now c heard s
 
 -- How it ended: what it heard of what was taken. Where it finished each sender closed and nothing is held; where it ended as

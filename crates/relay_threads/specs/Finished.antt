@@ -5,6 +5,8 @@ use Rattle.relay_action.specs.declared.mail.Mail.{Mail}
 use Rattle.relay_results.specs.Outside.{Outside, IsOpening, Continues}
 use Rattle.relay_delivery.specs.Counts.{settled_applied, settled_already}
 use Rattle.relay_delivery.specs.Delivery.{HasDistinctNames, IsSound, IsComplete, attributed}
+use Rattle.relay_delivery.specs.Lane as delivery
+use Rattle.relay_delivery.specs.Reached.{Reached}
 use Rattle.relay_queue.specs.Ends.{Queue}
 use Rattle.relay_queue.specs.Sent.{mail_of, HasDone, IsWellTaken}
 use Rattle.relay_core.specs.declared.config.RelayConfig.{RelayConfig}
@@ -62,15 +64,29 @@ module _ {W : Type 0} (describes : W → Bool) (fits : W → Outside → Type 0)
     pub sound : IsSound (config_of c) ops (map report_of s.reports.items) outside (attributed (config_of c) ops outside)
     pub complete : IsComplete ops (map report_of s.reports.items) (attributed (config_of c) ops outside)
 
+  -- The lane came to this summary by calls that it may make, which took these operations, whatever its wire answered: nothing
+  -- is held, and the counts and the reports are those to which the calls led.
+  pub record CameTo (ops : List Op) (s : LaneSummary W) : Type 0 where
+    pub state : delivery.State
+    pub reached : Reached state ops
+    pub config : state.config ≡ config_of c
+    pub none_held : state.held ≡ []
+    pub taken : s.taken ≡ state.taken
+    pub applied : s.applied ≡ state.applied
+    pub already : s.already ≡ state.already
+    pub requests : s.requests ≡ state.requests
+    pub reports : map report_of s.reports.items ≡ state.reports
+
   -- A lane that has finished took from its queue exactly what each sender sent there, each of which has closed and has not
-  -- marked the lane. Each operation that it took was applied or is reported. For each opening that fitted the wire at the
-  -- start one outside goes on from there to the end.
+  -- marked the lane. Each operation that it took was applied or is reported, and it came to that by calls that it may make. For
+  -- each opening that fitted the wire at the start one outside goes on from there to the end.
   pub record FinishedLane (rows : List (List ClosedEnd)) (lane : ℕ) (start : W) (s : LaneSummary W) : Type 0 where
     pub messages : List Mail
     pub met : AreMetAt lane 0 messages rows
     pub no_other : (sender : ℕ) → length rows ≤ sender → mail_of sender messages ≡ []
     pub taken : s.taken ≡ length (puts_of messages)
     pub totals : s.applied + s.already + length s.reports.items ≡ s.taken
+    pub reached : CameTo (puts_of messages) s
     pub delivers : HasDistinctNames (puts_of messages) → IsTrue (describes start) → (o : Outside) → fits start o → IsOpening o → IsBelow (first_in c.epoch) o → Carries (puts_of messages) s o
 
   -- so it is of the lanes from this one on, each with its wire

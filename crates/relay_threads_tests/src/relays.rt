@@ -38,6 +38,18 @@ const CONFIG: RelayConfig = RelayConfig {
     deal: 1_099_511_627_775,
 };
 
+// Requests of two operations, four of them in flight.
+const FOUR_IN_FLIGHT: RelayConfig = RelayConfig {
+    max_held: 16,
+    limits: Limits {
+        count: 2,
+        bytes: 4_096,
+        linger: 3,
+    },
+    in_flight: 4,
+    ..CONFIG
+};
+
 /// Why a run did not end well.
 #[derive(Clone, Copy, Debug, PartialEq, Eq)]
 enum RunFault {
@@ -100,13 +112,13 @@ fn put_all<R: Wait>(rt: &R, alloc: Global, producers: &mut Vec<Producer>, count:
 /// The lanes of the documents `0` to `7` of the index `books`, among eight.
 const LANE_OF: [u32; 8] = [6, 1, 0, 3, 2, 5, 4, 7];
 
-// Puts an operation on each of eight documents, one for each lane. Whether each went to its lane.
+// Puts an operation on each of eight documents, one for each lane. Whether each went to its lane, and none was found gone.
 fn put_eight<R: Wait>(rt: &R, alloc: Global, producers: &mut Vec<Producer>) -> bool
     ensures { open_names producers.new.items ≡ open_names producers.old.items }
 {
     for id in 0..8usize {
         for p in 0..producers.len() {
-            if !put_to(rt, alloc, &mut producers[p], id, LANE_OF[id]) {
+            if !put_to(rt, alloc, &mut producers[p], id, LANE_OF[id]) || producers[p].gone() != 0 {
                 return false;
             }
         }
@@ -254,6 +266,14 @@ fn is_delivered_over_http(alloc: Global, summary: &Summary<LoopWire>) -> Option<
 fn two_producers_over_http(rt: HostRuntime) -> Result<(), Fail> {
     let alloc = rt.alloc();
     let summary = run_one(rt, alloc, CONFIG, loop_wire(alloc)?, 100)?;
+    assert!(rt; is_delivered_over_http(alloc, &summary) == Some(true));
+    Ok(())
+}
+
+#[test]
+fn two_producers_with_four_in_flight(rt: HostRuntime) -> Result<(), Fail> {
+    let alloc = rt.alloc();
+    let summary = run_one(rt, alloc, FOUR_IN_FLIGHT, loop_wire(alloc)?, 100)?;
     assert!(rt; is_delivered_over_http(alloc, &summary) == Some(true));
     Ok(())
 }

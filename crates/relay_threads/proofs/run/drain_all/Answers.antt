@@ -5,9 +5,9 @@ use Rattle.relay_threads.proofs.run.drain_all.Goals as goal
 pub returns-in-Ok-clause-keeps : goal.returns-in-Ok-clause-keeps
 returns-in-Ok-clause-keeps g c heard =
     works (g.W.Wire.describes c.args.wire.now) g.W.Wire.fits holds_some c.args.wire.now c.drain.new.wire c.args.lane.now.state c.drain.new.lane.state heard
-    c.drain.ensures.worked c.drain.ensures.stays c.drain.ensures.rest c.drain.ensures.delivers
+    c.drain.ensures.worked c.drain.ensures.stays c.drain.ensures.delivers
 
 pub returns-in-Err-clause-keeps : goal.returns-in-Err-clause-keeps
 returns-in-Err-clause-keeps g c heard =
     works (g.W.Wire.describes c.args.wire.now) g.W.Wire.fits holds_some c.args.wire.now c.drain.new.wire c.args.lane.now.state c.drain.new.lane.state heard
-    c.drain.ensures.worked c.drain.ensures.stays c.drain.ensures.rest c.drain.ensures.delivers
+    c.drain.ensures.worked c.drain.ensures.stays c.drain.ensures.delivers

@@ -1,4 +1,5 @@
-use Rattle.std.proofs.Common.{◌≡◌, []}
+use Rattle.std.proofs.Common.{◌≡◌}
+use Rattle.relay_lane.specs.Out.{out_of}
 use Rattle.relay_threads.specs.Course.{Course}
 use Rattle.relay_threads.proofs.run.take_all.Given as goal
 
@@ -6,7 +7,7 @@ abbrev pub invariant-messages : goal.invariant-messages
 invariant-messages g l = record {
   queue : l.take.queue ≡ l.fn.take.queue;
   senders : l.take.senders ≡ l.fn.take.senders;
-  out : g.W.Wire.out l.wire ≡ [];
+  out : g.W.Wire.out l.wire ≡ out_of l.lane.state;
   describes : g.W.Wire.describes l.wire ≡ g.W.Wire.describes l.fn.wire;
   course : Course (g.W.Wire.describes l.fn.wire) g.W.Wire.fits l.fn.wire l.wire l.fn.lane.state.config l.take.taken l.lane.state;
 }
