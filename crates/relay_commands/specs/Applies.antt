@@ -5,13 +5,12 @@ use Rattle.relay_ndjson.specs.Bulk.{line_end}
 use Rattle.relay_index.specs.States.{State, fresh}
 use Rattle.relay_index.specs.Plans.{Plan}
 use Rattle.relay_index.specs.Serving.{under, answer_of, Answers}
-use Rattle.relay_commands.specs.declared.apply.TheConstants.{BODY_LIMIT}
 use Rattle.relay_commands.specs.declared.apply.ApplyFault.{ApplyFault}
 use Rattle.relay_commands.specs.declared.apply.ApplyFault.TheVariants as fault
 
 -- the most bytes of the body of a bulk request
 abbrev pub body_limit : ℕ
-body_limit = BODY_LIMIT
+body_limit = 16777216
 
 -- the reader gave these bytes and then its end, and they are no more than a body may have
 pub record GivesBody (old new : Option (List ℕ)) (body : List ℕ) : Type 0 where

@@ -7,6 +7,7 @@ ghost use Rattle.relay_ndjson.specs.Reading.{fresh, reading};
 ghost use Rattle.relay_ndjson.specs.declared.parser.Phase.TheVariants as phase;
 ghost use Rattle.relay_commands.specs.Calls.{FailsOnce};
 ghost use Rattle.relay_commands.specs.Lines.{Streams, failed_by};
+ghost use Rattle.relay_commands.specs.Sending.{Closes};
 ghost use Rattle.relay_commands.specs.Passing.{AddsNext, FailsInPass, IsNext, IsNumbered, Passes, fault_of};
 
 use crate::outgoing::Outgoing;
@@ -64,7 +65,7 @@ pub fn lines<R: ByteIn, W: ByteOut>(
     let mut parser = Parser::new(alloc, default_index);
     let mut outgoing = Outgoing::new(alloc);
     let answer = pass_on(alloc, reader, &mut parser, writer, &mut outgoing, first);
-    outgoing.close(writer, answer)
+    close(&mut outgoing, writer, answer)
 }
 
 // Passes the operations on, until there are no more or something is at fault. But for what was gathered last
@@ -177,5 +178,27 @@ fn fault_of(fault: InputFault) -> LinesFault
     match fault.kind {
         LineKind::Memory => LinesFault::Memory,
         _ => LinesFault::Input(fault),
+    }
+}
+
+// Writes what was gathered, and then gives the answer. After a failed write nothing is written any more. A
+// write that fails here is the answer, but out of memory before it stays that.
+fn close<W: ByteOut>(
+    outgoing: &mut Outgoing,
+    writer: &mut W,
+    answer: Result<u64, LinesFault>,
+) -> Result<u64, LinesFault>
+    ensures { Closes answer outgoing.old.text.items outgoing.old.sent (W.written writer.old) (W.failed writer.old)
+        (W.written writer.new) (W.failed writer.new) result }
+{
+    if let Err(LinesFault::Write { .. }) = answer {
+        return answer;
+    }
+    match outgoing.flush(writer) {
+        Ok(()) => answer,
+        Err(sent) => match answer {
+            Err(LinesFault::Memory) => answer,
+            _ => Err(LinesFault::Write { sent }),
+        },
     }
 }

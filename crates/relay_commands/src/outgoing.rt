@@ -1,11 +1,10 @@
-//! Bulk text that was gathered and is still to be written.
+//! Text that was gathered and is still to be written.
 ghost use Rattle.std.specs.Prelude.{◌≡◌, ◌≤◌, ◌++◌, [], IfErr, OnOk, OnErr};
 ghost use Rattle.relay_action.specs.Streams.{most};
 ghost use Rattle.relay_ndjson.specs.Bulk.{write_text};
 ghost use Rattle.relay_commands.specs.Calls.{OneFails};
-ghost use Rattle.relay_commands.specs.Sending.{Closes, Moves, MovesPart};
+ghost use Rattle.relay_commands.specs.Sending.{Moves, MovesPart};
 
-use crate::lines::LinesFault;
 use relay_action::{ByteOut, Write, write_all};
 use relay_ndjson::append_write;
 use std::alloc::{AllocError, Global};
@@ -34,7 +33,7 @@ impl Outgoing {
         }
     }
 
-    /// Adds the lines of a write.
+    /// Adds the lines of a write. `AllocError`: there was no memory for them, and the text is as before.
     pub fn add(&mut self, alloc: Global, write: &Write) -> Result<(), AllocError>
         ensures ok { OnOk result (self.new.text.items ≡ self.old.text.items ++ write_text write.now) }
         ensures err { OnErr result (self.new.text.items ≡ self.old.text.items) }
@@ -43,8 +42,18 @@ impl Outgoing {
         append_write(alloc, &mut self.text, write)
     }
 
-    // Writes the text. `Err(sent)`: a write failed when so many bytes had gone out in all.
-    fn flush<W: ByteOut>(&mut self, writer: &mut W) -> Result<(), u64>
+    /// Adds a line. `AllocError`: there was no memory for it, and the text is as before.
+    pub fn add_line(&mut self, line: &[u8]) -> Result<(), AllocError>
+        ensures ok { OnOk result (self.new.text.items ≡ self.old.text.items ++ line.now) }
+        ensures err { OnErr result (self.new.text.items ≡ self.old.text.items) }
+        ensures sent { self.new.sent ≡ self.old.sent }
+    {
+        self.text.extend_from_slice(line)
+    }
+
+    /// Writes the text. `Err(sent)`: a write failed when so many bytes had gone out in all; at 2^64 - 1
+    /// the count stays.
+    pub fn flush<W: ByteOut>(&mut self, writer: &mut W) -> Result<(), u64>
         ensures ok { OnOk result (Moves self.old.text.items self.old.sent (W.written writer.old)
             self.new.text.items self.new.sent (W.written writer.new)) }
         ensures empty { OnOk result (self.new.text.items ≡ []) }
@@ -60,7 +69,8 @@ impl Outgoing {
         Ok(())
     }
 
-    /// Writes the text where much was gathered, or before a read that may wait.
+    /// Writes the text where much was gathered, or before a read that may wait. `Err(sent)`: a write
+    /// failed when so many bytes had gone out in all.
     pub fn make_way<W: ByteOut>(&mut self, writer: &mut W, waits: bool) -> Result<(), u64>
         ensures ok { OnOk result (Moves self.old.text.items self.old.sent (W.written writer.old)
             self.new.text.items self.new.sent (W.written writer.new)) }
@@ -72,28 +82,6 @@ impl Outgoing {
             self.flush(writer)
         } else {
             Ok(())
-        }
-    }
-
-    /// Writes the text, and then gives the answer. After a failed write nothing is written any more. A
-    /// write that fails here is the answer, but out of memory before it stays that.
-    pub fn close<W: ByteOut>(
-        &mut self,
-        writer: &mut W,
-        answer: Result<u64, LinesFault>,
-    ) -> Result<u64, LinesFault>
-        ensures { Closes answer self.old.text.items self.old.sent (W.written writer.old) (W.failed writer.old)
-            (W.written writer.new) (W.failed writer.new) result }
-    {
-        if let Err(LinesFault::Write { .. }) = answer {
-            return answer;
-        }
-        match self.flush(writer) {
-            Ok(()) => answer,
-            Err(sent) => match answer {
-                Err(LinesFault::Memory) => answer,
-                _ => Err(LinesFault::Write { sent }),
-            },
         }
     }
 }

@@ -11,6 +11,8 @@ pub enum Subcommand {
     Apply,
     /// `relay run`.
     Run,
+    /// `relay pick`.
+    Pick,
     /// `relay stub`.
     Stub,
     /// `relay world`.
@@ -19,10 +21,11 @@ pub enum Subcommand {
 
 impl Subcommand {
     /// All of them, in the order of the help.
-    pub const ALL: [Subcommand; 5] = [
+    pub const ALL: [Subcommand; 6] = [
         Subcommand::Lines,
         Subcommand::Apply,
         Subcommand::Run,
+        Subcommand::Pick,
         Subcommand::Stub,
         Subcommand::World,
     ];
@@ -35,6 +38,7 @@ impl Subcommand {
             Subcommand::Lines => "lines",
             Subcommand::Apply => "apply",
             Subcommand::Run => "run",
+            Subcommand::Pick => "pick",
             Subcommand::Stub => "stub",
             Subcommand::World => "world",
         }
@@ -48,6 +52,7 @@ impl Subcommand {
             "lines" => Some(Subcommand::Lines),
             "apply" => Some(Subcommand::Apply),
             "run" => Some(Subcommand::Run),
+            "pick" => Some(Subcommand::Pick),
             "stub" => Some(Subcommand::Stub),
             "world" => Some(Subcommand::World),
             _ => None,

@@ -8,5 +8,5 @@ use Rattle.relay_script.specs.declared.script.ScriptFault.TheVariants as fault
 abbrev pub exit_of_script : ScriptFault → Exit
 exit_of_script (fault.BadLine line) = exit.Input
 exit_of_script fault.Read = exit.Device
-exit_of_script fault.Write = exit.Device
+exit_of_script (fault.Write sent) = exit.Device
 exit_of_script fault.Memory = exit.Memory

@@ -16,18 +16,17 @@ use Rattle.relay_world.specs.Steps.{Steps}
 use Rattle.relay_script.specs.Config.{IsConfigLine}
 use Rattle.relay_script.specs.Events.{IsEventLine}
 use Rattle.relay_script.specs.Answers.{IsAnswerLine}
-use Rattle.relay_script.specs.Flows.{Breaks, Flows, IsCut, IsFront}
+use Rattle.relay_script.specs.Flows.{Breaks, Flows, IsCut, IsFront, Sink, opened}
 use Rattle.relay_script.specs.declared.event_line.LineFault.{LineFault}
 use Rattle.relay_script.specs.declared.event_line.LineFault.TheVariants as bad
 use Rattle.relay_script.specs.declared.playing.Next.{Next}
 use Rattle.relay_script.specs.declared.playing.Next.TheVariants.{Played, Ended}
-use Rattle.relay_script.specs.declared.script.TheConstants.{LINE_COUNT}
 use Rattle.relay_script.specs.declared.script.ScriptFault.{ScriptFault}
 use Rattle.relay_script.specs.declared.script.ScriptFault.TheVariants as fault
 
 -- the most lines of a script
 abbrev pub line_count : ℕ
-line_count = LINE_COUNT
+line_count = 1000000
 
 -- ---- lines
 
@@ -90,12 +89,13 @@ abbrev pub MayEnd : Option (List ℕ) → List ℕ → Type 0
 MayEnd rest ending = IsAtEnd rest ⊎ (ending ≡ [])
 
 -- What was written, where these lines answer the events and this is in front of the stream: all of them; at the end the lines of how it ended too; after a
--- failed write some first bytes of these and not all, after out of memory some.
+-- failed write exactly so many first bytes of these and not all, after out of memory some.
 abbrev pub Writes : Option (List ℕ) → Option (List ℕ) → Option (List ℕ) → List ℕ → Result Unit ScriptFault → Type 0
 Writes rest before after out (Ok x) = (ending : List ℕ) × (after ≡ append_known before (out ++ ending))
 Writes rest before after out (Err (fault.BadLine line)) = after ≡ append_known before out
 Writes rest before after out (Err fault.Read) = after ≡ append_known before out
-Writes rest before after out (Err fault.Write) = (ending : List ℕ) × MayEnd rest ending × IsCut before after (out ++ ending)
+Writes rest before after out (Err (fault.Write sent)) =
+    (ending : List ℕ) × MayEnd rest ending × IsCut (opened before) (record { shown = after; sent = sent }) (out ++ ending)
 Writes rest before after out (Err fault.Memory) = (ending : List ℕ) × MayEnd rest ending × IsFront before after (out ++ ending)
 
 -- The first line is that of a config, and events follow it, each on a line of its own. They are played on a fresh world, and
@@ -131,7 +131,7 @@ IsScript front left before after result =
 -- a failed write may follow a failed read or lack of memory.
 abbrev pub FailsOnce : ℕ → ℕ → ℕ → ℕ → Result Unit ScriptFault → Type 0
 FailsOnce old new before after (Err fault.Read) = OneFails old new × NoneFails before after
-FailsOnce old new before after (Err fault.Write) = OneAtMost old new × OneFails before after
+FailsOnce old new before after (Err (fault.Write sent)) = OneAtMost old new × OneFails before after
 FailsOnce old new before after (Err fault.Memory) = NoneFails old new × OneAtMost before after
 FailsOnce old new before after other = NoneFails old new × NoneFails before after
 
@@ -156,7 +156,7 @@ abbrev pub TakesLine : Option (List ℕ) → Option (List ℕ) → ℕ → ℕ �
 TakesLine old new count after text (Ok true) = TakesText old new text × (after ≡ count + 1) × (after ≤ line_count)
 TakesLine old new count after text (Ok false) = IsAtEnd old × (new ≡ old) × (after ≡ count)
 TakesLine old new count after text (Err (fault.BadLine line)) = (line ≡ count + 1) × IsNoLine count old
-TakesLine old new count after text (Err fault.Write) = ⊥
+TakesLine old new count after text (Err (fault.Write sent)) = ⊥
 TakesLine old new count after text (Err other) = Unit {0}
 
 -- the config of the first line was taken; or why not
@@ -164,13 +164,13 @@ abbrev pub TakesConfig : Option (List ℕ) → Option (List ℕ) → ℕ → Res
 TakesConfig old new after (Ok config) =
     (text : List ℕ) × TakesText old new text × IsConfigLine text config × (after ≡ 1)
 TakesConfig old new after (Err (fault.BadLine line)) = (line ≡ 1) × IsNoConfig old
-TakesConfig old new after (Err fault.Write) = ⊥
+TakesConfig old new after (Err (fault.Write sent)) = ⊥
 TakesConfig old new after (Err other) = Unit {0}
 
 -- why there is no event
 abbrev pub HasNoEvent : Option (List ℕ) → ℕ → ScriptFault → Type 0
 HasNoEvent old count (fault.BadLine line) = (line ≡ count + 1) × IsNoEvent count old
-HasNoEvent old count fault.Write = ⊥
+HasNoEvent old count (fault.Write sent) = ⊥
 HasNoEvent old count other = Unit {0}
 
 -- the event of the next line was taken; or there is no line; or why not
@@ -205,7 +205,7 @@ PlaysNext old new count after w next text longer (Ok Ended) =
 PlaysNext old new count after w next text longer (Err e) = HasNoEvent old count e × (longer ≡ text)
 
 -- what has become of the lines that were taken, of the world, and of what was to be written
-pub record Underway (first now : Option (List ℕ)) (start world : World) (count : ℕ) (before : Option (List ℕ)) (text : List ℕ) (written : Option (List ℕ)) : Type 0 where
+pub record Underway (first now : Option (List ℕ)) (start world : World) (count : ℕ) (before : Sink) (text : List ℕ) (written : Sink) : Type 0 where
   pub events : List Event
   pub out : List ℕ
   pub takes : TakesEvents first now events
@@ -214,27 +214,27 @@ pub record Underway (first now : Option (List ℕ)) (start world : World) (count
   pub flows : Flows out [] before text written
 
 -- what is left of the answers, by how it ended
-abbrev pub Leaves : Option (List ℕ) → Option (List ℕ) → List ℕ → Option (List ℕ) → List ℕ → Result Unit ScriptFault → Type 0
+abbrev pub Leaves : Option (List ℕ) → Sink → List ℕ → Sink → List ℕ → Result Unit ScriptFault → Type 0
 Leaves rest before text written out (Ok x) = (ending : List ℕ) × Flows (out ++ ending) [] before text written
-Leaves rest before text written out (Err fault.Write) = (ending : List ℕ) × MayEnd rest ending × IsCut before written (out ++ ending)
+Leaves rest before text written out (Err (fault.Write sent)) = (ending : List ℕ) × MayEnd rest ending × IsCut before (record written { sent = sent }) (out ++ ending)
 Leaves rest before text written out (Err fault.Memory) = (ending : List ℕ) × MayEnd rest ending × Flows (out ++ ending) [] before text written
 Leaves rest before text written out (Err other) = Flows out [] before text written
 
 -- how many calls of a writer have failed after an answer
 abbrev pub unwritten_by : {T : Type 0} → Result T ScriptFault → ℕ → ℕ
-unwritten_by (Err fault.Write) n = one_more n
+unwritten_by (Err (fault.Write sent)) n = one_more n
 unwritten_by other n = n
 
 -- what became of a text, and of more that came to it, by how it ended
-abbrev pub Passes : List ℕ → Option (List ℕ) → List ℕ → Option (List ℕ) → Result Unit ScriptFault → Type 0
+abbrev pub Passes : List ℕ → Sink → List ℕ → Sink → Result Unit ScriptFault → Type 0
 Passes text written rest after (Ok x) = (more : List ℕ) × Flows more text written rest after
-Passes text written rest after (Err fault.Write) = Breaks text written after
+Passes text written rest after (Err (fault.Write sent)) = Breaks text written (record after { sent = sent })
 Passes text written rest after (Err fault.Memory) = (more : List ℕ) × Flows more text written rest after
 Passes text written rest after (Err other) = ⊥
 
 -- events were taken and played until this answer: what is left of their answers is still to be written, but after a failed
 -- write nothing is
-pub record Halts (first last : Option (List ℕ)) (start : World) (before : Option (List ℕ)) (text : List ℕ) (written : Option (List ℕ)) (result : Result Unit ScriptFault) : Type 0 where
+pub record Halts (first last : Option (List ℕ)) (start : World) (before : Sink) (text : List ℕ) (written : Sink) (result : Result Unit ScriptFault) : Type 0 where
   pub events : List Event
   pub rest : Option (List ℕ)
   pub takes : TakesEvents first rest events
@@ -253,7 +253,7 @@ HasNoConfig front (Err fault.Memory) = Unit {0}
 HasNoConfig front other = ⊥
 
 -- a config was taken, and then events were played on a fresh world of it
-pub record Begins (front last before : Option (List ℕ)) (text : List ℕ) (written : Option (List ℕ)) (result : Result Unit ScriptFault) : Type 0 where
+pub record Begins (front last : Option (List ℕ)) (before : Sink) (text : List ℕ) (written : Sink) (result : Result Unit ScriptFault) : Type 0 where
   pub line : List ℕ
   pub first : Option (List ℕ)
   pub config : RelayConfig
@@ -262,20 +262,38 @@ pub record Begins (front last before : Option (List ℕ)) (text : List ℕ) (wri
   pub halts : Halts first last (fresh config index.fresh) before text written result
 
 -- the same, or no config was taken and nothing is to be written
-abbrev pub PlaysScript : Option (List ℕ) → Option (List ℕ) → Option (List ℕ) → List ℕ → Option (List ℕ) → Result Unit ScriptFault → Type 0
+abbrev pub PlaysScript : Option (List ℕ) → Option (List ℕ) → Sink → List ℕ → Sink → Result Unit ScriptFault → Type 0
 PlaysScript front last before text written result =
     Begins front last before text written result
     ⊎ (HasNoConfig front result × UsesOneLine front last × (text ≡ []) × (written ≡ before))
 
--- the text that was left was written, or a write failed
-abbrev pub ClosesOr : Result Unit ScriptFault → Result Unit ScriptFault → List ℕ → Option (List ℕ) → ℕ → Option (List ℕ) → ℕ → Result Unit ScriptFault → Type 0
+-- The text that was left was written, and the answer stays; or a write failed, with so many bytes out in all, and that is
+-- the answer then.
+abbrev pub ClosesOr : Result Unit ScriptFault → (ℕ → Result Unit ScriptFault) → List ℕ → Sink → ℕ → Option (List ℕ) → ℕ → Result Unit ScriptFault → Type 0
 ClosesOr answer broken text written failed after count result =
-    ((result ≡ answer) × (after ≡ append_known written text) × NoneFails failed count)
-    ⊎ ((result ≡ broken) × IsCut written after text × OneFails failed count)
+    ((result ≡ answer) × (after ≡ append_known written.shown text) × NoneFails failed count)
+    ⊎ ((sent : ℕ) × (result ≡ broken sent) × IsCut written (record { shown = after; sent = sent }) text × OneFails failed count)
+
+-- a failed write, and lack of memory, which stays the answer after one
+abbrev pub failed_write : ℕ → Result Unit ScriptFault
+failed_write sent = Err (fault.Write sent)
+
+abbrev pub no_memory : ℕ → Result Unit ScriptFault
+no_memory sent = Err fault.Memory
+
+-- whether an answer is a failed write, and what an answer becomes where a write fails after it
+abbrev pub is_failed_write : Result Unit ScriptFault → Bool
+is_failed_write (Err (fault.Write sent)) = true
+is_failed_write other = false
+
+abbrev pub cut_short : Result Unit ScriptFault → ℕ → Result Unit ScriptFault
+cut_short (Err fault.Memory) sent = Err fault.Memory
+cut_short other sent = Err (fault.Write sent)
 
 -- What becomes of an answer where text is still to be written: after a failed write nothing more is written; out of memory
 -- stays the answer, also where a write fails.
-abbrev pub Closes : Result Unit ScriptFault → List ℕ → Option (List ℕ) → ℕ → Option (List ℕ) → ℕ → Result Unit ScriptFault → Type 0
-Closes (Err fault.Write) text written failed after count result = (result ≡ Err fault.Write) × (after ≡ written) × NoneFails failed count
-Closes (Err fault.Memory) text written failed after count result = ClosesOr (Err fault.Memory) (Err fault.Memory) text written failed after count result
-Closes answer text written failed after count result = ClosesOr answer (Err fault.Write) text written failed after count result
+abbrev pub Closes : Result Unit ScriptFault → List ℕ → Sink → ℕ → Option (List ℕ) → ℕ → Result Unit ScriptFault → Type 0
+Closes (Err (fault.Write sent)) text written failed after count result =
+    (result ≡ Err (fault.Write sent)) × (after ≡ written.shown) × NoneFails failed count
+Closes (Err fault.Memory) text written failed after count result = ClosesOr (Err fault.Memory) no_memory text written failed after count result
+Closes answer text written failed after count result = ClosesOr answer failed_write text written failed after count result

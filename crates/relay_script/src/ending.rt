@@ -1,10 +1,11 @@
 //! How a script ended, as lines.
 ghost use Rattle.std.specs.Prelude.{◌≡◌};
+ghost use Rattle.relay_script.specs.Flows.{sink};
 ghost use Rattle.relay_script.specs.Scripts.{Passes, unwritten_by};
 
-use crate::outgoing::Outgoing;
 use crate::script::ScriptFault;
 use relay_action::{ByteOut, DocKey, OpName, Write};
+use relay_commands::outgoing::Outgoing;
 use relay_core::{RelayConfig, Report};
 use relay_text::{add_cause, add_document, add_name, add_number, add_spaced};
 use relay_world::World;
@@ -19,7 +20,8 @@ pub fn write_ending<W: ByteOut>(
     outgoing: &mut Outgoing,
     writer: &mut W,
 ) -> Result<(), ScriptFault>
-    ensures text { Passes outgoing.old.text.items (W.written writer.old) outgoing.new.text.items (W.written writer.new) result }
+    ensures text { Passes outgoing.old.text.items (sink (W.written writer.old) outgoing.old.sent)
+        outgoing.new.text.items (sink (W.written writer.new) outgoing.new.sent) result }
     ensures writes { W.failed writer.new ≡ unwritten_by result (W.failed writer.old) }
 {
     if let Err(fault) = write_all_accepted(world, config.producers, line, outgoing, writer) {
@@ -42,18 +44,19 @@ fn pass_on<W: ByteOut>(
     outgoing: &mut Outgoing,
     writer: &mut W,
 ) -> Result<(), ScriptFault>
-    ensures text { Passes outgoing.old.text.items (W.written writer.old) outgoing.new.text.items (W.written writer.new) result }
+    ensures text { Passes outgoing.old.text.items (sink (W.written writer.old) outgoing.old.sent)
+        outgoing.new.text.items (sink (W.written writer.new) outgoing.new.sent) result }
     ensures writes { W.failed writer.new ≡ unwritten_by result (W.failed writer.old) }
 {
     if made.is_err() {
         return Err(ScriptFault::Memory);
     }
-    if let Err(_) = outgoing.add(line.as_slice()) {
+    if let Err(_) = outgoing.add_line(line.as_slice()) {
         return Err(ScriptFault::Memory);
     }
     match outgoing.make_way(writer, false) {
         Ok(()) => Ok(()),
-        Err(_) => Err(ScriptFault::Write),
+        Err(sent) => Err(ScriptFault::Write { sent }),
     }
 }
 
@@ -65,7 +68,8 @@ fn write_all_accepted<W: ByteOut>(
     outgoing: &mut Outgoing,
     writer: &mut W,
 ) -> Result<(), ScriptFault>
-    ensures text { Passes outgoing.old.text.items (W.written writer.old) outgoing.new.text.items (W.written writer.new) result }
+    ensures text { Passes outgoing.old.text.items (sink (W.written writer.old) outgoing.old.sent)
+        outgoing.new.text.items (sink (W.written writer.new) outgoing.new.sent) result }
     ensures writes { W.failed writer.new ≡ unwritten_by result (W.failed writer.old) }
 {
     'producers: for producer in 0..producers {
@@ -84,7 +88,8 @@ fn write_all_applied<W: ByteOut>(
     outgoing: &mut Outgoing,
     writer: &mut W,
 ) -> Result<(), ScriptFault>
-    ensures text { Passes outgoing.old.text.items (W.written writer.old) outgoing.new.text.items (W.written writer.new) result }
+    ensures text { Passes outgoing.old.text.items (sink (W.written writer.old) outgoing.old.sent)
+        outgoing.new.text.items (sink (W.written writer.new) outgoing.new.sent) result }
     ensures writes { W.failed writer.new ≡ unwritten_by result (W.failed writer.old) }
 {
     let keys = match world.keys() {
@@ -102,7 +107,8 @@ fn write_of_all<W: ByteOut>(
     outgoing: &mut Outgoing,
     writer: &mut W,
 ) -> Result<(), ScriptFault>
-    ensures text { Passes outgoing.old.text.items (W.written writer.old) outgoing.new.text.items (W.written writer.new) result }
+    ensures text { Passes outgoing.old.text.items (sink (W.written writer.old) outgoing.old.sent)
+        outgoing.new.text.items (sink (W.written writer.new) outgoing.new.sent) result }
     ensures writes { W.failed writer.new ≡ unwritten_by result (W.failed writer.old) }
 {
     'keys: for key in keys {
@@ -123,7 +129,8 @@ fn write_applied<W: ByteOut>(
     outgoing: &mut Outgoing,
     writer: &mut W,
 ) -> Result<(), ScriptFault>
-    ensures text { Passes outgoing.old.text.items (W.written writer.old) outgoing.new.text.items (W.written writer.new) result }
+    ensures text { Passes outgoing.old.text.items (sink (W.written writer.old) outgoing.old.sent)
+        outgoing.new.text.items (sink (W.written writer.new) outgoing.new.sent) result }
     ensures writes { W.failed writer.new ≡ unwritten_by result (W.failed writer.old) }
 {
     'writes: for (write, name) in applied.iter().zip(names) {
@@ -143,7 +150,8 @@ fn write_all_reports<W: ByteOut>(
     outgoing: &mut Outgoing,
     writer: &mut W,
 ) -> Result<(), ScriptFault>
-    ensures text { Passes outgoing.old.text.items (W.written writer.old) outgoing.new.text.items (W.written writer.new) result }
+    ensures text { Passes outgoing.old.text.items (sink (W.written writer.old) outgoing.old.sent)
+        outgoing.new.text.items (sink (W.written writer.new) outgoing.new.sent) result }
     ensures writes { W.failed writer.new ≡ unwritten_by result (W.failed writer.old) }
 {
     'lanes: for lane in 0..lanes {
@@ -163,7 +171,8 @@ fn write_reports<W: ByteOut>(
     outgoing: &mut Outgoing,
     writer: &mut W,
 ) -> Result<(), ScriptFault>
-    ensures text { Passes outgoing.old.text.items (W.written writer.old) outgoing.new.text.items (W.written writer.new) result }
+    ensures text { Passes outgoing.old.text.items (sink (W.written writer.old) outgoing.old.sent)
+        outgoing.new.text.items (sink (W.written writer.new) outgoing.new.sent) result }
     ensures writes { W.failed writer.new ≡ unwritten_by result (W.failed writer.old) }
 {
     'reports: for report in reports {

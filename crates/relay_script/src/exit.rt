@@ -11,7 +11,7 @@ pub fn exit_of_script(fault: ScriptFault) -> Exit
 {
     match fault {
         ScriptFault::BadLine { .. } => Exit::Input,
-        ScriptFault::Read | ScriptFault::Write => Exit::Device,
+        ScriptFault::Read | ScriptFault::Write { .. } => Exit::Device,
         ScriptFault::Memory => Exit::Memory,
     }
 }

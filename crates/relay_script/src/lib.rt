@@ -12,7 +12,6 @@ pub mod event_line;
 pub mod exit;
 mod numbered;
 mod numbers;
-mod outgoing;
 mod playing;
 mod put_line;
 pub mod script;

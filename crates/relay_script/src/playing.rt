@@ -2,14 +2,15 @@
 ghost use Rattle.std.specs.Prelude.{◌≡◌, ◌≤◌, [], length, Err, IfErr, OnOk};
 ghost use Rattle.std.specs.Io.KnownBytes.{prepend_known, IsAtEnd};
 ghost use Rattle.relay_ndjson.specs.Lines.{piece_limit};
+ghost use Rattle.relay_script.specs.Flows.{opened, sink};
 ghost use Rattle.relay_script.specs.Scripts.{Halts, PlaysEvent, PlaysNext, TakesConfig, TakesEvent, TakesLine, Underway, UsesOneLine, failed_by, fault_at, line_count, line_fault, unwritten_by};
 
 use crate::answer::write_answer;
 use crate::config_line::read_config;
 use crate::event_line::{LineFault, read_event};
-use crate::outgoing::Outgoing;
 use crate::script::{LINE_COUNT, ScriptFault};
 use relay_action::{ByteIn, ByteOut};
+use relay_commands::outgoing::Outgoing;
 use relay_core::RelayConfig;
 use relay_ndjson::{InputFault, LineKind, LineReader};
 use relay_world::{Event, World};
@@ -114,7 +115,8 @@ fn play_event(
     line: &mut Vec<u8>,
     outgoing: &mut Outgoing,
 ) -> Result<(), ScriptFault>
-    ensures { PlaysEvent world.old event.now world.new outgoing.old.text.items outgoing.new.text.items result }
+    ensures plays { PlaysEvent world.old event.now world.new outgoing.old.text.items outgoing.new.text.items result }
+    ensures sent { outgoing.new.sent ≡ outgoing.old.sent }
 {
     let answer = match world.step(event) {
         Ok(answer) => answer,
@@ -123,7 +125,7 @@ fn play_event(
     if let Err(_) = write_answer(world, answer, line) {
         return Err(ScriptFault::Memory);
     }
-    match outgoing.add(line.as_slice()) {
+    match outgoing.add_line(line.as_slice()) {
         Ok(()) => Ok(()),
         Err(_) => Err(ScriptFault::Memory),
     }
@@ -150,6 +152,7 @@ fn play_next<R: ByteIn>(
     requires { lines.old.count ≤ line_count }
     ensures next { PlaysNext (prepend_known lines.old.held (R.left reader.old)) (prepend_known lines.new.held (R.left reader.new))
         lines.old.count lines.new.count world.old world.new outgoing.old.text.items outgoing.new.text.items result }
+    ensures sent { outgoing.new.sent ≡ outgoing.old.sent }
     ensures uses { UsesOneLine (prepend_known lines.old.held (R.left reader.old)) (prepend_known lines.new.held (R.left reader.new)) }
     ensures held { length lines.new.held ≤ piece_limit }
     ensures failed { R.failed reader.new ≡ failed_by result (R.failed reader.old) }
@@ -176,19 +179,20 @@ pub fn play_events<R: ByteIn, W: ByteOut>(
 ) -> Result<(), ScriptFault>
     requires first { lines.old.count ≡ 1 }
     requires none { outgoing.old.text.items ≡ [] }
+    requires sent { outgoing.old.sent ≡ 0 }
     requires held { length lines.old.held ≤ piece_limit }
     ensures ended { OnOk result (IsAtEnd (prepend_known lines.new.held (R.left reader.new))) }
     ensures ok { OnOk result (Underway (prepend_known lines.old.held (R.left reader.old)) (prepend_known lines.new.held (R.left reader.new))
-        world.old world.new lines.new.count (W.written writer.old) outgoing.new.text.items (W.written writer.new)) }
+        world.old world.new lines.new.count (opened (W.written writer.old)) outgoing.new.text.items (sink (W.written writer.new) outgoing.new.sent)) }
     ensures held { length lines.new.held ≤ piece_limit }
     ensures err { IfErr result (λ e. Halts (prepend_known lines.old.held (R.left reader.old)) (prepend_known lines.new.held (R.left reader.new)) world.old
-        (W.written writer.old) outgoing.new.text.items (W.written writer.new) (Err e)) }
+        (opened (W.written writer.old)) outgoing.new.text.items (sink (W.written writer.new) outgoing.new.sent) (Err e)) }
     ensures reads { R.failed reader.new ≡ failed_by result (R.failed reader.old) }
     ensures writes { W.failed writer.new ≡ unwritten_by result (W.failed writer.old) }
 {
     'events: loop {
-        if let Err(_) = outgoing.make_way(writer, !lines.is_ready()) {
-            return Err(ScriptFault::Write);
+        if let Err(sent) = outgoing.make_way(writer, !lines.is_ready()) {
+            return Err(ScriptFault::Write { sent });
         }
         match play_next(alloc, reader, lines, world, line, outgoing) {
             Ok(Next::Played) => {}

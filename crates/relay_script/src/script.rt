@@ -2,12 +2,13 @@
 ghost use Rattle.std.specs.Prelude.{◌≡◌, ◌≤◌, [], length};
 ghost use Rattle.relay_ndjson.specs.Lines.{piece_limit};
 ghost use Rattle.std.specs.Io.KnownBytes.{prepend_known};
-ghost use Rattle.relay_script.specs.Scripts.{Closes, FailsOnce, Halts, IsScript, PlaysScript, failed_by, unwritten_by};
+ghost use Rattle.relay_script.specs.Flows.{opened, sink};
+ghost use Rattle.relay_script.specs.Scripts.{Closes, FailsOnce, Halts, IsScript, PlaysScript, cut_short, failed_by, is_failed_write, unwritten_by};
 
 use crate::ending::write_ending;
-use crate::outgoing::Outgoing;
 use crate::playing::{play_events, take_config};
 use relay_action::{ByteIn, ByteOut};
+use relay_commands::outgoing::Outgoing;
 use relay_core::RelayConfig;
 use relay_index::Index;
 use relay_ndjson::LineReader;
@@ -31,9 +32,13 @@ pub enum ScriptFault {
     /// A read failed. It is not repeated. The answers to all lines before it were written.
     #[error("read failed")]
     Read,
-    /// A write failed. It is not repeated, and nothing was written after it.
+    /// A write failed. It is not repeated, and exactly the first `sent` bytes of what there was to write went
+    /// out.
     #[error("write failed")]
-    Write,
+    Write {
+        /// How many bytes went out in all. At 2^64 - 1 the count stays.
+        sent: u64,
+    },
     /// There was no memory. What went out is a front of what there was to write.
     #[error("out of memory")]
     Memory,
@@ -69,9 +74,10 @@ fn play<R: ByteIn, W: ByteOut>(
 ) -> Result<(), ScriptFault>
     requires first { lines.old.count ≡ 0 }
     requires none { outgoing.old.text.items ≡ [] }
+    requires sent { outgoing.old.sent ≡ 0 }
     ensures held { length lines.new.held ≤ piece_limit }
-    ensures script { PlaysScript (prepend_known lines.old.held (R.left reader.old)) (prepend_known lines.new.held (R.left reader.new)) (W.written writer.old)
-        outgoing.new.text.items (W.written writer.new) result }
+    ensures script { PlaysScript (prepend_known lines.old.held (R.left reader.old)) (prepend_known lines.new.held (R.left reader.new)) (opened (W.written writer.old))
+        outgoing.new.text.items (sink (W.written writer.new) outgoing.new.sent) result }
     ensures reads { R.failed reader.new ≡ failed_by result (R.failed reader.old) }
     ensures writes { W.failed writer.new ≡ unwritten_by result (W.failed writer.old) }
 {
@@ -98,10 +104,11 @@ fn play_world<R: ByteIn, W: ByteOut>(
 ) -> Result<(), ScriptFault>
     requires first { lines.old.count ≡ 1 }
     requires none { outgoing.old.text.items ≡ [] }
+    requires sent { outgoing.old.sent ≡ 0 }
     requires held { length lines.old.held ≤ piece_limit }
     ensures held { length lines.new.held ≤ piece_limit }
-    ensures halts { Halts (prepend_known lines.old.held (R.left reader.old)) (prepend_known lines.new.held (R.left reader.new)) world.old (W.written writer.old)
-        outgoing.new.text.items (W.written writer.new) result }
+    ensures halts { Halts (prepend_known lines.old.held (R.left reader.old)) (prepend_known lines.new.held (R.left reader.new)) world.old (opened (W.written writer.old))
+        outgoing.new.text.items (sink (W.written writer.new) outgoing.new.sent) result }
     ensures reads { R.failed reader.new ≡ failed_by result (R.failed reader.old) }
     ensures writes { W.failed writer.new ≡ unwritten_by result (W.failed writer.old) }
 {
@@ -119,17 +126,34 @@ fn close<W: ByteOut>(
     writer: &mut W,
     answer: Result<(), ScriptFault>,
 ) -> Result<(), ScriptFault>
-    ensures { Closes answer outgoing.old.text.items (W.written writer.old) (W.failed writer.old)
+    ensures { Closes answer outgoing.old.text.items (sink (W.written writer.old) outgoing.old.sent) (W.failed writer.old)
         (W.written writer.new) (W.failed writer.new) result }
 {
-    if let Err(ScriptFault::Write) = answer {
+    if is_failed_write(answer) {
         return answer;
     }
     match outgoing.flush(writer) {
         Ok(()) => answer,
-        Err(_) => match answer {
-            Err(ScriptFault::Memory) => answer,
-            _ => Err(ScriptFault::Write),
-        },
+        Err(sent) => cut_short(answer, sent),
+    }
+}
+
+// Whether an answer is a failed write.
+fn is_failed_write(answer: Result<(), ScriptFault>) -> bool
+    ensures { result ≡ is_failed_write answer }
+{
+    match answer {
+        Err(ScriptFault::Write { .. }) => true,
+        _ => false,
+    }
+}
+
+// What an answer becomes where a write fails after it, with so many bytes out in all.
+fn cut_short(answer: Result<(), ScriptFault>, sent: u64) -> Result<(), ScriptFault>
+    ensures { result ≡ cut_short answer sent }
+{
+    match answer {
+        Err(ScriptFault::Memory) => answer,
+        _ => Err(ScriptFault::Write { sent }),
     }
 }

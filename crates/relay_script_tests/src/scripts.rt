@@ -39,7 +39,7 @@ fn bad_scripts(rt: HostRuntime) -> Result<(), Fail> {
     let rows: [(&[u8], u64, &[u8]); 5] = [
         (b"", 1, b""),
         (b"\n", 1, b""),
-        (b"world 1 1 10 10 10 4096 0 3 2 0 1000\n", 1, b""),
+        (b"world 1 1 10 10 10 4096 0 3 9 0 1000\n", 1, b""),
         (b"world 1 1 10 10 10 4096 0 3 1 0 1000\ntake  0\n", 2, b""),
         (
             b"world 1 1 10 10 10 4096 0 3 1 0 1000\ntake 0\ntick 0\nput 0 b 1 delete \n",
@@ -89,7 +89,8 @@ fn each_read_fails_in_turn(rt: HostRuntime) -> Result<(), Fail> {
 fn each_write_fails_in_turn(rt: HostRuntime) -> Result<(), Fail> {
     for call in 1..12u64 {
         let (answer, written) = failing(rt.alloc(), 0, call)?;
-        assert!(rt; answer == Err(ScriptFault::Write) && written.is_some());
+        let sent = written.unwrap_or(100_000) as u64;
+        assert!(rt; answer == Err(ScriptFault::Write { sent }));
     }
     Ok(())
 }
@@ -99,7 +100,7 @@ fn statuses(rt: HostRuntime) -> Result<(), Fail> {
     let rows = [
         (ScriptFault::BadLine { line: 7 }, Exit::Input),
         (ScriptFault::Read, Exit::Device),
-        (ScriptFault::Write, Exit::Device),
+        (ScriptFault::Write { sent: 9 }, Exit::Device),
         (ScriptFault::Memory, Exit::Memory),
     ];
     for (fault, exit) in rows {

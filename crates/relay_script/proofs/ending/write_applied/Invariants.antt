@@ -1,5 +1,5 @@
 use Rattle.std.proofs.Common.{◌≡◌, List, ℕ}
-use Rattle.relay_script.specs.Flows.{Flows}
+use Rattle.relay_script.specs.Flows.{Flows, sink}
 use Rattle.relay_script.proofs.ending.write_applied.Given as goal
 
 -- some lines came to the text, and some was written; no write has failed
@@ -7,6 +7,6 @@ abbrev pub invariant-writes : goal.invariant-writes
 invariant-writes g l =
     let w = g.W.ByteStream in
     record {
-      passed : (more : List ℕ) × Flows more l.fn.outgoing.text.items (w.written l.fn.writer) l.outgoing.text.items (w.written l.writer);
+      passed : (more : List ℕ) × Flows more l.fn.outgoing.text.items (sink (w.written l.fn.writer) l.fn.outgoing.sent) l.outgoing.text.items (sink (w.written l.writer) l.outgoing.sent);
       writes : w.failed l.writer ≡ w.failed l.fn.writer;
     }

@@ -1,3 +1,4 @@
+use Rattle.relay_script.specs.Flows.{sink}
 use Rattle.relay_script.proofs.Whole.{is_script, plays_at_start, fails_once}
 use Rattle.relay_script.proofs.script.world_script.Goals as goal
 
@@ -11,5 +12,5 @@ returns-clause-calls g c =
     let failed_in = g.R.ByteStream.failed in
     let failed_out = g.W.ByteStream.failed in
     let p = c.play-answer.new in
-    fails_once (failed_in c.args.reader.now) (failed_in p.reader) (failed_out c.args.writer.now) (failed_out p.writer) (failed_out c.close.new.writer) p.outgoing.text.items (g.W.ByteStream.written p.writer)
+    fails_once (failed_in c.args.reader.now) (failed_in p.reader) (failed_out c.args.writer.now) (failed_out p.writer) (failed_out c.close.new.writer) p.outgoing.text.items (sink (g.W.ByteStream.written p.writer) p.outgoing.sent)
     (g.W.ByteStream.written c.close.new.writer) c.play-answer.result c.close.result c.play-answer.ensures.reads c.play-answer.ensures.writes c.close.ensures
