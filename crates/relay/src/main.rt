@@ -1,4 +1,4 @@
-//! The program `relay`: a command line over `relay_commands`, `relay_script`, `relay_stub` and `relay_run`.
+//! The program `relay`: a command line over `relay_commands`, `relay_script`, `relay_stub`, `relay_run` and `relay_report`.
 //! `relay run` writes files of operations to an index; `relay lines` turns a producer's NDJSON into bulk lines
 //! with versions, `relay apply` serves one bulk request with a fresh stand-in index, `relay stub` serves
 //! connections over TCP with one, and `relay world` plays a script of events on lanes with their queues over an

@@ -1,6 +1,7 @@
 //! The subcommands: each has a file with its help, its options and what it runs.
 pub mod apply;
 pub mod lines;
+pub mod pick;
 pub mod run;
 pub mod stub;
 pub mod world;
@@ -21,6 +22,7 @@ pub fn command_of<'a>(subcommand: Subcommand, alloc: Global) -> Result<Command<'
         Subcommand::Lines => lines::command(alloc, name),
         Subcommand::Apply => apply::command(alloc, name),
         Subcommand::Run => run::command(alloc, name),
+        Subcommand::Pick => pick::command(alloc, name),
         Subcommand::Stub => stub::command(alloc, name),
         Subcommand::World => world::command(alloc, name),
     }
@@ -40,6 +42,7 @@ where
         Subcommand::Lines => lines::run(rt, matches),
         Subcommand::Apply => apply::run(rt, matches),
         Subcommand::Run => run::run(rt, host, matches),
+        Subcommand::Pick => pick::run(rt, host, matches),
         Subcommand::Stub => stub::run(rt, matches),
         Subcommand::World => world::run(rt, matches),
     }

@@ -1,9 +1,9 @@
 -- What was written is said, or a call failed.
-use Rattle.std.proofs.Common.{◌≡◌, ℕ, List, Bool, true, false, IsTrue, Result, Ok, Err, OnOk, inl, inr, refl, sym, ap, subst, ◌∙◌}
-use Rattle.std.specs.Prelude.{IfOk}
+use Rattle.std.proofs.Common.{◌≡◌, ℕ, List, [], Bool, true, false, IsTrue, Result, Err, inl, inr, refl, sym, ap, subst, ◌∙◌}
 use Rattle.std.specs.Io.KnownBytes.{append_known}
 use Rattle.relay_action.specs.Streams.{FailedSince}
 use Rattle.relay_commands.specs.declared.exit.Exit.{Exit}
+use Rattle.relay_core.specs.declared.report.Report.{Report}
 use Rattle.relay_threads.specs.declared.fault.FinishFault.{FinishFault}
 use Rattle.relay_threads.specs.declared.summary.Summary.{Summary}
 use Rattle.relay_run.specs.Faults.{worse}
@@ -15,9 +15,8 @@ is_said text old new true all failed = inr (all refl)
 is_said text old new false all failed = inl (failed refl)
 
 -- the faults of the files, and then that of the relay
-pub concludes_fault : {W E : Type 0} (text : List ℕ) (before other : Exit) (r : Result (Summary W) FinishFault) (f : FinishFault) (out now err mid after : Written) (res : Result Exit E)
-    → r ≡ Err f → IsSaid text err mid → other ≡ before → now ≡ out → OnOk res (IsSaid (finish_fault_text f) mid after) → IfOk res (λ end. end ≡ worse other (exit_of_finish f.kind))
-    → IfOk res (λ end. Concludes text before r out now err after end)
-concludes_fault text before other r f out now err mid after (Ok end) is first b same second e =
-    subst (λ x. Concludes text before x out now err after end) (sym is) (mid, first, second, same, e ∙ ap (λ x. worse x (exit_of_finish f.kind)) b)
-concludes_fault text before other r f out now err mid after (Err x) is first b same second e = tt
+pub concludes_fault : {W : Type 0} (text : List ℕ) (before other : Exit) (r : Result (Summary W) FinishFault) (f : FinishFault) (reports : List Report) (out now err mid after : Written) (end : Exit)
+    → r ≡ Err f → IsSaid text err mid → other ≡ before → now ≡ out → IsSaid (finish_fault_text f) mid after → end ≡ worse other (exit_of_finish f.kind) → reports ≡ []
+    → Concludes text before r reports out now err after end
+concludes_fault text before other r f reports out now err mid after end is first b same second e none =
+    subst (λ x. Concludes text before x reports out now err after end) (sym is) (mid, first, second, same, e ∙ ap (λ x. worse x (exit_of_finish f.kind)) b, none)

@@ -5,3 +5,4 @@ pub mod Identities
 pub mod Fed
 pub mod Handles
 pub mod Saying
+pub mod Sources

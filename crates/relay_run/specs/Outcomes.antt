@@ -51,9 +51,8 @@ module _ {W : Type 0} where
   reports_of [] = []
   reports_of (s ∷ ss) = s.reports.items ++ reports_of ss
 
-  -- the text tells of the reports of all lanes, in the order of their names, and of the counts of all lanes
-  pub record TellsOf (lanes : List (LaneSummary W)) (text : List ℕ) (end : Exit) : Type 0 where
-    pub reports : List Report
+  -- these are the reports of all lanes, in the order of their names, and the text tells of them and of the counts of all lanes
+  pub record TellsOf (lanes : List (LaneSummary W)) (reports : List Report) (text : List ℕ) (end : Exit) : Type 0 where
     pub same : IsPermutation (reports_of lanes) reports
     pub order : AreInOrder reports
     pub lines : text ≡ outcome_text reports (total (λ s. s.applied) 0 lanes) (total (λ s. s.already) 0 lanes)

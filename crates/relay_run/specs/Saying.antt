@@ -1,5 +1,5 @@
 -- What is written at the end of a run, and how the program ends.
-use Rattle.std.specs.Prelude.{◌≡◌, ◌⊎◌, ℕ, List, Option, Result, Ok, Err, codes}
+use Rattle.std.specs.Prelude.{◌≡◌, ◌⊎◌, ℕ, List, [], ◌++◌, Option, Result, Ok, Err, codes, flat_map}
 use Rattle.std.specs.Io.KnownBytes.{append_known}
 use Rattle.relay_action.specs.Streams.{FailedSince}
 use Rattle.relay_commands.specs.declared.exit.Exit.{Exit}
@@ -9,6 +9,8 @@ use Rattle.relay_threads.specs.declared.fault.FinishFaultKind.{FinishFaultKind}
 use Rattle.relay_threads.specs.declared.fault.FinishFaultKind.TheVariants as kind
 use Rattle.relay_threads.specs.declared.summary.LaneSummary.{LaneSummary}
 use Rattle.relay_threads.specs.declared.summary.Summary.{Summary}
+use Rattle.relay_core.specs.declared.report.Report.{Report}
+use Rattle.relay_report.specs.Reports.{report_line as saved_line}
 use Rattle.relay_run.specs.Faults.{worse}
 use Rattle.relay_run.specs.Outcomes.{TellsOf, finish_fault_text}
 
@@ -30,17 +32,29 @@ exit_of_finish kind.Memory = exit.Memory
 abbrev pub failed_text : List ℕ
 failed_text = codes "write failed\n"
 
--- The summary was written, and nothing else was said; or a write of it failed, which was said.
-abbrev pub SaysSummary : {W : Type 0} → List (LaneSummary W) → Exit → Written → Written → Written → Written → Exit → Type 0
-SaysSummary lanes before out out' err err' end =
-    (text : List ℕ) × (reported : Exit) × TellsOf lanes text reported
+-- The summary with these reports was written, and nothing else was said; or a write of it failed, which was said.
+abbrev pub SaysSummary : {W : Type 0} → List (LaneSummary W) → List Report → Exit → Written → Written → Written → Written → Exit → Type 0
+SaysSummary lanes reports before out out' err err' end =
+    (text : List ℕ) × (reported : Exit) × TellsOf lanes reports text reported
     × (((out'.0 ≡ append_known out.0 text) × (out'.1 ≡ out.1) × (err' ≡ err) × (end ≡ worse before reported))
     ⊎ (FailedSince out.1 out'.1 × IsSaid failed_text err err' × (end ≡ worse before exit.Device)))
 
--- The faults of the files were said before, in this text. A relay that did not finish well was said after it, and nothing was
--- written to out; of another the summary was.
-abbrev pub Concludes : {W : Type 0} → List ℕ → Exit → Result (Summary W) FinishFault → Written → Written → Written → Written → Exit → Type 0
-Concludes text before (Ok summary) out out' err err' end =
-    (mid : Written) × IsSaid text err mid × SaysSummary summary.lanes.items before out out' mid err' end
-Concludes text before (Err f) out out' err err' end =
+-- The faults of the files were said before, in this text. A relay that did not finish well was said after it, nothing was
+-- written to out, and there are no reports; of another the summary was written.
+abbrev pub Concludes : {W : Type 0} → List ℕ → Exit → Result (Summary W) FinishFault → List Report → Written → Written → Written → Written → Exit → Type 0
+Concludes text before (Ok summary) reports out out' err err' end =
+    (mid : Written) × IsSaid text err mid × SaysSummary summary.lanes.items reports before out out' mid err' end
+Concludes text before (Err f) reports out out' err err' end =
     (mid : Written) × IsSaid text err mid × IsSaid (finish_fault_text f) mid err' × (out' ≡ out) × (end ≡ worse before (exit_of_finish f.kind))
+    × (reports ≡ [])
+
+-- what is said of a file of this name that could not be made or written
+abbrev pub file_failed_text : List ℕ → List ℕ → List ℕ
+file_failed_text name what = name ++ codes ": " ++ what ++ codes " failed\n"
+
+-- The reports were written to the file of this name, as an object a line, and nothing was said; or a write of it failed, which
+-- was said, and is a device's fault.
+abbrev pub SavesReports : List ℕ → List Report → Exit → Written → Written → Written → Written → Exit → Type 0
+SavesReports name reports before file file' err err' end =
+    ((file'.0 ≡ append_known file.0 (flat_map saved_line reports)) × (file'.1 ≡ file.1) × (err' ≡ err) × (end ≡ before))
+    ⊎ (FailedSince file.1 file'.1 × IsSaid (file_failed_text name (codes "write")) err err' × (end ≡ worse before exit.Device))

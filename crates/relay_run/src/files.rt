@@ -1,5 +1,5 @@
 //! Files of operations to an index: the function behind `relay run`.
-ghost use Rattle.std.specs.Prelude.{◌≡◌, ◌≢◌, ◌⊎◌, ◌++◌, IfOk, OnOk, IsTrue, false, is_some, length, map, string_bytes, true, vec_len};
+ghost use Rattle.std.specs.Prelude.{◌≡◌, ◌≢◌, ◌⊎◌, ◌++◌, ◌↔◌, ◌≤◌, IfOk, OnOk, IsTrue, false, is_some, length, map, option_map, string_bytes, true, vec_len};
 ghost use Rattle.relay_core.specs.Limits.{is_valid};
 ghost use Rattle.relay_http.specs.WrittenRequest.{is_host};
 ghost use Rattle.relay_threads.specs.Relay.{NoneOut};
@@ -8,24 +8,30 @@ ghost use Rattle.std.specs.Io.KnownBytes.{append_known};
 ghost use Rattle.relay_action.specs.Streams.{FailedSince};
 ghost use Rattle.relay_run.specs.Faults.{worse, file_fault, said_of, worse_by, faults_text, exit_of_files};
 ghost use Rattle.relay_run.specs.Saying.{IsSaid, exit_of_finish, SaysSummary, Concludes};
+ghost use Rattle.relay_run.specs.Sources.{named_count, standard_name, stands_apart};
 ghost use Rattle.relay_run.specs.Outcomes.{start_fault_text, kind_name, finish_fault_text, total, reports_of, exit_of_reports, TellsOf};
 
 use crate::faults::{FileFault, add_file_fault, exit_of_file, worse};
 use crate::feed::FeedFault;
 use crate::outcome::outcome_text;
 use crate::run::{Ran, run};
+use crate::saving::{save_reports, say_not_made};
+use crate::source::{STANDARD_NAME, Source, count_named, open_source};
 use crate::ticking::SleepPace;
+use crate::watching::{counters_of, share, start_watch, stop_watch};
 use relay_action::{ByteOut, StdStream, write_all};
 use relay_commands::exit::Exit;
 use relay_core::Report;
 use relay_http::is_host;
 use relay_lane::RelayConfig;
-use relay_net::{SocketStream, TcpDial};
+use relay_net::{PatientDial, TcpDial};
+use relay_progress::{CountedDial, CountedReader, CountedWire, Shared, Show};
 use relay_text::add_number;
 use relay_threads::{FinishFault, FinishFaultKind, LaneSummary, StartFault, Summary};
 use relay_wires::HttpWire;
 use std::alloc::{AllocError, Global};
 use std::fs::File;
+use std::io::IsTerminal;
 use std::net::TcpStream;
 use std::sync::Wait;
 use std::thread::Threads;
@@ -34,7 +40,7 @@ use std::time::Clock;
 /// What a run is to do.
 #[derive(Drop)]
 pub struct RunOptions {
-    /// The paths of the files, one for each producer.
+    /// The paths of the files, one for each producer; `-` is standard input.
     pub files: Vec<String>,
     /// Where the index is, as `HOST:PORT`, of 1 to 255 visible ASCII characters; requests name it so.
     pub to: String,
@@ -42,6 +48,15 @@ pub struct RunOptions {
     pub index: Option<String>,
     /// How the relay works.
     pub config: RelayConfig,
+    /// For how many seconds a connection may take to be made, and a read or a write of one may wait, before
+    /// it fails; 0 for no limit.
+    pub timeout: u32,
+    /// For how many seconds it is tried each second to make a connection, before that counts as failed.
+    pub patience: u32,
+    /// The path of the file that the reports are saved in, if they are to be.
+    pub report: Option<String>,
+    /// Whether standard error is to say how far the run is.
+    pub progress: bool,
 }
 
 impl RunOptions {
@@ -59,28 +74,95 @@ impl RunOptions {
             && is_host(self.to.as_str())
             && self.files.len() == self.config.producers as usize
     }
+
+    /// Whether standard input, `-`, is read by one producer at most.
+    pub fn reads_input_once(&self) -> bool
+        ensures { IsTrue result ↔ named_count standard_name (map string_bytes self.now.files.items) ≤ 1 }
+    {
+        count_named(&self.files, STANDARD_NAME) <= 1
+    }
+
+    /// Whether the path for the reports is none of the files that are read, and not `-`.
+    pub fn saves_apart(&self) -> bool
+        ensures { result ≡ stands_apart (option_map string_bytes self.now.report)
+            (map string_bytes self.now.files.items) }
+    {
+        match &self.report {
+            Some(report) => is_apart(report.as_str(), &self.files),
+            None => true,
+        }
+    }
 }
 
-/// A wire over TCP.
-type TcpWire = HttpWire<SocketStream<TcpStream>, TcpDial<HostRuntime>>;
+// Whether a path is that of no other file, and not `-`.
+fn is_apart(path: &str, files: &[String]) -> bool
+    ensures { result ≡ stands_apart (Some path.now) (map string_bytes files.now) }
+{
+    path != STANDARD_NAME && count_named(files, path) == 0
+}
 
-// A wire to the index for each lane.
+/// A dial over TCP that waits for an index that is away.
+type RunDial = PatientDial<CountedDial<HostRuntime>, HostRuntime>;
+
+/// A wire over TCP.
+type TcpWire = HttpWire<StdStream<TcpStream>, RunDial>;
+
+// What dials the index.
+fn make_dial(
+    rt: HostRuntime,
+    alloc: Global,
+    options: &RunOptions,
+    counts: &Option<Shared>,
+) -> Result<RunDial, AllocError>
+    ensures { IfOk result (λ d.
+        d ≡ ((string_bytes options.now.to, 0, 0, options.now.timeout, None), options.now.patience, 0, 0)) }
+{
+    let address = String::from_str(alloc, options.to.as_str())?;
+    let dial = TcpDial::new(rt, address).with_timeout(options.timeout);
+    let dial = CountedDial::new(dial, share(counts)?);
+    Ok(PatientDial::new(dial, rt, options.patience))
+}
+
+// A wire to the index for each lane, with so many requests in flight at most.
 fn make_wires(
     rt: HostRuntime,
     alloc: Global,
-    to: &str,
-    lanes: u32,
+    options: &RunOptions,
+    counts: &Option<Shared>,
 ) -> Result<Vec<TcpWire>, AllocError>
-    requires { IsTrue (is_host to.now) }
-    ensures count { IfOk result (λ v. vec_len v ≡ lanes) }
+    requires { IsTrue (is_host (string_bytes options.now.to)) }
+    ensures count { IfOk result (λ v. vec_len v ≡ options.now.config.lanes) }
     ensures out { IfOk result (λ v. NoneOut (λ w. numbers w.out) v.items) }
 {
+    let to = options.to.as_str();
     let mut wires = Vec::new(alloc);
-    'lanes: for lane in 0..lanes {
-        let dial = TcpDial::new(rt, String::from_str(alloc, to)?);
-        wires.push(HttpWire::new(alloc, dial, String::from_str(alloc, to)?, 1)?)?;
+    'lanes: for lane in 0..options.config.lanes {
+        let dial = make_dial(rt, alloc, options, counts)?;
+        wires.push(HttpWire::new(
+            alloc,
+            dial,
+            String::from_str(alloc, to)?,
+            options.config.in_flight,
+        )?)?;
     }
     Ok(wires)
+}
+
+// The same wires, counted.
+fn count_wires(
+    alloc: Global,
+    wires: Vec<TcpWire>,
+    counts: &Option<Shared>,
+) -> Result<Vec<CountedWire<TcpWire>>, AllocError>
+    requires { NoneOut (λ w. numbers w.out) wires.items }
+    ensures same { IfOk result (λ v. v.items ≡ wires.items) }
+    ensures out { IfOk result (λ v. NoneOut (λ w. numbers w.out) v.items) }
+{
+    let mut counted = Vec::new(alloc);
+    for wire in wires {
+        counted.push(CountedWire::new(alloc, wire, share(counts)?))?;
+    }
+    Ok(counted)
 }
 
 // A pace for each lane.
@@ -98,19 +180,48 @@ fn make_paces(
     Ok(paces)
 }
 
-// The files as streams; `None` in place of one that could not be opened.
+// The files, and standard input where `-` is named; `None` in place of one that could not be opened.
 fn open_files(
     rt: &HostRuntime,
     alloc: Global,
     files: &[String],
-) -> Result<Vec<Option<StdStream<File>>>, AllocError>
+) -> Result<Vec<Option<Source>>, AllocError>
     ensures { IfOk result (λ v. vec_len v ≡ length files.now) }
 {
-    let mut readers = Vec::new(alloc);
+    let mut sources = Vec::new(alloc);
     for file in files {
-        let reader = match File::open(rt, file.as_str()) {
-            Ok(file) => Some(StdStream::new(file)),
-            Err(_) => None,
+        sources.push(open_source(rt, file.as_str()).ok())?;
+    }
+    Ok(sources)
+}
+
+// How many bytes they have in all, where that is known of each. One that could not be opened has none.
+fn whole_size(sources: &[Option<Source>]) -> Option<u64> {
+    let mut size = 0u64;
+    for source in sources {
+        if let Some(source) = source {
+            size = size.saturating_add(source.size()?);
+        }
+    }
+    Some(size)
+}
+
+/// A reader of a file that is counted.
+type Reader = CountedReader<StdStream<Source>>;
+
+// A reader of each that could be opened.
+fn make_readers(
+    alloc: Global,
+    sources: Vec<Option<Source>>,
+    counts: &Option<Shared>,
+) -> Result<Vec<Option<Reader>>, AllocError>
+    ensures { IfOk result (λ v. vec_len v ≡ vec_len sources) }
+{
+    let mut readers = Vec::new(alloc);
+    for source in sources {
+        let reader = match source {
+            Some(source) => Some(CountedReader::new(StdStream::new(source), share(counts)?)),
+            None => None,
         };
         readers.push(reader)?;
     }
@@ -260,18 +371,31 @@ fn exit_of_reports(reports: &[Report]) -> Exit
     }
 }
 
-// The reports of all lanes and the counts, as text, and how the program ends by them.
-fn summary_text<W: Drop>(alloc: Global, summary: Summary<W>) -> Result<(Vec<u8>, Exit), AllocError>
-    ensures { IfOk result (λ r. TellsOf summary.lanes.items r.0.items r.1) }
+// The reports of all lanes and the counts, as text, how the program ends by them, and the reports in the order
+// of the text.
+#[derive(Drop)]
+struct Told {
+    text: Vec<u8>,
+    exit: Exit,
+    reports: Vec<Report>,
+}
+
+// What is told of a run that finished well.
+fn summary_text<W: Drop>(alloc: Global, summary: Summary<W>) -> Result<Told, AllocError>
+    ensures { IfOk result (λ t. TellsOf summary.lanes.items t.reports.items t.text.items t.exit) }
 {
     let mut counts = count_all(alloc, summary.lanes)?;
     let exit = exit_of_reports(&counts.reports);
     let text = outcome_text(alloc, &mut counts.reports, counts.applied, counts.already)?;
-    Ok((text, exit))
+    Ok(Told {
+        text,
+        exit,
+        reports: counts.reports,
+    })
 }
 
-// Writes a text. Whether all of it was written.
-fn say<W: ByteOut>(out: &mut W, text: &[u8]) -> bool
+/// Writes a text. Whether all of it was written.
+pub(crate) fn say<W: ByteOut>(out: &mut W, text: &[u8]) -> bool
     ensures all { IsTrue result → (W.written out.new ≡ append_known (W.written out.old) text.now)
         × (W.failed out.new ≡ W.failed out.old) }
     ensures failed { result ≡ false → FailedSince (W.failed out.old) (W.failed out.new) }
@@ -309,27 +433,27 @@ fn say_fault<E: ByteOut>(
     Ok(worse(exit, exit_of_finish(fault.kind)))
 }
 
-// Writes the summary of a run, or says that a write of it failed.
+// Writes the summary of a run, or says that a write of it failed. How the program ends, and the reports.
 fn say_summary<W: Drop, O: ByteOut, E: ByteOut>(
     alloc: Global,
     exit: Exit,
     summary: Summary<W>,
     out: &mut O,
     err: &mut E,
-) -> Result<Exit, AllocError>
-    ensures { IfOk result (λ end. SaysSummary summary.lanes.items exit
+) -> Result<(Exit, Vec<Report>), AllocError>
+    ensures { IfOk result (λ r. SaysSummary summary.lanes.items r.1.items exit
         (O.written out.old, O.failed out.old) (O.written out.new, O.failed out.new)
-        (E.written err.old, E.failed err.old) (E.written err.new, E.failed err.new) end) }
+        (E.written err.old, E.failed err.old) (E.written err.new, E.failed err.new) r.0) }
 {
-    let (text, reported) = summary_text(alloc, summary)?;
-    if say(out, &text) {
-        return Ok(worse(exit, reported));
+    let told = summary_text(alloc, summary)?;
+    if say(out, &told.text) {
+        return Ok((worse(exit, told.exit), told.reports));
     }
     let _ = say(err, b"write failed\n");
-    Ok(worse(exit, Exit::Device))
+    Ok((worse(exit, Exit::Device), told.reports))
 }
 
-// Says what a run came to.
+// Says what a run came to. How the program ends, and the reports; none are there where a lane did not finish.
 fn conclude<W: Drop, O: ByteOut, E: ByteOut>(
     alloc: Global,
     files: &[String],
@@ -337,24 +461,78 @@ fn conclude<W: Drop, O: ByteOut, E: ByteOut>(
     ran: Ran<W>,
     out: &mut O,
     err: &mut E,
-) -> Result<Exit, AllocError>
+) -> Result<(Exit, Vec<Report>), AllocError>
     requires opened { length opened.now ≡ length files.now }
     requires stops { vec_len ran.faults ≡ length files.now }
-    ensures { IfOk result (λ end. Concludes (faults_text (map string_bytes files.now) opened.now ran.faults.items)
-        (exit_of_files Exit.Done opened.now ran.faults.items) ran.end
+    ensures { IfOk result (λ r. Concludes (faults_text (map string_bytes files.now) opened.now ran.faults.items)
+        (exit_of_files Exit.Done opened.now ran.faults.items) ran.end r.1.items
         (O.written out.old, O.failed out.old) (O.written out.new, O.failed out.new)
-        (E.written err.old, E.failed err.old) (E.written err.new, E.failed err.new) end) }
+        (E.written err.old, E.failed err.old) (E.written err.new, E.failed err.new) r.0) }
 {
     let Ran { faults, end } = ran;
     let (text, exit) = faults_text(alloc, files, opened, &faults)?;
     let _ = say(err, &text);
     match end {
         Ok(summary) => say_summary(alloc, exit, summary, out, err),
-        Err(fault) => say_fault(alloc, exit, fault, err),
+        Err(fault) => {
+            let exit = say_fault(alloc, exit, fault, err)?;
+            Ok((exit, Vec::new(alloc)))
+        }
     }
 }
 
-// Runs the files over TCP, and says what it came to.
+// Runs the files over TCP, and says what it came to. How the program ends, and the reports.
+fn run_said<R, O, E>(
+    rt: R,
+    host: HostRuntime,
+    options: &RunOptions,
+    out: &mut O,
+    err: &mut E,
+) -> Result<(Exit, Vec<Report>), AllocError>
+where
+    R: Threads + Wait + Clock + Copy + Send + 'static,
+    O: ByteOut,
+    E: ByteOut,
+    requires host { IsTrue (is_host (string_bytes options.now.to)) }
+    requires files { vec_len options.now.files ≡ options.now.config.producers }
+{
+    let alloc = host.alloc();
+    let over = host.stderr().is_terminal();
+    let counters = counters_of(alloc, options.progress, over)?;
+    let wires = make_wires(host, alloc, options, &counters.dials)?;
+    let wires = count_wires(alloc, wires, &counters.all)?;
+    let paces = make_paces(host, alloc, options.config.lanes)?;
+    let sources = open_files(&host, alloc, &options.files)?;
+    let size = whole_size(&sources);
+    let readers = make_readers(alloc, sources, &counters.all)?;
+    let opened = are_opened(alloc, &readers)?;
+    let show = Show {
+        lines: options.progress,
+        over,
+        address: String::from_str(alloc, options.to.as_str())?,
+        size,
+    };
+    let watch = start_watch(rt, host, alloc, show, counters.dials)?;
+    let index = options.index.as_deref();
+    let ran = run(rt, alloc, options.config, wires, paces, readers, index);
+    stop_watch(&rt, watch);
+    match ran {
+        Ok(ran) => conclude(alloc, &options.files, &opened, ran, out, err),
+        Err(fault) => Ok((say_start(fault, err), Vec::new(alloc))),
+    }
+}
+
+// Says that nothing was started. How the program ends.
+fn say_start<E: ByteOut>(fault: StartFault, err: &mut E) -> Exit {
+    let _ = write_all(err, start_fault_text(fault));
+    if fault == StartFault::Memory {
+        Exit::Memory
+    } else {
+        Exit::Device
+    }
+}
+
+// The same, and saves the reports, if that is asked for, in a file that is made before anything is put.
 fn run_all<R, O, E>(
     rt: R,
     host: HostRuntime,
@@ -370,31 +548,26 @@ where
     requires files { vec_len options.now.files ≡ options.now.config.producers }
 {
     let alloc = host.alloc();
-    let lanes = options.config.lanes;
-    let wires = make_wires(host, alloc, options.to.as_str(), lanes)?;
-    let paces = make_paces(host, alloc, lanes)?;
-    let readers = open_files(&host, alloc, &options.files)?;
-    let opened = are_opened(alloc, &readers)?;
-    let index = options.index.as_deref();
-    match run(rt, alloc, options.config, wires, paces, readers, index) {
-        Ok(ran) => conclude(alloc, &options.files, &opened, ran, out, err),
-        Err(fault) => {
-            let _ = write_all(err, start_fault_text(fault));
-            Ok(if fault == StartFault::Memory {
-                Exit::Memory
-            } else {
-                Exit::Device
-            })
-        }
-    }
+    let Some(name) = options.report.as_deref() else {
+        let (exit, _) = run_said(rt, host, options, out, err)?;
+        return Ok(exit);
+    };
+    let Ok(file) = File::create(&host, name) else {
+        return say_not_made(alloc, name, err);
+    };
+    let (exit, reports) = run_said(rt, host, options, out, err)?;
+    save_reports(alloc, exit, name, &reports, &mut StdStream::new(file), err)
 }
 
-/// Writes the operations of the files to the index, each file by a producer of its own, and says what it
-/// came to: on `err` a line for each file that was not put whole, in their order, and for a lane that did
+/// Writes the operations of the files to the index, each file by a producer of its own, where `-` is standard
+/// input, and says what it came to: on `err` a line for each file that was not put whole, in their order, and for a lane that did
 /// not finish; on `out` a line for each operation that could not be settled, by producer and number, and
-/// how many were applied, applied already and reported.
+/// how many were applied, applied already and reported. The reports are saved too, if that is asked for: the
+/// file for them is made first, and where it cannot be, nothing is put. If progress is asked for, or standard
+/// error is a terminal, it is said there meanwhile how far the run is, or that no connection can be made.
 ///
-/// The exit: `Usage` where the options are not valid, and then nothing is done; else out of memory before
+/// The exit: `Usage` where the options are not valid, name standard input twice, or have the reports saved in
+/// a file that is read, and then nothing is done; else out of memory before
 /// a device's fault, that before an input's, and that before operations that were reported.
 pub fn run_files<R, O, E>(
     rt: R,
@@ -408,7 +581,7 @@ where
     O: ByteOut,
     E: ByteOut,
 {
-    if !options.is_valid() {
+    if !options.is_valid() || !options.reads_input_once() || !options.saves_apart() {
         return Exit::Usage;
     }
     match run_all(rt, host, options, out, err) {

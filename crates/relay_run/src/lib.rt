@@ -7,4 +7,7 @@ pub mod files;
 pub mod outcome;
 pub mod producing;
 pub mod run;
+pub mod saving;
+pub mod source;
 pub mod ticking;
+mod watching;

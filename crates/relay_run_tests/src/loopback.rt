@@ -116,6 +116,10 @@ fn options<R: Files>(rt: &R, alloc: Global, to: String) -> Option<RunOptions> {
         to,
         index: None,
         config: CONFIG,
+        timeout: 60,
+        patience: 0,
+        report: None,
+        progress: false,
     })
 }
 

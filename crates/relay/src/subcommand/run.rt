@@ -4,6 +4,7 @@ use clap::builder::ValueParser;
 use clap::{Arg, ArgAction, ArgMatches, Command};
 use relay_action::StdStream;
 use relay_commands::exit::Exit;
+use relay_core::config::DEAL_LIMIT;
 use relay_run::files::{RunOptions, run_files};
 use relay_run::run::{Limits, RelayConfig};
 use std::alloc::{AllocError, Global};
@@ -24,6 +25,10 @@ applies it once; the operations of a document are sent one after another. A requ
 sent again in halves.
 
     relay run --to 127.0.0.1:9200 --index books ops.ndjson
+    zcat dump.gz | relay run --to 127.0.0.1:9200 -
+
+An operation that comes slowly, through a pipe, is sent after --linger ticks at the latest, while the pipe
+stays open.
 
 At the end standard output gets a line for each operation that could not be settled, by producer (the
 place of its file, from 0) and number, and then the counts. In an epoch E above 0 a name is E.P:N.
@@ -41,9 +46,26 @@ not put whole, when all have ended: `FILE: open failed`, `FILE: read failed`, `F
 `FILE: line N: KIND` or `FILE: NumbersSpent`; its operations before that were put. `lane N: KIND` tells of
 a lane that did not finish, and `start: KIND` that nothing was started.
 
+With --report FILE the reports are saved too, as JSON, an object a line: cause, id, index, number and
+producer, kind, status and sends where the cause has them, and epoch where it is above 0. Unlike the printed
+lines they have no raw blanks or line ends of an id. `FILE: create failed` says that the file could not be
+made, and then nothing was put; `FILE: write failed` that it could not be written, after all was printed.
+
 It ends with status 0, with 1 where the command line is at fault, with 2 for a fault of a file's lines,
 with 3 for a file, an output or a lane's thread that failed, with 4 where it ran out of memory, and with 5
 where operations were reported; of several with the first of 4, 3, 2 and 5.
+
+While the index is away, each request that cannot be sent is an attempt, and so is each that is not answered
+for --timeout seconds. Between the attempts of an operation its lane pauses 1, 2, 4, 8, 16, 32 and 64 ticks of
+100 ms: 12.7 s in all with the default of 8 attempts, and with 32, at most 64 ticks each, 166 s, and beside
+that what the attempts to connect take. Then it is reported. With --patience each attempt tries to connect for
+so many seconds before it fails, and an index that is back by then costs only the attempt of what was under
+way when it went.
+
+A lane holds at most --held operations, and --capacity wait in front of it, each with its document, of up to
+1048576 bytes, and less than 2 KB more: at most 1.4 GB a lane with the defaults, and 4 MB where documents
+have 1 KB. A --capacity below twice --count costs speed, since the next request is then not there when one is
+answered. Reports are kept in memory until the end: a run that is killed prints and saves none.
 
 Versions are --epoch times 2^40 and a count from 1 in each lane: every version that the index has stored for
 these documents has to be at most --epoch times 2^40, and nobody else may write them meanwhile. Give each run
@@ -78,7 +100,7 @@ const NUMBERS: &[NumberOption] = &[
         least: 1,
         most: 8,
         default: "1",
-        help: "How many lanes, 1 to 8, each with a connection of its own",
+        help: "How many lanes, 1 to 8, each with connections of its own",
     },
     NumberOption {
         name: "capacity",
@@ -125,16 +147,34 @@ const NUMBERS: &[NumberOption] = &[
     NumberOption {
         name: "flying",
         least: 1,
-        most: 1,
+        most: 8,
         default: "1",
-        help: "How many requests of a lane are out at a time: 1 is all that there is yet",
+        help: "How many requests of a lane are in flight at a time, each on a connection of its own, 1 to 8; more keep a slow index busy, and the order of a document's writes stays",
     },
 ];
 
-fn number<'a>(alloc: Global, option: &NumberOption) -> Arg<'a> {
+// Those that are seconds, up to a week, in the order of the help.
+const SECONDS: &[NumberOption] = &[
+    NumberOption {
+        name: "timeout",
+        least: 0,
+        most: 604_800,
+        default: "300",
+        help: "How long a connection may take to be made, and a read or a write of it may wait, until the request counts as lost and is sent again, 0 to 604800; 0 for no limit",
+    },
+    NumberOption {
+        name: "patience",
+        least: 0,
+        most: 604_800,
+        default: "0",
+        help: "For how long it is tried again each second to make a connection, until that costs an attempt, 0 to 604800",
+    },
+];
+
+fn number<'a>(alloc: Global, option: &NumberOption, value: &'static str) -> Arg<'a> {
     Arg::new(alloc, option.name)
         .long(option.name)
-        .value_name("N")
+        .value_name(value)
         .action(ArgAction::Set)
         .value_parser(ValueParser::unsigned(option.least, option.most))
         .default_value(option.default)
@@ -145,7 +185,10 @@ fn number<'a>(alloc: Global, option: &NumberOption) -> Arg<'a> {
 fn with_numbers<'a>(alloc: Global, command: Command<'a>) -> Result<Command<'a>, AllocError> {
     let mut command = command;
     for option in NUMBERS {
-        command = command.arg(number(alloc, option))?;
+        command = command.arg(number(alloc, option, "N"))?;
+    }
+    for option in SECONDS {
+        command = command.arg(number(alloc, option, "SECONDS"))?;
     }
     Ok(command)
 }
@@ -170,18 +213,48 @@ pub fn command<'a>(alloc: Global, name: &'static str) -> Result<Command<'a>, All
         .action(ArgAction::Append)
         .num_args(1..=16)
         .required(true)
-        .help("Files of operations, 1 to 16, each read by a producer of its own");
+        .help(
+            "Files of operations, 1 to 16, each read by a producer of its own; `-`, once, is standard input",
+        );
     let command = Command::new(alloc, name)
         .about(ABOUT)
         .long_about(LONG_ABOUT)
         .arg(to)?
         .arg(index)?;
-    with_numbers(alloc, command)?.arg(files)
+    let report = Arg::new(alloc, "report")
+        .long("report")
+        .value_name("FILE")
+        .action(ArgAction::Set)
+        .help(
+            "Where what could not be settled is saved as NDJSON, an object a line; the file is made before anything is put, and written at the end",
+        );
+    let progress = Arg::new(alloc, "progress")
+        .long("progress")
+        .action(ArgAction::SetTrue)
+        .help(
+            "Says on standard error each second how far the run is, and at once that no connection can be made, which a terminal is told without it",
+        );
+    with_numbers(alloc, command)?
+        .arg(report)?
+        .arg(progress)?
+        .arg(files)
 }
 
 // The number of an option, whose default and range the command line has.
 fn number_of(matches: &ArgMatches<'_>, name: &str) -> u32 {
     matches.get_one::<u32>(name).unwrap_or(0)
+}
+
+// The text of an option, if it was given.
+fn own_text(
+    alloc: Global,
+    matches: &ArgMatches<'_>,
+    name: &str,
+) -> Result<Option<String>, AllocError> {
+    match matches.get_str(name) {
+        Some(text) => Ok(Some(String::from_str(alloc, text)?)),
+        None => Ok(None),
+    }
 }
 
 // The options as they were given.
@@ -190,10 +263,8 @@ fn options_of(alloc: Global, matches: &ArgMatches<'_>) -> Result<RunOptions, All
     for file in matches.get_strs("file").unwrap_or(&[]) {
         files.push(String::from_str(alloc, file)?)?;
     }
-    let index = match matches.get_str("index") {
-        Some(index) => Some(String::from_str(alloc, index)?),
-        None => None,
-    };
+    let index = own_text(alloc, matches, "index")?;
+    let report = own_text(alloc, matches, "report")?;
     let config = RelayConfig {
         lanes: number_of(matches, "lanes"),
         producers: files.len().min(17) as u32,
@@ -207,13 +278,17 @@ fn options_of(alloc: Global, matches: &ArgMatches<'_>) -> Result<RunOptions, All
         attempts: number_of(matches, "attempts"),
         in_flight: number_of(matches, "flying"),
         epoch: number_of(matches, "epoch"),
-        deal: 1_099_511_627_775,
+        deal: DEAL_LIMIT,
     };
     Ok(RunOptions {
         files,
         to: String::from_str(alloc, matches.get_str("to").unwrap_or(""))?,
         index,
         config,
+        timeout: number_of(matches, "timeout"),
+        patience: number_of(matches, "patience"),
+        report,
+        progress: matches.get_flag("progress"),
     })
 }
 
@@ -229,6 +304,18 @@ where
         return usage(
             rt,
             "error: --to ADDR has to be 1 to 255 visible ASCII characters",
+        );
+    }
+    if !options.reads_input_once() {
+        return usage(
+            rt,
+            "error: '-' is standard input, and can be the FILE of one producer only",
+        );
+    }
+    if !options.saves_apart() {
+        return usage(
+            rt,
+            "error: --report FILE has to be a file of its own: not '-', and none of those that are read",
         );
     }
     let mut out = StdStream::new(io::writer(rt));

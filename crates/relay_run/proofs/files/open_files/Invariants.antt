@@ -2,4 +2,4 @@ use Rattle.std.proofs.Common.{◌≡◌, vec_len}
 use Rattle.relay_run.proofs.files.open_files.Given as goal
 
 abbrev pub invariant-loop-file : goal.invariant-loop-file
-invariant-loop-file l = vec_len l.readers ≡ l.file-index
+invariant-loop-file l = vec_len l.sources ≡ l.file-index

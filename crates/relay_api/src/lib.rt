@@ -1,0 +1,57 @@
+//! All that a program over the relay calls, in one place: a program that lists this crate, and the
+//! crates whose types its own signatures name, imports from here alone.
+//!
+//! The crate has no code of its own. What each item promises stands at the item, and in the README of
+//! the crate that it comes from.
+#![tactic(auto)]
+
+// Documents, actions, operations and streams.
+pub use relay_action::{
+    Action, ActionFault, ActionKind, Body, ByteIn, ByteOut, ByteStream, DocKey, List, Mail,
+    MemStream, Op, OpName, Source, StdStream, StreamFailed, Text, Write, lane_of, write_all,
+};
+// The bulk format, written and read.
+pub use relay_ndjson::{
+    BulkFault, Input, InputFault, LineKind, TextFault, bulk_len, bulk_text, read_bulk, write_len,
+    write_write,
+};
+// Replies and verdicts.
+pub use relay_results::{
+    Cause, DoneResult, ItemDone, ItemVerdict, Outcome, ReplyFault, matches, read_reply, verdict,
+    write_reply,
+};
+// The stand-in index.
+pub use relay_index::{Choice, Index, Script, ServeFault, may_refuse};
+// A lane, and a lane at work on a wire.
+pub use relay_batch::{Batch, BatchItem, Batcher, Limits, Offer};
+pub use relay_flight::{Flight, Full};
+pub use relay_lane::{
+    Lane, NotFlying, Pace, RelayConfig, Report, Settled, TakeFault, Totals, Wire, WireFault,
+    WireReply, collect, drain, make_room, pump,
+};
+// HTTP/1.1, and the wires.
+pub use relay_http::{Conn, HttpFault, HttpReply, HttpRequest, Peek};
+pub use relay_wires::{Dial, DialFault, HttpWire, LoopWire};
+// The world and its scripts.
+pub use relay_script::script::{ScriptFault, world_script};
+pub use relay_world::{Event, Refusal, RunEnd, StepAnswer, World};
+// The running relay.
+pub use relay_producer::{
+    ClosedControl, ClosedProducer, Control, Producer, PutFault, PutFaultKind, Receipt,
+};
+pub use relay_queue::{ClosedPut, Gone, LanePut, LaneTake, PutRefusal, Taken, lane_queue};
+pub use relay_threads::{
+    FinishFault, FinishFaultKind, LaneEnd, LaneEndKind, LaneSummary, Relay, StartFault, Summary,
+    run_lane,
+};
+// The programs as functions.
+pub use relay_commands::apply::{ApplyFault, apply};
+pub use relay_commands::exit::Exit;
+pub use relay_commands::lines::{LinesFault, lines};
+pub use relay_commands::refuse_list::{ListFault, refuse_list};
+pub use relay_net::{TcpDial, TcpListen};
+pub use relay_report::{
+    Named, PickFault, ReportFault, first_missing, pick, read_names, report_text,
+};
+pub use relay_run::files::{RunOptions, run_files};
+pub use relay_stub::{Listen, ServeError, stub_serve};

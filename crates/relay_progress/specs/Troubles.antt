@@ -1,0 +1,13 @@
+-- What a failed call of a dial says.
+use Rattle.std.specs.Prelude.{Option, None, Some}
+use Rattle.std.specs.declared.io.ErrorKind.{ErrorKind}
+use Rattle.std.specs.declared.io.ErrorKind.TheVariants as kind
+use Rattle.relay_progress.specs.declared.counts.Trouble.{Trouble}
+use Rattle.relay_progress.specs.declared.counts.Trouble.TheVariants as trouble
+
+-- by the kind of the system's error
+abbrev pub trouble_of : Option ErrorKind → Trouble
+trouble_of None = trouble.None
+trouble_of (Some kind.ConnectionRefused) = trouble.Refused
+trouble_of (Some kind.TimedOut) = trouble.TimedOut
+trouble_of (Some _) = trouble.Other

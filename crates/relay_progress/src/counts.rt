@@ -1,0 +1,140 @@
+//! What the threads of a run have counted.
+use std::alloc::{AllocError, Global};
+use std::sync::Arc;
+use std::sync::atomic::{AtomicU64, Ordering};
+
+/// Why no connection can be made.
+#[derive(Clone, Copy, Debug, PartialEq, Eq)]
+pub enum Trouble {
+    /// None is known.
+    None,
+    /// Nobody listens at the address.
+    Refused,
+    /// The other end did not answer in time.
+    TimedOut,
+    /// Any other cause.
+    Other,
+}
+
+impl Trouble {
+    // As a number that is shared.
+    fn code(self) -> u64 {
+        self as u64
+    }
+
+    // What such a number stands for.
+    fn of_code(code: u64) -> Trouble {
+        match code {
+            0 => Trouble::None,
+            1 => Trouble::Refused,
+            2 => Trouble::TimedOut,
+            _ => Trouble::Other,
+        }
+    }
+}
+
+/// The counts of a run. Each stands for itself: they are not read at one moment.
+#[derive(Drop)]
+pub struct Counts {
+    read: AtomicU64,
+    requests: AtomicU64,
+    operations: AtomicU64,
+    answers: AtomicU64,
+    ended: AtomicU64,
+    settled: AtomicU64,
+    repeats: AtomicU64,
+    trouble: AtomicU64,
+}
+
+/// Counts that several threads hold.
+pub type Shared = Arc<Counts, Global>;
+
+impl Counts {
+    /// Counts of nothing. `AllocError`: there was no memory for them.
+    pub fn shared(alloc: Global) -> Result<Shared, AllocError> {
+        Ok(Arc::new(alloc, Counts::new())?)
+    }
+
+    // All of them at 0.
+    fn new() -> Counts {
+        Counts {
+            read: AtomicU64::new(0),
+            requests: AtomicU64::new(0),
+            operations: AtomicU64::new(0),
+            answers: AtomicU64::new(0),
+            ended: AtomicU64::new(0),
+            settled: AtomicU64::new(0),
+            repeats: AtomicU64::new(0),
+            trouble: AtomicU64::new(0),
+        }
+    }
+
+    /// So many bytes of a file were read.
+    pub fn add_read(&self, bytes: u64) {
+        self.read.fetch_add(bytes, Ordering::SeqCst);
+    }
+
+    /// A request goes out with so many operations.
+    pub fn add_request(&self, operations: u64) {
+        self.requests.fetch_add(1, Ordering::SeqCst);
+        self.operations.fetch_add(operations, Ordering::SeqCst);
+    }
+
+    /// A request was answered: so many of its operations are settled, and so many are not.
+    pub fn add_answer(&self, settled: u64, others: u64) {
+        self.answers.fetch_add(1, Ordering::SeqCst);
+        self.settled.fetch_add(settled, Ordering::SeqCst);
+        self.add_loss(others);
+    }
+
+    /// A request ended, and so many of its operations are not settled by it.
+    pub fn add_loss(&self, others: u64) {
+        self.ended.fetch_add(1, Ordering::SeqCst);
+        self.repeats.fetch_add(others, Ordering::SeqCst);
+    }
+
+    /// How the last try to make a connection ended.
+    pub fn set_trouble(&self, trouble: Trouble) {
+        self.trouble.store(trouble.code(), Ordering::SeqCst);
+    }
+
+    /// How the last try to make a connection ended.
+    pub fn trouble(&self) -> Trouble {
+        Trouble::of_code(self.trouble.load(Ordering::SeqCst))
+    }
+
+    /// How many bytes were read.
+    pub fn read(&self) -> u64 {
+        self.read.load(Ordering::SeqCst)
+    }
+
+    /// How many requests went out.
+    pub fn requests(&self) -> u64 {
+        self.requests.load(Ordering::SeqCst)
+    }
+
+    /// How many operations the requests had.
+    pub fn operations(&self) -> u64 {
+        self.operations.load(Ordering::SeqCst)
+    }
+
+    /// How many requests were answered.
+    pub fn answers(&self) -> u64 {
+        self.answers.load(Ordering::SeqCst)
+    }
+
+    /// How many requests were answered or lost.
+    pub fn ended(&self) -> u64 {
+        self.ended.load(Ordering::SeqCst)
+    }
+
+    /// How many operations an answer settled.
+    pub fn settled(&self) -> u64 {
+        self.settled.load(Ordering::SeqCst)
+    }
+
+    /// How many operations a request carried that did not settle them, each time it did.
+    pub fn repeats(&self) -> u64 {
+        self.repeats.load(Ordering::SeqCst)
+    }
+}

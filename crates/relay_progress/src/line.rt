@@ -1,0 +1,156 @@
+//! The line that says how far a run is.
+ghost use Rattle.std.specs.Prelude.{◌≡◌, ◌++◌, IfOk, OnOk};
+ghost use Rattle.relay_progress.specs.Lines.{ago_text, answer_text, counts_text, progress_text, read_text, share, trouble_name, trouble_text, written_text};
+
+use crate::counts::Trouble;
+use relay_text::add_number;
+use std::alloc::{AllocError, Global};
+
+/// How far a run is.
+#[derive(Clone, Copy, Debug, PartialEq, Eq)]
+pub struct Progress {
+    /// How many bytes of the files were read.
+    pub read: u64,
+    /// How many the files have, where that is known of all.
+    pub size: Option<u64>,
+    /// How many requests were sent.
+    pub requests: u64,
+    /// How many operations they had.
+    pub operations: u64,
+    /// How many operations an answer settled.
+    pub settled: u64,
+    /// How many operations a request carried that did not settle them, each time it did.
+    pub repeats: u64,
+    /// How many requests are out.
+    pub out: u64,
+    /// How many seconds ago the last answer came, if one did.
+    pub idle: Option<u64>,
+}
+
+/// What is said of it, with no line end. `AllocError`: there was no memory for the text.
+pub fn progress_text(alloc: Global, progress: &Progress) -> Result<Vec<u8>, AllocError>
+    ensures { IfOk result (λ text. text.items ≡ progress_text progress.now) }
+{
+    let mut text = Vec::new(alloc);
+    text.extend_from_slice(b"read ")?;
+    add_read(&mut text, progress.read, progress.size)?;
+    add_counts(&mut text, progress)?;
+    text.extend_from_slice(b", ")?;
+    add_answer(&mut text, progress.idle)?;
+    Ok(text)
+}
+
+/// The same as it is written: with `over`, on a terminal, over the line that stands there, and else as a line
+/// of its own. `AllocError`: there was no memory for the text.
+pub fn written_text(alloc: Global, progress: &Progress, over: bool) -> Result<Vec<u8>, AllocError>
+    ensures { IfOk result (λ text. text.items ≡ written_text over (progress_text progress.now)) }
+{
+    let line = progress_text(alloc, progress)?;
+    let mut text = Vec::new(alloc);
+    if over {
+        text.extend_from_slice(b"\r")?;
+        text.extend_from_slice(&line)?;
+        text.extend_from_slice(b"\x1b[K")?;
+    } else {
+        text.extend_from_slice(&line)?;
+        text.extend_from_slice(b"\n")?;
+    }
+    Ok(text)
+}
+
+/// What is said of the connections to an address, once it changes: `ADDR: connection refused, trying again`,
+/// or `ADDR: connected`. With `over`, on a terminal, it takes the place of the line that stands there.
+/// `AllocError`: there was no memory for the text.
+pub fn trouble_text(
+    alloc: Global,
+    address: &str,
+    trouble: Trouble,
+    over: bool,
+) -> Result<Vec<u8>, AllocError>
+    ensures { IfOk result (λ text. text.items ≡ trouble_text over address.now trouble) }
+{
+    let mut text = Vec::new(alloc);
+    if over {
+        text.extend_from_slice(b"\r\x1b[K")?;
+    }
+    text.extend_from_slice(address.as_bytes())?;
+    text.extend_from_slice(b": ")?;
+    text.extend_from_slice(trouble_name(trouble))?;
+    text.extend_from_slice(b"\n")?;
+    Ok(text)
+}
+
+// What is said of it.
+fn trouble_name(trouble: Trouble) -> &'static [u8]
+    ensures { result.now ≡ trouble_name trouble }
+{
+    match trouble {
+        Trouble::None => b"connected",
+        Trouble::Refused => b"connection refused, trying again",
+        Trouble::TimedOut => b"connection timed out, trying again",
+        Trouble::Other => b"no connection, trying again",
+    }
+}
+
+// How many of a hundred parts were read.
+fn share(read: u64, size: u64) -> u64
+    ensures { result ≡ share read size }
+{
+    if size == 0 {
+        return 100;
+    }
+    let parts = read.min(size) as u128 * 100;
+    (parts / size as u128) as u64
+}
+
+// Adds what was read.
+fn add_read(text: &mut Vec<u8>, read: u64, size: Option<u64>) -> Result<(), AllocError>
+    ensures { OnOk result (text.new.items ≡ text.old.items ++ read_text read size) }
+{
+    add_number(text, read)?;
+    match size {
+        Some(size) => {
+            text.extend_from_slice(b" of ")?;
+            add_number(text, size)?;
+            text.extend_from_slice(b" bytes (")?;
+            add_number(text, share(read, size))?;
+            text.extend_from_slice(b" %)")
+        }
+        None => text.extend_from_slice(b" bytes"),
+    }
+}
+
+// Adds what was sent and what became of it.
+fn add_counts(text: &mut Vec<u8>, progress: &Progress) -> Result<(), AllocError>
+    ensures { OnOk result (text.new.items ≡ text.old.items ++ counts_text progress.now) }
+{
+    text.extend_from_slice(b", sent ")?;
+    add_number(text, progress.operations)?;
+    text.extend_from_slice(b" operations in ")?;
+    add_number(text, progress.requests)?;
+    text.extend_from_slice(b" requests, settled ")?;
+    add_number(text, progress.settled)?;
+    text.extend_from_slice(b", repeats ")?;
+    add_number(text, progress.repeats)?;
+    text.extend_from_slice(b", out ")?;
+    add_number(text, progress.out)
+}
+
+// Adds how long ago the last answer came.
+fn add_ago(text: &mut Vec<u8>, seconds: u64) -> Result<(), AllocError>
+    ensures { OnOk result (text.new.items ≡ text.old.items ++ ago_text seconds) }
+{
+    text.extend_from_slice(b"last answer ")?;
+    add_number(text, seconds)?;
+    text.extend_from_slice(b" s ago")
+}
+
+// Adds when the last answer came.
+fn add_answer(text: &mut Vec<u8>, idle: Option<u64>) -> Result<(), AllocError>
+    ensures { OnOk result (text.new.items ≡ text.old.items ++ answer_text idle) }
+{
+    match idle {
+        Some(seconds) => add_ago(text, seconds),
+        None => text.extend_from_slice(b"no answer yet"),
+    }
+}

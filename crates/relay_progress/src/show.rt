@@ -1,0 +1,168 @@
+//! What is said of a run while it works.
+use crate::counts::{Counts, Trouble};
+use crate::line::{Progress, trouble_text, written_text};
+use crossbeam_channel::{Receiver, RecvTimeoutError};
+use relay_action::{ByteOut, write_all};
+use std::alloc::{AllocError, Global};
+use std::sync::Wait;
+use std::time::{Clock, Duration, Instant};
+
+/// What is to be said of a run, and how.
+#[derive(Drop)]
+pub struct Show {
+    /// Whether a line a second says how far it is.
+    pub lines: bool,
+    /// Whether it is written on a terminal, one line over the other.
+    pub over: bool,
+    /// The address that is dialled.
+    pub address: String,
+    /// How many bytes there are to read, where that is known.
+    pub size: Option<u64>,
+}
+
+// After how many milliseconds it is looked again, and after how many looks a line is written.
+const LOOK: u64 = 100;
+
+const LOOKS_A_LINE: u32 = 10;
+
+// What was seen when it was looked last.
+#[derive(Clone, Copy)]
+struct Seen {
+    looks: u32,
+    answers: u64,
+    answered: Option<Instant>,
+    trouble: Trouble,
+}
+
+/// Says how far a run is, until every sender of `ended` is gone, and once more then: a line a second, if that
+/// is asked for, and at once that no connection can be made, and when one is made again. What cannot be
+/// written, or finds no memory, is left out.
+pub fn show_progress<R: Wait + Clock, E: ByteOut>(
+    rt: &R,
+    alloc: Global,
+    show: &Show,
+    counts: &Counts,
+    ended: &Receiver<(), Global>,
+    err: &mut E,
+) {
+    let mut seen = Seen {
+        looks: 0,
+        answers: 0,
+        answered: None,
+        trouble: Trouble::None,
+    };
+    'looks: for _ in rt.forever() {
+        match ended.recv_timeout(rt, Duration::from_millis(LOOK)) {
+            Err(RecvTimeoutError::Timeout) => {
+                let _ = look(rt, alloc, show, counts, &mut seen, err);
+            }
+            Err(RecvTimeoutError::Disconnected) => break,
+            Ok(()) => {}
+        }
+    }
+    let _ = say_last(rt, alloc, show, counts, &mut seen, err);
+}
+
+// Looks at the counts, and says what there is to say.
+fn look<R: Clock, E: ByteOut>(
+    rt: &R,
+    alloc: Global,
+    show: &Show,
+    counts: &Counts,
+    seen: &mut Seen,
+    err: &mut E,
+) -> Result<(), AllocError> {
+    see_answers(rt, counts, seen);
+    say_trouble(alloc, show, counts, seen, err)?;
+    seen.looks = seen.looks.saturating_add(1);
+    if seen.looks < LOOKS_A_LINE || !show.lines {
+        return Ok(());
+    }
+    seen.looks = 0;
+    say_line(rt, alloc, show, counts, seen, err)
+}
+
+// Keeps when an answer was there that was not there before.
+fn see_answers<R: Clock>(rt: &R, counts: &Counts, seen: &mut Seen) {
+    let answers = counts.answers();
+    if answers != seen.answers {
+        seen.answers = answers;
+        seen.answered = Instant::now(rt).ok();
+    }
+}
+
+// Says that no connection can be made, or that one was made again, where that is new.
+fn say_trouble<E: ByteOut>(
+    alloc: Global,
+    show: &Show,
+    counts: &Counts,
+    seen: &mut Seen,
+    err: &mut E,
+) -> Result<(), AllocError> {
+    let trouble = counts.trouble();
+    if (trouble == Trouble::None) == (seen.trouble == Trouble::None) {
+        return Ok(());
+    }
+    seen.trouble = trouble;
+    let text = trouble_text(alloc, show.address.as_str(), trouble, show.over)?;
+    let _ = write_all(err, &text);
+    Ok(())
+}
+
+// Writes how far the run is.
+fn say_line<R: Clock, E: ByteOut>(
+    rt: &R,
+    alloc: Global,
+    show: &Show,
+    counts: &Counts,
+    seen: &Seen,
+    err: &mut E,
+) -> Result<(), AllocError> {
+    let progress = progress_of(counts, show.size, idle(rt, seen));
+    let text = written_text(alloc, &progress, show.over)?;
+    let _ = write_all(err, &text);
+    Ok(())
+}
+
+// Says what is new of the connections, and writes the last line, which stays.
+fn say_last<R: Clock, E: ByteOut>(
+    rt: &R,
+    alloc: Global,
+    show: &Show,
+    counts: &Counts,
+    seen: &mut Seen,
+    err: &mut E,
+) -> Result<(), AllocError> {
+    say_trouble(alloc, show, counts, seen, err)?;
+    if !show.lines {
+        return Ok(());
+    }
+    see_answers(rt, counts, seen);
+    say_line(rt, alloc, show, counts, seen, err)?;
+    if show.over {
+        let _ = write_all(err, b"\n");
+    }
+    Ok(())
+}
+
+// How many seconds ago the last answer was seen.
+fn idle<R: Clock>(rt: &R, seen: &Seen) -> Option<u64> {
+    let spent = seen.answered?.elapsed(rt).ok()?;
+    Some(spent.as_secs())
+}
+
+// What the counts are now.
+fn progress_of(counts: &Counts, size: Option<u64>, idle: Option<u64>) -> Progress {
+    let ended = counts.ended();
+    let requests = counts.requests();
+    Progress {
+        read: counts.read(),
+        size,
+        requests,
+        operations: counts.operations(),
+        settled: counts.settled(),
+        repeats: counts.repeats(),
+        out: requests.saturating_sub(ended),
+        idle,
+    }
+}

@@ -1,0 +1,115 @@
+//! A wire that is counted.
+ghost use Rattle.std.specs.Prelude.{◌≡◌};
+
+use crate::counts::{Counts, Shared};
+use relay_action::Write;
+use relay_lane::{Wire, WireFault, WireReply};
+use std::alloc::Global;
+use std::marker::Model;
+
+/// A wire that stands around another, passes on all that goes through it, and counts requests and operations
+/// where there is something to count by. It keeps the promises of the other, and contracts see the other.
+#[derive(Drop)]
+pub struct CountedWire<W> {
+    wire: W,
+    counts: Option<Shared>,
+    // The requests that are out and how many operations each has. Where there was no memory for one it is
+    // missing, and counts as of none.
+    sizes: Vec<(u64, u64)>,
+}
+
+impl<W> Model for CountedWire<W> {
+    ghost Value = { W };
+
+    ghost view = { λ w. w.wire };
+}
+
+impl<W> CountedWire<W> {
+    /// What sends by this wire, and counts by these counts. It takes no memory.
+    pub fn new(alloc: Global, wire: W, counts: Option<Shared>) -> CountedWire<W>
+        ensures { result ≡ wire }
+    {
+        CountedWire {
+            wire,
+            counts,
+            sizes: Vec::new(alloc),
+        }
+    }
+}
+
+impl<W: Wire> Wire for CountedWire<W> {
+    ghost out = { λ w. W.out w };
+
+    ghost describes = { λ w. W.describes w };
+
+    ghost fits = { λ w o. W.fits w o };
+
+    fn send(&mut self, number: u64, writes: &[Write]) -> Result<(), WireFault> {
+        let result = self.wire.send(number, writes);
+        if let Some(counts) = &self.counts {
+            count_sent(
+                counts,
+                &mut self.sizes,
+                number,
+                writes.len() as u64,
+                result.is_ok(),
+            );
+        }
+        result
+    }
+
+    fn receive(&mut self, number: u64) -> Result<WireReply, WireFault> {
+        let result = self.wire.receive(number);
+        if let Some(counts) = &self.counts {
+            count_received(counts, take_size(&mut self.sizes, number), &result);
+        }
+        result
+    }
+}
+
+// Counts a request that was sent, or lost at once.
+fn count_sent(
+    counts: &Counts,
+    sizes: &mut Vec<(u64, u64)>,
+    number: u64,
+    operations: u64,
+    sent: bool,
+) {
+    counts.add_request(operations);
+    if sent {
+        let _ = sizes.push((number, operations));
+    } else {
+        counts.add_loss(operations);
+    }
+}
+
+// How many operations the request has that is out with this number.
+fn take_size(sizes: &mut Vec<(u64, u64)>, number: u64) -> u64 {
+    match sizes.iter().position(|size| size.0 == number) {
+        Some(place) => sizes.swap_remove(place).1,
+        None => 0,
+    }
+}
+
+// Counts what came for a request of so many operations.
+fn count_received(counts: &Counts, operations: u64, came: &Result<WireReply, WireFault>) {
+    match came {
+        Ok(WireReply::Items(outcomes)) => {
+            let settled = outcomes
+                .iter()
+                .filter(|outcome| !is_busy(outcome.status))
+                .count() as u64;
+            counts.add_answer(settled, operations.saturating_sub(settled));
+        }
+        Ok(WireReply::Whole(status)) if is_busy(*status) || (*status == 413 && operations > 1) => {
+            counts.add_answer(0, operations);
+        }
+        Ok(WireReply::Whole(_)) => counts.add_answer(operations, 0),
+        Err(_) => counts.add_loss(operations),
+    }
+}
+
+// Whether a status asks to send again.
+fn is_busy(status: u16) -> bool {
+    status == 429 || status == 503
+}

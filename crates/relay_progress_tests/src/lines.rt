@@ -1,0 +1,110 @@
+//! What is said of the counts.
+use relay_progress::{Progress, Trouble, trouble_text, written_text};
+use std::alloc::Global;
+
+// One and a half of 64 KiB, of which two thirds were read.
+const SOME: Progress = Progress {
+    read: 65_536,
+    size: Some(98_304),
+    requests: 12,
+    operations: 1_500,
+    settled: 1_400,
+    repeats: 7,
+    out: 2,
+    idle: Some(3),
+};
+
+const NONE: Progress = Progress {
+    read: 0,
+    size: None,
+    requests: 0,
+    operations: 0,
+    settled: 0,
+    repeats: 0,
+    out: 0,
+    idle: None,
+};
+
+const EMPTY: Progress = Progress {
+    size: Some(0),
+    ..NONE
+};
+
+// A file that has grown since its size was asked for.
+const MORE: Progress = Progress {
+    read: 18_446_744_073_709_551_615,
+    size: Some(9_223_372_036_854_775_807),
+    ..NONE
+};
+
+// The counts, whether they are written over what stands there, and the text.
+const ROWS: &[(&Progress, bool, &[u8])] = &[
+    (
+        &SOME,
+        false,
+        b"read 65536 of 98304 bytes (66 %), sent 1500 operations in 12 requests, settled 1400, repeats 7, out 2, last answer 3 s ago\n",
+    ),
+    (
+        &NONE,
+        true,
+        b"\rread 0 bytes, sent 0 operations in 0 requests, settled 0, repeats 0, out 0, no answer yet\x1b[K",
+    ),
+    (
+        &EMPTY,
+        false,
+        b"read 0 of 0 bytes (100 %), sent 0 operations in 0 requests, settled 0, repeats 0, out 0, no answer yet\n",
+    ),
+    (
+        &MORE,
+        false,
+        b"read 18446744073709551615 of 9223372036854775807 bytes (100 %), sent 0 operations in 0 requests, settled 0, repeats 0, out 0, no answer yet\n",
+    ),
+];
+
+fn is_written(alloc: Global, progress: &Progress, over: bool, wanted: &[u8]) -> bool {
+    match written_text(alloc, progress, over) {
+        Ok(text) => text.as_slice() == wanted,
+        Err(_) => false,
+    }
+}
+
+#[test]
+fn says_how_far_it_is(rt: HostRuntime) {
+    for (progress, over, wanted) in ROWS {
+        assert!(rt; is_written(rt.alloc(), *progress, *over, *wanted));
+    }
+}
+
+// What is known of the connections, whether it is written over what stands there, and the text.
+const TROUBLES: &[(Trouble, bool, &[u8])] = &[
+    (
+        Trouble::Refused,
+        false,
+        b"[::1]:9200: connection refused, trying again\n",
+    ),
+    (
+        Trouble::TimedOut,
+        true,
+        b"\r\x1b[K[::1]:9200: connection timed out, trying again\n",
+    ),
+    (
+        Trouble::Other,
+        false,
+        b"[::1]:9200: no connection, trying again\n",
+    ),
+    (Trouble::None, false, b"[::1]:9200: connected\n"),
+];
+
+fn is_told(alloc: Global, trouble: Trouble, over: bool, wanted: &[u8]) -> bool {
+    match trouble_text(alloc, "[::1]:9200", trouble, over) {
+        Ok(text) => text.as_slice() == wanted,
+        Err(_) => false,
+    }
+}
+
+#[test]
+fn says_what_becomes_of_connections(rt: HostRuntime) {
+    for (trouble, over, wanted) in TROUBLES {
+        assert!(rt; is_told(rt.alloc(), *trouble, *over, *wanted));
+    }
+}

@@ -1,0 +1,6 @@
+pub mod Lines
+pub mod Taking
+pub mod Counting
+pub mod Naming
+pub mod Picked
+pub mod ReadBack

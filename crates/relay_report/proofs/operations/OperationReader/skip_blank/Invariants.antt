@@ -1,0 +1,16 @@
+use Rattle.std.proofs.Common.{◌≡◌, ◌+◌}
+use Rattle.std.specs.Io.KnownBytes.{prepend_known}
+use Rattle.relay_ndjson.specs.Lines.{TakesBlank}
+use Rattle.relay_ndjson.specs.Operations.{counted}
+use Rattle.relay_report.proofs.operations.OperationReader.skip_blank.Given as goal
+
+-- so many blank lines were taken
+abbrev pub invariant-loop-blank : goal.invariant-loop-blank
+invariant-loop-blank g l =
+    let left = g.R.ByteStream.left in
+    let failed = g.R.ByteStream.failed in
+    record {
+      blank : TakesBlank l.blank (prepend_known l.fn.self.lines.held (left l.fn.reader)) (prepend_known l.self.lines.held (left l.reader));
+      count : l.self.lines.count ≡ counted (l.fn.self.lines.count + l.blank);
+      failed : failed l.reader ≡ failed l.fn.reader;
+    }

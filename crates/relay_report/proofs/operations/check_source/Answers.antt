@@ -1,0 +1,5 @@
+use Rattle.relay_report.proofs.Taking.{source_of}
+use Rattle.relay_report.proofs.operations.check_source.Goals as goal
+
+pub returns-clause-ok : goal.returns-clause-ok
+returns-clause-ok c = source_of c.args.line.now c.in-Ok.action c.in-Ok.ensures.ok.1

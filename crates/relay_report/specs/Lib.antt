@@ -1,0 +1,10 @@
+pub mod Reports
+pub mod Members
+pub mod Operations
+pub mod Steps
+pub mod Naming
+pub mod Names
+pub mod Picks
+pub mod Picking
+pub mod Missing
+pub mod Laws

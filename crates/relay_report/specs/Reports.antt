@@ -1,0 +1,52 @@
+-- Reports as NDJSON: an object a line, with its keys in byte order and no space.
+use Rattle.std.specs.Prelude.{ℕ, List, [], ◌∷◌, ◌++◌, ◌==◌, if◌then◌else◌, codes}
+use Rattle.serde_json.specs.Data.{Data, string, number, unsigned, object, Members, member, no_members}
+use Rattle.serde_json.specs.Written.{compact_text}
+use Rattle.relay_results.specs.declared.cause.Cause.{Cause}
+use Rattle.relay_results.specs.declared.cause.Cause.TheVariants as cause
+use Rattle.relay_core.specs.declared.report.Report.{Report}
+
+-- the name of a cause
+abbrev pub cause_name : Cause → List ℕ
+cause_name (cause.Refused status kind) = codes "Refused"
+cause_name (cause.Request status) = codes "Request"
+cause_name cause.Conflict = codes "Conflict"
+cause_name (cause.GaveUp sends) = codes "GaveUp"
+cause_name cause.Spent = codes "Spent"
+
+-- `epoch` is left out in epoch 0
+abbrev pub epoch_member : ℕ → Members → Members
+epoch_member epoch more = if epoch == 0 then more else member (codes "epoch") (number (unsigned epoch)) more
+
+-- `kind`, the type of the item's error, is a member where the item was refused
+abbrev pub kind_member : Cause → Members → Members
+kind_member (cause.Refused status kind) more = member (codes "kind") (string kind) more
+kind_member other more = more
+
+-- `sends` is a member where the tries were used up
+abbrev pub sends_member : Cause → Members → Members
+sends_member (cause.GaveUp sends) more = member (codes "sends") (number (unsigned sends)) more
+sends_member other more = more
+
+-- `status` is a member where an item or a whole request was refused
+abbrev pub status_member : Cause → Members → Members
+status_member (cause.Refused status kind) more = member (codes "status") (number (unsigned status)) more
+status_member (cause.Request status) more = member (codes "status") (number (unsigned status)) more
+status_member other more = more
+
+-- what the line of a report says
+abbrev pub report_data : Report → Data
+report_data r =
+    object (member (codes "cause") (string (cause_name r.cause))
+    (epoch_member r.name.epoch
+    (member (codes "id") (string r.key.id)
+    (member (codes "index") (string r.key.index)
+    (kind_member r.cause
+    (member (codes "number") (number (unsigned r.name.number))
+    (member (codes "producer") (number (unsigned r.name.producer))
+    (sends_member r.cause
+    (status_member r.cause no_members)))))))))
+
+-- the line of a report
+unfoldable pub report_line : Report → List ℕ
+report_line r = compact_text (report_data r) ++ 10 ∷ []

@@ -1,0 +1,102 @@
+//! The operations that a report names.
+ghost use Rattle.std.specs.Prelude.{◌≡◌, ◌+◌, ℕ, [], IfOk, IfErr, length};
+ghost use Rattle.std.specs.Io.KnownBytes.{prepend_known};
+ghost use Rattle.relay_ndjson.specs.Operations.{counted};
+ghost use Rattle.relay_report.specs.Names.{NamesNext, ReadsNames, TakesName, ends_failed, line_fault};
+
+use crate::line::read_name;
+use relay_action::ByteIn;
+use relay_ndjson::{InputFault, LineKind, LineReader};
+use std::alloc::Global;
+use thiserror::Error;
+
+/// An operation that a report names, and the line that names it.
+#[derive(Clone, Copy, Debug, PartialEq, Eq)]
+pub struct Named {
+    /// The producer, from 0.
+    pub producer: u32,
+    /// Which of its operations this is, from 1.
+    pub number: u64,
+    /// The line of the report, from 1.
+    pub line: u64,
+}
+
+/// Why a report was not read to its end.
+#[derive(Clone, Copy, Debug, PartialEq, Eq, Error)]
+pub enum ReportFault {
+    /// The line of this number is not one of a report, or is longer than a line may be.
+    #[error("line {line}: BadLine")]
+    BadLine {
+        /// The line, from 1.
+        line: u64,
+    },
+    /// A read failed. It is not repeated.
+    #[error("read failed")]
+    Read,
+    /// Out of memory.
+    #[error("out of memory")]
+    Memory,
+}
+
+/// Adds the operations that a report names to an empty vector, in the order of its lines. After a fault those of
+/// the lines before it were added.
+pub fn read_names<R: ByteIn>(
+    alloc: Global,
+    report: &mut R,
+    names: &mut Vec<Named>,
+) -> Result<(), ReportFault>
+    requires { names.old.items ≡ [] }
+    ensures names { ReadsNames (R.left report.old) names.new.items result }
+    ensures failed { R.failed report.new ≡ ends_failed result (R.failed report.old) }
+{
+    let mut lines = LineReader::new(alloc);
+    'lines: loop {
+        match next_name(alloc, report, &mut lines)? {
+            Some(name) => match names.push(name) {
+                Ok(()) => {}
+                Err(_) => return Err(ReportFault::Memory),
+            },
+            None => return Ok(()),
+        }
+    }
+}
+
+// The operation that the next line of a report names, or `None` at its end.
+fn next_name<R: ByteIn>(
+    alloc: Global,
+    report: &mut R,
+    lines: &mut LineReader,
+) -> Result<Option<Named>, ReportFault>
+    ensures next { NamesNext (prepend_known lines.old.held (R.left report.old))
+        (prepend_known lines.new.held (R.left report.new)) lines.old.count lines.new.count result }
+    ensures failed { R.failed report.new ≡ ends_failed result (R.failed report.old) }
+{
+    let found = match lines.next(report) {
+        Ok(found) => found,
+        Err(fault) => return Err(line_fault(fault)),
+    };
+    if !found {
+        return Ok(None);
+    }
+    let line = lines.count();
+    match read_name(alloc, lines.text()) {
+        Ok(Some(name)) => Ok(Some(Named {
+            producer: name.producer,
+            number: name.number,
+            line,
+        })),
+        Ok(None) => Err(ReportFault::BadLine { line }),
+        Err(_) => Err(ReportFault::Memory),
+    }
+}
+
+// The fault that a line's is.
+fn line_fault(fault: InputFault) -> ReportFault
+    ensures { result ≡ line_fault fault }
+{
+    match fault.kind {
+        LineKind::Read => ReportFault::Read,
+        LineKind::Memory => ReportFault::Memory,
+        _ => ReportFault::BadLine { line: fault.line },
+    }
+}

@@ -1,0 +1,147 @@
+//! Reports as lines of JSON.
+ghost use Rattle.std.specs.Prelude.{◌≡◌, ◌++◌, IfOk, OnOk, OnErr, flat_map};
+ghost use Rattle.serde_json.specs.Data.{string, number, unsigned, put as with_member};
+ghost use Rattle.serde_json.specs.View.{view, members_view};
+ghost use Rattle.relay_report.specs.Reports.{cause_name, report_data, report_line};
+ghost use Rattle.relay_report.specs.Members.{and_cause, and_document, and_name};
+
+use relay_action::{DocKey, OpName};
+use relay_core::Report;
+use relay_results::Cause;
+use serde_json::{Map, Value, put};
+use std::alloc::{AllocError, Global};
+
+/// Appends the line of a report to a text: its object as compact JSON with its keys in byte order, and a line
+/// feed. `AllocError`: out of memory, and the text is unchanged.
+pub fn append_report(alloc: Global, text: &mut Vec<u8>, report: &Report) -> Result<(), AllocError>
+    ensures ok { OnOk result (text.new.items ≡ text.old.items ++ report_line report.now) }
+    ensures err { OnErr result (text.new.items ≡ text.old.items) }
+{
+    let line = line_of(alloc, report)?;
+    text.extend_from_slice(line.as_slice())
+}
+
+/// The lines of reports, in the order of the slice. `AllocError`: out of memory.
+pub fn report_text(alloc: Global, reports: &[Report]) -> Result<Vec<u8>, AllocError>
+    ensures { IfOk result (λ text. text.items ≡ flat_map report_line reports.now) }
+{
+    let mut text = Vec::new(alloc);
+    append_reports(alloc, &mut text, reports)?;
+    Ok(text)
+}
+
+// Appends the lines of reports.
+fn append_reports(alloc: Global, text: &mut Vec<u8>, reports: &[Report]) -> Result<(), AllocError>
+    ensures { OnOk result (text.new.items ≡ text.old.items ++ flat_map report_line reports.now) }
+{
+    'reports: for report in reports {
+        append_report(alloc, text, report)?;
+    }
+    Ok(())
+}
+
+// The line of a report.
+#[tactic(auto, using(crate::proofs::Lines::line_text))]
+fn line_of(alloc: Global, report: &Report) -> Result<Vec<u8>, AllocError>
+    ensures { IfOk result (λ line. line.items ≡ report_line report.now) }
+{
+    let value = report_value(alloc, report)?;
+    let mut line = value.to_string(alloc)?.into_bytes();
+    line.push(b'\n')?;
+    Ok(line)
+}
+
+/// What the line of a report says.
+pub(crate) fn report_value(alloc: Global, report: &Report) -> Result<Value, AllocError>
+    ensures { IfOk result (λ v. view v ≡ report_data report.now) }
+{
+    let mut members = Map::new(alloc);
+    add_name(alloc, &mut members, report.name)?;
+    add_document(alloc, &mut members, &report.key)?;
+    add_cause(alloc, &mut members, &report.cause)?;
+    Ok(Value::Object(members))
+}
+
+// Adds a member whose value is a text.
+fn add_text(
+    alloc: Global,
+    members: &mut Map<String, Value>,
+    name: &str,
+    text: &str,
+) -> Result<(), AllocError>
+    ensures { OnOk result (members_view members.new.entries
+        ≡ with_member name.now (string text.now) (members_view members.old.entries)) }
+{
+    let value = Value::try_from_str(alloc, text)?;
+    put(members, alloc, name, value)
+}
+
+// Adds a member whose value is a number.
+fn add_number(
+    alloc: Global,
+    members: &mut Map<String, Value>,
+    name: &str,
+    value: u64,
+) -> Result<(), AllocError>
+    ensures { OnOk result (members_view members.new.entries
+        ≡ with_member name.now (number (unsigned value)) (members_view members.old.entries)) }
+{
+    put(members, alloc, name, Value::from(value))
+}
+
+// Adds the members of a name. Epoch 0 has none.
+fn add_name(alloc: Global, members: &mut Map<String, Value>, name: OpName) -> Result<(), AllocError>
+    ensures { OnOk result (members_view members.new.entries ≡ and_name name (members_view members.old.entries)) }
+{
+    add_number(alloc, members, "number", name.number)?;
+    add_number(alloc, members, "producer", name.producer as u64)?;
+    if name.epoch == 0 {
+        return Ok(());
+    }
+    add_number(alloc, members, "epoch", name.epoch as u64)
+}
+
+// Adds the members of a document.
+fn add_document(
+    alloc: Global,
+    members: &mut Map<String, Value>,
+    key: &DocKey,
+) -> Result<(), AllocError>
+    ensures { OnOk result (members_view members.new.entries ≡ and_document key.now (members_view members.old.entries)) }
+{
+    add_text(alloc, members, "id", key.id())?;
+    add_text(alloc, members, "index", key.index())
+}
+
+/// The name of a cause.
+pub(crate) fn cause_name(cause: &Cause) -> &'static str
+    ensures { result.now ≡ cause_name cause.now }
+{
+    match cause {
+        Cause::Refused { .. } => "Refused",
+        Cause::Request { .. } => "Request",
+        Cause::Conflict => "Conflict",
+        Cause::GaveUp { .. } => "GaveUp",
+        Cause::Spent => "Spent",
+    }
+}
+
+// Adds the name of a cause and what it tells.
+fn add_cause(
+    alloc: Global,
+    members: &mut Map<String, Value>,
+    cause: &Cause,
+) -> Result<(), AllocError>
+    ensures { OnOk result (members_view members.new.entries ≡ and_cause cause.now (members_view members.old.entries)) }
+{
+    add_text(alloc, members, "cause", cause_name(cause))?;
+    match cause {
+        Cause::Refused { status, kind } => {
+            add_text(alloc, members, "kind", kind.as_str())?;
+            add_number(alloc, members, "status", *status as u64)
+        }
+        Cause::Request { status } => add_number(alloc, members, "status", *status as u64),
+        Cause::GaveUp { sends } => add_number(alloc, members, "sends", *sends as u64),
+        Cause::Conflict | Cause::Spent => Ok(()),
+    }
+}

@@ -1,0 +1,112 @@
+//! Lines of reports: each cause, epochs, texts with escapes, and the order of several.
+use relay_action::{DocKey, OpName, Text};
+use relay_core::Report;
+use relay_report::report_text;
+use relay_results::Cause;
+use std::alloc::Global;
+
+// A report to be made: its name as epoch, producer and number, its document, and the cause by its name, with its
+// number and its text.
+type Row = (
+    (u32, u32, u64),
+    (&'static str, &'static str),
+    (&'static str, u32, &'static str),
+);
+
+// The cause of a name. `None`: it has none, or allocation failed.
+fn cause_of(alloc: Global, cause: (&str, u32, &str)) -> Option<Cause> {
+    let (name, number, text) = cause;
+    match name {
+        "Refused" => Some(Cause::Refused {
+            status: number.min(599) as u16,
+            kind: Text::new(alloc, text).ok()?,
+        }),
+        "Request" => Some(Cause::Request {
+            status: number.min(599) as u16,
+        }),
+        "Conflict" => Some(Cause::Conflict),
+        "GaveUp" => Some(Cause::GaveUp { sends: number }),
+        "Spent" => Some(Cause::Spent),
+        _ => None,
+    }
+}
+
+// The report of a row.
+fn report_of(alloc: Global, row: &Row) -> Option<Report> {
+    let ((epoch, producer, number), (index, id), cause) = *row;
+    Some(Report {
+        name: OpName {
+            epoch,
+            producer,
+            number,
+        },
+        key: DocKey::new(alloc, index, id).ok()?,
+        cause: cause_of(alloc, cause)?,
+    })
+}
+
+// Whether the reports of rows are written as this text.
+fn writes(alloc: Global, rows: &[Row], text: &[u8]) -> Option<bool> {
+    let mut reports = Vec::new(alloc);
+    for row in rows {
+        reports.push(report_of(alloc, row)?).ok()?;
+    }
+    let found = report_text(alloc, &reports).ok()?;
+    Some(found.as_slice() == text)
+}
+
+const ONE: &[(Row, &[u8])] = &[
+    (
+        (
+            (0, 0, 17),
+            ("books", "emma"),
+            ("Refused", 400, "mapper_parsing_exception"),
+        ),
+        b"{\"cause\":\"Refused\",\"id\":\"emma\",\"index\":\"books\",\"kind\":\"mapper_parsing_exception\",\"number\":17,\"producer\":0,\"status\":400}\n",
+    ),
+    (
+        (
+            (3, 15, 1_099_511_627_776),
+            ("books", "emma"),
+            ("Request", 413, ""),
+        ),
+        b"{\"cause\":\"Request\",\"epoch\":3,\"id\":\"emma\",\"index\":\"books\",\"number\":1099511627776,\"producer\":15,\"status\":413}\n",
+    ),
+    (
+        ((4_194_303, 1, 2), ("b", "a b"), ("Conflict", 0, "")),
+        b"{\"cause\":\"Conflict\",\"epoch\":4194303,\"id\":\"a b\",\"index\":\"b\",\"number\":2,\"producer\":1}\n",
+    ),
+    (
+        ((0, 1, 3), ("b", "a\"\n\\\x01"), ("GaveUp", 8, "")),
+        b"{\"cause\":\"GaveUp\",\"id\":\"a\\\"\\n\\\\\\u0001\",\"index\":\"b\",\"number\":3,\"producer\":1,\"sends\":8}\n",
+    ),
+    (
+        ((1, 0, 4), ("b", "x"), ("Spent", 0, "")),
+        b"{\"cause\":\"Spent\",\"epoch\":1,\"id\":\"x\",\"index\":\"b\",\"number\":4,\"producer\":0}\n",
+    ),
+    (
+        ((0, 0, 5), ("b", "x"), ("Refused", 404, "")),
+        b"{\"cause\":\"Refused\",\"id\":\"x\",\"index\":\"b\",\"kind\":\"\",\"number\":5,\"producer\":0,\"status\":404}\n",
+    ),
+];
+
+#[test]
+fn each_cause(rt: HostRuntime) {
+    for (row, text) in ONE {
+        assert!(rt; writes(rt.alloc(), &[*row], *text) == Some(true));
+    }
+}
+
+const TWO: &[Row] = &[
+    ((0, 1, 9), ("b", "x"), ("Spent", 0, "")),
+    ((0, 0, 2), ("b", "y"), ("Conflict", 0, "")),
+];
+
+const TWO_LINES: &[u8] =
+    b"{\"cause\":\"Spent\",\"id\":\"x\",\"index\":\"b\",\"number\":9,\"producer\":1}\n{\"cause\":\"Conflict\",\"id\":\"y\",\"index\":\"b\",\"number\":2,\"producer\":0}\n";
+
+#[test]
+fn in_the_order_given(rt: HostRuntime) {
+    assert!(rt; writes(rt.alloc(), TWO, TWO_LINES) == Some(true));
+    assert!(rt; writes(rt.alloc(), &[], b"") == Some(true));
+}

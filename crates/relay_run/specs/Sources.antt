@@ -1,0 +1,22 @@
+-- What the operations of a producer are read from.
+use Rattle.std.specs.Prelude.{ℕ, ◌==◌, List, Bool, true, false, not, ◌&&◌, Option, None, Some, codes, bytes_eq, count_by}
+use Rattle.relay_run.specs.declared.source.Source.{Source}
+use Rattle.relay_run.specs.declared.source.Source.TheVariants as source
+
+-- the name of standard input
+abbrev pub standard_name : List ℕ
+standard_name = codes "-"
+
+-- whether it is standard input
+abbrev pub is_standard : Source → Bool
+is_standard (source.File f) = false
+is_standard (source.Standard s) = true
+
+-- how many of these names are this one
+abbrev pub named_count : List ℕ → List (List ℕ) → ℕ
+named_count wanted names = count_by (λ name. bytes_eq name wanted) names
+
+-- whether a path, if there is one, is none of these and not that of standard input
+abbrev pub stands_apart : Option (List ℕ) → List (List ℕ) → Bool
+stands_apart None names = true
+stands_apart (Some path) names = not (bytes_eq path standard_name) && (named_count path names == 0)

@@ -1,0 +1,59 @@
+//! The file that the reports of a run are saved in.
+ghost use Rattle.std.specs.Prelude.{◌≡◌, IfOk};
+ghost use Rattle.relay_run.specs.Saying.{SavesReports, file_failed_text};
+
+use crate::faults::worse;
+use crate::files::say;
+use relay_action::ByteOut;
+use relay_commands::exit::Exit;
+use relay_core::Report;
+use relay_report::report_text;
+use std::alloc::{AllocError, Global};
+
+/// Saves reports in the file of this name, as an object a line, or says that a write of it failed. How the
+/// program ends that would have ended with `exit`. `AllocError`: there was no memory for the text.
+pub fn save_reports<P: ByteOut, E: ByteOut>(
+    alloc: Global,
+    exit: Exit,
+    name: &str,
+    reports: &[Report],
+    file: &mut P,
+    err: &mut E,
+) -> Result<Exit, AllocError>
+    ensures { IfOk result (λ end. SavesReports name.now reports.now exit
+        (P.written file.old, P.failed file.old) (P.written file.new, P.failed file.new)
+        (E.written err.old, E.failed err.old) (E.written err.new, E.failed err.new) end) }
+{
+    let text = report_text(alloc, reports)?;
+    if say(file, &text) {
+        return Ok(exit);
+    }
+    let fault = failed_text(alloc, name, b"write")?;
+    let _ = say(err, &fault);
+    Ok(worse(exit, Exit::Device))
+}
+
+/// Says that the file of this name could not be made. How the program ends.
+pub(crate) fn say_not_made<E: ByteOut>(
+    alloc: Global,
+    name: &str,
+    err: &mut E,
+) -> Result<Exit, AllocError>
+    ensures { IfOk result (λ end. end ≡ Exit.Device) }
+{
+    let fault = failed_text(alloc, name, b"create")?;
+    let _ = say(err, &fault);
+    Ok(Exit::Device)
+}
+
+// What is said of a file on which this failed.
+fn failed_text(alloc: Global, name: &str, what: &[u8]) -> Result<Vec<u8>, AllocError>
+    ensures { IfOk result (λ text. text.items ≡ file_failed_text name.now what.now) }
+{
+    let mut text = Vec::new(alloc);
+    text.extend_from_slice(name.as_bytes())?;
+    text.extend_from_slice(b": ")?;
+    text.extend_from_slice(what)?;
+    text.extend_from_slice(b" failed\n")?;
+    Ok(text)
+}
