@@ -1,7 +1,7 @@
-// The two ends that every relay needs, in plain Rust: `bulk serve NANOSECONDS [MOST]` is an index that answers each bulk
-// request with success, at once or after that long for each operation, and one whose body has more than MOST bytes with
-// 413; `bulk ready PORT FILE..` sends requests that stand ready in files, one connection a file, and reads each reply to
-// its end.
+// The two ends that every relay needs, in plain Rust: `bulk serve NANOSECONDS [MOST [MICROSECONDS]]` is an index that
+// answers each bulk request with success, at once or after that long for each operation and for each request, and one
+// whose body has more than MOST bytes with 413; `bulk ready PORT FILE..` sends requests that stand ready in files, one
+// connection a file, and reads each reply to its end.
 use std::fs::File;
 use std::io::{self, BufRead, BufReader, Write};
 use std::net::{TcpListener, TcpStream};
@@ -94,11 +94,39 @@ fn about(reply: &mut Vec<u8>) -> io::Result<()> {
     write!(reply, "{{\"version\":{{\"number\":\"7.17.6\",\"build_flavor\":\"default\"}},\"tagline\":\"You Know, for Search\",\"answered\":{count}}}")
 }
 
-fn serve_connection(stream: TcpStream, nanoseconds: u64, most: usize) -> io::Result<()> {
+// How long the server takes.
+#[derive(Clone, Copy)]
+struct Pace {
+    // For an operation.
+    nanoseconds: u64,
+    // For a request, besides.
+    microseconds: u64,
+}
+
+// What a connection has left to wait, in nanoseconds. What one sleep took too long the next takes less, so that the
+// server takes just its time, however coarse the system's timers are.
+#[derive(Default)]
+struct Debt(i64);
+
+impl Debt {
+    fn pay(&mut self, nanoseconds: u64, start: Instant) {
+        self.0 += nanoseconds as i64 - start.elapsed().as_nanos() as i64;
+        if self.0 > 0 {
+            let now = Instant::now();
+            thread::sleep(Duration::from_nanos(self.0 as u64));
+            self.0 -= now.elapsed().as_nanos() as i64;
+        } else if nanoseconds == 0 {
+            self.0 = 0;
+        }
+    }
+}
+
+fn serve_connection(stream: TcpStream, pace: Pace, most: usize) -> io::Result<()> {
     stream.set_nodelay(true)?;
     let mut input = BufReader::with_capacity(262_144, stream.try_clone()?);
     let mut output = stream;
     let (mut message, mut line, mut reply) = (Vec::new(), Vec::new(), Vec::new());
+    let mut debt = Debt::default();
     while let Some(head) = read_message(&mut input, &mut message)? {
         let start = Instant::now();
         let mut status = "200 OK";
@@ -109,8 +137,7 @@ fn serve_connection(stream: TcpStream, nanoseconds: u64, most: usize) -> io::Res
             reply.clear();
         } else {
             let count = answer(&message[head..], &mut line, &mut reply)?;
-            let due = Duration::from_nanos(count * nanoseconds);
-            thread::sleep(due.saturating_sub(start.elapsed()));
+            debt.pay(count * pace.nanoseconds + pace.microseconds * 1000, start);
             ANSWERED.fetch_add(count, Ordering::SeqCst);
         }
         let mut text = format!("HTTP/1.1 {status}\r\nX-Elastic-Product: Elasticsearch\r\nContent-Type: application/json\r\nContent-Length: {}\r\n\r\n", reply.len()).into_bytes();
@@ -121,12 +148,12 @@ fn serve_connection(stream: TcpStream, nanoseconds: u64, most: usize) -> io::Res
 }
 
 // Serves until it is stopped. Its one line is its port.
-fn serve(nanoseconds: u64, most: usize) -> io::Result<()> {
+fn serve(pace: Pace, most: usize) -> io::Result<()> {
     let listener = TcpListener::bind("127.0.0.1:0")?;
     println!("{}", listener.local_addr()?.port());
     for stream in listener.incoming() {
         let stream = stream?;
-        thread::spawn(move || serve_connection(stream, nanoseconds, most));
+        thread::spawn(move || serve_connection(stream, pace, most));
     }
     Ok(())
 }
@@ -165,9 +192,15 @@ fn ready(port: &str, paths: &[String]) -> io::Result<()> {
 fn main() -> io::Result<()> {
     let words: Vec<String> = std::env::args().skip(1).collect();
     match words.split_first().map(|(command, rest)| (command.as_str(), rest)) {
-        Some(("serve", [nanoseconds])) => serve(nanoseconds.parse().expect("nanoseconds"), usize::MAX),
-        Some(("serve", [nanoseconds, most])) => serve(nanoseconds.parse().expect("nanoseconds"), most.parse().expect("bytes")),
+        Some(("serve", [nanoseconds, more @ ..])) if more.len() <= 2 => {
+            let number = |at: usize, default: u64| more.get(at).map_or(default, |word| word.parse().expect("a number"));
+            let pace = Pace {
+                nanoseconds: nanoseconds.parse().expect("nanoseconds"),
+                microseconds: number(1, 0),
+            };
+            serve(pace, number(0, u64::MAX) as usize)
+        }
         Some(("ready", [port, paths @ ..])) => ready(port, paths),
-        _ => panic!("usage: bulk serve NANOSECONDS [MOST], bulk ready PORT FILE.."),
+        _ => panic!("usage: bulk serve NANOSECONDS [MOST [MICROSECONDS]], bulk ready PORT FILE.."),
     }
 }

@@ -1,7 +1,7 @@
 """Measures the project's programs beside others, all in one run. Only the ratios count.
 
-`python3 bench/run.py` measures all parts; words after it name those to be measured: lines, apply, queue,
-replies, lane, http, world, run. `--operations N` gives `run` so many operations in place of 50,000.
+`python3 bench/run.py` measures all parts; words after it name those to be measured: lines, pick, apply,
+queue, replies, lane, http, world, run. `--operations N` gives `run` so many operations in place of 50,000.
 """
 import argparse
 import os
@@ -12,6 +12,7 @@ import apply_bench
 import http_bench
 import lane_bench
 import lines_bench
+import pick_bench
 import queue_bench
 import replies_bench
 import run_bench
@@ -24,6 +25,7 @@ RELAY_BENCH = os.path.join(TOP, "crates/relay_bench/out/relay_bench")
 # Each part: its name, the program that it runs and how that is built, and its measurement.
 PARTS = [
     ("lines", RELAY, "`make build`", lines_bench.measure),
+    ("pick", RELAY, "`make build`", pick_bench.measure),
     ("apply", RELAY, "`make build`", apply_bench.measure),
     ("queue", RELAY_BENCH, "`rt run` in crates/relay_bench", queue_bench.measure),
     ("replies", RELAY_BENCH, "`rt run` in crates/relay_bench", replies_bench.measure),

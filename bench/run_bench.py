@@ -28,6 +28,11 @@ GOALS = {"ready bodies": 1.5, "plain Rust": 1.0, "streaming_bulk": 1.0}
 # The most bytes that a server with a limit takes, the bytes of a source that it is measured with, and how many times the
 # server without a limit it may cost.
 MOST, LARGE, HALVES_GOAL = 60_000, 1000, 1.5
+# A server that takes so many microseconds for each request, whose requests have so many operations; the lanes and the
+# requests in flight that it is measured with, and how many times faster the most in flight are to be than one.
+SLOW, FEW, FLIGHTS, FLIGHTS_GOAL = 5000, 100, ((1, 1), (1, 4), (1, 8), (4, 1), (4, 8)), 5.0
+# How much of the time without it a run with --progress may take.
+PROGRESS_GOAL = 1.03
 # By how many KiB ten times the operations may raise the memory.
 GROWTH = 2048
 # Interpreters that may have the helpers: this one, and the one that Debian's package is for.
@@ -37,8 +42,8 @@ PYTHONS = (sys.executable, "/usr/bin/python3")
 class Server:
     """A running `bulk serve`."""
 
-    def __init__(self, bulk, nanoseconds, most=None):
-        words = [str(nanoseconds)] + ([] if most is None else [str(most)])
+    def __init__(self, bulk, nanoseconds, most=None, microseconds=0):
+        words = [str(nanoseconds), str(2**40 if most is None else most), str(microseconds)]
         self.process = subprocess.Popen([bulk, "serve", *words], stdout=subprocess.PIPE, text=True)
         self.port = self.process.stdout.readline().strip()
 
@@ -57,14 +62,14 @@ class Server:
         self.process.communicate()
 
 
-def once(command):
+def once(command, stderr=None):
     """Of one run the wall seconds, the seconds of processor time, the peak memory in KiB, and what it printed.
 
     The peak is sampled while the process runs: the one that the system tells of a process that ended is never below
     that of the process that started it."""
     with tempfile.TemporaryFile("w+") as out:
         start = time.monotonic()
-        process = subprocess.Popen(command, stdin=subprocess.DEVNULL, stdout=out)
+        process = subprocess.Popen(command, stdin=subprocess.DEVNULL, stdout=out, stderr=stderr)
         peak, pid = 0, 0
         while pid == 0:
             peak = max(peak, peak_of(process.pid))
@@ -211,6 +216,51 @@ def measure_halves(folder, relay, tools, operations):
         print(line)
 
 
+def measure_flights(folder, relay, tools, operations):
+    """A server that takes its time for each request, whatever it has: several in flight beside one."""
+    paths = make_files(folder, 1, operations, SIZES[0])
+    walls = {shape: [] for shape in FLIGHTS}
+    if tools["python"]:
+        walls["parallel_bulk"] = []
+    with Server(tools["bulk"], 0, None, SLOW) as server:
+        for _ in range(TURNS):
+            for shape, of in walls.items():
+                if shape == "parallel_bulk":
+                    command = [tools["python"], os.path.join(plain_rust.BENCH, "streaming_bulk.py"), server.port, *paths, "--parallel", "8", str(FEW)]
+                else:
+                    command = [relay, "run", "--to", "127.0.0.1:%s" % server.port, "--count", str(FEW), "--capacity", str(8 * FEW), "--lanes", str(shape[0]), "--flying", str(shape[1]), *paths]
+                wall, _, _, told = once(command)
+                if shape != "parallel_bulk" and told != "applied %d already 0 reported 0\n" % operations:
+                    sys.exit("relay run with %d in flight: %s" % (shape[1], told[-300:]))
+                of.append(wall)
+    print("run: 1 file, %d operations of %d bytes in requests of %d, a server that takes %d milliseconds a request; medians of %d turns" % (operations, SIZES[0], FEW, SLOW // 1000, TURNS))
+    for shape, of in walls.items():
+        times = plain_rust.median([one / own for one, own in zip(walls[1, 1], of)])
+        name = "parallel_bulk of Python, 8 threads" if shape == "parallel_bulk" else "%s of %d in flight" % (counted(shape[0], "lane"), shape[1])
+        line = "  %-34s %9.0f operations/s, %.1f times one lane of 1 in flight" % (name, operations / plain_rust.median(of), times)
+        if shape == (1, 8):
+            line += " (goal %.1f: %s)" % (FLIGHTS_GOAL, "met" if times >= FLIGHTS_GOAL else "MISSED")
+        print(line)
+
+
+def measure_progress(folder, relay, tools, operations):
+    """What it costs to count a run and to say how far it is."""
+    paths = make_files(folder, 1, operations, SIZES[0])
+    for nanoseconds, called in SERVERS:
+        runs = {(): [], ("--progress",): []}
+        with Server(tools["bulk"], nanoseconds) as server:
+            for _ in range(2 * TURNS):
+                for more, of in runs.items():
+                    of.append(once(run_command(relay, server.port, 1, [*more, *paths]), stderr=subprocess.DEVNULL))
+        if any(run[3] != "applied %d already 0 reported 0\n" % operations for of in runs.values() for run in of):
+            sys.exit("relay run --progress did something else")
+        wall, work = (plain_rust.median([told[at] / silent[at] for silent, told in zip(*runs.values())]) for at in (0, 1))
+        line = "run: %d operations of %d bytes, a server %s, with --progress: %.3f of its time without it, %.3f of the processor's" % (operations, SIZES[0], called, wall, work)
+        if nanoseconds:
+            line += " (goal %.2f: %s)" % (PROGRESS_GOAL, "met" if wall <= PROGRESS_GOAL else "MISSED")
+        print(line)
+
+
 def measure(folder, relay, operations=OPERATIONS):
     tools = {"bulk": plain_rust.build(folder, "bulk"), "forward": plain_rust.build(folder, "forward", "serde_json", "serde/derive"), "python": helpers()}
     if not tools["bulk"]:
@@ -224,5 +274,7 @@ def measure(folder, relay, operations=OPERATIONS):
         for size in SIZES:
             measure_shape(folder, relay, tools, shape, size, operations)
     measure_halves(folder, relay, tools, operations)
+    measure_flights(folder, relay, tools, operations)
+    measure_progress(folder, relay, tools, operations)
     print("run: the memory of 1 file and 1 lane, operations of 100 bytes")
     measure_memory(folder, relay, tools, operations)

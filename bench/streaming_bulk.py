@@ -1,11 +1,13 @@
 """`relay run` as a Python program writes it: `streaming_bulk PORT FILE..` hands the operations of each file to
-`streaming_bulk` of the Elasticsearch helpers, 500 a request, under rising external versions, in a thread a file."""
+`streaming_bulk` of the Elasticsearch helpers, 500 a request, under rising external versions, in a thread a file.
+`streaming_bulk PORT FILE.. --parallel THREADS COUNT` hands them to `parallel_bulk`, COUNT a request: it sends no operation
+again, and the requests of its threads overtake each other."""
 import json
 import sys
 import threading
 
 import elasticsearch
-from elasticsearch.helpers import streaming_bulk
+from elasticsearch.helpers import parallel_bulk, streaming_bulk
 
 
 def operations(path):
@@ -21,16 +23,25 @@ def operations(path):
             yield action
 
 
-def send(port, path, counts):
-    client = elasticsearch.Elasticsearch(["http://127.0.0.1:%s" % port])
-    for done, _ in streaming_bulk(client, operations(path), chunk_size=500, max_retries=7, initial_backoff=0.1, raise_on_error=False):
+def send(port, path, parallel, counts):
+    client = elasticsearch.Elasticsearch(["http://127.0.0.1:%s" % port], maxsize=16)
+    if parallel:
+        threads, count = map(int, parallel)
+        results = parallel_bulk(client, operations(path), thread_count=threads, queue_size=threads, chunk_size=count, raise_on_error=False)
+    else:
+        results = streaming_bulk(client, operations(path), chunk_size=500, max_retries=7, initial_backoff=0.1, raise_on_error=False)
+    for done, _ in results:
         counts.append(done)
 
 
 def main():
     port, *paths = sys.argv[1:]
+    parallel = []
+    if "--parallel" in paths:
+        at = paths.index("--parallel")
+        paths, parallel = paths[:at], paths[at + 1:]
     counts = []
-    threads = [threading.Thread(target=send, args=(port, path, counts)) for path in paths]
+    threads = [threading.Thread(target=send, args=(port, path, parallel, counts)) for path in paths]
     for thread in threads:
         thread.start()
     for thread in threads:
