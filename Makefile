@@ -1,28 +1,18 @@
 # What the repository's reader runs. `rt` is the kit's command.
-.PHONY: demo test build bench
+.PHONY: demo check test build bench
 
-# Builds the program, proved.
+# Builds the program, proved, the crates below it side by side.
 build:
-	@echo "proving and building the program and the libraries that it stands on, one after another; the first time takes three quarters of an hour"
-	@cd crates/relay && rt run -- --version
+	@python3 tests/build.py relay
 
-# Shows the program's main job on the examples.
-demo: build
-	@echo "--- examples/books.ndjson"
-	@cat examples/books.ndjson
-	@echo "--- relay lines --first 7 < examples/books.ndjson"
-	@crates/relay/out/relay lines --first 7 < examples/books.ndjson
-	@echo "--- relay lines < examples/broken.ndjson (a fault on line 4: what stands before it goes out)"
-	@crates/relay/out/relay lines < examples/broken.ndjson || echo "status $$?"
-	@echo "--- relay lines < examples/books.ndjson | relay apply --refuse 2:429"
-	@crates/relay/out/relay lines < examples/books.ndjson | crates/relay/out/relay apply --refuse 2:429
-	@echo "--- examples/lost_reply.script"
-	@cat examples/lost_reply.script
-	@echo "--- relay world < examples/lost_reply.script"
-	@crates/relay/out/relay world < examples/lost_reply.script
-	@echo "--- relay stub --listen 127.0.0.1:19200 --requests 3 --refuse 2:429,3:400 &"
-	@echo "--- relay run --to 127.0.0.1:19200 examples/books.ndjson (item 2 is sent again, item 3 is reported)"
-	@crates/relay/out/relay stub --listen 127.0.0.1:19200 --requests 3 --refuse 2:429,3:400 & sleep 1; crates/relay/out/relay run --to 127.0.0.1:19200 examples/books.ndjson || echo "status $$?"; wait
+# Shows the program's commands on the examples, built without proof.
+demo:
+	@python3 examples/demo.py
+
+# Proves one crate, runs its tests and tries its edits, as the gate does: `make check CRATE=relay_core`.
+check:
+	@test -d "crates/$(CRATE)/src" || { echo "usage: make check CRATE=NAME, where crates/NAME is a crate"; exit 1; }
+	rt ci $(CRATE) $(notdir $(wildcard crates/$(CRATE)_tests))
 
 # The gate, with the processor minutes of each crate, and then from the outside the program that it proved and built.
 test:
@@ -37,6 +27,6 @@ test:
 	python3 tests/run.py crates/relay/out/relay
 
 # Ratios to other programs, measured in one run.
-bench: build
-	@cd crates/relay_bench && rt run
+bench:
+	@python3 tests/build.py relay relay_bench
 	python3 bench/run.py

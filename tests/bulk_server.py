@@ -42,10 +42,8 @@ class Server:
     def __init__(self, plan=lambda number: None, refuse=lambda meta: None, most=2**64, early=None, delay=None):
         self.index, self.plan, self.refuse, self.most, self.early, self.delay = Index(), plan, refuse, most, early, delay
         self.requests, self.lock = 0, threading.Lock()
-        self.listener = socket.create_server(("127.0.0.1", 0))
-        self.port = self.listener.getsockname()[1]
         self.heads, self.streams, self.strays = [], [], []
-        threading.Thread(target=self.accept, daemon=True).start()
+        self.listen(0)
 
     def accept(self):
         while True:
@@ -57,13 +55,27 @@ class Server:
                 self.streams.append(stream)
             threading.Thread(target=self.serve, args=(stream,), daemon=True).start()
 
+    def listen(self, port):
+        self.listener = socket.create_server(("127.0.0.1", port))
+        self.port = self.listener.getsockname()[1]
+        self.acceptor = threading.Thread(target=self.accept, daemon=True)
+        self.acceptor.start()
+
     def close(self):
+        """Stops listening. The thread that accepts ends before its socket is closed: else it could take a connection of the
+        next server, whose socket may get the same number."""
+        self.listener.shutdown(socket.SHUT_RDWR)
+        self.acceptor.join()
         self.listener.close()
+
+    def move(self, port):
+        """Listens at another port."""
+        self.close()
+        self.listen(port)
 
     def rest(self, seconds):
         """Stops listening, drops all connections, and listens again at the same port after so long."""
-        self.listener.shutdown(socket.SHUT_RDWR)
-        self.listener.close()
+        self.close()
         with self.lock:
             streams, self.streams = self.streams, []
         for stream in streams:
@@ -72,8 +84,7 @@ class Server:
             except OSError:
                 pass
         time.sleep(seconds)
-        self.listener = socket.create_server(("127.0.0.1", self.port))
-        threading.Thread(target=self.accept, daemon=True).start()
+        self.listen(self.port)
 
     def serve(self, stream):
         with stream:
@@ -86,6 +97,8 @@ class Server:
                     came += piece
                 head, came = came.split(b"\r\n\r\n", 1)
                 early = self.answers_early(stream)
+                if early == "closes":
+                    return
                 length = int(next(it for it in head.split(b"\r\n") if it.lower().startswith(b"content-length:")).split(b":")[1])
                 if self.early and length > self.most:
                     return self.refuse_early(stream, length - len(came))
@@ -107,8 +120,9 @@ class Server:
             left = left - len(piece) if piece else 0
 
     def answers_early(self, stream):
-        """Whether a request is answered once its head came, and not served."""
-        return False
+        """How a request is answered once its head came and not served: "reads on" or "closes", by what becomes of the
+        connection; None where it is served."""
+        return None
 
     @staticmethod
     def receive(stream):

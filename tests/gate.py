@@ -124,15 +124,21 @@ def tell(table, total):
     print("  %-24s %7.1f %7.1f %7.1f %7.1f" % ("all", *sums, total / 60))
 
 
-def pass_on(said):
-    """Prints each line as it comes, and answers those that tell of a failure, or the last ones where none does."""
+def failures_of(said):
+    """Those lines that tell of a failure, or the last ones where none does."""
     failures, last = [], collections.deque(maxlen=10)
     for line in said:
-        print(line, end="", flush=True)
         last.append(line.rstrip("\n"))
         if FAILURE.search(line) and not EXPECTED.search(line):
             failures.append(line.rstrip("\n"))
-    return failures or list(last)
+    return (failures or list(last))[-SAID_AGAIN:]
+
+
+def pass_on(said):
+    """Prints each line as it comes."""
+    for line in said:
+        print(line, end="", flush=True)
+        yield line
 
 
 def main():
@@ -140,16 +146,17 @@ def main():
     gate = subprocess.Popen(["rt", "ci"], stdout=subprocess.PIPE, stderr=subprocess.STDOUT, text=True, errors="replace")
     watch = Watch(gate.pid)
     watch.start()
-    failures = pass_on(gate.stdout)
+    failures = failures_of(pass_on(gate.stdout))
     status = gate.wait()
     watch.ended.set()
     watch.join()
     tell(watch.table(), watch.total())
     if status:
         print("what failed:")
-        for line in failures[-SAID_AGAIN:]:
+        for line in failures:
             print("  " + line[:300])
     sys.exit(status)
 
 
-main()
+if __name__ == "__main__":
+    main()

@@ -125,23 +125,22 @@ class EarlyReplies(Server):
     """Answers two of three requests with 503 once their heads came: after one of these it reads the body and serves
     the connection on, after the other it closes it at once."""
 
+    def __init__(self):
+        self.begun = 0
+        super().__init__()
+
     def answers_early(self, stream):
         with self.lock:
-            self.requests += 1
-            place = self.requests % 3
+            self.begun += 1
+            place = self.begun % 3
         if place == 0:
-            return False
+            return None
         self.send(stream, 503, b"{}")
-        if place == 1:
-            try:
-                stream.shutdown(socket.SHUT_RDWR)
-            except OSError:
-                pass
-        return True
+        return "closes" if place == 1 else "reads on"
 
 
 def early_replies():
-    """A reply to a request of 2 MB before it is whole, on a connection that goes on and on one that does not."""
+    """A reply to a request of several 100 KB before it is whole, on a connection that goes on and on one that does not."""
     with tempfile.TemporaryDirectory() as folder:
         producers = [[("%d-%d" % (p, n % 7), '{"n":%d,"text":"%s"}' % (n, "x" * 100_000)) for n in range(60)] for p in range(2)]
         files = [written(folder, p, ops) for p, ops in enumerate(producers)]

@@ -7,11 +7,18 @@ import sys
 
 import apply_cases
 import client_cases
+import input_cases
 import lines_cases
 import option_cases
+import pick_cases
+import outage_cases
+import progress_cases
+import proxy_cases
 import reply_cases
+import report_cases
 import restart_cases
 import run_cases
+import several_cases
 import stub_cases
 import too_large_cases
 import world_cases
@@ -21,12 +28,15 @@ from program import RESULTS, check, run
 def command_line():
     version = run(["--version"])
     check("the version", (version.stdout, version.stderr, version.returncode) == (b"relay 0.1.0\n", b"", 0), version)
-    for args in (["--help"], ["help"], ["lines", "--help"], ["help", "lines"], ["apply", "--help"], ["help", "apply"], ["run", "--help"], ["help", "run"], ["stub", "--help"], ["help", "stub"], ["world", "--help"], ["help", "world"]):
+    for args in (["--help"], ["help"], ["lines", "--help"], ["help", "lines"], ["apply", "--help"], ["help", "apply"], ["run", "--help"], ["help", "run"], ["pick", "--help"], ["help", "pick"], ["stub", "--help"], ["help", "stub"], ["world", "--help"], ["help", "world"]):
         done = run(args)
         check("help: %s" % args, done.returncode == 0 and b"Usage: relay" in done.stdout and done.stderr == b"", done)
     kinds = run(["help", "lines"]).stdout
     for kind in (b"LineLong", b"NotJson", b"UnsupportedField", b"SourceNewline", b"VersionsSpent", b"relay lines --index"):
         check("help lines names %s" % kind, kind in kinds)
+    running = run(["help", "run"]).stdout
+    for word in (b"zcat dump.gz | relay run", b"--timeout <SECONDS>", b"--patience <SECONDS>", b"--report <FILE>", b"--progress", b"12.7 s", b"166 s", b"below twice --count", b"1.4 GB a lane", b"prints and saves none"):
+        check("help run names %s" % word, word in running)
     script = run(["help", "world"]).stdout
     for word in (b"world LANES", b"put P INDEX ID index SOURCE", b"reply R N ..", b"restart EPOCH", b"NotAbove", b"NumbersSpent", b"BadLine", b"finished yes"):
         check("help world names %s" % word, word in script)
@@ -55,7 +65,7 @@ def command_line():
 
 
 def main():
-    for group in (*lines_cases.GROUPS, *apply_cases.GROUPS, *stub_cases.GROUPS, *client_cases.GROUPS, *run_cases.GROUPS, *option_cases.GROUPS, *reply_cases.GROUPS, *too_large_cases.GROUPS, *restart_cases.GROUPS, *world_cases.GROUPS, command_line):
+    for group in (*lines_cases.GROUPS, *apply_cases.GROUPS, *stub_cases.GROUPS, *client_cases.GROUPS, *run_cases.GROUPS, *pick_cases.GROUPS, *proxy_cases.GROUPS, *option_cases.GROUPS, *several_cases.GROUPS, *input_cases.GROUPS, *outage_cases.GROUPS, *report_cases.GROUPS, *progress_cases.GROUPS, *reply_cases.GROUPS, *too_large_cases.GROUPS, *restart_cases.GROUPS, *world_cases.GROUPS, command_line):
         group()
     print("%d passed, %d failed" % (RESULTS["passed"], RESULTS["failed"]))
     sys.exit(RESULTS["failed"] != 0)

@@ -281,7 +281,7 @@ def options():
             (["--to", "x:1", "--count", "10001", plain], b"10001"),
             (["--to", "x:1", "--bytes", "1023", plain], b"1023"),
             (["--to", "x:1", "--attempts", "33", plain], b"33"),
-            (["--to", "x:1", "--flying", "2", plain], b"'2'"),
+            (["--to", "x:1", "--flying", "9", plain], b"'9'"),
             (["--to", "x:1", "--epoch", "4194304", plain], b"4194304"),
             (["--to", "x:1", "--epoch", "-1", plain], b"-1"),
             (["--to", "x:1", "--first", "7", plain], b"--first"),

@@ -64,6 +64,22 @@ def rows():
         "send 0 [ok 2 b/1@1]; run 2 1 [ok 201]; reply 2 [ok 1 0 0 0]; send 0 [ok 3 b/1@2]; run 3 1 [ok 200]; reply 3 [ok 1 0 0 0]",
         "accepted 0 2; applied b/1 1 0:1; applied b/1 2 0:2; finished no",
     )
+    played(
+        "one of a document at a time, with two in flight",
+        THREE.replace(" 1 0 1000", " 2 0 1000"),
+        'put 0 b 1 index {"a":1} [ok 0:1]; put 0 b 1 index {"a":2} [ok 0:2]; take 0 [ok]; take 0 [ok]; send 0 [ok 1 b/1@1]; '
+        "send 0 [no NoRequest]; run 1 1 429 [ok 429]; reply 1 [ok 0 0 0 1]; send 0 [no NoRequest]; tick 0 [ok]; take 0 [ok]; "
+        "send 0 [ok 2 b/1@1]; run 2 1 [ok 201]; reply 2 [ok 1 0 0 0]; send 0 [ok 3 b/1@2]; run 3 1 [ok 200]; reply 3 [ok 1 0 0 0]",
+        "accepted 0 2; applied b/1 1 0:1; applied b/1 2 0:2; finished no",
+    )
+    played(
+        "two in flight, answered in another order",
+        "world 1 1 10 10 1 4096 0 3 2 0 1000",
+        "put 0 b 1 delete [ok 0:1]; put 0 b 2 delete [ok 0:2]; put 0 b 3 delete [ok 0:3]; take 0 [ok]; take 0 [ok]; take 0 [ok]; "
+        "send 0 [ok 1 b/1@1]; send 0 [ok 2 b/2@2]; send 0 [no NoRequest]; run 2 1 [ok 404]; reply 2 [ok 1 0 0 0]; send 0 [ok 3 b/3@3]; "
+        "run 1 1 [ok 404]; run 3 1 [ok 404]; reply 3 [ok 1 0 0 0]; reply 1 [ok 1 0 0 0]",
+        "accepted 0 3; applied b/1 1 0:1; applied b/2 2 0:2; applied b/3 3 0:3; finished no",
+    )
     twice = "put 0 b 1 delete [ok 0:1]; take 0 [ok]; send 0 [ok 1 b/1@1]; reply 1 [no NotRun]; run 1 1 [ok 404]; run 1 1 [ok 409]; "
     played("the last run answers", THREE, twice + "reply 1 [ok 0 0 1 0]", "accepted 0 1; applied b/1 1 0:1; report 0 0:1 b/1 Conflict; finished no")
     played(
@@ -258,12 +274,12 @@ def bad_lines():
         "world 1 1 0 10 10 4096 0 3 1 0 1000", "world 1 1 65537 10 10 4096 0 3 1 0 1000", "world 1 1 10 0 10 4096 0 3 1 0 1000", "world 1 1 10 65537 10 4096 0 3 1 0 1000",
         "world 1 1 10 10 0 4096 0 3 1 0 1000", "world 1 1 10 10 10001 4096 0 3 1 0 1000", "world 1 1 10 10 10 1023 0 3 1 0 1000", "world 1 1 10 10 10 16777217 0 3 1 0 1000",
         "world 1 1 10 10 10 4096 65536 3 1 0 1000", "world 1 1 10 10 10 4096 0 0 1 0 1000", "world 1 1 10 10 10 4096 0 33 1 0 1000", "world 1 1 10 10 10 4096 0 3 0 0 1000",
-        "world 1 1 10 10 10 4096 0 3 2 0 1000", "world 1 1 10 10 10 4096 0 3 1 0 0", "world 1 1 10 10 10 4096 0 3 1 0 %d" % (DEAL + 1), "world 1 1 10 10 10 4096 0 3 1 %d 1000" % (EPOCHS + 1),
+        "world 1 1 10 10 10 4096 0 3 9 0 1000", "world 1 1 10 10 10 4096 0 3 1 0 0", "world 1 1 10 10 10 4096 0 3 1 0 %d" % (DEAL + 1), "world 1 1 10 10 10 4096 0 3 1 %d 1000" % (EPOCHS + 1),
         "world 4294967297 1 10 10 10 4096 0 3 1 0 1000", "world 1 1 10 10 10 4096 4294967296 3 1 0 1000", "world 1 1 10 10 10 4096 0 3 1 0 18446744073709551617", "world 1 1 10 10 10 4096 0 3 1 4294967296 1000",
         "world 1 1 10 10 10 18446744073709552640 0 3 1 0 1000", "world +1 1 10 10 10 4096 0 3 1 0 1000", "world 1 1 10 10 10 4096 0 3 1 -1 1000", "world 1 1 10 10 10 4096 0 3 1 0 -1", "world 1 1 10 10 10 4096 0 3 1 0 x",
     ):
         bad("config %s" % text, text.encode() + b"\n", 1)
-    for text in ("world 8 16 65536 65536 10000 16777216 65535 32 1 %d %d" % (EPOCHS, DEAL), "world 1 1 1 1 1 1024 0 1 1 0 1", "world 001 1 10 10 10 04096 00 3 1 00 01000"):
+    for text in ("world 8 16 65536 65536 10000 16777216 65535 32 8 %d %d" % (EPOCHS, DEAL), "world 1 1 1 1 1 1024 0 1 1 0 1", "world 001 1 10 10 10 04096 00 3 1 00 01000"):
         producers = int(text.split()[2])
         case("config %s" % text, ["world"], text.encode(), b"".join(b"accepted %d 0\n" % p for p in range(producers)) + b"finished no\n", b"", 0)
     for text in (

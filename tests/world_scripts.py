@@ -37,8 +37,9 @@ class Script:
         pick = self.random.choice
         self.lanes, self.producers = pick((1, 1, 2, 3, 8)), pick((1, 2, 3, 16))
         self.capacity, self.held = pick((1, 2, 5, 100, 65536)), pick((1, 2, 5, 100, 65536))
+        self.flying = pick((1, 1, 1, 2, 3, 8))
         self.attempts, self.epoch, self.deal = pick((1, 2, 3, 3, 32)), pick((0, 0, 0, 1, 77, EPOCHS - 1, EPOCHS)), pick((1, 3, 6, 1000, DEAL, DEAL))
-        self.config = [self.lanes, self.producers, self.capacity, self.held, pick((1, 2, 3, 10000)), pick((1024, 1100, 16777216)), pick((0, 0, 1, 3, 65535)), self.attempts, 1, self.epoch, self.deal]
+        self.config = [self.lanes, self.producers, self.capacity, self.held, pick((1, 2, 3, 10000)), pick((1024, 1100, 16777216)), pick((0, 0, 1, 3, 65535)), self.attempts, self.flying, self.epoch, self.deal]
         names = ["a", "b-2", "\u00fc"][: pick((1, 1, 3))]
         self.documents = [(pick(names), str(n)) for n in range(pick((1, 2, 4, 30)))]
         self.faults, self.deaths = pick((0, 0.1, 0.5)), pick((0, 0, 0.01, 0.05))
@@ -141,7 +142,9 @@ class Script:
         expect(len(set(documents)) == len(items), "a document twice", words)
         for document in documents:
             expect(lane_of(*document.split("/"), self.lanes) == lane, "another lane's document", words)
-        expect(all(request["answered"] for request in self.requests if request["lane"] == lane), "two in flight", words)
+        flying = [request for request in self.requests if request["lane"] == lane and not request["answered"]]
+        expect(len(flying) < self.flying, "too many in flight", words)
+        expect(not any(document in documents for request in flying for document, _ in request["items"]), "a document in flight twice", words)
         items = [(document, int(version)) for document, version in items]
         expect(len(items) == 1 or all(len(items) <= self.caps.get(item, len(items)) for item in items), "past the cap of one of them", words)
         self.requests.append({"lane": lane, "items": items, "runs": [[] for _ in items], "answered": False})

@@ -1,0 +1,162 @@
+"""What `relay run` does while the index is away: it refuses connections, stays silent, takes nothing, or comes back."""
+import signal
+import socket
+import subprocess
+import tempfile
+import threading
+import time
+
+from bulk_server import Server
+from program import RELAY, check
+from run_cases import judge, operations, relay_run, written
+from stub_cases import free_port
+
+GAVE_UP = b"report 0:1 books/1 GaveUp 1\napplied 0 already 0 reported 1\n"
+
+
+class Silent(Server):
+    """A server that takes the first connections and never answers on them, and reads what comes or not."""
+
+    def __init__(self, silent, reads=True):
+        self.silent, self.reads, self.taken = silent, reads, 0
+        super().__init__()
+
+    def serve(self, stream):
+        with self.lock:
+            self.taken += 1
+            is_silent = self.taken <= self.silent
+        if not is_silent:
+            return super().serve(stream)
+        with stream:
+            while self.reads and self.receive(stream):
+                pass
+            while not self.reads and self.listener.fileno() != -1:
+                time.sleep(0.1)
+
+
+def timed(*args):
+    start = time.monotonic()
+    done = relay_run(*args)
+    return done, time.monotonic() - start
+
+
+def silent_servers():
+    """A server that takes connections and answers nothing costs each request --timeout seconds, and no more."""
+    with tempfile.TemporaryDirectory() as folder:
+        path = written(folder, 0, [("1", None)])
+        server = Silent(2**64)
+        done, spent = timed(server.port, [path], "--timeout", "1", "--attempts", "1")
+        check("nothing is answered", done == (5, GAVE_UP, b"") and 0.9 < spent < 60, (done, spent))
+        server.close()
+        ops = operations(0, 60, 6)
+        server = Silent(2)
+        done, spent = timed(server.port, [written(folder, 0, ops)], "--timeout", "1", "--count", "10", "--linger", "0")
+        judge("the first two connections are silent", server, [ops], done)
+        check("the first two connections are silent: all is applied", done[1].endswith(b" reported 0\n") and 1.9 < spent < 60, (done, spent))
+        server.close()
+        large = [("%d" % n, '{"n":"%s"}' % ("x" * 1_000_000)) for n in range(12)]
+        server = Silent(2**64, reads=False)
+        done, spent = timed(server.port, [written(folder, 0, large)], "--timeout", "1", "--attempts", "1", "--bytes", "16777216")
+        check("nothing is taken", done[0] == 5 and done[1].endswith(b"applied 0 already 0 reported 12\n") and 0.9 < spent < 60, (done[1][-100:], spent))
+        server.close()
+
+
+def connections_that_are_not_made():
+    """A connection that nobody takes or refuses is given up after --timeout seconds: the queue of the listener is full."""
+    with tempfile.TemporaryDirectory() as folder, socket.socket() as listener:
+        path = written(folder, 0, [("1", None)])
+        listener.bind(("127.0.0.1", 0))
+        listener.listen(0)
+        port, waiting = listener.getsockname()[1], []
+        for _ in range(4):
+            stream = socket.socket()
+            stream.setblocking(False)
+            stream.connect_ex(("127.0.0.1", port))
+            waiting.append(stream)
+        time.sleep(0.2)
+        done, spent = timed(port, [path], "--timeout", "1", "--attempts", "1")
+        check("a connection that is not made", done == (5, GAVE_UP, b"") and 0.9 < spent < 60, (done, spent))
+        for stream in waiting:
+            stream.close()
+
+
+def patience_that_ends():
+    """Without patience a refused connection is an attempt, and with it only after so many seconds."""
+    with tempfile.TemporaryDirectory() as folder:
+        path = written(folder, 0, [("1", None)])
+        for patience, least, most in (("0", 0, 20), ("2", 1.9, 60)):
+            done, spent = timed(free_port(), [path], "--patience", patience, "--attempts", "1")
+            check("--patience %s" % patience, done == (5, GAVE_UP, b"") and least <= spent < most, (done, spent))
+
+
+def away(seconds, *more):
+    """A run over 400 operations in whose middle the server is away for so long."""
+    with tempfile.TemporaryDirectory() as folder:
+        producers = [operations(p, 200, 20) for p in range(2)]
+        files = [written(folder, p, ops) for p, ops in enumerate(producers)]
+        server, done = Server(delay=lambda: 0.01), []
+        running = threading.Thread(target=lambda: done.append(relay_run(server.port, files, "--count", "10", "--linger", "0", "--lanes", "2", *more)))
+        running.start()
+        while server.requests < 5 and running.is_alive():
+            time.sleep(0.01)
+        server.rest(seconds)
+        running.join()
+        judge("away for %d s" % seconds, server, producers, done[0])
+        check("away for %d s: all is applied" % seconds, done[0][1].endswith(b" reported 0\n"), done[0][1][-200:])
+        server.close()
+
+
+def outages():
+    """An index that restarts costs attempts only for what was under way, if the patience is longer than it takes."""
+    long = threading.Thread(target=away, args=(20, "--patience", "60", "--attempts", "2"))
+    long.start()
+    away(4, "--patience", "30", "--attempts", "2")
+    long.join()
+
+
+def server_that_is_not_there_yet():
+    """A run that is started before its index waits for it."""
+    with tempfile.TemporaryDirectory() as folder:
+        path, port = written(folder, 0, [("1", "{}")]), free_port()
+        args = [RELAY, "run", "--to", "127.0.0.1:%d" % port, "--patience", "60", "--attempts", "1", path]
+        running = subprocess.Popen(args, stdin=subprocess.DEVNULL, stdout=subprocess.PIPE, stderr=subprocess.PIPE)
+        time.sleep(1.5)
+        server = Server()
+        server.move(port)
+        out, err = running.communicate(timeout=60)
+        check("a server that is not there yet", (running.returncode, out, err) == (0, b"applied 1 already 0 reported 0\n", b""), (running.returncode, out, err))
+        server.close()
+
+
+def killed_while_it_waits():
+    """A run that is killed while it waits for the index reports nothing, and is made again with the next epoch."""
+    with tempfile.TemporaryDirectory() as folder:
+        ops = operations(0, 30, 3)
+        path, server = written(folder, 0, ops), Silent(2**64)
+        for more in (["--to", "127.0.0.1:%d" % free_port(), "--patience", "60"], ["--to", "127.0.0.1:%d" % server.port, "--timeout", "60"]):
+            running = subprocess.Popen([RELAY, "run", *more, path], stdin=subprocess.DEVNULL, stdout=subprocess.PIPE, stderr=subprocess.PIPE)
+            time.sleep(1)
+            running.send_signal(signal.SIGKILL)
+            out, err = running.communicate(timeout=60)
+            check("killed while it waits", (running.returncode, out, err) == (-9, b"", b""), (running.returncode, out, err))
+        server.close()
+        server = Server()
+        judge("the run after it", server, [ops], relay_run(server.port, [path], "--epoch", "1"))
+        server.close()
+
+
+def usage():
+    for args, said in (
+        (["--timeout", "604801"], b"604801"),
+        (["--timeout", "-1"], b"-1"),
+        (["--timeout", "x"], b"'x'"),
+        (["--timeout"], b"--timeout"),
+        (["--patience", "604801"], b"604801"),
+        (["--patience", "1.5"], b"1.5"),
+        (["--patience", "1", "--patience", "2"], b"--patience"),
+    ):
+        done = subprocess.run([RELAY, "run", "--to", "x:1", *args, "file"], stdin=subprocess.DEVNULL, capture_output=True, timeout=60)
+        check("usage: run %s" % args, done.returncode == 1 and said in done.stderr and done.stdout == b"", (done.returncode, done.stderr))
+
+
+GROUPS = (silent_servers, connections_that_are_not_made, patience_that_ends, outages, server_that_is_not_there_yet, killed_while_it_waits, usage)
