@@ -1,0 +1,4 @@
+pub mod Sorting
+pub mod Heaping
+pub mod Delaying
+pub mod Dues

@@ -1,0 +1,237 @@
+//! The delay queue.
+ghost use Rattle.std.specs.Prelude.{◌≡◌, ◌+◌, ◌<◌, ◌≤◌, ◌++◌, [], true, false, length, slice_get, IfOk, OnOk, OnErr, MatchOption};
+ghost use Rattle.std.specs.VecDeque.{deque_capacity};
+ghost use Rattle.relay_delay.specs.Waiting.{insert, without, has_version, due_entries, due_in, Rises};
+ghost use Rattle.relay_delay.specs.Heaps.{inserted, AllDue, NoneDue, AllUpTo, IsMoving};
+
+use crate::entry::Entry;
+use crate::later::Later;
+use crate::line::reaches;
+use crate::ready::Ready;
+use std::alloc::{AllocError, Global};
+use std::collections::VecDeque;
+use std::marker::Model;
+
+/// Operations that wait, each with a version of its own, and the clock. Contracts see them in rising
+/// version.
+#[derive(Debug, Drop)]
+pub struct DelayQueue {
+    clock: u64,
+    room: usize,
+    /// The first of those that are due, in rising version, all below those in `ready`.
+    front: VecDeque<Entry>,
+    /// The others that are due.
+    ready: Ready,
+    /// Those that are not due.
+    later: Later,
+}
+
+impl Model for DelayQueue {
+    ghost use Rattle.std.specs.Prelude.{◌++◌};
+    ghost use Rattle.relay_delay.specs.Waiting.{Delays};
+    ghost use Rattle.relay_delay.specs.Heaps.{inserted, IsDelayed};
+
+    ghost Value = { Delays };
+
+    ghost view = { λ d. record { clock = d.clock; room = d.room; entries = inserted d.later.entries (d.front.items ++ d.ready.entries) } };
+
+    ghost invariant = { λ d. IsDelayed d.clock d.room d.front.items d.ready d.later };
+}
+
+// The last in front goes back to the others that are due.
+fn give_back(front: &mut VecDeque<Entry>, ready: &mut Ready)
+    requires some { 0 < length front.old.items }
+    requires rises { Rises (front.old.items ++ ready.old.entries) }
+    requires room { length front.old.items + length ready.old.entries ≤ ready.old.room }
+    ensures kept { front.new.items ++ ready.new.entries ≡ front.old.items ++ ready.old.entries }
+    ensures shorter { length front.new.items + 1 ≡ length front.old.items }
+    ensures room { ready.old.room ≤ ready.new.room }
+{
+    if let Some(last) = front.pop_back() {
+        ready.push(last);
+    }
+}
+
+// One more that is due. Those in front that are above it go back first.
+fn add(front: &mut VecDeque<Entry>, ready: &mut Ready, one: Entry)
+    requires rises { Rises (front.old.items ++ ready.old.entries) }
+    requires fresh { has_version one.version (front.old.items ++ ready.old.entries) ≡ false }
+    requires room { length front.old.items + length ready.old.entries < ready.old.room }
+    ensures added { front.new.items ++ ready.new.entries
+        ≡ insert one (front.old.items ++ ready.old.entries) }
+    ensures room { ready.old.room ≤ ready.new.room }
+{
+    'back: while reaches(front, one.version) {
+        give_back(front, ready);
+    }
+    ready.push(one);
+}
+
+// The first of the others that are due comes to the front, for which there is room.
+fn bring(front: &mut VecDeque<Entry>, ready: &mut Ready)
+    requires some { 0 < length ready.old.entries }
+    requires room { length front.old.items < deque_capacity front.old }
+    ensures kept { front.new.items ++ ready.new.entries ≡ front.old.items ++ ready.old.entries }
+    ensures longer { length front.new.items ≡ length front.old.items + 1 }
+    ensures capacity { deque_capacity front.new ≡ deque_capacity front.old }
+    ensures room { ready.new.room ≡ ready.old.room }
+{
+    if let Some(first) = ready.pop() {
+        front.push_back_reserved(first);
+    }
+}
+
+// The first of the others that are due come to the front, until `count` are there.
+fn bring_all(front: &mut VecDeque<Entry>, ready: &mut Ready, count: usize) -> Result<(), AllocError>
+    requires { count ≤ length front.old.items + length ready.old.entries }
+    ensures ok { OnOk result (count ≤ length front.new.items) }
+    ensures kept { front.new.items ++ ready.new.entries ≡ front.old.items ++ ready.old.entries }
+    ensures room { ready.new.room ≡ ready.old.room }
+{
+    front.reserve(count.saturating_sub(front.len()))?;
+    'front: while front.len() < count {
+        bring(front, ready);
+    }
+    Ok(())
+}
+
+// The one at a place in front.
+fn place(front: &VecDeque<Entry>, at: usize) -> Option<Entry>
+    ensures { result ≡ slice_get front.now.items at }
+{
+    front.get(at).copied()
+}
+
+// Those that are due at a tick join the others that are.
+fn come_due(front: &mut VecDeque<Entry>, ready: &mut Ready, later: &mut Later, clock: u64)
+    requires { IsMoving clock front.old.items ready.old later.old }
+    ensures same { inserted later.new.entries (front.new.items ++ ready.new.entries)
+        ≡ inserted later.old.entries (front.old.items ++ ready.old.entries) }
+    ensures due { AllDue clock (front.new.items ++ ready.new.entries) }
+    ensures none { NoneDue clock later.new.entries }
+    ensures ready_room { ready.old.room ≤ ready.new.room }
+    ensures later_room { later.new.room ≡ later.old.room }
+{
+    'due: while let Some(one) = later.pop_due(clock) {
+        add(front, ready, one);
+    }
+}
+
+impl DelayQueue {
+    /// Nothing waits, and the clock is 0. It does not allocate.
+    pub fn new(alloc: Global) -> DelayQueue
+        ensures { result ≡ record { clock = 0; room = 0; entries = [] } }
+    {
+        DelayQueue {
+            clock: 0,
+            room: 0,
+            front: VecDeque::new(alloc),
+            ready: Ready::new(alloc),
+            later: Later::new(alloc),
+        }
+    }
+
+    /// The clock, in ticks.
+    pub fn clock(&self) -> u64
+        ensures { result ≡ self.now.clock }
+    {
+        self.clock
+    }
+
+    /// How many operations wait: no more than there is room for, and each under a version of its own.
+    pub fn len(&self) -> usize
+        ensures len { result ≡ length self.now.entries }
+        ensures room { length self.now.entries ≤ self.now.room }
+        ensures rises { Rises self.now.entries }
+    {
+        self.front.len() + self.ready.len() + self.later.len()
+    }
+
+    // How many are due.
+    fn count_due(&self) -> usize
+        ensures { result ≡ length (due_entries self.now) }
+    {
+        self.front.len() + self.ready.len()
+    }
+
+    /// Room for `count` operations in all. It at least doubles what it has, so asking for one more each
+    /// time copies little. `AllocError`: an allocation failed; what waits is as it was.
+    pub fn reserve(&mut self, count: usize) -> Result<(), AllocError>
+        ensures ok { OnOk result (count ≤ self.new.room) }
+        ensures err { OnErr result (self.old.room < count) }
+        ensures grows { self.old.room ≤ self.new.room }
+        ensures clock { self.new.clock ≡ self.old.clock }
+        ensures entries { self.new.entries ≡ self.old.entries }
+    {
+        if count <= self.room {
+            return Ok(());
+        }
+        self.ready.reserve(count)?;
+        self.later.reserve(count)?;
+        self.room = self.ready.room().min(self.later.room());
+        Ok(())
+    }
+
+    /// An operation waits. There is room for it, and no other has its version. It does not allocate.
+    pub fn insert(&mut self, one: Entry)
+        requires room { length self.old.entries < self.old.room }
+        requires fresh { has_version one.version self.old.entries ≡ false }
+        ensures { self.new ≡ record self.old { entries = insert one self.old.entries } }
+    {
+        if self.clock < one.due {
+            self.later.push(one);
+        } else {
+            add(&mut self.front, &mut self.ready, one);
+        }
+    }
+
+    /// The operation that is due at a place, from 0 for the lowest version, or `None` if fewer are due.
+    /// It brings all up to that place to the front, so ask for 0, 1, 2, .. in turn: each place then
+    /// costs O(log n) once and O(1) after that. `AllocError`: an allocation failed, and one is due at
+    /// the place.
+    pub fn due_at(&mut self, at: usize) -> Result<Option<Entry>, AllocError>
+        ensures ok { IfOk result (λ e. e ≡ slice_get (due_entries self.old) at) }
+        ensures err { OnErr result (at < length (due_entries self.old)) }
+        ensures unchanged { self.new ≡ self.old }
+    {
+        if at >= self.count_due() {
+            return Ok(None);
+        }
+        bring_all(&mut self.front, &mut self.ready, at + 1)?;
+        Ok(place(&self.front, at))
+    }
+
+    /// Takes the due operation of the lowest version out, if one is due. It does not allocate.
+    pub fn take_due(&mut self) -> Option<Entry>
+        ensures first { result ≡ slice_get (due_entries self.old) 0 }
+        ensures left { MatchOption result (self.new ≡ self.old)
+            (λ e. self.new ≡ record self.old { entries = without e.version self.old.entries }) }
+    {
+        match self.front.pop_front() {
+            Some(one) => Some(one),
+            None => self.ready.pop(),
+        }
+    }
+
+    /// The clock goes on to a tick. It does not allocate.
+    pub fn tick(&mut self, clock: u64)
+        requires { self.old.clock ≤ clock }
+        ensures { self.new ≡ record self.old { clock = clock } }
+    {
+        self.clock = clock;
+        come_due(&mut self.front, &mut self.ready, &mut self.later, clock);
+    }
+
+    /// The ticks until an operation is due: 0 if one is, and `None` if nothing waits.
+    pub fn due_in(&self) -> Option<u64>
+        ensures { result ≡ due_in self.now }
+    {
+        if self.count_due() > 0 {
+            return Some(0);
+        }
+        match self.later.first_due() {
+            Some(due) => Some(due - self.clock),
+            None => None,
+        }
+    }
+}

@@ -1,0 +1,94 @@
+//! A delay queue whose versions rise one by one, and one operation that was taken out of it.
+ghost use Rattle.std.specs.Prelude.{◌≡◌, ◌<◌, true, length};
+ghost use Rattle.relay_delay_tests.specs.Desk.{AllUnder, AllUnder-prop, IsApart, IsApart-prop};
+
+use relay_delay::{DelayQueue, Entry};
+use std::alloc::Global;
+
+/// What waits, below the next version, and the operation that is out.
+#[derive(Drop)]
+pub struct Desk {
+    pub queue: DelayQueue,
+    pub next: u64,
+    pub out: Option<Entry>,
+    ghost under: { AllUnder next queue.entries } by { AllUnder-prop next queue.entries },
+    ghost apart: { IsApart next out queue.entries } by { IsApart-prop next out queue.entries },
+}
+
+/// Nothing waits and none is out.
+pub fn empty_desk(alloc: Global) -> Desk {
+    Desk {
+        queue: DelayQueue::new(alloc),
+        next: 1,
+        out: None,
+    }
+}
+
+// Room for one more. If an allocation fails what waits is as it was, and it tries once more.
+fn reserve_one(queue: &mut DelayQueue) -> bool
+    ensures room { result ≡ true → length queue.new.entries < queue.new.room }
+    ensures entries { queue.new.entries ≡ queue.old.entries }
+{
+    let len = queue.len();
+    if len > 1_000 {
+        return false;
+    }
+    let due_in = queue.due_in();
+    if queue.reserve(len + 1).is_ok() {
+        return true;
+    }
+    queue.len() == len && queue.due_in() == due_in && queue.reserve(len + 1).is_ok()
+}
+
+/// One more operation waits, under the next version. `None`: none was taken in.
+pub fn push(desk: &mut Desk, due: u64, slot: usize) -> Option<Entry> {
+    if desk.next == u64::MAX || !reserve_one(&mut desk.queue) {
+        return None;
+    }
+    let one = Entry {
+        version: desk.next,
+        due,
+        slot,
+    };
+    desk.next += 1;
+    desk.queue.insert(one);
+    Some(one)
+}
+
+/// The first operation that is due goes out, if none is out. Whether none was.
+pub fn take(desk: &mut Desk) -> bool {
+    if desk.out.is_some() {
+        return false;
+    }
+    desk.out = desk.queue.take_due();
+    true
+}
+
+/// The operation that is out waits again. `None`: none is out.
+pub fn put_back(desk: &mut Desk, due: u64) -> Option<Entry> {
+    let Some(one) = desk.out else {
+        return None;
+    };
+    if !reserve_one(&mut desk.queue) {
+        return None;
+    }
+    let one = Entry { due, ..one };
+    desk.out = None;
+    desk.queue.insert(one);
+    Some(one)
+}
+
+/// The clock goes on by this many ticks.
+pub fn wait(desk: &mut Desk, ticks: u64) {
+    let clock = desk.queue.clock().saturating_add(ticks);
+    desk.queue.tick(clock);
+}
+
+/// The operation that is due at a place. It tries once more if an allocation fails. `None`: it
+/// failed twice.
+pub fn due_at(desk: &mut Desk, at: usize) -> Option<Option<Entry>> {
+    if let Ok(one) = desk.queue.due_at(at) {
+        return Some(one);
+    }
+    desk.queue.due_at(at).ok()
+}

@@ -1,0 +1,11 @@
+//! Tests of relay_delay.
+#![tactic(auto)]
+
+#[cfg(test)]
+mod calls;
+#[cfg(test)]
+mod desk;
+#[cfg(test)]
+mod refusals;
+#[cfg(test)]
+mod sequences;

@@ -1,0 +1,17 @@
+//! A delay queue, of whose allocations any one may be refused (`make refusals`).
+use crate::desk::{due_at, empty_desk, push, take, wait};
+
+// What waits is as it was, and the next call takes it in or finds it.
+#[test]
+fn refused_room_and_due_ones(rt: HostRuntime) {
+    let mut desk = empty_desk(rt.alloc());
+    for version in 1..20u64 {
+        assert!(rt; push(&mut desk, 20 - version, 9).is_some_and(|one| one.version == version));
+    }
+    wait(&mut desk, 20);
+    for at in 0..19usize {
+        assert!(rt; due_at(&mut desk, at).is_some_and(|one| one.is_some()));
+    }
+    assert!(rt; take(&mut desk) && desk.out.map_or(0, |one| one.version) == 1);
+    assert!(rt; desk.queue.len() == 18);
+}

@@ -1,0 +1,165 @@
+//! Calls drawn by a seed, beside a plain list.
+ghost use Rattle.std.specs.Prelude.{◌<◌};
+
+use crate::desk::{Desk, due_at, empty_desk, push, put_back, take, wait};
+use relay_delay::Entry;
+use std::alloc::Global;
+
+// Both, and what comes next.
+#[derive(Drop)]
+struct Game {
+    desk: Desk,
+    rows: Vec<Entry>,
+    clock: u64,
+    seed: u64,
+}
+
+// The next number below a bound.
+fn draw(seed: &mut u64, bound: u64) -> u64
+    requires { 0 < bound }
+    ensures { result < bound }
+{
+    *seed = seed
+        .wrapping_mul(6_364_136_223_846_793_005)
+        .wrapping_add(1_442_695_040_888_963_407);
+    (*seed >> 33) % bound
+}
+
+// The lowest version above another one that is due, in the plain list.
+fn next_due(rows: &[Entry], clock: u64, above: u64) -> Option<Entry> {
+    let mut found: Option<Entry> = None;
+    for row in rows {
+        let better = match found {
+            Some(other) => row.version < other.version,
+            None => true,
+        };
+        if better && row.due <= clock && row.version > above {
+            found = Some(*row);
+        }
+    }
+    found
+}
+
+// The ticks until one is due, in the plain list.
+fn ticks_left(rows: &[Entry], clock: u64) -> Option<u64> {
+    let due = rows.iter().map(|row| row.due).min()?;
+    Some(due.saturating_sub(clock))
+}
+
+// Whether the first few that are due are those of the plain list.
+fn sees(game: &mut Game, count: usize) -> bool {
+    let mut above = 0;
+    for at in 0..count {
+        let wanted = next_due(&game.rows, game.clock, above);
+        if due_at(&mut game.desk, at) != Some(wanted) {
+            return false;
+        }
+        match wanted {
+            Some(one) => above = one.version,
+            None => return true,
+        }
+    }
+    true
+}
+
+// One more in the plain list. It tries once more if the allocation fails.
+fn adds(rows: &mut Vec<Entry>, one: Entry) -> bool {
+    rows.push(one).is_ok() || rows.push(one).is_ok()
+}
+
+fn inserts(game: &mut Game) -> bool {
+    let due = game
+        .clock
+        .saturating_add(draw(&mut game.seed, 6))
+        .saturating_sub(2);
+    let slot = draw(&mut game.seed, 1_000) as usize;
+    match push(&mut game.desk, due, slot) {
+        Some(one) => one.due == due && one.slot == slot && adds(&mut game.rows, one),
+        None => false,
+    }
+}
+
+// Drops a version from the plain list.
+fn drops(rows: &mut Vec<Entry>, version: u64) -> bool {
+    match rows.iter().position(|row| row.version == version) {
+        Some(at) => {
+            rows.swap_remove(at);
+            true
+        }
+        None => false,
+    }
+}
+
+fn takes(game: &mut Game) -> bool {
+    if game.desk.out.is_some() {
+        return true;
+    }
+    let wanted = next_due(&game.rows, game.clock, 0);
+    if !take(&mut game.desk) || game.desk.out != wanted {
+        return false;
+    }
+    match wanted {
+        Some(one) => drops(&mut game.rows, one.version),
+        None => true,
+    }
+}
+
+fn comes_back(game: &mut Game) -> bool {
+    if game.desk.out.is_none() {
+        return true;
+    }
+    let due = game.clock.saturating_add(draw(&mut game.seed, 4));
+    match put_back(&mut game.desk, due) {
+        Some(one) => one.due == due && adds(&mut game.rows, one),
+        None => false,
+    }
+}
+
+fn ticks(game: &mut Game) -> bool {
+    let ticks = draw(&mut game.seed, 3);
+    wait(&mut game.desk, ticks);
+    game.clock = game.clock.saturating_add(ticks);
+    true
+}
+
+fn agree(game: &Game) -> bool {
+    game.desk.queue.len() == game.rows.len()
+        && game.desk.queue.clock() == game.clock
+        && game.desk.queue.due_in() == ticks_left(&game.rows, game.clock)
+}
+
+fn steps(game: &mut Game) -> bool {
+    match draw(&mut game.seed, 8) {
+        0 | 1 | 2 => inserts(game),
+        3 => takes(game),
+        4 => comes_back(game),
+        5 => ticks(game),
+        _ => {
+            let count = draw(&mut game.seed, 6) as usize;
+            sees(game, count)
+        }
+    }
+}
+
+// Sixty calls by a seed.
+fn plays(alloc: Global, seed: u64) -> bool {
+    let mut game = Game {
+        desk: empty_desk(alloc),
+        rows: Vec::new(alloc),
+        clock: 0,
+        seed,
+    };
+    for _ in 0..60 {
+        if !steps(&mut game) || !agree(&game) {
+            return false;
+        }
+    }
+    sees(&mut game, 100)
+}
+
+#[test]
+fn two_thousand_sequences(rt: HostRuntime) {
+    for seed in 0..2_000u64 {
+        assert!(rt; plays(rt.alloc(), seed), "seed {seed}");
+    }
+}
