@@ -1,15 +1,14 @@
 -- As many documents have queues as are held, since no queue is empty.
-use Rattle.std.proofs.Common.{◌≡◌, ℕ, ◌+◌, ◌<◌, List, [], ◌∷◌, length, Option, Some, None, Bool, true, false, ◌||◌, refl, sym, ap, ◌∙◌, subst, ⊎_elim, arith}
-use Rattle.std.specs.Prelude.{if◌then◌else◌, cond, not, filter, unwrap_or, Result, Ok, Err, IsOk, OnOk}
+use Rattle.std.proofs.Common.{◌≡◌, ℕ, ◌+◌, ◌<◌, List, [], ◌∷◌, length, Some, None, Bool, true, false, ◌||◌, refl, sym, ap, ◌∙◌, subst, ⊎_elim, arith}
+use Rattle.std.specs.Prelude.{if◌then◌else◌, cond, not, filter, Result, Ok, Err, IsOk, is_err, OnOk, OnErr}
 use Rattle.std.specs.List.{IsDistinct, list_any}
 use Rattle.std.specs.Map.{lookup, keys_of}
 use Rattle.relay_action.specs.declared.key.DocKey.{DocKey}
 use Rattle.relay_results.specs.Documents.{Document, document_of, same_document}
 use Rattle.relay_results.proofs.Same.{same_document-true}
-use Rattle.relay_results.proofs.Lists.{true_or_false, none_some, some_same, or_left, or_right}
+use Rattle.relay_results.proofs.Lists.{true_or_false, none_some, or_left, or_right}
 use Rattle.relay_held.specs.declared.kept.Kept.{Kept}
-use Rattle.relay_held.specs.Queues.{same_key, is_of, on_first, queue_of, documents, distinct, NoneEmpty, IsMerge, Changes}
-use Rattle.relay_held.proofs.Changing.{same_queue}
+use Rattle.relay_held.specs.Queues.{same_key, is_of, documents, distinct, NoneEmpty, IsMerge}
 use Rattle.relay_held.proofs.Merging.{NoneTwice, none_twice, same_self, same_along, apart_back, rest_merge, first_queue}
 
 -- ---- how many documents the held operations are of
@@ -83,58 +82,14 @@ counted (e ∷ es) hs n m a =
 pub keys_counted : (es : List (DocKey × List Kept)) (hs : List Kept) → IsDistinct same_key (keys_of es) → IsMerge es hs → NoneEmpty es → length (keys_of es) ≡ distinct (documents hs)
 keys_counted es hs d m a = counted es hs (none_twice es d) m a
 
--- ---- no queue is empty
-
--- what is written for a key is not empty
-pub filled_after : (es fs : List (DocKey × List Kept)) (key : DocKey) (w : Option (List Kept)) → ((k : DocKey) → lookup (same_key k) fs ≡ cond (same_key key k) w (lookup (same_key k) es))
-    → ((q : List Kept) → w ≡ Some q → 0 < length q) → NoneEmpty es → NoneEmpty fs
-filled_after es fs key w u some a = record {
-  filled = λ k q is. ⊎_elim {C = 0 < length q}
-      (λ t. some q (sym (u k ∙ ap (λ b. cond b w (lookup (same_key k) es)) t) ∙ is))
-      (λ f. a.filled k q (sym (u k ∙ ap (λ b. cond b w (lookup (same_key k) es)) f) ∙ is))
-      (true_or_false (same_key key k));
-}
-
-pub filled_with : (es fs : List (DocKey × List Kept)) (key : DocKey) (q : List Kept) → ((k : DocKey) → lookup (same_key k) fs ≡ cond (same_key key k) (Some q) (lookup (same_key k) es))
-    → 0 < length q → NoneEmpty es → NoneEmpty fs
-filled_with es fs key q u lt a = filled_after es fs key (Some q) u (λ p e. subst (λ x. 0 < length x) (some_same q p e) lt) a
-
-pub filled_without : (es fs : List (DocKey × List Kept)) (key : DocKey) → ((k : DocKey) → lookup (same_key k) fs ≡ cond (same_key key k) None (lookup (same_key k) es))
-    → NoneEmpty es → NoneEmpty fs
-filled_without es fs key u a = filled_after es fs key None u (λ p e. absurd (none_some p e)) a
-
 pub on_ok_of : {A E : Type 0} (r : Result A E) (P : Type 0) → IsOk r → OnOk r P → P
 on_ok_of (Ok x) P i p = p
 on_ok_of (Err e) P i p = absurd (cc)
 
-is_there : (k : DocKey) (es : List (DocKey × List Kept)) (q : List Kept) → lookup (same_key k) es ≡ Some q → list_any (same_key k) (keys_of es) ≡ true
-is_there k [] q e = absurd (none_some q e)
-is_there k (x ∷ es) q e = ⊎_elim {C = list_any (same_key k) (keys_of (x ∷ es)) ≡ true}
-    (λ t. or_left (same_key k x.0) (list_any (same_key k) (keys_of es)) t)
-    (λ f. or_right (same_key k x.0) (list_any (same_key k) (keys_of es)) (is_there k es q (sym (ap (λ b. cond b (Some x.1) (lookup (same_key k) es)) f) ∙ e)))
-    (true_or_false (same_key k x.0))
+pub on_err_of : {A E : Type 0} (r : Result A E) (P : Type 0) → P → OnErr r P
+on_err_of (Ok x) P p = tt
+on_err_of (Err e) P p = p
 
-found_there : (k : DocKey) (es : List (DocKey × List Kept)) → list_any (same_key k) (keys_of es) ≡ true → (q : List Kept) × (lookup (same_key k) es ≡ Some q)
-found_there k [] t = absurd (cc)
-found_there k (x ∷ es) t = ⊎_elim {C = (q : List Kept) × (lookup (same_key k) (x ∷ es) ≡ Some q)}
-    (λ y. (x.1, ap (λ b. cond b (Some x.1) (lookup (same_key k) es)) y))
-    (λ f. let r = found_there k es (sym (ap (λ b. b || list_any (same_key k) (keys_of es)) f) ∙ t) in (r.0, ap (λ b. cond b (Some x.1) (lookup (same_key k) es)) f ∙ r.1))
-    (true_or_false (same_key k x.0))
-
-length_on : (f : Kept → Kept) (q : List Kept) → 0 < length q → 0 < length (on_first f q)
-length_on f [] lt = lt
-length_on f (h ∷ hs) lt = omega arith
-
--- the first of a document is changed
-pub filled_on : (es fs : List (DocKey × List Kept)) (key : DocKey) (f : Kept → Kept) → keys_of fs ≡ keys_of es → Changes es fs key (on_first f (queue_of es key)) → NoneEmpty es → NoneEmpty fs
-filled_on es fs key f same c a = record {
-  filled = λ k q is.
-      let r = found_there k es (subst (λ ks. list_any (same_key k) ks ≡ true) same (is_there k fs q is)) in
-      let was = a.filled k r.0 r.1 in
-      let now : queue_of fs k ≡ q = ap (λ o. unwrap_or o []) is in
-      let before : queue_of es k ≡ r.0 = ap (λ o. unwrap_or o []) r.1 in
-      subst (λ x. 0 < length x) now (subst (λ x. 0 < length x) (sym (c.queues k)) (⊎_elim {C = 0 < length (cond (same_key key k) (on_first f (queue_of es key)) (queue_of es k))}
-      (λ t. rw t (length_on f (queue_of es key) (subst (λ x. 0 < length x) (sym (same_queue es key k t ∙ before)) was)))
-      (λ g. rw g (subst (λ x. 0 < length x) (sym before) was))
-      (true_or_false (same_key key k))));
-}
+pub ok_of : {A E : Type 0} (r : Result A E) (P : Type 0) → is_err r ≡ false → OnOk r P → P
+ok_of (Ok x) P f p = p
+ok_of (Err e) P f p = absurd (cc)

@@ -1,5 +1,5 @@
 -- What each change makes of what is held.
-use Rattle.std.proofs.Common.{◌≡◌, ℕ, zero, suc, ◌+◌, ◌-◌, ◌<◌, ◌≤◌, List, [], ◌∷◌, ◌++◌, length, length-append, Some, None, Bool, true, false, refl, sym, ap, ◌∙◌, subst, ⊎_elim, arith, drop}
+use Rattle.std.proofs.Common.{◌≡◌, ℕ, ◌+◌, ◌-◌, ◌≤◌, List, [], ◌∷◌, ◌++◌, length, length-append, Some, None, Bool, true, false, refl, sym, ap, ◌∙◌, subst, ⊎_elim, arith, drop}
 use Rattle.std.specs.Prelude.{if◌then◌else◌, filter, slice_get}
 use Rattle.std.specs.List.{IsDistinct}
 use Rattle.std.specs.Map.{keys_of}
@@ -8,9 +8,8 @@ use Rattle.relay_action.specs.declared.write.Write.{Write}
 use Rattle.relay_results.proofs.Lists.{true_or_false, none_some}
 use Rattle.relay_held.specs.declared.kept.Kept.{Kept}
 use Rattle.relay_held.specs.Kept.{launch_one, back_at, halved_at}
-use Rattle.relay_held.specs.Queues.{AllUnder, same_key, is_of, first_of, with_first, without_first, on_first, merged, queue_of, AllWait, OnlyFirstsFly, NoneEmpty, IsHolding, Changes}
+use Rattle.relay_held.specs.Queues.{AllUnder, same_key, is_of, first_of, with_first, without_first, on_first, merged, queue_of, AllWait, OnlyFirstsFly, IsHolding, Changes}
 use Rattle.relay_held.proofs.Changing.{Keeps, push_merges, with_merges, without_merges, holds_of, first_is, filter_push, filter_with_same, filter_with_apart, filter_without_same, filter_without_apart}
-use Rattle.relay_held.proofs.Counting.{filled_on}
 
 pub launch_keeps : (number place : ℕ) → Keeps (launch_one number place)
 launch_keeps number place = record { version = λ h. refl; key = λ h. refl }
@@ -82,39 +81,34 @@ pub record Becomes (fs : List (DocKey × List Kept)) (n : ℕ) (hs : List Kept) 
   pub holding : IsHolding fs n
   pub list : merged fs ≡ hs
 
-pub with_becomes : (es fs : List (DocKey × List Kept)) (n : ℕ) (k : DocKey) (f : Kept → Kept) → Keeps f → IsHolding es n → keys_of fs ≡ keys_of es → IsDistinct same_key (keys_of es)
+pub with_becomes : (es fs : List (DocKey × List Kept)) (n : ℕ) (k : DocKey) (f : Kept → Kept) → Keeps f → IsHolding es n → IsDistinct same_key (keys_of fs)
     → Changes es fs k (on_first f (queue_of es k)) → Becomes fs n (with_first k f (merged es))
-with_becomes es fs n k f p a same d c =
-    let h = holds_of fs (with_first k f (merged es)) (subst (IsDistinct same_key) (sym same) d) (with_merges es fs (merged es) k f p a.merge c) in
-    record { holding = record { merge = h.merge; counted = a.counted ∙ sym (ap length h.list ∙ length_with k f (merged es)); behind = subst OnlyFirstsFly (sym h.list) (with_behind k f (merged es) p a.behind); filled = filled_on es fs k f same c a.filled }; list = h.list }
+with_becomes es fs n k f p a d c =
+    let h = holds_of fs (with_first k f (merged es)) d (with_merges es fs (merged es) k f p a.merge c) in
+    record { holding = record { merge = h.merge; counted = a.counted ∙ sym (ap length h.list ∙ length_with k f (merged es)); behind = subst OnlyFirstsFly (sym h.list) (with_behind k f (merged es) p a.behind) }; list = h.list }
 
-pub push_becomes : (es fs : List (DocKey × List Kept)) (n : ℕ) (x : Kept) → IsHolding es n → NoneEmpty fs → IsDistinct same_key (keys_of fs) → AllUnder x.version (merged es) → x.flies ≡ None
+pub push_becomes : (es fs : List (DocKey × List Kept)) (n : ℕ) (x : Kept) → IsHolding es n → IsDistinct same_key (keys_of fs) → AllUnder x.version (merged es) → x.flies ≡ None
     → Changes es fs x.key (queue_of es x.key ++ x ∷ []) → Becomes fs (n + 1) (merged es ++ x ∷ [])
-push_becomes es fs n x a z d u w c =
+push_becomes es fs n x a d u w c =
     let h = holds_of fs (merged es ++ x ∷ []) d (push_merges es fs (merged es) x a.merge u c) in
-    record { holding = record { merge = h.merge; counted = ap (λ m. m + 1) a.counted ∙ sym (ap length h.list ∙ length-append (merged es) (x ∷ [])); behind = subst OnlyFirstsFly (sym h.list) (push_behind (merged es) x w a.behind); filled = z }; list = h.list }
+    record { holding = record { merge = h.merge; counted = ap (λ m. m + 1) a.counted ∙ sym (ap length h.list ∙ length-append (merged es) (x ∷ [])); behind = subst OnlyFirstsFly (sym h.list) (push_behind (merged es) x w a.behind) }; list = h.list }
 
 pub first_here : (es : List (DocKey × List Kept)) (n : ℕ) (k : DocKey) → IsHolding es n → slice_get (queue_of es k) 0 ≡ first_of k (merged es)
 first_here es n k a = ap (λ q. slice_get q 0) (a.merge.queues k) ∙ sym (first_is k (merged es))
 
-pub take_becomes : (es fs : List (DocKey × List Kept)) (n : ℕ) (k : DocKey) (x : Kept) → IsHolding es n → NoneEmpty fs → IsDistinct same_key (keys_of fs)
+pub take_becomes : (es fs : List (DocKey × List Kept)) (n : ℕ) (k : DocKey) (x : Kept) → IsHolding es n → IsDistinct same_key (keys_of fs)
     → Changes es fs k (drop 1 (queue_of es k)) → slice_get (queue_of es k) 0 ≡ Some x → Becomes fs (n - 1) (without_first k (merged es))
-take_becomes es fs n k x a z d c e =
+take_becomes es fs n k x a d c e =
     let h = holds_of fs (without_first k (merged es)) d (without_merges es fs (merged es) k a.merge c) in
     let l = length_without k (merged es) x (sym (first_here es n k a) ∙ e) in
     let m = ap length h.list in
-    record { holding = record { merge = h.merge; counted = let g = a.counted in omega (arith, l, m, g); behind = subst OnlyFirstsFly (sym h.list) (without_behind k (merged es) a.behind); filled = z }; list = h.list }
+    record { holding = record { merge = h.merge; counted = let g = a.counted in omega (arith, l, m, g); behind = subst OnlyFirstsFly (sym h.list) (without_behind k (merged es) a.behind) }; list = h.list }
 
-pub none_becomes : (es fs : List (DocKey × List Kept)) (n : ℕ) (k : DocKey) → IsHolding es n → NoneEmpty fs → IsDistinct same_key (keys_of fs)
+pub none_becomes : (es fs : List (DocKey × List Kept)) (n : ℕ) (k : DocKey) → IsHolding es n → IsDistinct same_key (keys_of fs)
     → Changes es fs k (drop 1 (queue_of es k)) → slice_get (queue_of es k) 0 ≡ None → Becomes fs n (without_first k (merged es))
-none_becomes es fs n k a z d c e =
+none_becomes es fs n k a d c e =
     let h = holds_of fs (without_first k (merged es)) d (without_merges es fs (merged es) k a.merge c) in
-    record { holding = record { merge = h.merge; counted = a.counted ∙ sym (ap length (h.list ∙ without_none k (merged es) (sym (first_here es n k a) ∙ e))); behind = subst OnlyFirstsFly (sym h.list) (without_behind k (merged es) a.behind); filled = z }; list = h.list }
+    record { holding = record { merge = h.merge; counted = a.counted ∙ sym (ap length (h.list ∙ without_none k (merged es) (sym (first_here es n k a) ∙ e))); behind = subst OnlyFirstsFly (sym h.list) (without_behind k (merged es) a.behind) }; list = h.list }
 
 pub some_held : (es : List (DocKey × List Kept)) (n : ℕ) (k : DocKey) (x : Kept) → IsHolding es n → slice_get (queue_of es k) 0 ≡ Some x → 1 ≤ n
 some_held es n k x a e = let l = length_without k (merged es) x (sym (first_here es n k a) ∙ e) in let g = a.counted in omega (arith, l, g)
-
-pub a_key_at : (ks : List DocKey) (i : ℕ) → i < length ks → (k : DocKey) × (slice_get ks i ≡ Some k)
-a_key_at [] i lt = absurd (omega (arith, lt))
-a_key_at (k ∷ ks) zero lt = (k, refl)
-a_key_at (k ∷ ks) (suc i) lt = a_key_at ks i (omega (arith, lt))

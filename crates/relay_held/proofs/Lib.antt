@@ -1,7 +1,8 @@
 pub mod Merging
 pub mod Changing
-pub mod Placed
 pub mod Holding
 pub mod Heads
-pub mod Dues
 pub mod Counting
+pub mod Shelving
+pub mod Waiting
+pub mod Calls

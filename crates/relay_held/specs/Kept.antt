@@ -3,6 +3,7 @@ use Rattle.std.specs.Prelude.{ℕ, ◌+◌, ◌-◌, Option, Some, None, Bool, t
 use Rattle.relay_action.specs.declared.write.Write.{Write}
 use Rattle.relay_held.specs.declared.kept.Kept.{Kept}
 use Rattle.relay_held.specs.declared.kept.Spot.{Spot}
+use Rattle.relay_held.specs.declared.kept.Candidate.{Candidate}
 
 abbrev pub waits_here : Option Spot → Bool
 waits_here None = true
@@ -22,3 +23,7 @@ back_at due w h = record h { flies = None; due = due; write = Some w }
 -- it waits again, with its write, under a cap, and its try is given back
 abbrev pub halved_at : ℕ → ℕ → Write → Kept → Kept
 halved_at due cap w h = record h { flies = None; attempts = h.attempts - 1; cap = cap; due = due; write = Some w }
+
+-- what its batch reads of it
+abbrev pub candidate_of : Kept → Candidate
+candidate_of h = record { name = h.name; version = h.version; bytes = h.bytes; cap = h.cap; taken_at = h.taken_at }

@@ -1,11 +1,10 @@
 -- The held list, and the queues of documents that it is made of.
-use Rattle.std.specs.Prelude.{◌≡◌, ℕ, ◌+◌, ◌<◌, List, [], ◌∷◌, ◌++◌, Option, Some, None, unwrap_or, Bool, true, cond, not, ◌&&◌, nat_lt, nat_le, min, map, filter, length, drop, slice_get, if◌then◌else◌}
+use Rattle.std.specs.Prelude.{◌≡◌, ℕ, ◌+◌, ◌<◌, List, [], ◌∷◌, Option, Some, None, unwrap_or, Bool, cond, not, ◌&&◌, nat_lt, nat_le, min, map, filter, length, drop, if◌then◌else◌}
 use Rattle.std.specs.List.{list_any}
 use Rattle.std.specs.Map.{lookup}
 use Rattle.relay_action.specs.declared.key.DocKey.{DocKey}
 use Rattle.relay_results.specs.Documents.{Document, document_of, same_document}
 use Rattle.relay_held.specs.declared.kept.Kept.{Kept}
-use Rattle.relay_held.specs.declared.held.Head.{Head}
 use Rattle.relay_held.specs.Kept.{waits_here}
 
 -- ---- the held list
@@ -84,56 +83,23 @@ documents hs = map (λ (h : Kept). document_of h.key) hs
 
 -- ---- what callers see
 
--- what is held, in rising version; and the documents, in an order that only says where each is found
+-- what is held, in rising version, and the clock, in ticks
 pub record Holding : Type 0 where
   pub list : List Kept
-  pub order : List DocKey
+  pub clock : ℕ
 
--- the document at this place has this one for its first
-pub record IsHead (s : Holding) (d : Head) (h : Kept) : Type 0 where
-  pub key : DocKey
-  pub at : slice_get s.order d.at ≡ Some key
-  pub of : is_of key h ≡ true
-  pub first : first_of key s.list ≡ Some h
-  pub version : d.version ≡ h.version
-
--- so it is one for one
-abbrev pub AreHeads : Holding → List Head → List Kept → Type 0
-AreHeads s [] [] = Unit {0}
-AreHeads s [] (h ∷ hs) = ⊥
-AreHeads s (d ∷ ds) [] = ⊥
-AreHeads s (d ∷ ds) (h ∷ hs) = IsHead s d h × AreHeads s ds hs
+-- a tick later; the clock stays at its end
+abbrev pub later : ℕ → ℕ
+later clock = if nat_lt clock 18446744073709551615 then clock + 1 else clock
 
 abbrev pub candidates_kept : List Kept → ℕ → List Kept
 candidates_kept hs clock = filter (is_candidate_kept hs clock) hs
 
--- ---- private: who is due, document by document
-
-abbrev pub is_due : ℕ → Kept → Bool
-is_due clock h = waits_here h.flies && nat_le h.due clock
-
-abbrev pub head_if : ℕ → ℕ → Option Kept → List Head
-head_if clock i None = []
-head_if clock i (Some h) = if is_due clock h then record { version = h.version; at = i } ∷ [] else []
-
-abbrev pub due_from : ℕ → ℕ → List (DocKey × List Kept) → List Head
-due_from clock i [] = []
-due_from clock i (e ∷ es) = head_if clock i (slice_get e.1 0) ++ due_from clock (i + 1) es
-
 -- ---- private: the queues
 
--- the first of each document, where it waits
-abbrev pub waiting_if : Option Kept → List Kept
-waiting_if None = []
-waiting_if (Some h) = if waits_here h.flies then h ∷ [] else []
-
-abbrev pub waiting_heads : List (DocKey × List Kept) → List Kept
-waiting_heads [] = []
-waiting_heads (e ∷ es) = waiting_if (slice_get e.1 0) ++ waiting_heads es
-
-abbrev pub with_due : Option Kept → Option ℕ → Option ℕ
-with_due None first = first
-with_due (Some h) first = if waits_here h.flies then sooner h.due first else first
+-- the first operations of their documents that wait
+abbrev pub eligible : List Kept → List Kept
+eligible hs = filter (is_eligible_kept hs) hs
 
 abbrev pub insert_one : Kept → List Kept → List Kept
 insert_one x [] = x ∷ []
@@ -164,7 +130,6 @@ pub record IsHolding (es : List (DocKey × List Kept)) (n : ℕ) : Type 0 where
   pub merge : IsMerge es (merged es)
   pub counted : n ≡ length (merged es)
   pub behind : OnlyFirstsFly (merged es)
-  pub filled : NoneEmpty es
 
 -- the queue of one document is another one now, and each other document has the queue that it had
 pub record Changes (es fs : List (DocKey × List Kept)) (key : DocKey) (q : List Kept) : Type 0 where

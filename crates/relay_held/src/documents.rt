@@ -1,231 +1,413 @@
 //! The queues of all documents.
-ghost use Rattle.std.specs.Prelude.{◌≡◌, ◌++◌, ◌∷◌, [], ◌<◌, ◌≤◌, Some, None, drop, length, slice_get, OnOk, OnErr, IfErr, IfOk, IfSome};
+ghost use Rattle.std.specs.Prelude.{◌≡◌, ◌+◌, ◌^◌, ◌++◌, ◌∷◌, [], ◌<◌, ◌≤◌, Some, None, false, drop, length, slice_get, option_map, OnOk, OnErr, IfErr, IfOk, IfSome, IfNone};
 ghost use Rattle.std.specs.Option.{option_copied};
 ghost use Rattle.std.specs.List.{IsDistinct};
 ghost use Rattle.std.specs.Map.{keys_of, lookup};
 ghost use Rattle.indexmap.specs.IndexMap.{spare};
+ghost use Rattle.slab.specs.Slab.{HasRoomFor};
 ghost use Rattle.relay_action.specs.declared.key.DocKey.{DocKey};
-ghost use Rattle.relay_held.specs.Kept.{launch_one, back_at, halved_at};
-ghost use Rattle.std.specs.List.Sorted.{IsPermutation, IsNonDecreasingBy};
-ghost use Rattle.relay_held.specs.Queues.{same_key, on_first, queue_of, Changes, is_due, head_if, due_from, sooner, with_due, waiting_heads, first_due_kept, NoneEmpty};
+ghost use Rattle.relay_held.specs.declared.kept.Kept.{Kept};
+ghost use Rattle.relay_held.specs.declared.documents.Taken.{Taken};
+ghost use Rattle.relay_held.specs.Kept.{launch_one, back_at, halved_at, candidate_of};
+ghost use Rattle.relay_held.specs.Queues.{same_key, on_first, queue_of, Changes, NoneEmpty};
+ghost use Rattle.relay_held.specs.Shelf.{queue_in, shelved, IsShelf, Sets, slot_of, KeepsSlots, entry_at, entry_after};
 
-use crate::held::{Head, NotHeld};
-use crate::kept::Kept;
+use crate::held::NotHeld;
+use crate::kept::{Candidate, Kept, candidate_of};
 use crate::queue::Queue;
 use indexmap::IndexMap;
 use relay_action::{DocKey, Write};
+use relay_delay::Entry;
+use slab::Slab;
 use std::alloc::{AllocError, Global};
+use std::marker::Model;
 
-/// How many documents there are.
-pub(crate) fn count(documents: &IndexMap<DocKey, Queue>) -> usize
-    ensures count { result ≡ length (keys_of documents.now.entries) }
-    ensures unique { IsDistinct same_key (keys_of documents.now.entries) }
-{
-    documents.len()
+/// The queues of all documents. Each document keeps its slot while something is held of it.
+#[derive(Debug, Drop)]
+pub struct Documents {
+    slots: IndexMap<DocKey, usize>,
+    queues: Slab<Queue>,
 }
 
-// Adds a document with its first operation; the map has room for it.
-fn add(documents: &mut IndexMap<DocKey, Queue>, key: DocKey, one: Kept)
-    requires room { 1 ≤ spare documents.old }
-    requires none { lookup (same_key key) documents.old.entries ≡ None }
-    ensures added { Changes documents.old.entries documents.new.entries key (one ∷ []) }
-    ensures filled { NoneEmpty documents.old.entries → NoneEmpty documents.new.entries }
-    ensures unique { IsDistinct same_key (keys_of documents.new.entries) }
-{
-    let queue = Queue::of(*documents.allocator(), one);
-    let _ = documents.insert(key, queue);
+impl Model for Documents {
+    ghost use Rattle.relay_held.specs.Shelf.{Shelf, shelved, IsShelf};
+
+    ghost Value = { Shelf };
+
+    ghost view = { λ d. record { queues = shelved d.queues d.slots.entries; slots = d.slots.entries } };
+
+    ghost invariant = { λ d. IsShelf d.slots.entries d.queues };
 }
 
-/// One more operation of its document, after those that are there. Every allocation comes first.
-pub(crate) fn push(documents: &mut IndexMap<DocKey, Queue>, one: Kept) -> Result<(), NotHeld>
-    ensures ok { OnOk result (Changes documents.old.entries documents.new.entries one.key
-        (queue_of documents.old.entries one.key ++ one ∷ [])) }
-    ensures err { OnErr result (documents.new.entries ≡ documents.old.entries) }
-    ensures back { IfErr result (λ e. e.one ≡ one) }
-    ensures filled { NoneEmpty documents.old.entries → NoneEmpty documents.new.entries }
-    ensures unique { IsDistinct same_key (keys_of documents.new.entries) }
-{
-    if let Some(queue) = documents.get_mut(&one.key) {
-        return queue.push(one);
-    }
-    let Ok(key) = one.key.copy() else {
-        return Err(NotHeld { one });
-    };
-    if documents.reserve(1).is_err() {
-        return Err(NotHeld { one });
-    }
-    add(documents, key, one);
-    Ok(())
+/// The first operation of a document came out.
+#[derive(Debug, Drop)]
+pub struct Taken {
+    /// The operation.
+    pub one: Kept,
+    /// The entry of the next, which is now the first, if there is one.
+    pub next: Option<Entry>,
 }
 
-/// The first operation of the document at a place is sent, and its write is taken out.
-pub(crate) fn launch(
-    documents: &mut IndexMap<DocKey, Queue>,
-    at: usize,
-    number: u64,
-    place: u64,
-) -> Option<Write>
-    requires { at < length documents.old.entries }
-    ensures sent { (k : DocKey) → slice_get (keys_of documents.old.entries) at ≡ Some k
-        → Changes documents.old.entries documents.new.entries k
-        (on_first (launch_one number place) (queue_of documents.old.entries k)) }
-    ensures write { (k : DocKey) → slice_get (keys_of documents.old.entries) at ≡ Some k
-        → IfSome (slice_get (queue_of documents.old.entries k) 0) (λ h. result ≡ h.write) }
-    ensures keys { keys_of documents.new.entries ≡ keys_of documents.old.entries }
-    ensures unique { IsDistinct same_key (keys_of documents.old.entries) }
+// The first operation of the queue in a slot.
+fn head_in(queues: &Slab<Queue>, slot: usize) -> Option<&Kept>
+    ensures { option_copied result ≡ slice_get (queue_in queues.now slot) 0 }
 {
-    let (_, queue) = documents.pair_mut(at);
-    queue.launch(number, place)
-}
-
-/// The first operation of a write's document waits again.
-pub(crate) fn land(documents: &mut IndexMap<DocKey, Queue>, due: u64, write: Write)
-    ensures landed { Changes documents.old.entries documents.new.entries write.key
-        (on_first (back_at due write) (queue_of documents.old.entries write.key)) }
-    ensures keys { keys_of documents.new.entries ≡ keys_of documents.old.entries }
-    ensures unique { IsDistinct same_key (keys_of documents.old.entries) }
-{
-    if let Some(queue) = documents.get_mut(&write.key) {
-        queue.land(due, write);
-    }
-}
-
-/// The first operation of a write's document waits again under this cap.
-pub(crate) fn halve(documents: &mut IndexMap<DocKey, Queue>, due: u64, cap: u32, write: Write)
-    ensures halved { Changes documents.old.entries documents.new.entries write.key
-        (on_first (halved_at due cap write) (queue_of documents.old.entries write.key)) }
-    ensures keys { keys_of documents.new.entries ≡ keys_of documents.old.entries }
-    ensures unique { IsDistinct same_key (keys_of documents.old.entries) }
-{
-    if let Some(queue) = documents.get_mut(&write.key) {
-        queue.halve(due, cap, write);
-    }
-}
-
-/// Takes out the first operation of a document.
-pub(crate) fn take(documents: &mut IndexMap<DocKey, Queue>, key: &DocKey) -> Option<Kept>
-    ensures taken { Changes documents.old.entries documents.new.entries key.now
-        (drop 1 (queue_of documents.old.entries key.now)) }
-    ensures one { result ≡ slice_get (queue_of documents.old.entries key.now) 0 }
-    ensures filled { NoneEmpty documents.old.entries → NoneEmpty documents.new.entries }
-    ensures unique { IsDistinct same_key (keys_of documents.new.entries) }
-{
-    let Some(queue) = documents.get_mut(key) else {
-        return None;
-    };
-    if let Some(one) = queue.next() {
-        return Some(one);
-    }
-    match documents.swap_remove(key) {
-        Some(queue) => Some(queue.into_head()),
-        None => None,
-    }
-}
-
-/// The first operation of a document.
-pub(crate) fn first<'a>(documents: &'a IndexMap<DocKey, Queue>, key: &DocKey) -> Option<&'a Kept>
-    ensures { option_copied result ≡ slice_get (queue_of documents.now.entries key.now) 0 }
-{
-    match documents.get(key) {
+    match queues.get(slot) {
         Some(queue) => Some(queue.head()),
         None => None,
     }
 }
 
-// Whether it may be sent now, as the first of its document.
-fn is_due(one: &Kept, clock: u64) -> bool
-    ensures { result ≡ is_due clock one.now }
+// The first operation of the queue in a slot is sent, and its write is taken out.
+fn launch_in(queues: &mut Slab<Queue>, slot: usize, number: u64, place: u64) -> Option<Write>
+    ensures sent { Sets queues.old queues.new slot
+        (on_first (launch_one number place) (queue_in queues.old slot)) }
+    ensures write { IfSome (slice_get (queue_in queues.old slot) 0) (λ h. result ≡ h.write) }
 {
-    one.flies.is_none() && one.due <= clock
-}
-
-// Notes where the first operation of a queue is, if it is due.
-fn add_head(heads: &mut Vec<Head>, queue: &Queue, at: usize, clock: u64) -> Result<(), AllocError>
-    ensures ok { OnOk result (heads.new.items
-        ≡ heads.old.items ++ head_if clock at (slice_get queue.now 0)) }
-    ensures err { OnErr result (0 < length (head_if clock at (slice_get queue.now 0))) }
-{
-    let one = queue.head();
-    if is_due(one, clock) {
-        heads.push(Head {
-            version: one.version,
-            at,
-        })?;
-    }
-    Ok(())
-}
-
-/// Where the first operations are that wait and are due, in the order of the documents.
-pub(crate) fn due(
-    alloc: Global,
-    documents: &IndexMap<DocKey, Queue>,
-    clock: u64,
-) -> Result<Vec<Head>, AllocError>
-    ensures heads { IfOk result (λ ds. ds.items ≡ due_from clock 0 documents.now.entries) }
-    ensures err { OnErr result (0 < length (due_from clock 0 documents.now.entries)) }
-    ensures unique { IsDistinct same_key (keys_of documents.now.entries) }
-{
-    let mut heads = Vec::new(alloc);
-    'documents: for at in 0..documents.len() {
-        let (_, queue) = documents.get_index(at).unwrap();
-        add_head(&mut heads, queue, at, clock)?;
-    }
-    Ok(heads)
-}
-
-/// Sorts them by version.
-pub(crate) fn sort(heads: &mut Vec<Head>)
-    ensures moved { IsPermutation heads.old.items heads.new.items }
-    ensures sorted { IsNonDecreasingBy (λ d. d.version) heads.new.items }
-{
-    heads.sort_unstable_by_key(|head| head.version);
-}
-
-// The sooner of two due ticks.
-fn sooner(due: u64, other: Option<u64>) -> u64
-    ensures { Some result ≡ sooner due other }
-{
-    match other {
-        Some(tick) => due.min(tick),
-        None => due,
+    match queues.get_mut(slot) {
+        Some(queue) => queue.launch(number, place),
+        None => None,
     }
 }
 
-// The sooner of the due tick of a queue's first operation, if that waits, and the other one.
-fn with_due(queue: &Queue, first: Option<u64>) -> Option<u64>
-    ensures { result ≡ with_due (slice_get queue.now 0) first }
+// The first operation of the queue in a slot waits again.
+fn land_in(queues: &mut Slab<Queue>, slot: usize, due: u64, write: Write) -> Option<Entry>
+    ensures landed { Sets queues.old queues.new slot
+        (on_first (back_at due write) (queue_in queues.old slot)) }
+    ensures entry { result ≡ option_map (entry_at slot) (slice_get (queue_in queues.new slot) 0) }
 {
-    let one = queue.head();
-    if one.flies.is_none() {
-        Some(sooner(one.due, first))
-    } else {
-        first
+    match queues.get_mut(slot) {
+        Some(queue) => {
+            queue.land(due, write);
+            Some(queue.entry(slot))
+        }
+        None => None,
     }
 }
 
-/// The earliest due tick of the first operations that wait.
-pub(crate) fn first_due(documents: &IndexMap<DocKey, Queue>) -> Option<u64>
-    ensures first { result ≡ first_due_kept (waiting_heads documents.now.entries) }
-    ensures unique { IsDistinct same_key (keys_of documents.now.entries) }
+// The first operation of the queue in a slot waits again under this cap.
+fn halve_in(
+    queues: &mut Slab<Queue>,
+    slot: usize,
+    due: u64,
+    cap: u32,
+    write: Write,
+) -> Option<Entry>
+    ensures halved { Sets queues.old queues.new slot
+        (on_first (halved_at due cap write) (queue_in queues.old slot)) }
+    ensures entry { result ≡ option_map (entry_at slot) (slice_get (queue_in queues.new slot) 0) }
 {
-    let mut first = None;
-    let mut at = documents.len();
-    'documents: while at > 0 {
-        at -= 1;
-        let (_, queue) = documents.get_index(at).unwrap();
-        first = with_due(queue, first);
+    match queues.get_mut(slot) {
+        Some(queue) => {
+            queue.halve(due, cap, write);
+            Some(queue.entry(slot))
+        }
+        None => None,
     }
-    first
 }
 
-/// The first operation of the document at a place.
-pub(crate) fn head(documents: &IndexMap<DocKey, Queue>, at: usize) -> &Kept
-    requires { at < length documents.now.entries }
-    ensures { (k : DocKey) → slice_get (keys_of documents.now.entries) at ≡ Some k
-        → slice_get (queue_of documents.now.entries k) 0 ≡ Some result.now }
+// One more operation at the end of the queue in a slot.
+fn push_in(queues: &mut Slab<Queue>, slot: usize, one: Kept) -> Result<(), NotHeld>
+    requires held { 0 < length (queue_in queues.old slot) }
+    ensures ok { OnOk result (Sets queues.old queues.new slot
+        (queue_in queues.old slot ++ one ∷ [])) }
+    ensures err { OnErr result (queues.new ≡ queues.old) }
+    ensures back { IfErr result (λ e. e.one ≡ one) }
 {
-    match documents.get_index(at) {
-        Some((_, queue)) => queue.head(),
+    match queues.get_mut(slot) {
+        Some(queue) => queue.push(one),
         None => unreachable!(),
+    }
+}
+
+// Takes the first operation of the queue in a slot out, unless it is the last one.
+fn next_in(queues: &mut Slab<Queue>, slot: usize) -> Option<Taken>
+    ensures left { Sets queues.old queues.new slot (queue_in queues.new slot) }
+    ensures one { IfSome result (λ t. queue_in queues.old slot ≡ t.one ∷ queue_in queues.new slot) }
+    ensures next { IfSome result (λ t. t.next
+        ≡ option_map (entry_at slot) (slice_get (queue_in queues.new slot) 0)) }
+    ensures some { IfSome result (λ t. 0 < length (queue_in queues.new slot)) }
+    ensures last { IfNone result (drop 1 (queue_in queues.old slot) ≡ []) }
+    ensures unchanged { IfNone result (queues.new ≡ queues.old) }
+{
+    let Some(queue) = queues.get_mut(slot) else {
+        return None;
+    };
+    match queue.next() {
+        Some(one) => {
+            let next = Some(queue.entry(slot));
+            Some(Taken { one, next })
+        }
+        None => None,
+    }
+}
+
+// Adds a document with its first operation. There is room for both.
+fn add(
+    slots: &mut IndexMap<DocKey, usize>,
+    queues: &mut Slab<Queue>,
+    key: DocKey,
+    one: Kept,
+) -> Entry
+    requires room { 1 ≤ spare slots.old }
+    requires slot { HasRoomFor queues.old 1 }
+    requires none { lookup (same_key key) slots.old.entries ≡ None }
+    requires shelf { IsShelf slots.old.entries queues.old }
+    ensures added { Changes (shelved queues.old slots.old.entries)
+        (shelved queues.new slots.new.entries) key (one ∷ []) }
+    ensures shelf { IsShelf slots.new.entries queues.new }
+    ensures entry { result ≡ entry_at (slot_of slots.new.entries key) one }
+    ensures others { (k : DocKey) → same_key key k ≡ false
+        → lookup (same_key k) slots.new.entries ≡ lookup (same_key k) slots.old.entries }
+    ensures more { length slots.new.entries ≤ length slots.old.entries + 1 }
+{
+    let queue = Queue::of(*slots.allocator(), one);
+    let entry = queue.entry(queues.vacant_key());
+    let slot = queues.insert_reserved(queue);
+    let _ = slots.insert(key, slot);
+    entry
+}
+
+// Room for one more document.
+fn reserve_one(
+    slots: &mut IndexMap<DocKey, usize>,
+    queues: &mut Slab<Queue>,
+) -> Result<(), AllocError>
+    ensures room { OnOk result (1 ≤ spare slots.new) }
+    ensures slot { OnOk result (HasRoomFor queues.new 1) }
+    ensures slots { slots.new.entries ≡ slots.old.entries }
+    ensures queues { queues.new ≡ record queues.old { capacity = queues.new.capacity } }
+{
+    slots.reserve(1)?;
+    queues.reserve(1)
+}
+
+// Adds the document of an operation, of which nothing is held, with this one.
+fn push_new(
+    slots: &mut IndexMap<DocKey, usize>,
+    queues: &mut Slab<Queue>,
+    one: Kept,
+) -> Result<Entry, NotHeld>
+    requires none { lookup (same_key one.key) slots.old.entries ≡ None }
+    requires shelf { IsShelf slots.old.entries queues.old }
+    ensures ok { OnOk result (Changes (shelved queues.old slots.old.entries)
+        (shelved queues.new slots.new.entries) one.key (one ∷ [])) }
+    ensures entry { IfOk result (λ e. e ≡ entry_at (slot_of slots.new.entries one.key) one) }
+    ensures shelf { IsShelf slots.new.entries queues.new }
+    ensures others { OnOk result ((k : DocKey) → same_key one.key k ≡ false
+        → lookup (same_key k) slots.new.entries ≡ lookup (same_key k) slots.old.entries) }
+    ensures more { OnOk result (length slots.new.entries ≤ length slots.old.entries + 1) }
+    ensures slots { OnErr result (slots.new.entries ≡ slots.old.entries) }
+    ensures queues { OnErr result (
+        queues.new ≡ record queues.old { capacity = queues.new.capacity }) }
+    ensures back { IfErr result (λ e. e.one ≡ one) }
+{
+    let Ok(key) = one.key.copy() else {
+        return Err(NotHeld { one });
+    };
+    if reserve_one(slots, queues).is_err() {
+        return Err(NotHeld { one });
+    }
+    Ok(add(slots, queues, key, one))
+}
+
+// Removes a document, of which one operation is held.
+fn remove(
+    slots: &mut IndexMap<DocKey, usize>,
+    queues: &mut Slab<Queue>,
+    key: &DocKey,
+    slot: usize,
+) -> Option<Taken>
+    requires slot { lookup (same_key key.now) slots.old.entries ≡ Some slot }
+    requires last { drop 1 (queue_in queues.old slot) ≡ [] }
+    requires shelf { IsShelf slots.old.entries queues.old }
+    ensures removed { Changes (shelved queues.old slots.old.entries)
+        (shelved queues.new slots.new.entries) key.now [] }
+    ensures shelf { IsShelf slots.new.entries queues.new }
+    ensures one { option_map (λ (t : Taken). t.one) result
+        ≡ slice_get (queue_in queues.old slot) 0 }
+    ensures next { IfSome result (λ t. t.next ≡ None) }
+    ensures others { (k : DocKey) → same_key key.now k ≡ false
+        → lookup (same_key k) slots.new.entries ≡ lookup (same_key k) slots.old.entries }
+    ensures fewer { length slots.new.entries ≤ length slots.old.entries }
+{
+    let _ = slots.swap_remove(key);
+    match queues.try_remove(slot) {
+        Some(queue) => Some(Taken {
+            one: queue.into_head(),
+            next: None,
+        }),
+        None => None,
+    }
+}
+
+// Takes the first operation of the document in a slot out. The document goes with its last one.
+fn take_in(
+    slots: &mut IndexMap<DocKey, usize>,
+    queues: &mut Slab<Queue>,
+    key: &DocKey,
+    slot: usize,
+) -> Option<Taken>
+    requires slot { lookup (same_key key.now) slots.old.entries ≡ Some slot }
+    requires shelf { IsShelf slots.old.entries queues.old }
+    ensures taken { Changes (shelved queues.old slots.old.entries)
+        (shelved queues.new slots.new.entries) key.now (drop 1 (queue_in queues.old slot)) }
+    ensures shelf { IsShelf slots.new.entries queues.new }
+    ensures one { option_map (λ (t : Taken). t.one) result
+        ≡ slice_get (queue_in queues.old slot) 0 }
+    ensures next { IfSome result (λ t. t.next
+        ≡ option_map (entry_at slot) (slice_get (drop 1 (queue_in queues.old slot)) 0)) }
+    ensures kept { (k : DocKey) (h : Kept)
+        → slice_get (queue_of (shelved queues.new slots.new.entries) k) 0 ≡ Some h
+        → lookup (same_key k) slots.new.entries ≡ lookup (same_key k) slots.old.entries }
+    ensures fewer { length slots.new.entries ≤ length slots.old.entries }
+{
+    let taken = next_in(queues, slot);
+    if taken.is_some() {
+        return taken;
+    }
+    remove(slots, queues, key, slot)
+}
+
+impl Documents {
+    /// Nothing is held. It does not allocate.
+    pub(crate) fn new(alloc: Global) -> Documents
+        ensures { result ≡ record { queues = []; slots = [] } }
+    {
+        Documents {
+            slots: IndexMap::new(alloc),
+            queues: Slab::new(alloc),
+        }
+    }
+
+    /// How many documents there are.
+    pub(crate) fn len(&self) -> usize
+        ensures len { result ≡ length (keys_of self.now.queues) }
+        ensures small { result < 2 ^ 63 }
+        ensures unique { IsDistinct same_key (keys_of self.now.queues) }
+        ensures filled { NoneEmpty self.now.queues }
+    {
+        self.slots.len()
+    }
+
+    // The slot of a document's queue.
+    fn slot(&self, key: &DocKey) -> Option<usize>
+        ensures { result ≡ lookup (same_key key.now) self.now.slots }
+    {
+        self.slots.get(key).copied()
+    }
+
+    /// What a batch reads of the first operation of the document in a slot.
+    pub(crate) fn candidate(&self, slot: usize) -> Option<Candidate>
+        ensures { (k : DocKey) (h : Kept) → slice_get (queue_of self.now.queues k) 0 ≡ Some h
+            → slot_of self.now.slots k ≡ slot
+            → result ≡ Some (candidate_of h) }
+    {
+        match head_in(&self.queues, slot) {
+            Some(one) => Some(candidate_of(one)),
+            None => None,
+        }
+    }
+
+    /// The first operation of a document.
+    pub(crate) fn first(&self, key: &DocKey) -> Option<&Kept>
+        ensures { option_copied result ≡ slice_get (queue_of self.now.queues key.now) 0 }
+    {
+        match self.slot(key) {
+            Some(slot) => head_in(&self.queues, slot),
+            None => None,
+        }
+    }
+
+    /// One more operation of its document, after those that are there, and its entry if it is the
+    /// first. Every allocation comes first.
+    pub(crate) fn push(&mut self, one: Kept) -> Result<Option<Entry>, NotHeld>
+        ensures ok { OnOk result (Changes self.old.queues self.new.queues one.key
+            (queue_of self.old.queues one.key ++ one ∷ [])) }
+        ensures entry { IfOk result (λ e. e
+            ≡ entry_after (queue_of self.old.queues one.key) (slot_of self.new.slots one.key) one) }
+        ensures err { OnErr result (self.new ≡ self.old) }
+        ensures back { IfErr result (λ e. e.one ≡ one) }
+        ensures slots { KeepsSlots self.old self.new }
+        ensures more { length (keys_of self.new.queues) ≤ length (keys_of self.old.queues) + 1 }
+        ensures unique { IsDistinct same_key (keys_of self.new.queues) }
+    {
+        if let Some(slot) = self.slot(&one.key) {
+            if let Err(refused) = push_in(&mut self.queues, slot, one) {
+                return Err(refused);
+            }
+            return Ok(None);
+        }
+        match push_new(&mut self.slots, &mut self.queues, one) {
+            Ok(entry) => Ok(Some(entry)),
+            Err(refused) => Err(refused),
+        }
+    }
+
+    /// The first operation of the document in a slot is sent, and its write is taken out.
+    pub(crate) fn launch(&mut self, slot: usize, number: u64, place: u64) -> Option<Write>
+        ensures sent { (k : DocKey) (h : Kept) → slice_get (queue_of self.old.queues k) 0 ≡ Some h
+            → slot_of self.old.slots k ≡ slot
+            → Changes self.old.queues self.new.queues k (on_first (launch_one number place) (queue_of self.old.queues k)) }
+        ensures write { (k : DocKey) (h : Kept) → slice_get (queue_of self.old.queues k) 0 ≡ Some h
+            → slot_of self.old.slots k ≡ slot
+            → result ≡ h.write }
+        ensures slots { self.new.slots ≡ self.old.slots }
+        ensures keys { keys_of self.new.queues ≡ keys_of self.old.queues }
+        ensures unique { IsDistinct same_key (keys_of self.new.queues) }
+    {
+        launch_in(&mut self.queues, slot, number, place)
+    }
+
+    /// The first operation of a write's document waits again. Its entry, if there is one.
+    pub(crate) fn land(&mut self, due: u64, write: Write) -> Option<Entry>
+        ensures landed { Changes self.old.queues self.new.queues write.key
+            (on_first (back_at due write) (queue_of self.old.queues write.key)) }
+        ensures entry { result ≡ option_map (entry_at (slot_of self.old.slots write.key))
+            (slice_get (queue_of self.new.queues write.key) 0) }
+        ensures slots { self.new.slots ≡ self.old.slots }
+        ensures keys { keys_of self.new.queues ≡ keys_of self.old.queues }
+        ensures unique { IsDistinct same_key (keys_of self.new.queues) }
+    {
+        match self.slot(&write.key) {
+            Some(slot) => land_in(&mut self.queues, slot, due, write),
+            None => None,
+        }
+    }
+
+    /// The first operation of a write's document waits again under this cap. Its entry, if there is
+    /// one.
+    pub(crate) fn halve(&mut self, due: u64, cap: u32, write: Write) -> Option<Entry>
+        ensures halved { Changes self.old.queues self.new.queues write.key
+            (on_first (halved_at due cap write) (queue_of self.old.queues write.key)) }
+        ensures entry { result ≡ option_map (entry_at (slot_of self.old.slots write.key))
+            (slice_get (queue_of self.new.queues write.key) 0) }
+        ensures slots { self.new.slots ≡ self.old.slots }
+        ensures keys { keys_of self.new.queues ≡ keys_of self.old.queues }
+        ensures unique { IsDistinct same_key (keys_of self.new.queues) }
+    {
+        match self.slot(&write.key) {
+            Some(slot) => halve_in(&mut self.queues, slot, due, cap, write),
+            None => None,
+        }
+    }
+
+    /// Takes the first operation of a document out. The document goes with its last one.
+    pub(crate) fn take(&mut self, key: &DocKey) -> Option<Taken>
+        ensures taken { Changes self.old.queues self.new.queues key.now
+            (drop 1 (queue_of self.old.queues key.now)) }
+        ensures one { option_map (λ (t : Taken). t.one) result
+            ≡ slice_get (queue_of self.old.queues key.now) 0 }
+        ensures next { IfSome result (λ t. t.next
+            ≡ option_map (entry_at (slot_of self.old.slots key.now))
+            (slice_get (drop 1 (queue_of self.old.queues key.now)) 0)) }
+        ensures slots { KeepsSlots self.old self.new }
+        ensures fewer { length (keys_of self.new.queues) ≤ length (keys_of self.old.queues) }
+        ensures unique { IsDistinct same_key (keys_of self.new.queues) }
+    {
+        match self.slot(key) {
+            Some(slot) => take_in(&mut self.slots, &mut self.queues, key, slot),
+            None => None,
+        }
     }
 }

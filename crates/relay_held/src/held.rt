@@ -1,15 +1,17 @@
 //! What a lane holds.
-ghost use Rattle.std.specs.Prelude.{◌≡◌, ◌+◌, ◌<◌, ◌^◌, ◌++◌, ◌∷◌, [], Some, None, filter, length, slice_get, OnOk, OnErr, IfErr, IfOk, IfSome};
+ghost use Rattle.std.specs.Prelude.{◌≡◌, ◌-◌, ◌<◌, ◌≤◌, ◌^◌, ◌++◌, ◌∷◌, [], Some, None, false, filter, length, slice_get, option_map, OnOk, OnErr, IfErr, IfOk, IfSome};
 ghost use Rattle.std.specs.Option.{option_copied};
 ghost use Rattle.relay_action.specs.declared.key.DocKey.{DocKey};
-ghost use Rattle.relay_held.specs.Kept.{launch_one, back_at, halved_at};
-ghost use Rattle.relay_held.specs.Queues.{AllUnder, first_of, with_first, without_first, candidates_kept, AreHeads, first_due_kept, is_eligible_kept, Rises, OnlyFirstsFly, documents, distinct};
+ghost use Rattle.relay_delay.specs.Waiting.{has_version};
+ghost use Rattle.relay_held.specs.declared.kept.Kept.{Kept};
+ghost use Rattle.relay_held.specs.Shelf.{with_entry};
+ghost use Rattle.relay_held.specs.Kept.{waits_here, launch_one, back_at, halved_at, candidate_of};
+ghost use Rattle.relay_held.specs.Queues.{AllUnder, first_of, with_first, without_first, candidates_kept, first_due_kept, is_eligible_kept, Rises, OnlyFirstsFly, documents, distinct, later};
 
-use crate::documents::{count, due, first, first_due, halve, head, land, launch, push, sort, take};
-use crate::kept::Kept;
-use crate::queue::Queue;
-use indexmap::IndexMap;
+use crate::documents::{Documents, Taken};
+use crate::kept::{Candidate, Kept};
 use relay_action::{DocKey, Write};
+use relay_delay::{DelayQueue, Entry};
 use std::alloc::{AllocError, Global};
 use std::marker::Model;
 
@@ -20,42 +22,68 @@ pub struct NotHeld {
     pub one: Kept,
 }
 
-/// Where to find the first operation of a document.
-#[derive(Clone, Copy, Debug, PartialEq, Eq)]
-pub struct Head {
-    /// Its version.
-    pub version: u64,
-    /// The place of its document.
-    pub at: usize,
-}
-
-/// What is held. Contracts see it as the list in rising version.
+/// What is held, and the clock. Contracts see what is held as a list in rising version.
 #[derive(Debug, Drop)]
 pub struct Held {
-    documents: IndexMap<DocKey, Queue>,
+    documents: Documents,
+    /// The first operation of each document, if it waits.
+    waiting: DelayQueue,
     count: usize,
 }
 
 impl Model for Held {
-    ghost use Rattle.std.specs.Map.{keys_of};
-    ghost use Rattle.relay_held.specs.Queues.{Holding, merged, IsHolding};
+    ghost use Rattle.relay_held.specs.Queues.{Holding, merged};
+    ghost use Rattle.relay_held.specs.Shelf.{IsHeld};
 
     ghost Value = { Holding };
 
-    ghost view = { λ h. record { list = merged h.documents.entries; order = keys_of h.documents.entries } };
+    ghost view = { λ h. record { list = merged h.documents.queues; clock = h.waiting.clock } };
 
-    ghost invariant = { λ h. IsHolding h.documents.entries h.count };
+    ghost invariant = { λ h. IsHeld h.documents h.count h.waiting };
+}
+
+// A tick later, at most `u64::MAX`.
+fn one_later(clock: u64) -> u64
+    ensures { result ≡ later clock }
+{
+    if clock < u64::MAX { clock + 1 } else { clock }
+}
+
+// The first operation of a document waits, if there is one. There is room for it.
+fn wait(waiting: &mut DelayQueue, entry: Option<Entry>)
+    requires { IfSome entry (λ e. (length waiting.old.entries < waiting.old.room)
+        × (has_version e.version waiting.old.entries ≡ false)) }
+    ensures { waiting.new ≡ record waiting.old { entries = with_entry entry waiting.old.entries } }
+{
+    if let Some(one) = entry {
+        waiting.insert(one);
+    }
 }
 
 impl Held {
-    /// Nothing is held. It does not allocate.
+    /// Nothing is held, and the clock is 0. It does not allocate.
     pub fn new(alloc: Global) -> Held
-        ensures { result ≡ record { list = []; order = [] } }
+        ensures { result ≡ record { list = []; clock = 0 } }
     {
         Held {
-            documents: IndexMap::new(alloc),
+            documents: Documents::new(alloc),
+            waiting: DelayQueue::new(alloc),
             count: 0,
         }
+    }
+
+    /// The clock, in ticks.
+    pub fn clock(&self) -> u64
+        ensures { result ≡ self.now.clock }
+    {
+        self.waiting.clock()
+    }
+
+    /// A tick of the clock passes. The clock saturates at `u64::MAX`.
+    pub fn tick(&mut self)
+        ensures { self.new ≡ record { list = self.old.list; clock = later self.old.clock } }
+    {
+        self.waiting.tick(one_later(self.waiting.clock()));
     }
 
     /// How many operations are held.
@@ -68,10 +96,10 @@ impl Held {
 
     /// How many documents the held operations are of.
     pub fn documents(&self) -> usize
-        ensures order { result ≡ length self.now.order }
         ensures documents { result ≡ distinct (documents self.now.list) }
+        ensures few { length (candidates_kept self.now.list self.now.clock) ≤ result }
     {
-        count(&self.documents)
+        self.documents.len()
     }
 
     /// The first operation of a document, if one is held.
@@ -80,16 +108,7 @@ impl Held {
         ensures rises { Rises self.now.list }
         ensures behind { OnlyFirstsFly self.now.list }
     {
-        first(&self.documents, key)
-    }
-
-    /// The first operation of the document at a place.
-    pub fn head(&self, at: usize) -> &Kept
-        requires { at < length self.now.order }
-        ensures { (k : DocKey) → slice_get self.now.order at ≡ Some k
-            → first_of k self.now.list ≡ Some result.now }
-    {
-        head(&self.documents, at)
+        self.documents.first(key)
     }
 
     /// Holds one more operation, whose version is above all others. If an allocation fails, the
@@ -99,11 +118,16 @@ impl Held {
         requires waits { one.flies ≡ None }
         requires few { length self.old.list < 2 ^ 32 }
         ensures ok { OnOk result (self.new.list ≡ self.old.list ++ one ∷ []) }
+        ensures clock { self.new.clock ≡ self.old.clock }
         ensures unchanged { OnErr result (self.new ≡ self.old) }
         ensures back { IfErr result (λ e. e.one ≡ one) }
     {
-        match push(&mut self.documents, one) {
-            Ok(()) => {
+        if self.waiting.reserve(self.documents.len() + 1).is_err() {
+            return Err(NotHeld { one });
+        }
+        match self.documents.push(one) {
+            Ok(entry) => {
+                wait(&mut self.waiting, entry);
                 self.count += 1;
                 Ok(())
             }
@@ -111,42 +135,75 @@ impl Held {
         }
     }
 
-    /// The first operation of the document at a place is sent, and its write is taken out.
-    pub fn launch(&mut self, at: usize, number: u64, place: u64) -> Option<Write>
-        requires { at < length self.old.order }
-        ensures list { (k : DocKey) → slice_get self.old.order at ≡ Some k
-            → self.new.list ≡ with_first k (launch_one number place) self.old.list }
-        ensures write { (k : DocKey) → slice_get self.old.order at ≡ Some k
-            → IfSome (first_of k self.old.list) (λ h. result ≡ h.write) }
-        ensures order { self.new.order ≡ self.old.order }
+    /// The operation at a place of those that may be sent, in rising version: each is the first of
+    /// its document, waits and is due. Nothing that contracts see changes. `AllocError`: an
+    /// allocation failed, and there is an operation at that place. Ask for 0, 1, 2, ..
+    pub fn candidate(&mut self, at: usize) -> Result<Option<Candidate>, AllocError>
+        ensures found { IfOk result (λ c. c ≡ option_map candidate_of
+            (slice_get (candidates_kept self.old.list self.old.clock) at)) }
+        ensures err { OnErr result (at < length (candidates_kept self.old.list self.old.clock)) }
+        ensures same { self.new ≡ self.old }
     {
-        launch(&mut self.documents, at, number, place)
+        let Some(entry) = self.waiting.due_at(at)? else {
+            return Ok(None);
+        };
+        Ok(self.documents.candidate(entry.slot))
     }
 
-    /// The first operation of a write's document waits again.
+    /// The first operation that may be sent is sent, and its write is taken out.
+    pub fn launch(&mut self, number: u64, place: u64) -> Option<Write>
+        requires some { 0 < length (candidates_kept self.old.list self.old.clock) }
+        ensures list { (h : Kept)
+            → slice_get (candidates_kept self.old.list self.old.clock) 0 ≡ Some h
+            → self.new.list ≡ with_first h.key (launch_one number place) self.old.list }
+        ensures write { (h : Kept)
+            → slice_get (candidates_kept self.old.list self.old.clock) 0 ≡ Some h
+            → result ≡ h.write }
+        ensures clock { self.new.clock ≡ self.old.clock }
+    {
+        match self.waiting.take_due() {
+            Some(entry) => self.documents.launch(entry.slot, number, place),
+            None => unreachable!(),
+        }
+    }
+
+    /// The first operation of a write's document, which flies if one is held, waits again. It does
+    /// not allocate.
     pub fn land(&mut self, due: u64, write: Write)
+        requires flies { (h : Kept) → first_of write.key self.old.list ≡ Some h
+            → waits_here h.flies ≡ false }
         ensures list { self.new.list ≡ with_first write.key (back_at due write) self.old.list }
-        ensures order { self.new.order ≡ self.old.order }
+        ensures clock { self.new.clock ≡ self.old.clock }
     {
-        land(&mut self.documents, due, write);
+        let entry = self.documents.land(due, write);
+        wait(&mut self.waiting, entry);
     }
 
-    /// The first operation of a write's document waits again under this cap, and its attempt is
-    /// given back.
+    /// The first operation of a write's document, which flies if one is held, waits again under
+    /// this cap, and its attempt is given back. It does not allocate.
     pub fn halve(&mut self, due: u64, cap: u32, write: Write)
-        ensures list { self.new.list ≡ with_first write.key (halved_at due cap write) self.old.list }
-        ensures order { self.new.order ≡ self.old.order }
+        requires flies { (h : Kept) → first_of write.key self.old.list ≡ Some h
+            → waits_here h.flies ≡ false }
+        ensures list { self.new.list
+            ≡ with_first write.key (halved_at due cap write) self.old.list }
+        ensures clock { self.new.clock ≡ self.old.clock }
     {
-        halve(&mut self.documents, due, cap, write);
+        let entry = self.documents.halve(due, cap, write);
+        wait(&mut self.waiting, entry);
     }
 
-    /// Takes out the first operation of a document.
+    /// Takes out the first operation of a document, which flies if one is held. It does not
+    /// allocate.
     pub fn take(&mut self, key: &DocKey) -> Option<Kept>
+        requires flies { (h : Kept) → first_of key.now self.old.list ≡ Some h
+            → waits_here h.flies ≡ false }
         ensures list { self.new.list ≡ without_first key.now self.old.list }
         ensures one { result ≡ first_of key.now self.old.list }
+        ensures clock { self.new.clock ≡ self.old.clock }
     {
-        match take(&mut self.documents, key) {
-            Some(one) => {
+        match self.documents.take(key) {
+            Some(Taken { one, next }) => {
+                wait(&mut self.waiting, next);
                 self.count -= 1;
                 Some(one)
             }
@@ -154,22 +211,12 @@ impl Held {
         }
     }
 
-    /// Where to find the operations that may be sent at a tick, in rising version: each is the
-    /// first of its document, waits and is due. `AllocError`: the allocation of the places failed;
-    /// some operation may be sent then.
-    pub fn heads(&self, alloc: Global, clock: u64) -> Result<Vec<Head>, AllocError>
-        ensures heads { IfOk result (λ ds. AreHeads self.now ds.items (candidates_kept self.now.list clock)) }
-        ensures err { OnErr result (0 < length (candidates_kept self.now.list clock)) }
+    /// How many ticks pass until the first operation is due, of those that wait and are the first of
+    /// their document; 0 if one is due now.
+    pub fn due_in(&self) -> Option<u64>
+        ensures { result ≡ option_map (λ due. due - self.now.clock)
+            (first_due_kept (filter (is_eligible_kept self.now.list) self.now.list)) }
     {
-        let mut heads = due(alloc, &self.documents, clock)?;
-        sort(&mut heads);
-        Ok(heads)
-    }
-
-    /// The earliest due tick of the operations that wait and are the first of their document.
-    pub fn first_due(&self) -> Option<u64>
-        ensures { result ≡ first_due_kept (filter (is_eligible_kept self.now.list) self.now.list) }
-    {
-        first_due(&self.documents)
+        self.waiting.due_in()
     }
 }

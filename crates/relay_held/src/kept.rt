@@ -1,10 +1,13 @@
 //! A held operation, as it is in memory.
+ghost use Rattle.std.specs.Prelude.{◌≡◌};
+ghost use Rattle.relay_held.specs.Kept.{candidate_of};
+
 use relay_action::{ActionKind, DocKey, OpName, Write};
 
 /// A place of a request in flight.
 #[derive(Clone, Copy, Debug, PartialEq, Eq)]
 pub struct Spot {
-    /// The request, from 0.
+    /// The number of the request, from 1.
     pub request: u64,
     /// The place in it, from 0.
     pub place: u64,
@@ -37,4 +40,32 @@ pub struct Kept {
     pub flies: Option<Spot>,
     /// Its write, while it waits.
     pub write: Option<Write>,
+}
+
+/// What a batch reads of an operation that may be sent.
+#[derive(Clone, Copy, Debug, PartialEq, Eq)]
+pub struct Candidate {
+    /// Its name.
+    pub name: OpName,
+    /// The version that it was assigned.
+    pub version: u64,
+    /// The length of its lines, in bytes.
+    pub bytes: u64,
+    /// The most operations of a request that carries it, unless it is alone there.
+    pub cap: u32,
+    /// The clock when it was taken, in ticks.
+    pub taken_at: u64,
+}
+
+// What a batch reads of it.
+pub(crate) fn candidate_of(one: &Kept) -> Candidate
+    ensures { result ≡ candidate_of one.now }
+{
+    Candidate {
+        name: one.name,
+        version: one.version,
+        bytes: one.bytes,
+        cap: one.cap,
+        taken_at: one.taken_at,
+    }
 }

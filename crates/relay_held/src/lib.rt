@@ -11,5 +11,5 @@ pub mod held;
 pub mod kept;
 mod queue;
 
-pub use held::{Head, Held, NotHeld};
-pub use kept::{Kept, Spot};
+pub use held::{Held, NotHeld};
+pub use kept::{Candidate, Kept, Spot};

@@ -1,11 +1,13 @@
 //! The queue of one document.
-ghost use Rattle.std.specs.Prelude.{◌≡◌, ◌++◌, ◌∷◌, [], ◌<◌, Some, None, drop, slice_get, OnOk, OnErr, IfErr, IfSome, IfNone, length};
+ghost use Rattle.std.specs.Prelude.{◌≡◌, ◌++◌, ◌∷◌, [], ◌<◌, Some, None, drop, slice_get, OnOk, OnErr, IfErr, IfSome, IfNone, length, option_map};
 ghost use Rattle.relay_held.specs.Kept.{launch_one, back_at, halved_at};
 ghost use Rattle.relay_held.specs.Queues.{on_first};
+ghost use Rattle.relay_held.specs.Shelf.{entry_at};
 
 use crate::held::NotHeld;
 use crate::kept::{Kept, Spot};
 use relay_action::Write;
+use relay_delay::Entry;
 use std::alloc::Global;
 use std::collections::VecDeque;
 use std::marker::Model;
@@ -92,6 +94,17 @@ impl Queue {
         ensures { self.now ≡ result.now ∷ drop 1 self.now }
     {
         &self.head
+    }
+
+    /// The first, as it waits in a slot.
+    pub(crate) fn entry(&self, slot: usize) -> Entry
+        ensures { Some result ≡ option_map (entry_at slot) (slice_get self.now 0) }
+    {
+        Entry {
+            version: self.head.version,
+            due: self.head.due,
+            slot,
+        }
     }
 
     /// The first is sent, and its write is taken out.

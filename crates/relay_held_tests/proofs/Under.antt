@@ -1,12 +1,15 @@
 -- Versions below a bound stay below it.
 use Rattle.std.proofs.Common.{◌≡◌, ℕ, ◌+◌, ◌<◌, ◌≤◌, List, [], ◌∷◌, ◌++◌, true, false, refl, sym, ap, ◌∙◌, subst, ⊎_elim, arith}
-use Rattle.std.specs.Prelude.{if◌then◌else◌, Result, Ok, Err, OnOk, OnErr}
+use Rattle.std.specs.Prelude.{if◌then◌else◌, Result, Ok, Err, OnOk, OnErr, Option, Some, None, slice_get, option_map}
 use Rattle.relay_held.specs.declared.held.NotHeld.{NotHeld}
 use Rattle.relay_action.specs.declared.key.DocKey.{DocKey}
 use Rattle.relay_results.proofs.Lists.{true_or_false}
 use Rattle.relay_held.specs.declared.kept.Kept.{Kept}
-use Rattle.relay_held.specs.Queues.{AllUnder, is_of, with_first, without_first, Holding}
+use Rattle.relay_held.specs.declared.kept.Candidate.{Candidate}
+use Rattle.relay_held.specs.Kept.{launch_one, candidate_of}
+use Rattle.relay_held.specs.Queues.{AllUnder, is_of, with_first, without_first, candidates_kept, Holding}
 use Rattle.relay_held.proofs.Changing.{Keeps}
+use Rattle.relay_held.proofs.Holding.{launch_keeps}
 
 pub under_more : (v : ℕ) (hs : List Kept) → AllUnder v hs → AllUnder (v + 1) hs
 under_more v [] a = tt
@@ -34,3 +37,14 @@ under_without v k (h ∷ hs) a = ⊎_elim {C = AllUnder v (without_first k (h �
 pub under_either : (r : Result (Unit {0}) NotHeld) (v : ℕ) (old new : Holding) (x : Kept) → x.version ≡ v → OnOk r (new.list ≡ old.list ++ x ∷ []) → OnErr r (new ≡ old) → AllUnder v old.list → AllUnder (v + 1) new.list
 under_either (Ok u) v old new x e a b under = subst (AllUnder (v + 1)) (sym a) (under_push v old.list x e under)
 under_either (Err f) v old new x e a b under = subst (λ (s : Holding). AllUnder (v + 1) s.list) (sym b) (under_more v old.list under)
+
+-- the first that may be sent is sent
+pub under_launch : (v number place : ℕ) (old mid new : Holding) (x : Candidate) → mid ≡ old → Some x ≡ option_map candidate_of (slice_get (candidates_kept old.list old.clock) 0)
+    → ((h : Kept) → slice_get (candidates_kept mid.list mid.clock) 0 ≡ Some h → new.list ≡ with_first h.key (launch_one number place) mid.list) → AllUnder v old.list → AllUnder v new.list
+under_launch v number place old mid new x same found sent under = by (slice_get (candidates_kept old.list old.clock) 0) refl found
+  where
+    by : (o : Option Kept) → slice_get (candidates_kept old.list old.clock) 0 ≡ o → Some x ≡ option_map candidate_of o → AllUnder v new.list
+    by None is e = absurd (cc)
+    by (Some h) is e =
+        subst (AllUnder v) (sym (sent h (ap (λ (s : Holding). slice_get (candidates_kept s.list s.clock) 0) same ∙ is)))
+        (under_with v h.key (launch_one number place) mid.list (launch_keeps number place) (subst (λ (s : Holding). AllUnder v s.list) (sym same) under))

@@ -1,14 +1,14 @@
 //! Each call once.
-use crate::desk::{Desk, empty_desk, halve, key_of, land, launch, push, take};
-use relay_held::{Head, Spot};
+use crate::desk::{Desk, candidate, empty_desk, halve, key_of, land, launch, push, take, tick};
+use relay_held::Spot;
 use std::alloc::Global;
 use std::test::Fail;
 
-// The versions of the first two operations that may be sent at a tick, and 0 where there is none.
-fn heads_at(alloc: Global, desk: &Desk, clock: u64) -> Result<[u64; 2], Fail> {
-    let heads = desk.held.heads(alloc, clock)?;
-    let version = |head: Option<&Head>| head.map_or(0, |one| one.version);
-    Ok([version(heads.get(0)), version(heads.get(1))])
+// The versions of the first two operations that may be sent, and 0 if there is none.
+fn offered(desk: &mut Desk) -> [u64; 2] {
+    let first = candidate(desk, 0).map_or(0, |one| one.version);
+    let second = candidate(desk, 1).map_or(0, |one| one.version);
+    [first, second]
 }
 
 // What becomes of an operation once it is sent.
@@ -21,20 +21,27 @@ enum After {
     WaitsUnder(u64, u32),
 }
 
+// Ticks pass until this one.
+fn ticks_to(desk: &mut Desk, clock: u64) {
+    for _ in desk.held.clock()..clock {
+        tick(desk);
+    }
+}
+
 // Sends the first operation that may be sent at a tick. The version of its write.
-fn sends(alloc: Global, desk: &mut Desk, clock: u64, after: After) -> Result<u64, Fail> {
-    let heads = desk.held.heads(alloc, clock)?;
-    let Some(head) = heads.get(0) else {
+fn sends(desk: &mut Desk, clock: u64, after: After) -> Result<u64, Fail> {
+    ticks_to(desk, clock);
+    let Some(write) = launch(desk, 7, 2) else {
         return Err("none may be sent")?;
     };
-    let Some(write) = launch(desk, head.at, 7, 2) else {
-        return Err("no write")?;
-    };
     let version = write.version;
-    match after {
-        After::Flies => {}
+    let landed = match after {
+        After::Flies => true,
         After::Waits(due) => land(desk, due, write),
         After::WaitsUnder(due, cap) => halve(desk, due, cap, write),
+    };
+    if !landed {
+        return Err("it waits already")?;
     }
     Ok(version)
 }
@@ -60,7 +67,9 @@ fn first_of(
     }
 }
 
+// Sends what may be sent, and takes the first operation of a document out.
 fn takes(alloc: Global, desk: &mut Desk, document: u64) -> Result<Option<u64>, Fail> {
+    let _ = launch(desk, 0, 0);
     let key = key_of(alloc, document).ok_or("no key")?;
     Ok(take(desk, &key).map(|one| one.version))
 }
@@ -76,11 +85,12 @@ fn three(alloc: Global) -> Option<Desk> {
 
 #[test]
 fn who_may_be_sent(rt: HostRuntime) -> Result<(), Fail> {
-    let desk = three(rt.alloc()).ok_or("not held")?;
+    let mut desk = three(rt.alloc()).ok_or("not held")?;
     assert!(rt; desk.held.len() == 3 && desk.held.documents() == 2);
-    assert!(rt; desk.held.first_due() == Some(0));
     for (clock, wanted) in [(0, [1, 0]), (4, [1, 0]), (5, [1, 3])] {
-        assert!(rt; heads_at(rt.alloc(), &desk, clock)? == wanted);
+        ticks_to(&mut desk, clock);
+        assert!(rt; desk.held.clock() == clock && desk.held.due_in() == Some(0));
+        assert!(rt; offered(&mut desk) == wanted);
     }
     Ok(())
 }
@@ -89,16 +99,17 @@ fn who_may_be_sent(rt: HostRuntime) -> Result<(), Fail> {
 fn sent_and_back(rt: HostRuntime) -> Result<(), Fail> {
     let alloc = rt.alloc();
     let mut desk = three(alloc).ok_or("not held")?;
-    assert!(rt; sends(alloc, &mut desk, 4, After::Flies)? == 1);
+    assert!(rt; sends(&mut desk, 4, After::Flies)? == 1);
     let spot = Some(Spot {
         request: 7,
         place: 2,
     });
     assert!(rt; first_of(alloc, &desk, 0)? == (1, 0, 10, 1, 1, spot));
-    assert!(rt; desk.held.first_due() == Some(5));
-    assert!(rt; sends(alloc, &mut desk, 5, After::Waits(9))? == 3);
+    assert!(rt; desk.held.due_in() == Some(1));
+    assert!(rt; sends(&mut desk, 5, After::Waits(9))? == 3);
     assert!(rt; first_of(alloc, &desk, 1)? == (3, 9, 10, 1, 1, None));
-    assert!(rt; sends(alloc, &mut desk, 9, After::WaitsUnder(9, 4))? == 3);
+    assert!(rt; desk.held.due_in() == Some(4));
+    assert!(rt; sends(&mut desk, 9, After::WaitsUnder(9, 4))? == 3);
     assert!(rt; first_of(alloc, &desk, 1)? == (3, 9, 4, 2, 1, None));
     Ok(())
 }
@@ -107,6 +118,7 @@ fn sent_and_back(rt: HostRuntime) -> Result<(), Fail> {
 fn taken_out(rt: HostRuntime) -> Result<(), Fail> {
     let alloc = rt.alloc();
     let mut desk = three(alloc).ok_or("not held")?;
+    ticks_to(&mut desk, 5);
     for (document, version, left) in [
         (0, Some(1), (2, 2)),
         (0, Some(2), (1, 1)),
@@ -117,15 +129,4 @@ fn taken_out(rt: HostRuntime) -> Result<(), Fail> {
         assert!(rt; (desk.held.len(), desk.held.documents()) == left);
     }
     Ok(())
-}
-
-// Whichever allocation is refused, the operation is held when it is pushed again.
-#[test]
-fn refusals(rt: HostRuntime) {
-    let alloc = rt.alloc();
-    let mut desk = empty_desk(alloc);
-    for due in 0..3u64 {
-        assert!(rt; push(alloc, &mut desk, 0, due) || push(alloc, &mut desk, 0, due));
-    }
-    assert!(rt; desk.held.len() == 3 && desk.held.documents() == 1);
 }

@@ -1,10 +1,12 @@
 //! Held operations whose versions rise one by one.
-ghost use Rattle.std.specs.Prelude.{◌≡◌, None, IfSome};
-ghost use Rattle.relay_held.specs.Queues.{AllUnder};
+ghost use Rattle.std.specs.Prelude.{◌≡◌, Some, None, false, IfSome};
+ghost use Rattle.relay_held.specs.declared.kept.Kept.{Kept};
+ghost use Rattle.relay_held.specs.Kept.{waits_here};
+ghost use Rattle.relay_held.specs.Queues.{AllUnder, first_of};
 ghost use Rattle.relay_held_tests.specs.Under.{AllUnder-prop};
 
 use relay_action::{Action, ActionKind, DocKey, OpName, Write};
-use relay_held::{Held, Kept, NotHeld};
+use relay_held::{Candidate, Held, Kept, NotHeld};
 use std::alloc::Global;
 
 /// What is held, below the next version.
@@ -73,25 +75,60 @@ pub fn push(alloc: Global, desk: &mut Desk, document: u64, due: u64) -> bool {
     }
 }
 
-/// Sends the first operation of the document at a place. `None` if no document is there.
-pub fn launch(desk: &mut Desk, at: usize, request: u64, place: u64) -> Option<Write> {
-    if at >= desk.held.documents() {
-        return None;
-    }
-    desk.held.launch(at, request, place)
+/// A tick passes.
+pub fn tick(desk: &mut Desk) {
+    desk.held.tick();
 }
 
-/// The first operation of the document of a write waits again.
-pub fn land(desk: &mut Desk, due: u64, write: Write) {
+/// The operation at a place of those that may be sent. It asks once more if memory is refused.
+pub fn candidate(desk: &mut Desk, at: usize) -> Option<Candidate> {
+    match desk.held.candidate(at) {
+        Ok(one) => one,
+        Err(_) => desk.held.candidate(at).ok().flatten(),
+    }
+}
+
+/// Sends the first operation that may be sent. `None` if there is none.
+pub fn launch(desk: &mut Desk, request: u64, place: u64) -> Option<Write> {
+    match desk.held.candidate(0) {
+        Ok(Some(_)) => desk.held.launch(request, place),
+        _ => None,
+    }
+}
+
+// Whether the first operation of a document waits.
+fn waits(held: &Held, key: &DocKey) -> bool
+    ensures { result ≡ false → (h : Kept) → first_of key.now held.now.list ≡ Some h → waits_here h.flies ≡ false }
+{
+    match held.first(key) {
+        Some(one) => one.flies.is_none(),
+        None => false,
+    }
+}
+
+/// The first operation of the document of a write, which flies, waits again. `false` if it waits
+/// already.
+pub fn land(desk: &mut Desk, due: u64, write: Write) -> bool {
+    if waits(&desk.held, &write.key) {
+        return false;
+    }
     desk.held.land(due, write);
+    true
 }
 
 /// The same under a cap, and its attempt is given back.
-pub fn halve(desk: &mut Desk, due: u64, cap: u32, write: Write) {
+pub fn halve(desk: &mut Desk, due: u64, cap: u32, write: Write) -> bool {
+    if waits(&desk.held, &write.key) {
+        return false;
+    }
     desk.held.halve(due, cap, write);
+    true
 }
 
-/// Takes out the first operation of a document.
+/// Takes out the first operation of a document, which flies. `None` if it waits, or none is held.
 pub fn take(desk: &mut Desk, key: &DocKey) -> Option<Kept> {
+    if waits(&desk.held, key) {
+        return None;
+    }
     desk.held.take(key)
 }

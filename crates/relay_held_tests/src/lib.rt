@@ -6,6 +6,8 @@ mod calls;
 #[cfg(test)]
 mod desk;
 #[cfg(test)]
+mod refusals;
+#[cfg(test)]
 mod rows;
 #[cfg(test)]
 mod sequences;

@@ -1,13 +1,14 @@
 //! The same operations as a plain list in the order of their versions.
 ghost use Rattle.std.specs.Prelude.{◌≤◌, ◌<◌, length};
 
-use relay_held::{Head, Held, Kept, Spot};
+use relay_held::{Candidate, Kept, Spot};
 
 /// A held operation.
 #[derive(Clone, Copy, Debug, PartialEq, Eq)]
 pub struct Row {
     pub document: u64,
     pub version: u64,
+    pub taken_at: u64,
     pub due: u64,
     pub cap: u32,
     pub sends: u32,
@@ -23,6 +24,7 @@ impl Row {
         Row {
             document,
             version,
+            taken_at: due,
             due,
             cap: 10,
             sends: 0,
@@ -73,6 +75,15 @@ impl Row {
             && one.flies == self.flies
             && one.write.as_ref().map(|write| write.version) == self.write
     }
+
+    /// Whether this is what a batch reads of it.
+    pub fn offers(self, one: Candidate) -> bool {
+        one.version == self.version
+            && one.name.number == self.version
+            && one.bytes == 78
+            && one.cap == self.cap
+            && one.taken_at == self.taken_at
+    }
 }
 
 /// The place of the first operation of a document; the length of the list if there is none.
@@ -105,8 +116,8 @@ pub fn count_documents(rows: &[Row]) -> usize {
     count
 }
 
-/// The least due tick of the operations that may be sent, of which nothing older is held.
-pub fn first_due(rows: &[Row]) -> Option<u64> {
+// The least due tick of the operations that wait and of which nothing older is held.
+fn first_due(rows: &[Row]) -> Option<u64> {
     let mut least = None;
     for i in 0..rows.len() {
         if is_waiting_first(rows, i) {
@@ -117,21 +128,38 @@ pub fn first_due(rows: &[Row]) -> Option<u64> {
     least
 }
 
-// Whether a head leads to the operation of this version.
-fn leads_to(held: &Held, head: Head, version: u64) -> bool {
-    head.version == version && head.at < held.documents() && held.head(head.at).version == version
+// How many ticks pass until a tick.
+fn ticks_until(due: u64, clock: u64) -> u64 {
+    due.saturating_sub(clock)
 }
 
-/// Whether these are the operations that may be sent at a tick, in the order of their versions.
-pub fn are_heads(rows: &[Row], held: &Held, heads: &[Head], clock: u64) -> bool {
-    let mut next = 0usize;
+/// How many ticks pass until the first of them is due.
+pub fn due_in(rows: &[Row], clock: u64) -> Option<u64> {
+    first_due(rows).map(|due| ticks_until(due, clock))
+}
+
+/// The place of the operation at a place of those that may be sent; the length of the list if there
+/// are fewer.
+pub fn candidate_at(rows: &[Row], at: usize, clock: u64) -> usize
+    ensures { result ≤ length rows.now }
+{
+    let mut before = 0usize;
     for i in 0..rows.len() {
         if is_waiting_first(rows, i) && rows[i].due <= clock {
-            if next >= heads.len() || !leads_to(held, heads[next], rows[i].version) {
-                return false;
+            if before == at {
+                return i;
             }
-            next = next.saturating_add(1);
+            before = before.saturating_add(1);
         }
     }
-    next == heads.len()
+    rows.len()
+}
+
+/// Whether the operation at a place of those that may be sent is this one.
+pub fn is_candidate(rows: &[Row], at: usize, clock: u64, one: Option<Candidate>) -> bool {
+    let i = candidate_at(rows, at, clock);
+    match one {
+        Some(one) => i < rows.len() && rows[i].offers(one),
+        None => i == rows.len(),
+    }
 }

@@ -1,10 +1,10 @@
 //! Calls drawn by a seed, beside the plain list.
 ghost use Rattle.std.specs.Prelude.{◌<◌};
 
-use crate::desk::{Desk, empty_desk, halve, key_of, land, launch, push, take};
-use crate::rows::{Row, are_heads, count_documents, first_at, first_due};
+use crate::desk::{Desk, candidate, empty_desk, halve, key_of, land, launch, push, take, tick};
+use crate::rows::{Row, candidate_at, count_documents, due_in, first_at, is_candidate};
 use relay_action::{DocKey, Write};
-use relay_held::{Head, Held, Spot};
+use relay_held::{Held, Spot};
 use std::alloc::Global;
 
 // How many documents there are.
@@ -57,44 +57,52 @@ fn is_sent(game: &mut Game, document: u64, spot: Spot, write: Write) -> bool {
     game.flown.push(Flown { document, write }).is_ok()
 }
 
-// The document of a version.
-fn document_at(rows: &[Row], version: u64) -> u64 {
-    for row in rows {
-        if row.version == version {
-            return row.document;
-        }
-    }
-    DOCUMENTS
+// A tick passes in both.
+fn ticks(game: &mut Game) {
+    tick(&mut game.desk);
+    game.clock = game.clock.saturating_add(1);
 }
 
-fn sends(game: &mut Game, head: Head) -> bool {
+// The first that may be sent is sent, if there is one.
+fn sends(game: &mut Game) -> bool {
     let spot = Spot {
         request: draw(&mut game.seed, 100),
         place: draw(&mut game.seed, 10),
     };
-    let document = document_at(&game.rows, head.version);
-    match launch(&mut game.desk, head.at, spot.request, spot.place) {
-        Some(write) => is_sent(game, document, spot, write),
-        None => false,
+    let i = candidate_at(&game.rows, 0, game.clock);
+    match launch(&mut game.desk, spot.request, spot.place) {
+        Some(write) => {
+            if i >= game.rows.len() {
+                return false;
+            }
+            let document = game.rows[i].document;
+            is_sent(game, document, spot, write)
+        }
+        None => i == game.rows.len(),
     }
 }
 
-// One of those that may be sent is sent, if there is one.
+// Whether the first few that may be sent are the same in both, and that there are no more of them.
+fn offers(game: &mut Game, count: usize) -> bool {
+    for at in 0..count {
+        let one = candidate(&mut game.desk, at);
+        if !is_candidate(&game.rows, at, game.clock, one) {
+            return false;
+        }
+    }
+    true
+}
+
+// Some of those that may be sent are looked at, and the first one or two are sent.
 fn launches(game: &mut Game) -> bool {
-    let Ok(heads) = game.desk.held.heads(game.alloc, game.clock) else {
-        return false;
-    };
-    if !are_heads(&game.rows, &game.desk.held, &heads, game.clock) {
+    let looks = draw(&mut game.seed, DOCUMENTS + 2) as usize;
+    if !offers(game, looks) || !sends(game) {
         return false;
     }
-    if heads.is_empty() {
-        return true;
-    }
-    let i = draw(&mut game.seed, heads.len() as u64) as usize;
-    sends(game, heads[i])
+    draw(&mut game.seed, 2) == 0 || sends(game)
 }
 
-// A write that flew comes back; what is the first of its document now waits with it.
+// A write that flew comes back; the first of its document waits again with it, if that flies.
 fn lands(game: &mut Game, halves: bool) -> bool {
     if game.flown.is_empty() {
         return true;
@@ -103,24 +111,31 @@ fn lands(game: &mut Game, halves: bool) -> bool {
     let i = draw(&mut game.seed, game.flown.len() as u64) as usize;
     let Flown { document, write } = game.flown.swap_remove(i);
     let at = first_at(&game.rows, document);
+    let mut waits = false;
     if at < game.rows.len() {
-        game.rows[at] = if halves {
-            game.rows[at].halved(due, 4, write.version)
-        } else {
-            game.rows[at].landed(due, write.version)
-        };
+        waits = game.rows[at].flies.is_none();
+        if !waits {
+            game.rows[at] = if halves {
+                game.rows[at].halved(due, 4, write.version)
+            } else {
+                game.rows[at].landed(due, write.version)
+            };
+        }
     }
-    if halves {
-        halve(&mut game.desk, due, 4, write);
+    let landed = if halves {
+        halve(&mut game.desk, due, 4, write)
     } else {
-        land(&mut game.desk, due, write);
-    }
-    true
+        land(&mut game.desk, due, write)
+    };
+    landed != waits
 }
 
-// The first of a document is taken out of both.
+// The first of a document is taken out of both, if it flies.
 fn takes_of(game: &mut Game, document: u64, key: &DocKey) -> bool {
     let at = first_at(&game.rows, document);
+    if at < game.rows.len() && game.rows[at].flies.is_none() {
+        return take(&mut game.desk, key).is_none();
+    }
     match take(&mut game.desk, key) {
         Some(one) => at < game.rows.len() && game.rows.remove(at).is(&one) && one.key == *key,
         None => at == game.rows.len(),
@@ -155,11 +170,14 @@ fn agree(game: &Game) -> bool {
     }
     game.desk.held.len() == game.rows.len()
         && game.desk.held.documents() == count_documents(&game.rows)
-        && game.desk.held.first_due() == first_due(&game.rows)
+        && game.desk.held.due_in() == due_in(&game.rows, game.clock)
+        && game.desk.held.clock() == game.clock
 }
 
 fn steps(game: &mut Game) -> bool {
-    game.clock = game.clock.saturating_add(draw(&mut game.seed, 2));
+    if draw(&mut game.seed, 2) == 0 {
+        ticks(game);
+    }
     match draw(&mut game.seed, 9) {
         0 | 1 | 2 | 3 => pushes(game),
         4 | 5 => launches(game),
@@ -172,16 +190,28 @@ fn steps(game: &mut Game) -> bool {
     }
 }
 
-// All that is held is taken out.
-fn empties(game: &mut Game) -> bool {
+// All that flies is taken out.
+fn takes_all(game: &mut Game) -> bool {
     for document in 0..DOCUMENTS {
-        for _ in 0..game.rows.len() {
-            if !takes(game, document) {
-                return false;
-            }
+        if !takes(game, document) {
+            return false;
         }
     }
-    game.rows.is_empty() && game.desk.held.len() == 0 && game.desk.held.documents() == 0
+    true
+}
+
+// All that is held is sent and taken out.
+fn empties(game: &mut Game) -> bool {
+    for _ in 0..100 {
+        if game.rows.is_empty() {
+            return game.desk.held.len() == 0 && game.desk.held.documents() == 0;
+        }
+        ticks(game);
+        if !sends(game) || !takes_all(game) {
+            return false;
+        }
+    }
+    false
 }
 
 // Forty calls by a seed, and then what is left.
