@@ -1,80 +1,98 @@
--- Batches behind numbers: what a look-up finds, and what stays without one number.
-use Rattle.std.proofs.Common.{◌≡◌, ◌≢◌, ℕ, ◌<◌, ◌≤◌, suc, zero, true, false, not, cond, eqb, ltb, List, [], ◌∷◌, ◌++◌, length, get_or, None, Some, IsSome, refl, ap, ◌∙◌, sym, arith, inl, inr, eq-eqb}
+-- Requests by their numbers: what a look-up finds, and what stays without one number.
+use Rattle.std.proofs.Common.{◌≡◌, ℕ, ◌+◌, ◌<◌, ◌≤◌, suc, zero, true, false, not, cond, ◌==◌, eqb, ltb, List, [], ◌∷◌, ◌++◌, length, get_or, None, Some, IsSome, refl, ap, ◌∙◌, sym, arith, inl, inr, eq-eqb}
+use Rattle.std.specs.Prelude.{map, option_map}
 use Rattle.std.proofs.lemmas.Bool.{ne_eqb, cases_lt, lt-ltb}
-use Rattle.std.proofs.lemmas.Bool.Decides.{eqb_tells}
+use Rattle.std.proofs.lemmas.Bool.Decides.{eqb_tells, Decides-eqb}
 use Rattle.std.proofs.lemmas.List.Sums.{fails_before_first}
 use Rattle.std.proofs.lemmas.List.Quantifiers.{position-Some}
-use Rattle.std.proofs.lemmas.Bool.{eqb-false}
-use Rattle.std.proofs.lemmas.Bool.Decides.{Decides-eqb}
-use Rattle.std.specs.List.{AllPairs, remove, position, position_or_len, filter}
+use Rattle.std.specs.List.{remove, position, position_or_len, filter, find}
 use Rattle.std.specs.Map.{lookup}
+use Rattle.relay_flight.specs.declared.request.Request.{Request}
+use Rattle.relay_flight.specs.Flying.{Items, entered, settled}
+use Rattle.relay_flight.specs.InFlight.{InFlight, AreNumbered, IsOldest, has_number, others, numbered_batch, batches_of, with_request, without_request}
 
--- no entry has the number
-abbrev pub Lacks : {X : Type 0} → ℕ → List (ℕ × X) → Type 0
-Lacks {X} n es = (k : ℕ) (d : ℕ × X) → k < length es → (get_or es k d).0 ≢ n
+-- ---- none has the number
 
-Lacks-tail : {X : Type 0} (n : ℕ) (e : ℕ × X) (es : List (ℕ × X)) → Lacks n (e ∷ es) → Lacks n es
-Lacks-tail n e es h = λ k d lt. h (suc k) d (omega arith)
+abbrev pub Lacks : ℕ → List Request → Type 0
+Lacks n [] = Unit {0}
+Lacks n (r ∷ rs) = (has_number n r ≡ false) × Lacks n rs
 
--- a place that was not found says that no entry has the number
-pub Lacks-position : {X : Type 0} (n : ℕ) (es : List (ℕ × X)) → position (λ e. eqb e.0 n) es ≡ None → Lacks n es
-Lacks-position {X} n es e =
-    elim (cases_lt (position_or_len (λ (e : ℕ × X). eqb e.0 n) es) (length es)) [
-      | inl lt ↦ let found : ltb (position_or_len (λ (e : ℕ × X). eqb e.0 n) es) (length es) ≡ true = lt-ltb _ _ lt in
+pub find-Lacks : (n : ℕ) (rs : List Request) → Lacks n rs → find (has_number n) rs ≡ None
+find-Lacks n [] l = refl
+find-Lacks n (r ∷ rs) l = let apart = l.0 in rw apart (find-Lacks n rs l.1)
+
+pub others-Lacks : (n : ℕ) (rs : List Request) → Lacks n rs → others n rs ≡ rs
+others-Lacks n [] l = refl
+others-Lacks n (r ∷ rs) l = let apart = l.0 in rw apart (ap (λ qs. r ∷ qs) (others-Lacks n rs l.1))
+
+lacks_by : (n : ℕ) (rs : List Request) → ((k : ℕ) (d : Request) → k < length rs → has_number n (get_or rs k d) ≡ false) → Lacks n rs
+lacks_by n [] h = tt
+lacks_by n (r ∷ rs) h = (h 0 r (omega arith), lacks_by n rs (λ k d lt. h (suc k) d (omega arith)))
+
+-- a place that was not found says so
+pub Lacks-position : (n : ℕ) (rs : List Request) → position (has_number n) rs ≡ None → Lacks n rs
+Lacks-position n rs e =
+    elim (cases_lt (position_or_len (has_number n) rs) (length rs)) [
+      | inl lt ↦ let found : ltb (position_or_len (has_number n) rs) (length rs) ≡ true = lt-ltb _ _ lt in
           let wrong = rw found at e in cc
-      | inr past ↦ λ k d lt same.
-          let fails : eqb (get_or es k d).0 n ≡ false = fails_before_first (λ (e : ℕ × X). eqb e.0 n) es k d (omega arith) in
-          let passes : eqb (get_or es k d).0 n ≡ true = eq-eqb _ _ same in cc
+      | inr past ↦ lacks_by n rs (λ k d lt. fails_before_first (has_number n) rs k d (omega arith))
     ]
 
--- a number that no entry has is not found
-pub lookup-Lacks : {X : Type 0} (n : ℕ) (es : List (ℕ × X)) → Lacks n es → lookup (λ k. eqb k n) es ≡ None
-lookup-Lacks n [] h = refl
-lookup-Lacks n (e ∷ es) h =
-    let apart : eqb e.0 n ≡ false = ne_eqb _ _ (h 0 e (omega arith)) in
-    rw apart (lookup-Lacks n es (Lacks-tail n e es h))
+-- rising numbers are above a number below the least
+pub lacks_below : (n least next : ℕ) (rs : List Request) → n < least → AreNumbered least next rs → Lacks n rs
+lacks_below n least next [] lt a = tt
+lacks_below n least next (r ∷ rs) lt a = (
+  ne_eqb _ _ (λ e. omega (arith, a.0, e)),
+  lacks_below n (r.number + 1) next rs (omega (arith, a.0)) a.2,
+)
 
--- the first entry with the number is what is found
-pub lookup-get_or : {X : Type 0} (n : ℕ) (es : List (ℕ × X)) (i : ℕ) (d : ℕ × X) → i < length es → (get_or es i d).0 ≡ n → ((k : ℕ) → k < i → (get_or es k d).0 ≢ n) → lookup (λ k. eqb k n) es ≡ Some (get_or es i d).1
-lookup-get_or n [] i d lt same h = absurd (omega arith)
-lookup-get_or n (e ∷ es) zero d lt same h =
-    let here : eqb e.0 n ≡ true = eq-eqb _ _ same in
-    rw here refl
-lookup-get_or n (e ∷ es) (suc i) d lt same h =
-    let apart : eqb e.0 n ≡ false = ne_eqb _ _ (h 0 (omega arith)) in
-    rw apart (lookup-get_or n es i d (omega arith) same (λ k below. h (suc k) (omega arith)))
+-- none has the next number
+pub lacks_next : (least next : ℕ) (rs : List Request) → AreNumbered least next rs → Lacks next rs
+lacks_next least next [] a = tt
+lacks_next least next (r ∷ rs) a = (ne_eqb _ _ (λ e. omega (arith, a.1, e)), lacks_next (r.number + 1) next rs a.2)
 
--- without a number that no entry has, all entries stay
-pub filter-Lacks : {X : Type 0} (n : ℕ) (es : List (ℕ × X)) → Lacks n es → filter (λ e. not (eqb e.0 n)) es ≡ es
-filter-Lacks n [] h = refl
-filter-Lacks n (e ∷ es) h =
-    let apart : eqb e.0 n ≡ false = ne_eqb _ _ (h 0 e (omega arith)) in
-    rw apart (ap (λ fs. e ∷ fs) (filter-Lacks n es (Lacks-tail n e es h)))
+-- ---- where the place of a number was found
 
--- without the number of one entry alone, the others stay
-pub filter-remove : {X : Type 0} (n : ℕ) (es : List (ℕ × X)) (i : ℕ) (d : ℕ × X) → i < length es → (get_or es i d).0 ≡ n → ((k : ℕ) (c : ℕ × X) → k < length es → k ≢ i → (get_or es k c).0 ≢ n) → filter (λ e. not (eqb e.0 n)) es ≡ remove es i
-filter-remove n [] i d lt same h = absurd (omega arith)
-filter-remove n (e ∷ es) zero d lt same h =
-    let here : eqb e.0 n ≡ true = eq-eqb _ _ same in
-    rw here (filter-Lacks n es (λ k c below. h (suc k) c (omega arith) (omega arith)))
-filter-remove n (e ∷ es) (suc i) d lt same h =
-    let apart : eqb e.0 n ≡ false = ne_eqb _ _ (h 0 e (omega arith) (omega arith)) in
-    rw apart (ap (λ fs. e ∷ fs) (filter-remove n es i d (omega arith) same (λ k c below other. h (suc k) c (omega arith) (omega arith))))
+find-get_or : (n : ℕ) (rs : List Request) (i : ℕ) (d : Request) → i < length rs → has_number n (get_or rs i d) ≡ true → ((k : ℕ) → k < i → has_number n (get_or rs k d) ≡ false) → find (has_number n) rs ≡ Some (get_or rs i d)
+find-get_or n [] i d lt same h = absurd (omega arith)
+find-get_or n (r ∷ rs) zero d lt same h = rw same refl
+find-get_or n (r ∷ rs) (suc i) d lt same h =
+    let apart : has_number n r ≡ false = h 0 (omega arith) in
+    rw apart (find-get_or n rs i d (omega arith) same (λ k below. h (suc k) (omega arith)))
 
--- what is found without a number
-pub lookup-filter : {X : Type 0} (n k : ℕ) (es : List (ℕ × X)) → lookup (λ j. eqb j k) (filter (λ e. not (eqb e.0 n)) es) ≡ cond (eqb k n) None (lookup (λ j. eqb j k) es)
-lookup-filter n k [] = elim (eqb_tells k n) [ inl same ↦ rw same.0 refl | inr apart ↦ rw apart.0 refl ]
-lookup-filter n k (e ∷ es) =
-    let rest = lookup-filter n k es in
-    elim (eqb_tells e.0 n) [
+-- at that place is the request that is found
+pub find-position : (n : ℕ) (rs : List Request) (i : ℕ) (d : Request) → position (has_number n) rs ≡ Some i → find (has_number n) rs ≡ Some (get_or rs i d)
+find-position n rs i d e = let at = position-Some (has_number n) rs i d e in find-get_or n rs i d at.0 at.1 at.2
+
+others-remove : (n least next : ℕ) (rs : List Request) (i : ℕ) (d : Request) → AreNumbered least next rs → i < length rs → has_number n (get_or rs i d) ≡ true → ((k : ℕ) → k < i → has_number n (get_or rs k d) ≡ false) → others n rs ≡ remove rs i
+others-remove n least next [] i d a lt same h = absurd (omega arith)
+others-remove n least next (r ∷ rs) zero d a lt same h =
+    let is : r.number ≡ n = (Decides-eqb _ _).0 same in
+    rw same (others-Lacks n rs (lacks_below n (r.number + 1) next rs (omega (arith, is)) a.2))
+others-remove n least next (r ∷ rs) (suc i) d a lt same h =
+    let apart : has_number n r ≡ false = h 0 (omega arith) in
+    rw apart (ap (λ qs. r ∷ qs) (others-remove n (r.number + 1) next rs i d a.2 (omega arith) same (λ k below. h (suc k) (omega arith))))
+
+-- and the others are those without that place
+pub others-position : (n least next : ℕ) (rs : List Request) (i : ℕ) (d : Request) → AreNumbered least next rs → position (has_number n) rs ≡ Some i → others n rs ≡ remove rs i
+others-position n least next rs i d a e = let at = position-Some (has_number n) rs i d e in others-remove n least next rs i d a at.0 at.1 at.2
+
+-- ---- what is found afterwards
+
+-- without a number
+pub find-others : (n k : ℕ) (rs : List Request) → find (has_number k) (others n rs) ≡ cond (k == n) None (find (has_number k) rs)
+find-others n k [] = elim (eqb_tells k n) [ inl same ↦ rw same.0 refl | inr apart ↦ rw apart.0 refl ]
+find-others n k (r ∷ rs) =
+    let rest = find-others n k rs in
+    elim (eqb_tells r.number n) [
       | inl left ↦ let gone = left.0 in rw gone (elim (eqb_tells k n) [
         | inl asked ↦ let hit = asked.0 in rw hit (rw hit at rest)
         | inr asked ↦
             let miss = asked.0 in
-            let other : eqb e.0 k ≡ false = ne_eqb _ _ (λ q. asked.1 (sym q ∙ left.1)) in
+            let other : eqb r.number k ≡ false = ne_eqb _ _ (λ q. asked.1 (sym q ∙ left.1)) in
             rw (miss, other) (rw miss at rest)
       ])
-      | inr stays ↦ let kept = stays.0 in rw kept (elim (eqb_tells e.0 k) [
+      | inr stays ↦ let kept = stays.0 in rw kept (elim (eqb_tells r.number k) [
         | inl asked ↦
             let hit = asked.0 in
             let other : eqb k n ≡ false = ne_eqb _ _ (λ q. stays.1 (asked.1 ∙ q)) in
@@ -83,77 +101,97 @@ lookup-filter n k (e ∷ es) =
       ])
     ]
 
--- what is found with one more entry, whose number no other has
-pub lookup-push : {X : Type 0} (n k : ℕ) (es : List (ℕ × X)) (x : X) → Lacks n es → lookup (λ j. eqb j k) (es ++ (n, x) ∷ []) ≡ cond (eqb k n) (Some x) (lookup (λ j. eqb j k) es)
-lookup-push n k [] x h =
-    elim (eqb_tells n k) [
-      | inl asked ↦ let hit = asked.0 in let same : eqb k n ≡ true = eq-eqb _ _ (sym asked.1) in rw (hit, same) refl
-      | inr asked ↦ let miss = asked.0 in let other : eqb k n ≡ false = ne_eqb _ _ (λ q. asked.1 (sym q)) in rw (miss, other) refl
+-- with one more, whose number no other has
+pub find-push : (k : ℕ) (rs : List Request) (x : Request) → Lacks x.number rs → find (has_number k) (rs ++ x ∷ []) ≡ cond (k == x.number) (Some x) (find (has_number k) rs)
+find-push k [] x l =
+    elim (eqb_tells x.number k) [
+      | inl asked ↦ let hit = asked.0 in let same : eqb k x.number ≡ true = eq-eqb _ _ (sym asked.1) in rw (hit, same) refl
+      | inr asked ↦ let miss = asked.0 in let other : eqb k x.number ≡ false = ne_eqb _ _ (λ q. asked.1 (sym q)) in rw (miss, other) refl
     ]
-lookup-push n k (e ∷ es) x h =
-    elim (eqb_tells e.0 k) [
+find-push k (r ∷ rs) x l =
+    elim (eqb_tells r.number k) [
       | inl asked ↦
           let hit = asked.0 in
-          let other : eqb k n ≡ false = ne_eqb _ _ (λ q. h 0 e (omega arith) (asked.1 ∙ q)) in
+          let apart : eqb r.number x.number ≡ false = l.0 in
+          let other : eqb k x.number ≡ false = ne_eqb _ _ (λ q. let same : eqb r.number x.number ≡ true = eq-eqb _ _ (asked.1 ∙ q) in cc) in
           rw (hit, other) refl
-      | inr asked ↦ let miss = asked.0 in rw miss (lookup-push n k es x (Lacks-tail n e es h))
+      | inr asked ↦ let miss = asked.0 in rw miss (find-push k rs x l.1)
     ]
 
--- what is found is not below what no number is below
-pub least-lookup : {X : Type 0} (least k : ℕ) (es : List (ℕ × X)) → ((j : ℕ) (d : ℕ × X) → j < length es → least ≤ (get_or es j d).0) → IsSome (lookup (λ j. eqb j k) es) → least ≤ k
-least-lookup least k [] h found = cc
-least-lookup least k (e ∷ es) h found =
-    elim (eqb_tells e.0 k) [
-      | inl same ↦ omega (arith, h 0 e (omega arith), same.1)
-      | inr apart ↦ least-lookup least k es (λ j d lt. h (suc j) d (omega arith)) (let off = apart.0 in rw off at found)
+-- ---- the numbers rise on
+
+pub numbered_push : (least next : ℕ) (rs : List Request) (x : Request) → least ≤ next → x.number ≡ next → AreNumbered least next rs → AreNumbered least (next + 1) (rs ++ x ∷ [])
+numbered_push least next [] x le e a = (omega (arith, le, e), omega (arith, e), tt)
+numbered_push least next (r ∷ rs) x le e a =
+    let low = a.0 in let high = a.1 in
+    (low, omega (arith, high), numbered_push (r.number + 1) next rs x (omega (arith, high)) e a.2)
+
+numbered_from : (least least' next : ℕ) (rs : List Request) → least' ≤ least → AreNumbered least next rs → AreNumbered least' next rs
+numbered_from least least' next [] le a = tt
+numbered_from least least' next (r ∷ rs) le a = let low = a.0 in (omega (arith, le, low), a.1, a.2)
+
+pub numbered_others : (n least next : ℕ) (rs : List Request) → AreNumbered least next rs → AreNumbered least next (others n rs)
+numbered_others n least next [] a = tt
+numbered_others n least next (r ∷ rs) a =
+    elim (eqb_tells r.number n) [
+      | inl left ↦ let gone = left.0 in
+          rw gone (numbered_from (r.number + 1) least next (others n rs) (let low = a.0 in omega (arith, low)) (numbered_others n (r.number + 1) next rs a.2))
+      | inr stays ↦ let kept = stays.0 in rw kept (a.0, a.1, numbered_others n (r.number + 1) next rs a.2)
     ]
 
--- ---- where the place of a number was looked for
-
--- the numbers rise
-abbrev pub Rises : {X : Type 0} → List (ℕ × X) → Type 0
-Rises es = AllPairs (λ e g. e.0 < g.0) es
-
--- at a place that was found stands the batch that is found
-pub lookup-position : {X : Type 0} (n : ℕ) (es : List (ℕ × X)) (i : ℕ) (d : ℕ × X) → position (λ e. eqb e.0 n) es ≡ Some i → lookup (λ k. eqb k n) es ≡ Some (get_or es i d).1
-lookup-position {X} n es i d e =
-    let at = position-Some (λ (e : ℕ × X). eqb e.0 n) es i d e in
-    lookup-get_or n es i d at.0 ((Decides-eqb _ _).0 at.1) (λ k below. eqb-false _ _ (at.2 k below))
-
-pub lookup-no-position : {X : Type 0} (n : ℕ) (es : List (ℕ × X)) → position (λ e. eqb e.0 n) es ≡ None → lookup (λ k. eqb k n) es ≡ None
-lookup-no-position n es e = lookup-Lacks n es (Lacks-position n es e)
-
--- no other place has that number
-others : {X : Type 0} (n : ℕ) (es : List (ℕ × X)) (i : ℕ) → Rises es → position (λ e. eqb e.0 n) es ≡ Some i → (k : ℕ) (c : ℕ × X) → k < length es → k ≢ i → (get_or es k c).0 ≢ n
-others {X} n es i rises e k c below other =
-    let at = position-Some (λ (e : ℕ × X). eqb e.0 n) es i c e in
-    let same : (get_or es i c).0 ≡ n = (Decides-eqb _ _).0 at.1 in
-    elim (cases_lt k i) [
-      | inl before ↦ eqb-false _ _ (at.2 k before)
-      | inr past ↦ let over : (get_or es i c).0 < (get_or es k c).0 = rises i k c (omega arith) below in λ q. omega arith
+pub fewer_others : (n : ℕ) (rs : List Request) → length (others n rs) ≤ length rs
+fewer_others n [] = omega arith
+fewer_others n (r ∷ rs) =
+    let rest = fewer_others n rs in
+    elim (eqb_tells r.number n) [
+      | inl left ↦ let gone = left.0 in rw gone (omega (arith, rest))
+      | inr stays ↦ let kept = stays.0 in rw kept (omega (arith, rest))
     ]
-
--- without the number of a place that was found, the others stay
-pub filter-position : {X : Type 0} (n : ℕ) (es : List (ℕ × X)) (i : ℕ) (d : ℕ × X) → Rises es → position (λ e. eqb e.0 n) es ≡ Some i → filter (λ e. not (eqb e.0 n)) es ≡ remove es i
-filter-position {X} n es i d rises e =
-    let at = position-Some (λ (e : ℕ × X). eqb e.0 n) es i d e in
-    let same : (get_or es i d).0 ≡ n = (Decides-eqb _ _).0 at.1 in
-    filter-remove n es i d at.0 same (others n es i rises e)
-
-pub filter-no-position : {X : Type 0} (n : ℕ) (es : List (ℕ × X)) → position (λ e. eqb e.0 n) es ≡ None → filter (λ e. not (eqb e.0 n)) es ≡ es
-filter-no-position n es e = filter-Lacks n es (Lacks-position n es e)
 
 -- ---- the first of rising numbers
 
-first_least : {X : Type 0} (e : ℕ × X) (es : List (ℕ × X)) → Rises (e ∷ es) → (j : ℕ) (c : ℕ × X) → j < length (e ∷ es) → e.0 ≤ (get_or (e ∷ es) j c).0
-first_least e es rises zero c lt = omega arith
-first_least e es rises (suc j) c lt = omega (arith, rises 0 (suc j) c (omega arith) lt)
+-- what is found is not below the least
+pub least_found : (least next k : ℕ) (rs : List Request) → AreNumbered least next rs → IsSome (find (has_number k) rs) → least ≤ k
+least_found least next k [] a found = cc
+least_found least next k (r ∷ rs) a found =
+    let low = a.0 in
+    elim (eqb_tells r.number k) [
+      | inl same ↦ omega (arith, low, same.1)
+      | inr apart ↦ let rest = least_found (r.number + 1) next k rs a.2 (let off = apart.0 in rw off at found) in omega (arith, low, rest)
+    ]
 
--- it is found, and nothing below it is
-pub lookup-first : {X : Type 0} (es : List (ℕ × X)) (d : ℕ × X) → 0 < length es → IsSome (lookup (λ j. eqb j (get_or es 0 d).0) es)
-lookup-first [] d lt = absurd (omega arith)
-lookup-first (e ∷ es) d lt = let same : eqb e.0 e.0 ≡ true = eq-eqb _ _ refl in rw same refl
+-- the first is the oldest
+pub first_oldest : (max next : ℕ) (rs : List Request) (d : Request) → AreNumbered 1 next rs → 0 < length rs → IsOldest (get_or rs 0 d).number (record { max = max; next = next; requests = rs })
+first_oldest max next [] d a lt = absurd (omega arith)
+first_oldest max next (r ∷ rs) d a lt = record {
+  flies = (let same : eqb r.number r.number ≡ true = eq-eqb _ _ refl in rw same refl);
+  least = λ k found. least_found r.number next k (r ∷ rs) (omega arith, a.1, a.2) found;
+}
 
-pub least-first : {X : Type 0} (es : List (ℕ × X)) (d : ℕ × X) → Rises es → 0 < length es → (k : ℕ) → IsSome (lookup (λ j. eqb j k) es) → (get_or es 0 d).0 ≤ k
-least-first [] d rises lt = absurd (omega arith)
-least-first (e ∷ es) d rises lt = λ k found. least-lookup e.0 k (e ∷ es) (first_least e es rises) found
+-- ---- the batches alone
+
+pub batch_seen : (k : ℕ) (rs : List Request) → option_map (λ (r : Request). r.batch) (find (has_number k) rs) ≡ lookup (λ n. n == k) (map numbered_batch rs)
+batch_seen k [] = refl
+batch_seen k (r ∷ rs) = elim (eqb_tells r.number k) [
+  | inl same ↦ let hit = same.0 in rw hit refl
+  | inr apart ↦ let miss = apart.0 in rw miss (batch_seen k rs)
+]
+
+batches_more : (rs : List Request) (x : Request) → map numbered_batch (rs ++ x ∷ []) ≡ map numbered_batch rs ++ numbered_batch x ∷ []
+batches_more [] x = refl
+batches_more (r ∷ rs) x = ap (λ bs. numbered_batch r ∷ bs) (batches_more rs x)
+
+-- a request enters with its batch
+pub batches_entered : (x : Request) (f : InFlight) → x.number ≡ f.next → batches_of (with_request x f) ≡ entered x.batch (batches_of f)
+batches_entered x f e = (λ i. record { max = f.max; next = f.next + 1; batches = batches_more f.requests x i }) ∙ (λ i. record { max = f.max; next = f.next + 1; batches = map numbered_batch f.requests ++ (e i, x.batch) ∷ [] })
+
+batches_others : (n : ℕ) (rs : List Request) → map numbered_batch (others n rs) ≡ filter (λ (e : ℕ × Items). not (e.0 == n)) (map numbered_batch rs)
+batches_others n [] = refl
+batches_others n (r ∷ rs) = elim (eqb_tells r.number n) [
+  | inl left ↦ let gone = left.0 in rw gone (batches_others n rs)
+  | inr stays ↦ let kept = stays.0 in rw kept (ap (λ bs. numbered_batch r ∷ bs) (batches_others n rs))
+]
+
+-- and is settled with it
+pub batches_settled : (n : ℕ) (f : InFlight) → batches_of (without_request n f) ≡ settled n (batches_of f)
+batches_settled n f = λ i. record { max = f.max; next = f.next; batches = batches_others n f.requests i }

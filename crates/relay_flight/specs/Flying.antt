@@ -1,5 +1,5 @@
--- The batches in flight: a map from numbers to batches, and the number that comes next.
-use Rattle.std.specs.Prelude.{ℕ, ◌+◌, ◌<◌, ◌≤◌, not, ◌==◌, List, ◌∷◌, [], ◌++◌, length, filter, Option, IsSome, All, AllPairs}
+-- The batches of the requests in flight: a map from numbers to batches, and the number that comes next.
+use Rattle.std.specs.Prelude.{ℕ, ◌+◌, not, ◌==◌, List, ◌∷◌, [], ◌++◌, filter, Option}
 use Rattle.std.specs.Map.{lookup}
 use Rattle.relay_batch.specs.declared.item.BatchItem.{BatchItem}
 
@@ -18,13 +18,6 @@ pub record Flying : Type 0 where
 abbrev pub batch_at : ℕ → Flying → Option Items
 batch_at number f = lookup (λ k. k == number) f.batches
 
--- numbers are given from 1 on and rise, so that none is given twice, and at most so many batches fly
-pub record IsFlight (f : Flying) : Type 0 where
-  pub begun : 1 ≤ f.next
-  pub given : All (λ e. (1 ≤ e.0) × (e.0 < f.next)) f.batches
-  pub rising : AllPairs (λ e g. e.0 < g.0) f.batches
-  pub within : length f.batches ≤ f.max
-
 -- after a batch entered, under the next number
 abbrev pub entered : Items → Flying → Flying
 entered batch f = record { max = f.max; next = f.next + 1; batches = f.batches ++ (f.next, batch) ∷ [] }
@@ -32,8 +25,3 @@ entered batch f = record { max = f.max; next = f.next + 1; batches = f.batches +
 -- without the batch of a number
 abbrev pub settled : ℕ → Flying → Flying
 settled number f = record f { batches = filter (λ e. not (e.0 == number)) f.batches }
-
--- the number flies, and no lower one does
-pub record IsOldest (number : ℕ) (f : Flying) : Type 0 where
-  pub flies : IsSome (batch_at number f)
-  pub least : (k : ℕ) → IsSome (batch_at k f) → number ≤ k

@@ -1,42 +1,44 @@
-//! The table of batches in flight.
-ghost use Rattle.std.specs.Prelude.{◌≡◌, ℕ, ◌^◌, ◌<◌, ◌==◌, [], length, IfOk, IfErr, MatchOption, is_ok, None, Some, if◌then◌else◌, nat_lt, position};
+//! The table of requests in flight.
+ghost use Rattle.std.specs.Prelude.{◌≡◌, ℕ, ◌^◌, ◌<◌, ◌==◌, [], length, IfOk, OnOk, IfErr, IfNone, MatchOption, is_ok, None, Some, if◌then◌else◌, nat_lt, position, option_map};
 ghost use Rattle.std.specs.Option.{option_copied};
-ghost use Rattle.relay_flight.specs.Flying.{Flying, IsFlight, batch_at, entered, settled, IsOldest};
+ghost use Rattle.relay_flight.specs.InFlight.{InFlight, IsInFlight, has_number, request_at, with_request, without_request, IsOldest};
 
 use crate::full::Full;
+use crate::request::Request;
+use relay_action::Write;
 use relay_batch::Batch;
 use std::alloc::{AllocError, Global};
 use std::marker::Model;
 
-/// The batches in flight, each under its number. Contracts see it as the most that may fly, the number
-/// that comes next, and the batches behind their numbers in rising order.
+/// The requests in flight, each under its number. Contracts see it as the most that may be in flight,
+/// the number that comes next, and the requests in rising order of their numbers.
 #[derive(Debug, Drop)]
 pub struct Flight {
     max: u32,
     next: u64,
-    held: Vec<(u64, Batch)>,
+    held: Vec<Request>,
 }
 
 impl Model for Flight {
     ghost use Rattle.std.specs.Prelude.{◌<◌, ◌≤◌, ◌^◌, vec_capacity};
-    ghost use Rattle.relay_flight.specs.Flying.{Flying, IsFlight};
+    ghost use Rattle.relay_flight.specs.InFlight.{InFlight, IsInFlight};
 
-    ghost Value = { Flying };
+    ghost Value = { InFlight };
 
-    ghost view = { λ f. record { max = f.max; next = f.next; batches = f.held.items } };
+    ghost view = { λ f. record { max = f.max; next = f.next; requests = f.held.items } };
 
     ghost invariant = { λ f. record {
-      flight : IsFlight (record { max = f.max; next = f.next; batches = f.held.items });
+      flight : IsInFlight (record { max = f.max; next = f.next; requests = f.held.items });
       room : f.max ≤ vec_capacity f.held;
       counted : f.max < 2 ^ 32;
     } };
 }
 
 impl Flight {
-    /// A table in which at most `max` batches fly, and none does yet. It reserves all their places, so
-    /// that no later call takes memory. `AllocError`: there was no memory for the places.
+    /// A table in which at most `max` requests are in flight, and none is yet. It reserves all their
+    /// places, so that no later call allocates. `AllocError`: the allocation of the places failed.
     pub fn new(alloc: Global, max: u32) -> Result<Flight, AllocError>
-        ensures { IfOk result (λ f. f ≡ record { max = max; next = 1; batches = [] }) }
+        ensures { IfOk result (λ f. f ≡ record { max = max; next = 1; requests = [] }) }
     {
         Ok(Flight {
             max,
@@ -45,77 +47,95 @@ impl Flight {
         })
     }
 
-    /// Lets a batch fly, and answers its number: 1 for the first, and one more each time. The next number
-    /// has to be below 2^63. `Full` hands the batch back, exactly where `max` batches fly, and changes
-    /// nothing.
-    pub fn enter(&mut self, batch: Batch) -> Result<u64, Full>
+    /// A request of this batch and these writes goes into flight. Returns its number: 1 for the
+    /// first, and one more each time. The next number has to be below 2^63. [`Full`] hands both back,
+    /// exactly if `max` requests are in flight, and changes nothing.
+    pub fn enter(&mut self, batch: Batch, writes: Vec<Write>) -> Result<u64, Full>
         requires { self.old.next < 2 ^ 63 }
-        ensures room { is_ok result ≡ nat_lt (length self.old.batches) self.old.max }
+        ensures room { is_ok result ≡ nat_lt (length self.old.requests) self.old.max }
         ensures number { IfOk result (λ no. no ≡ self.old.next) }
-        ensures ok { IfOk result (λ _. self.new ≡ entered batch self.old) }
-        ensures full { IfErr result (λ f. (f.batch ≡ batch) × (self.new ≡ self.old)) }
-        ensures looked_up { IfOk result (λ no. (k : ℕ) →
-            batch_at k self.new ≡ (if k == no then Some batch else batch_at k self.old)) }
-        ensures fresh { IfOk result (λ no. batch_at no self.old ≡ None) }
-        ensures kept { IsFlight self.new }
+        ensures ok { OnOk result (self.new
+            ≡ with_request (record { number = self.old.next; batch = batch; writes = writes }) self.old) }
+        ensures batch { IfErr result (λ f. f.batch ≡ batch) }
+        ensures writes { IfErr result (λ f. f.writes ≡ writes) }
+        ensures unchanged { IfErr result (λ _. self.new ≡ self.old) }
+        ensures looked_up { IfOk result (λ no. (k : ℕ) → request_at k self.new
+            ≡ (if k == no then Some (record { number = no; batch = batch; writes = writes }) else request_at k self.old)) }
+        ensures fresh { IfOk result (λ no. request_at no self.old ≡ None) }
+        ensures kept { IsInFlight self.new }
     {
         if self.held.len() >= self.max as usize {
-            return Err(Full { batch });
+            return Err(Full { batch, writes });
         }
-        let no = self.next;
-        self.held.push_reserved((no, batch));
+        let number = self.next;
+        self.held.push_reserved(Request {
+            number,
+            batch,
+            writes,
+        });
         self.next += 1;
-        Ok(no)
+        Ok(number)
     }
 
     /// The number that comes next, from 1.
     pub fn next(&self) -> u64
         ensures next { result ≡ self.now.next }
-        ensures kept { IsFlight self.now }
+        ensures kept { IsInFlight self.now }
     {
         self.next
     }
 
     // The place of a number.
-    fn place(&self, no: u64) -> Option<usize>
-        ensures { result ≡ position (λ e. e.0 == no) self.now.batches }
+    fn place(&self, number: u64) -> Option<usize>
+        ensures { result ≡ position (has_number number) self.now.requests }
     {
-        self.held.iter().position(|entry| entry.0 == no)
+        self.held
+            .iter()
+            .position(|request| request.number == number)
     }
 
-    /// The batch that flies under a number, or `None` where none does.
-    pub fn batch(&self, no: u64) -> Option<&Batch>
-        ensures { option_copied result ≡ batch_at no self.now }
+    /// The batch of the request of this number, or `None` if it is not in flight.
+    pub fn batch(&self, number: u64) -> Option<&Batch>
+        ensures { option_copied result ≡ option_map (λ r. r.batch) (request_at number self.now) }
     {
-        let at = self.place(no)?;
-        Some(&self.held[at].1)
+        let at = self.place(number)?;
+        Some(&self.held[at].batch)
     }
 
-    /// Takes the batch of a number out of the table, or answers `None` where none flies under it, and
-    /// then changes nothing.
-    pub fn settle(&mut self, no: u64) -> Option<Batch>
-        ensures batch { result ≡ batch_at no self.old }
-        ensures after { self.new ≡ settled no self.old }
+    /// The writes of the request of this number, in the order of its batch, or `None` if it is not in
+    /// flight.
+    pub fn writes(&self, number: u64) -> Option<&[Write]>
+        ensures { option_map (λ ws. ws.now) result ≡ option_map (λ r. r.writes.items) (request_at number self.now) }
+    {
+        let at = self.place(number)?;
+        Some(self.held[at].writes.as_slice())
+    }
+
+    /// Takes the request of this number out of the table. Returns `None` if it is not in flight, and
+    /// changes nothing then.
+    pub fn settle(&mut self, number: u64) -> Option<Request>
+        ensures request { result ≡ request_at number self.old }
+        ensures after { self.new ≡ without_request number self.old }
+        ensures unchanged { IfNone result (self.new ≡ self.old) }
         ensures looked_up { (k : ℕ) →
-            batch_at k self.new ≡ (if k == no then None else batch_at k self.old) }
-        ensures kept { IsFlight self.new }
+            request_at k self.new ≡ (if k == number then None else request_at k self.old) }
+        ensures kept { IsInFlight self.new }
     {
-        let at = self.place(no)?;
-        let (_, batch) = self.held.remove(at);
-        Some(batch)
+        let at = self.place(number)?;
+        Some(self.held.remove(at))
     }
 
-    /// The least number that flies, or `None` where none does.
+    /// The least number in flight, or `None` if none is.
     pub fn oldest(&self) -> Option<u64>
-        ensures { MatchOption result (self.now.batches ≡ []) (λ no. IsOldest no self.now) }
+        ensures { MatchOption result (self.now.requests ≡ []) (λ no. IsOldest no self.now) }
     {
-        let (no, _) = self.held.first()?;
-        Some(*no)
+        let request = self.held.first()?;
+        Some(request.number)
     }
 
-    /// How many batches fly.
+    /// How many requests are in flight.
     pub fn flying(&self) -> u32
-        ensures { result ≡ length self.now.batches }
+        ensures { result ≡ length self.now.requests }
     {
         self.held.len() as u32
     }

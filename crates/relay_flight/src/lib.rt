@@ -1,12 +1,14 @@
-//! The batches of a lane that are in flight: sent, and not yet settled. It stands on `relay_action` and `relay_batch`.
+//! The requests of a lane that are in flight: sent, and not yet settled. It stands on `relay_action` and `relay_batch`.
 //!
-//! It carries this promise: the table is a map from numbers to batches; numbers rise from 1 and none is
-//! used again, and settling a number gives back the batch that entered under it. Once the table is
-//! made, no call takes memory.
+//! It carries this promise: the table is a map from numbers to requests, each with its batch and its
+//! writes; numbers rise from 1 and none is used again, and settling a number gives back what entered
+//! under it. Once the table is made, no call allocates.
 #![tactic(auto)]
 
 pub mod flight;
 pub mod full;
+pub mod request;
 
 pub use flight::Flight;
 pub use full::Full;
+pub use request::Request;

@@ -1,7 +1,7 @@
 //! Numbers, room and settling.
-use relay_action::OpName;
+use relay_action::{Action, DocKey, OpName, Write};
 use relay_batch::{Batch, BatchItem, Batcher, Limits};
-use relay_flight::Flight;
+use relay_flight::{Flight, Full, Request};
 use std::alloc::{AllocError, Global};
 use std::test::Fail;
 
@@ -39,59 +39,101 @@ fn batch(alloc: Global, doc: u64) -> Result<Batch, Fail> {
     Ok(gathered(alloc, doc)?.close().ok_or("empty")?)
 }
 
+// Its writes, of which there is one: a delete whose version is the document. `None`: out of memory.
+fn deletes(alloc: Global, doc: u64) -> Option<Vec<Write>> {
+    let mut writes = Vec::with_capacity(alloc, 1).ok()?;
+    let key = DocKey::new(alloc, "b", "d").ok()?;
+    writes.push_reserved(Write {
+        key,
+        version: doc,
+        action: Action::delete(),
+    });
+    Some(writes)
+}
+
+fn writes(alloc: Global, doc: u64) -> Result<Vec<Write>, Fail> {
+    Ok(deletes(alloc, doc).ok_or("out of memory")?)
+}
+
 // The document of a batch's first item.
 fn document(batch: &Batch) -> Option<u64> {
     batch.items().first().map(|item| item.doc)
 }
 
+// The version of the first of these writes.
+fn version(writes: &[Write]) -> Option<u64> {
+    writes.first().map(|write| write.version)
+}
+
 // Whether a batch holds the item of this document and the one beside it.
-fn is_whole(batch: &Batch, doc: u64) -> bool {
+fn is_batch(batch: &Batch, doc: u64) -> bool {
     batch.items() == [item(doc), item(1_000)].as_slice()
+}
+
+// Whether these are the writes that go with that batch.
+fn are_writes(writes: &[Write], doc: u64) -> bool {
+    writes.len() == 1 && version(writes) == Some(doc)
+}
+
+// Whether a request has this number, that batch and those writes.
+fn is_whole(request: &Request, number: u64, doc: u64) -> bool {
+    request.number == number
+        && is_batch(&request.batch, doc)
+        && are_writes(request.writes.as_slice(), doc)
 }
 
 // The last number that is dealt here.
 const LAST: u64 = 1_000;
 
-// The number that a batch gets; `None`: there is no room, or no number is left.
-fn enter(flight: &mut Flight, batch: Batch) -> Option<u64> {
+// The number that a request gets; `None`: there is no room, or no number is left.
+fn enter(flight: &mut Flight, batch: Batch, writes: Vec<Write>) -> Option<u64> {
     if flight.next() > LAST {
         return None;
     }
-    flight.enter(batch).ok()
+    flight.enter(batch, writes).ok()
 }
 
-// The number that a batch of a document gets.
+// The number that a request of a document gets.
 fn number_of(flight: &mut Flight, alloc: Global, doc: u64) -> Result<Option<u64>, Fail> {
-    Ok(enter(flight, batch(alloc, doc)?))
+    let writes = writes(alloc, doc)?;
+    Ok(enter(flight, batch(alloc, doc)?, writes))
 }
 
-// The batch that comes back from a flight without room, and what the fault says.
-fn refused(flight: &mut Flight, alloc: Global, batch: Batch) -> Result<Option<Batch>, AllocError> {
+// What comes back from a flight without room, if the fault says so.
+fn refused(
+    flight: &mut Flight,
+    alloc: Global,
+    batch: Batch,
+    writes: Vec<Write>,
+) -> Result<Option<Full>, AllocError> {
     if flight.next() > LAST {
         return Ok(None);
     }
-    match flight.enter(batch) {
+    match flight.enter(batch, writes) {
         Ok(_) => Ok(None),
         Err(full) => {
             let said = format!(in alloc; "{full}")?;
-            Ok(Some(full.batch).filter(|_| said.as_str() == "Full"))
+            Ok(Some(full).filter(|_| said.as_str() == "Full"))
         }
     }
 }
 
-// Whether there is no room for a batch of a document, and the fault says so and gives it back whole.
+// Whether there is no room for a request of a document, and the fault says so and gives it back whole.
 fn comes_back(flight: &mut Flight, alloc: Global, doc: u64) -> Result<bool, Fail> {
-    let back = refused(flight, alloc, batch(alloc, doc)?)?;
-    Ok(back.is_some_and(|batch| is_whole(&batch, doc)))
+    let writes = writes(alloc, doc)?;
+    let back = refused(flight, alloc, batch(alloc, doc)?, writes)?;
+    Ok(back.is_some_and(|full| {
+        is_batch(&full.batch, doc) && are_writes(full.writes.as_slice(), doc)
+    }))
 }
 
-// Whether the batch of a number comes out whole, and no more, and enters again as another.
+// Whether the request of a number comes out whole, and no more, and enters again as another.
 fn goes_round(flight: &mut Flight, number: u64, doc: u64, again: u64) -> bool {
     match flight.settle(number) {
-        Some(batch) => {
-            is_whole(&batch, doc)
+        Some(request) => {
+            is_whole(&request, number, doc)
                 && flight.settle(number).is_none()
-                && enter(flight, batch) == Some(again)
+                && enter(flight, request.batch, request.writes) == Some(again)
         }
         None => false,
     }
@@ -113,7 +155,8 @@ fn a_flight_of_none(rt: HostRuntime) -> Result<(), Fail> {
     let mut flight = Flight::new(rt.alloc(), 0)?;
     assert!(rt; comes_back(&mut flight, rt.alloc(), 7)?);
     assert!(rt; flight.next() == 1 && flight.oldest().is_none() && flight.flying() == 0);
-    assert!(rt; flight.batch(1).is_none() && flight.settle(1).is_none());
+    assert!(rt; flight.batch(1).is_none() && flight.writes(1).is_none());
+    assert!(rt; flight.settle(1).is_none());
     Ok(())
 }
 
@@ -131,14 +174,28 @@ const SETTLED: &[(u64, Option<u64>, Option<u64>, u32)] = &[
     (3, None, None, 0),
 ];
 
-// Whether a number stands for a batch of this document until it is settled, and then for none.
-fn settles(flight: &mut Flight, number: u64, doc: Option<u64>) -> bool {
-    flight.batch(number).and_then(document) == doc
-        && flight.settle(number).and_then(|batch| document(&batch)) == doc
-        && flight.batch(number).is_none()
+// What a request holds: its number, its document and the version of its write.
+fn holds(request: &Request) -> (u64, Option<u64>, Option<u64>) {
+    (
+        request.number,
+        document(&request.batch),
+        version(request.writes.as_slice()),
+    )
 }
 
-// Of three batches, of the documents 7, 8 and 9.
+// Whether a number stands for a request of this document, or for none.
+fn stands(flight: &Flight, number: u64, doc: Option<u64>) -> bool {
+    flight.batch(number).and_then(document) == doc && flight.writes(number).and_then(version) == doc
+}
+
+// Whether it does until it is settled, and then for none.
+fn settles(flight: &mut Flight, number: u64, doc: Option<u64>) -> bool {
+    stands(flight, number, doc)
+        && flight.settle(number).map(|request| holds(&request)) == doc.map(|_| (number, doc, doc))
+        && stands(flight, number, None)
+}
+
+// Of three requests, of the documents 7, 8 and 9.
 #[test]
 fn settling_out_of_order(rt: HostRuntime) -> Result<(), Fail> {
     let mut flight = Flight::new(rt.alloc(), 3)?;
@@ -162,7 +219,7 @@ fn numbers_are_not_used_again(rt: HostRuntime) -> Result<(), Fail> {
         assert!(rt; number_of(&mut flight, rt.alloc(), wanted)? == Some(wanted));
         assert!(rt; settles(&mut flight, wanted, Some(wanted)) && flight.oldest() == Some(1));
     }
-    assert!(rt; flight.batch(1).and_then(document) == Some(7));
+    assert!(rt; stands(&flight, 1, Some(7)));
     Ok(())
 }
 
@@ -183,11 +240,21 @@ fn batch_again(alloc: Global) -> Result<Batch, Fail> {
     Ok(batcher.close().ok_or("empty")?)
 }
 
+// Writes, at the second call where the first was refused memory.
+fn writes_again(alloc: Global) -> Result<Vec<Write>, Fail> {
+    let writes = match deletes(alloc, 7) {
+        Some(writes) => writes,
+        None => deletes(alloc, 7).ok_or("out of memory")?,
+    };
+    Ok(writes)
+}
+
 // A refused allocation is answered as out of memory; once the table is made it takes none.
 #[test]
 fn refusals(rt: HostRuntime) -> Result<(), Fail> {
     let mut flight = table(rt.alloc())?;
     let batch = batch_again(rt.alloc())?;
-    assert!(rt; enter(&mut flight, batch) == Some(1) && flight.flying() == 1);
+    let writes = writes_again(rt.alloc())?;
+    assert!(rt; enter(&mut flight, batch, writes) == Some(1) && flight.flying() == 1);
     Ok(())
 }

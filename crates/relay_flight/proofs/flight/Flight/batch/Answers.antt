@@ -1,11 +1,19 @@
-use Rattle.std.proofs.Common.{sym, ◌∙◌}
-use Rattle.relay_flight.proofs.Numbers.{lookup-position, lookup-no-position}
+use Rattle.std.proofs.Common.{◌≡◌, Some, None, sym, ap, ◌∙◌}
+use Rattle.std.specs.Prelude.{option_map}
+use Rattle.std.specs.Option.{option_copied}
+use Rattle.relay_flight.specs.declared.request.Request.{Request}
+use Rattle.relay_flight.specs.InFlight.{request_at}
+use Rattle.relay_flight.proofs.Numbers.{Lacks-position, find-Lacks, find-position}
 use Rattle.relay_flight.proofs.flight.Flight.batch.Goals as goal
 
 pub returns-in_err-at : goal.returns-in_err-at
 returns-in_err-at c =
-    let found = lookup-no-position c.args.no c.args.self.now.batches (sym c.place.ensures ∙ c.in_err-at.was) in cc
+    let found : request_at c.args.number c.args.self.now ≡ None = find-Lacks c.args.number _ (Lacks-position c.args.number c.args.self.now.requests (sym c.place.ensures ∙ c.in_err-at.was)) in
+    let none : c.from_residual.result ≡ None = cc in
+    ap option_copied none ∙ sym (ap (option_map (λ (r : Request). r.batch)) found)
 
 pub returns : goal.returns
 returns c =
-    let found = lookup-position c.args.no c.args.self.now.batches c.in_ok-at.at c.index.result.now (sym c.place.ensures ∙ c.in_ok-at.was) in cc
+    let found = find-position c.args.number c.args.self.now.requests c.in_ok-at.at c.index.result.now (sym c.place.ensures ∙ c.in_ok-at.was) in
+    let one : Some c.index.result.now ≡ request_at c.args.number c.args.self.now = cc in
+    ap (option_map (λ (r : Request). r.batch)) one
