@@ -17,7 +17,7 @@ use Rattle.relay_held.specs.declared.kept.Kept.{Kept}
 use Rattle.relay_core.specs.Rule.{by_answer, with_item, offered, item_of}
 use Rattle.relay_core.specs.Walk.{item_of_kept}
 use Rattle.relay_core.specs.State.{State, gathering, next_batch, next_entries}
-use Rattle.relay_core.specs.declared.kept.Sent.{Sent}
+use Rattle.relay_flight.specs.declared.request.Request.{Request}
 use Rattle.relay_core.specs.Memory.{AreFew}
 use Rattle.relay_core.proofs.Quiet.{count_most}
 use Rattle.relay_core.proofs.Launched.{AllCap}
@@ -85,6 +85,6 @@ batch_few limits [] b = omega arith
 batch_few limits (i ∷ []) b = omega arith
 batch_few limits (i ∷ j ∷ is) b = let c = b.counted (omega arith) in let m = count_most limits.count (i ∷ j ∷ is) in omega (arith, c, m)
 
-pub few_more : (fs : List Sent) (x : Sent) → AreFew fs → length x.writes.items ≤ 4294967295 → AreFew (fs ++ x ∷ [])
+pub few_more : (fs : List Request) (x : Request) → AreFew fs → length x.writes.items ≤ 4294967295 → AreFew (fs ++ x ∷ [])
 few_more [] x f le = (le, tt)
 few_more (y ∷ fs) x f le = (f.0, few_more fs x f.1 le)

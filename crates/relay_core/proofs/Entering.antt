@@ -6,8 +6,7 @@ use Rattle.std.proofs.lemmas.List.{length-map}
 use Rattle.relay_action.specs.declared.write.Write.{Write}
 use Rattle.relay_batch.specs.declared.item.BatchItem.{BatchItem}
 use Rattle.relay_held.specs.declared.kept.Kept.{Kept}
-use Rattle.relay_held.specs.declared.held.Head.{Head}
-use Rattle.relay_held.specs.Queues.{Holding, AreHeads, Rises, candidates_kept, is_candidate_kept}
+use Rattle.relay_held.specs.Queues.{Rises, candidates_kept, is_candidate_kept}
 use Rattle.relay_held.proofs.Merging.{rises_filter}
 use Rattle.relay_batch.specs.declared.item.Room.{Room}
 use Rattle.relay_delivery.specs.Lane.{candidates}
@@ -30,12 +29,6 @@ length_take : (n : ℕ) (cs : List Kept) → n ≤ length cs → length (take n 
 length_take zero cs le = refl
 length_take (suc n) [] le = absurd (omega (arith, le))
 length_take (suc n) (c ∷ cs) le = let r = length_take n cs (omega (arith, le)) in ap suc r
-
-pub heads_count : (s : Holding) (ds : List Head) (cs : List Kept) → AreHeads s ds cs → length ds ≡ length cs
-heads_count s [] [] a = refl
-heads_count s [] (c ∷ cs) a = absurd a
-heads_count s (d ∷ ds) [] a = absurd a
-heads_count s (d ∷ ds) (c ∷ cs) a = ap suc (heads_count s ds cs a.1)
 
 pub record Front (cs : List Kept) (items : List BatchItem) : Type 0 where
   pub few : length items ≤ length cs

@@ -1,6 +1,6 @@
 -- The first of those that may go are sent, one after another.
-use Rattle.std.proofs.Common.{◌≡◌, ℕ, zero, suc, ◌+◌, ◌-◌, ◌<◌, ◌≤◌, List, [], ◌∷◌, ◌++◌, length, Option, Some, None, Bool, true, false, ◌==◌, ◌&&◌, refl, sym, ap, ◌∙◌, subst, ⊎_elim, inl, inr, arith, drop, take, get_or}
-use Rattle.std.specs.Prelude.{if◌then◌else◌, filter, map, slice_get, option_to_list}
+use Rattle.std.proofs.Common.{length-append, ◌≡◌, ℕ, zero, suc, ◌+◌, ◌-◌, ◌<◌, ◌≤◌, List, [], ◌∷◌, ◌++◌, length, Option, Some, None, Bool, true, false, ◌==◌, ◌&&◌, refl, sym, ap, ◌∙◌, subst, ⊎_elim, inl, inr, arith, drop, take, get_or}
+use Rattle.std.specs.Prelude.{if◌then◌else◌, filter, map, slice_get, option_to_list, option_map, not, nat_lt, nat_le}
 use Rattle.relay_action.specs.declared.key.DocKey.{DocKey}
 use Rattle.relay_batch.specs.declared.item.BatchItem.{BatchItem}
 use Rattle.relay_batch.specs.Gathering.{Gathering, answer_to, after_offer, holds_document, passes_count, passes_bytes}
@@ -10,44 +10,79 @@ use Rattle.relay_batch.specs.declared.offer.Offer.TheVariants.{Busy, Closed, Add
 use Rattle.relay_core.specs.Rule.{offered, closes, by_answer, with_item}
 use Rattle.std.specs.Prelude.{Ok}
 use Rattle.relay_results.specs.Words.{Mem}
-use Rattle.relay_results.proofs.Lists.{apart_tests, true_or_false, some_same, equal, equal_test}
+use Rattle.relay_results.specs.Documents.{Document, document_of, same_document}
+use Rattle.relay_results.proofs.Lists.{apart_tests, true_or_false, some_same, equal, equal_test, Mem-filter, and_right, not_true}
 use Rattle.relay_held.specs.declared.kept.Kept.{Kept}
-use Rattle.relay_held.specs.declared.held.Head.{Head}
-use Rattle.relay_held.specs.Queues.{AllAbove, Rises, Holding, IsHead, AreHeads, same_key, is_of, first_of, with_first, candidates_kept, is_candidate_kept}
-use Rattle.relay_held.proofs.Merging.{same_along}
-use Rattle.relay_held.proofs.Changing.{Keeps, first_is, filter_with_apart}
-use Rattle.relay_held.proofs.Heads.{above_mem, first_mem}
-use Rattle.relay_core.specs.Walk.{waits_here, item_of_kept, is_next, launch_one, launched_kept, freight}
+use Rattle.relay_held.specs.Queues.{AllAbove, Rises, is_of, first_of, with_first, candidates_kept, is_candidate_kept, is_later_kept}
+use Rattle.relay_held.proofs.Merging.{same_self}
+use Rattle.relay_held.proofs.Changing.{Keeps}
+use Rattle.relay_held.proofs.Holding.{launch_keeps}
+use Rattle.relay_held.proofs.Heads.{above_mem, first_mem, not_later_first}
+use Rattle.relay_held.specs.declared.kept.Candidate.{Candidate}
+use Rattle.relay_held.specs.Kept.{candidate_of}
+use Rattle.relay_core.specs.Walk.{waits_here, item_of_kept, item_of_candidate, is_next, launch_one, launched_kept, freight}
 
 -- ---- the next one
 
-not_past : (s : Holding) (ds : List Head) (i : ℕ) → AreHeads s (drop i ds) [] → i < length ds → ⊥
-not_past s [] i a lt = omega (arith, lt)
-not_past s (d ∷ ds) zero a lt = a
-not_past s (d ∷ ds) (suc i) a lt = not_past s ds i a (omega (arith, lt))
-
-pub record Next (s : Holding) (ds : List Head) (cs : List Kept) (i : ℕ) (d0 : Head) : Type 0 where
+pub record Next (cs : List Kept) (i : ℕ) : Type 0 where
   pub one : Kept
   pub here : drop i cs ≡ one ∷ drop (i + 1) cs
-  pub head : IsHead s (get_or ds i d0) one
-  pub rest : AreHeads s (drop (i + 1) ds) (drop (i + 1) cs)
 
-next_suc : (s : Holding) (d : Head) (ds : List Head) (c : Kept) (cs : List Kept) (i : ℕ) (d0 : Head) → Next s ds cs i d0 → Next s (d ∷ ds) (c ∷ cs) (suc i) d0
-next_suc s d ds c cs i d0 n =
+next_suc : (c : Kept) (cs : List Kept) (i : ℕ) → Next cs i → Next (c ∷ cs) (suc i)
+next_suc c cs i n =
     let z : suc (i + 1) ≡ suc i + 1 = omega arith in
-    record {
-      one = n.one;
-      here = n.here ∙ ap (λ k. n.one ∷ drop k (c ∷ cs)) z;
-      head = n.head;
-      rest = subst (λ k. AreHeads s (drop k (d ∷ ds)) (drop k (c ∷ cs))) z n.rest;
-    }
+    record { one = n.one; here = n.here ∙ ap (λ k. n.one ∷ drop k (c ∷ cs)) z }
 
-pub next_of : (s : Holding) (ds : List Head) (cs : List Kept) (i : ℕ) (d0 : Head) → AreHeads s (drop i ds) (drop i cs) → i < length ds → Next s ds cs i d0
-next_of s [] cs i d0 a lt = absurd (omega (arith, lt))
-next_of s (d ∷ ds) [] zero d0 a lt = absurd a
-next_of s (d ∷ ds) [] (suc i) d0 a lt = absurd (not_past s ds i a (omega (arith, lt)))
-next_of s (d ∷ ds) (c ∷ cs) zero d0 a lt = record { one = c; here = refl; head = a.0; rest = a.1 }
-next_of s (d ∷ ds) (c ∷ cs) (suc i) d0 a lt = next_suc s d ds c cs i d0 (next_of s ds cs i d0 a (omega (arith, lt)))
+pub next_of : (cs : List Kept) (i : ℕ) → i < length cs → Next cs i
+next_of [] i lt = absurd (omega (arith, lt))
+next_of (c ∷ cs) zero lt = record { one = c; here = refl }
+next_of (c ∷ cs) (suc i) lt = next_suc c cs i (next_of cs i (omega (arith, lt)))
+
+pub drop_none : (cs : List Kept) (i : ℕ) → length cs ≤ i → drop i cs ≡ []
+drop_none [] zero le = refl
+drop_none [] (suc i) le = refl
+drop_none (c ∷ cs) zero le = absurd (omega (arith, le))
+drop_none (c ∷ cs) (suc i) le = drop_none cs i (omega (arith, le))
+
+pub got_at : (cs : List Kept) (i : ℕ) (h : Kept) → drop i cs ≡ h ∷ drop (i + 1) cs → slice_get cs i ≡ Some h
+got_at [] zero h e = absurd (cc)
+got_at [] (suc i) h e = absurd (cc)
+got_at (c ∷ cs) zero h e = ap (λ xs. slice_get xs 0) e
+got_at (c ∷ cs) (suc i) h e =
+    let z : suc i + 1 ≡ suc (i + 1) = omega arith in
+    got_at cs i h (e ∙ ap (λ k. h ∷ drop k (c ∷ cs)) z)
+
+-- what was asked for is one of them
+pub record Asked (cs : List Kept) (i : ℕ) (x : Candidate) : Type 0 where
+  pub one : Kept
+  pub here : drop i cs ≡ one ∷ drop (i + 1) cs
+  pub item : item_of_candidate x ≡ item_of_kept one
+  pub within : i < length cs
+
+asked_suc : (c : Kept) (cs : List Kept) (i : ℕ) (x : Candidate) → Asked cs i x → Asked (c ∷ cs) (suc i) x
+asked_suc c cs i x a =
+    let z : suc (i + 1) ≡ suc i + 1 = omega arith in let lt = a.within in
+    record { one = a.one; here = a.here ∙ ap (λ k. a.one ∷ drop k (c ∷ cs)) z; item = a.item; within = omega (arith, lt) }
+
+pub asked_for : (cs : List Kept) (i : ℕ) (x : Candidate) → Some x ≡ option_map candidate_of (slice_get cs i) → Asked cs i x
+asked_for [] zero x e = absurd (cc)
+asked_for [] (suc i) x e = absurd (cc)
+asked_for (c ∷ cs) zero x e = record {
+  one = c;
+  here = refl;
+  item = ap item_of_candidate (same_some x (candidate_of c) e);
+  within = omega arith;
+}
+  where
+    same_some : (a b : Candidate) → Some a ≡ Some b → a ≡ b
+    same_some a b e = cc
+asked_for (c ∷ cs) (suc i) x e = asked_suc c cs i x (asked_for cs i x e)
+
+pub none_left : (cs : List Kept) (i : ℕ) → None ≡ option_map candidate_of (slice_get cs i) → drop i cs ≡ []
+none_left [] zero e = refl
+none_left [] (suc i) e = refl
+none_left (c ∷ cs) zero e = absurd (cc)
+none_left (c ∷ cs) (suc i) e = none_left cs i e
 
 pub rises_drop : (i : ℕ) (cs : List Kept) → Rises cs → Rises (drop i cs)
 rises_drop i [] r = none i
@@ -57,11 +92,6 @@ rises_drop i [] r = none i
     none (suc n) = tt
 rises_drop zero (c ∷ cs) r = r
 rises_drop (suc i) (c ∷ cs) r = rises_drop i cs r.1
-
-pub within : (ks : List DocKey) (i : ℕ) (k : DocKey) → slice_get ks i ≡ Some k → i < length ks
-within [] i k e = absurd (cc)
-within (x ∷ ks) zero k e = omega arith
-within (x ∷ ks) (suc i) k e = let r = within ks i k e in omega (arith, r)
 
 -- ---- it is sent
 
@@ -134,29 +164,64 @@ freight_none (h ∷ hs) = freight_none hs
 
 -- ---- the others stay the first of their documents
 
-filter_along : (a b : DocKey) (hs : List Kept) → same_key a b ≡ true → filter (is_of a) hs ≡ filter (is_of b) hs
-filter_along a b [] t = refl
-filter_along a b (h ∷ hs) t = λ i. if same_along a b h.key t i then h ∷ filter_along a b hs t i else filter_along a b hs t i
+later_with : (k : DocKey) (f : Kept → Kept) (hs : List Kept) (d : Document) (v : ℕ) → Keeps f → is_later_kept (with_first k f hs) d v ≡ is_later_kept hs d v
+later_with k f [] d v p = refl
+later_with k f (h ∷ hs) d v p = ⊎_elim {C = is_later_kept (with_first k f (h ∷ hs)) d v ≡ is_later_kept (h ∷ hs) d v}
+    (λ t. ap (λ b. is_later_kept (if b then f h ∷ hs else h ∷ with_first k f hs) d v) t
+    ∙ (λ i. (same_document (document_of (p.key h i)) d && nat_lt (p.version h i) v) || is_later_kept hs d v))
+    (λ t. ap (λ b. is_later_kept (if b then f h ∷ hs else h ∷ with_first k f hs) d v) t
+    ∙ ap (λ b. (same_document (document_of h.key) d && nat_lt h.version v) || b) (later_with k f hs d v p))
+    (true_or_false (is_of k h))
 
-pub heads_after : (s : Holding) (k : DocKey) (h : Kept) (f : Kept → Kept) (ds : List Head) (cs : List Kept) → Keeps f → first_of k s.list ≡ Some h → AllAbove h.version cs → AreHeads s ds cs
-    → AreHeads (record { list = with_first k f s.list; order = s.order }) ds cs
-heads_after s k h f [] [] p e a r = tt
-heads_after s k h f [] (c ∷ cs) p e a r = r
-heads_after s k h f (d ∷ ds) [] p e a r = r
-heads_after s k h f (d ∷ ds) (c ∷ cs) p e a r = (
-  record {
-    key = r.0.key;
-    at = r.0.at;
-    of = r.0.of;
-    first = ⊎_elim {C = first_of r.0.key (with_first k f s.list) ≡ Some c}
-        (λ t. let same : h ≡ c = some_same h c (sym e ∙ first_is k s.list ∙ ap (λ q. slice_get q 0) (filter_along k r.0.key s.list t) ∙ sym (first_is r.0.key s.list) ∙ r.0.first) in
-        let v = ap (λ (y : Kept). y.version) same in absurd (omega (arith, v, a.0)))
-        (λ g. first_is r.0.key (with_first k f s.list) ∙ ap (λ q. slice_get q 0) (filter_with_apart k r.0.key f s.list p g) ∙ sym (first_is r.0.key s.list) ∙ r.0.first)
-        (true_or_false (same_key k r.0.key));
-    version = r.0.version;
-  },
-  heads_after s k h f ds cs p e a.1 r.1,
-)
+filter_same : (p q : Kept → Bool) (hs : List Kept) → ((h : Kept) → p h ≡ q h) → filter p hs ≡ filter q hs
+filter_same p q [] e = refl
+filter_same p q (h ∷ hs) e = λ i. if e h i then h ∷ filter_same p q hs e i else filter_same p q hs e i
+
+without_it : (p : Kept → Bool) (k : DocKey) (f : Kept → Kept) (h : Kept) (hs : List Kept) → p h ≡ true → p (f h) ≡ false → is_of k h ≡ true → first_of k hs ≡ Some h → slice_get (filter p hs) 0 ≡ Some h
+    → filter p (with_first k f hs) ≡ drop 1 (filter p hs)
+without_it p k f h [] holds fails of first got = refl
+without_it p k f h (x ∷ hs) holds fails of first got = ⊎_elim {C = filter p (with_first k f (x ∷ hs)) ≡ drop 1 (filter p (x ∷ hs))}
+    (λ t. let same : x ≡ h = some_same x h (sym (ap (λ b. if b then Some x else first_of k hs) t) ∙ first) in
+    ap (λ b. filter p (if b then f x ∷ hs else x ∷ with_first k f hs)) t
+    ∙ ap (λ (y : Kept). filter p (f y ∷ hs)) same
+    ∙ ap (λ b. if b then f h ∷ filter p hs else filter p hs) fails
+    ∙ sym (ap (λ (y : Kept). drop 1 (filter p (y ∷ hs))) same ∙ ap (λ b. drop 1 (if b then h ∷ filter p hs else filter p hs)) holds))
+    (λ t.
+    let rest = sym (ap (λ b. if b then Some x else first_of k hs) t) ∙ first in
+    let not_it : p x ≡ false = ⊎_elim {C = p x ≡ false}
+    (λ u. let same : x ≡ h = some_same x h (sym (ap (λ b. slice_get (if b then x ∷ filter p hs else filter p hs) 0) u) ∙ got) in absurd (apart_tests (sym t ∙ ap (is_of k) same ∙ of)))
+    (λ u. u) (true_or_false (p x)) in
+    ap (λ b. filter p (if b then f x ∷ hs else x ∷ with_first k f hs)) t
+    ∙ ap (λ b. if b then x ∷ filter p (with_first k f hs) else filter p (with_first k f hs)) not_it
+    ∙ without_it p k f h hs holds fails of rest (sym (ap (λ b. slice_get (if b then x ∷ filter p hs else filter p hs) 0) not_it) ∙ got)
+    ∙ ap (drop 1) (sym (ap (λ b. if b then x ∷ filter p hs else filter p hs) not_it)))
+    (true_or_false (is_of k x))
+
+-- one of them is the first of its document
+pub its_first : (hs : List Kept) (clock : ℕ) (h : Kept) → Rises hs → slice_get (candidates_kept hs clock) 0 ≡ Some h → first_of h.key hs ≡ Some h
+its_first hs clock h r e =
+    let c = Mem-filter (is_candidate_kept hs clock) h hs (get_mem (candidates_kept hs clock) h e) in
+    let rest = and_right (waits_here h.flies) (nat_le h.due clock && not (is_later_kept hs (document_of h.key) h.version)) c.1 in
+    not_later_first hs h r c.0 (not_true _ (and_right (nat_le h.due clock) _ rest))
+  where
+    get_mem : (cs : List Kept) (x : Kept) → slice_get cs 0 ≡ Some x → Mem x cs
+    get_mem [] x e = absurd (cc)
+    get_mem (c ∷ cs) x e = inl (sym (some_same c x e))
+
+-- the first of them is sent: the others may go still
+pub candidates_next : (hs : List Kept) (clock number place : ℕ) (h : Kept) → Rises hs → slice_get (candidates_kept hs clock) 0 ≡ Some h
+    → candidates_kept (with_first h.key (launch_one number place) hs) clock ≡ drop 1 (candidates_kept hs clock)
+candidates_next hs clock number place h r e =
+    let f = launch_one number place in
+    let k = h.key in
+    let mem = Mem-filter (is_candidate_kept hs clock) h hs (get_mem (candidates_kept hs clock) h e) in
+    filter_same (is_candidate_kept (with_first k f hs) clock) (is_candidate_kept hs clock) (with_first k f hs)
+    (λ x. ap (λ b. waits_here x.flies && (nat_le x.due clock && not b)) (later_with k f hs (document_of x.key) x.version (launch_keeps number place)))
+    ∙ without_it (is_candidate_kept hs clock) k f h hs mem.1 refl (same_self k) (its_first hs clock h r e) e
+  where
+    get_mem : (cs : List Kept) (x : Kept) → slice_get cs 0 ≡ Some x → Mem x cs
+    get_mem [] x e = absurd (cc)
+    get_mem (c ∷ cs) x e = inl (sym (some_same c x e))
 
 pub waits_of : (hs : List Kept) (clock : ℕ) (i : ℕ) (h : Kept) (rest : List Kept) → drop i (candidates_kept hs clock) ≡ h ∷ rest → h.flies ≡ None
 waits_of hs clock i h rest e = none h.flies (Rattle.relay_results.proofs.Lists.and_left (waits_here h.flies) _ (Rattle.relay_results.proofs.Lists.Mem-filter (is_candidate_kept hs clock) h hs (mem i (candidates_kept hs clock) e)).1)
@@ -199,6 +264,14 @@ offer_on i is g g' Added e n after = (
   ap (λ o. by_answer o (offered is g) g (offered is (with_item i g))) (sym e) ∙ ap (offered is) (sym after),
   ap (λ o. by_answer o (closes is g) true (closes is (with_item i g))) (sym e) ∙ ap (closes is) (sym after),
 )
+
+pub one_more_at_most : (i : BatchItem) (g g' : Gathering) (o : Offer) → g' ≡ after_offer {E = Unit {0}} i g (Ok o) → length g'.items ≤ length g.items + 1
+one_more_at_most i g g' Busy after = let e = ap (λ (x : Gathering). length x.items) after in omega (arith, e)
+one_more_at_most i g g' Closed after = let e = ap (λ (x : Gathering). length x.items) after in omega (arith, e)
+one_more_at_most i g g' Added after =
+    let e = ap (λ (x : Gathering). length x.items) after in
+    let n = length-append g.items (i ∷ []) in
+    omega (arith, e, n)
 
 -- ---- the batch is made of the first of them: no offer is Busy, since versions number the documents and rise
 

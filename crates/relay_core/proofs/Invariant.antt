@@ -1,10 +1,9 @@
 -- The invariant after an answer.
 use Rattle.std.proofs.Common.{◌≡◌, ℕ, ◌+◌, ◌-◌, ◌<◌, ◌≤◌, List, [], ◌∷◌, ◌++◌, Option, Some, None, Bool, true, false, ◌==◌, ◌&&◌, ◌||◌, refl, sym, ap, ◌∙◌, subst, ⊎_elim, arith, drop, length}
-use Rattle.std.specs.Prelude.{if◌then◌else◌, not, nat_lt, nat_le, slice_get, filter, is_some}
+use Rattle.std.specs.Prelude.{if◌then◌else◌, not, nat_lt, nat_le, slice_get, is_some}
 use borrow.Author.Tests.{ltb-true}
 use Rattle.relay_action.specs.declared.write.Write.{Write}
 use Rattle.relay_action.specs.declared.action.ActionKind.{ActionKind}
-use Rattle.relay_batch.specs.declared.item.BatchItem.{BatchItem}
 use Rattle.relay_results.specs.declared.outcome.Outcome.{Outcome}
 use Rattle.relay_results.specs.declared.decide.ItemVerdict.{ItemVerdict}
 use Rattle.relay_results.specs.declared.decide.ItemVerdict.TheVariants as verdict
@@ -12,18 +11,19 @@ use Rattle.relay_results.specs.Fates.{Fate, Flies, Applied, Already, Retried, Ha
 use Rattle.relay_results.specs.Documents.{is_delete}
 use Rattle.relay_results.specs.Verdicts.{verdict_of}
 use Rattle.relay_delivery.specs.Lane.{backoff}
-use Rattle.relay_results.proofs.Lists.{true_or_false, equal, equal_test, and_right}
+use Rattle.relay_results.proofs.Lists.{true_or_false, equal, and_right}
 use Rattle.relay_held.specs.declared.kept.Kept.{Kept}
 use Rattle.relay_core.specs.declared.fates.Way.{Way}
-use Rattle.relay_core.specs.declared.kept.Sent.{Sent}
+use Rattle.relay_flight.specs.declared.request.Request.{Request}
+use Rattle.relay_flight.specs.InFlight.{others}
 use Rattle.relay_held.specs.declared.kept.Spot.{Spot}
 use Rattle.relay_core.specs.declared.fates.Way.TheVariants as way
 use Rattle.relay_delivery.specs.Bound.{halvings}
 use Rattle.relay_delivery.proofs.Halving.{halvings-half}
 use Rattle.relay_core.specs.Walk.{flies_here, fate_or, fate_met, met_maybe, kept_walk}
-use Rattle.relay_core.specs.Memory.{has_number, writes_in, without, Given, further, rest_if, IsMet, IsWriteOf, IsHome, IsKept, AllKept, IsReadable, Carries, HasRoom, AreFew, IsHalf, tries_left, AllAbove, AllUnder, Rises, NoneTwice, SameNumbers}
+use Rattle.relay_core.specs.Memory.{is_in, writes_in, Given, further, rest_if, IsMet, IsWriteOf, IsHome, IsKept, AllKept, IsReadable, Carries, HasRoom, AreFew, IsHalf, tries_left, AllAbove, AllUnder, Rises}
 use Rattle.relay_core.proofs.Settling.{rest_drop, met_ends, settles}
-use Rattle.relay_core.proofs.Keeping.{or_false, without_other, elsewhere, given_any, carries_past}
+use Rattle.relay_core.proofs.Keeping.{without_other, elsewhere, given_any, carries_past}
 
 -- ---- versions
 
@@ -175,37 +175,18 @@ retried_tries t kind way.ByEntry (Some o) e = ltb-true _ _ (and_right (o.status 
 
 -- ---- requests in flight
 
-has_without : (xs : List Sent) (r m : ℕ) → has_number m xs ≡ false → has_number m (without xs r) ≡ false
-has_without [] r m e = refl
-has_without (x ∷ xs) r m e = ⊎_elim {C = has_number m (without (x ∷ xs) r) ≡ false}
-    (λ t. absurd (let k : (true || has_number m xs) ≡ false = ap (λ b. b || has_number m xs) (sym t) ∙ e in cc))
-    (λ t.
-    let rest : has_number m xs ≡ false = ap (λ b. b || has_number m xs) (sym t) ∙ e in
-    ⊎_elim {C = has_number m (without (x ∷ xs) r) ≡ false}
-    (λ u. ap (λ b. has_number m (if b then xs else x ∷ without xs r)) u ∙ rest)
-    (λ u. ap (λ b. has_number m (if b then xs else x ∷ without xs r)) u ∙ ap (λ b. b || has_number m (without xs r)) t ∙ has_without xs r m rest)
-    (true_or_false (x.number == r)))
-    (true_or_false (x.number == m))
-
-pub once_without : (xs : List Sent) (r : ℕ) → NoneTwice xs → NoneTwice (without xs r)
-once_without [] r o = tt
-once_without (x ∷ xs) r o = ⊎_elim {C = NoneTwice (without (x ∷ xs) r)}
-    (λ t. subst (λ b. NoneTwice (if b then xs else x ∷ without xs r)) (sym t) o.1)
-    (λ t. subst (λ b. NoneTwice (if b then xs else x ∷ without xs r)) (sym t) (has_without xs r x.number o.0, once_without xs r o.1))
-    (true_or_false (x.number == r))
-
-pub writes_absent : (xs : List Sent) (r : ℕ) → has_number r xs ≡ false → writes_in xs r ≡ []
+pub writes_absent : (xs : List Request) (r : ℕ) → is_in r xs ≡ false → writes_in xs r ≡ []
 writes_absent [] r e = refl
 writes_absent (x ∷ xs) r e = ⊎_elim {C = writes_in (x ∷ xs) r ≡ []}
-    (λ t. absurd (let k : (true || has_number r xs) ≡ false = ap (λ b. b || has_number r xs) (sym t) ∙ e in cc))
-    (λ t. ap (λ b. if b then x.writes.items else writes_in xs r) t ∙ writes_absent xs r (ap (λ b. b || has_number r xs) (sym t) ∙ e))
+    (λ t. absurd (let k : (true || is_in r xs) ≡ false = ap (λ b. b || is_in r xs) (sym t) ∙ e in cc))
+    (λ t. ap (λ b. if b then x.writes.items else writes_in xs r) t ∙ writes_absent xs r (ap (λ b. b || is_in r xs) (sym t) ∙ e))
     (true_or_false (x.number == r))
 
-pub gone_without : (xs : List Sent) (r : ℕ) → NoneTwice xs → has_number r (without xs r) ≡ false
-gone_without [] r o = refl
-gone_without (x ∷ xs) r o = ⊎_elim {C = has_number r (without (x ∷ xs) r) ≡ false}
-    (λ t. ap (λ b. has_number r (if b then xs else x ∷ without xs r)) t ∙ subst (λ k. has_number k xs ≡ false) (equal x.number r t) o.0)
-    (λ t. ap (λ b. has_number r (if b then xs else x ∷ without xs r)) t ∙ ap (λ b. b || has_number r (without xs r)) t ∙ gone_without xs r o.1)
+pub writes_gone : (xs : List Request) (r : ℕ) → writes_in (others r xs) r ≡ []
+writes_gone [] r = refl
+writes_gone (x ∷ xs) r = ⊎_elim {C = writes_in (others r (x ∷ xs)) r ≡ []}
+    (λ t. ap (λ b. writes_in (if not b then x ∷ others r xs else others r xs) r) t ∙ writes_gone xs r)
+    (λ t. ap (λ b. writes_in (if not b then x ∷ others r xs else others r xs) r) t ∙ ap (λ b. if b then x.writes.items else writes_in (others r xs) r) t ∙ writes_gone xs r)
     (true_or_false (x.number == r))
 
 -- ---- the whole
@@ -234,7 +215,7 @@ most_tries : (max next n p : ℕ) (h : Kept) (w : Option Write) (s : Option Spot
 most_tries max next n p h (Some w) None k e = absurd (cc)
 most_tries max next n p h (Some w) (Some s) k e = absurd k
 most_tries max next n p h None None k e = absurd k
-most_tries max next n p h None (Some s) k e = k.1
+most_tries max next n p h None (Some s) k e = k.2
 
 pub all_kept_walk : (max clock n next len : ℕ) → 0 < max → clock ≤ 18446744073709551615 → (whole : Way) → IsHalf whole len → (hs : List Kept) (p : ℕ) (ws : List Write) (os : List Outcome) → HasRoom n len hs → Carries n p hs ws → AllKept max next hs → AllKept max next (kept_walk hs max clock n whole ws os)
 all_kept_walk max clock n next len some ends whole half [] p ws os r c k = tt
@@ -274,12 +255,12 @@ carries_none max clock n whole (h ∷ hs) p ws os = ⊎_elim {C = Carries n p (k
     (subst (λ b. Given b (IsMet n p h []) × Carries n (further b p) (kept_walk hs max clock n whole ws os) (rest_if b [])) (sym t) (tt, carries_none max clock n whole hs p ws os)))
     (true_or_false (flies_here n h.flies))
 
-pub carries_after : (max clock n : ℕ) (whole : Way) (hs : List Kept) (ws : List Write) (os : List Outcome) (fs : List Sent) → NoneTwice fs → ((m : ℕ) → Carries m 0 hs (writes_in fs m)) → (m : ℕ) → Carries m 0 (kept_walk hs max clock n whole ws os) (writes_in (without fs n) m)
-carries_after max clock n whole hs ws os fs once all m = ⊎_elim {C = Carries m 0 (kept_walk hs max clock n whole ws os) (writes_in (without fs n) m)}
+pub carries_after : (max clock n : ℕ) (whole : Way) (hs : List Kept) (ws : List Write) (os : List Outcome) (fs : List Request) → ((m : ℕ) → Carries m 0 hs (writes_in fs m)) → (m : ℕ) → Carries m 0 (kept_walk hs max clock n whole ws os) (writes_in (others n fs) m)
+carries_after max clock n whole hs ws os fs all m = ⊎_elim {C = Carries m 0 (kept_walk hs max clock n whole ws os) (writes_in (others n fs) m)}
     (λ t.
     let e : m ≡ n = equal m n t in
-    subst (λ k. Carries k 0 (kept_walk hs max clock n whole ws os) (writes_in (without fs n) k)) (sym e)
-    (subst (λ vs. Carries n 0 (kept_walk hs max clock n whole ws os) vs) (sym (writes_absent (without fs n) n (gone_without fs n once))) (carries_none max clock n whole hs 0 ws os)))
+    subst (λ k. Carries k 0 (kept_walk hs max clock n whole ws os) (writes_in (others n fs) k)) (sym e)
+    (subst (λ vs. Carries n 0 (kept_walk hs max clock n whole ws os) vs) (sym (writes_gone fs n)) (carries_none max clock n whole hs 0 ws os)))
     (λ t. subst (λ vs. Carries m 0 (kept_walk hs max clock n whole ws os) vs) (sym (without_other fs n m t)) (carries_past max clock n m whole t hs 0 ws os (writes_in fs m) (all m)))
     (true_or_false (m == n))
 
@@ -308,77 +289,38 @@ room_past max clock n m len whole ne (h ∷ hs) ws os r = ⊎_elim {C = HasRoom 
     (r.0, room_past max clock n m len whole ne hs ws os r.1))
     (true_or_false (flies_here n h.flies))
 
-room_after : (max clock n : ℕ) (whole : Way) (hs : List Kept) (ws : List Write) (os : List Outcome) (fs : List Sent) → NoneTwice fs → ((m : ℕ) → HasRoom m (length (writes_in fs m)) hs) → (m : ℕ) → HasRoom m (length (writes_in (without fs n) m)) (kept_walk hs max clock n whole ws os)
-room_after max clock n whole hs ws os fs once all m = ⊎_elim {C = HasRoom m (length (writes_in (without fs n) m)) (kept_walk hs max clock n whole ws os)}
-    (λ t. subst (λ vs. HasRoom m (length vs) (kept_walk hs max clock n whole ws os)) (sym (ap (writes_in (without fs n)) (equal m n t) ∙ writes_absent (without fs n) n (gone_without fs n once))) (room_none m (kept_walk hs max clock n whole ws os)))
+room_after : (max clock n : ℕ) (whole : Way) (hs : List Kept) (ws : List Write) (os : List Outcome) (fs : List Request) → ((m : ℕ) → HasRoom m (length (writes_in fs m)) hs) → (m : ℕ) → HasRoom m (length (writes_in (others n fs) m)) (kept_walk hs max clock n whole ws os)
+room_after max clock n whole hs ws os fs all m = ⊎_elim {C = HasRoom m (length (writes_in (others n fs) m)) (kept_walk hs max clock n whole ws os)}
+    (λ t. subst (λ vs. HasRoom m (length vs) (kept_walk hs max clock n whole ws os)) (sym (ap (writes_in (others n fs)) (equal m n t) ∙ writes_gone fs n)) (room_none m (kept_walk hs max clock n whole ws os)))
     (λ t. subst (λ vs. HasRoom m (length vs) (kept_walk hs max clock n whole ws os)) (sym (without_other fs n m t)) (room_past max clock n m (length (writes_in fs m)) whole t hs ws os (all m)))
     (true_or_false (m == n))
 
-few_without : (fs : List Sent) (n : ℕ) → AreFew fs → AreFew (without fs n)
+few_without : (fs : List Request) (n : ℕ) → AreFew fs → AreFew (others n fs)
 few_without [] n f = tt
-few_without (x ∷ fs) n f = ⊎_elim {C = AreFew (without (x ∷ fs) n)}
-    (λ t. subst (λ b. AreFew (if b then fs else x ∷ without fs n)) (sym t) f.1)
-    (λ t. subst (λ b. AreFew (if b then fs else x ∷ without fs n)) (sym t) (f.0, few_without fs n f.1))
+few_without (x ∷ fs) n f = ⊎_elim {C = AreFew (others n (x ∷ fs))}
+    (λ t. subst (λ b. AreFew (if not b then x ∷ others n fs else others n fs)) (sym t) (few_without fs n f.1))
+    (λ t. subst (λ b. AreFew (if not b then x ∷ others n fs else others n fs)) (sym t) (f.0, few_without fs n f.1))
     (true_or_false (x.number == n))
 
-pub few_in : (fs : List Sent) (n : ℕ) → AreFew fs → length (writes_in fs n) ≤ 4294967295
+pub few_in : (fs : List Request) (n : ℕ) → AreFew fs → length (writes_in fs n) ≤ 4294967295
 few_in [] n f = omega arith
 few_in (x ∷ fs) n f = ⊎_elim {C = length (writes_in (x ∷ fs) n) ≤ 4294967295}
     (λ t. subst (λ b. length (if b then x.writes.items else writes_in fs n) ≤ 4294967295) (sym t) f.0)
     (λ t. subst (λ b. length (if b then x.writes.items else writes_in fs n) ≤ 4294967295) (sym t) (few_in fs n f.1))
     (true_or_false (x.number == n))
 
-pub readable_after : (max clock n next : ℕ) → 0 < max → clock ≤ 18446744073709551615 → (whole : Way) (os : List Outcome) (hs hs' : List Kept) (fs fs' : List Sent) → hs' ≡ kept_walk hs max clock n whole (writes_in fs n) os → fs' ≡ without fs n → IsHalf whole (length (writes_in fs n)) → IsReadable max next hs fs → IsReadable max next hs' fs'
+pub readable_after : (max clock n next : ℕ) → 0 < max → clock ≤ 18446744073709551615 → (whole : Way) (os : List Outcome) (hs hs' : List Kept) (fs fs' : List Request) → hs' ≡ kept_walk hs max clock n whole (writes_in fs n) os → fs' ≡ others n fs → IsHalf whole (length (writes_in fs n)) → IsReadable max next hs fs → IsReadable max next hs' fs'
 readable_after max clock n next some ends whole os hs hs' fs fs' e d half r =
     subst (λ xs. IsReadable max next xs fs') (sym e) (subst (λ ys. IsReadable max next (kept_walk hs max clock n whole (writes_in fs n) os) ys) (sym d) (record {
       kept = all_kept_walk max clock n next (length (writes_in fs n)) some ends whole half hs 0 (writes_in fs n) os (r.caps n) (r.carries n) r.kept;
       rises = rises_walk max clock n whole hs (writes_in fs n) os r.rises;
-      once = once_without fs n r.once;
-      carries = carries_after max clock n whole hs (writes_in fs n) os fs r.once r.carries;
-      caps = room_after max clock n whole hs (writes_in fs n) os fs r.once r.caps;
+      carries = carries_after max clock n whole hs (writes_in fs n) os fs r.carries;
+      caps = room_after max clock n whole hs (writes_in fs n) os fs r.caps;
       few = few_without fs n r.few;
     }))
 
--- ---- beside the batches
-
-beside_absent : (xs : List Sent) (bs : List (ℕ × List BatchItem)) (b : ℕ) → 1 ≤ b → SameNumbers xs bs → has_number (b - 1) xs ≡ false → filter (λ (e : ℕ × List BatchItem). not (e.0 == b)) bs ≡ bs
-beside_absent [] [] b le s e = refl
-beside_absent [] (y ∷ bs) b le s e = absurd s
-beside_absent (x ∷ xs) [] b le s e = absurd s
-beside_absent (x ∷ xs) (y ∷ bs) b le s e =
-    let o = or_false _ _ e in
-    let apart : (x.number == b - 1) ≡ false = o.0 in
-    let beside : x.number + 1 ≡ y.0 = s.0 in
-    let ne : (y.0 == b) ≡ false = ⊎_elim {C = (y.0 == b) ≡ false} (λ v. let q : y.0 ≡ b = equal y.0 b v in let k : (x.number == b - 1) ≡ true = equal_test x.number (b - 1) (omega (arith, q, beside)) in absurd (cc (k, apart))) (λ v. v) (true_or_false (y.0 == b)) in
-    ap (λ t. if not t then y ∷ filter (λ (e : ℕ × List BatchItem). not (e.0 == b)) bs else filter (λ (e : ℕ × List BatchItem). not (e.0 == b)) bs) ne
-    ∙ ap (λ ys. y ∷ ys) (beside_absent xs bs b le s.1 o.1)
-
-pub beside_without : (xs : List Sent) (bs : List (ℕ × List BatchItem)) (b : ℕ) → 1 ≤ b → NoneTwice xs → SameNumbers xs bs → SameNumbers (without xs (b - 1)) (filter (λ (e : ℕ × List BatchItem). not (e.0 == b)) bs)
-beside_without [] [] b le o s = tt
-beside_without [] (y ∷ bs) b le o s = absurd s
-beside_without (x ∷ xs) [] b le o s = absurd s
-beside_without (x ∷ xs) (y ∷ bs) b le o s = ⊎_elim {C = SameNumbers (without (x ∷ xs) (b - 1)) (filter (λ (e : ℕ × List BatchItem). not (e.0 == b)) (y ∷ bs))}
-    (λ t.
-    let q = equal x.number (b - 1) t in
-    let z = s.0 in
-    let here : (y.0 == b) ≡ true = equal_test y.0 b (omega (arith, q, z, le)) in
-    let gone : has_number (b - 1) xs ≡ false = subst (λ k. has_number k xs ≡ false) q o.0 in
-    subst (λ v. SameNumbers (if v then xs else x ∷ without xs (b - 1)) (filter (λ (e : ℕ × List BatchItem). not (e.0 == b)) (y ∷ bs))) (sym t)
-    (subst (λ v. SameNumbers xs (if not v then y ∷ filter (λ (e : ℕ × List BatchItem). not (e.0 == b)) bs else filter (λ (e : ℕ × List BatchItem). not (e.0 == b)) bs)) (sym here)
-    (subst (λ ys. SameNumbers xs ys) (sym (beside_absent xs bs b le s.1 gone)) s.1)))
-    (λ t.
-    let z = s.0 in
-    let other : (y.0 == b) ≡ false = ⊎_elim {C = (y.0 == b) ≡ false} (λ v. let q = equal y.0 b v in let k = equal_test x.number (b - 1) (omega (arith, q, z)) in absurd (cc)) (λ v. v) (true_or_false (y.0 == b)) in
-    subst (λ v. SameNumbers (if v then xs else x ∷ without xs (b - 1)) (filter (λ (e : ℕ × List BatchItem). not (e.0 == b)) (y ∷ bs))) (sym t)
-    (subst (λ v. SameNumbers (x ∷ without xs (b - 1)) (if not v then y ∷ filter (λ (e : ℕ × List BatchItem). not (e.0 == b)) bs else filter (λ (e : ℕ × List BatchItem). not (e.0 == b)) bs)) (sym other)
-    (s.0, beside_without xs bs b le o.1 s.1)))
-    (true_or_false (x.number == b - 1))
-
-pub readable_by : (max next next' : ℕ) (hs : List Kept) (fs : List Sent) → next ≡ next' → IsReadable max next hs fs → IsReadable max next' hs fs
+pub readable_by : (max next next' : ℕ) (hs : List Kept) (fs : List Request) → next ≡ next' → IsReadable max next hs fs → IsReadable max next' hs fs
 readable_by max next next' hs fs e r = subst (λ k. IsReadable max k hs fs) e r
 
-pub readable_same : (max next : ℕ) (hs hs' : List Kept) (fs fs' : List Sent) → hs' ≡ hs → fs' ≡ fs → IsReadable max next hs fs → IsReadable max next hs' fs'
+pub readable_same : (max next : ℕ) (hs hs' : List Kept) (fs fs' : List Request) → hs' ≡ hs → fs' ≡ fs → IsReadable max next hs fs → IsReadable max next hs' fs'
 readable_same max next hs hs' fs fs' e d r = subst (λ xs. IsReadable max next xs fs') (sym e) (subst (λ ys. IsReadable max next hs ys) (sym d) r)
-
-pub beside_after : (b : ℕ) (xs xs' : List Sent) (bs bs' : List (ℕ × List BatchItem)) → 1 ≤ b → NoneTwice xs → SameNumbers xs bs → xs' ≡ without xs (b - 1) → bs' ≡ filter (λ (e : ℕ × List BatchItem). not (e.0 == b)) bs → SameNumbers xs' bs'
-beside_after b xs xs' bs bs' le o s e d = subst (λ ys. SameNumbers ys bs') (sym e) (subst (λ cs. SameNumbers (without xs (b - 1)) cs) (sym d) (beside_without xs bs b le o s))

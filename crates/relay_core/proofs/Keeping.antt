@@ -1,5 +1,5 @@
 -- What an answer keeps of the invariant.
-use Rattle.std.proofs.Common.{◌≡◌, ℕ, List, [], ◌∷◌, ◌++◌, Option, Some, None, Bool, true, false, ◌==◌, ◌||◌, refl, sym, ap, ◌∙◌, subst, ⊎_elim, drop}
+use Rattle.std.proofs.Common.{◌≡◌, ℕ, ◌+◌, ◌-◌, ◌≤◌, List, [], ◌∷◌, ◌++◌, Option, Some, None, Bool, true, false, ◌==◌, ◌||◌, refl, sym, ap, ◌∙◌, subst, ⊎_elim, arith, drop}
 use Rattle.std.specs.Prelude.{if◌then◌else◌, not, map, slice_get, filter}
 use Rattle.relay_action.specs.declared.write.Write.{Write}
 use Rattle.relay_results.specs.declared.outcome.Outcome.{Outcome}
@@ -8,19 +8,20 @@ use Rattle.relay_delivery.specs.Lane.{is_other}
 use Rattle.relay_results.proofs.Lists.{true_or_false, equal, equal_test}
 use Rattle.relay_held.specs.declared.kept.Kept.{Kept}
 use Rattle.relay_core.specs.declared.fates.Way.{Way}
-use Rattle.relay_core.specs.declared.kept.Sent.{Sent}
+use Rattle.relay_flight.specs.declared.request.Request.{Request}
+use Rattle.relay_flight.specs.InFlight.{AreNumbered, others}
 use Rattle.relay_held.specs.declared.kept.Spot.{Spot}
 use Rattle.relay_core.specs.Walk.{flies_here, fate_met, met_maybe, kept_walk}
-use Rattle.relay_core.specs.Memory.{has_number, writes_in, without, flying_of, Given, further, rest_if, IsMet, Carries, NoneTwice}
+use Rattle.relay_core.specs.Memory.{writes_in, flying_of, Given, further, rest_if, IsMet, Carries}
 
 -- the writes of the other requests stay
-pub without_other : (xs : List Sent) (n m : ℕ) → (m == n) ≡ false → writes_in (without xs n) m ≡ writes_in xs m
+pub without_other : (xs : List Request) (n m : ℕ) → (m == n) ≡ false → writes_in (others n xs) m ≡ writes_in xs m
 without_other [] n m t = refl
-without_other (x ∷ xs) n m t = ⊎_elim {C = writes_in (without (x ∷ xs) n) m ≡ writes_in (x ∷ xs) m}
+without_other (x ∷ xs) n m t = ⊎_elim {C = writes_in (others n (x ∷ xs)) m ≡ writes_in (x ∷ xs) m}
     (λ u.
     let ne : (x.number == m) ≡ false = ⊎_elim {C = (x.number == m) ≡ false} (λ v. let k = equal_test m n (sym (equal x.number m v) ∙ equal x.number n u) in absurd (cc)) (λ v. v) (true_or_false (x.number == m)) in
-    ap (λ b. writes_in (if b then xs else x ∷ without xs n) m) u ∙ sym (ap (λ b. if b then x.writes.items else writes_in xs m) ne))
-    (λ u. ap (λ b. writes_in (if b then xs else x ∷ without xs n) m) u ∙ ap (λ ws. if x.number == m then x.writes.items else ws) (without_other xs n m t))
+    ap (λ b. writes_in (if not b then x ∷ others n xs else others n xs) m) u ∙ without_other xs n m t ∙ sym (ap (λ b. if b then x.writes.items else writes_in xs m) ne))
+    (λ u. ap (λ b. writes_in (if not b then x ∷ others n xs else others n xs) m) u ∙ ap (λ ws. if x.number == m then x.writes.items else ws) (without_other xs n m t))
     (true_or_false (x.number == n))
 
 pub given_any : {X : Type 0} (b : Bool) → X → Given b X
@@ -62,22 +63,25 @@ pub or_false : (a b : Bool) → (a || b) ≡ false → (a ≡ false) × (b ≡ f
 or_false true b e = absurd (cc)
 or_false false b e = (refl, e)
 
-filter_absent : (xs : List Sent) (n : ℕ) → has_number n xs ≡ false → filter (is_other n) (map flying_of xs) ≡ map flying_of xs
-filter_absent [] n e = refl
-filter_absent (x ∷ xs) n e =
-    let b = or_false _ _ e in
-    ap (λ t. if not t then flying_of x ∷ filter (is_other n) (map flying_of xs) else filter (is_other n) (map flying_of xs)) b.0
-    ∙ ap (λ ys. flying_of x ∷ ys) (filter_absent xs n b.1)
+-- numbers from 1 are the same where they are the same from 0
+pub one_less : (a b : ℕ) → 1 ≤ a → 1 ≤ b → (a - 1 == b - 1) ≡ (a == b)
+one_less a b le le' = ⊎_elim {C = (a - 1 == b - 1) ≡ (a == b)}
+    (λ t. let e = equal a b t in equal_test (a - 1) (b - 1) (ap (λ k. k - 1) e) ∙ sym t)
+    (λ t. ⊎_elim {C = (a - 1 == b - 1) ≡ (a == b)} (λ u. let e = equal (a - 1) (b - 1) u in let k = equal_test a b (omega (arith, e, le, le')) in absurd (cc)) (λ u. u ∙ sym t) (true_or_false (a - 1 == b - 1)))
+    (true_or_false (a == b))
 
 -- without one number, as the state has it
-pub without_seen : (xs : List Sent) (n : ℕ) → NoneTwice xs → map flying_of (without xs n) ≡ filter (is_other n) (map flying_of xs)
-without_seen [] n o = refl
-without_seen (x ∷ xs) n o = ⊎_elim {C = map flying_of (without (x ∷ xs) n) ≡ filter (is_other n) (map flying_of (x ∷ xs))}
+pub without_seen : (least next : ℕ) (xs : List Request) (n : ℕ) → 1 ≤ least → AreNumbered least next xs → 1 ≤ n → map flying_of (others n xs) ≡ filter (is_other (n - 1)) (map flying_of xs)
+without_seen least next [] n from a le = refl
+without_seen least next (x ∷ xs) n from a le =
+    let low = a.0 in
+    let ih = without_seen (x.number + 1) next xs n (omega arith) a.2 le in
+    let same = one_less x.number n (omega (arith, from, low)) le in
+    ⊎_elim {C = map flying_of (others n (x ∷ xs)) ≡ filter (is_other (n - 1)) (map flying_of (x ∷ xs))}
     (λ u.
-    let gone : has_number n xs ≡ false = subst (λ k. has_number k xs ≡ false) (equal x.number n u) o.0 in
-    ap (λ b. map flying_of (if b then xs else x ∷ without xs n)) u ∙ sym (filter_absent xs n gone)
-    ∙ sym (ap (λ b. if not b then flying_of x ∷ filter (is_other n) (map flying_of xs) else filter (is_other n) (map flying_of xs)) u))
+    ap (λ b. map flying_of (if not b then x ∷ others n xs else others n xs)) u ∙ ih
+    ∙ sym (ap (λ b. if not b then flying_of x ∷ filter (is_other (n - 1)) (map flying_of xs) else filter (is_other (n - 1)) (map flying_of xs)) (same ∙ u)))
     (λ u.
-    ap (λ b. map flying_of (if b then xs else x ∷ without xs n)) u ∙ ap (λ ys. flying_of x ∷ ys) (without_seen xs n o.1)
-    ∙ sym (ap (λ b. if not b then flying_of x ∷ filter (is_other n) (map flying_of xs) else filter (is_other n) (map flying_of xs)) u))
+    ap (λ b. map flying_of (if not b then x ∷ others n xs else others n xs)) u ∙ ap (λ ys. flying_of x ∷ ys) ih
+    ∙ sym (ap (λ b. if not b then flying_of x ∷ filter (is_other (n - 1)) (map flying_of xs) else filter (is_other (n - 1)) (map flying_of xs)) (same ∙ u)))
     (true_or_false (x.number == n))

@@ -47,7 +47,7 @@ home_later : (max n : ℕ) (h : Kept) (w : Option Write) (s : Option Spot) → I
 home_later max n h (Some w) None k = k
 home_later max n h (Some w) (Some s) k = k
 home_later max n h None None k = k
-home_later max n h None (Some s) k = (omega (arith, k.0), k.1)
+home_later max n h None (Some s) k = (k.0, omega (arith, k.1), k.2)
 
 kept_later : (max n : ℕ) (h : Kept) → IsKept max n h → IsKept max (n + 1) h
 kept_later max n h k = record { home = home_later max n h h.write h.flies k.home; sends = k.sends; due = k.due }
@@ -55,19 +55,19 @@ kept_later max n h k = record { home = home_later max n h h.write h.flies k.home
 pub more_is : (k : ℕ) → k < 4294967295 → more k ≡ k + 1
 more_is k lt = ap (λ b. if b then k + 1 else k) (lt-ltb k 4294967295 lt)
 
-kept_launched : (max n p : ℕ) (h : Kept) → max ≤ 32 → IsKept max n h → Home max h → IsKept max (n + 1) (launch_one n p h)
-kept_launched max n p h le k o =
+kept_launched : (max n p : ℕ) (h : Kept) → 1 ≤ n → max ≤ 32 → IsKept max n h → Home max h → IsKept max (n + 1) (launch_one n p h)
+kept_launched max n p h from le k o =
     let a = more_is h.attempts (omega (arith, o.tries, le)) in
     let s = more_is h.sends (omega (arith, o.tries, le, k.sends)) in
-    record { home = (omega arith, omega (arith, a, o.tries)); sends = (let y = k.sends in omega (arith, a, s, y)); due = k.due }
+    record { home = (from, omega arith, omega (arith, a, o.tries)); sends = (let y = k.sends in omega (arith, a, s, y)); due = k.due }
 
-pub all_launched : (max n : ℕ) (hs : List Kept) (p : ℕ) (is : List BatchItem) → max ≤ 32 → AllKept max n hs → AllKept max (n + 1) (launched_kept hs n p is)
-all_launched max n [] p is le a = tt
-all_launched max n (h ∷ hs) p is le a = ⊎_elim {C = AllKept max (n + 1) (launched_kept (h ∷ hs) n p is)}
+pub all_launched : (max n : ℕ) (hs : List Kept) (p : ℕ) (is : List BatchItem) → 1 ≤ n → max ≤ 32 → AllKept max n hs → AllKept max (n + 1) (launched_kept hs n p is)
+all_launched max n [] p is from le a = tt
+all_launched max n (h ∷ hs) p is from le a = ⊎_elim {C = AllKept max (n + 1) (launched_kept (h ∷ hs) n p is)}
     (λ t. subst (λ b. AllKept max (n + 1) (if b then launch_one n p h ∷ launched_kept hs n (p + 1) (drop 1 is) else h ∷ launched_kept hs n p is)) (sym t)
-    (kept_launched max n p h le a.0 (home_of max n h h.write h.flies refl a.0.home (next_waits is h t)), all_launched max n hs (p + 1) (drop 1 is) le a.1))
+    (kept_launched max n p h from le a.0 (home_of max n h h.write h.flies refl a.0.home (next_waits is h t)), all_launched max n hs (p + 1) (drop 1 is) from le a.1))
     (λ t. subst (λ b. AllKept max (n + 1) (if b then launch_one n p h ∷ launched_kept hs n (p + 1) (drop 1 is) else h ∷ launched_kept hs n p is)) (sym t)
-    (kept_later max n h a.0, all_launched max n hs p is le a.1))
+    (kept_later max n h a.0, all_launched max n hs p is from le a.1))
     (true_or_false (is_next is h))
 
 -- ---- tries
@@ -109,7 +109,7 @@ not_yet : (max n : ℕ) (h : Kept) (w : Option Write) (s : Option Spot) → IsHo
 not_yet max n h (Some w) None k = refl
 not_yet max n h (Some w) (Some s) k = absurd k
 not_yet max n h None None k = refl
-not_yet max n h None (Some s) k = ⊎_elim {C = (s.request == n) ≡ false} (λ t. let e = equal s.request n t in absurd (omega (arith, e, k.0))) (λ f. f) (true_or_false (s.request == n))
+not_yet max n h None (Some s) k = ⊎_elim {C = (s.request == n) ≡ false} (λ t. let e = equal s.request n t in absurd (omega (arith, e, k.1))) (λ f. f) (true_or_false (s.request == n))
 
 other_number : (n m : ℕ) → (m == n) ≡ false → (n == m) ≡ false
 other_number n m ne = ⊎_elim {C = (n == m) ≡ false} (λ t. let k = equal_test m n (sym (equal n m t)) in absurd (cc)) (λ f. f) (true_or_false (n == m))

@@ -1,6 +1,6 @@
--- A request looks at the first operation of each document that is held.
+-- A request looks at most at one operation of each document that is held.
 use Rattle.std.proofs.Common.{◌≡◌, ℕ, ◌+◌, ◌≤◌, List, [], ◌∷◌, refl, sym, ap, ◌∙◌, arith}
-use Rattle.std.specs.Prelude.{map, min}
+use Rattle.std.specs.Prelude.{map}
 use Rattle.relay_action.specs.declared.write.Write.{Write}
 use Rattle.relay_results.specs.Documents.{document_of}
 use Rattle.relay_delivery.specs.Machine.{Held}
@@ -16,10 +16,8 @@ documents_seen : (f : ℕ → List Write) (hs : List Kept) → map (λ (h : Held
 documents_seen f [] = refl
 documents_seen f (h ∷ hs) = ap (λ ds. document_of h.key ∷ ds) (documents_seen f hs)
 
--- one look more at each
-pub looked_now : (i : Inside) (now : Seen) (count looks : ℕ) → shown i ≡ now → count ≡ distinct (documents i.held.list) → looks ≡ min (i.looks + count) 18446744073709551615 → looks ≡ looked now
-looked_now i now count looks view e is =
-    is ∙ ap (λ n. min (i.looks + n) 18446744073709551615) (e ∙ ap distinct (sym (documents_seen (writes_in i.flown.items) i.held.list))) ∙ ap looked view
-
-pub at_most : (n m : ℕ) → n ≡ m → n ≤ m
-at_most n m e = omega (arith, e)
+-- at most one look more at each
+pub looked_most : (i : Inside) (now : Seen) (looks : ℕ) → shown i ≡ now → looks ≤ i.looks + distinct (documents i.held.list) → looks ≤ looked now
+looked_most i now looks view le =
+    let same : i.looks + distinct (documents i.held.list) ≡ looked now = ap (λ ds. i.looks + distinct ds) (sym (documents_seen (writes_in i.flight.requests) i.held.list)) ∙ ap looked view in
+    omega (arith, le, same)

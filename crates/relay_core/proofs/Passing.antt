@@ -14,7 +14,7 @@ use Rattle.relay_held.specs.Queues.{same_key, is_of, first_of, with_first, witho
 use Rattle.relay_held.proofs.Merging.{same_self}
 use Rattle.relay_held.proofs.Changing.{first_is}
 use Rattle.relay_core.specs.declared.fates.Way.{Way}
-use Rattle.relay_core.specs.Walk.{flies_here, fate_met, fate_one, after_one, back, back_halved, met_maybe, reports_maybe, reports_one, tally_maybe, tally, kept_walk, reports_walk, tally_walk}
+use Rattle.relay_core.specs.Walk.{flies_here, fate_met, fate_one, after_one, back, halved_at, met_maybe, reports_maybe, reports_one, tally_maybe, tally, kept_walk, reports_walk, tally_walk}
 use Rattle.relay_core.specs.Memory.{Given, further, rest_if, IsMet, Carries}
 use Rattle.relay_core.proofs.Settling.{settles, met_ends, rest_drop}
 
@@ -85,7 +85,7 @@ module _ (n : ℕ) where
   after_here clock w x hs Applied t s = ap (λ b. if b then hs else x ∷ without_first w.key hs) t
   after_here clock w x hs Already t s = ap (λ b. if b then hs else x ∷ without_first w.key hs) t
   after_here clock w x hs Retried t s = ap (λ b. if b then back clock w x ∷ hs else x ∷ with_first w.key (back clock w) hs) t
-  after_here clock w x hs (Halved k) t s = ap (λ b. if b then back_halved clock k w x ∷ hs else x ∷ with_first w.key (back_halved clock k w) hs) t
+  after_here clock w x hs (Halved k) t s = ap (λ b. if b then halved_at clock k w x ∷ hs else x ∷ with_first w.key (halved_at clock k w) hs) t
   after_here clock w x hs (Reported c) t s = ap (λ b. if b then hs else x ∷ without_first w.key hs) t
 
   after_past : (clock : ℕ) (w : Write) (x : Kept) (hs : List Kept) (y : Fate) → is_of w.key x ≡ false → after_one clock w (x ∷ hs) y ≡ x ∷ after_one clock w hs y
@@ -93,7 +93,7 @@ module _ (n : ℕ) where
   after_past clock w x hs Applied f = ap (λ b. if b then hs else x ∷ without_first w.key hs) f
   after_past clock w x hs Already f = ap (λ b. if b then hs else x ∷ without_first w.key hs) f
   after_past clock w x hs Retried f = ap (λ b. if b then back clock w x ∷ hs else x ∷ with_first w.key (back clock w) hs) f
-  after_past clock w x hs (Halved k) f = ap (λ b. if b then back_halved clock k w x ∷ hs else x ∷ with_first w.key (back_halved clock k w) hs) f
+  after_past clock w x hs (Halved k) f = ap (λ b. if b then halved_at clock k w x ∷ hs else x ∷ with_first w.key (halved_at clock k w) hs) f
   after_past clock w x hs (Reported c) f = ap (λ b. if b then hs else x ∷ without_first w.key hs) f
 
   module _ (max clock : ℕ) (whole : Way) where
@@ -272,7 +272,7 @@ length_after clock w hs h Flies e = omega arith
 length_after clock w hs h Applied e = Rattle.relay_held.proofs.Holding.length_without w.key hs h e
 length_after clock w hs h Already e = Rattle.relay_held.proofs.Holding.length_without w.key hs h e
 length_after clock w hs h Retried e = let l = length_changed w.key (back clock w) hs in omega (arith, l)
-length_after clock w hs h (Halved k) e = let l = length_changed w.key (back_halved clock k w) hs in omega (arith, l)
+length_after clock w hs h (Halved k) e = let l = length_changed w.key (halved_at clock k w) hs in omega (arith, l)
 length_after clock w hs h (Reported c) e = Rattle.relay_held.proofs.Holding.length_without w.key hs h e
 
 -- ---- one turn of the loop, over plain values

@@ -1,19 +1,22 @@
 -- What is read of the held list, and who is a candidate.
-use Rattle.std.proofs.Common.{◌≡◌, ℕ, zero, suc, ◌+◌, ◌-◌, ◌≤◌, List, [], ◌∷◌, Option, Some, None, true, false, ◌==◌, ◌&&◌, ◌||◌, refl, sym, ap, ◌∙◌, ⊎_elim, inl, inr, arith}
-use Rattle.std.specs.Prelude.{◌⊎◌, if◌then◌else◌, not, nat_lt, nat_le, map, filter, option_map, Result, Ok, Err, IfOk, OnErr, IfSome}
-use Rattle.std.specs.List.{list_any}
+use Rattle.std.proofs.Common.{◌≡◌, ℕ, zero, suc, ◌+◌, ◌-◌, ◌≤◌, List, [], ◌∷◌, Option, Some, None, true, false, ◌==◌, ◌&&◌, ◌||◌, refl, sym, ap, ◌∙◌, subst, ⊎_elim, inl, inr, arith}
+use Rattle.std.specs.Prelude.{◌⊎◌, if◌then◌else◌, not, nat_lt, nat_le, map, filter, option_map, is_some, Result, Ok, Err, IfOk, OnErr, IfSome}
+use Rattle.std.specs.List.{list_any, find}
 use Rattle.relay_action.specs.declared.write.Write.{Write}
 use Rattle.relay_results.specs.Documents.{document_of, same_document}
 use Rattle.relay_core.specs.State.{State, is_eligible, first_due, sooner, due_in}
 use Rattle.relay_delivery.specs.Lane as delivery
 use Rattle.relay_delivery.specs.Lane.{Entry, Flying, writes_at, held_of, waits, is_later, is_candidate, candidates}
-use Rattle.relay_results.proofs.Lists.{true_or_false, equal, equal_test}
+use Rattle.relay_results.proofs.Lists.{true_or_false, equal}
 use Rattle.relay_held.specs.declared.kept.Kept.{Kept}
 use Rattle.relay_held.specs.declared.kept.Spot.{Spot}
-use Rattle.relay_core.specs.declared.kept.Sent.{Sent}
+use Rattle.relay_flight.specs.declared.request.Request.{Request}
+use Rattle.relay_flight.specs.InFlight.{AreNumbered, has_number}
 use Rattle.relay_core.specs.Rule.{item_of}
+use Rattle.relay_core.proofs.Keeping.{one_less}
+use Rattle.relay_flight.proofs.Numbers.{least_found}
 use Rattle.relay_core.specs.Walk.{waits_here, is_later_kept, is_eligible_kept, first_due_kept, is_candidate_kept, item_of_kept, items_of_kept}
-use Rattle.relay_core.specs.Memory.{without, has_number, writes_in, flying_of, place_at, held_seen, entry_of, entries}
+use Rattle.relay_core.specs.Memory.{is_in, writes_in, flying_of, place_at, held_seen, entry_of, entries}
 
 waits_seen : (p : Option Spot) → waits (option_map place_at p) ≡ waits_here p
 waits_seen None = refl
@@ -64,19 +67,57 @@ if_some_map (Some x) P Q f h = f x h
 
 -- ---- requests in flight
 
-pub writes_seen : (xs : List Sent) (n : ℕ) → writes_at n (map flying_of xs) ≡ writes_in xs n
-writes_seen [] n = refl
-writes_seen (x ∷ xs) n = ap (λ ws. if x.number == n then x.writes.items else ws) (writes_seen xs n)
+-- the writes of a request, as the state counts them
+pub writes_seen : (least next : ℕ) (xs : List Request) (n : ℕ) → 1 ≤ least → AreNumbered least next xs → 1 ≤ n → writes_at (n - 1) (map flying_of xs) ≡ writes_in xs n
+writes_seen least next [] n from a le = refl
+writes_seen least next (x ∷ xs) n from a le =
+    let low = a.0 in
+    (λ i. if one_less x.number n (omega (arith, from, low)) le i then x.writes.items else writes_seen (x.number + 1) next xs n (omega arith) a.2 le i)
 
-one_off : (a b : ℕ) → 1 ≤ b → (a + 1 == b) ≡ (a == b - 1)
-one_off a b le = ⊎_elim {C = (a + 1 == b) ≡ (a == b - 1)}
-    (λ t. let e = equal a (b - 1) t in equal_test (a + 1) b (omega (arith, e, le)) ∙ sym t)
-    (λ t. ⊎_elim {C = (a + 1 == b) ≡ (a == b - 1)} (λ u. let e = equal (a + 1) b u in let k = equal_test a (b - 1) (omega (arith, e, le)) in absurd (cc)) (λ u. u ∙ sym t) (true_or_false (a + 1 == b)))
-    (true_or_false (a == b - 1))
+pub number_seen : (least next : ℕ) (xs : List Request) (b : ℕ) → 1 ≤ least → AreNumbered least next xs → is_in b xs ≡ list_any (λ (x : Flying). x.request + 1 == b) (map flying_of xs)
+number_seen least next [] b from a = refl
+number_seen least next (x ∷ xs) b from a =
+    let low = a.0 in
+    let same : x.number ≡ x.number - 1 + 1 = omega (arith, from, low) in
+    λ i. (same i == b) || number_seen (x.number + 1) next xs b (omega arith) a.2 i
 
-pub number_seen : (xs : List Sent) (b : ℕ) → 1 ≤ b → has_number (b - 1) xs ≡ list_any (λ (x : Flying). x.request + 1 == b) (map flying_of xs)
-number_seen [] b le = refl
-number_seen (x ∷ xs) b le = λ i. sym (one_off x.number b le) i || number_seen xs b le i
+-- what is found is in flight, and has the writes
+pub found_in : (xs : List Request) (n : ℕ) → is_some (find (has_number n) xs) ≡ is_in n xs
+found_in [] n = refl
+found_in (x ∷ xs) n = ⊎_elim {C = is_some (find (has_number n) (x ∷ xs)) ≡ is_in n (x ∷ xs)}
+    (λ t. ap (λ b. is_some (if b then Some x else find (has_number n) xs)) t ∙ sym (ap (λ b. b || is_in n xs) t))
+    (λ t. ap (λ b. is_some (if b then Some x else find (has_number n) xs)) t ∙ found_in xs n ∙ sym (ap (λ b. b || is_in n xs) t))
+    (true_or_false (x.number == n))
+
+pub found_writes : (xs : List Request) (n : ℕ) → IfSome (find (has_number n) xs) (λ (r : Request). r.writes.items ≡ writes_in xs n)
+found_writes [] n = tt
+found_writes (x ∷ xs) n = ⊎_elim {C = IfSome (find (has_number n) (x ∷ xs)) (λ (r : Request). r.writes.items ≡ writes_in (x ∷ xs) n)}
+    (λ t. subst (λ b. IfSome (if b then Some x else find (has_number n) xs) (λ (r : Request). r.writes.items ≡ (if b then x.writes.items else writes_in xs n))) (sym t) refl)
+    (λ t. subst (λ b. IfSome (if b then Some x else find (has_number n) xs) (λ (r : Request). r.writes.items ≡ (if b then x.writes.items else writes_in xs n))) (sym t) (found_writes xs n))
+    (true_or_false (x.number == n))
+
+pub writes_of_found : (xs : List Request) (n : ℕ) (r : Request) → find (has_number n) xs ≡ Some r → r.writes.items ≡ writes_in xs n
+writes_of_found xs n r e = subst (λ o. IfSome o (λ (x : Request). x.writes.items ≡ writes_in xs n)) e (found_writes xs n)
+
+-- a number that is found was given
+pub found_from : (next : ℕ) (xs : List Request) (n : ℕ) (r : Request) → AreNumbered 1 next xs → find (has_number n) xs ≡ Some r → 1 ≤ n
+found_from next xs n r a e = least_found 1 next n xs a (ap is_some e)
+
+some_as : (next : ℕ) (xs : List Request) (n : ℕ) (o : Option Request) → AreNumbered 1 next xs → find (has_number n) xs ≡ o → IfSome o (λ (r : Request). r.writes.items ≡ writes_at (n - 1) (map flying_of xs))
+some_as next xs n None a e = tt
+some_as next xs n (Some r) a e = writes_of_found xs n r e ∙ sym (writes_seen 1 next xs n (omega arith) a (found_from next xs n r a e))
+
+pub some_read : {A B R : Type 0} (o : Option A) (q : Option R) (f : A → B) (g : R → B) (b : B) → option_map f o ≡ option_map g q → IfSome q (λ r. g r ≡ b) → IfSome o (λ x. f x ≡ b)
+some_read None q f g b e h = tt
+some_read (Some x) None f g b e h = absurd (cc)
+some_read (Some x) (Some r) f g b e h = let same : f x ≡ g r = cc in same ∙ h
+
+pub found_seen : (next : ℕ) (xs : List Request) (n : ℕ) → AreNumbered 1 next xs → IfSome (find (has_number n) xs) (λ (r : Request). r.writes.items ≡ writes_at (n - 1) (map flying_of xs))
+found_seen next xs n a = some_as next xs n (find (has_number n) xs) a refl
+
+pub is_some_map : {A B : Type 0} (f : A → B) (o : Option A) → is_some (option_map f o) ≡ is_some o
+is_some_map f None = refl
+is_some_map f (Some x) = refl
 
 pub number_zero : (xs : List Flying) (b : ℕ) → b ≡ 0 → false ≡ list_any (λ (x : Flying). x.request + 1 == b) xs
 number_zero [] b e = refl
@@ -84,13 +125,6 @@ number_zero (x ∷ xs) b e = ⊎_elim {C = false ≡ list_any (λ (y : Flying). 
     (λ t. let k = equal (x.request + 1) b t in absurd (omega (arith, k, e)))
     (λ t. number_zero xs b e ∙ sym (ap (λ v. v || list_any (λ (y : Flying). y.request + 1 == b) xs) t))
     (true_or_false (x.request + 1 == b))
-
-pub without_none : (xs : List Sent) (n : ℕ) → has_number n xs ≡ false → without xs n ≡ xs
-without_none [] n e = refl
-without_none (x ∷ xs) n e = ⊎_elim {C = without (x ∷ xs) n ≡ x ∷ xs}
-    (λ t. absurd (let k : (true || has_number n xs) ≡ false = ap (λ b. b || has_number n xs) (sym t) ∙ e in cc))
-    (λ t. ap (λ b. if b then xs else x ∷ without xs n) t ∙ ap (λ ys. x ∷ ys) (without_none xs n (ap (λ b. b || has_number n xs) (sym t) ∙ e)))
-    (true_or_false (x.number == n))
 
 zero_or : (b : ℕ) → (b ≡ 0) ⊎ (1 ≤ b)
 zero_or zero = inl refl

@@ -1,18 +1,17 @@
 -- A batch is sent: the held list as it is read afterwards is the one before with those of the batch sent.
-use Rattle.std.proofs.Common.{◌≡◌, ◌≢◌, ℕ, suc, ◌+◌, ◌-◌, ◌<◌, ◌≤◌, List, [], ◌∷◌, ◌++◌, length, Option, Some, None, Bool, true, false, ◌==◌, ◌||◌, refl, sym, ap, ◌∙◌, subst, ⊎_elim, inl, inr, arith, get_or, append_assoc, length-append}
+use Rattle.std.proofs.Common.{◌≡◌, ◌≢◌, ℕ, suc, ◌+◌, ◌-◌, ◌<◌, ◌≤◌, List, [], ◌∷◌, ◌++◌, length, Option, Some, None, false, ◌==◌, ◌||◌, refl, sym, ap, ◌∙◌, subst, ⊎_elim, inl, inr, arith, append_assoc, length-append}
 use Rattle.std.specs.Prelude.{if◌then◌else◌, map, slice_get, option_map, option_to_list}
 use Rattle.relay_action.specs.declared.write.Write.{Write}
-use Rattle.relay_batch.specs.declared.item.BatchItem.{BatchItem}
-use Rattle.relay_flight.specs.Flying.{Flying, IsFlight}
-use Rattle.relay_results.specs.Words.{Mem, IsSubsequence}
+use Rattle.relay_flight.proofs.Numbers.{Lacks}
+use Rattle.relay_results.specs.Words.{IsSubsequence}
 use Rattle.relay_results.proofs.Lists.{true_or_false, equal, equal_test}
 use Rattle.relay_delivery.specs.Machine.{Held, place_of, launched_at}
 use Rattle.relay_delivery.specs.Lane.{held_of, launched_entry}
 use Rattle.relay_held.specs.declared.kept.Kept.{Kept}
-use Rattle.relay_core.specs.declared.kept.Sent.{Sent}
+use Rattle.relay_flight.specs.declared.request.Request.{Request}
 use Rattle.relay_held.specs.declared.kept.Spot.{Spot}
 use Rattle.relay_core.specs.Walk.{item_of_kept, launch_one, launched_kept}
-use Rattle.relay_core.specs.Memory.{has_number, writes_in, write_found, action_or, held_seen, entry_of, entries, place_at, IsHome, IsKept, AllKept, AllAbove, Rises, NoneTwice, SameNumbers}
+use Rattle.relay_core.specs.Memory.{is_in, writes_in, write_found, action_or, held_seen, entry_of, entries, place_at, IsHome, IsKept, AllKept, AllAbove, Rises}
 use Rattle.relay_core.proofs.Launching.{AllWait, loads, Home, home_of, above_sub, is_its, is_later_one}
 use Rattle.relay_core.proofs.Launched.{more_is}
 use Rattle.relay_core.proofs.Keeping.{or_false}
@@ -66,10 +65,10 @@ at_front (x ∷ xs) y zs = at_front xs y zs
 found_same : (max n : ℕ) (f f' : ℕ → List Write) (h : Kept) (w : Option Write) (s : Option Spot) → ((m : ℕ) → m < n → f' m ≡ f m) → IsHome max n h w s → write_found w s f' ≡ write_found w s f
 found_same max n f f' h (Some w) s same k = refl
 found_same max n f f' h None None same k = refl
-found_same max n f f' h None (Some s) same k = ap (λ ws. slice_get ws s.place) (same s.request k.0)
+found_same max n f f' h None (Some s) same k = ap (λ ws. slice_get ws s.place) (same s.request k.1)
 
 stays_seen : (max n : ℕ) (f f' : ℕ → List Write) (h : Kept) (chosen : List Held) → ((m : ℕ) → m < n → f' m ≡ f m) → IsKept max n h → place_of h.version chosen ≡ None
-    → entry_of f' h ≡ launched_entry n chosen (entry_of f h)
+    → entry_of f' h ≡ launched_entry (n - 1) chosen (entry_of f h)
 stays_seen max n f f' h chosen same k none =
     (λ i. record {
       held = record { op = record { epoch = h.name.epoch; producer = h.name.producer; number = h.name.number; key = h.key; action = action_or (found_same max n f f' h h.write h.flies same k.home i) }; version = h.version; sends = h.sends; attempts = h.attempts; cap = h.cap; flies = option_map place_at h.flies };
@@ -77,26 +76,26 @@ stays_seen max n f f' h chosen same k none =
       taken_at = h.taken_at;
       due = h.due;
     })
-    ∙ (λ i. record { held = launched_at n (held_seen f h) (sym none i); bytes = h.bytes; taken_at = h.taken_at; due = h.due })
+    ∙ (λ i. record { held = launched_at (n - 1) (held_seen f h) (sym none i); bytes = h.bytes; taken_at = h.taken_at; due = h.due })
 
 goes_seen : (max n : ℕ) (f f' : ℕ → List Write) (h : Kept) (chosen : List Held) (p : ℕ) → max ≤ 32 → IsKept max n h → (o : Home max h) → slice_get (f' n) p ≡ Some o.write → place_of h.version chosen ≡ Some p
-    → entry_of f' (launch_one n p h) ≡ launched_entry n chosen (entry_of f h)
+    → entry_of f' (launch_one n p h) ≡ launched_entry (n - 1) chosen (entry_of f h)
 goes_seen max n f f' h chosen p le k o got at =
     let a = more_is h.attempts (omega (arith, o.tries, le)) in
     let s = more_is h.sends (omega (arith, o.tries, le, k.sends)) in
     (λ i. record {
-      held = record { op = record { epoch = h.name.epoch; producer = h.name.producer; number = h.name.number; key = h.key; action = action_or (got i) }; version = h.version; sends = s i; attempts = a i; cap = h.cap; flies = Some (record { request = n; place = p }) };
+      held = record { op = record { epoch = h.name.epoch; producer = h.name.producer; number = h.name.number; key = h.key; action = action_or (got i) }; version = h.version; sends = s i; attempts = a i; cap = h.cap; flies = Some (record { request = n - 1; place = p }) };
       bytes = h.bytes;
       taken_at = h.taken_at;
       due = h.due;
     })
     ∙ (λ i. record {
-      held = record { op = record { epoch = h.name.epoch; producer = h.name.producer; number = h.name.number; key = h.key; action = action_or (write_found (sym o.found i) h.flies f) }; version = h.version; sends = h.sends + 1; attempts = h.attempts + 1; cap = h.cap; flies = Some (record { request = n; place = p }) };
+      held = record { op = record { epoch = h.name.epoch; producer = h.name.producer; number = h.name.number; key = h.key; action = action_or (write_found (sym o.found i) h.flies f) }; version = h.version; sends = h.sends + 1; attempts = h.attempts + 1; cap = h.cap; flies = Some (record { request = n - 1; place = p }) };
       bytes = h.bytes;
       taken_at = h.taken_at;
       due = h.due;
     })
-    ∙ (λ i. record { held = launched_at n (held_seen f h) (sym at i); bytes = h.bytes; taken_at = h.taken_at; due = h.due })
+    ∙ (λ i. record { held = launched_at (n - 1) (held_seen f h) (sym at i); bytes = h.bytes; taken_at = h.taken_at; due = h.due })
 
 -- ---- the whole list
 
@@ -121,11 +120,11 @@ module _ (max n : ℕ) (le : max ≤ 32) (f f' : ℕ → List Write) (same : (m 
   abbrev pub Seen : ℕ → List Kept → List Kept → List Held → List Write → Type 0
   Seen b hs ps qs fw =
       length fw ≡ length qs → f' n ≡ fw ++ loads ps → Under b qs → AllFrom b hs → Rises hs → AllKept max n hs → IsSubsequence ps hs → AllWait ps →
-      entries (launched_kept hs n (length qs) (map item_of_kept ps)) f' ≡ map (launched_entry n (qs ++ held_of (entries ps f))) (entries hs f)
+      entries (launched_kept hs n (length qs) (map item_of_kept ps)) f' ≡ map (launched_entry (n - 1) (qs ++ held_of (entries ps f))) (entries hs f)
 
   goes_on : (b : ℕ) (h : Kept) (hs ps : List Kept) (qs : List Held) (fw : List Write) → ((b' : ℕ) (qs' : List Held) (fw' : List Write) → Seen b' hs ps qs' fw')
       → length fw ≡ length qs → f' n ≡ fw ++ loads (h ∷ ps) → Under b qs → AllFrom b (h ∷ hs) → Rises (h ∷ hs) → AllKept max n (h ∷ hs) → IsSubsequence ps hs → h.flies ≡ None → AllWait ps
-      → entries (launched_kept (h ∷ hs) n (length qs) (map item_of_kept (h ∷ ps))) f' ≡ map (launched_entry n (qs ++ held_of (entries (h ∷ ps) f))) (entries (h ∷ hs) f)
+      → entries (launched_kept (h ∷ hs) n (length qs) (map item_of_kept (h ∷ ps))) f' ≡ map (launched_entry (n - 1) (qs ++ held_of (entries (h ∷ ps) f))) (entries (h ∷ hs) f)
   goes_on b h hs ps qs fw ih len load u from r a s none w =
       let o = home_of max n h h.write h.flies refl a.0.home none in
       let loaded : f' n ≡ fw ++ o.write ∷ loads ps = load ∙ ap (λ x. fw ++ (option_to_list x ++ loads ps)) o.found in
@@ -140,8 +139,8 @@ module _ (max n : ℕ) (le : max ≤ 32) (f f' : ℕ → List Write) (same : (m 
       (from_above h.version hs r.0) r.1 a.1 s w in
       ap (λ t. entries (if t then launch_one n (length qs) h ∷ launched_kept hs n (length qs + 1) (map item_of_kept ps) else h ∷ launched_kept hs n (length qs) (item_of_kept h ∷ map item_of_kept ps)) f') (is_its h (map item_of_kept ps) none)
       ∙ ap (λ k. entry_of f' (launch_one n (length qs) h) ∷ entries (launched_kept hs n k (map item_of_kept ps)) f') (sym (length-append qs (q ∷ [])))
-      ∙ ap (λ es. entry_of f' (launch_one n (length qs) h) ∷ es) (rest ∙ ap (λ cs. map (launched_entry n cs) (entries hs f)) (append_assoc qs (q ∷ []) (held_of (entries ps f))))
-      ∙ ap (λ e. e ∷ map (launched_entry n (qs ++ q ∷ held_of (entries ps f))) (entries hs f)) (goes_seen max n f f' h (qs ++ q ∷ held_of (entries ps f)) (length qs) le a.0 o got at)
+      ∙ ap (λ es. entry_of f' (launch_one n (length qs) h) ∷ es) (rest ∙ ap (λ cs. map (launched_entry (n - 1) cs) (entries hs f)) (append_assoc qs (q ∷ []) (held_of (entries ps f))))
+      ∙ ap (λ e. e ∷ map (launched_entry (n - 1) (qs ++ q ∷ held_of (entries ps f))) (entries hs f)) (goes_seen max n f f' h (qs ++ q ∷ held_of (entries ps f)) (length qs) le a.0 o got at)
 
   pub launched_seen : (hs ps : List Kept) (b : ℕ) (qs : List Held) (fw : List Write) → Seen b hs ps qs fw
   launched_seen [] ps b qs fw len load u from r a s w = refl
@@ -149,7 +148,7 @@ module _ (max n : ℕ) (le : max ≤ 32) (f f' : ℕ → List Write) (same : (m 
       let none = place_none h.version qs [] (under_same b h.version qs from.0 u) tt in
       λ i. stays_seen max n f f' h (qs ++ []) same a.0 none i ∷ launched_seen hs [] b qs fw len load u from.1 r.1 a.1 tt tt i
   launched_seen (h ∷ hs) (p ∷ ps) b qs fw len load u from r a (inl s) w =
-      subst (λ (x : Kept). f' n ≡ fw ++ loads (x ∷ ps) → x.flies ≡ None → entries (launched_kept (h ∷ hs) n (length qs) (map item_of_kept (x ∷ ps))) f' ≡ map (launched_entry n (qs ++ held_of (entries (x ∷ ps) f))) (entries (h ∷ hs) f)) (sym s.0)
+      subst (λ (x : Kept). f' n ≡ fw ++ loads (x ∷ ps) → x.flies ≡ None → entries (launched_kept (h ∷ hs) n (length qs) (map item_of_kept (x ∷ ps))) f' ≡ map (launched_entry (n - 1) (qs ++ held_of (entries (x ∷ ps) f))) (entries (h ∷ hs) f)) (sym s.0)
       (λ l none. goes_on b h hs ps qs fw (λ b' qs' fw'. launched_seen hs ps b' qs' fw') len l u from r a s.1 none w.1)
       load w.0
   launched_seen (h ∷ hs) (p ∷ ps) b qs fw len load u from r a (inr s) w =
@@ -160,62 +159,16 @@ module _ (max n : ℕ) (le : max ≤ 32) (f f' : ℕ → List Write) (same : (m 
 
 -- ---- requests in flight
 
-pub none_above : (xs : List Sent) (bs : List (ℕ × List BatchItem)) (next : ℕ) → SameNumbers xs bs → ((e : ℕ × List BatchItem) → Mem e bs → e.0 < next) → has_number (next - 1) xs ≡ false
-none_above [] bs next s lt = refl
-none_above (x ∷ xs) [] next s lt = absurd s
-none_above (x ∷ xs) (b ∷ bs) next s lt =
-    let here : (x.number == next - 1) ≡ false = not_it x.number (next - 1) (λ e. let z = s.0 in let l = lt b (inl refl) in omega (arith, e, z, l)) in
-    ap (λ t. t || has_number (next - 1) xs) here ∙ none_above xs bs next s.1 (λ e m. lt e (inr m))
+pub none_in : (n : ℕ) (xs : List Request) → Lacks n xs → is_in n xs ≡ false
+none_in n [] l = refl
+none_in n (x ∷ xs) l = ap (λ b. b || is_in n xs) l.0 ∙ none_in n xs l.1
 
-or_none : (b : Bool) → (b || false) ≡ b
-or_none true = refl
-or_none false = refl
-
-or_three : (a b c : Bool) → (a || (b || c)) ≡ ((a || b) || c)
-or_three true b c = refl
-or_three false b c = refl
-
-has_more : (xs : List Sent) (x : Sent) (m : ℕ) → has_number m (xs ++ x ∷ []) ≡ (has_number m xs || (x.number == m))
-has_more [] x m = or_none (x.number == m)
-has_more (y ∷ xs) x m = ap (λ b. (y.number == m) || b) (has_more xs x m) ∙ or_three (y.number == m) (has_number m xs) (x.number == m)
-
-pub once_more : (xs : List Sent) (x : Sent) → has_number x.number xs ≡ false → NoneTwice xs → NoneTwice (xs ++ x ∷ [])
-once_more [] x absent o = (refl, tt)
-once_more (y ∷ xs) x absent o =
-    let p = or_false (y.number == x.number) (has_number x.number xs) absent in
-    let other : (x.number == y.number) ≡ false = not_it x.number y.number (λ e. let k = equal_test y.number x.number (sym e) in let q = p.0 in absurd (cc)) in
-    (has_more xs x y.number ∙ ap (λ b. b || (x.number == y.number)) o.0 ∙ other, once_more xs x p.1 o.1)
-
-pub writes_more_other : (xs : List Sent) (x : Sent) (m : ℕ) → (x.number == m) ≡ false → writes_in (xs ++ x ∷ []) m ≡ writes_in xs m
+pub writes_more_other : (xs : List Request) (x : Request) (m : ℕ) → (x.number == m) ≡ false → writes_in (xs ++ x ∷ []) m ≡ writes_in xs m
 writes_more_other [] x m ne = ap (λ b. if b then x.writes.items else []) ne
 writes_more_other (y ∷ xs) x m ne = ap (λ ws. if y.number == m then y.writes.items else ws) (writes_more_other xs x m ne)
 
-pub writes_more_here : (xs : List Sent) (x : Sent) → has_number x.number xs ≡ false → writes_in (xs ++ x ∷ []) x.number ≡ x.writes.items
+pub writes_more_here : (xs : List Request) (x : Request) → is_in x.number xs ≡ false → writes_in (xs ++ x ∷ []) x.number ≡ x.writes.items
 writes_more_here [] x absent = ap (λ b. if b then x.writes.items else []) (equal_test x.number x.number refl)
 writes_more_here (y ∷ xs) x absent =
-    let p = or_false (y.number == x.number) (has_number x.number xs) absent in
+    let p = or_false (y.number == x.number) (is_in x.number xs) absent in
     ap (λ b. if b then y.writes.items else writes_in (xs ++ x ∷ []) x.number) p.0 ∙ writes_more_here xs x p.1
-
-pub beside_more : (xs : List Sent) (bs : List (ℕ × List BatchItem)) (x : Sent) (b : ℕ × List BatchItem) → SameNumbers xs bs → x.number + 1 ≡ b.0 → SameNumbers (xs ++ x ∷ []) (bs ++ b ∷ [])
-beside_more [] [] x b s e = (e, tt)
-beside_more [] (y ∷ bs) x b s e = absurd s
-beside_more (y ∷ xs) [] x b s e = absurd s
-beside_more (y ∷ xs) (z ∷ bs) x b s e = (s.0, beside_more xs bs x b s.1 e)
-
-pub beside_length : (xs : List Sent) (bs : List (ℕ × List BatchItem)) → SameNumbers xs bs → length xs ≡ length bs
-beside_length [] [] s = refl
-beside_length [] (y ∷ bs) s = absurd s
-beside_length (y ∷ xs) [] s = absurd s
-beside_length (y ∷ xs) (z ∷ bs) s = ap suc (beside_length xs bs s.1)
-
-Mem-get : {A : Type 0} (x : A) (xs : List A) → Mem x xs → (k : ℕ) × (k < length xs) × (get_or xs k x ≡ x)
-Mem-get x [] m = absurd m
-Mem-get x (y ∷ xs) (inl e) = (0, omega arith, sym e)
-Mem-get x (y ∷ xs) (inr m) = let r = Mem-get x xs m in (suc r.0, omega (arith, r.1), r.2)
-
--- the numbers in flight were given
-pub all_below : (f : Flying) → IsFlight f → (e : ℕ × List BatchItem) → Mem e f.batches → e.0 < f.next
-all_below f k e m =
-    let at = Mem-get e f.batches m in
-    let g = k.given at.0 e at.1 in
-    omega (arith, g.1, ap (λ (x : ℕ × List BatchItem). x.0) at.2)

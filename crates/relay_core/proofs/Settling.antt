@@ -1,5 +1,5 @@
 -- What an answer makes of the held list, as it is read.
-use Rattle.std.proofs.Common.{◌≡◌, ℕ, zero, suc, ◌+◌, ◌-◌, List, [], ◌∷◌, ◌++◌, Option, Some, None, Bool, true, false, ◌==◌, refl, sym, ap, ◌∙◌, subst, ⊎_elim, arith, drop}
+use Rattle.std.proofs.Common.{◌≡◌, ℕ, zero, suc, ◌+◌, ◌-◌, ◌≤◌, List, [], ◌∷◌, ◌++◌, Option, Some, None, Bool, true, false, ◌==◌, refl, sym, ap, ◌∙◌, subst, ⊎_elim, arith, drop}
 use Rattle.std.specs.Prelude.{if◌then◌else◌, nat_lt, slice_get, option_map}
 use Rattle.relay_action.specs.Actions.{kind_of}
 use Rattle.relay_action.specs.declared.write.Write.{Write}
@@ -16,6 +16,7 @@ use Rattle.relay_delivery.specs.Machine.{Config, fate_of, reported_one, reported
 use Rattle.relay_delivery.specs.Lane.{Entry, held_of, kept_entry, kept_entries}
 use Rattle.relay_results.proofs.Lists.{true_or_false, equal_test}
 use Rattle.relay_held.specs.declared.kept.Kept.{Kept}
+use Rattle.relay_core.proofs.Keeping.{one_less}
 use Rattle.relay_core.specs.declared.fates.Way.{Way}
 use Rattle.relay_core.specs.declared.fates.Way.TheVariants as way
 use Rattle.relay_held.specs.declared.kept.Spot.{Spot}
@@ -67,7 +68,7 @@ drop_suc zero (x ∷ xs) = refl
 drop_suc (suc n) [] = refl
 drop_suc (suc n) (x ∷ xs) = drop_suc n xs
 
-drop_more : {A : Type 0} (n : ℕ) (xs : List A) → drop 1 (drop n xs) ≡ drop (n + 1) xs
+pub drop_more : {A : Type 0} (n : ℕ) (xs : List A) → drop 1 (drop n xs) ≡ drop (n + 1) xs
 drop_more n xs = let e : suc n ≡ n + 1 = omega arith in drop_suc n xs ∙ ap (λ k. drop k xs) e
 
 pub rest_drop : (ws : List Write) → rest_if true ws ≡ drop 1 ws
@@ -93,7 +94,7 @@ tally_is true = refl
 tally_is false = refl
 
 module _ (g : Config) (clock n next : ℕ) (whole : Way) (all : List Write) (given : List Outcome) (a : Answer) (f f' : ℕ → List Write)
-    (says : SaysAs a all whole given) (here : f n ≡ all) (same : (m : ℕ) → (m == n) ≡ false → f' m ≡ f m) where
+    (says : SaysAs a all whole given) (from : 1 ≤ n) (here : f n ≡ all) (same : (m : ℕ) → (m == n) ≡ false → f' m ≡ f m) where
   tries : Kept → Tries
   tries h = record { sends = h.sends; attempts = h.attempts; max = g.max }
 
@@ -101,19 +102,21 @@ module _ (g : Config) (clock n next : ℕ) (whole : Way) (all : List Write) (giv
   action_is p h w e s found = (λ i. action_or (write_found (e i) (s i) f)) ∙ ap (λ ws. action_or (slice_get ws p)) here ∙ ap action_or found
 
   fate_here : (p : ℕ) (h : Kept) (w : Write) (os : List Outcome) → os ≡ drop p given → h.write ≡ None → h.flies ≡ Some (record { request = n; place = p }) → slice_get all p ≡ Some w → kind_of w.action ≡ h.kind
-      → fate_of g n all a (held_seen f h) (option_map place_at h.flies) ≡ fate_met g.max whole h os
+      → fate_of g (n - 1) all a (held_seen f h) (option_map place_at h.flies) ≡ fate_met g.max whole h os
   unfolding tries
   fate_here p h w os o e s found kind =
-      ap (λ q. fate_of g n all a (held_seen f h) (option_map place_at q)) s
-      ∙ ap (λ b. if b then fate (tries h) all p (kind_of (action_or (write_found h.write h.flies f))) a else Flies) (equal_test n n refl)
+      ap (λ q. fate_of g (n - 1) all a (held_seen f h) (option_map place_at q)) s
+      ∙ ap (λ b. if b then fate (tries h) all p (kind_of (action_or (write_found h.write h.flies f))) a else Flies) (equal_test (n - 1) (n - 1) refl)
       ∙ ap (λ x. fate (tries h) all p (kind_of x) a) (action_is p h w e s found)
       ∙ ap (λ k. fate (tries h) all p k a) kind
       ∙ says (tries h) p h.kind
       ∙ ap (λ x. fate_or whole (fate_of_entry (tries h) h.kind x)) (sym (drop_here p given) ∙ ap (λ xs. slice_get xs 0) (sym o))
 
-  fate_there : (h : Kept) (p : Option Spot) → flies_here n p ≡ false → fate_of g n all a (held_seen f h) (option_map place_at p) ≡ Flies
-  fate_there h None t = refl
-  fate_there h (Some s) t = ap (λ b. if b then fate (record { sends = h.sends; attempts = h.attempts; max = g.max }) all s.place (kind_of (action_or (write_found h.write h.flies f))) a else Flies) t
+  fate_there : (h : Kept) (w : Option Write) (p : Option Spot) → IsHome g.max next h w p → flies_here n p ≡ false → fate_of g (n - 1) all a (held_seen f h) (option_map place_at p) ≡ Flies
+  fate_there h w None k t = refl
+  fate_there h (Some w) (Some s) k t = absurd k
+  fate_there h None (Some s) k t =
+      ap (λ b. if b then fate (record { sends = h.sends; attempts = h.attempts; max = g.max }) all s.place (kind_of (action_or (write_found h.write h.flies f))) a else Flies) (one_less s.request n k.0 from ∙ t)
 
   found_there : (w : Option Write) (p : Option Spot) → flies_here n p ≡ false → write_found w p f' ≡ write_found w p f
   found_there (Some w) p t = refl
@@ -171,13 +174,13 @@ module _ (g : Config) (clock n next : ℕ) (whole : Way) (all : List Write) (giv
   got_at p h ws m e = sym (drop_here p all) ∙ ap (λ xs. slice_get xs 0) (sym e) ∙ got p h ws m
 
   fate_met_here : (h : Kept) (p : ℕ) (ws : List Write) (os : List Outcome) → ws ≡ drop p all → os ≡ drop p given → (m : IsMet n p h ws) → IsKept g.max next h
-      → fate_of g n all a (held_seen f h) (option_map place_at h.flies) ≡ fate_met g.max whole h os
+      → fate_of g (n - 1) all a (held_seen f h) (option_map place_at h.flies) ≡ fate_met g.max whole h os
   fate_met_here h p ws os e o m k = fate_here p h m.write os o (away g.max next h h.write h.flies _ k.home m.spot) m.spot (got_at p h ws m e) m.matches.kind
 
   pub kept_seen : (hs : List Kept) (p : ℕ) (ws : List Write) (os : List Outcome) → ws ≡ drop p all → os ≡ drop p given → Carries n p hs ws → AllKept g.max next hs
-      → entries (kept_walk hs g.max clock n whole ws os) f' ≡ kept_entries g clock n all a (entries hs f)
+      → entries (kept_walk hs g.max clock n whole ws os) f' ≡ kept_entries g clock (n - 1) all a (entries hs f)
   kept_seen [] p ws os e o c k = refl
-  kept_seen (h ∷ hs) p ws os e o c k = ⊎_elim {C = entries (kept_walk (h ∷ hs) g.max clock n whole ws os) f' ≡ kept_entries g clock n all a (entries (h ∷ hs) f)}
+  kept_seen (h ∷ hs) p ws os e o c k = ⊎_elim {C = entries (kept_walk (h ∷ hs) g.max clock n whole ws os) f' ≡ kept_entries g clock (n - 1) all a (entries (h ∷ hs) f)}
       (λ t.
       let m = met_here h hs p ws t c in
       let x = fate_met g.max whole h os in
@@ -188,47 +191,47 @@ module _ (g : Config) (clock n next : ℕ) (whole : Way) (all : List Write) (giv
       ap (λ b. entries (if b then met_maybe clock x (slice_get ws 0) (h ∷ []) ++ rest else h ∷ kept_walk hs g.max clock n whole ws os) f') t
       ∙ entries_append (met_maybe clock x (slice_get ws 0) (h ∷ [])) rest f'
       ∙ (λ i. entries (met_maybe clock x (got p h ws m i) (h ∷ [])) f' ++ ih i)
-      ∙ ap (λ es. es ++ kept_entries g clock n all a (entries hs f)) (one_met h m.write x ok act ∙ ap (λ y. kept_entry clock y (entry_of f h)) (sym (fate_met_here h p ws os e o m k.0))))
+      ∙ ap (λ es. es ++ kept_entries g clock (n - 1) all a (entries hs f)) (one_met h m.write x ok act ∙ ap (λ y. kept_entry clock y (entry_of f h)) (sym (fate_met_here h p ws os e o m k.0))))
       (λ t.
       let ih = kept_seen hs p ws os e o (past_rest h hs p ws t c) k.1 in
       ap (λ b. entries (if b then met_maybe clock (fate_met g.max whole h os) (slice_get ws 0) (h ∷ []) ++ kept_walk hs g.max clock n whole (drop 1 ws) (drop 1 os) else h ∷ kept_walk hs g.max clock n whole ws os) f') t
       ∙ (λ i. entry_there h t i ∷ ih i)
-      ∙ sym (ap (λ y. kept_entry clock y (entry_of f h) ++ kept_entries g clock n all a (entries hs f)) (fate_there h h.flies t)))
+      ∙ sym (ap (λ y. kept_entry clock y (entry_of f h) ++ kept_entries g clock (n - 1) all a (entries hs f)) (fate_there h h.write h.flies k.0.home t)))
       (true_or_false (flies_here n h.flies))
 
   pub reported_seen : (hs : List Kept) (p : ℕ) (ws : List Write) (os : List Outcome) → ws ≡ drop p all → os ≡ drop p given → Carries n p hs ws → AllKept g.max next hs
-      → reports_walk hs g.max n whole ws os ≡ reported g n all a (held_of (entries hs f))
+      → reports_walk hs g.max n whole ws os ≡ reported g (n - 1) all a (held_of (entries hs f))
   reported_seen [] p ws os e o c k = refl
-  reported_seen (h ∷ hs) p ws os e o c k = ⊎_elim {C = reports_walk (h ∷ hs) g.max n whole ws os ≡ reported g n all a (held_of (entries (h ∷ hs) f))}
+  reported_seen (h ∷ hs) p ws os e o c k = ⊎_elim {C = reports_walk (h ∷ hs) g.max n whole ws os ≡ reported g (n - 1) all a (held_of (entries (h ∷ hs) f))}
       (λ t.
       let m = met_here h hs p ws t c in
       let x = fate_met g.max whole h os in
       let ih = reported_seen hs (p + 1) (drop 1 ws) (drop 1 os) (ap (drop 1) e ∙ drop_more p all) (ap (drop 1) o ∙ drop_more p given) (met_rest h hs p ws t c) k.1 in
       ap (λ b. if b then reports_maybe x (slice_get ws 0) (h ∷ []) ++ reports_walk hs g.max n whole (drop 1 ws) (drop 1 os) else reports_walk hs g.max n whole ws os) t
       ∙ (λ i. reports_maybe x (got p h ws m i) (h ∷ []) ++ ih i)
-      ∙ ap (λ rs. rs ++ reported g n all a (held_of (entries hs f))) (one_reported h m.write x m.matches.key ∙ ap (λ y. reported_one y (held_seen f h)) (sym (fate_met_here h p ws os e o m k.0))))
+      ∙ ap (λ rs. rs ++ reported g (n - 1) all a (held_of (entries hs f))) (one_reported h m.write x m.matches.key ∙ ap (λ y. reported_one y (held_seen f h)) (sym (fate_met_here h p ws os e o m k.0))))
       (λ t.
       let ih = reported_seen hs p ws os e o (past_rest h hs p ws t c) k.1 in
       ap (λ b. if b then reports_maybe (fate_met g.max whole h os) (slice_get ws 0) (h ∷ []) ++ reports_walk hs g.max n whole (drop 1 ws) (drop 1 os) else reports_walk hs g.max n whole ws os) t
       ∙ ih
-      ∙ sym (ap (λ y. reported_one y (held_seen f h) ++ reported g n all a (held_of (entries hs f))) (fate_there h h.flies t)))
+      ∙ sym (ap (λ y. reported_one y (held_seen f h) ++ reported g (n - 1) all a (held_of (entries hs f))) (fate_there h h.write h.flies k.0.home t)))
       (true_or_false (flies_here n h.flies))
 
   pub tally_seen : (q : Fate → Bool) → q Flies ≡ false → (hs : List Kept) (p : ℕ) (ws : List Write) (os : List Outcome) → ws ≡ drop p all → os ≡ drop p given → Carries n p hs ws → AllKept g.max next hs
-      → tally_walk q hs g.max n whole ws os ≡ how_many q g n all a (held_of (entries hs f))
+      → tally_walk q hs g.max n whole ws os ≡ how_many q g (n - 1) all a (held_of (entries hs f))
   tally_seen q z [] p ws os e o c k = refl
-  tally_seen q z (h ∷ hs) p ws os e o c k = ⊎_elim {C = tally_walk q (h ∷ hs) g.max n whole ws os ≡ how_many q g n all a (held_of (entries (h ∷ hs) f))}
+  tally_seen q z (h ∷ hs) p ws os e o c k = ⊎_elim {C = tally_walk q (h ∷ hs) g.max n whole ws os ≡ how_many q g (n - 1) all a (held_of (entries (h ∷ hs) f))}
       (λ t.
       let m = met_here h hs p ws t c in
       let x = fate_met g.max whole h os in
       let ih = tally_seen q z hs (p + 1) (drop 1 ws) (drop 1 os) (ap (drop 1) e ∙ drop_more p all) (ap (drop 1) o ∙ drop_more p given) (met_rest h hs p ws t c) k.1 in
       ap (λ b. if b then tally_maybe q x (slice_get ws 0) + tally_walk q hs g.max n whole (drop 1 ws) (drop 1 os) else tally_walk q hs g.max n whole ws os) t
       ∙ (λ i. tally_maybe q x (got p h ws m i) + ih i)
-      ∙ ap (λ r. r + how_many q g n all a (held_of (entries hs f))) (tally_is (q x) ∙ ap (λ y. one_if (q y)) (sym (fate_met_here h p ws os e o m k.0))))
+      ∙ ap (λ r. r + how_many q g (n - 1) all a (held_of (entries hs f))) (tally_is (q x) ∙ ap (λ y. one_if (q y)) (sym (fate_met_here h p ws os e o m k.0))))
       (λ t.
       let ih = tally_seen q z hs p ws os e o (past_rest h hs p ws t c) k.1 in
       ap (λ b. if b then tally_maybe q (fate_met g.max whole h os) (slice_get ws 0) + tally_walk q hs g.max n whole (drop 1 ws) (drop 1 os) else tally_walk q hs g.max n whole ws os) t
       ∙ ih
-      ∙ (let none : how_many q g n all a (held_of (entries hs f)) ≡ one_if false + how_many q g n all a (held_of (entries hs f)) = omega arith in none)
-      ∙ sym (ap (λ r. one_if r + how_many q g n all a (held_of (entries hs f))) (ap q (fate_there h h.flies t) ∙ z)))
+      ∙ (let none : how_many q g (n - 1) all a (held_of (entries hs f)) ≡ one_if false + how_many q g (n - 1) all a (held_of (entries hs f)) = omega arith in none)
+      ∙ sym (ap (λ r. one_if r + how_many q g (n - 1) all a (held_of (entries hs f))) (ap q (fate_there h h.write h.flies k.0.home t) ∙ z)))
       (true_or_false (flies_here n h.flies))

@@ -9,7 +9,7 @@ use Rattle.relay_results.specs.Documents.{write_for}
 use Rattle.relay_delivery.specs.Lane.{State, entry_at}
 use Rattle.relay_results.proofs.Lists.{true_or_false}
 use Rattle.relay_held.specs.declared.kept.Kept.{Kept}
-use Rattle.relay_core.specs.declared.kept.Sent.{Sent}
+use Rattle.relay_flight.specs.declared.request.Request.{Request}
 use Rattle.relay_core.specs.Walk.{flies_here}
 use Rattle.relay_core.specs.Memory.{kept_new, entry_of, entries, writes_in, Given, further, rest_if, IsMet, Carries, IsKept, AllKept, AllAbove, AllUnder, Rises, HasRoom, IsReadable, tries_left}
 use Rattle.relay_delivery.specs.Bound.{halvings}
@@ -47,11 +47,10 @@ room_more : (n len : ℕ) (hs : List Kept) (h : Kept) → flies_here n h.flies �
 room_more n len [] h t r = (subst (λ b. Given b (1 < len → len ≤ h.cap)) (sym t) tt, tt)
 room_more n len (g ∷ hs) h t r = (r.0, room_more n len hs h t r.1)
 
-pub readable_more : (max next v bytes clock cap : ℕ) (hs hs' : List Kept) (fs : List Sent) (o : Op) → 1 ≤ max → cap < 2 ^ 14 → clock ≤ 18446744073709551615 → bytes ≡ length (write_text (write_for o v)) → hs' ≡ hs ++ kept_new o v bytes clock cap ∷ [] → AllUnder v hs → IsReadable max next hs fs → IsReadable max next hs' fs
+pub readable_more : (max next v bytes clock cap : ℕ) (hs hs' : List Kept) (fs : List Request) (o : Op) → 1 ≤ max → cap < 2 ^ 14 → clock ≤ 18446744073709551615 → bytes ≡ length (write_text (write_for o v)) → hs' ≡ hs ++ kept_new o v bytes clock cap ∷ [] → AllUnder v hs → IsReadable max next hs fs → IsReadable max next hs' fs
 readable_more max next v bytes clock cap hs hs' fs o le low ends weighed e u r = subst (λ xs. IsReadable max next xs fs) (sym e) (record {
   kept = kept_more max next hs (kept_new o v bytes clock cap) r.kept (record { home = (record { key = refl; version = refl; kind = refl; bytes = weighed }, omega (arith, le)); sends = (let l = halvings_few 14 cap low in omega (arith, l)); due = ends });
   rises = rises_more hs (kept_new o v bytes clock cap) r.rises u;
-  once = r.once;
   carries = λ n. carries_more n 0 hs (kept_new o v bytes clock cap) (writes_in fs n) refl (r.carries n);
   caps = λ n. room_more n (length (writes_in fs n)) hs (kept_new o v bytes clock cap) refl (r.caps n);
   few = r.few;

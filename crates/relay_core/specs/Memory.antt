@@ -8,7 +8,6 @@ use Rattle.relay_action.specs.declared.action.Action.TheVariants.{Delete}
 use Rattle.relay_action.specs.declared.action.ActionKind.{ActionKind}
 use Rattle.relay_action.specs.declared.operation.Op.{Op}
 use Rattle.relay_ndjson.specs.Bulk.{write_text}
-use Rattle.relay_batch.specs.declared.item.BatchItem.{BatchItem}
 use Rattle.relay_results.specs.Outside.{Answer}
 use Rattle.relay_results.specs.declared.outcome.Outcome.{Outcome}
 use Rattle.relay_results.specs.Fates.{Tries, fate, fate_of_entry}
@@ -19,26 +18,26 @@ use Rattle.relay_core.specs.declared.fates.Way.{Way}
 use Rattle.relay_core.specs.declared.fates.Way.TheVariants as way
 use Rattle.relay_delivery.specs.Bound.{halvings}
 use Rattle.relay_held.specs.declared.kept.Spot.{Spot}
-use Rattle.relay_core.specs.declared.kept.Sent.{Sent}
+use Rattle.relay_flight.specs.declared.request.Request.{Request}
 use Rattle.relay_core.specs.Walk.{flies_here, fate_or}
 
 -- ---- read
 
+-- delivery counts requests from 0, and the lane from 1
 abbrev pub place_at : Spot → Place
-place_at s = record { request = s.request; place = s.place }
+place_at s = record { request = s.request - 1; place = s.place }
+
+abbrev pub flying_of : Request → Flying
+flying_of x = record { request = x.number - 1; writes = x.writes.items }
 
 -- the writes of a request in flight
-abbrev pub writes_in : List Sent → ℕ → List Write
+abbrev pub writes_in : List Request → ℕ → List Write
 writes_in [] n = []
 writes_in (x ∷ xs) n = if x.number == n then x.writes.items else writes_in xs n
 
-abbrev pub has_number : ℕ → List Sent → Bool
-has_number n [] = false
-has_number n (x ∷ xs) = (x.number == n) || has_number n xs
-
-abbrev pub without : List Sent → ℕ → List Sent
-without [] n = []
-without (x ∷ xs) n = if x.number == n then xs else x ∷ without xs n
+abbrev pub is_in : ℕ → List Request → Bool
+is_in n [] = false
+is_in n (x ∷ xs) = (x.number == n) || is_in n xs
 
 abbrev pub write_found : Option Write → Option Spot → (ℕ → List Write) → Option Write
 write_found (Some w) fl f = Some w
@@ -60,9 +59,6 @@ entry_of f h = record { held = held_seen f h; bytes = h.bytes; taken_at = h.take
 
 abbrev pub entries : List Kept → (ℕ → List Write) → List Entry
 entries hs f = map (entry_of f) hs
-
-abbrev pub flying_of : Sent → Flying
-flying_of x = record { request = x.number; writes = x.writes.items }
 
 -- ---- what must hold of it
 
@@ -104,16 +100,16 @@ HasRoom number len [] = Unit {0}
 HasRoom number len (h ∷ hs) = Given (flies_here number h.flies) (1 < len → len ≤ h.cap) × HasRoom number len hs
 
 -- no request in flight has more writes than a cap can say
-abbrev pub AreFew : List Sent → Type 0
+abbrev pub AreFew : List Request → Type 0
 AreFew [] = Unit {0}
 AreFew (x ∷ xs) = (length x.writes.items ≤ 4294967295) × AreFew xs
 
--- what waits has its write, and tries left; what flies has it in its request
+-- what waits has its write, and tries left; what flies has it in its request, whose number was given
 abbrev pub IsHome : ℕ → ℕ → Kept → Option Write → Option Spot → Type 0
 IsHome max next h (Some w) None = IsWriteOf h w × (h.attempts < max)
 IsHome max next h (Some w) (Some s) = ⊥
 IsHome max next h None None = ⊥
-IsHome max next h None (Some s) = (s.request < next) × (h.attempts ≤ max)
+IsHome max next h None (Some s) = (1 ≤ s.request) × (s.request < next) × (h.attempts ≤ max)
 
 pub record IsKept (max next : ℕ) (h : Kept) : Type 0 where
   pub home : IsHome max next h h.write h.flies
@@ -124,24 +120,12 @@ abbrev pub AllKept : ℕ → ℕ → List Kept → Type 0
 AllKept max next [] = Unit {0}
 AllKept max next (h ∷ hs) = IsKept max next h × AllKept max next hs
 
--- the requests in flight stand beside the batches in flight, one number off
-abbrev pub SameNumbers : List Sent → List (ℕ × List BatchItem) → Type 0
-SameNumbers [] [] = Unit {0}
-SameNumbers [] (b ∷ bs) = ⊥
-SameNumbers (x ∷ xs) [] = ⊥
-SameNumbers (x ∷ xs) (b ∷ bs) = (x.number + 1 ≡ b.0) × SameNumbers xs bs
-
-abbrev pub NoneTwice : List Sent → Type 0
-NoneTwice [] = Unit {0}
-NoneTwice (x ∷ xs) = (has_number x.number xs ≡ false) × NoneTwice xs
-
-pub record IsReadable (max next : ℕ) (held : List Kept) (flown : List Sent) : Type 0 where
+pub record IsReadable (max next : ℕ) (held : List Kept) (flying : List Request) : Type 0 where
   pub kept : AllKept max next held
   pub rises : Rises held
-  pub once : NoneTwice flown
-  pub carries : (n : ℕ) → Carries n 0 held (writes_in flown n)
-  pub caps : (n : ℕ) → HasRoom n (length (writes_in flown n)) held
-  pub few : AreFew flown
+  pub carries : (n : ℕ) → Carries n 0 held (writes_in flying n)
+  pub caps : (n : ℕ) → HasRoom n (length (writes_in flying n)) held
+  pub few : AreFew flying
 
 -- the tries that held operations have left, and the halvings of their caps
 abbrev pub tries_left : ℕ → List Kept → ℕ

@@ -1,5 +1,5 @@
 -- A lane as its callers see it, and what each call makes of it.
-use Rattle.std.specs.Prelude.{◌≡◌, ℕ, ◌+◌, ◌-◌, ◌^◌, ◌<◌, ◌≤◌, List, [], ◌∷◌, Option, Some, None, option_map, Bool, not, true, false, ◌==◌, ◌&&◌, nat_lt, min, map, filter, length, replicate, slice_set, slice_index_or, if◌then◌else◌}
+use Rattle.std.specs.Prelude.{◌≡◌, ℕ, ◌+◌, ◌-◌, ◌^◌, ◌<◌, ◌≤◌, List, [], ◌∷◌, Option, Some, None, option_map, unwrap_or, Bool, not, true, false, ◌==◌, ◌&&◌, nat_lt, min, map, filter, length, replicate, slice_set, slice_index_or, if◌then◌else◌}
 use Rattle.std.specs.List.{list_all, list_any}
 use Rattle.relay_action.specs.declared.write.Write.{Write}
 use Rattle.relay_action.specs.declared.operation.Op.{Op}
@@ -62,9 +62,13 @@ fresh c = record {
 abbrev pub all_closed : State → Bool
 all_closed s = list_all (λ (b : Bool). b) s.closed
 
+-- the last tick of a clock
+abbrev pub last_tick : ℕ
+last_tick = 18446744073709551615
+
 -- the clock stays at its end
 abbrev pub later : ℕ → ℕ
-later clock = if nat_lt clock 18446744073709551615 then clock + 1 else clock
+later clock = if nat_lt clock last_tick then clock + 1 else clock
 
 abbrev pub ticked : State → State
 ticked s = record s { core = record s.core { clock = later s.core.clock } }
@@ -133,9 +137,13 @@ after_request s (Some items) = record s { core = delivery.sent s.core (next_entr
 abbrev pub documents_of : State → ℕ
 documents_of s = distinct (map (λ (h : Held). document_of h.op.key) (delivery.held_of s.core.held))
 
--- the looks, after one at each document; they stay at 2^64 - 1
+-- the looks, after one at each document
 abbrev pub looked : Seen → ℕ
-looked v = min (v.looks + documents_of v.state) 18446744073709551615
+looked v = v.looks + documents_of v.state
+
+-- the looks, after one at each operation of the next request; they stay at 2^64 - 1
+abbrev pub looked_at_least : Seen → ℕ
+looked_at_least v = min (v.looks + length (unwrap_or (next_batch v.state) [])) 18446744073709551615
 
 -- ---- reply, whole, lost
 
@@ -208,10 +216,6 @@ abbrev pub is_finished : State → Bool
 is_finished s = all_closed s && (length s.core.held == 0)
 
 -- ---- what always holds
-
--- the last tick of a clock
-abbrev pub last_tick : ℕ
-last_tick = 18446744073709551615
 
 -- the bytes of what waits are those of its lines
 abbrev pub AreWeighed : List delivery.Entry → Type 0

@@ -1,12 +1,12 @@
 -- How the fields of a lane are read, and what always holds of them.
 use Rattle.std.specs.Prelude.{◌≡◌, ◌+◌, ◌-◌, ◌*◌, ◌^◌, ◌≤◌, Bool, true, length, map, min, vec_len, vec_capacity}
 use Rattle.std.specs.List.{list_all}
-use Rattle.relay_flight.specs.Flying.{IsFlight}
+use Rattle.relay_flight.specs.InFlight.{IsInFlight, batches_of}
 use Rattle.relay_delivery.specs.Machine.{first_in}
 use Rattle.relay_core.specs.declared.lane.Lane.TheInside.{Inside}
 use Rattle.relay_core.specs.Limits.{is_valid}
 use Rattle.relay_core.specs.State.{State, Seen}
-use Rattle.relay_core.specs.Memory.{entries, writes_in, flying_of, IsReadable, SameNumbers, AllUnder, tries_left}
+use Rattle.relay_core.specs.Memory.{entries, writes_in, flying_of, IsReadable, AllUnder, tries_left}
 use Rattle.relay_core.specs.Walk.{report_of, items_of_kept}
 use Rattle.relay_core.specs.Quiet.{is_roomy, IsQuiet}
 
@@ -15,29 +15,27 @@ seen a = record {
   config = a.config;
   core = record {
     config = record { epoch = a.config.epoch; first = a.first; deals = a.config.deal; max = a.config.attempts; cap = a.config.limits.count };
-    clock = a.clock;
+    clock = a.held.clock;
     taken = a.taken;
     requests = a.flight.next - 1;
-    held = entries a.held.list (writes_in a.flown.items);
-    flying = map flying_of a.flown.items;
+    held = entries a.held.list (writes_in a.flight.requests);
+    flying = map flying_of a.flight.requests;
     reports = map report_of a.reports.items;
     applied = a.applied;
     already = a.already;
   };
   mark = a.mark;
   closed = a.closed.items;
-  flights = a.flight;
+  flights = batches_of a.flight;
 }
 
 abbrev pub shown : Inside → Seen
 shown a = record { state = seen a; looks = a.looks }
 
 pub record IsSound (a : Inside) : Type 0 where
-  pub readable : IsReadable a.config.attempts (a.flight.next - 1) a.held.list a.flown.items
+  pub readable : IsReadable a.config.attempts a.flight.next a.held.list a.flight.requests
   pub under : AllUnder (a.first + min a.taken a.config.deal) a.held.list
-  pub flight : IsFlight a.flight
-  pub beside : SameNumbers a.flown.items a.flight.batches
-  pub places : a.config.in_flight ≤ vec_capacity a.flown
+  pub flight : IsInFlight a.flight
   pub most : a.flight.max ≡ a.config.in_flight
   pub room : vec_len a.reports + length a.held.list ≤ vec_capacity a.reports
   pub few : length a.held.list ≤ a.config.max_held
@@ -53,4 +51,4 @@ pub record IsSound (a : Inside) : Type 0 where
   pub config : is_valid a.config ≡ true
   pub begins : a.first ≡ first_in a.config.epoch
   pub quiet : is_roomy a.room ≡ true
-      → IsQuiet a.clock a.mark (list_all (λ (b : Bool). b) a.closed.items) a.config.limits (items_of_kept a.held.list a.clock a.held.list) a.room
+      → IsQuiet a.held.clock a.mark (list_all (λ (b : Bool). b) a.closed.items) a.config.limits (items_of_kept a.held.list a.held.clock a.held.list) a.room

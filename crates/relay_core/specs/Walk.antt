@@ -1,7 +1,7 @@
 -- The held list as it stands in memory, and the walks over it.
 pub use Rattle.relay_held.specs.Kept.{waits_here, more, launch_one, back_at, halved_at}
 pub use Rattle.relay_held.specs.Queues.{with_first, without_first, first_of, OnlyFirstsFly, is_of, is_later_kept, is_candidate_kept, is_eligible_kept, first_due_kept}
-use Rattle.std.specs.Prelude.{ℕ, ◌+◌, ◌-◌, List, [], ◌∷◌, ◌++◌, Option, Some, None, Bool, true, false, ◌&&◌, ◌==◌, drop, filter, map, slice_get, option_to_list, if◌then◌else◌}
+use Rattle.std.specs.Prelude.{ℕ, ◌+◌, List, [], ◌∷◌, ◌++◌, Option, Some, None, Bool, true, false, ◌&&◌, ◌==◌, drop, filter, map, slice_get, option_to_list, if◌then◌else◌}
 use Rattle.relay_action.specs.declared.write.Write.{Write}
 use Rattle.relay_batch.specs.declared.item.BatchItem.{BatchItem}
 use Rattle.relay_results.specs.declared.outcome.Outcome.{Outcome}
@@ -13,6 +13,7 @@ use Rattle.relay_delivery.specs.Lane.{backoff}
 use Rattle.relay_results.specs.declared.cause.Cause.TheVariants as cause
 use Rattle.relay_held.specs.declared.kept.Kept.{Kept}
 use Rattle.relay_held.specs.declared.kept.Spot.{Spot}
+use Rattle.relay_held.specs.declared.kept.Candidate.{Candidate}
 use Rattle.relay_core.specs.declared.fates.Fate.{Fate}
 use Rattle.relay_core.specs.declared.fates.Fate.TheVariants as code
 use Rattle.relay_core.specs.declared.fates.Way.{Way}
@@ -25,6 +26,9 @@ flies_here number (Some s) = s.request == number
 
 abbrev pub item_of_kept : Kept → BatchItem
 item_of_kept h = record { name = h.name; doc = h.version; version = h.version; bytes = h.bytes; cap = h.cap; taken_at = h.taken_at }
+
+abbrev pub item_of_candidate : Candidate → BatchItem
+item_of_candidate c = record { name = c.name; doc = c.version; version = c.version; bytes = c.bytes; cap = c.cap; taken_at = c.taken_at }
 
 abbrev pub items_of_kept : List Kept → ℕ → List Kept → List BatchItem
 items_of_kept hs clock rest = map item_of_kept (filter (is_candidate_kept hs clock) rest)
@@ -77,15 +81,12 @@ stays (of.Reported c) = false
 abbrev pub back : ℕ → Write → Kept → Kept
 back clock w h = record h { flies = None; due = backoff clock h.attempts; write = Some w }
 
-abbrev pub back_halved : ℕ → ℕ → Write → Kept → Kept
-back_halved clock cap w h = record h { flies = None; attempts = h.attempts - 1; cap = cap; due = clock; write = Some w }
-
 abbrev pub met_one : ℕ → of.Fate → Write → Kept → Kept
 met_one clock of.Flies w h = h
 met_one clock of.Applied w h = h
 met_one clock of.Already w h = h
 met_one clock of.Retried w h = back clock w h
-met_one clock (of.Halved cap) w h = back_halved clock cap w h
+met_one clock (of.Halved cap) w h = halved_at clock cap w h
 met_one clock (of.Reported c) w h = h
 
 abbrev pub reports_one : of.Fate → Kept → Write → List machine.Report
@@ -154,5 +155,5 @@ after_one clock w hs of.Flies = hs
 after_one clock w hs of.Applied = without_first w.key hs
 after_one clock w hs of.Already = without_first w.key hs
 after_one clock w hs of.Retried = with_first w.key (back clock w) hs
-after_one clock w hs (of.Halved cap) = with_first w.key (back_halved clock cap w) hs
+after_one clock w hs (of.Halved cap) = with_first w.key (halved_at clock cap w) hs
 after_one clock w hs (of.Reported c) = without_first w.key hs

@@ -3,8 +3,8 @@ ghost use Rattle.std.specs.Prelude.{◌≡◌, [], unwrap_or};
 ghost use Rattle.relay_results.specs.Fates.{fate_of_item, fate_of_entry};
 ghost use Rattle.relay_core.specs.Walk.{said, fate_or};
 
-use crate::kept::Kept;
 use relay_action::{ActionKind, Text};
+use relay_held::Kept;
 use relay_results::{Cause, ItemVerdict, Outcome, verdict};
 
 /// What the answer of a whole request makes of its operations.

@@ -1,19 +1,18 @@
 //! The next batch.
-ghost use Rattle.std.specs.Prelude.{◌≡◌, ◌||◌, true, IfOk, OnErr, ◌<◌, length, []};
-ghost use Rattle.relay_core.specs.Walk.{item_of_kept, items_of_kept};
+ghost use Rattle.std.specs.Prelude.{◌≡◌, ◌||◌, true, IfOk, IfSome, OnErr, min, ◌+◌, ◌<◌, ◌≤◌, length, []};
+ghost use Rattle.relay_core.specs.Walk.{item_of_candidate, items_of_kept};
 ghost use Rattle.relay_core.specs.Rule.{offered, closes, is_marked, batch_of};
 ghost use Rattle.relay_core.specs.Quiet.{is_roomy, no_room, less, IsQuiet};
-ghost use Rattle.relay_held.specs.Queues.{AreHeads, candidates_kept};
+ghost use Rattle.relay_held.specs.Queues.{distinct, documents};
 
-use crate::kept::Kept;
 use relay_batch::{Batch, BatchItem, Batcher, Limits, Offer, Room};
-use relay_held::{Head, Held};
+use relay_held::{Candidate, Held};
 use std::alloc::{AllocError, Global};
 
-// The item of a held operation. Its own version serves as the number of its document, since nothing
-// older is held of that document.
-fn item_of(one: &Kept) -> BatchItem
-    ensures { result ≡ item_of_kept one.now }
+// The item of a candidate. Its own version serves as the number of its document, since nothing older
+// is held of that document.
+fn item_of(one: Candidate) -> BatchItem
+    ensures { result ≡ item_of_candidate one }
 {
     BatchItem {
         name: one.name,
@@ -32,32 +31,44 @@ pub struct Gathered {
     pub batcher: Batcher,
     /// Whether an offer was closed.
     pub closed: bool,
-    /// Where to find the candidates, in rising version.
-    pub heads: Vec<Head>,
 }
 
-/// The candidates are offered in rising version until one is closed or none is left.
+// One look more, at most `u64::MAX`.
+fn look(looks: &mut u64)
+    ensures most { looks.new ≤ looks.old + 1 }
+    ensures rise { looks.old ≤ looks.new }
+    ensures one { min (looks.old + 1) 18446744073709551615 ≤ looks.new }
+{
+    *looks = looks.saturating_add(1);
+}
+
+/// The candidates are offered in rising version until one is closed or none is left. Each of them is
+/// a look.
 pub(crate) fn gather(
     alloc: Global,
-    held: &Held,
-    clock: u64,
+    held: &mut Held,
     limits: Limits,
+    looks: &mut u64,
 ) -> Result<Gathered, AllocError>
-    ensures batch { IfOk result (λ g. g.batcher ≡ offered (items_of_kept held.now.list clock held.now.list) (record { limits = limits; items = [] })) }
-    ensures err { OnErr result (0 < length (items_of_kept held.now.list clock held.now.list)) }
-    ensures closed { IfOk result (λ g. g.closed ≡ closes (items_of_kept held.now.list clock held.now.list) (record { limits = limits; items = [] })) }
-    ensures heads { IfOk result (λ g. AreHeads held.now g.heads.items (candidates_kept held.now.list clock)) }
+    ensures batch { IfOk result (λ g. g.batcher ≡ offered (items_of_kept held.old.list held.old.clock held.old.list) (record { limits = limits; items = [] })) }
+    ensures err { OnErr result (0 < length (items_of_kept held.old.list held.old.clock held.old.list)) }
+    ensures closed { IfOk result (λ g. g.closed ≡ closes (items_of_kept held.old.list held.old.clock held.old.list) (record { limits = limits; items = [] })) }
+    ensures held { held.new ≡ held.old }
+    ensures looks { looks.new ≤ looks.old + distinct (documents held.old.list) }
+    ensures looks_rise { looks.old ≤ looks.new }
+    ensures looked { IfOk result (λ g. min (looks.old + length g.batcher.items) 18446744073709551615 ≤ looks.new) }
 {
-    let heads = held.heads(alloc, clock)?;
     let mut batcher = Batcher::new(alloc, limits);
-    'heads: for i in 0..heads.len() {
-        let at = heads[i].at;
-        match batcher.offer(item_of(held.head(at)))? {
+    'candidates: for at in 0..held.documents() {
+        let Some(one) = held.candidate(at)? else {
+            break;
+        };
+        look(looks);
+        match batcher.offer(item_of(one))? {
             Offer::Closed => {
                 return Ok(Gathered {
                     batcher,
                     closed: true,
-                    heads,
                 });
             }
             Offer::Busy | Offer::Added => {}
@@ -66,7 +77,6 @@ pub(crate) fn gather(
     Ok(Gathered {
         batcher,
         closed: false,
-        heads,
     })
 }
 
@@ -92,8 +102,6 @@ fn is_asked(is_ready: bool, closed: bool, is_flushed: bool, all_closed: bool) ->
 pub struct Due {
     /// The batch that is to be sent now, if one is.
     pub batch: Option<Batch>,
-    /// Where to find its operations and the other candidates, in rising version.
-    pub heads: Vec<Head>,
     /// Nothing is to be sent before more than this was taken, unless a tick passes, a flush or an
     /// answer comes, or a sender closes.
     pub room: Room,
@@ -130,29 +138,27 @@ pub(crate) fn less(room: Room, bytes: u64) -> Room
 /// The batch that is to be sent now, if one is; if not, how long the rule need not be asked.
 pub(crate) fn due_batch(
     alloc: Global,
-    held: &Held,
-    clock: u64,
+    held: &mut Held,
     mark: u64,
     all_closed: bool,
     limits: Limits,
+    looks: &mut u64,
 ) -> Result<Due, AllocError>
-    ensures batch { IfOk result (λ d. d.batch ≡ batch_of clock mark all_closed limits (items_of_kept held.now.list clock held.now.list)) }
-    ensures heads { IfOk result (λ d. AreHeads held.now d.heads.items (candidates_kept held.now.list clock)) }
+    ensures batch { IfOk result (λ d. d.batch ≡ batch_of held.old.clock mark all_closed limits (items_of_kept held.old.list held.old.clock held.old.list)) }
     ensures quiet { IfOk result (λ d. is_roomy d.room ≡ true
-        → IsQuiet clock mark all_closed limits (items_of_kept held.now.list clock held.now.list) d.room) }
-    ensures err { OnErr result (0 < length (items_of_kept held.now.list clock held.now.list)) }
+        → IsQuiet held.old.clock mark all_closed limits (items_of_kept held.old.list held.old.clock held.old.list) d.room) }
+    ensures err { OnErr result (0 < length (items_of_kept held.old.list held.old.clock held.old.list)) }
+    ensures held { held.new ≡ held.old }
+    ensures looks { looks.new ≤ looks.old + distinct (documents held.old.list) }
+    ensures looks_rise { looks.old ≤ looks.new }
+    ensures looked { IfOk result (λ d. IfSome d.batch (λ b. min (looks.old + length b) 18446744073709551615 ≤ looks.new)) }
 {
-    let Gathered {
-        batcher,
-        closed,
-        heads,
-    } = gather(alloc, held, clock, limits)?;
-    let is_ready = batcher.ready(clock);
+    let Gathered { batcher, closed } = gather(alloc, held, limits, looks)?;
+    let is_ready = batcher.ready(held.clock());
     let room = batcher.room();
     let Some(batch) = batcher.close() else {
         return Ok(Due {
             batch: None,
-            heads,
             room: no_room(),
         });
     };
@@ -164,14 +170,9 @@ pub(crate) fn due_batch(
     ) {
         Ok(Due {
             batch: Some(batch),
-            heads,
             room: no_room(),
         })
     } else {
-        Ok(Due {
-            batch: None,
-            heads,
-            room,
-        })
+        Ok(Due { batch: None, room })
     }
 }

@@ -10,15 +10,14 @@ ghost use Rattle.relay_delivery.specs.Lane.{candidates};
 ghost use Rattle.relay_core.specs.Limits.{is_valid};
 ghost use Rattle.relay_core.specs.Walk.{report_of};
 ghost use Rattle.relay_core.specs.Memory.{SaysAs, IsHalf};
-ghost use Rattle.relay_core.specs.State.{fresh, taken, after_take, take_fault, is_put, all_closed, later, ticked, flushed, is_flying, oldest, writes_of, answered, AreCounts, next_batch, after_request, looked, due_in, is_finished, IsLane};
+ghost use Rattle.relay_core.specs.State.{fresh, taken, after_take, take_fault, is_put, all_closed, ticked, flushed, is_flying, oldest, writes_of, answered, AreCounts, next_batch, after_request, looked, looked_at_least, due_in, is_finished, IsLane};
 
 use crate::config::{RelayConfig, first_in};
 use crate::fates::Way;
-use crate::flown::{find_writes, settle_flown};
 use crate::gather::{Due, due_batch, is_roomy, less, no_room};
-use crate::kept::Sent;
 use crate::launch::launch;
 use crate::report::Report;
+use crate::settle::settle_walk;
 use crate::settled::{NotFlying, Settled, TakeFault, Totals};
 use crate::taking::{NoRoom, kept_of, make_room, op_of, refused};
 use relay_action::{Body, Mail, Op, Write};
@@ -37,7 +36,6 @@ pub struct Lane {
     config: RelayConfig,
     // The first version that it assigns.
     first: u64,
-    clock: u64,
     mark: u64,
     taken: u64,
     applied: u64,
@@ -47,7 +45,6 @@ pub struct Lane {
     room: Room,
     held: Held,
     flight: Flight,
-    flown: Vec<Sent>,
     reports: Vec<Report>,
     // How many held operations `request` looked at, to see whether they may be sent.
     looks: u64,
@@ -68,12 +65,6 @@ fn are_closed(closed: &[bool]) -> bool
     ensures { result ≡ list_all (λ b. b) closed.now }
 {
     closed.iter().all(|x| *x)
-}
-
-fn one_later(n: u64) -> u64
-    ensures { result ≡ later n }
-{
-    if n < u64::MAX { n + 1 } else { n }
 }
 
 // What the status of a whole request makes of each of its items.
@@ -101,7 +92,6 @@ impl Lane {
             alloc,
             config,
             first: first_in(config.epoch),
-            clock: 0,
             mark: 0,
             taken: 0,
             applied: 0,
@@ -110,7 +100,6 @@ impl Lane {
             room: no_room(),
             held: Held::new(alloc),
             flight: Flight::new(alloc, config.in_flight)?,
-            flown: Vec::with_capacity(alloc, config.in_flight as usize)?,
             reports: Vec::new(alloc),
             looks: 0,
         })
@@ -122,7 +111,7 @@ impl Lane {
         ensures looks { self.new.looks ≡ self.old.looks }
     {
         self.room = no_room();
-        self.clock = one_later(self.clock);
+        self.held.tick();
     }
 
     /// Sets the flush mark to the last version assigned: what was taken until now is to be sent,
@@ -198,7 +187,7 @@ impl Lane {
         } }
     {
         // (read for its range)
-        let _clock = self.clock;
+        let _clock = self.held.clock();
         Totals {
             taken: self.taken,
             applied: self.applied,
@@ -212,14 +201,11 @@ impl Lane {
     pub fn due_in(&self) -> Option<u64>
         ensures { result ≡ due_in self.now.state }
     {
-        match self.held.first_due() {
-            Some(due) => Some(due.saturating_sub(self.clock)),
-            None => None,
-        }
+        self.held.due_in()
     }
 
-    /// How many held operations [`Lane::request`] looked at since the lane was made, to see whether
-    /// they may be sent. A call adds at most one for each document that is held, whatever it
+    /// How many held operations [`Lane::request`] looked at since the lane was made. A call looks at
+    /// each operation that it sends, and at one at most of each document that is held, whatever it
     /// returns. The count saturates at `u64::MAX`. What a call says of the lane says nothing of it.
     pub fn looks(&self) -> u64
         ensures { result ≡ self.now.looks }
@@ -262,7 +248,13 @@ impl Lane {
             return Err(NoRoom { op });
         };
         let version = self.first + self.taken;
-        let kept = kept_of(op, key, version, self.clock, self.config.limits.count);
+        let kept = kept_of(
+            op,
+            key,
+            version,
+            self.held.clock(),
+            self.config.limits.count,
+        );
         let room = less(self.room, kept.bytes);
         match self.held.push(kept) {
             Ok(()) => {
@@ -340,7 +332,8 @@ impl Lane {
     /// batch or of its writes failed, and the state is unchanged; a place was free then, and some
     /// operation may be sent.
     ///
-    /// It looks at most at one operation of each document: see [`Lane::looks`].
+    /// It looks at each operation that it sends, and at one at most of each document that is held:
+    /// see [`Lane::looks`].
     pub fn request(&mut self) -> Result<Option<u64>, AllocError>
         ensures when { IfOk result (λ o. is_some o ≡ is_some (next_batch self.old.state)) }
         ensures number { IfOk result (λ o. IfSome o (λ n. n ≡ self.old.state.flights.next)) }
@@ -348,8 +341,7 @@ impl Lane {
         ensures unchanged { OnErr result (self.new.state ≡ self.old.state) }
         ensures looks { self.new.looks ≤ looked self.old }
         ensures looks_rise { self.old.looks ≤ self.new.looks }
-        ensures looks_sent { IfOk result (λ o. OnSome o (self.new.looks ≡ looked self.old)) }
-        ensures looks_failed { OnErr result (self.new.looks ≡ looked self.old) }
+        ensures looks_sent { IfOk result (λ o. OnSome o (looked_at_least self.old ≤ self.new.looks)) }
         ensures place { OnErr result (length self.old.state.flights.batches < self.old.state.config.in_flight) }
         ensures candidates { OnErr result (0 < length (candidates self.old.state.core)) }
     {
@@ -360,14 +352,13 @@ impl Lane {
             return Ok(None);
         }
         let all_closed = self.closed();
-        self.looks = self.looks.saturating_add(self.held.documents() as u64);
-        let Due { batch, heads, room } = due_batch(
+        let Due { batch, room } = due_batch(
             self.alloc,
-            &self.held,
-            self.clock,
+            &mut self.held,
             self.mark,
             all_closed,
             self.config.limits,
+            &mut self.looks,
         )?;
         let Some(batch) = batch else {
             self.room = room;
@@ -376,19 +367,8 @@ impl Lane {
         let mut writes = Vec::with_capacity(self.alloc, batch.items().len())?;
         self.room = no_room();
         let number = self.flight.next();
-        launch(
-            &mut self.held,
-            number - 1,
-            self.clock,
-            &heads,
-            batch.items().len(),
-            &mut writes,
-        );
-        let _ = self.flight.enter(batch);
-        self.flown.push_reserved(Sent {
-            number: number - 1,
-            writes,
-        });
+        launch(&mut self.held, number, batch.items().len(), &mut writes);
+        let _ = self.flight.enter(batch, writes);
         Ok(Some(number))
     }
 
@@ -397,18 +377,14 @@ impl Lane {
         ensures flies { is_some result ≡ is_flying number self.now.state }
         ensures writes { IfSome result (λ ws. ws.now ≡ writes_of number self.now.state) }
     {
-        if number == 0 {
-            return None;
-        }
-        find_writes(&self.flown, number - 1)
+        self.flight.writes(number)
     }
 
     /// The number of the oldest request in flight, `None` if none is.
     pub fn oldest(&self) -> Option<u64>
         ensures { result ≡ oldest self.now.state }
     {
-        let sent = self.flown.first()?;
-        Some(sent.number + 1)
+        self.flight.oldest()
     }
 
     /// How many requests are in flight.
@@ -433,7 +409,6 @@ impl Lane {
 impl Lane {
     // Settles a request by its answer, if it is in flight.
     fn settle(&mut self, number: u64, whole: Way, outcomes: Vec<Outcome>) -> Option<Settled>
-        requires first { 1 ≤ number }
         requires halves { IsHalf whole (length (writes_of number self.old.state)) }
         ensures flies { is_some result ≡ is_flying number self.old.state }
         ensures settled { OnSome result ((a : Answer)
@@ -446,25 +421,24 @@ impl Lane {
         ensures unchanged { IfNone result (self.new ≡ self.old) }
         ensures looks { self.new.looks ≡ self.old.looks }
     {
-        match settle_flown(
+        let clock = self.held.clock();
+        let Some(request) = self.flight.settle(number) else {
+            return None;
+        };
+        let found = settle_walk(
             &mut self.held,
-            &mut self.flown,
             &mut self.reports,
             self.config.attempts,
-            self.clock,
-            number - 1,
+            clock,
+            number,
+            request.writes,
             whole,
             outcomes,
-        ) {
-            Some(found) => {
-                self.room = no_room();
-                let _ = self.flight.settle(number);
-                self.applied += found.applied as u64;
-                self.already += found.already as u64;
-                Some(found)
-            }
-            None => None,
-        }
+        );
+        self.room = no_room();
+        self.applied += found.applied as u64;
+        self.already += found.already as u64;
+        Some(found)
     }
 
     /// The reply to a request was lost or could not be read, or the request could not be sent: each
@@ -479,9 +453,6 @@ impl Lane {
         ensures unchanged { OnErr result (self.new ≡ self.old) }
         ensures looks { self.new.looks ≡ self.old.looks }
     {
-        if number == 0 {
-            return Err(NotFlying);
-        }
         match self.settle(number, Way::ByEntry, Vec::new(self.alloc)) {
             Some(found) => Ok(found),
             None => Err(NotFlying),
@@ -503,7 +474,7 @@ impl Lane {
         ensures unchanged { OnErr result (self.new ≡ self.old) }
         ensures looks { self.new.looks ≡ self.old.looks }
     {
-        let _ = &self.flown;
+        let _ = &self.flight;
         let Some(writes) = self.writes(number) else {
             return Err(NotFlying);
         };

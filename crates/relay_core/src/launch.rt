@@ -1,10 +1,10 @@
 //! A batch is sent.
 ghost use Rattle.std.specs.Prelude.{◌≡◌, ◌+◌, ◌<◌, ◌≤◌, ◌++◌, length, map, option_to_list, take, vec_len, vec_capacity};
-ghost use Rattle.relay_held.specs.Queues.{candidates_kept, AreHeads, Rises};
+ghost use Rattle.relay_held.specs.Queues.{candidates_kept, Rises};
 ghost use Rattle.relay_core.specs.Walk.{item_of_kept, launched_kept, freight};
 
 use relay_action::Write;
-use relay_held::{Head, Held};
+use relay_held::Held;
 
 // A write goes into the request, if there is one.
 fn load(writes: &mut Vec<Write>, write: Option<Write>)
@@ -19,23 +19,15 @@ fn load(writes: &mut Vec<Write>, write: Option<Write>)
 }
 
 /// Sends the first `count` of the operations that may go: their writes move into the request.
-pub(crate) fn launch(
-    held: &mut Held,
-    number: u64,
-    clock: u64,
-    heads: &[Head],
-    count: usize,
-    writes: &mut Vec<Write>,
-)
-    requires heads { AreHeads held.old heads.now (candidates_kept held.old.list clock) }
+pub(crate) fn launch(held: &mut Held, number: u64, count: usize, writes: &mut Vec<Write>)
     requires rises { Rises held.old.list }
-    requires count { count ≤ length heads.now }
+    requires count { count ≤ length (candidates_kept held.old.list held.old.clock) }
     requires room { vec_len writes.old + count ≤ vec_capacity writes.old }
-    ensures held { held.new.list ≡ launched_kept held.old.list number 0 (map item_of_kept (take count (candidates_kept held.old.list clock))) }
-    ensures writes { writes.new.items ≡ writes.old.items ++ freight held.old.list (map item_of_kept (take count (candidates_kept held.old.list clock))) }
+    ensures held { held.new.list ≡ launched_kept held.old.list number 0 (map item_of_kept (take count (candidates_kept held.old.list held.old.clock))) }
+    ensures clock { held.new.clock ≡ held.old.clock }
+    ensures writes { writes.new.items ≡ writes.old.items ++ freight held.old.list (map item_of_kept (take count (candidates_kept held.old.list held.old.clock))) }
 {
-    'heads: for place in 0..count {
-        let at = heads[place].at;
-        load(writes, held.launch(at, number, place as u64));
+    'places: for place in 0..count {
+        load(writes, held.launch(number, place as u64));
     }
 }

@@ -10,9 +10,7 @@
 
 pub mod config;
 mod fates;
-mod flown;
 mod gather;
-mod kept;
 pub mod lane;
 mod launch;
 pub mod laws;

@@ -1,11 +1,11 @@
 //! An answer settles the operations of a request.
-ghost use Rattle.std.specs.Prelude.{◌≡◌, Some, true, ◌-◌, ◌^◌, min, ◌+◌, ◌≤◌, ◌<◌, ◌++◌, ◌∷◌, [], map, length, drop, slice_get, vec_len, vec_capacity};
+ghost use Rattle.std.specs.Prelude.{◌≡◌, Some, true, false, ◌-◌, ◌^◌, min, ◌+◌, ◌≤◌, ◌<◌, ◌++◌, ◌∷◌, [], map, length, drop, slice_get, vec_len, vec_capacity};
 ghost use Rattle.std.specs.Vec.Iter.{into_iter_items};
 ghost use Rattle.relay_delivery.specs.Machine.{is_applied_fate, is_already_fate};
 ghost use Rattle.relay_delivery.specs.Lane.{backoff};
 ghost use Rattle.relay_results.specs.Documents.{document_of};
 ghost use Rattle.relay_held.specs.declared.kept.Kept.{Kept};
-ghost use Rattle.relay_core.specs.Walk.{with_first, without_first, first_of, back, after_one, fate_one, reports_one, said, report_of, tally, kept_walk, reports_walk, tally_walk};
+ghost use Rattle.relay_core.specs.Walk.{waits_here, with_first, without_first, first_of, back, after_one, fate_one, reports_one, said, report_of, tally, kept_walk, reports_walk, tally_walk};
 ghost use Rattle.relay_core.specs.Memory.{Carries};
 ghost use Rattle.relay_core.specs.State.{is_reported_fate, is_retried_fate};
 
@@ -55,7 +55,9 @@ fn next_of<T: Drop>(items: &mut IntoIter<T>) -> Option<T>
 // The first operation of a document ends with a report.
 fn report(held: &mut Held, write: Write, cause: Cause, reports: &mut Vec<Report>)
     requires room { vec_len reports.old < vec_capacity reports.old }
+    requires flies { (h : Kept) → first_of write.key held.old.list ≡ Some h → waits_here h.flies ≡ false }
     ensures held { held.new.list ≡ without_first write.key held.old.list }
+    ensures clock { held.new.clock ≡ held.old.clock }
     ensures reports { (h : Kept) → first_of write.key held.old.list ≡ Some h
         → map report_of reports.new.items ≡ map report_of reports.old.items ++ record { name = h.name; document = document_of write.key; cause = cause } ∷ [] }
     ensures len { (h : Kept) → first_of write.key held.old.list ≡ Some h → vec_len reports.new ≡ vec_len reports.old + 1 }
@@ -72,8 +74,10 @@ fn report(held: &mut Held, write: Write, cause: Cause, reports: &mut Vec<Report>
 
 // The first operation of a document waits again.
 fn land(held: &mut Held, write: Write, clock: u64, attempts: u32)
-    ensures { (h : Kept) → h.attempts ≡ attempts → first_of write.key held.old.list ≡ Some h
+    requires flies { (h : Kept) → first_of write.key held.old.list ≡ Some h → waits_here h.flies ≡ false }
+    ensures held { (h : Kept) → h.attempts ≡ attempts → first_of write.key held.old.list ≡ Some h
         → held.new.list ≡ with_first write.key (back clock write) held.old.list }
+    ensures clock { held.new.clock ≡ held.old.clock }
 {
     held.land(due_after(clock, attempts), write);
 }
@@ -90,8 +94,10 @@ fn meet(
 )
     requires room { vec_len reports.old < vec_capacity reports.old }
     requires few { counts.old.applied + counts.old.already + counts.old.reported + counts.old.retried < 4294967295 }
+    requires flies { (h : Kept) → first_of write.key held.old.list ≡ Some h → waits_here h.flies ≡ false }
     ensures held { (h : Kept) → h.attempts ≡ attempts → first_of write.key held.old.list ≡ Some h
         → held.new.list ≡ after_one clock write held.old.list (said fate) }
+    ensures clock { held.new.clock ≡ held.old.clock }
     ensures reports { (h : Kept) → first_of write.key held.old.list ≡ Some h
         → map report_of reports.new.items ≡ map report_of reports.old.items ++ reports_one (said fate) h write }
     ensures capacity { vec_capacity reports.new ≡ vec_capacity reports.old }
@@ -140,8 +146,10 @@ fn settle_one(
 )
     requires room { vec_len reports.old < vec_capacity reports.old }
     requires few { counts.old.applied + counts.old.already + counts.old.reported + counts.old.retried < 4294967295 }
+    requires flies { (h : Kept) → first_of write.key held.old.list ≡ Some h → waits_here h.flies ≡ false }
     ensures held { (h : Kept) → first_of write.key held.old.list ≡ Some h
         → held.new.list ≡ after_one clock write held.old.list (fate_one max whole h entry) }
+    ensures clock { held.new.clock ≡ held.old.clock }
     ensures reports { (h : Kept) → first_of write.key held.old.list ≡ Some h
         → map report_of reports.new.items ≡ map report_of reports.old.items ++ reports_one (fate_one max whole h entry) h write }
     ensures capacity { vec_capacity reports.new ≡ vec_capacity reports.old }
@@ -180,6 +188,7 @@ pub(crate) fn settle_walk(
     requires few { length held.old.list ≤ 65536 }
     requires carries { Carries number 0 held.old.list writes.items }
     ensures held { held.new.list ≡ kept_walk held.old.list max clock number whole writes.items outcomes.items }
+    ensures clock { held.new.clock ≡ held.old.clock }
     ensures reports { map report_of reports.new.items ≡ map report_of reports.old.items ++ reports_walk held.old.list max number whole writes.items outcomes.items }
     ensures applied { result.applied ≡ tally_walk is_applied_fate held.old.list max number whole writes.items outcomes.items }
     ensures already { result.already ≡ tally_walk is_already_fate held.old.list max number whole writes.items outcomes.items }

@@ -4,11 +4,10 @@ ghost use Rattle.relay_ndjson.specs.Bulk.{write_text};
 ghost use Rattle.relay_results.specs.Documents.{write_for};
 ghost use Rattle.relay_core.specs.Memory.{kept_new};
 
-use crate::kept::Kept;
 use crate::report::Report;
 use crate::settled::TakeFault;
 use relay_action::{Body, DocKey, Mail, Op, Write};
-use relay_held::Held;
+use relay_held::{Held, Kept};
 use relay_ndjson::write_len;
 use std::alloc::AllocError;
 

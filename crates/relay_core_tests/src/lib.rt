@@ -8,4 +8,6 @@ mod limits;
 #[cfg(test)]
 mod many;
 #[cfg(test)]
+mod refusals;
+#[cfg(test)]
 mod schedules;

@@ -5,8 +5,8 @@ use Rattle.relay_core.specs.Walk.{back}
 use Rattle.relay_core.proofs.Passing.{with_first_same}
 use Rattle.relay_core.proofs.settle.land.Goals as goal
 
-pub returns : goal.returns
-returns c = λ h a e.
+pub returns-clause-held : goal.returns-clause-held
+returns-clause-held c = λ h a e.
     c.land.ensures.list
     ∙ with_first_same c.args.write.key (back_at c.due_after.result c.args.write) (back c.args.clock c.args.write) c.args.held.now.list h e
     (ap (λ due. back_at due c.args.write h) (c.due_after.ensures ∙ ap (backoff c.args.clock) (sym a)))

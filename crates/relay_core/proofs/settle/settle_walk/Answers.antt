@@ -1,13 +1,23 @@
 use Rattle.std.proofs.Common.{◌≡◌, ◌∙◌, ◌+◌, ◌++◌, [], sym, ap, subst, refl, arith, length, drop, append_assoc, Some}
-use Rattle.std.specs.Prelude.{map, slice_get}
+use Rattle.std.specs.Prelude.{map, slice_get, Option}
+use Rattle.relay_held.specs.declared.kept.Spot.{Spot}
 use Rattle.std.specs.Vec.Iter.{into_iter_items}
 use Rattle.relay_delivery.specs.Machine.{is_applied_fate, is_already_fate}
-use Rattle.relay_core.specs.Walk.{report_of, kept_walk, reports_walk, tally_walk, fate_one, tally, reports_one}
+use Rattle.std.proofs.Common.{ℕ, None, true, false}
+use Rattle.relay_results.proofs.Lists.{some_same}
+use Rattle.relay_held.specs.declared.kept.Kept.{Kept}
+use Rattle.relay_core.specs.Walk.{flies_here, waits_here, report_of, kept_walk, reports_walk, tally_walk, fate_one, tally, reports_one}
 use Rattle.relay_core.specs.Memory.{Carries}
 use Rattle.relay_core.specs.State.{is_reported_fate, is_retried_fate}
 use Rattle.relay_core.proofs.Settling.{met_ends}
 use Rattle.relay_core.proofs.Passing.{find_flying, flying_first, cons_of, nil_of, carried_few, turned, reported_turn, counts_one, ends_is, kept_end, reports_end, tally_end, nothing_after, tally_as}
 use Rattle.relay_core.proofs.settle.settle_walk.Goals as goal
+
+flies_on : (n : ℕ) (h : Kept) → flies_here n h.flies ≡ true → waits_here h.flies ≡ false
+flies_on n h t = by h.flies t where
+  by : (s : Option Spot) → flies_here n s ≡ true → waits_here s ≡ false
+  by None e = absurd (cc)
+  by (Some s) e = refl
 
 pub writes-init : goal.writes-init
 writes-init c =
@@ -18,6 +28,7 @@ writes-init c =
     let most = c.requires.few in
     let room = c.requires.room in
     record {
+      clock = refl;
       carries = (0, cs);
       counted = omega (arith, few, most);
       room = room;
@@ -31,6 +42,19 @@ writes-init c =
       reported = (let z : 0 + tally_walk is_reported_fate c.args.held.now.list c.args.max c.args.number c.args.whole (into_iter_items c.into_iter-ahead.result) (into_iter_items c.into_iter-left.result) ≡ tally_walk is_reported_fate c.args.held.now.list c.args.max c.args.number c.args.whole (into_iter_items c.into_iter-ahead.result) (into_iter_items c.into_iter-left.result) = omega arith in z) ∙ (λ i. tally_walk is_reported_fate c.args.held.now.list c.args.max c.args.number c.args.whole (a i) (b i));
       retried = (let z : 0 + tally_walk is_retried_fate c.args.held.now.list c.args.max c.args.number c.args.whole (into_iter_items c.into_iter-ahead.result) (into_iter_items c.into_iter-left.result) ≡ tally_walk is_retried_fate c.args.held.now.list c.args.max c.args.number c.args.whole (into_iter_items c.into_iter-ahead.result) (into_iter_items c.into_iter-left.result) = omega arith in z) ∙ (λ i. tally_walk is_retried_fate c.args.held.now.list c.args.max c.args.number c.args.whole (a i) (b i));
     }
+
+pub settle_one-requires-clause-flies : goal.settle_one-requires-clause-flies
+settle_one-requires-clause-flies c = λ h found.
+    let v = c.writes.invariant in
+    let hs = c.writes.held.list in
+    let ws = into_iter_items c.writes.ahead in
+    let w = c.in-Some.write in
+    let n = c.args.number in
+    let at : slice_get ws 0 ≡ Some w = sym c.in-Some.ensures.value in
+    let cs = subst (λ xs. Carries n v.carries.0 hs xs) (cons_of ws w at) v.carries.1 in
+    let f = find_flying n hs v.carries.0 w (drop 1 ws) cs in
+    let e = flying_first n hs w c.len.ensures.behind f in
+    flies_on n h (subst (λ (x : Kept). flies_here n x.flies ≡ true) (some_same f.one h (sym e ∙ found)) f.flies)
 
 pub writes-preserved : goal.writes-preserved
 writes-preserved c =
@@ -71,6 +95,7 @@ writes-preserved c =
     let done = v.done in
     let more = v.more in
     record {
+      clock = c.settle_one.ensures.clock ∙ v.clock;
       carries = (t.carries.0, subst (λ xs. Carries n t.carries.0 c.settle_one.new.held.list xs) (sym r) t.carries.1);
       counted = omega (arith, sa, sb, sr, st, one, few, lr, counted);
       room = omega (arith, sl, cap, fin, fewer, room);
@@ -140,3 +165,6 @@ returns-clause-retried c =
     let z = tally_end c.args.number c.args.max c.args.clock c.args.whole is_retried_fate c.writes.held.list v.carries.0 (into_iter_items c.writes.left) cs in
     let a = tally_as is_retried_fate c.writes.held.list c.args.max c.args.number c.args.whole (into_iter_items c.writes.ahead) [] (into_iter_items c.writes.left) (into_iter_items c.writes.left) e refl in
     let d = v.retried in omega (arith, z, a, d)
+
+pub returns-clause-clock : goal.returns-clause-clock
+returns-clause-clock c = c.writes.invariant.clock

@@ -1,10 +1,9 @@
-use Rattle.std.proofs.Common.{sym, ap, ◌∙◌, arith}
-use Rattle.std.specs.Prelude.{slice_get}
-use Rattle.relay_core.proofs.Lasting.{first_fits}
+use Rattle.std.proofs.Common.{ap, ◌∙◌}
+use Rattle.relay_core.specs.State.{Seen, oldest}
+use Rattle.relay_core.proofs.Lasting.{oldest_seen}
 use Rattle.relay_core.proofs.lane.Lane.oldest.Goals as goal
 
-pub overflow_add-result : goal.overflow_add-result
-overflow_add-result c =
-    let first = ap (λ xs. slice_get xs 0) (sym c.deref.ensures.value) ∙ sym c.in_ok-sent.ensures.value in
-    let le = first_fits c.self.inside c.self.invariant c.in_ok-sent.sent.now first in
-    omega (arith, le)
+pub returns : goal.returns
+returns c =
+    let i = c.self.inside in
+    oldest_seen i.flight.max i.flight.next i.flight.requests c.oldest.result c.self.invariant.flight.numbered c.oldest.ensures ∙ ap (λ (v : Seen). oldest v.state) c.self.view_is

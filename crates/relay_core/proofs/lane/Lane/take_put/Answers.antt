@@ -1,4 +1,4 @@
-use Rattle.std.proofs.Common.{◌≡◌, ◌^◌, ◌+◌, ◌-◌, ◌<◌, ◌≤◌, ◌++◌, ◌∷◌, [], refl, sym, ap, ◌∙◌, subst, true, length, length-append, arith}
+use Rattle.std.proofs.Common.{◌≡◌, ◌^◌, ◌+◌, ◌<◌, ◌≤◌, ◌++◌, ◌∷◌, [], refl, sym, ap, ◌∙◌, subst, true, length, length-append, arith}
 use Rattle.std.specs.Prelude.{map, min, nat_lt}
 use Rattle.std.proofs.lemmas.Bool.{lt-ltb}
 use Rattle.relay_delivery.specs.Machine.{spent_if}
@@ -26,22 +26,21 @@ invariant_of-self-in-Ok-push c =
     let p = c.in-Ok-push.ensures.ok in
     let room = on_ok _ _ c.if-is_err.ensures.negation m.reports_room in
     let lt : length (seen i).core.held < (seen i).config.max_held = subst (λ (s : State). length s.core.held < s.config.max_held) (sym (ap (λ (v : Seen). v.state) c.self.view_is)) c.requires in
-    let n = entries_length i.held.list (writes_in i.flown.items) in
+    let n = entries_length i.held.list (writes_in i.flight.requests) in
     let hs = i.held.list in
     let count = (valid_facts i.config v.config).count.1 in
     let p14 : 2 ^ 14 ≡ 16384 = refl in
     let low : i.config.limits.count < 2 ^ 14 = omega (arith, count, p14) in
-    let items : c.push.new.self.list ≡ hs ++ kept_new c.args.op (i.first + i.taken) (bytes_of (seen c.self.inside) c.args.op) i.clock i.config.limits.count ∷ [] = p ∙ (λ j. hs ++ c.kept_of-kept.ensures j ∷ []) in
-    let one = kept_new c.args.op (i.first + i.taken) (bytes_of (seen c.self.inside) c.args.op) i.clock i.config.limits.count in
+    let made = c.kept_of-kept.ensures ∙ (λ j. kept_new c.args.op (i.first + i.taken) (bytes_of (seen c.self.inside) c.args.op) (c.clock.ensures j) i.config.limits.count) in
+    let items : c.push.new.self.list ≡ hs ++ kept_new c.args.op (i.first + i.taken) (bytes_of (seen c.self.inside) c.args.op) i.held.clock i.config.limits.count ∷ [] = p ∙ (λ j. hs ++ made j ∷ []) in
+    let one = kept_new c.args.op (i.first + i.taken) (bytes_of (seen c.self.inside) c.args.op) i.held.clock i.config.limits.count in
     let len : length c.push.new.self.list ≡ length hs + 1 = ap length items ∙ length-append hs (one ∷ []) in
     record {
-      readable = readable_more i.config.attempts (i.flight.next - 1) (i.first + i.taken) (bytes_of (seen c.self.inside) c.args.op) i.clock i.config.limits.count hs _ i.flown.items c.args.op v.tries.0 low (omega (arith, c.self.ranges)) refl items
+      readable = readable_more i.config.attempts i.flight.next (i.first + i.taken) (bytes_of (seen c.self.inside) c.args.op) i.held.clock i.config.limits.count hs _ i.flight.requests c.args.op v.tries.0 low (omega (arith, c.self.ranges)) refl items
           (under_same (i.first + min i.taken i.config.deal) (i.first + i.taken) hs (omega arith) v.under) v.readable;
       under = subst (λ xs. AllUnder (i.first + min (i.taken + 1) i.config.deal) xs) (sym items)
-          (under_more (i.first + min i.taken i.config.deal) (i.first + min (i.taken + 1) i.config.deal) hs (kept_new c.args.op (i.first + i.taken) (bytes_of (seen c.self.inside) c.args.op) i.clock i.config.limits.count) (omega arith) (omega (arith, c.if-self.false)) v.under);
+          (under_more (i.first + min i.taken i.config.deal) (i.first + min (i.taken + 1) i.config.deal) hs (kept_new c.args.op (i.first + i.taken) (bytes_of (seen c.self.inside) c.args.op) i.held.clock i.config.limits.count) (omega arith) (omega (arith, c.if-self.false)) v.under);
       flight = v.flight;
-      beside = v.beside;
-      places = v.places;
       most = v.most;
       room = omega (arith, len, room);
       few = omega (arith, len, lt, n);
@@ -54,31 +53,33 @@ invariant_of-self-in-Ok-push c =
       counted = (let a = c.if-self.false in omega arith);
       done = (let d = v.done in let e = c.if-self.false in omega (arith, len, d, e));
       left = (let a = ap (tries_left i.config.attempts) items in
-          let b = left_more i.config.attempts hs (kept_new c.args.op (i.first + i.taken) (bytes_of (seen c.self.inside) c.args.op) i.clock i.config.limits.count) in
+          let b = left_more i.config.attempts hs (kept_new c.args.op (i.first + i.taken) (bytes_of (seen c.self.inside) c.args.op) i.held.clock i.config.limits.count) in
           let l = v.left in let t = v.tries in let e = c.if-self.false in let h = halvings_few 14 i.config.limits.count low in omega arith);
       config = v.config;
       begins = v.begins;
       quiet = λ roomy.
           let h = c.kept_of-kept.result in
           let taken_in : c.push.new.self.list ≡ hs ++ h ∷ [] = p in
-          let version : i.first + min i.taken i.config.deal ≤ h.version = (let e = ap (λ (x : Kept). x.version) c.kept_of-kept.ensures in omega arith) in
-          subst (IsQuiet i.clock i.mark (list_all (λ (b : Bool). b) i.closed.items) i.config.limits (items_of_kept c.push.new.self.list i.clock c.push.new.self.list)) (sym c.less-room.ensures)
-          (quiet_taken i.clock i.mark (list_all (λ (b : Bool). b) i.closed.items) i.config.limits hs c.push.new.self.list h i.room taken_in (let e = ap (λ (x : Kept). x.cap) c.kept_of-kept.ensures in omega (arith, e))
-          (under_same (i.first + min i.taken i.config.deal) h.version hs version v.under) v.quiet (ap is_roomy (sym c.less-room.ensures) ∙ roomy));
+          let version : i.first + min i.taken i.config.deal ≤ h.version = (let e = ap (λ (x : Kept). x.version) made in omega arith) in
+          subst (λ k. IsQuiet k i.mark (list_all (λ (b : Bool). b) i.closed.items) i.config.limits (items_of_kept c.push.new.self.list k c.push.new.self.list) c.less-room.result) (sym c.in-Ok-push.ensures.clock)
+          (subst (IsQuiet i.held.clock i.mark (list_all (λ (b : Bool). b) i.closed.items) i.config.limits (items_of_kept c.push.new.self.list i.held.clock c.push.new.self.list)) (sym c.less-room.ensures)
+          (quiet_taken i.held.clock i.mark (list_all (λ (b : Bool). b) i.closed.items) i.config.limits hs c.push.new.self.list h i.room taken_in (let e = ap (λ (x : Kept). x.cap) made in omega (arith, e))
+          (under_same (i.first + min i.taken i.config.deal) h.version hs version v.under) v.quiet (ap is_roomy (sym c.less-room.ensures) ∙ roomy)));
     }
 
 pub returns-in-Ok-push-clause-ok : goal.returns-in-Ok-push-clause-ok
 returns-in-Ok-push-clause-ok c =
     let i = c.self.inside in
     let m = c.make_room.ensures in
-    let fs = i.flown.items in
+    let fs = i.flight.requests in
     let hs = i.held.list in
     let s = (seen i).core in
     let o = c.args.op in
-    let items : c.push.new.self.list ≡ hs ++ kept_new o (i.first + i.taken) (bytes_of (seen c.self.inside) c.args.op) i.clock i.config.limits.count ∷ [] = c.in-Ok-push.ensures.ok ∙ (λ j. hs ++ c.kept_of-kept.ensures j ∷ []) in
+    let made = c.kept_of-kept.ensures ∙ (λ j. kept_new o (i.first + i.taken) (bytes_of (seen c.self.inside) o) (c.clock.ensures j) i.config.limits.count) in
+    let items : c.push.new.self.list ≡ hs ++ kept_new o (i.first + i.taken) (bytes_of (seen c.self.inside) c.args.op) i.held.clock i.config.limits.count ∷ [] = c.in-Ok-push.ensures.ok ∙ (λ j. hs ++ made j ∷ []) in
     let held = ap (λ xs. entries xs (writes_in fs)) items ∙ entries_new s hs (writes_in fs) o (bytes_of (seen c.self.inside) c.args.op) in
     let reports = ap (map report_of) m.reports ∙ with_none (map report_of i.reports.items) in
     let t : nat_lt i.taken i.config.deal ≡ true = lt-ltb _ _ (omega (arith, c.if-self.false)) in
-    (λ j. record (seen i) { core = record s { taken = i.taken + 1; held = held j; reports = reports j } })
+    (λ j. record (seen i) { core = record s { clock = c.in-Ok-push.ensures.clock j; taken = i.taken + 1; held = held j; reports = reports j } })
     ∙ (λ j. record (seen i) { core = record s { taken = i.taken + 1; held = s.held ++ entry_if (sym t j) s o (bytes_of (seen c.self.inside) c.args.op); reports = s.reports ++ spent_if (sym t j) o } })
     ∙ ap (λ (x : State). taken x o) (ap (λ (v : Seen). v.state) c.self.view_is)

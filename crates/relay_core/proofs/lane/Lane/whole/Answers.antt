@@ -1,5 +1,4 @@
 use Rattle.std.proofs.Common.{sym, ap, ◌∙◌, arith, length, subst}
-use Rattle.relay_results.specs.Numbers.{from_zero}
 use Rattle.relay_results.specs.Outside.{Whole}
 use Rattle.relay_core.proofs.Reading.{flying_positive, writes_seen}
 use Rattle.relay_core.proofs.Invariant.{few_in}
@@ -12,17 +11,15 @@ use Rattle.relay_core.proofs.lane.Lane.whole.Goals as goal
 pub way_of-whole-requires : goal.way_of-whole-requires
 way_of-whole-requires c =
     let i = c.self.inside in
-    let e = c.in-Some.ensures.writes ∙ ap (λ (s : State). writes_of c.args.number s) (sym (ap (λ (v : Seen). v.state) c.self.view_is)) ∙ writes_seen i.flown.items (from_zero c.args.number) in
+    let from = flying_positive c.args.self.now.state.core.flying c.args.number (sym c.in-Some.ensures.flies) in
+    let e = c.in-Some.ensures.writes ∙ ap (λ (s : State). writes_of c.args.number s) (sym (ap (λ (v : Seen). v.state) c.self.view_is)) ∙ writes_seen 1 i.flight.next i.flight.requests c.args.number (omega arith) c.self.invariant.flight.numbered from in
     let n = ap length e in
-    let f = few_in i.flown.items (from_zero c.args.number) c.self.invariant.readable.few in
+    let f = few_in i.flight.requests c.args.number c.self.invariant.readable.few in
     omega (arith, n, f)
 
-pub settle-requires-clause-first : goal.settle-requires-clause-first
-settle-requires-clause-first c = flying_positive c.args.self.now.state.core.flying c.args.number (sym c.in-Some.ensures.flies)
-
-pub settle-requires-clause-halves : goal.settle-requires-clause-halves
-settle-requires-clause-halves c =
-    subst (λ ws. IsHalf c.way_of-whole.result (length ws)) c.in-Some.ensures.writes (whole_halves (length c.in-Some.writes.now) c.args.status c.way_of-whole.result c.way_of-whole.ensures)
+pub settle-requires : goal.settle-requires
+settle-requires c =
+    record { halves = subst (λ ws. IsHalf c.way_of-whole.result (length ws)) c.in-Some.ensures.writes (whole_halves (length c.in-Some.writes.now) c.args.status c.way_of-whole.result c.way_of-whole.ensures) }
 
 pub returns-in-Some-settle-clause-ok : goal.returns-in-Some-settle-clause-ok
 returns-in-Some-settle-clause-ok c =

@@ -1,0 +1,125 @@
+//! Calls of a lane, of whose allocations any one may be refused (`make refusals`): the refusal changes nothing, and the call
+//! does its work when it is made again.
+use crate::desk::CONFIG;
+use relay_action::{Action, Body, DocKey, Mail, Op};
+use relay_core::{Lane, RelayConfig, TakeFault};
+use std::alloc::{AllocError, Global};
+
+/// Ids and sources longer than what a value holds by itself.
+const DOCUMENTS: [&str; 4] = [
+    "the first document of more than thirty-eight bytes",
+    "the second document of more than thirty-eight bytes",
+    "the third document of more than thirty-eight bytes",
+    "the fourth document of more than thirty-eight bytes",
+];
+
+/// Three versions: the fourth operation is reported as it is taken.
+const SHORT: RelayConfig = RelayConfig { deal: 3, ..CONFIG };
+
+fn lane_of(alloc: Global) -> Option<Lane> {
+    if !SHORT.valid() {
+        return None;
+    }
+    match Lane::new(alloc, SHORT) {
+        Ok(lane) => Some(lane),
+        Err(AllocError) => Lane::new(alloc, SHORT).ok(),
+    }
+}
+
+fn mail_of(alloc: Global, number: u64, id: &str) -> Option<Mail> {
+    Some(Mail {
+        sender: 0,
+        number,
+        body: Body::Put(Op {
+            epoch: 0,
+            producer: 0,
+            number,
+            key: DocKey::new(alloc, "books", id).ok()?,
+            action: Action::index(alloc, id).ok()?,
+        }),
+    })
+}
+
+// Takes a message, again if it came back for want of memory with the lane unchanged.
+fn takes(lane: &mut Lane, mail: Mail) -> bool {
+    let (held, totals) = (lane.held(), lane.totals());
+    if mail.sender >= lane.senders() {
+        return false;
+    }
+    match lane.take(mail) {
+        Ok(()) => true,
+        Err((fault, back)) => {
+            fault == TakeFault::Memory
+                && lane.held() == held
+                && lane.totals() == totals
+                && lane.reports().is_empty()
+                && back.sender < lane.senders()
+                && lane.take(back).is_ok()
+        }
+    }
+}
+
+fn puts(alloc: Global, lane: &mut Lane, number: u64, id: &str) -> Option<bool> {
+    let mail = mail_of(alloc, number, id).or_else(|| mail_of(alloc, number, id))?;
+    Some(takes(lane, mail))
+}
+
+fn puts_all(alloc: Global, lane: &mut Lane) -> Option<bool> {
+    let mut number = 0u64;
+    let mut taken = true;
+    for id in DOCUMENTS {
+        number = number.saturating_add(1);
+        taken = puts(alloc, lane, number, id)? && taken;
+    }
+    Some(taken)
+}
+
+fn filled(alloc: Global) -> Option<Lane> {
+    let mut lane = lane_of(alloc)?;
+    puts_all(alloc, &mut lane)?.then_some(lane)
+}
+
+// Three operations are held, and the fourth, which got no version, is reported.
+#[test]
+fn refused_operations(rt: HostRuntime) {
+    let lane = filled(rt.alloc());
+    let found = lane.map(|lane| (lane.held(), lane.totals().taken, lane.reports().len()));
+    assert!(rt; found == Some((3, 4, 1)));
+}
+
+// Whether the first request goes, by a second call if the first was refused and changed nothing.
+fn sends(lane: &mut Lane) -> bool {
+    let (held, totals) = (lane.held(), lane.totals());
+    match lane.request() {
+        Ok(number) => number == Some(1),
+        Err(AllocError) => {
+            lane.held() == held
+                && lane.totals() == totals
+                && lane.due_in() == Some(0)
+                && lane.writes(1).is_none()
+                && lane.request() == Ok(Some(1))
+        }
+    }
+}
+
+// Whether a request has the operations that are held, in their order and under their versions.
+fn is_sent(lane: &Lane) -> bool {
+    let Some(writes) = lane.writes(1) else {
+        return false;
+    };
+    let same = writes.iter().zip(DOCUMENTS.iter().zip(1..10u64)).all(|(write, (id, version))| write
+        .key
+        .id()
+        == *id
+        && write.version == version);
+    same && writes.len() == 3
+}
+
+#[test]
+fn refused_request(rt: HostRuntime) {
+    let Some(mut lane) = filled(rt.alloc()) else {
+        assert!(rt; false);
+        return;
+    };
+    assert!(rt; sends(&mut lane) && is_sent(&lane) && lane.flying() == 1);
+}
