@@ -17,6 +17,7 @@ pub mod Fitting
 pub mod Tallies
 pub mod Counts
 pub mod Reached
+pub mod Reported
 pub mod Played
 pub mod Excluded
 pub mod Working

@@ -98,7 +98,7 @@ least_mem k n [] h m = absurd m
 least_mem k n (o ∷ os) h m =
     ⊎_elim (λ (e : n ≡ name_of o). let same = ap (λ (x : OpName). x.number) e in omega (arith, same, h.0)) (λ (r : Mem n (map name_of os)). least_mem k n os h.1 r) m
 
-distinct_numbered : (lanes lane p n : ℕ) (os : List Op) → AreNumberedBy p n os → AllDistinct (map name_of (ops_for lanes lane os))
+pub distinct_numbered : (lanes lane p n : ℕ) (os : List Op) → AreNumberedBy p n os → AllDistinct (map name_of (ops_for lanes lane os))
 distinct_numbered lanes lane p n [] h = tt
 distinct_numbered lanes lane p n (o ∷ os) h = by (eqb (lane_of_document o.key lanes) lane) refl (distinct_numbered lanes lane p (n + 1) os h.2) where
   alone : Mem (name_of o) (map name_of (ops_for lanes lane os)) → ⊥
@@ -128,7 +128,7 @@ mem_filter p n (o ∷ os) is m =
       by true e r = rw e (inr r)
       by false e r = rw e r
 
-distinct_all : (os : List Op) → ((p : ℕ) → AllDistinct (map name_of (filter (is_from p) os))) → AllDistinct (map name_of os)
+pub distinct_all : (os : List Op) → ((p : ℕ) → AllDistinct (map name_of (filter (is_from p) os))) → AllDistinct (map name_of os)
 distinct_all [] h = tt
 distinct_all (o ∷ os) h =
     let here = subst (λ (b : Bool). AllDistinct (map name_of (if b then o ∷ filter (is_from o.producer) os else filter (is_from o.producer) os))) (eq-eqb o.producer o.producer refl) (h o.producer) in

@@ -205,6 +205,9 @@ module _ {W : Type 0} (describes : W → Bool) (fits : W → Outside → Type 0)
 most_lanes : (c : RelayConfig) → is_valid c ≡ true → c.lanes ≤ 8
 most_lanes c e = let a = and_left (is_from_to 1 8 c.lanes) _ e in let b = and_right (nat_le 1 c.lanes) (nat_le c.lanes 8) a in grind (arith, nat_tests)
 
+some_lanes : (c : RelayConfig) → is_valid c ≡ true → 0 < c.lanes
+some_lanes c e = let a = and_left (is_from_to 1 8 c.lanes) _ e in let b = and_left (nat_le 1 c.lanes) (nat_le c.lanes 8) a in grind (arith, nat_tests)
+
 most_producers : (c : RelayConfig) → is_valid c ≡ true → c.producers ≤ 16
 most_producers c e =
     let r = and_right (is_from_to 1 8 c.lanes) _ e in
@@ -224,6 +227,8 @@ pub record Ready {W : Type 0} (d : W → Bool) (f : W → Outside → Type 0) (s
   pub few_rows : length rows ≤ 17
   pub count : length rows ≡ self.config.producers + 1
   pub lanes : length self.queues ≡ self.config.lanes
+  pub wires : length self.wires ≡ self.config.lanes
+  pub some : 0 < self.config.lanes
 
 pub ready : {W : Type 0} (d : W → Bool) (f : W → Outside → Type 0) (self : RelayState W) (config : RelayConfig) (hs : List (PromisedHandle (LaneEnd W) (LanePromise W))) (es : List (LaneEnd W)) (rows : List (List ClosedEnd)) (ps : List ClosedProducerState) (k : ClosedControlState)
     → self ≡ record { config = config; queues = queues_of hs; wires = wires_of hs } → is_valid config ≡ true → length hs ≡ config.lanes → AreLanesOf config hs → EndAsPromised d f hs es → rows ≡ rows_of ps k → length ps ≡ self.config.producers → Ready d f self es rows
@@ -240,4 +245,6 @@ ready {W = W} d f self config hs es rows ps k is valid lanes own kept given coun
       few_rows = omega (arith, rows_long, count, same_p, sixteen);
       count = omega (arith, rows_long, count);
       lanes = subst (λ (r : RelayState W). length r.queues ≡ r.config.lanes) (sym is) (long_map (λ (h : PromisedHandle (LaneEnd W) (LanePromise W)). h.promise.take.value.queue) hs ∙ lanes);
+      wires = subst (λ (r : RelayState W). length r.wires ≡ r.config.lanes) (sym is) (long_map (λ (h : PromisedHandle (LaneEnd W) (LanePromise W)). h.promise.wire.value) hs ∙ lanes);
+      some = subst (λ (r : RelayState W). 0 < r.config.lanes) (sym is) (some_lanes config valid);
     }

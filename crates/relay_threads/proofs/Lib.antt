@@ -10,3 +10,4 @@ pub mod Summing
 pub mod Firsts
 pub mod Finishing
 pub mod Delivering
+pub mod Together

@@ -8,3 +8,4 @@ pub mod Lanes
 pub mod Relay
 pub mod Rows
 pub mod Sums
+pub mod Together

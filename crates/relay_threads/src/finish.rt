@@ -9,6 +9,7 @@ ghost use Rattle.relay_threads.specs.Faults.{FirstOf, TellsFault, is_gone_in, is
 ghost use Rattle.relay_threads.specs.Finished.{AllFinished, HasFault};
 ghost use Rattle.relay_threads.specs.Relay.{AreRows, rows_of};
 ghost use Rattle.relay_threads.specs.Sums.{IsClosedOn, AreClosedOn, IsMet, AreMet, AreDone, NoneGone, queues_taken, SumsUp, AllSumUp};
+ghost use Rattle.relay_threads.specs.Together.{AreDeliveredTogether};
 
 use crate::fault::{FinishFault, FinishFaultKind};
 use crate::lane_end::{LaneEnd, LaneEndKind};
@@ -227,9 +228,10 @@ impl<W: Wire + Drop + Send + 'static> Relay<W> {
     /// to be closed and given back: the producers in their order, and the control.
     ///
     /// After `Ok` each lane has finished: it took exactly what the handles sent there, and each operation
-    /// is applied or reported. A fault says which lane is the first of its kind: one that ended as Memory,
-    /// else one that ended as Gone or that a handle has marked; else there was no memory for the summary.
-    /// What was taken until then was delivered as [`run_lane`](crate::run_lane) says.
+    /// is applied or reported. Over all lanes no operation is reported twice, and one assignment of
+    /// versions serves all reports. A fault says which lane is the first of its kind: one that ended as
+    /// Memory, else one that ended as Gone or that a handle has marked; else there was no memory for the
+    /// summary. What was taken until then was delivered as [`run_lane`](crate::run_lane) says.
     pub fn finish<R: Threads>(
         self,
         rt: &R,
@@ -243,6 +245,9 @@ impl<W: Wire + Drop + Send + 'static> Relay<W> {
         ensures delivered { IfOk result (λ s. (puts : ℕ → List Op)
             → HavePut puts 0 producers.items
             → AllDelivered W.describes W.fits self.config puts 0 self.wires s.lanes.items) }
+        ensures together { IfOk result (λ s. (puts : ℕ → List Op)
+            → HavePut puts 0 producers.items
+            → AreDeliveredTogether W.describes W.fits self.config puts self.wires s.lanes.items) }
         ensures fault { IfErr result (λ e. HasFault W.describes W.fits self.config
             self.queues self.wires (rows_of producers.items control) e) }
     {

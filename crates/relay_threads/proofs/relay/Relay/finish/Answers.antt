@@ -7,6 +7,7 @@ use Rattle.relay_threads.specs.Relay.{AreRows, rows_of}
 use Rattle.relay_threads.specs.Sums.{AllSumUp}
 use Rattle.relay_threads.proofs.Popping.{long_map}
 use Rattle.relay_threads.proofs.Delivering.{are_long, all_delivered}
+use Rattle.relay_threads.proofs.Together.{delivered_together}
 use Rattle.relay_threads.proofs.Finishing.{ready, may_sum, all_finished}
 use Rattle.relay_threads.specs.declared.fault.FinishFault.{FinishFault}
 use Rattle.relay_threads.specs.declared.lane_end.LaneEnd.{LaneEnd}
@@ -63,3 +64,8 @@ pub returns-in-Ok-clause-delivered : goal.returns-in-Ok-clause-delivered
 returns-in-Ok-clause-delivered g c puts h =
     let r = ready g.W.Wire.describes g.W.Wire.fits c.args.self c.self.inside.config c.self.inside.lanes.items c.join_all-ends.result.items _ c.args.producers.items c.args.control (sym c.self.view_is) c.self.invariant.0 c.self.invariant.1 c.self.invariant.2 c.join_all-ends.ensures c.give_back-rows.ensures.rows (sym c.args.producers.ok.0 ∙ c.requires.count) in
     all_delivered g.W.Wire.describes g.W.Wire.fits c.args.self.config puts c.args.producers.items c.args.control 0 c.args.self.wires c.in-Ok.lanes.items (sym c.args.producers.ok.0 ∙ c.requires.count) (are_long c.args.self.queues 0 c.args.self.config.lanes c.args.producers.items c.args.control r.lanes c.requires.rows) h c.give_back-rows.ensures.no_puts (returns-in-Ok-clause-finished g c)
+
+pub returns-in-Ok-clause-together : goal.returns-in-Ok-clause-together
+returns-in-Ok-clause-together g c puts h =
+    let r = ready g.W.Wire.describes g.W.Wire.fits c.args.self c.self.inside.config c.self.inside.lanes.items c.join_all-ends.result.items _ c.args.producers.items c.args.control (sym c.self.view_is) c.self.invariant.0 c.self.invariant.1 c.self.invariant.2 c.join_all-ends.ensures c.give_back-rows.ensures.rows (sym c.args.producers.ok.0 ∙ c.requires.count) in
+    delivered_together g.W.Wire.describes g.W.Wire.fits c.args.self.config puts c.args.self.wires c.in-Ok.lanes.items c.args.producers.items (sym c.args.producers.ok.0 ∙ c.requires.count) h r.some r.wires (returns-in-Ok-clause-delivered g c puts h)
