@@ -11,7 +11,7 @@ use Rattle.relay_ndjson.specs.declared.kind.LineKind.TheVariants as kind
 use Rattle.relay_ndjson.proofs.Pieces.{prepend_nothing}
 use Rattle.relay_report.specs.Operations.{TakesLines}
 use Rattle.relay_report.specs.Picks.{NoneAfter, Picks, ReadsFail, Stops, TakesAll, Writes, WritesFail, WritesFront, is_named, picked}
-use Rattle.relay_report.specs.Picking.{Closes, ClosesOrFails, Moves, PicksNext, PicksTo, fault_by, is_over}
+use Rattle.relay_report.specs.Picking.{Closes, ClosesOrFails, Moves, PicksNext, PicksTo, pick_fault_by, is_over}
 use Rattle.relay_report.specs.declared.names.Named.{Named}
 use Rattle.relay_report.specs.declared.picking.PickFault.{PickFault}
 use Rattle.relay_report.specs.declared.picking.PickFault.TheVariants as fault
@@ -189,7 +189,7 @@ reads_fail fault.Write old mid new s r = tt
 reads_fail fault.Memory old mid new s r = tt
 
 -- why there is no next operation
-pub next_fault : (wanted : ℕ → Bool) (k : ℕ) (default : Option (List ℕ)) (old new : Position) (text text' : List ℕ) (e : InputFault) (l : LineKind) → l ≡ e.kind → Rattle.relay_ndjson.specs.Operations.IsFault default old.ahead old.count e → text' ≡ text → PicksNext wanted k default old new text text' (Err (fault_by e l))
+pub next_fault : (wanted : ℕ → Bool) (k : ℕ) (default : Option (List ℕ)) (old new : Position) (text text' : List ℕ) (e : InputFault) (l : LineKind) → l ≡ e.kind → Rattle.relay_ndjson.specs.Operations.IsFault default old.ahead old.count e → text' ≡ text → PicksNext wanted k default old new text text' (Err (pick_fault_by e l))
 next_fault wanted k default old new text text' e kind.Memory s f t = tt
 next_fault wanted k default old new text text' e other s f t = (f, (λ m. let bad : other ≡ kind.Memory = s ∙ m in cc), t)
 

@@ -12,12 +12,12 @@ use Rattle.relay_report.specs.declared.picking.PickFault.{PickFault}
 use Rattle.relay_report.specs.declared.picking.PickFault.TheVariants as fault
 
 -- out of memory is a fault of its own
-abbrev pub fault_by : InputFault → LineKind → PickFault
-fault_by e kind.Memory = fault.Memory
-fault_by e other = fault.Input e
+abbrev pub pick_fault_by : InputFault → LineKind → PickFault
+pick_fault_by e kind.Memory = fault.Memory
+pick_fault_by e other = fault.Input e
 
 abbrev pub fault_of : InputFault → PickFault
-fault_of e = fault_by e e.kind
+fault_of e = pick_fault_by e e.kind
 
 -- an operation was taken, and its lines were added to a text if it is wanted; or none was left; or why none was taken
 abbrev pub PicksNext : (ℕ → Bool) → ℕ → Option (List ℕ) → Position → Position → List ℕ → List ℕ → Result Bool PickFault → Type 0
@@ -35,10 +35,6 @@ pub record Moves (text rest : List ℕ) (before after : Option (List ℕ)) : Typ
   pub moved : List ℕ
   pub whole : text ≡ moved ++ rest
   pub written : after ≡ append_known before moved
-
--- some front of a text was written
-abbrev pub IsAddedFront : List ℕ → Option (List ℕ) → Option (List ℕ) → Type 0
-IsAddedFront text before after = WritesFront before after text
 
 -- why no more operations were taken
 abbrev pub StopsAt : ℕ → Option (List ℕ) → Option (List ℕ) → ℕ → List (List ℕ) → Result ℕ PickFault → Type 0

@@ -5,8 +5,8 @@ ghost use Rattle.std.specs.Ordering.{nat_cmp};
 ghost use Rattle.relay_action.specs.Streams.{FailedSince};
 ghost use Rattle.relay_ndjson.specs.Metadata.{shown};
 ghost use Rattle.relay_ndjson.specs.Operations.{position};
-ghost use Rattle.relay_report.specs.Picks.{Picks, ReadsFail, WritesFail, is_named};
-ghost use Rattle.relay_report.specs.Picking.{Closes, IsAddedFront, Moves, PicksNext, PicksTo, fault_of, is_over};
+ghost use Rattle.relay_report.specs.Picks.{Picks, ReadsFail, WritesFail, WritesFront, is_named};
+ghost use Rattle.relay_report.specs.Picking.{Closes, Moves, PicksNext, PicksTo, fault_of, is_over};
 
 use crate::names::Named;
 use crate::operations::OperationReader;
@@ -133,7 +133,7 @@ impl Picking {
     fn make_way<W: ByteOut>(&mut self, writer: &mut W) -> Result<(), PickFault>
         ensures ok { OnOk result (Moves self.old.text.items self.new.text.items (W.written writer.old) (W.written writer.new)) }
         ensures err { IfErr result (λ e. e ≡ PickFault.Write) }
-        ensures front { OnErr result (IsAddedFront self.old.text.items (W.written writer.old) (W.written writer.new)) }
+        ensures front { OnErr result (WritesFront (W.written writer.old) (W.written writer.new) self.old.text.items) }
         ensures operations { self.new.operations ≡ self.old.operations }
         ensures failed { OnErr result (FailedSince (W.failed writer.old) (W.failed writer.new)) }
         ensures succeeded { OnOk result (W.failed writer.new ≡ W.failed writer.old) }
