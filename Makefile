@@ -1,5 +1,5 @@
 # What the repository's reader runs. `rt` is the kit's command.
-.PHONY: demo check test build bench
+.PHONY: demo check test refusals build bench
 
 # Builds the program, proved, the crates below it side by side.
 build:
@@ -25,6 +25,11 @@ test:
 	@echo "running the benchmark's tool and the program from the outside"
 	python3 tests/bench_tool.py crates/relay_bench/out/relay_bench
 	python3 tests/run.py crates/relay/out/relay
+
+# Each allocation of the tests for that refused in turn, with what the gate built, and runs of the program with many refused.
+refusals:
+	@echo "refusing each allocation in turn; this takes a few minutes"
+	python3 tests/refusals.py crates/relay/out/relay
 
 # Ratios to other programs, measured in one run.
 bench:

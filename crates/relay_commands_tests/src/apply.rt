@@ -5,7 +5,7 @@ use relay_commands::refuse_list::{ListFault, refuse_list};
 use relay_index::Script;
 use std::alloc::{AllocError, Global};
 
-const TWO: &[u8] =
+pub const TWO: &[u8] =
     b"{\"delete\":{\"_id\":\"1\",\"_index\":\"b\",\"version\":1,\"version_type\":\"external\"}}\n{\"delete\":{\"_id\":\"2\",\"_index\":\"b\",\"version\":2,\"version_type\":\"external\"}}\n";
 
 const TWO_ANSWER: &[u8] =
@@ -14,7 +14,7 @@ const TWO_ANSWER: &[u8] =
 const NO_LAST_LINE_END: &[u8] =
     b"400\n{\"error\":{\"line\":2,\"type\":\"NoFinalNewline\"},\"status\":400}\n";
 
-const SECOND_REFUSED: &[u8] =
+pub const SECOND_REFUSED: &[u8] =
     b"200\n{\"errors\":true,\"items\":[{\"delete\":{\"_id\":\"1\",\"_index\":\"b\",\"_seq_no\":0,\"_version\":1,\"result\":\"not_found\",\"status\":404}},{\"delete\":{\"_id\":\"2\",\"_index\":\"b\",\"error\":{\"type\":\"scripted_refusal\"},\"status\":429}}],\"took\":0}\n";
 
 // The streams of one call: a body to read, and room for what is written.

@@ -8,4 +8,6 @@ mod lines;
 #[cfg(test)]
 mod refusals;
 #[cfg(test)]
+mod refuse_lists;
+#[cfg(test)]
 mod statuses;

@@ -4,10 +4,10 @@ use relay_commands::lines::{LinesFault, lines};
 use relay_ndjson::{InputFault, LineKind};
 use std::alloc::{AllocError, Global};
 
-const TWO: &[u8] =
+pub const TWO: &[u8] =
     b"{\"index\":{\"_index\":\"books\",\"_id\":\"1\"}}\n{\"title\": \"Emma\"}\n{\"delete\":{\"_id\":\"2\",\"_index\":\"books\"}}\n";
 
-const TWO_LINES: &[u8] =
+pub const TWO_LINES: &[u8] =
     b"{\"index\":{\"_id\":\"1\",\"_index\":\"books\",\"version\":1,\"version_type\":\"external\"}}\n{\"title\": \"Emma\"}\n{\"delete\":{\"_id\":\"2\",\"_index\":\"books\",\"version\":2,\"version_type\":\"external\"}}\n";
 
 fn at(line: u64, kind: LineKind) -> Result<u64, LinesFault> {

@@ -1,77 +1,117 @@
-//! Lists of refusals, and what a script that one gives refuses.
-use relay_action::{ActionFault, DocKey};
+//! Commands over streams in memory, of whose allocations any one may be refused (`make refusals`): what went out is a front of
+//! what goes out without the refusal.
+use crate::{apply, lines};
+use relay_action::{Action, DocKey, MemStream, Write};
+use relay_commands::apply::{ApplyFault, apply};
+use relay_commands::lines::{LinesFault, lines};
+use relay_commands::outgoing::Outgoing;
 use relay_commands::refuse_list::{ListFault, refuse_list};
-use relay_index::{Index, Script};
-use std::alloc::Global;
+use relay_index::Script;
+use std::alloc::{AllocError, Global};
 
-const TWO: &[u8] =
-    b"{\"delete\":{\"_id\":\"1\",\"_index\":\"b\",\"version\":1,\"version_type\":\"external\"}}\n{\"delete\":{\"_id\":\"2\",\"_index\":\"b\",\"version\":2,\"version_type\":\"external\"}}\n";
-
-// After how many pairs the first stands that makes a text no list of refusals.
-fn blamed(alloc: Global, list: &str) -> Option<u64> {
-    match refuse_list(alloc, list) {
-        Err(ListFault::BadList { before }) => Some(before),
-        _ => None,
-    }
+fn stream_once(alloc: Global, input: &[u8]) -> Option<MemStream> {
+    MemStream::new(alloc, input.to_vec(alloc).ok()?, 1_000, 20, 0).ok()
 }
 
-const NO_LISTS: &[(&str, u64)] = &[
-    ("", 0),
-    (",", 0),
-    ("1", 0),
-    ("1:", 0),
-    (":429", 0),
-    ("1:429,", 1),
-    (",1:429", 0),
-    ("1:429,,2:429", 1),
-    ("1:429,2:503,3:404,4:1", 2),
-    ("0:429", 0),
-    ("1:399", 0),
-    ("1:404", 0),
-    ("1:409", 0),
-    ("1:600", 0),
-    ("+1:429", 0),
-    ("1:+429", 0),
-    (" 1:429", 0),
-    ("1:429 ", 0),
-    ("18446744073709551616:429", 0),
-];
+fn stream_of(alloc: Global, input: &[u8]) -> Option<MemStream> {
+    stream_once(alloc, input).or_else(|| stream_once(alloc, input))
+}
+
+// What `lines` answers for two operations, and what it wrote.
+fn lines_once(alloc: Global) -> Option<(Result<u64, LinesFault>, MemStream)> {
+    let mut reader = stream_of(alloc, lines::TWO)?;
+    let mut writer = stream_of(alloc, b"")?;
+    let found = lines(alloc, &mut reader, &mut writer, None, 1);
+    Some((found, writer))
+}
+
+// Whether two operations are written, by a second run if the first was refused when a front of them had gone out.
+fn writes_lines(alloc: Global) -> Option<bool> {
+    let (found, writer) = lines_once(alloc)?;
+    if found.is_ok() {
+        return Some(found == Ok(2) && writer.written() == lines::TWO_LINES);
+    }
+    let front = lines::TWO_LINES.starts_with(writer.written());
+    let (again, writer) = lines_once(alloc)?;
+    let whole = again == Ok(2) && writer.written() == lines::TWO_LINES;
+    Some(found == Err(LinesFault::Memory) && front && whole)
+}
 
 #[test]
-fn lists_that_are_none(rt: HostRuntime) {
-    for (list, before) in NO_LISTS {
-        assert!(rt; blamed(rt.alloc(), *list) == Some(*before), "{list}");
+fn refused_lines(rt: HostRuntime) {
+    assert!(rt; writes_lines(rt.alloc()) == Some(true));
+}
+
+fn script_of(alloc: Global) -> Option<Script> {
+    match refuse_list(alloc, "2:429,7:500") {
+        Err(ListFault::Memory) => refuse_list(alloc, "2:429,7:500").ok(),
+        made => made.ok(),
     }
 }
 
-// The version that an index stores of a document.
-fn version(alloc: Global, index: &Index, id: &str) -> Result<Option<u64>, ActionFault> {
-    let key = DocKey::new(alloc, "b", id)?;
-    Ok(index.version(&key))
+// What `apply` answers for a body whose second item is refused, and what it wrote.
+fn apply_once(alloc: Global) -> Option<(Result<(), ApplyFault>, MemStream)> {
+    let script = script_of(alloc)?;
+    let mut reader = stream_of(alloc, apply::TWO)?;
+    let mut writer = stream_of(alloc, b"")?;
+    let found = apply(alloc, &mut reader, &mut writer, script);
+    Some((found, writer))
 }
 
-// Whether an index runs the first of two writes under a script, and not the second.
-fn runs_the_first(alloc: Global, script: &mut Script) -> bool {
-    let mut index = Index::new(alloc);
-    index.serve_body(alloc, TWO, script).is_ok()
-        && version(alloc, &index, "1") == Ok(Some(1))
-        && version(alloc, &index, "2") == Ok(None)
+// Whether a body is served, by a second run if the first was refused before anything went out.
+fn applies(alloc: Global) -> Option<bool> {
+    let (found, writer) = apply_once(alloc)?;
+    if found.is_ok() {
+        return Some(writer.written() == apply::SECOND_REFUSED);
+    }
+    let refused = found == Err(ApplyFault::Memory) && writer.written().is_empty();
+    let (again, writer) = apply_once(alloc)?;
+    Some(refused && again.is_ok() && writer.written() == apply::SECOND_REFUSED)
 }
-
-const SECOND_REFUSED: &[&str] = &[
-    "2:429",
-    "0002:0429",
-    "2:400,2:429",
-    "3:503,2:429,18446744073709551615:599",
-];
 
 #[test]
-fn lists_of_refusals(rt: HostRuntime) {
-    for list in SECOND_REFUSED {
-        let found = refuse_list(rt.alloc(), *list).map(|mut script| runs_the_first(
-            rt.alloc(),
-            &mut script,
-        ));
-        assert!(rt; found == Ok(true), "{list}");
+fn refused_bodies(rt: HostRuntime) {
+    assert!(rt; applies(rt.alloc()) == Some(true));
+}
+
+fn write_once(alloc: Global) -> Option<Write> {
+    Some(Write {
+        key: DocKey::new(alloc, "b", "a document of more than thirty-eight bytes").ok()?,
+        version: 1,
+        action: Action::delete(),
+    })
+}
+
+fn adds(outgoing: &mut Outgoing, alloc: Global, write: &Write) -> bool {
+    match outgoing.add(alloc, write) {
+        Ok(()) => true,
+        Err(AllocError) => outgoing.add(alloc, write).is_ok(),
     }
+}
+
+fn adds_line(outgoing: &mut Outgoing, line: &[u8]) -> bool {
+    match outgoing.add_line(line) {
+        Ok(()) => true,
+        Err(AllocError) => outgoing.add_line(line).is_ok(),
+    }
+}
+
+const LINE: &[u8] =
+    b"a line of more bytes than the buffer had room for after the first write was added\n";
+
+const GATHERED: &[u8] =
+    b"{\"delete\":{\"_id\":\"a document of more than thirty-eight bytes\",\"_index\":\"b\",\"version\":1,\"version_type\":\"external\"}}\na line of more bytes than the buffer had room for after the first write was added\n";
+
+// Whether lines are gathered, each once, and go out.
+fn gathers(alloc: Global) -> Option<bool> {
+    let write = write_once(alloc).or_else(|| write_once(alloc))?;
+    let mut writer = stream_of(alloc, b"")?;
+    let mut outgoing = Outgoing::new(alloc);
+    let added = adds(&mut outgoing, alloc, &write) && adds_line(&mut outgoing, LINE);
+    Some(added && outgoing.flush(&mut writer).is_ok() && writer.written() == GATHERED)
+}
+
+#[test]
+fn refused_outgoing(rt: HostRuntime) {
+    assert!(rt; gathers(rt.alloc()) == Some(true));
 }

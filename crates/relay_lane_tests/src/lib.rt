@@ -12,6 +12,8 @@ mod losing;
 #[cfg(test)]
 mod many;
 #[cfg(test)]
+mod refusals;
+#[cfg(test)]
 mod telling;
 #[cfg(test)]
 mod wires;

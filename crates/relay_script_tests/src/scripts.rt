@@ -6,10 +6,10 @@ use relay_script::script::{ScriptFault, world_script};
 use std::alloc::Global;
 use std::test::Fail;
 
-const THREE_THEN_ONE: &[u8] =
+pub const THREE_THEN_ONE: &[u8] =
     b"world 1 1 10 10 10 4096 0 3 1 0 1000\nput 0 b 1 index {\"a\":1}\nput 0 b 2 index {\"a\":2}\nput 0 b 3 delete\ntake 0\ntake 0\ntake 0\nsend 0\nrun 1 1\nrun 1 2 429\nrun 1 3\nreply 1\nsend 0\ntick 0\ntake 0\nsend 0\nrun 2 1\nreply 2\nclose 0 0\nclose 1 0\ntake 0\ntake 0\n";
 
-const ITS_ANSWERS: &[u8] =
+pub const ITS_ANSWERS: &[u8] =
     b"ok 0:1\nok 0:2\nok 0:3\nok\nok\nok\nok 1 b/1@1 b/2@2 b/3@3\nok 201\nok 429\nok 404\nok 2 0 0 1\nno NoRequest\nok\nok\nok 2 b/2@2\nok 201\nok 1 0 0 0\nok\nok\nok\nok\naccepted 0 3\napplied b/1 1 0:1\napplied b/2 2 0:2\napplied b/3 3 0:3\nfinished yes\n";
 
 /// Whether a script in pieces of so many bytes is answered so, and this is written.

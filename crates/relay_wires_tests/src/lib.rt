@@ -21,6 +21,8 @@ mod loops;
 #[cfg(test)]
 mod places;
 #[cfg(test)]
+mod refusals;
+#[cfg(test)]
 mod replies;
 #[cfg(test)]
 mod several;

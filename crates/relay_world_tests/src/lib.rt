@@ -4,6 +4,8 @@
 #[cfg(test)]
 mod before;
 #[cfg(test)]
+mod causes;
+#[cfg(test)]
 mod many;
 #[cfg(test)]
 mod refusals;

@@ -1,75 +1,232 @@
-//! Each refusal of each event, in its order.
-use crate::script::{Row, Says, THREE, lasts};
+//! Events, of whose allocations any one may be refused (`make refusals`): the refusal changes nothing, and the event does its
+//! work when it comes again.
+use crate::script::{Given, Row, Says, THREE, accepts, ends_with, event_of, events_of, is_said};
+use crate::worked::{GIVEN_UP, THREE_THEN_ONE, TWO};
+use relay_action::{Action, DocKey};
 use relay_core::RelayConfig;
-use relay_world::Refusal;
-use std::test::Fail;
+use relay_index::Index;
+use relay_world::{Event, StepAnswer, World};
+use std::alloc::{AllocError, Global};
 
-const SMALL: RelayConfig = RelayConfig {
-    lanes: 2,
-    producers: 2,
-    capacity: 1,
-    ..THREE
-};
+fn world_of(alloc: Global, config: RelayConfig) -> Option<World> {
+    if !config.valid() {
+        return None;
+    }
+    match World::new(alloc, config, Index::new(alloc)) {
+        Ok(world) => Some(world),
+        Err(AllocError) => World::new(alloc, config, Index::new(alloc)).ok(),
+    }
+}
 
-/// Events of senders and lanes that there are not, without a place, and after a close.
-const OF_SENDERS: [(Row<'static>, Says); 22] = [
-    (Row::Put(2, "0", ""), Says::No(Refusal::NoSuch)),
-    (Row::Close(0, 2), Says::No(Refusal::NoSuch)),
-    (Row::Close(3, 0), Says::No(Refusal::NoSuch)),
-    (Row::Tick(2), Says::No(Refusal::NoSuch)),
-    (Row::Flush(2), Says::No(Refusal::NoSuch)),
-    (Row::Take(2), Says::No(Refusal::NoSuch)),
-    (Row::Send(2), Says::No(Refusal::NoSuch)),
-    (Row::Take(0), Says::No(Refusal::NothingQueued)),
-    (Row::Send(0), Says::No(Refusal::NoRequest)),
+/// A document of a long id, and one of a long source, in two requests, and a restart.
+const LONG: [(Row<'static>, Says); 21] = [
+    (
+        Row::Put(0, "a document of more than thirty-eight bytes", ""),
+        Says::Named(1),
+    ),
+    (
+        Row::Put(
+            0,
+            "1",
+            "{\"a\":\"a source of more than thirty-eight bytes\"}",
+        ),
+        Says::Named(2),
+    ),
+    (Row::Tick(0), Says::Ok),
     (Row::Flush(0), Says::Ok),
-    (Row::Tick(0), Says::No(Refusal::QueueFull)),
-    (Row::Flush(0), Says::No(Refusal::QueueFull)),
-    (Row::Close(0, 0), Says::No(Refusal::QueueFull)),
-    (Row::Close(0, 1), Says::Ok),
-    (Row::Close(0, 1), Says::No(Refusal::Closed)),
-    (Row::Put(0, "0", ""), Says::No(Refusal::Closed)),
-    (Row::Take(1), Says::Ok),
-    (Row::Close(2, 1), Says::Ok),
-    (Row::Tick(0), Says::No(Refusal::Closed)),
-    (Row::Flush(1), Says::No(Refusal::Closed)),
     (Row::Take(0), Says::Ok),
-    (Row::Close(2, 0), Says::Ok),
+    (Row::Take(0), Says::Ok),
+    (Row::Take(0), Says::Ok),
+    (Row::Take(0), Says::Ok),
+    (Row::Send(0), Says::Request(1)),
+    (Row::Run(1, 1), Says::Status(404)),
+    (Row::Refuse(1, 2, 429), Says::Status(429)),
+    (Row::Reply(1, &[1, 1]), Says::Counts([1, 0, 0, 1])),
+    (Row::Tick(0), Says::Ok),
+    (Row::Take(0), Says::Ok),
+    (Row::Send(0), Says::Request(2)),
+    (Row::Run(2, 1), Says::Status(201)),
+    (Row::Reply(2, &[]), Says::Counts([1, 0, 0, 0])),
+    (Row::Close(0, 0), Says::Ok),
+    (Row::Restart(1), Says::Ok),
+    (Row::Put(0, "1", "{}"), Says::Name(1, 0, 1)),
+    (Row::Take(0), Says::Ok),
 ];
 
+/// What is seen of a world: how much was accepted now and before the restart, reported and applied, under how many names, how
+/// many items were sent, and whether it is finished.
+type Seen = ([usize; 5], usize, bool);
+
+fn count_sent(world: &World) -> usize {
+    let mut count = 0usize;
+    for request in 1..4u64 {
+        for item in 1..4u64 {
+            if world.sent(request, item).is_some() {
+                count = count.saturating_add(1);
+            }
+        }
+    }
+    count
+}
+
+fn seen(world: &World, key: &DocKey) -> Seen {
+    let counts = [
+        world.accepted(0).len(),
+        world.accepted_in(0, 0).len(),
+        world.reports(0).len(),
+        world.applied(key).len(),
+        world.names(key).len(),
+    ];
+    (counts, count_sent(world), world.finished())
+}
+
+// Whether an event is answered as it is to be, by a second call if the first was refused and changed nothing.
+fn steps(world: &mut World, event: &Event, says: Says, key: &DocKey) -> bool {
+    let before = seen(world, key);
+    match world.step(event) {
+        Ok(answer) => is_said(answer, says),
+        Err(AllocError) => {
+            seen(world, key) == before
+                && world.step(event).is_ok_and(|answer| is_said(answer, says))
+        }
+    }
+}
+
+fn steps_through(
+    alloc: Global,
+    world: &mut World,
+    rows: &[(Row<'_>, Says)],
+    key: &DocKey,
+) -> Option<bool> {
+    let mut good = true;
+    for (row, says) in rows {
+        let event = event_of(alloc, row).or_else(|_| event_of(alloc, row)).ok()?;
+        good = steps(world, &event, *says, key) && good;
+    }
+    Some(good)
+}
+
+fn key_of(alloc: Global) -> Option<DocKey> {
+    DocKey::new(alloc, "b", "1")
+        .or_else(|_| DocKey::new(alloc, "b", "1"))
+        .ok()
+}
+
+fn keys_of(world: &World) -> Option<Vec<DocKey>> {
+    match world.keys() {
+        Ok(keys) => Some(keys),
+        Err(AllocError) => world.keys().ok(),
+    }
+}
+
+// Whether rows are answered as they are to be, and so many documents have writes then.
+fn steps_rows(alloc: Global, rows: &[(Row<'_>, Says)], documents: usize) -> Option<bool> {
+    let mut world = world_of(alloc, THREE)?;
+    let key = key_of(alloc)?;
+    let good = steps_through(alloc, &mut world, rows, &key)?;
+    let keys = keys_of(&world)?;
+    Some(good && keys.len() == documents && world.applied(&key).len() == 1)
+}
+
 #[test]
-fn of_senders(rt: HostRuntime) -> Result<(), Fail> {
-    assert!(rt; lasts(rt.alloc(), SMALL, &OF_SENDERS, &[], &[], false)?);
+fn refused_steps(rt: HostRuntime) {
+    assert!(rt; steps_rows(rt.alloc(), &LONG, 2) == Some(true));
+    assert!(rt; steps_rows(rt.alloc(), &THREE_THEN_ONE, 3) == Some(true));
+}
+
+// Runs events. If one is refused, they are taken up again at that one.
+fn runs(world: &mut World, events: &[Event]) -> Option<bool> {
+    match world.run(events) {
+        Ok(_) => Some(true),
+        Err((count, AllocError)) => {
+            let rest = events.get(count as usize..)?;
+            let end = world.run(rest).ok()?;
+            Some(end.done.saturating_add(end.refused) == rest.len() as u64)
+        }
+    }
+}
+
+// Whether the events of rows leave a world with so many accepted, and these documents and reports.
+fn runs_rows(
+    alloc: Global,
+    config: RelayConfig,
+    rows: &[(Row<'_>, Says)],
+    accepted: usize,
+    applied: &[(&str, &[u64])],
+    reports: &[Given],
+    finished: bool,
+) -> Option<bool> {
+    let events = events_of(alloc, rows)
+        .or_else(|_| events_of(alloc, rows))
+        .ok()?;
+    let mut world = world_of(alloc, config)?;
+    let good = runs(&mut world, events.as_slice())?;
+    let ends = ends_with(alloc, &world, applied, reports, finished).ok()?;
+    Some(good && ends && world.accepted(0).len() == accepted)
+}
+
+#[test]
+fn refused_schedules(rt: HostRuntime) {
+    let ends: [(&str, &[u64]); 3] = [("1", &[1]), ("2", &[2]), ("3", &[3])];
+    assert!(rt; runs_rows(rt.alloc(), THREE, &THREE_THEN_ONE, 3, &ends, &[], true) == Some(true));
+    let reports = [Given::GaveUp(1, 2)];
+    assert!(rt;
+        runs_rows(
+            rt.alloc(),
+            TWO,
+            &GIVEN_UP,
+            2,
+            &[("1", &[1, 2])],
+            &reports,
+            false
+        ) == Some(true)
+    );
+}
+
+/// A producer puts a delete of a document.
+fn puts(alloc: Global, world: &mut World, id: &str) -> Result<(), AllocError> {
+    let key = DocKey::new(alloc, "b", id).map_err(|_| AllocError)?;
+    world.step(&Event::Put(0, key, Action::delete()))?;
     Ok(())
 }
 
-/// Events of requests that were not sent, do not fly any more, or have no such item.
-const OF_REQUESTS: [(Row<'static>, Says); 21] = [
-    (Row::Run(1, 1), Says::No(Refusal::NotSent)),
-    (Row::Reply(1, &[]), Says::No(Refusal::NotSent)),
-    (Row::Whole(1, 200), Says::No(Refusal::NotSent)),
-    (Row::Lost(1), Says::No(Refusal::NotSent)),
-    (Row::Put(0, "1", ""), Says::Named(1)),
-    (Row::Take(0), Says::Ok),
-    (Row::Send(0), Says::Request(1)),
-    (Row::Run(0, 1), Says::No(Refusal::NotSent)),
-    (Row::Run(1, 0), Says::No(Refusal::NotSent)),
-    (Row::Run(1, 2), Says::No(Refusal::NotSent)),
-    (Row::Refuse(1, 2, 409), Says::No(Refusal::NotSent)),
-    (Row::Refuse(1, 1, 399), Says::No(Refusal::BadStatus)),
-    (Row::Refuse(1, 1, 404), Says::No(Refusal::BadStatus)),
-    (Row::Refuse(1, 1, 600), Says::No(Refusal::BadStatus)),
-    (Row::Lost(0), Says::No(Refusal::NotSent)),
-    (Row::Lost(2), Says::No(Refusal::NotSent)),
-    (Row::Lost(1), Says::Counts([0, 0, 0, 1])),
-    (Row::Lost(1), Says::No(Refusal::NotFlying)),
-    (Row::Whole(1, 200), Says::No(Refusal::NotFlying)),
-    (Row::Reply(1, &[7, 7]), Says::No(Refusal::NotFlying)),
-    (Row::Run(1, 1), Says::Status(404)),
-];
+/// A world with two operations of producer 0, of which one is in flight and one queued.
+fn in_flight(alloc: Global) -> Result<Option<World>, AllocError> {
+    if !THREE.valid() {
+        return Ok(None);
+    }
+    let mut world = World::new(alloc, THREE, Index::new(alloc))?;
+    puts(alloc, &mut world, "1")?;
+    puts(alloc, &mut world, "2")?;
+    world.step(&Event::Take(0))?;
+    world.step(&Event::Send(0))?;
+    Ok(Some(world))
+}
 
+/// Whether a world is that one.
+fn is_in_flight(world: &World) -> bool {
+    world.accepted(0).len() == 2
+        && world.accepted_in(1, 0).is_empty()
+        && world.sent(1, 1).is_some()
+        && world.sent(1, 2).is_none()
+}
+
+/// Whether that world is restarted in epoch 1, or memory was refused to it and it is as it was.
+fn restarts_or_stays(world: &mut World) -> bool {
+    match world.step(&Event::Restart(1)) {
+        Ok(answer) => {
+            answer == StepAnswer::Done
+                && world.accepted(0).is_empty()
+                && world.accepted_in(0, 0).len() == 2
+        }
+        Err(_) => is_in_flight(world) && accepts(world, &Event::Take(0)),
+    }
+}
+
+// One that is refused before the restart ends the test.
 #[test]
-fn of_requests(rt: HostRuntime) -> Result<(), Fail> {
-    assert!(rt; lasts(rt.alloc(), THREE, &OF_REQUESTS, &[("1", &[1])], &[], false)?);
-    Ok(())
+fn restart_out_of_memory(rt: HostRuntime) {
+    if let Ok(Some(mut world)) = in_flight(rt.alloc()) {
+        assert!(rt; restarts_or_stays(&mut world));
+    }
 }

@@ -1,10 +1,9 @@
 //! Epochs: restarts, what is left of earlier incarnations, and the last version of an epoch.
-use crate::script::{Given, Name, Row, Says, THREE, accepts, is_given, is_named, played, world_of};
-use relay_action::{Action, DocKey, Op};
+use crate::script::{Given, Name, Row, Says, THREE, is_given, is_named, played, world_of};
+use relay_action::{DocKey, Op};
 use relay_core::RelayConfig;
-use relay_index::Index;
-use relay_world::{Event, Refusal, StepAnswer, World};
-use std::alloc::{AllocError, Global};
+use relay_world::{Refusal, World};
+use std::alloc::Global;
 use std::test::Fail;
 
 /// A write that was applied: its version, and the name of its operation.
@@ -309,55 +308,6 @@ fn restarts_two_lanes(alloc: Global) -> Result<bool, Fail> {
 #[test]
 fn two_lanes_and_producers(rt: HostRuntime) -> Result<(), Fail> {
     assert!(rt; restarts_two_lanes(rt.alloc())?);
-    Ok(())
-}
-
-/// A producer puts a delete of a document.
-fn puts(alloc: Global, world: &mut World, id: &str) -> Result<(), AllocError> {
-    let key = DocKey::new(alloc, "b", id).map_err(|_| AllocError)?;
-    world.step(&Event::Put(0, key, Action::delete()))?;
-    Ok(())
-}
-
-/// A world with two operations of producer 0, of which one is in flight and one queued.
-fn in_flight(alloc: Global) -> Result<Option<World>, AllocError> {
-    if !THREE.valid() {
-        return Ok(None);
-    }
-    let mut world = World::new(alloc, THREE, Index::new(alloc))?;
-    puts(alloc, &mut world, "1")?;
-    puts(alloc, &mut world, "2")?;
-    world.step(&Event::Take(0))?;
-    world.step(&Event::Send(0))?;
-    Ok(Some(world))
-}
-
-/// Whether a world is that one.
-fn is_in_flight(world: &World) -> bool {
-    world.accepted(0).len() == 2
-        && world.accepted_in(1, 0).is_empty()
-        && world.sent(1, 1).is_some()
-        && world.sent(1, 2).is_none()
-}
-
-/// Whether that world is restarted in epoch 1, or memory was refused to it and it is as it was.
-fn restarts_or_stays(world: &mut World) -> bool {
-    match world.step(&Event::Restart(1)) {
-        Ok(answer) => {
-            answer == StepAnswer::Done
-                && world.accepted(0).is_empty()
-                && world.accepted_in(0, 0).len() == 2
-        }
-        Err(_) => is_in_flight(world) && accepts(world, &Event::Take(0)),
-    }
-}
-
-// Whichever single allocation is refused: `rt try --test --fail-alloc N`. One before the restart ends the test.
-#[test]
-fn restart_out_of_memory(rt: HostRuntime) -> Result<(), Fail> {
-    if let Ok(Some(mut world)) = in_flight(rt.alloc()) {
-        assert!(rt; restarts_or_stays(&mut world));
-    }
     Ok(())
 }
 

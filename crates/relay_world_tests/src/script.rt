@@ -1,5 +1,5 @@
 //! Event lists with what each event answers, as rows, and the world that they are played on.
-use relay_action::{Action, DocKey, List, OpName};
+use relay_action::{Action, ActionFault, DocKey, List, OpName};
 use relay_batch::Limits;
 use relay_core::{Cause, RelayConfig, Report, Settled};
 use relay_index::{Choice, Index};
@@ -58,7 +58,7 @@ pub enum Says {
     Ok,
 }
 
-fn put_of(alloc: Global, producer: u32, id: &str, source: &str) -> Result<Event, Fail> {
+fn put_of(alloc: Global, producer: u32, id: &str, source: &str) -> Result<Event, ActionFault> {
     let key = DocKey::new(alloc, "b", id)?;
     let action = if source.is_empty() {
         Action::delete()
@@ -69,7 +69,7 @@ fn put_of(alloc: Global, producer: u32, id: &str, source: &str) -> Result<Event,
 }
 
 /// The event of a row.
-fn event_of(alloc: Global, row: &Row<'_>) -> Result<Event, Fail> {
+pub fn event_of(alloc: Global, row: &Row<'_>) -> Result<Event, ActionFault> {
     Ok(match *row {
         Row::Put(producer, id, source) => put_of(alloc, producer, id, source)?,
         Row::Close(sender, lane) => Event::Close(sender, lane),
@@ -81,7 +81,7 @@ fn event_of(alloc: Global, row: &Row<'_>) -> Result<Event, Fail> {
         Row::Refuse(request, item, status) => Event::Run(request, item, Choice::Refuse(status)),
         Row::Reply(request, picks) => Event::Reply(
             request,
-            List::of(Vec::from_slice(alloc, picks)?),
+            List::of(Vec::from_slice(alloc, picks).map_err(|_| ActionFault::Memory)?),
         ),
         Row::Whole(request, status) => Event::Whole(request, status),
         Row::Lost(request) => Event::Lost(request),
@@ -104,7 +104,7 @@ fn counts_of(settled: Settled) -> [u32; 4] {
 }
 
 /// Whether an answer is the one that a row says.
-fn is_said(answer: StepAnswer, says: Says) -> bool {
+pub fn is_said(answer: StepAnswer, says: Says) -> bool {
     match (answer, says) {
         (StepAnswer::Refused(refusal), Says::No(wanted)) => refusal == wanted,
         (StepAnswer::Put(name), Says::Named(number)) => is_named(name, (0, 0, number)),
@@ -179,7 +179,12 @@ pub fn is_given(report: &Report, given: Given) -> bool {
 }
 
 /// Whether a document has writes of these operations, by their numbers.
-fn has_applied(alloc: Global, world: &World, id: &str, numbers: &[u64]) -> Result<bool, Fail> {
+fn has_applied(
+    alloc: Global,
+    world: &World,
+    id: &str,
+    numbers: &[u64],
+) -> Result<bool, ActionFault> {
     let key = DocKey::new(alloc, "b", id)?;
     let names = world.names(&key);
     let same = names.len() == numbers.len()
@@ -189,13 +194,13 @@ fn has_applied(alloc: Global, world: &World, id: &str, numbers: &[u64]) -> Resul
 
 /// Whether a world has these documents with these operations applied, these reports of lane 0, and is finished
 /// or not.
-fn ends_with(
+pub fn ends_with(
     alloc: Global,
     world: &World,
     applied: &[(&str, &[u64])],
     reports: &[Given],
     finished: bool,
-) -> Result<bool, Fail> {
+) -> Result<bool, ActionFault> {
     let mut good = world.finished() == finished && world.reports(0).len() == reports.len();
     for (id, numbers) in applied {
         good = good && has_applied(alloc, world, id, numbers)?;
@@ -246,10 +251,11 @@ pub fn lasts_with<'a>(
 }
 
 /// The events of rows.
-fn events_of(alloc: Global, rows: &[(Row<'_>, Says)]) -> Result<Vec<Event>, Fail> {
-    let mut events = Vec::with_capacity(alloc, rows.len())?;
+pub fn events_of(alloc: Global, rows: &[(Row<'_>, Says)]) -> Result<Vec<Event>, ActionFault> {
+    let mut events = Vec::with_capacity(alloc, rows.len()).map_err(|_| ActionFault::Memory)?;
     for (row, _) in rows {
-        events.push(event_of(alloc, row)?)?;
+        let event = event_of(alloc, row)?;
+        events.push(event).map_err(|_| ActionFault::Memory)?;
     }
     Ok(events)
 }

@@ -4,13 +4,13 @@ use relay_core::RelayConfig;
 use relay_world::Refusal;
 use std::test::Fail;
 
-const TWO: RelayConfig = RelayConfig {
+pub const TWO: RelayConfig = RelayConfig {
     attempts: 2,
     ..THREE
 };
 
 /// Three operations in one request, of which the second is refused, and sent once more.
-const THREE_THEN_ONE: [(Row<'static>, Says); 21] = [
+pub const THREE_THEN_ONE: [(Row<'static>, Says); 21] = [
     (Row::Put(0, "1", "{\"a\":1}"), Says::Named(1)),
     (Row::Put(0, "2", "{\"a\":2}"), Says::Named(2)),
     (Row::Put(0, "3", ""), Says::Named(3)),
@@ -142,32 +142,35 @@ fn picks(rt: HostRuntime) -> Result<(), Fail> {
     Ok(())
 }
 
+/// An operation that was given up is applied all the same, before the next one of its document.
+pub const GIVEN_UP: [(Row<'static>, Says); 15] = [
+    (Row::Put(0, "1", "{\"a\":1}"), Says::Named(1)),
+    (Row::Take(0), Says::Ok),
+    (Row::Send(0), Says::Request(1)),
+    (Row::Lost(1), Says::Counts([0, 0, 0, 1])),
+    (Row::Tick(0), Says::Ok),
+    (Row::Take(0), Says::Ok),
+    (Row::Send(0), Says::Request(2)),
+    (Row::Lost(2), Says::Counts([0, 0, 1, 0])),
+    (Row::Put(0, "1", ""), Says::Named(2)),
+    (Row::Take(0), Says::Ok),
+    (Row::Run(1, 1), Says::Status(201)),
+    (Row::Send(0), Says::Request(3)),
+    (Row::Run(3, 1), Says::Status(200)),
+    (Row::Run(2, 1), Says::Status(409)),
+    (Row::Reply(3, &[]), Says::Counts([1, 0, 0, 0])),
+];
+
 #[test]
 fn given_up_and_applied(rt: HostRuntime) -> Result<(), Fail> {
-    let rows = [
-        SENT[0],
-        SENT[1],
-        SENT[2],
-        (Row::Lost(1), Says::Counts([0, 0, 0, 1])),
-        (Row::Tick(0), Says::Ok),
-        (Row::Take(0), Says::Ok),
-        (Row::Send(0), Says::Request(2)),
-        (Row::Lost(2), Says::Counts([0, 0, 1, 0])),
-        (Row::Put(0, "1", ""), Says::Named(2)),
-        (Row::Take(0), Says::Ok),
-        (Row::Run(1, 1), Says::Status(201)),
-        (Row::Send(0), Says::Request(3)),
-        (Row::Run(3, 1), Says::Status(200)),
-        (Row::Run(2, 1), Says::Status(409)),
-        (Row::Reply(3, &[]), Says::Counts([1, 0, 0, 0])),
-    ];
+    let reports = [Given::GaveUp(1, 2)];
     assert!(rt;
         lasts(
             rt.alloc(),
             TWO,
-            &rows,
+            &GIVEN_UP,
             &[("1", &[1, 2])],
-            &[Given::GaveUp(1, 2)],
+            &reports,
             false
         )?
     );

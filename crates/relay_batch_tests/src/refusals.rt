@@ -1,0 +1,58 @@
+//! Offers, of whose allocations any one may be refused (`make refusals`).
+use relay_action::OpName;
+use relay_batch::{BatchItem, Batcher, Limits, Offer};
+use std::alloc::AllocError;
+
+fn item(doc: u64) -> BatchItem {
+    BatchItem {
+        name: OpName {
+            epoch: 0,
+            producer: 0,
+            number: doc,
+        },
+        doc,
+        version: doc,
+        bytes: 10,
+        cap: 100,
+        taken_at: 0,
+    }
+}
+
+const LIMITS: Limits = Limits {
+    count: 100,
+    bytes: 1_000_000,
+    linger: 0,
+};
+
+// Whether an item is added. If it is refused, nothing was added, and it is when it is offered again.
+fn adds(batcher: &mut Batcher, doc: u64) -> bool {
+    let room = batcher.room();
+    match batcher.offer(item(doc)) {
+        Ok(answer) => answer == Offer::Added,
+        Err(AllocError) => {
+            batcher.room() == room && batcher.offer(item(doc)) == Ok(Offer::Added)
+        }
+    }
+}
+
+// The documents of the batch are those of the items, in their order.
+fn are_documents(batcher: Batcher, count: u64) -> bool {
+    let Some(batch) = batcher.close() else {
+        return false;
+    };
+    let same = batch
+        .items()
+        .iter()
+        .zip(0..count)
+        .all(|(found, doc)| found.doc == doc);
+    same && batch.items().len() as u64 == count
+}
+
+#[test]
+fn refused_offers(rt: HostRuntime) {
+    let mut batcher = Batcher::new(rt.alloc(), LIMITS);
+    for doc in 0..40u64 {
+        assert!(rt; adds(&mut batcher, doc));
+    }
+    assert!(rt; are_documents(batcher, 40));
+}

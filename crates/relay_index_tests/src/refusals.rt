@@ -1,0 +1,141 @@
+//! Calls of the index, of whose allocations any one may be refused (`make refusals`): the refusal says what was run, and the
+//! call does its work when it is made again.
+use relay_action::{Action, DocKey, Write};
+use relay_index::{Choice, Index, Script};
+use std::alloc::{AllocError, Global};
+
+/// Ids and sources longer than what a value holds by itself.
+const IDS: [&str; 3] = [
+    "the first document of more than thirty-eight bytes",
+    "the second document of more than thirty-eight bytes",
+    "the third document of more than thirty-eight bytes",
+];
+
+fn write_once(alloc: Global, id: &str, version: u64) -> Option<Write> {
+    Some(Write {
+        key: DocKey::new(alloc, "books", id).ok()?,
+        version,
+        action: Action::index(alloc, id).ok()?,
+    })
+}
+
+fn write_of(alloc: Global, id: &str, version: u64) -> Option<Write> {
+    write_once(alloc, id, version).or_else(|| write_once(alloc, id, version))
+}
+
+// Whether a write is applied, by a second call if the first was refused and left the index as it was.
+fn applies(index: &mut Index, write: &Write) -> bool {
+    let (highest, count) = (index.highest(), index.applied(&write.key).len());
+    match index.run(write, Choice::Run) {
+        Ok(done) => done.status < 300,
+        Err(AllocError) => {
+            index.highest() == highest
+                && index.applied(&write.key).len() == count
+                && index
+                    .run(write, Choice::Run)
+                    .is_ok_and(|done| done.status < 300)
+        }
+    }
+}
+
+// Writes each document twice, each time under a higher version.
+fn fills(alloc: Global, index: &mut Index) -> Option<bool> {
+    let mut version = 0u64;
+    let mut good = true;
+    for _ in 0..2u64 {
+        for id in IDS {
+            version = version.saturating_add(1);
+            good = applies(index, &write_of(alloc, id, version)?) && good;
+        }
+    }
+    Some(good)
+}
+
+// Whether each document has two writes, the last of them under one of the last three versions.
+fn is_filled(index: &Index, keys: &[DocKey]) -> bool {
+    let same = keys.iter().all(|key| index.applied(key).len() == 2
+        && index.version(key).is_some_and(|version| version > 3)
+        && index.source(key) == Some(key.id()));
+    same && keys.len() == 3
+}
+
+fn keys_of(alloc: Global, index: &Index) -> Option<Vec<DocKey>> {
+    match index.keys(alloc) {
+        Ok(keys) => Some(keys),
+        Err(AllocError) => index.keys(alloc).ok(),
+    }
+}
+
+fn runs(alloc: Global) -> Option<bool> {
+    let mut index = Index::new(alloc);
+    let good = fills(alloc, &mut index)?;
+    let keys = keys_of(alloc, &index)?;
+    Some(good && is_filled(&index, &keys))
+}
+
+#[test]
+fn refused_runs(rt: HostRuntime) {
+    assert!(rt; runs(rt.alloc()) == Some(true));
+}
+
+// A refusal of an item, noted by a second call if the first was refused.
+fn notes(script: &mut Script, place: u64) -> bool {
+    match script.refuse(place, 429) {
+        Ok(()) => true,
+        Err(AllocError) => script.refuse(place, 429).is_ok(),
+    }
+}
+
+const BODY: &str =
+    "{\"index\":{\"_index\":\"books\",\"_id\":\"the first document of more than thirty-eight bytes\",\"version\":1,\"version_type\":\"external\"}}\n{\"a\":\"a source of more than thirty-eight bytes\"}\n{\"index\":{\"_id\":\"the second document of more than thirty-eight bytes\",\"_index\":\"books\",\"version\":2,\"version_type\":\"external\"}}\n{\"a\":\"a source of more than thirty-eight bytes\"}\n{\"delete\":{\"_id\":\"the third document of more than thirty-eight \\\"bytes\\\"\",\"_index\":\"books\",\"version\":3,\"version_type\":\"external\"}}\n";
+
+// How many writes an index applied.
+fn count(alloc: Global, index: &Index) -> Option<u64> {
+    let mut count = 0u64;
+    for key in &index.keys(alloc).ok()? {
+        count = count.saturating_add(index.applied(key).len() as u64);
+    }
+    Some(count)
+}
+
+// Whether a body is served with this status. If there was no memory, as many items were run as the fault says, and none of
+// them is applied again by the second call.
+fn serves(alloc: Global, body: &str, status: u16, applied: u64) -> Option<bool> {
+    let mut index = Index::new(alloc);
+    let mut script = Script::new(alloc);
+    let good = match index.serve_body(alloc, body.as_bytes(), &mut script) {
+        Ok(answer) => answer.0 == status,
+        Err(fault) => {
+            count(alloc, &index)? == fault.ran
+                && index
+                    .serve_body(alloc, body.as_bytes(), &mut script)
+                    .is_ok_and(|answer| answer.0 == status)
+        }
+    };
+    Some(good && count(alloc, &index).or_else(|| count(alloc, &index))? == applied)
+}
+
+#[test]
+fn refused_bodies(rt: HostRuntime) {
+    for (body, status, applied) in [(BODY, 200, 3), ("{\"index\":7}\n", 400, 0)] {
+        assert!(rt; serves(rt.alloc(), body, status, applied) == Some(true));
+    }
+}
+
+// Whether the items that a script refuses are not applied, and the others are.
+fn serves_others(alloc: Global) -> Option<bool> {
+    let mut index = Index::new(alloc);
+    let mut script = Script::new(alloc);
+    let mut good = true;
+    for place in 2..40u64 {
+        good = notes(&mut script, place) && good;
+    }
+    let fault = index.serve_body(alloc, BODY.as_bytes(), &mut script).err();
+    let ran = fault.map_or(3, |fault| fault.ran);
+    Some(good && count(alloc, &index).or_else(|| count(alloc, &index))? == ran.min(1))
+}
+
+#[test]
+fn refused_scripts(rt: HostRuntime) {
+    assert!(rt; serves_others(rt.alloc()) == Some(true));
+}

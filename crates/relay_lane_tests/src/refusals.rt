@@ -1,0 +1,131 @@
+//! A lane at work, of whose allocations any one may be refused (`make refusals`): the call is made again, and the work goes on.
+ghost use Rattle.relay_lane.specs.Out.{out_of};
+ghost use Rattle.std.specs.Option.{option_to_list};
+ghost use Rattle.std.specs.Prelude.{◌≡◌, [], IfSome};
+
+use crate::desk::{CONFIG, Desk, NO_PAUSES, closes, desk_of, puts};
+use crate::wires::{IndexWire, Way, wire_of};
+use relay_action::DocKey;
+use relay_index::Index;
+use relay_lane::{Lane, RelayConfig, drain, make_room, pump};
+use std::alloc::{AllocError, Global};
+
+/// Room for the three operations, and no more.
+const SMALL: RelayConfig = RelayConfig {
+    max_held: 3,
+    ..CONFIG
+};
+
+/// Ids and sources longer than what a value holds by itself.
+const IDS: [&str; 4] = [
+    "the first document of more than thirty-eight bytes",
+    "the second document of more than thirty-eight bytes",
+    "the third document of more than thirty-eight bytes",
+    "the fourth document of more than thirty-eight bytes",
+];
+
+// A desk whose lane holds the first three operations.
+fn desk_once(alloc: Global) -> Option<Desk>
+    ensures { IfSome result (λ d. out_of d.lane.state ≡ []) }
+{
+    let mut desk = desk_of(alloc, SMALL)?;
+    let held = puts(alloc, &mut desk, 1, IDS[0], IDS[0])
+        && puts(alloc, &mut desk, 2, IDS[1], IDS[1])
+        && puts(alloc, &mut desk, 3, IDS[2], IDS[2]);
+    if held { Some(desk) } else { None }
+}
+
+// The same, made again if an allocation is refused.
+fn made_again(alloc: Global) -> Option<Desk>
+    ensures { IfSome result (λ d. out_of d.lane.state ≡ []) }
+{
+    match desk_once(alloc) {
+        Some(desk) => Some(desk),
+        None => desk_once(alloc),
+    }
+}
+
+// Sends what is ready, by a second call if the first was refused and left the lane as it was.
+fn pumps(lane: &mut Lane, wire: &mut IndexWire) -> bool
+    requires { option_to_list wire.old.flying ≡ out_of lane.old.state }
+    ensures { option_to_list wire.new.flying ≡ out_of lane.new.state }
+{
+    let (held, totals) = (lane.held(), lane.totals());
+    match pump(lane, wire) {
+        Ok(sent) => sent == 1,
+        Err(AllocError) => {
+            lane.held() == held && lane.totals() == totals && pump(lane, wire) == Ok(1)
+        }
+    }
+}
+
+// Makes room for an operation, by a second call if the first was refused.
+fn makes_room(lane: &mut Lane, wire: &mut IndexWire) -> bool
+    requires { option_to_list wire.old.flying ≡ out_of lane.old.state }
+    ensures { option_to_list wire.new.flying ≡ out_of lane.new.state }
+{
+    let mut pace = NO_PAUSES;
+    match make_room(lane, wire, &mut pace) {
+        Ok(()) => lane.held() < 3,
+        Err(AllocError) => lane.held() == 3 && make_room(lane, wire, &mut pace).is_ok(),
+    }
+}
+
+// Empties a closed lane, by a second call if the first was refused.
+fn drains(lane: &mut Lane, wire: &mut IndexWire) -> bool
+    requires { option_to_list wire.old.flying ≡ out_of lane.old.state }
+    ensures { option_to_list wire.new.flying ≡ out_of lane.new.state }
+{
+    let mut pace = NO_PAUSES;
+    if !lane.closed() {
+        return false;
+    }
+    match drain(lane, wire, &mut pace) {
+        Ok(()) => true,
+        Err(AllocError) => {
+            lane.held() > 0 && lane.closed() && drain(lane, wire, &mut pace).is_ok()
+        }
+    }
+}
+
+// Whether the index applied one write to each document.
+fn is_whole(alloc: Global, index: &Index) -> Option<bool> {
+    let mut good = true;
+    for id in IDS {
+        let key = DocKey::new(alloc, "b", id)
+            .or_else(|_| DocKey::new(alloc, "b", id))
+            .ok()?;
+        good = index.applied(&key).len() == 1 && good;
+    }
+    Some(good)
+}
+
+// Puts the fourth operation, by a second call if the first was refused.
+fn puts_fourth(alloc: Global, desk: &mut Desk) -> bool
+    ensures { out_of desk.new.lane.state ≡ out_of desk.old.lane.state }
+{
+    puts(alloc, desk, 4, IDS[3], IDS[3]) || puts(alloc, desk, 4, IDS[3], IDS[3])
+}
+
+fn works(alloc: Global) -> Option<bool> {
+    let mut desk = made_again(alloc)?;
+    let mut wire = wire_of(alloc, Way::Runs);
+    let good = pumps(&mut desk.lane, &mut wire)
+        && makes_room(&mut desk.lane, &mut wire)
+        && puts_fourth(alloc, &mut desk)
+        && closes(&mut desk)
+        && drains(&mut desk.lane, &mut wire);
+    let totals = desk.lane.totals();
+    let settled = totals.applied.saturating_add(totals.already);
+    Some(
+        good && settled == 4
+            && desk.lane.held() == 0
+            && desk.lane.reports().is_empty()
+            && is_whole(alloc, &wire.index)?,
+    )
+}
+
+#[test]
+fn refused_turns(rt: HostRuntime) {
+    assert!(rt; works(rt.alloc()) == Some(true));
+}

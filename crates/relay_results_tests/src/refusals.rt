@@ -1,0 +1,88 @@
+//! Replies, of whose allocations any one may be refused (`make refusals`): the refusal is told, and the call does its work when
+//! it is made again.
+use relay_action::{ActionKind, DocKey};
+use relay_results::{DoneResult, ItemDone, Outcome, ReplyFault, read_reply, write_reply};
+use std::alloc::{AllocError, Global};
+
+const ID: &str = "an id with a \"quote\", of more than thirty-eight bytes";
+
+const REPLY: &str =
+    "{\"errors\":true,\"items\":[{\"index\":{\"_id\":\"an id with a \\\"quote\\\", of more than thirty-eight bytes\",\"_index\":\"books\",\"_seq_no\":7,\"_version\":9,\"result\":\"created\",\"status\":201}},{\"index\":{\"_id\":\"an id with a \\\"quote\\\", of more than thirty-eight bytes\",\"_index\":\"books\",\"error\":{\"type\":\"version_conflict_engine_exception\"},\"status\":409}}],\"took\":1}";
+
+/// The usual form, in which every action was applied.
+const USUAL: &str =
+    "{\"took\":3,\"errors\":false,\"items\":[{\"index\":{\"_index\":\"books\",\"_id\":\"an id without any quotes, of more than thirty-eight bytes\",\"_version\":9,\"result\":\"created\",\"_shards\":{\"total\":2,\"successful\":1,\"failed\":0},\"_seq_no\":7,\"_primary_term\":1,\"status\":201}}]}";
+
+fn key_of(alloc: Global) -> Option<DocKey> {
+    DocKey::new(alloc, "books", ID)
+        .or_else(|_| DocKey::new(alloc, "books", ID))
+        .ok()
+}
+
+fn item(alloc: Global, status: u16, became: DoneResult) -> Option<ItemDone> {
+    Some(ItemDone {
+        key: key_of(alloc)?,
+        kind: ActionKind::Index,
+        status,
+        result: became,
+        version: 9,
+        seq: 7,
+    })
+}
+
+fn is_outcome(outcome: &Outcome, status: u16, has_error: bool) -> bool {
+    outcome.id.as_str() == ID && outcome.status == status && outcome.error.is_some() == has_error
+}
+
+fn outcome_of(alloc: Global, item: &ItemDone) -> Option<Outcome> {
+    match item.outcome(alloc) {
+        Ok(outcome) => Some(outcome),
+        Err(AllocError) => item.outcome(alloc).ok(),
+    }
+}
+
+fn written(alloc: Global, items: &[ItemDone]) -> Option<String> {
+    match write_reply(alloc, 1, items) {
+        Ok(reply) => Some(reply),
+        Err(AllocError) => write_reply(alloc, 1, items).ok(),
+    }
+}
+
+fn are_written(alloc: Global) -> Option<bool> {
+    let items = [
+        item(alloc, 201, DoneResult::Created)?,
+        item(alloc, 409, DoneResult::Conflict)?,
+    ];
+    let reply = written(alloc, items.as_slice())?;
+    let outcome = outcome_of(alloc, &items[1])?;
+    Some(reply.as_str() == REPLY && is_outcome(&outcome, 409, true))
+}
+
+#[test]
+fn refused_items(rt: HostRuntime) {
+    assert!(rt; are_written(rt.alloc()) == Some(true));
+}
+
+fn outcomes_of(alloc: Global, text: &str) -> Option<Vec<Outcome>> {
+    match read_reply(alloc, text.as_bytes()) {
+        Err(ReplyFault::Memory) => read_reply(alloc, text.as_bytes()).ok(),
+        read => read.ok(),
+    }
+}
+
+fn are_read(outcomes: &[Outcome]) -> bool {
+    match outcomes {
+        [one, other] => is_outcome(one, 201, false) && is_outcome(other, 409, true),
+        [one] => one.status == 201
+            && one.id.as_str().starts_with("an id without")
+            && one.error.is_none(),
+        _ => false,
+    }
+}
+
+#[test]
+fn refused_replies(rt: HostRuntime) {
+    for text in [REPLY, USUAL] {
+        assert!(rt; outcomes_of(rt.alloc(), text).is_some_and(|outcomes| are_read(&outcomes)));
+    }
+}

@@ -1,0 +1,202 @@
+//! Wires, and a lane that is drained over one, of whose allocations any one may be refused (`make refusals`). A refusal inside a
+//! wire is a lost request.
+ghost use Rattle.std.specs.Prelude.{◌≡◌, ◌≤◌, [], length, IfSome};
+ghost use Rattle.relay_lane.specs.Out.{out_of};
+ghost use Rattle.relay_ndjson.specs.Bodies.{AreDealt};
+ghost use Rattle.relay_ndjson.specs.Bulk.{text_of};
+ghost use Rattle.relay_wires.specs.Numbered.{numbers};
+
+use crate::desk::{CONFIG, Desk, NO_PAUSES, closes, with_deletes};
+use crate::streams::{Wired, wired};
+use relay_action::{Action, DocKey, Write};
+use relay_index::{Index, Script};
+use relay_lane::{Wire, WireFault, WireReply, drain};
+use relay_ndjson::bulk_len;
+use relay_wires::LoopWire;
+use std::alloc::{AllocError, Global};
+
+// A wire round an empty index that loses the reply to one number; 0: none.
+fn loop_once(alloc: Global, lost: u64) -> Option<LoopWire>
+    ensures { IfSome result (λ w. w.out ≡ []) }
+{
+    let mut wire = LoopWire::new(alloc, Index::new(alloc), Script::new(alloc)).ok()?;
+    match wire.lose(lost) {
+        Ok(()) => Some(wire),
+        Err(AllocError) => {
+            wire.lose(lost).ok()?;
+            Some(wire)
+        }
+    }
+}
+
+fn loop_wire(alloc: Global, lost: u64) -> Option<LoopWire>
+    ensures { IfSome result (λ w. w.out ≡ []) }
+{
+    match loop_once(alloc, lost) {
+        Some(wire) => Some(wire),
+        None => loop_once(alloc, lost),
+    }
+}
+
+fn counted(answer: Result<WireReply, WireFault>) -> Result<usize, WireFault> {
+    match answer {
+        Ok(WireReply::Items(outcomes)) => Ok(outcomes.len()),
+        Ok(WireReply::Whole(_)) => Ok(0),
+        Err(fault) => Err(fault),
+    }
+}
+
+// How many entries a request has, if it is answered by entries.
+fn exchange<W: Wire>(wire: &mut W, number: u64, writes: &[Write]) -> Result<usize, WireFault>
+    requires out { W.out wire.old ≡ [] }
+    requires few { length writes.now ≤ 10000 }
+    requires dealt { AreDealt writes.now }
+    requires bytes { length (text_of writes.now) ≤ 16777216 }
+    ensures { W.out wire.new ≡ [] }
+{
+    match wire.send(number, writes) {
+        Ok(()) => counted(wire.receive(number)),
+        Err(fault) => Err(fault),
+    }
+}
+
+const ID: &str = "a document with a \"quote\", of more than thirty-eight bytes";
+
+fn key_of(alloc: Global) -> Option<DocKey> {
+    DocKey::new(alloc, "books", ID)
+        .or_else(|_| DocKey::new(alloc, "books", ID))
+        .ok()
+}
+
+// Sends a delete. What it is told; `None`: it was not sent.
+fn asks<W: Wire>(alloc: Global, wire: &mut W, number: u64) -> Option<Result<usize, WireFault>>
+    requires { W.out wire.old ≡ [] }
+    ensures { W.out wire.new ≡ [] }
+{
+    let writes = [Write {
+        key: key_of(alloc)?,
+        version: 2,
+        action: Action::delete(),
+    }];
+    if bulk_len(&writes) > 16_777_216 {
+        return None;
+    }
+    Some(exchange(wire, number, &writes))
+}
+
+// Whether a delete is answered, by a second request if the first was lost for want of memory.
+fn is_told<W: Wire>(alloc: Global, wire: &mut W) -> Option<bool>
+    requires { W.out wire.old ≡ [] }
+    ensures { W.out wire.new ≡ [] }
+{
+    match asks(alloc, wire, 1)? {
+        Ok(entries) => Some(entries == 1),
+        Err(fault) => {
+            let lost = matches!(fault, WireFault::Memory | WireFault::Send | WireFault::Lost);
+            Some(lost && asks(alloc, wire, 2)? == Ok(1))
+        }
+    }
+}
+
+// The same in memory, where the index applies the delete once.
+fn is_told_in_memory(alloc: Global) -> Option<bool> {
+    let mut wire = loop_wire(alloc, 7)?;
+    let told = is_told(alloc, &mut wire)?;
+    Some(told && wire.index().applied(&key_of(alloc)?).len() == 1)
+}
+
+#[test]
+fn refused_request_in_memory(rt: HostRuntime) {
+    assert!(rt; is_told_in_memory(rt.alloc()) == Some(true));
+}
+
+const REPLY: &[u8] =
+    b"HTTP/1.1 200 OK\r\nContent-Type: application/json\r\nContent-Length: 147\r\n\r\n{\"errors\":false,\"items\":[{\"delete\":{\"_id\":\"a document with a \\\"quote\\\", of more than thirty-eight bytes\",\"_index\":\"books\",\"status\":404}}],\"took\":0}";
+
+const REPLIES: &[&[u8]] = &[REPLY, REPLY];
+
+fn http_wire(alloc: Global) -> Option<Wired<'static>>
+    ensures { IfSome result (λ w. w.out ≡ []) }
+{
+    match wired(alloc, REPLIES, 1_000, 0, 1) {
+        Some(wire) => Some(wire),
+        None => wired(alloc, REPLIES, 1_000, 0, 1),
+    }
+}
+
+fn is_told_over_http(alloc: Global) -> Option<bool> {
+    let mut wire = http_wire(alloc)?;
+    is_told(alloc, &mut wire)
+}
+
+#[test]
+fn refused_request_over_http(rt: HostRuntime) {
+    assert!(rt; is_told_over_http(rt.alloc()) == Some(true));
+}
+
+const SIX: [&str; 6] = ["1", "2", "1", "3", "2", "1"];
+
+// A closed lane that holds six deletes.
+fn desk_once(alloc: Global) -> Option<Desk>
+    ensures { IfSome result (λ d. out_of d.lane.state ≡ []) }
+{
+    let mut desk = with_deletes(alloc, CONFIG, &SIX)?;
+    if closes(&mut desk) { Some(desk) } else { None }
+}
+
+fn desk_of(alloc: Global) -> Option<Desk>
+    ensures { IfSome result (λ d. out_of d.lane.state ≡ []) }
+{
+    match desk_once(alloc) {
+        Some(desk) => Some(desk),
+        None => desk_once(alloc),
+    }
+}
+
+// Drains a closed lane, by a second call if the first was refused.
+fn drains(desk: &mut Desk, wire: &mut LoopWire) -> bool
+    requires { numbers wire.old.out ≡ out_of desk.old.lane.state }
+{
+    let mut pace = NO_PAUSES;
+    if !desk.lane.closed() {
+        return false;
+    }
+    match drain(&mut desk.lane, wire, &mut pace) {
+        Ok(()) => desk.lane.held() == 0,
+        Err(AllocError) => {
+            desk.lane.held() > 0
+                && desk.lane.closed()
+                && drain(&mut desk.lane, wire, &mut pace).is_ok()
+                && desk.lane.held() == 0
+        }
+    }
+}
+
+// How many writes the index applied to three documents.
+fn count(alloc: Global, index: &Index) -> Option<usize> {
+    let mut count = 0usize;
+    for id in ["1", "2", "3"] {
+        let key = DocKey::new(alloc, "b", id)
+            .or_else(|_| DocKey::new(alloc, "b", id))
+            .ok()?;
+        count = count.saturating_add(index.applied(&key).len());
+    }
+    Some(count)
+}
+
+// Whether each of the six is applied once, or reported.
+fn delivers(alloc: Global) -> Option<bool> {
+    let mut desk = desk_of(alloc)?;
+    let mut wire = loop_wire(alloc, 2)?;
+    let drained = drains(&mut desk, &mut wire);
+    let totals = desk.lane.totals();
+    let settled = totals.applied.saturating_add(totals.already);
+    let reports = desk.lane.reports().len() as u64;
+    let applied = count(alloc, wire.index())? as u64;
+    Some(drained && settled.saturating_add(reports) == 6 && settled <= applied && applied <= 6)
+}
+
+#[test]
+fn refused_drain(rt: HostRuntime) {
+    assert!(rt; delivers(rt.alloc()) == Some(true));
+}

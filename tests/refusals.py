@@ -1,0 +1,284 @@
+"""Refuses each allocation in turn: `python3 tests/refusals.py PROGRAM`, at the top, after the gate, by `make refusals`. With names
+of test crates behind it, the tests of those alone.
+
+The tests in a file `refusals.rt` of a test crate pass whichever single allocation is refused. Each of them is run, as the gate
+built it, with its 1st, 2nd, .. allocation refused, until a run meets no refusal: `tests/refuse.c` stands before the C library's
+allocator. Then `relay run` is run against `relay stub` with every n-th allocation refused.
+
+It fails if a test fails, is stopped or never meets a refusal; if the table of docs/CONTRIBUTING.md lacks a public call that
+allocates, or names a test that is not there or does not make that call; and if a run does not end, ends in any way but for want
+of memory or as it ends without refusals, or writes to a document twice or out of order.
+"""
+import concurrent.futures
+import glob
+import os
+import re
+import subprocess
+import sys
+import tempfile
+
+TOP = os.path.dirname(os.path.dirname(os.path.abspath(__file__)))
+CRATES = os.path.join(TOP, "crates")
+TABLE = os.path.join(TOP, "docs", "CONTRIBUTING.md")
+HEADING = "## Each allocation refused in turn"
+REFUSED = b"REFUSED\n"
+# What allocates and tells nobody of a refusal, and the crates whose rows are still to come.
+SILENT = {"relay_progress": ["show_progress"]}
+TO_COME = {
+    "relay_http", "relay_ndjson", "relay_producer", "relay_progress", "relay_queue", "relay_report", "relay_run", "relay_stub", "relay_text",
+    "relay_threads",
+}
+# A test with more allocations than this is not one of a few calls; a run of it takes a few milliseconds.
+MOST, SECONDS = 20_000, 10
+FAULTS = []
+
+
+def fault(text):
+    FAULTS.append(text)
+    print("FAILED: %s" % text, flush=True)
+
+
+# ---- the public calls that allocate
+
+
+def text_of(path):
+    with open(path) as file:
+        return file.read()
+
+
+def modules_of(crate):
+    """The source of each module of a crate, by its path of names."""
+    folder, found = os.path.join(CRATES, crate, "src"), {}
+    for path in glob.glob(os.path.join(folder, "**", "*.rt"), recursive=True):
+        name = os.path.relpath(path, folder)[: -len(".rt")].replace(os.sep, "::")
+        if name not in ("lib", "main"):
+            found[name] = text_of(path)
+    return found
+
+
+def libraries():
+    names = (it for it in sorted(os.listdir(CRATES)) if not it.endswith("_tests"))
+    return [it for it in names if os.path.exists(os.path.join(CRATES, it, "src", "lib.rt"))]
+
+
+def public_names(crate):
+    """The modules that a library makes public, and the names that it re-exports."""
+    root = text_of(os.path.join(CRATES, crate, "src", "lib.rt"))
+    names = set()
+    for words in re.findall(r"^pub use [\w:]+::(\w+|\{[^}]*\});", root, re.M):
+        names.update(re.findall(r"\w+", words))
+    return set(re.findall(r"^pub mod (\w+);", root, re.M)), names
+
+
+def refusal_types():
+    """The types that tell a refusal: enums with a variant Memory, what says memory as its text, and what holds one of these."""
+    found, holders = {"AllocError", "NotHeld"}, {}
+    for crate in libraries():
+        for source in modules_of(crate).values():
+            for head, name, body in re.findall(r"((?:^#\[[^\n]*\]\n)*)^pub (?:enum|struct) (\w+)[^{;]*\{(.*?)^\}", source, re.M | re.S):
+                holders[name] = set(re.findall(r"\w+", re.sub(r"//.*|#\[.*", "", body)))
+                if re.search(r"^    Memory\b", body, re.M) or re.search(r'#\[error\("[^"]*memory', head):
+                    found.add(name)
+    holders = {name: words for name, words in holders.items() if re.search(r"(Fault|FaultKind|Error|End)$", name)}
+    while True:
+        more = {name for name, words in holders.items() if words & found} - found
+        if not more:
+            return found
+        found |= more
+
+
+def after_brackets(text):
+    """What follows the angle brackets that a text begins with, if it does."""
+    depth = 0
+    for at, letter in enumerate(text):
+        depth += (letter == "<") - (letter == ">" and text[at - 1] != "-")
+        if depth == 0:
+            return text[at + 1 :] if letter == ">" else text
+    return text
+
+
+def functions_of(source):
+    """Each function that callers see: the type that it is of, if it is of one, its name, its arguments and its result."""
+    owner, of_wire = None, False
+    for line in re.finditer(r"^(?P<pad> *)(?:impl(?P<impl>[^{]+)\{|(?P<pub>pub )?fn (?P<name>\w+)(?P<rest>[^{;]*))", source, re.M):
+        if line["impl"]:
+            trait, _, named = after_brackets(line["impl"].strip()).rpartition(" for ")
+            owner, of_wire = re.match(r"\w+", named.strip())[0], trait.strip() == "Wire"
+        elif line["pub"] or (line["pad"] and of_wire):
+            arguments, _, result = after_brackets(line["rest"]).partition("->")
+            yield owner if line["pad"] else None, line["name"], arguments, re.split(r"\n\s*(?:requires|ensures|where)\b", result)[0]
+
+
+def words_of(text):
+    return set(re.findall(r"\w+", text))
+
+
+def calls_that_allocate(crate, refusals):
+    """The public calls of a library whose result tells a refusal, each with whether it is called on a value.
+
+    A function from faults to faults, as the exit of one, makes none.
+    """
+    modules, names = public_names(crate)
+    found = {it: False for it in SILENT.get(crate, ())}
+    for module, source in modules_of(crate).items():
+        for owner, name, arguments, result in functions_of(source):
+            is_public = module.split("::")[0] in modules or (owner or name) in names
+            makes_one = "Result<" in result or not refusals & words_of(arguments)
+            if is_public and refusals & words_of(result) and makes_one:
+                found["%s::%s" % (owner, name) if owner else name] = bool(re.match(r"\(\s*(&(mut )?|mut )?self\b", arguments))
+    return found
+
+
+# ---- the table
+
+
+def rows():
+    """Each row of the table: the crate, its calls, the test, and where that is."""
+    part = text_of(TABLE).partition(HEADING + "\n")[2].partition("\n## ")[0]
+    for line in re.findall(r"^\| (.*) \|$", part, re.M)[1:]:
+        call, test = line.split(" | ")
+        crate, *calls = re.findall(r"`([^`]+)`", call)
+        test, *place = re.findall(r"`([^`]+)`", test)
+        yield crate, calls, test, place[0] if place else crate + "_tests"
+
+
+def source_of_tests(crate):
+    return os.path.join(CRATES, crate, "src", "refusals.rt")
+
+
+def tests_of(crate):
+    """The names of the tests in a test crate's refusals.rt."""
+    return re.findall(r"^#\[test\]\nfn (\w+)\(", text_of(source_of_tests(crate)), re.M)
+
+
+def calls_made(crate):
+    """The source of a test crate's refusals.rt, with that of the modules that it uses."""
+    source = text_of(source_of_tests(crate))
+    used = {it for words in re.findall(r"^use crate::(\w+|\{[^}]*\})", source, re.M) for it in re.findall(r"\w+", words)}
+    return source + "".join(text for name, text in modules_of(crate).items() if name in used)
+
+
+def makes_call(source, call, on_value):
+    """Whether a source calls this."""
+    owner, _, name = call.rpartition("::")
+    before = r"\." if on_value else r"\b%s::" % owner if owner else r"(?<![\w.:])(?<!fn )"
+    return re.search(before + name + r"(::<.*>)?\(", source) is not None
+
+
+def check_row(crate, calls, test, place, wanted):
+    if place.endswith(".py"):
+        if "def %s(" % test not in text_of(os.path.join(TOP, place)):
+            fault("no function `%s` in %s" % (test, place))
+        return
+    if not os.path.exists(source_of_tests(place)) or test not in tests_of(place):
+        fault("no test `%s` in the refusals.rt of %s" % (test, place))
+        return
+    for call in calls:
+        if call in wanted and not makes_call(calls_made(place), call, wanted[call]):
+            fault("`%s` of %s does not call `%s` of %s" % (test, place, call, crate))
+
+
+def check_table():
+    """Holds the table against the sources. How many calls it has."""
+    refusals, table = refusal_types(), list(rows())
+    named = [(crate, call) for crate, calls, _, _ in table for call in calls]
+    wanted = {crate: calls_that_allocate(crate, refusals) for crate in libraries() if crate not in TO_COME}
+    for crate, calls in wanted.items():
+        for call in sorted(calls):
+            if (crate, call) not in named:
+                fault("`%s` of %s allocates and has no row in docs/CONTRIBUTING.md" % (call, crate))
+    for crate, call in named:
+        if call not in wanted.get(crate, {}):
+            fault("`%s` of %s has a row in docs/CONTRIBUTING.md and does not allocate, or is not there" % (call, crate))
+    for crate, calls, test, place in table:
+        check_row(crate, calls, test, place, wanted.get(crate, {}))
+    return sum(len(calls) for calls in wanted.values())
+
+
+# ---- the tests
+
+
+def refuser(folder):
+    """The library that refuses, compiled there."""
+    path = os.path.join(folder, "refuse.so")
+    subprocess.run(["cc", "-O2", "-shared", "-fPIC", os.path.join(TOP, "tests", "refuse.c"), "-o", path], check=True)
+    return path
+
+
+def refusing(library, **how):
+    return {**os.environ, "LD_PRELOAD": library, **{key: "%d" % value for key, value in how.items()}}
+
+
+def crates_with_tests():
+    return [os.path.basename(os.path.dirname(os.path.dirname(it))) for it in sorted(glob.glob(os.path.join(CRATES, "*_tests", "src", "refusals.rt")))]
+
+
+def built(crate):
+    return os.path.join(CRATES, crate, "out", crate + "_tests")
+
+
+def is_built(crate):
+    """Whether the crate's tests are built as their source is now."""
+    if not os.path.exists(built(crate)):
+        fault("%s is not built: `make test` builds it" % crate)
+        return False
+    listed = subprocess.run([built(crate), "--list"], stdin=subprocess.DEVNULL, capture_output=True, text=True).stdout
+    if set(re.findall(r"^refusals::(\w+): test$", listed, re.M)) != set(tests_of(crate)):
+        fault("the tests of %s are not built as they are now: `make test` builds them" % crate)
+        return False
+    return True
+
+
+def try_at(library, crate, test, number, folder):
+    """Runs a test with one allocation refused. Whether one was, and what went wrong."""
+    try:
+        done = subprocess.run([built(crate), "refusals::" + test], env=refusing(library, REFUSE_AT=number), cwd=folder, stdin=subprocess.DEVNULL, capture_output=True, timeout=SECONDS)
+    except subprocess.TimeoutExpired:
+        return True, "has not ended after %d s" % SECONDS
+    said = (done.stdout + done.stderr).replace(REFUSED, b"").decode(errors="replace").strip()
+    wrong = None if done.returncode == 0 else "ended with %d: %s" % (done.returncode, said[-300:])
+    return REFUSED in done.stderr, wrong
+
+
+def refuse_each(library, crate, test, folder):
+    """Refuses each allocation of a test in turn. How many there were, and what went wrong at which of them."""
+    wrongs = []
+    for number in range(1, MOST):
+        met, wrong = try_at(library, crate, test, number, folder)
+        if wrong:
+            wrongs.append("`%s` of %s with allocation %d refused %s" % (test, crate, number if met else 0, wrong))
+        if not met or len(wrongs) >= 3:
+            return number - 1, wrongs
+    return MOST, ["`%s` of %s has more than %d allocations" % (test, crate, MOST)]
+
+
+def check_tests(library, folder, wanted):
+    """Runs every test, as many at once as there are processors."""
+    tasks = [(crate, test) for crate in crates_with_tests() if (not wanted or crate in wanted) and is_built(crate) for test in tests_of(crate)]
+    with concurrent.futures.ThreadPoolExecutor(os.cpu_count()) as pool:
+        for (crate, test), (count, wrongs) in zip(tasks, pool.map(lambda task: refuse_each(library, *task, folder), tasks)):
+            print("  %-24s %-32s %6d allocations refused" % (crate, test, count), flush=True)
+            for wrong in wrongs:
+                fault(wrong)
+            if count == 0:
+                fault("`%s` of %s met no refusal" % (test, crate))
+
+
+def main():
+    wanted = sys.argv[2:]
+    calls = check_table()
+    print("%d public calls allocate; the table of docs/CONTRIBUTING.md names a test for each" % calls if not FAULTS else "the table of docs/CONTRIBUTING.md is wrong", flush=True)
+    with tempfile.TemporaryDirectory() as folder:
+        library = refuser(folder)
+        check_tests(library, folder, wanted)
+        if not wanted:
+            import refused_runs
+
+            for wrong in refused_runs.check_runs(lambda every: refusing(library, REFUSE_EVERY=every)):
+                fault(wrong)
+    print("%d failures" % len(FAULTS))
+    sys.exit(1 if FAULTS else 0)
+
+
+if __name__ == "__main__":
+    main()
