@@ -105,6 +105,9 @@ pub struct Due {
     /// Nothing is to be sent before more than this was taken, unless a tick passes, a flush or an
     /// answer comes, or a sender closes.
     pub room: Room,
+    /// How much may be taken beside the batch while it is in flight: as much as one request carries,
+    /// or nothing if some operation that may be sent is left.
+    pub ahead: Room,
 }
 
 /// Room for nothing.
@@ -135,6 +138,17 @@ pub(crate) fn less(room: Room, bytes: u64) -> Room
     }
 }
 
+// How much may be taken while a batch is in flight.
+fn ahead_of(limits: Limits, closed: bool) -> Room {
+    if closed {
+        return no_room();
+    }
+    Room {
+        items: limits.count,
+        bytes: limits.bytes,
+    }
+}
+
 /// The batch that is to be sent now, if one is; if not, how long the rule need not be asked.
 pub(crate) fn due_batch(
     alloc: Global,
@@ -160,6 +174,7 @@ pub(crate) fn due_batch(
         return Ok(Due {
             batch: None,
             room: no_room(),
+            ahead: no_room(),
         });
     };
     if is_asked(
@@ -171,8 +186,13 @@ pub(crate) fn due_batch(
         Ok(Due {
             batch: Some(batch),
             room: no_room(),
+            ahead: ahead_of(limits, closed),
         })
     } else {
-        Ok(Due { batch: None, room })
+        Ok(Due {
+            batch: None,
+            room,
+            ahead: no_room(),
+        })
     }
 }

@@ -43,6 +43,9 @@ pub struct Lane {
     closed: Vec<bool>,
     // While this is not used up, no batch is due.
     room: Room,
+    // While this is not used up and all places in flight are taken, more may be taken before an
+    // answer is waited for.
+    ahead: Room,
     held: Held,
     flight: Flight,
     reports: Vec<Report>,
@@ -98,6 +101,7 @@ impl Lane {
             already: 0,
             closed: vec![in alloc; false; config.producers as usize + 1]?,
             room: no_room(),
+            ahead: no_room(),
             held: Held::new(alloc),
             flight: Flight::new(alloc, config.in_flight)?,
             reports: Vec::new(alloc),
@@ -256,9 +260,11 @@ impl Lane {
             self.config.limits.count,
         );
         let room = less(self.room, kept.bytes);
+        let ahead = less(self.ahead, kept.bytes);
         match self.held.push(kept) {
             Ok(()) => {
                 self.room = room;
+                self.ahead = ahead;
                 self.taken += 1;
                 Ok(())
             }
@@ -352,7 +358,7 @@ impl Lane {
             return Ok(None);
         }
         let all_closed = self.closed();
-        let Due { batch, room } = due_batch(
+        let Due { batch, room, ahead } = due_batch(
             self.alloc,
             &mut self.held,
             self.mark,
@@ -366,10 +372,23 @@ impl Lane {
         };
         let mut writes = Vec::with_capacity(self.alloc, batch.items().len())?;
         self.room = no_room();
+        self.ahead = ahead;
         let number = self.flight.next();
         launch(&mut self.held, number, batch.items().len(), &mut writes);
         let _ = self.flight.enter(batch, writes);
         Ok(Some(number))
+    }
+
+    /// Whether the next request is still being gathered: none would be formed now, and more may be
+    /// taken before [`Lane::request`] is worth a call or an answer is worth waiting for. So it is while
+    /// what may be sent is less than a batch and nobody asks for it, and, if all places in flight are
+    /// taken, while what was taken since is less than a batch and nothing was left over. `false`
+    /// promises nothing.
+    pub fn is_gathering(&self) -> bool
+        ensures { result ≡ true → next_batch self.now.state ≡ None }
+    {
+        let is_full = self.flight.flying() >= self.config.in_flight;
+        is_roomy(self.room) || (is_full && is_roomy(self.ahead))
     }
 
     /// The writes of a request in flight, in the order of its batch. Requests are numbered from 1.

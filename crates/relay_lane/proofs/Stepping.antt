@@ -12,7 +12,7 @@ use Rattle.relay_delivery.specs.Lane.{Entry}
 use Rattle.relay_core.specs.State.{State, IsLane, all_closed, next_batch, after_request, answered, due_in}
 use Rattle.relay_core.specs.Ties.{Fits}
 use Rattle.relay_core.proofs.Valid.{valid_facts}
-use Rattle.relay_lane.specs.Turns.{Turn, Sends, Fails, Settles, Pauses, after_send, after_fail, after_answer, after_ticks, after_turn, MayTurn, Worked, Paused, sends_in, ticks_in, pumps, sends_first, sends_left}
+use Rattle.relay_lane.specs.Turns.{Turn, Sends, Fails, Settles, Pauses, after_send, after_fail, after_answer, after_ticks, after_turn, MayTurn, Worked, Paused, sends_in, ticks_in, pumps, sends_only, sends_first, sends_left}
 use Rattle.relay_lane.specs.Steps.{Asked, IsPressed}
 use Rattle.relay_lane.specs.Delivers.{Delivers}
 use Rattle.relay_lane.specs.Laws.{Keeps}
@@ -96,12 +96,13 @@ pub record Sent (s t : State) : Type 0 where
   pub one : sends_in turn ≡ 1
   pub no_tick : ticks_in turn ≡ 0
   pub may_pump : pumps turn s ≡ true
+  pub may_send : sends_only turn s ≡ true
   pub goes_first : sends_first turn s ≡ true
 
 pub asked_sent : (b : Bool) (s t : State) → IsLane s → b ≡ is_some (next_batch s) → b ≡ true → Asked b s t → Sent s t
 asked_sent b s t l some is asked = ⊎_elim {C = Sent s t}
-    (λ e. record { turn = Sends; turned = sends_turned s t l (sym some ∙ is) e; one = refl; no_tick = refl; may_pump = refl; goes_first = refl })
-    (λ e. record { turn = Fails; turned = fails_turned s t l (sym some ∙ is) e; one = refl; no_tick = refl; may_pump = refl; goes_first = refl })
+    (λ e. record { turn = Sends; turned = sends_turned s t l (sym some ∙ is) e; one = refl; no_tick = refl; may_pump = refl; may_send = refl; goes_first = refl })
+    (λ e. record { turn = Fails; turned = fails_turned s t l (sym some ∙ is) e; one = refl; no_tick = refl; may_pump = refl; may_send = refl; goes_first = refl })
     (subst (λ c. Asked c s t) is asked)
 
 pub not_asked : (b : Bool) (s t : State) → b ≡ false → Asked b s t → t ≡ s

@@ -103,6 +103,13 @@ pumps Fails s = true
 pumps (Settles a) s = is_crowded s
 pumps (Pauses n) s = false
 
+-- whatever is ready is sent, no answer is waited for, and no tick passes
+abbrev pub sends_only : Turn → State → Bool
+sends_only Sends s = true
+sends_only Fails s = true
+sends_only (Settles a) s = false
+sends_only (Pauses n) s = false
+
 -- nothing is sent, and no tick passes
 abbrev pub collects : Turn → State → Bool
 collects Sends s = false

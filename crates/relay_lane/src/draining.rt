@@ -1,8 +1,8 @@
 //! A lane sends, repeats and settles over a wire.
-ghost use Rattle.std.specs.Prelude.{◌≡◌, ◌+◌, ◌*◌, ◌-◌, ◌<◌, ◌≤◌, [], None, true, length, IfOk, OnOk, OnErr};
+ghost use Rattle.std.specs.Prelude.{◌≡◌, ◌+◌, ◌*◌, ◌-◌, ◌<◌, ◌≤◌, [], None, true, length, nat_lt, IfOk, OnOk, OnErr};
 ghost use Rattle.relay_core.specs.State.{next_batch, all_closed, flushed};
 ghost use Rattle.relay_lane.specs.Out.{out_of};
-ghost use Rattle.relay_lane.specs.Turns.{Worked, Stays, pumps, collects, holds, holds_some, is_full, Paused, sends_left};
+ghost use Rattle.relay_lane.specs.Turns.{Worked, Stays, pumps, sends_only, collects, holds, holds_some, is_full, Paused, sends_left};
 ghost use Rattle.relay_lane.specs.Steps.{IsPressed};
 ghost use Rattle.relay_lane.specs.Delivers.{Delivers};
 
@@ -44,6 +44,56 @@ pub fn pump<W: Wire>(lane: &mut Lane, wire: &mut W) -> Result<u64, AllocError>
             return Ok(sent);
         }
     }
+}
+
+/// Sends every request that is ready while a place in flight is free, and returns how many. It waits
+/// for no answer, and no tick passes. `AllocError`: the allocation of a request failed; the lane is
+/// as the requests before left it, and the call may be repeated.
+pub fn send_ready<W: Wire>(lane: &mut Lane, wire: &mut W) -> Result<u64, AllocError>
+    requires out { W.out wire.old ≡ out_of lane.old.state }
+    ensures requests { IfOk result (λ n. lane.new.state.core.requests ≡ lane.old.state.core.requests + n) }
+    ensures done { OnOk result (next_batch lane.new.state ≡ None) }
+    ensures memory { OnErr result (0 < length lane.new.state.core.held) }
+    ensures worked { Worked sends_only lane.old.state lane.new.state }
+    ensures clock { lane.new.state.core.clock ≡ lane.old.state.core.clock }
+    ensures bound { lane.new.state.core.requests + sends_left lane.new.state
+        ≤ lane.old.state.core.requests + sends_left lane.old.state }
+    ensures stays { Stays lane.old.state lane.new.state }
+    ensures out { W.out wire.new ≡ out_of lane.new.state }
+    ensures describes { W.describes wire.new ≡ W.describes wire.old }
+    ensures delivers { Delivers (W.describes wire.old) W.fits wire.old wire.new lane.old.state lane.new.state }
+{
+    let _ = lane.totals();
+    let mut sent: u64 = 0;
+    'turns: loop {
+        if send_next(lane, wire)? {
+            sent += 1;
+        } else {
+            return Ok(sent);
+        }
+    }
+}
+
+/// Waits for the answer to the oldest request in flight, if there is one, and settles it. Returns
+/// whether there was one. Nothing is sent, no tick passes, and the lane allocates nothing.
+pub fn settle_next<W: Wire>(lane: &mut Lane, wire: &mut W) -> bool
+    requires out { W.out wire.old ≡ out_of lane.old.state }
+    ensures some { result ≡ nat_lt 0 (length lane.old.state.core.flying) }
+    ensures one { length lane.new.state.core.flying ≡ length lane.old.state.core.flying - 1 }
+    ensures worked { Worked collects lane.old.state lane.new.state }
+    ensures requests { lane.new.state.core.requests ≡ lane.old.state.core.requests }
+    ensures clock { lane.new.state.core.clock ≡ lane.old.state.core.clock }
+    ensures bound { sends_left lane.new.state ≤ sends_left lane.old.state }
+    ensures stays { Stays lane.old.state lane.new.state }
+    ensures out { W.out wire.new ≡ out_of lane.new.state }
+    ensures describes { W.describes wire.new ≡ W.describes wire.old }
+    ensures delivers { Delivers (W.describes wire.old) W.fits wire.old wire.new lane.old.state lane.new.state }
+{
+    if lane.flying() == 0 {
+        return false;
+    }
+    settle_oldest(lane, wire);
+    true
 }
 
 /// Waits for the answer to each request in flight, the oldest first, and settles it. Returns how

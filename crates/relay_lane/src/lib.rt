@@ -14,7 +14,7 @@ pub mod pace;
 mod turn;
 pub mod wire;
 
-pub use draining::{collect, drain, make_room, pump};
+pub use draining::{collect, drain, make_room, pump, send_ready, settle_next};
 pub use pace::Pace;
 pub use relay_core::{Cause, Lane, NotFlying, RelayConfig, Report, Settled, TakeFault, Totals};
 pub use wire::{Wire, WireFault, WireReply};

@@ -1,9 +1,9 @@
 //! The end of the taker.
-ghost use Rattle.std.specs.Prelude.{◌≡◌, ◌<◌, ◌≤◌, List, [], ◌∷◌, ◌++◌, length, IfOk, IfErr};
+ghost use Rattle.std.specs.Prelude.{◌≡◌, ◌<◌, ◌≤◌, List, [], ◌∷◌, ◌++◌, length, IfOk, IfErr, IfSome, IfNone};
 ghost use Rattle.relay_action.specs.declared.mail.Mail.{Mail};
 ghost use Rattle.relay_queue.specs.Sent.{mail_of, HasDone, IsWellSent, IsWellTaken};
 
-use crate::refusal::{Gone, Missed};
+use crate::refusal::Gone;
 use crate::rule::{MailPass, MailReceiver, Meets, Reads, Takes};
 use crate::sender::{ClosedPut, TRIES, pause};
 use crossbeam_channel::TryRecvError;
@@ -53,27 +53,29 @@ impl LaneTake {
         ensures gone { IfErr result (λ _. self.new ≡ self.old) }
     {
         for turn in 0..TRIES {
-            match self.try_take(rt) {
-                Ok(mail) => return Ok(mail),
-                Err(Missed::NotYet) => pause(turn),
-                Err(Missed::Gone) => return Err(Gone),
+            if let Some(mail) = self.try_take(rt)? {
+                return Ok(mail);
             }
+            pause(turn);
         }
         self.take_waiting(rt)
     }
 
-    // Takes the message at the front where there is one at once.
-    fn try_take<R: Wait>(&mut self, rt: &R) -> Result<Mail, Missed>
+    /// Takes the message at the front if one is queued, and else returns `None`. It does not wait
+    /// and does not allocate. When a message that was sent is seen is not promised; [`Self::take`]
+    /// waits for it. `Gone` is as there.
+    pub fn try_take<R: Wait>(&mut self, rt: &R) -> Result<Option<Mail>, Gone>
         ensures same { (self.new.queue ≡ self.old.queue) × (self.new.senders ≡ self.old.senders) }
-        ensures taken { IfOk result (λ m. self.new.taken ≡ self.old.taken ++ m ∷ []) }
-        ensures sender { IfOk result (λ m. m.sender < self.old.senders) }
+        ensures taken { IfOk result (λ o. IfSome o (λ m. self.new.taken ≡ self.old.taken ++ m ∷ [])) }
+        ensures sender { IfOk result (λ o. IfSome o (λ m. m.sender < self.old.senders)) }
         ensures well_taken { IsWellTaken self.new.senders self.new.taken }
+        ensures none { IfOk result (λ o. IfNone o (self.new ≡ self.old)) }
         ensures gone { IfErr result (λ _. self.new ≡ self.old) }
     {
         match self.channel.try_recv_as::<Takes, R>(rt, &mut self.pass) {
-            Ok(mail) => Ok(mail),
-            Err(TryRecvError::Empty) => Err(Missed::NotYet),
-            Err(TryRecvError::Disconnected) => Err(Missed::Gone),
+            Ok(mail) => Ok(Some(mail)),
+            Err(TryRecvError::Empty) => Ok(None),
+            Err(TryRecvError::Disconnected) => Err(Gone),
         }
     }
 

@@ -1,0 +1,61 @@
+use Rattle.std.proofs.Common.{refl, ◌∙◌, arith}
+use Rattle.relay_lane.specs.Turns.{sends_only}
+use Rattle.relay_lane.proofs.Counting.{worked_none, stays_itself, stays_on}
+use Rattle.relay_lane.proofs.Carrying.{delivers_itself, delivers_on}
+use Rattle.relay_lane.proofs.Stepping.{asked_sent, turned_worked, sends_small}
+use Rattle.relay_lane.proofs.draining.send_ready.Goals as goal
+
+pub turns-init : goal.turns-init
+turns-init g c =
+    let s = c.args.lane.now.state in
+    let small = sends_small s c.totals.ensures.lane in
+    record {
+      stays = stays_itself s;
+      sent = omega arith;
+      left = omega arith;
+      few = omega (arith, small);
+      worked = worked_none sends_only s s refl;
+      clock = refl;
+      out = c.requires.out;
+      describes = refl;
+      delivers = delivers_itself (g.W.Wire.describes c.args.wire.now) g.W.Wire.fits c.args.wire.now c.args.wire.now s s refl refl;
+    }
+
+pub returns-in_err-send_next-clause-delivers : goal.returns-in_err-send_next-clause-delivers
+returns-in_err-send_next-clause-delivers g c =
+    delivers_on (g.W.Wire.describes c.args.wire.now) (g.W.Wire.describes c.turns.wire) g.W.Wire.fits c.args.wire.now c.turns.wire c.send_next.new.wire c.args.lane.now.state c.turns.lane.state c.send_next.new.lane.state
+    c.turns.invariant.describes c.turns.invariant.delivers c.send_next.ensures.delivers
+
+pub returns-else-clause-delivers : goal.returns-else-clause-delivers
+returns-else-clause-delivers g c =
+    delivers_on (g.W.Wire.describes c.args.wire.now) (g.W.Wire.describes c.turns.wire) g.W.Wire.fits c.args.wire.now c.turns.wire c.send_next.new.wire c.args.lane.now.state c.turns.lane.state c.send_next.new.lane.state
+    c.turns.invariant.describes c.turns.invariant.delivers c.send_next.ensures.delivers
+
+-- ---- where a request was sent
+
+pub turns-smaller-then-branch : goal.turns-smaller-then-branch
+turns-smaller-then-branch g c =
+    let k = asked_sent c.in_ok-send_next.field-0 c.turns.lane.state c.send_next.new.lane.state c.send_next.ensures.lane c.in_ok-send_next.ensures.some c.if-branch.true c.in_ok-send_next.ensures.turn in
+    let f = k.turned.falls in
+    omega (arith, f)
+
+pub turns-preserved-then-branch : goal.turns-preserved-then-branch
+turns-preserved-then-branch g c =
+    let i = c.turns.invariant in
+    let s0 = c.args.lane.now.state in
+    let s = c.turns.lane.state in
+    let t = c.send_next.new.lane.state in
+    let k = asked_sent c.in_ok-send_next.field-0 s t c.send_next.ensures.lane c.in_ok-send_next.ensures.some c.if-branch.true c.in_ok-send_next.ensures.turn in
+    let one = k.one in
+    let keeps = k.turned.keeps in
+    record {
+      stays = stays_on s0 s t i.stays keeps.stays;
+      sent = (let a = i.sent in let b = keeps.requests in omega (arith, a, b, one));
+      left = (let a = i.left in let b = k.turned.left in omega (arith, a, b, one));
+      few = i.few;
+      worked = turned_worked sends_only s0 s t k.turn i.worked k.may_send k.turned;
+      clock = (let a = i.clock in let b = keeps.clock in let n = k.no_tick in omega (arith, a, b, n));
+      out = c.send_next.ensures.out;
+      describes = c.send_next.ensures.describes ∙ i.describes;
+      delivers = delivers_on (g.W.Wire.describes c.args.wire.now) (g.W.Wire.describes c.turns.wire) g.W.Wire.fits c.args.wire.now c.turns.wire c.send_next.new.wire s0 s t i.describes i.delivers c.send_next.ensures.delivers;
+    }
