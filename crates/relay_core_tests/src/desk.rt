@@ -52,6 +52,8 @@ pub enum Step<'a> {
     /// The next request, by ids and versions.
     Sends(&'a [(&'a str, u64)]),
     SendsNone,
+    /// Whether the next request is still being gathered.
+    Gathers(bool),
     /// The request last sent is answered by these entries, which match.
     Items(&'a [Entry<'a>], [u32; 4]),
     /// They do not match.
@@ -203,6 +205,7 @@ fn looks(desk: &mut Desk, step: &Step<'_>) -> Result<bool, Fail> {
     match step {
         Step::Sends(wanted) => sends(desk, *wanted),
         Step::SendsNone => Ok(desk.lane.request()?.is_none()),
+        Step::Gathers(wanted) => Ok(desk.lane.is_gathering() == *wanted),
         Step::DueIn(ticks) => Ok(desk.lane.due_in().unwrap_or(99) == *ticks),
         Step::Held(count) => Ok(desk.lane.held() == *count),
         Step::Finished(wanted) => Ok(desk.lane.finished() == *wanted),

@@ -1,5 +1,6 @@
 //! Worked schedules of a lane.
 use crate::desk::{CONFIG, Entry, Step, goes};
+use relay_batch::Limits;
 use relay_core::{RelayConfig, TakeFault, Totals};
 use std::alloc::{AllocError, Global};
 use std::test::Fail;
@@ -323,5 +324,56 @@ fn requests_too_large(rt: HostRuntime) -> Result<(), Fail> {
         (5, 2, 413),
     ];
     assert!(rt; goes(rt.alloc(), ONE_ATTEMPT, &HALVED_AWAY, &reports)?);
+    Ok(())
+}
+
+// Batches of two, which wait for three ticks, one in flight.
+const TWO: RelayConfig = RelayConfig {
+    limits: Limits {
+        count: 2,
+        bytes: 4_096,
+        linger: 3,
+    },
+    ..CONFIG
+};
+
+// Two documents are created.
+const BOTH: [Entry<'static>; 2] = [Entry::Index("1", 201), Entry::Index("2", 201)];
+
+// While a request is in flight as many operations are gathered as the next one carries, but not if
+// some are left over.
+const GATHERED: [Step<'static>; 27] = [
+    Step::Gathers(false),
+    Step::SendsNone,
+    Step::Gathers(false),
+    Step::Put("1", "{}"),
+    Step::Gathers(false),
+    Step::SendsNone,
+    Step::Gathers(true),
+    Step::Put("2", "{}"),
+    Step::Gathers(false),
+    Step::Sends(&[("1", 1), ("2", 2)]),
+    Step::Gathers(true),
+    Step::Put("3", ""),
+    Step::Gathers(true),
+    Step::Put("4", ""),
+    Step::Gathers(false),
+    Step::Put("5", ""),
+    Step::SendsNone,
+    Step::Items(&BOTH, [2, 0, 0, 0]),
+    Step::Gathers(false),
+    Step::Sends(&[("3", 3), ("4", 4)]),
+    Step::Gathers(false),
+    Step::Whole(400, [0, 0, 2, 0]),
+    Step::Gathers(false),
+    Step::SendsNone,
+    Step::Gathers(true),
+    Step::Tick,
+    Step::Gathers(false),
+];
+
+#[test]
+fn gathered_in_flight(rt: HostRuntime) -> Result<(), Fail> {
+    assert!(rt; goes(rt.alloc(), TWO, &GATHERED, &[(3, 2, 400), (4, 2, 400)])?);
     Ok(())
 }

@@ -64,12 +64,12 @@ pub fn send_ready<W: Wire>(lane: &mut Lane, wire: &mut W) -> Result<u64, AllocEr
     ensures delivers { Delivers (W.describes wire.old) W.fits wire.old wire.new lane.old.state lane.new.state }
 {
     let _ = lane.totals();
-    let mut sent: u64 = 0;
+    let mut count: u64 = 0;
     'turns: loop {
         if send_next(lane, wire)? {
-            sent += 1;
+            count += 1;
         } else {
-            return Ok(sent);
+            return Ok(count);
         }
     }
 }

@@ -17,10 +17,10 @@ pub enum PutRefusal {
     Spent,
 }
 
-/// Why a look at the channel moved no message.
+/// Why a put that does not wait moved no message.
 #[derive(Clone, Copy, Drop)]
 pub(crate) enum Missed {
-    /// There was no room, or nothing was queued: a later look may move one.
+    /// There was no room: a later one may move it.
     NotYet,
     /// The other end is dropped.
     Gone,

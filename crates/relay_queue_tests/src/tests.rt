@@ -380,3 +380,36 @@ fn after_the_senders(rt: HostRuntime) -> Result<(), Fail> {
     assert!(rt; next_of(&rt, &mut take).is_none());
     Ok(())
 }
+
+// What a look at the queue gives: the next message as numbers, nothing, or that all senders are gone.
+fn seen<R: Wait>(rt: &R, take: &mut LaneTake) -> Result<Option<(u32, u64, Said)>, Gone> {
+    match take.try_take(rt)? {
+        Some(mail) => Ok(Some((mail.sender, mail.number, said_of(&mail.body)))),
+        None => Ok(None),
+    }
+}
+
+// Whether looks give a tick between none and none.
+fn sees_a_tick<R: Wait>(rt: &R, take: &mut LaneTake, put: &mut LanePut) -> bool {
+    seen(rt, take) == Ok(None)
+        && put.put(rt, Body::Tick).ok() == Some(1)
+        && seen(rt, take) == Ok(Some((0, 1, Said::Tick)))
+        && seen(rt, take) == Ok(None)
+}
+
+// Whether each sender's tick is seen, and then that all senders are gone.
+fn sees_each<R: Wait>(rt: &R, take: &mut LaneTake, puts: Vec<LanePut>) -> bool {
+    let mut good = true;
+    for mut put in puts {
+        good = good && sees_a_tick(rt, take, &mut put);
+    }
+    good && seen(rt, take) == Err(Gone)
+}
+
+// A look at the queue does not wait.
+#[test]
+fn without_a_wait(rt: HostRuntime) -> Result<(), Fail> {
+    let (mut take, puts) = made(rt.alloc(), 4, 1)?;
+    assert!(rt; sees_each(&rt, &mut take, puts));
+    Ok(())
+}

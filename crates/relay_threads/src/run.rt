@@ -1,5 +1,5 @@
 //! A lane takes its messages and works, until each sender has closed.
-ghost use Rattle.std.specs.Prelude.{◌≡◌, ◌≢◌, ◌+◌, ◌<◌, [], ℕ, List, true, false, length, IfOk, OnOk, OnErr, IfErr};
+ghost use Rattle.std.specs.Prelude.{◌≡◌, ◌≢◌, ◌+◌, ◌<◌, [], ℕ, List, true, false, length, IfOk, OnOk, OnErr, IfErr, IfSome, IfNone, ◌++◌, ◌∷◌};
 ghost use Rattle.relay_action.specs.declared.mail.Mail.{Mail};
 ghost use Rattle.relay_queue.specs.Sent.{mail_of, HasDone, IsWellTaken};
 ghost use Rattle.relay_core.specs.State.{fresh, all_closed};
@@ -8,9 +8,11 @@ ghost use Rattle.relay_threads.specs.Course.{KnowsClosed, Heard, Course, EndsAs}
 ghost use Rattle.relay_threads.specs.Steps.{Takes, KeepsOn};
 
 use crate::lane_end::{LaneEnd, LaneEndKind};
-use relay_action::Body;
-use relay_lane::{Lane, Pace, TakeFault, Wire, collect, drain, make_room, pump};
-use relay_queue::LaneTake;
+use relay_action::{Body, Mail};
+use relay_lane::{
+    Lane, Pace, TakeFault, Wire, collect, drain, make_room, pump, send_ready, settle_next,
+};
+use relay_queue::{Gone, LaneTake};
 use std::alloc::AllocError;
 use std::sync::Wait;
 
@@ -34,44 +36,114 @@ fn make_place<W: Wire, P: Pace>(
     make_room(lane, wire, pace)
 }
 
-// Takes one message from the queue into the lane, where there is room. Whether it was a Tick or a Flush.
-// Without memory for it the lane is as before.
-fn take_message<R: Wait>(rt: &R, take: &mut LaneTake, lane: &mut Lane) -> Result<bool, LaneEndKind>
+// What came from the queue.
+#[derive(Clone, Copy)]
+enum Message {
+    // A Tick or a Flush.
+    Mark,
+    // An operation or a Done.
+    Other,
+    // Nothing is queued, and an answer is awaited.
+    Nothing,
+}
+
+// The next message; `None` if nothing is queued and an answer is awaited, for which it would wait
+// in vain.
+fn next_mail<R: Wait>(rt: &R, take: &mut LaneTake, awaits: bool) -> Result<Option<Mail>, Gone>
+    ensures same { (take.new.queue ≡ take.old.queue) × (take.new.senders ≡ take.old.senders) }
+    ensures taken { IfOk result (λ o. IfSome o (λ m. take.new.taken ≡ take.old.taken ++ m ∷ [])) }
+    ensures sender { IfOk result (λ o. IfSome o (λ m. m.sender < take.old.senders)) }
+    ensures well_taken { IsWellTaken take.new.senders take.new.taken }
+    ensures none { IfOk result (λ o. IfNone o (take.new ≡ take.old)) }
+    ensures gone { IfErr result (λ _. take.new ≡ take.old) }
+{
+    if awaits {
+        return take.try_take(rt);
+    }
+    match take.take(rt) {
+        Ok(mail) => Ok(Some(mail)),
+        Err(gone) => Err(gone),
+    }
+}
+
+// Takes the next message from the queue into the lane, which has room. If the allocation for it
+// fails, the lane is as before.
+fn take_message<R: Wait>(
+    rt: &R,
+    take: &mut LaneTake,
+    lane: &mut Lane,
+) -> Result<Message, LaneEndKind>
     requires room { length lane.old.state.core.held < lane.old.state.config.max_held }
     requires senders { length lane.old.state.closed ≡ take.old.senders }
     requires closed { KnowsClosed lane.old.state.closed take.old.taken }
     ensures same { (take.new.queue ≡ take.old.queue) × (take.new.senders ≡ take.old.senders) }
     ensures out { out_of lane.new.state ≡ out_of lane.old.state }
-    ensures takes { OnOk result (Takes lane.old.state lane.new.state take.old.taken take.new.taken) }
+    ensures takes { IfOk result (λ m. m ≢ Message.Nothing
+        → Takes lane.old.state lane.new.state take.old.taken take.new.taken) }
+    ensures nothing { IfOk result (λ m. m ≡ Message.Nothing
+        → (lane.new.state ≡ lane.old.state) × (take.new.taken ≡ take.old.taken)) }
     ensures unchanged { OnErr result (lane.new.state ≡ lane.old.state) }
     ensures early { IfErr result (λ kind. kind ≢ LaneEndKind.Finished) }
     ensures heard { IfErr result (λ kind. Heard kind take.new.taken take.old.taken) }
 {
-    let Ok(mail) = take.take(rt) else {
-        return Err(LaneEndKind::Gone);
+    let awaits = lane.flying() > 0;
+    let mail = match next_mail(rt, take, awaits) {
+        Ok(Some(mail)) => mail,
+        Ok(None) => return Ok(Message::Nothing),
+        Err(_) => return Err(LaneEndKind::Gone),
     };
-    let settles = matches!(mail.body, Body::Tick | Body::Flush);
+    let message = match mail.body {
+        Body::Tick | Body::Flush => Message::Mark,
+        _ => Message::Other,
+    };
     match lane.take(mail) {
-        Ok(()) => Ok(settles),
+        Ok(()) => Ok(message),
         Err((TakeFault::Memory, _)) => Err(LaneEndKind::Memory),
         Err((TakeFault::AfterClose, _)) => unreachable!(),
         Err((TakeFault::HeldFull, _)) => unreachable!(),
     }
 }
 
-// Sends what is ready. If what is in flight is to be settled, it is, and what is ready then is sent.
-fn send_ready<W: Wire>(lane: &mut Lane, wire: &mut W, settles: bool) -> Result<(), AllocError>
+// Waits for answers after a message: for all after a Tick or a Flush, once all that is ready is
+// sent; for one if nothing is queued, or if the next request cannot go before.
+fn settle_some<W: Wire>(lane: &mut Lane, wire: &mut W, message: Message) -> Result<(), AllocError>
     requires out { W.out wire.old ≡ out_of lane.old.state }
     ensures out { W.out wire.new ≡ out_of lane.new.state }
     ensures describes { W.describes wire.new ≡ W.describes wire.old }
     ensures keeps { (heard : List Mail)
         → KeepsOn (W.describes wire.old) W.fits wire.old wire.new lane.old.state lane.new.state heard heard }
 {
-    pump(lane, wire)?;
-    if settles {
-        collect(lane, wire);
-        pump(lane, wire)?;
+    match message {
+        Message::Mark => {
+            pump(lane, wire)?;
+            collect(lane, wire);
+        }
+        Message::Nothing => {
+            settle_next(lane, wire);
+        }
+        Message::Other => {
+            if lane.flying() >= lane.in_flight() {
+                settle_next(lane, wire);
+            }
+        }
     }
+    Ok(())
+}
+
+// Settles what is to be settled after a message, and sends what is ready then. While the next
+// request is still being gathered there is nothing to do after an operation.
+fn go_on<W: Wire>(lane: &mut Lane, wire: &mut W, message: Message) -> Result<(), AllocError>
+    requires out { W.out wire.old ≡ out_of lane.old.state }
+    ensures out { W.out wire.new ≡ out_of lane.new.state }
+    ensures describes { W.describes wire.new ≡ W.describes wire.old }
+    ensures keeps { (heard : List Mail)
+        → KeepsOn (W.describes wire.old) W.fits wire.old wire.new lane.old.state lane.new.state heard heard }
+{
+    if matches!(message, Message::Other) && lane.is_gathering() {
+        return Ok(());
+    }
+    settle_some(lane, wire, message)?;
+    send_ready(lane, wire)?;
     Ok(())
 }
 
@@ -93,7 +165,8 @@ fn drain_all<W: Wire, P: Pace>(lane: &mut Lane, wire: &mut W, pace: &mut P) -> L
     }
 }
 
-// Takes one message, and sends and settles what is ready then.
+// Takes one message if there is one or nothing else to wait for, and sends and settles what is to be
+// sent and settled then.
 fn take_next<R: Wait, W: Wire, P: Pace>(
     rt: &R,
     take: &mut LaneTake,
@@ -117,11 +190,11 @@ fn take_next<R: Wait, W: Wire, P: Pace>(
     if make_place(lane, wire, pace).is_err() {
         return Err(LaneEndKind::Memory);
     }
-    let settles = match take_message(rt, take, lane) {
-        Ok(settles) => settles,
+    let message = match take_message(rt, take, lane) {
+        Ok(message) => message,
         Err(kind) => return Err(kind),
     };
-    match send_ready(lane, wire, settles) {
+    match go_on(lane, wire, message) {
         Ok(()) => Ok(()),
         Err(_) => Err(LaneEndKind::Memory),
     }
@@ -185,16 +258,17 @@ fn work<R: Wait, W: Wire, P: Pace>(
     }
 }
 
-/// A lane's thread: until each sender's Done was taken it makes room where as many operations are held
-/// as may be, takes one message, and sends what is ready; after a Tick or a Flush it also waits for what is
-/// in flight, settles it, and sends what is ready then. Then it works until nothing is held. It waits for
-/// messages, for the wire and for the pace, and nothing else. However it ends, what is in flight is waited
-/// for and settled first.
+/// A lane's thread. Until each sender's Done was taken it makes room if as many operations are held as
+/// may be, takes one message, and sends what is ready. It takes messages while requests are in flight,
+/// at most as many as one request carries once all places are taken, and waits for the oldest answer
+/// when nothing is queued or the next request cannot go before; after a Tick or a Flush it waits for
+/// every answer. Then it works until nothing is held. It waits for messages, for the wire and for the
+/// pace, and nothing else. However it ends, what is in flight is waited for and settled first.
 ///
-/// It ends as Memory where there was no memory for an operation that it took or for a request, and as
-/// Gone where the queue answered that all senders are dropped, of which not each had closed; [`LaneEnd`]
+/// It ends as Memory if the allocation for an operation that it took or for a request failed, and as
+/// Gone if the queue says that all senders are dropped, of which not each had closed; [`LaneEnd`]
 /// says what stands then. In each case what the lane heard of its queue is delivered soundly beside each
-/// outside that the wire describes, and where it ends as Finished completely.
+/// outside that the wire describes, and if it ends as Finished completely.
 pub fn run_lane<R: Wait, W: Wire, P: Pace + Drop>(
     rt: &R,
     take: LaneTake,

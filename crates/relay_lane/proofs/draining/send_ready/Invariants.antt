@@ -7,8 +7,8 @@ use Rattle.relay_lane.proofs.draining.send_ready.Given as goal
 abbrev pub invariant-turns : goal.invariant-turns
 invariant-turns g l = record {
   stays : Stays l.fn.lane.state l.lane.state;
-  sent : l.lane.state.core.requests ≡ l.fn.lane.state.core.requests + l.sent;
-  left : l.sent + sends_left l.lane.state ≤ sends_left l.fn.lane.state;
+  sent : l.lane.state.core.requests ≡ l.fn.lane.state.core.requests + l.count;
+  left : l.count + sends_left l.lane.state ≤ sends_left l.fn.lane.state;
   few : sends_left l.fn.lane.state ≤ 18446744073709551615;
   worked : Worked sends_only l.fn.lane.state l.lane.state;
   clock : l.lane.state.core.clock ≡ l.fn.lane.state.core.clock;
