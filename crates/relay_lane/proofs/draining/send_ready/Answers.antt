@@ -26,21 +26,21 @@ returns-in_err-send_next-clause-delivers g c =
     delivers_on (g.W.Wire.describes c.args.wire.now) (g.W.Wire.describes c.turns.wire) g.W.Wire.fits c.args.wire.now c.turns.wire c.send_next.new.wire c.args.lane.now.state c.turns.lane.state c.send_next.new.lane.state
     c.turns.invariant.describes c.turns.invariant.delivers c.send_next.ensures.delivers
 
-pub returns-else-clause-delivers : goal.returns-else-clause-delivers
-returns-else-clause-delivers g c =
+pub returns-else-branch-clause-delivers : goal.returns-else-branch-clause-delivers
+returns-else-branch-clause-delivers g c =
     delivers_on (g.W.Wire.describes c.args.wire.now) (g.W.Wire.describes c.turns.wire) g.W.Wire.fits c.args.wire.now c.turns.wire c.send_next.new.wire c.args.lane.now.state c.turns.lane.state c.send_next.new.lane.state
     c.turns.invariant.describes c.turns.invariant.delivers c.send_next.ensures.delivers
 
 -- ---- where a request was sent
 
-pub turns-smaller-then-branch : goal.turns-smaller-then-branch
-turns-smaller-then-branch g c =
+pub turns-smaller : goal.turns-smaller
+turns-smaller g c =
     let k = asked_sent c.in_ok-send_next.field-0 c.turns.lane.state c.send_next.new.lane.state c.send_next.ensures.lane c.in_ok-send_next.ensures.some c.if-branch.true c.in_ok-send_next.ensures.turn in
     let f = k.turned.falls in
     omega (arith, f)
 
-pub turns-preserved-then-branch : goal.turns-preserved-then-branch
-turns-preserved-then-branch g c =
+pub turns-preserved : goal.turns-preserved
+turns-preserved g c =
     let i = c.turns.invariant in
     let s0 = c.args.lane.now.state in
     let s = c.turns.lane.state in
