@@ -1,5 +1,5 @@
 -- The course of a lane goes on while it works and takes.
-use Rattle.std.proofs.Common.{◌≡◌, ℕ, ◌+◌, ◌<◌, List, [], ◌∷◌, ◌++◌, Bool, true, IsTrue, Result, Ok, Err, OnOk, OnErr, refl, sym, ap, ◌∙◌, subst, arith, length, length-append}
+use Rattle.std.proofs.Common.{◌≡◌, ◌≢◌, ℕ, ◌+◌, ◌<◌, List, [], ◌∷◌, ◌++◌, Bool, true, IsTrue, Result, Ok, Err, OnOk, OnErr, refl, sym, ap, ◌∙◌, subst, arith, length, length-append}
 use Rattle.std.proofs.lemmas.List.{length-replicate}
 use Rattle.relay_action.specs.declared.mail.Mail.{Mail}
 use Rattle.relay_results.specs.Outside.{Outside}
@@ -17,6 +17,8 @@ use Rattle.relay_lane.proofs.Carrying.{goes_on}
 use Rattle.relay_lane.proofs.Reaching.{fresh_is_reached, take_is_reached, work_is_reached}
 use Rattle.relay_threads.specs.Course.{puts_of, KnowsClosed, KnowsOpen, DeliversFrom, Course}
 use Rattle.relay_threads.specs.Steps.{Takes, KeepsOn}
+use Rattle.relay_threads.specs.declared.run.Message.{Message}
+use Rattle.relay_threads.specs.declared.run.Message.TheVariants.{Mark, Other, Nothing}
 use Rattle.relay_threads.proofs.Totals.{worked_totals, take_totals, take_counts}
 use Rattle.relay_threads.proofs.Hearing.{puts_push, knows_take, open_take, none_known, take_senders, take_config}
 
@@ -108,6 +110,12 @@ module _ {S : Type 0} (d : Bool) (fits : S → Outside → Type 0) where
 
   pub takes : (w : S) (s t : State) (old new : List Mail) → Takes s t old new → KeepsOn d fits w w s t old new
   takes w s t old new x start c k = subst (λ (z : List Mail × State). Course d fits start w c z.0 z.1) (λ i. (sym x.taken i, sym x.reached i)) (hears start w s c old x.mail x.sender k)
+
+  -- a message was taken, or none was there
+  pub takes_some : (w : S) (s t : State) (old new : List Mail) (m : Message) → (m ≢ Nothing → Takes s t old new) → (m ≡ Nothing → (t ≡ s) × (new ≡ old)) → KeepsOn d fits w w s t old new
+  takes_some w s t old new Mark some none = takes w s t old new (some (λ e. absurd (cc)))
+  takes_some w s t old new Other some none = takes w s t old new (some (λ e. absurd (cc)))
+  takes_some w s t old new Nothing some none = λ start c k. subst (λ (z : List Mail × State). Course d fits start w c z.0 z.1) (λ i. (sym (none refl).1 i, sym (none refl).0 i)) k
 
 -- one after another
 pub keeps_on : {S : Type 0} (d e : Bool) (fits : S → Outside → Type 0) (u v w : S) (r s t : State) (a b c : List Mail) → e ≡ d → KeepsOn d fits u v r s a b → KeepsOn e fits v w s t b c → KeepsOn d fits u w r t a c

@@ -1,4 +1,5 @@
-//! Wires that wait for one another: each lane's first reply comes once all eight lanes have sent.
+//! Wires that wait: each lane's first reply comes once all eight lanes have sent, or once a producer
+//! has put more.
 ghost use Rattle.std.specs.Prelude.{◌≡◌, None};
 
 use crate::memory::{MemoryWire, wire_of};
@@ -38,10 +39,10 @@ pub fn gate_of<C>(alloc: Global, clock: C, flags: Arc<AtomicU32>) -> GateWire<C>
     }
 }
 
-// Waits until all flags are raised, at most 10,000 turns of a millisecond.
-fn wait_for_all<C: Clock>(clock: &C, flags: &AtomicU32) -> bool {
+// Waits until so many flags are raised, at most 10,000 turns of a millisecond.
+fn wait_for<C: Clock>(clock: &C, flags: &AtomicU32, count: u32) -> bool {
     for _ in 0..10_000 {
-        if flags.load(Ordering::SeqCst) >= LANES {
+        if flags.load(Ordering::SeqCst) >= count {
             return true;
         }
         thread::sleep(clock, Duration::from_millis(1));
@@ -67,7 +68,58 @@ impl<C: Clock> Wire for GateWire<C> {
         if !self.raised {
             self.raised = true;
             let _ = self.flags.fetch_add(1, Ordering::SeqCst);
-            self.passed = wait_for_all(&self.clock, &self.flags);
+            self.passed = wait_for(&self.clock, &self.flags, LANES);
+        }
+        self.inner.receive(number)
+    }
+}
+
+/// A wire in memory that sends its first request once three operations were put, and whose first
+/// reply comes once four were.
+#[derive(Drop)]
+pub struct AheadWire<C> {
+    clock: C,
+    puts: Arc<AtomicU32>,
+    sent: bool,
+    /// Whether the fourth was put before the first reply.
+    pub passed: bool,
+    inner: MemoryWire,
+}
+
+/// A wire that has sent nothing, and sees how many operations were put.
+pub fn ahead_of<C>(alloc: Global, clock: C, puts: Arc<AtomicU32>) -> AheadWire<C>
+    ensures { result.inner.flying ≡ None }
+{
+    AheadWire {
+        clock,
+        puts,
+        sent: false,
+        passed: false,
+        inner: wire_of(alloc),
+    }
+}
+
+impl<C: Clock> Wire for AheadWire<C> {
+    ghost use Rattle.std.specs.Prelude.{false};
+    ghost use Rattle.std.specs.Option.{option_to_list};
+
+    ghost out = { λ w. option_to_list w.inner.flying };
+
+    ghost describes = { λ w. false };
+
+    ghost fits = { λ w o. ⊥ };
+
+    fn send(&mut self, number: u64, writes: &[Write]) -> Result<(), WireFault> {
+        if !self.sent {
+            self.sent = true;
+            let _ = wait_for(&self.clock, &self.puts, 3);
+        }
+        self.inner.send(number, writes)
+    }
+
+    fn receive(&mut self, number: u64) -> Result<WireReply, WireFault> {
+        if !self.passed {
+            self.passed = wait_for(&self.clock, &self.puts, 4);
         }
         self.inner.receive(number)
     }

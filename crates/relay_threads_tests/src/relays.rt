@@ -6,7 +6,7 @@ ghost use Rattle.relay_threads.specs.Relay.{NoneOut};
 ghost use Rattle.relay_wires.specs.Numbered.{numbers};
 ghost use Rattle.relay_threads_tests.specs.Handles.{open_names, closed_names};
 
-use crate::gates::{GateWire, LANES, gate_of};
+use crate::gates::{AheadWire, GateWire, LANES, ahead_of, gate_of};
 use crate::memory::{AtOnce, MemoryWire, action_of, is_whole, key_of, wire_of};
 use relay_action::DocKey;
 use relay_batch::Limits;
@@ -16,7 +16,7 @@ use relay_producer::{ClosedProducer, Producer};
 use relay_threads::{FinishFault, LaneSummary, Relay, StartFault, Summary};
 use relay_wires::LoopWire;
 use std::alloc::{AllocError, Global};
-use std::sync::atomic::AtomicU32;
+use std::sync::atomic::{AtomicU32, Ordering};
 use std::sync::{Arc, Wait};
 use std::test::Fail;
 use std::thread::Threads;
@@ -94,8 +94,14 @@ fn put_one<R: Wait>(rt: &R, alloc: Global, producer: &mut Producer, number: u32,
     }
 }
 
-// Puts an operation by each producer, so often. Whether all were put.
-fn put_all<R: Wait>(rt: &R, alloc: Global, producers: &mut Vec<Producer>, count: u64) -> bool
+// Puts an operation by each producer, so often, and counts them. Whether all were put.
+fn put_all<R: Wait>(
+    rt: &R,
+    alloc: Global,
+    producers: &mut Vec<Producer>,
+    count: u64,
+    puts: &AtomicU32,
+) -> bool
     ensures { open_names producers.new.items ≡ open_names producers.old.items }
 {
     for sent in 0..count {
@@ -104,6 +110,7 @@ fn put_all<R: Wait>(rt: &R, alloc: Global, producers: &mut Vec<Producer>, count:
             if !put_one(rt, alloc, &mut producers[p], number, sent.saturating_add(1)) {
                 return false;
             }
+            let _ = puts.fetch_add(1, Ordering::SeqCst);
         }
     }
     true
@@ -133,13 +140,14 @@ fn put_some<R: Wait>(
     lanes: u32,
     producers: &mut Vec<Producer>,
     count: u64,
+    puts: &AtomicU32,
 ) -> bool
     ensures { open_names producers.new.items ≡ open_names producers.old.items }
 {
     if lanes == LANES {
         put_eight(rt, alloc, producers)
     } else {
-        put_all(rt, alloc, producers, count)
+        put_all(rt, alloc, producers, count, puts)
     }
 }
 
@@ -159,7 +167,7 @@ fn close_all<R: Wait>(
     Ok(closed)
 }
 
-// A relay from start to finish, to which each producer puts so many operations.
+// A relay from start to finish, to which each producer puts so many operations, which are counted.
 fn run<R, W, P>(
     rt: R,
     alloc: Global,
@@ -167,6 +175,7 @@ fn run<R, W, P>(
     wires: Vec<W>,
     paces: Vec<P>,
     count: u64,
+    puts: &AtomicU32,
 ) -> Result<Summary<W>, RunFault>
 where
     R: Threads + Wait + Copy + Send + 'static,
@@ -179,7 +188,7 @@ where
         Err(fault) => return Err(RunFault::Start(fault)),
     };
     let mut producers = producers;
-    let put = put_some(&rt, alloc, config.lanes, &mut producers, count);
+    let put = put_some(&rt, alloc, config.lanes, &mut producers, count, puts);
     let Ok(closed) = close_all(&rt, alloc, producers) else {
         return Err(RunFault::Memory);
     };
@@ -214,6 +223,7 @@ fn run_one<R, W>(
     config: RelayConfig,
     wire: W,
     count: u64,
+    puts: &AtomicU32,
 ) -> Result<Summary<W>, RunFault>
 where
     R: Threads + Wait + Copy + Send + 'static,
@@ -226,7 +236,7 @@ where
     let Ok(paces) = one(alloc, AtOnce) else {
         return Err(RunFault::Memory);
     };
-    run(rt, alloc, config, wires, paces, count)
+    run(rt, alloc, config, wires, paces, count, puts)
 }
 
 // Whether the summary is of one lane, whose index is whole.
@@ -240,7 +250,7 @@ fn is_delivered(alloc: Global, summary: &Summary<MemoryWire>) -> Option<bool> {
 #[test]
 fn two_producers(rt: HostRuntime) -> Result<(), Fail> {
     let alloc = rt.alloc();
-    let summary = run_one(rt, alloc, CONFIG, wire_of(alloc), 100)?;
+    let summary = run_one(rt, alloc, CONFIG, wire_of(alloc), 100, &AtomicU32::new(0))?;
     assert!(rt; is_delivered(alloc, &summary) == Some(true));
     Ok(())
 }
@@ -265,7 +275,14 @@ fn is_delivered_over_http(alloc: Global, summary: &Summary<LoopWire>) -> Option<
 #[test]
 fn two_producers_over_http(rt: HostRuntime) -> Result<(), Fail> {
     let alloc = rt.alloc();
-    let summary = run_one(rt, alloc, CONFIG, loop_wire(alloc)?, 100)?;
+    let summary = run_one(
+        rt,
+        alloc,
+        CONFIG,
+        loop_wire(alloc)?,
+        100,
+        &AtomicU32::new(0),
+    )?;
     assert!(rt; is_delivered_over_http(alloc, &summary) == Some(true));
     Ok(())
 }
@@ -273,7 +290,14 @@ fn two_producers_over_http(rt: HostRuntime) -> Result<(), Fail> {
 #[test]
 fn two_producers_with_four_in_flight(rt: HostRuntime) -> Result<(), Fail> {
     let alloc = rt.alloc();
-    let summary = run_one(rt, alloc, FOUR_IN_FLIGHT, loop_wire(alloc)?, 100)?;
+    let summary = run_one(
+        rt,
+        alloc,
+        FOUR_IN_FLIGHT,
+        loop_wire(alloc)?,
+        100,
+        &AtomicU32::new(0),
+    )?;
     assert!(rt; is_delivered_over_http(alloc, &summary) == Some(true));
     Ok(())
 }
@@ -284,7 +308,7 @@ where
     R: Threads + Wait + Copy + Send + 'static,
 {
     let config = RelayConfig { lanes, ..CONFIG };
-    match run_one(rt, alloc, config, wire_of(alloc), 1) {
+    match run_one(rt, alloc, config, wire_of(alloc), 1, &AtomicU32::new(0)) {
         Err(RunFault::Start(fault)) => Some(fault),
         _ => None,
     }
@@ -335,7 +359,7 @@ where
     let Ok(paces) = paces(alloc) else {
         return Err(RunFault::Memory);
     };
-    run(rt, alloc, config, wires, paces, 1)
+    run(rt, alloc, config, wires, paces, 1, &AtomicU32::new(0))
 }
 
 // Whether each lane took one operation, and saw that all eight had sent.
@@ -352,5 +376,40 @@ fn all_passed<C: Clock>(summary: &Summary<GateWire<C>>) -> bool {
 fn eight_lanes_at_once(rt: HostRuntime) -> Result<(), Fail> {
     let summary = run_eight(rt, rt.alloc())?;
     assert!(rt; all_passed(&summary));
+    Ok(())
+}
+
+// A relay of one lane whose requests carry two operations, to which one producer puts four.
+fn run_ahead<R>(rt: R, alloc: Global) -> Result<Summary<AheadWire<R>>, RunFault>
+where
+    R: Threads + Wait + Clock + Copy + Send + 'static,
+{
+    let config = RelayConfig {
+        producers: 1,
+        in_flight: 1,
+        ..FOUR_IN_FLIGHT
+    };
+    let Ok(puts) = Arc::new(alloc, AtomicU32::new(0)) else {
+        return Err(RunFault::Memory);
+    };
+    let Ok(seen) = Arc::try_clone(&puts) else {
+        return Err(RunFault::Memory);
+    };
+    run_one(rt, alloc, config, ahead_of(alloc, rt, seen), 4, &puts)
+}
+
+// Whether a lane took four operations, the third before the reply to the first two came.
+fn took_ahead<C: Clock>(summary: &Summary<AheadWire<C>>) -> bool {
+    match summary.lanes.as_slice() {
+        [lane] => lane.taken == 4 && lane.wire.passed,
+        _ => false,
+    }
+}
+
+// The queue has one place, so the fourth is put only once the lane has taken the third.
+#[test]
+fn messages_are_taken_in_flight(rt: HostRuntime) -> Result<(), Fail> {
+    let summary = run_ahead(rt, rt.alloc())?;
+    assert!(rt; took_ahead(&summary));
     Ok(())
 }

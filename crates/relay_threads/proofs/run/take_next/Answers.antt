@@ -1,6 +1,6 @@
 use Rattle.relay_threads.specs.declared.lane_end.LaneEndKind.TheVariants.{Memory}
 use Rattle.relay_threads.proofs.Hearing.{heard_all}
-use Rattle.relay_threads.proofs.Keeping.{keeps_on, takes, stays_as}
+use Rattle.relay_threads.proofs.Keeping.{keeps_on, takes_some, stays_as}
 use Rattle.relay_threads.proofs.run.take_next.Goals as goal
 
 pub returns-then-is_err-clause-stopped : goal.returns-then-is_err-clause-stopped
@@ -19,8 +19,8 @@ returns-in-Err-clause-stopped g c =
           (stays_as (d v) fits v v s c.take_message.new.lane.state a (λ i. v) c.in-Err.ensures.unchanged),
     )
 
-pub returns-in-Ok-send_ready-clause-ok : goal.returns-in-Ok-send_ready-clause-ok
-returns-in-Ok-send_ready-clause-ok g c =
+pub returns-in-Ok-go_on-clause-ok : goal.returns-in-Ok-go_on-clause-ok
+returns-in-Ok-go_on-clause-ok g c =
     let d = g.W.Wire.describes in
     let fits = g.W.Wire.fits in
     let a = c.args.take.now.taken in
@@ -28,12 +28,12 @@ returns-in-Ok-send_ready-clause-ok g c =
     let v = c.make_place.new.wire in
     let s = c.make_place.new.lane.state in
     let t = c.take_message.new.lane.state in
-    keeps_on (d c.args.wire.now) (d v) fits c.args.wire.now v c.send_ready.new.wire c.args.lane.now.state t c.send_ready.new.lane.state a b b c.make_place.ensures.describes
-    (keeps_on (d c.args.wire.now) (d v) fits c.args.wire.now v v c.args.lane.now.state s t a a b c.make_place.ensures.describes (c.make_place.ensures.keeps a) (takes (d v) fits v s t a b c.in-Ok.ensures.takes))
-    (c.send_ready.ensures.keeps b)
+    keeps_on (d c.args.wire.now) (d v) fits c.args.wire.now v c.go_on.new.wire c.args.lane.now.state t c.go_on.new.lane.state a b b c.make_place.ensures.describes
+    (keeps_on (d c.args.wire.now) (d v) fits c.args.wire.now v v c.args.lane.now.state s t a a b c.make_place.ensures.describes (c.make_place.ensures.keeps a) (takes_some (d v) fits v s t a b c.in-Ok.message c.in-Ok.ensures.takes c.in-Ok.ensures.nothing))
+    (c.go_on.ensures.keeps b)
 
-pub returns-in-Err-send_ready-clause-stopped : goal.returns-in-Err-send_ready-clause-stopped
-returns-in-Err-send_ready-clause-stopped g c =
+pub returns-in-Err-go_on-clause-stopped : goal.returns-in-Err-go_on-clause-stopped
+returns-in-Err-go_on-clause-stopped g c =
     let d = g.W.Wire.describes in
     let fits = g.W.Wire.fits in
     let a = c.args.take.now.taken in
@@ -43,7 +43,7 @@ returns-in-Err-send_ready-clause-stopped g c =
     let t = c.take_message.new.lane.state in (
       b,
       heard_all Memory b,
-      keeps_on (d c.args.wire.now) (d v) fits c.args.wire.now v c.send_ready.new.wire c.args.lane.now.state t c.send_ready.new.lane.state a b b c.make_place.ensures.describes
-          (keeps_on (d c.args.wire.now) (d v) fits c.args.wire.now v v c.args.lane.now.state s t a a b c.make_place.ensures.describes (c.make_place.ensures.keeps a) (takes (d v) fits v s t a b c.in-Ok.ensures.takes))
-          (c.send_ready.ensures.keeps b),
+      keeps_on (d c.args.wire.now) (d v) fits c.args.wire.now v c.go_on.new.wire c.args.lane.now.state t c.go_on.new.lane.state a b b c.make_place.ensures.describes
+          (keeps_on (d c.args.wire.now) (d v) fits c.args.wire.now v v c.args.lane.now.state s t a a b c.make_place.ensures.describes (c.make_place.ensures.keeps a) (takes_some (d v) fits v s t a b c.in-Ok.message c.in-Ok.ensures.takes c.in-Ok.ensures.nothing))
+          (c.go_on.ensures.keeps b),
     )
