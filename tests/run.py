@@ -35,7 +35,7 @@ def command_line():
     for kind in (b"LineLong", b"NotJson", b"UnsupportedField", b"SourceNewline", b"VersionsSpent", b"relay lines --index"):
         check("help lines names %s" % kind, kind in kinds)
     running = run(["help", "run"]).stdout
-    for word in (b"zcat dump.gz | relay run", b"--timeout <SECONDS>", b"--patience <SECONDS>", b"--report <FILE>", b"--progress", b"12.7 s", b"166 s", b"below twice --count", b"1.4 GB a lane", b"prints and saves none"):
+    for word in (b"zcat dump.gz | relay run", b"--timeout <SECONDS>", b"--patience <SECONDS>", b"--report <FILE>", b"--progress", b"12.7 s", b"166 s", b"below twice --count", b"1.4 GB per lane", b"prints and saves none"):
         check("help run names %s" % word, word in running)
     script = run(["help", "world"]).stdout
     for word in (b"world LANES", b"put P INDEX ID index SOURCE", b"reply R N ..", b"restart EPOCH", b"NotAbove", b"NumbersSpent", b"BadLine", b"finished yes"):

@@ -13,13 +13,14 @@ use std::thread::Threads;
 use std::time::Clock;
 use std::{env, io};
 
-const ABOUT: &str = "Takes write operations from producers to an OpenSearch index.
+const ABOUT: &str = "Delivers write operations from producers to an OpenSearch index.
 
-It writes files of operations to an index, each operation once and in order, numbers the operations
-of one producer as the lines of a bulk request, serves bulk requests with a stand-in index, also over
-HTTP, and plays scripts of what may happen between producers, lanes and an index.";
+It writes files of operations to an index, each operation once and in order; turns the operations of
+one producer into the lines of a bulk request, with versions; serves bulk requests with a stand-in
+index, over standard input or HTTP; and simulates what may happen between producers, lanes and an
+index.";
 
-/// Does what the process's command line says.
+/// Runs what the command line of the process asks for.
 pub fn run<R>(rt: &R, host: HostRuntime) -> Exit
 where
     R: Input
@@ -42,13 +43,13 @@ where
     }
 }
 
-// The words of the command line, with the program's name in front.
+// The words of the command line, starting with the name of the program.
 fn words<R: Env + AllocGlobal>(rt: &R) -> Result<Vec<String>, io::Error> {
     let words = env::args(rt)?.collect(rt.alloc())?;
     Ok(words)
 }
 
-// Does what a command line says.
+// Runs what a command line asks for.
 fn run_words<R>(rt: &R, host: HostRuntime, words: &[String]) -> Exit
 where
     R: Input + Print + Eprint + Net + AllocGlobal + Threads + Wait + Clock + Copy + Send + 'static,
@@ -63,7 +64,6 @@ where
     }
 }
 
-// The whole command line.
 fn relay_command<'a>(alloc: Global) -> Result<Command<'a>, AllocError> {
     let mut command = Command::new(alloc, "relay")
         .version("0.1.0")
@@ -75,7 +75,7 @@ fn relay_command<'a>(alloc: Global) -> Result<Command<'a>, AllocError> {
     Ok(command)
 }
 
-// Runs the subcommand that was found. One that is not known runs nothing.
+// Runs the subcommand that was found, or nothing if it is unknown.
 fn run_matches<R>(rt: &R, host: HostRuntime, matches: &ArgMatches<'_>) -> Exit
 where
     R: Input + Print + Eprint + Net + AllocGlobal + Threads + Wait + Clock + Copy + Send + 'static,
@@ -89,7 +89,7 @@ where
     }
 }
 
-// Says what is wrong with the command line, or prints what it asks for.
+// Prints what is wrong with the command line, or the help or version that it asks for.
 fn explain<R: Print + Eprint>(rt: &R, error: &Error) -> Exit {
     if error.kind() == ErrorKind::OutOfMemory {
         return out_of_memory(rt);

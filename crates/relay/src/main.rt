@@ -1,12 +1,13 @@
-//! The program `relay`: a command line over `relay_commands`, `relay_script`, `relay_stub`, `relay_run` and `relay_report`.
-//! `relay run` writes files of operations to an index; `relay lines` turns a producer's NDJSON into bulk lines
-//! with versions, `relay apply` serves one bulk request with a fresh stand-in index, `relay stub` serves
-//! connections over TCP with one, and `relay world` plays a script of events on lanes with their queues over an
-//! index.
+//! The program `relay`: a command line over `relay_commands`, `relay_script`, `relay_stub`,
+//! `relay_run` and `relay_report`. `relay run` writes files of operations to an index; `relay pick`
+//! extracts the operations that its report names; `relay lines` turns a producer's NDJSON into bulk
+//! lines with versions; `relay apply` serves one bulk request with a fresh stand-in index; `relay
+//! stub` serves connections over TCP with one; and `relay world` plays a script of events on lanes
+//! with their queues over an index.
 //!
-//! It reads the words of the command line, puts standard input and output behind the streams of
-//! `relay_action`, opens sockets by `relay_net`, and prints what stopped a command. The promises are those of
-//! the functions that the commands call, over any reader and writer.
+//! The program reads its command line, wraps standard input and output in the streams of
+//! `relay_action`, opens sockets with `relay_net`, and prints what stopped a command. What is
+//! proved are the contracts of the functions that it calls, over any reader and writer.
 #![tactic(auto)]
 
 mod command;

@@ -5,8 +5,8 @@ use relay_commands::exit::Exit;
 use relay_commands::refuse_list::{ListFault, refuse_list};
 use relay_index::Script;
 
-/// The script of the option `--refuse`, or how the program ends where its value is no list, which was said
-/// then.
+/// The script of the option `--refuse`, or the exit status if its value is not a valid list; then a
+/// message was printed.
 pub fn script_of<R: Eprint + AllocGlobal>(
     rt: &R,
     matches: &ArgMatches<'_>,
@@ -21,7 +21,7 @@ pub fn script_of<R: Eprint + AllocGlobal>(
     }
 }
 
-// Says which pair of a list of refusals is none.
+// Prints which pair of the list is invalid.
 fn bad_pair<R: Eprint>(rt: &R, pair: u64) -> Exit {
     let _ = eprintln!(rt;
         "error: pair {pair} of the value of '--refuse' is no place and status as 2:429, with places from 1 and statuses from 400 to 599 other than 404 and 409"

@@ -1,13 +1,13 @@
-//! What is printed where a command does not end well.
+//! Messages if a command fails.
 use relay_commands::exit::Exit;
 
-/// Says that there was no memory.
+/// Prints that an allocation failed.
 pub fn out_of_memory<R: Eprint>(rt: &R) -> Exit {
     let _ = rt.eprintln("out of memory");
     Exit::Memory
 }
 
-/// Says what is wrong with the command line.
+/// Prints what is wrong with the command line.
 pub fn usage<R: Eprint>(rt: &R, text: &str) -> Exit {
     let _ = rt.eprintln(text);
     Exit::Usage

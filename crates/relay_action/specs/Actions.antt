@@ -1,4 +1,4 @@
--- What an action is.
+-- Actions and their kinds.
 use Rattle.std.specs.Prelude.{◌≡◌, ℕ, bytes_eq, List, codes, Option, None, Some, if◌then◌else◌}
 use Rattle.relay_action.specs.declared.action.Action.{Action}
 use Rattle.relay_action.specs.declared.action.Action.TheVariants.{Index, Delete}
@@ -15,12 +15,12 @@ abbrev pub kind_of : Action → ActionKind
 kind_of (Index s) = kind.Index
 kind_of Delete = kind.Delete
 
--- the name that the bulk API has for a kind
+-- the name of a kind in the bulk API
 abbrev pub kind_name : ActionKind → List ℕ
 kind_name kind.Index = codes "index"
 kind_name kind.Delete = codes "delete"
 
--- the kind of a name
+-- the kind with this name
 abbrev pub kind_named : List ℕ → Option ActionKind
 kind_named name =
     if bytes_eq name (codes "index") then Some kind.Index

@@ -1,4 +1,4 @@
--- Which fault a key or a source has first, and the names of the faults.
+-- The first fault of a document or a source, and the names of faults.
 use Rattle.std.specs.Prelude.{ℕ, ◌==◌, nat_lt, if◌then◌else◌, List, length, codes, Option, None, Some}
 use Rattle.std.specs.List.{list_any}
 use Rattle.relay_action.specs.Limits.{index_limit, id_limit, source_limit, is_line_end}

@@ -1,7 +1,7 @@
--- How the failed calls of a stream are counted, and what a stream in memory does.
+-- The count of a stream's failed calls, and the stream in memory.
 use Rattle.std.specs.Prelude.{ℕ, ◌+◌, ◌-◌, ◌^◌, ◌≤◌, min, List, ◌++◌, Result, Ok, Err, Bool, false, ◌||◌, nat_lt, ◌==◌, length, drop, []}
 
--- the greatest value of a count, at which it stays
+-- where a count saturates
 abbrev pub most : ℕ
 most = 2 ^ 64 - 1
 
@@ -12,15 +12,15 @@ one_more count = min (count + 1) most
 abbrev pub FailedSince : ℕ → ℕ → Type 0
 FailedSince old new = one_more old ≤ new
 
--- whether a write took some of the bytes that it was handed
+-- whether a write took any of the bytes that it was given
 abbrev pub takes_some : {E : Type 0} → Result ℕ E → List ℕ → Bool
 takes_some (Ok n) bytes = nat_lt 0 n || (length bytes == 0)
 takes_some (Err e) bytes = false
 
 -- ---- a stream in memory
 
--- what reads will give and writes gave, how many bytes may be written in all, how many move in a call,
--- which call fails, and how many were made and failed
+-- what is left to read and was written, how many bytes may be written in all, how many move in a call, which call
+-- fails, and how many were made and failed
 pub record Memory : Type 0 where
   pub left : List ℕ
   pub written : List ℕ
@@ -42,21 +42,21 @@ is_call s = one_more s.calls == s.fail_at
 abbrev pub is_full : Memory → Bool
 is_full s = is_call s || (length s.written == s.room)
 
--- one more call was made; a call was refused
+-- one more call was made; a call failed
 abbrev pub called : Memory → Memory
 called s = record s { calls = one_more s.calls }
 
 abbrev pub refused : Memory → Memory
 refused s = record s { failed = one_more s.failed }
 
--- how many bytes a read gives into a buffer, and a write takes of as many
+-- how many bytes a read moves into a buffer of this size, and a write takes of as many
 abbrev pub given_count : Memory → ℕ → ℕ
 given_count s buffer = min buffer (min s.piece (length s.left))
 
 abbrev pub taken_count : Memory → ℕ → ℕ
 taken_count s bytes = min bytes (min s.piece (s.room - length s.written))
 
--- so many bytes were read; these were written
+-- these many bytes were read; these were written
 abbrev pub given : Memory → ℕ → Memory
 given s n = record s { left = drop n s.left }
 

@@ -8,11 +8,11 @@ use crate::long::LongText;
 use memchr::memchr2;
 use std::alloc::{AllocError, Global};
 
-/// The most bytes of a source.
+/// The maximum size of a source, in bytes.
 pub const SOURCE_LIMIT: usize = 1_048_576;
 
-/// What an index action stores: a text of 1 to 1,048,576 bytes on one line, so with no line feed and
-/// no carriage return. It is not parsed.
+/// What an index action stores: 1 to 1,048,576 bytes of UTF-8 on one line, so without line feeds
+/// and carriage returns. It is not parsed.
 #[derive(Debug, Drop)]
 pub struct Source {
     text: LongText,
@@ -29,7 +29,7 @@ impl Source {
         self.text.as_str()
     }
 
-    /// An equal source. `AllocError`: there was no memory for its text.
+    /// A copy of the source. `AllocError`: allocation failed.
     pub fn copy(&self) -> Result<Source, AllocError>
         ensures { IfOk result (λ s. s ≡ self.now) }
     {
@@ -39,7 +39,7 @@ impl Source {
     }
 }
 
-// Whether a byte that ends a line, or may, stands among the bytes.
+// Whether one of the bytes is a line feed or a carriage return.
 #[tactic(auto, using(crate::proofs::LineEnds::found_line_end))]
 fn holds_line_end(bytes: &[u8]) -> bool
     ensures { result ≡ list_any is_line_end bytes.now }
@@ -47,7 +47,7 @@ fn holds_line_end(bytes: &[u8]) -> bool
     memchr2(b'\n', b'\r', bytes).is_some()
 }
 
-/// The kind of an action: the name that the bulk API has for it.
+/// The kind of an action, under the name that the bulk API has for it.
 #[derive(Clone, Copy, Debug, PartialEq, Eq)]
 pub enum ActionKind {
     /// `index`: the source becomes the document.
@@ -59,7 +59,7 @@ pub enum ActionKind {
 impl ActionKind {
     ghost use Rattle.relay_action.specs.Actions.{kind_named};
 
-    /// The kind of a name of the bulk API. `None`: no kind of action has this name.
+    /// The kind with this name in the bulk API. `None`: no kind has this name.
     pub fn named(name: &str) -> Option<ActionKind>
         ensures { result ≡ kind_named name.now }
     {
@@ -84,8 +84,8 @@ impl Action {
     ghost use Rattle.relay_action.specs.Faults.{source_fault};
     ghost use Rattle.relay_action.specs.Actions.{IsIndexOf, kind_of};
 
-    /// The action that stores a source, which it copies. The faults are those of [`ActionFault`] from
-    /// `SourceEmpty` to `SourceNewline`, the first that holds, and then `Memory`.
+    /// An action that stores a copy of the source. The fault is the first that applies, in the
+    /// order of [`ActionFault`] from `SourceEmpty` to `SourceNewline`, and then `Memory`.
     pub fn index(alloc: Global, source: &str) -> Result<Action, ActionFault>
         ensures ok { IfOk result (IsIndexOf source.now) }
         ensures accepted { OnOk result (source_fault source.now ≡ None) }
@@ -113,7 +113,7 @@ impl Action {
         Action::Delete
     }
 
-    /// Its kind.
+    /// The kind of the action.
     pub fn kind(&self) -> ActionKind
         ensures { result ≡ kind_of self.now }
     {
@@ -123,7 +123,7 @@ impl Action {
         }
     }
 
-    /// An equal action. `AllocError`: there was no memory for its source.
+    /// A copy of the action. `AllocError`: allocation failed.
     pub fn copy(&self) -> Result<Action, AllocError>
         ensures { IfOk result (λ a. a ≡ self.now) }
     {

@@ -3,32 +3,32 @@ ghost use Rattle.std.specs.Prelude.{◌≡◌};
 
 use std::fmt;
 
-/// Why no document or no action is made, in the order in which the causes are looked for. The text of
-/// a fault is its name, as the programs print it.
+/// Why a document or an action is refused, in the order in which the causes are checked. A fault is
+/// printed as the name of its variant.
 #[derive(Clone, Copy, Debug, PartialEq, Eq)]
 pub enum ActionFault {
-    /// The index name has no bytes.
+    /// The index name is empty.
     IndexEmpty,
     /// The index name has more than 255 bytes.
     IndexLong,
-    /// The id has no bytes.
+    /// The id is empty.
     IdEmpty,
     /// The id has more than 512 bytes.
     IdLong,
-    /// The source has no bytes.
+    /// The source is empty.
     SourceEmpty,
     /// The source has more than 1,048,576 bytes.
     SourceLong,
-    /// A line feed or a carriage return stands in the source.
+    /// The source contains a line feed or a carriage return.
     SourceNewline,
-    /// There was no memory for a copy of the texts.
+    /// An allocation for the copy failed.
     Memory,
 }
 
 impl ActionFault {
     ghost use Rattle.relay_action.specs.Faults.{fault_name};
 
-    /// Its name, as it is printed: that of the variant.
+    /// The name of the variant, as the programs print it.
     pub fn name(self) -> &'static str
         ensures { result.now ≡ fault_name self }
     {

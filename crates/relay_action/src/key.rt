@@ -6,14 +6,14 @@ use crate::fault::ActionFault;
 use crate::text::Text;
 use std::alloc::{AllocError, Global};
 
-/// The most bytes of an index name.
+/// The maximum size of an index name, in bytes.
 pub const INDEX_LIMIT: usize = 255;
 
-/// The most bytes of an id, as OpenSearch has it.
+/// The maximum size of an id, in bytes: the limit of OpenSearch.
 pub const ID_LIMIT: usize = 512;
 
-/// A document: the name of its index, of 1 to 255 bytes, and its id, of 1 to 512 bytes. An index name
-/// is judged by its length alone.
+/// A document: the name of its index, of 1 to 255 bytes, and its id, of 1 to 512 bytes. Of an index
+/// name only the length is checked.
 #[derive(Debug, Drop, PartialEq, Eq, Hash)]
 pub struct DocKey {
     index: Text,
@@ -27,8 +27,8 @@ pub struct DocKey {
 impl DocKey {
     ghost use Rattle.relay_action.specs.Faults.{key_fault};
 
-    /// The document of an index name and an id, which it copies. The faults are those of
-    /// [`ActionFault`] from `IndexEmpty` to `IdLong`, the first that holds, and then `Memory`.
+    /// The document with copies of this index name and id. The fault is the first that applies, in
+    /// the order of [`ActionFault`] from `IndexEmpty` to `IdLong`, and then `Memory`.
     pub fn new(alloc: Global, index: &str, id: &str) -> Result<DocKey, ActionFault>
         ensures ok { IfOk result (λ k. (k.index ≡ index.now) × (k.id ≡ id.now)) }
         ensures accepted { OnOk result (key_fault index.now id.now ≡ None) }
@@ -67,7 +67,7 @@ impl DocKey {
         self.id.as_str()
     }
 
-    /// An equal document. `AllocError`: there was no memory for its texts.
+    /// A copy of the document. `AllocError`: allocation failed.
     pub fn copy(&self) -> Result<DocKey, AllocError>
         ensures { IfOk result (λ k. k ≡ self.now) }
     {

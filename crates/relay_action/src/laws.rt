@@ -6,7 +6,7 @@ use crate::action::SOURCE_LIMIT;
 use crate::key::{ID_LIMIT, INDEX_LIMIT};
 use crate::write::LAST_VERSION;
 
-/// A law: the constants are the limits that the definitions state.
+/// A law: the constants equal the limits in the definitions.
 pub fn limits_are_as_defined()
     ensures index { INDEX_LIMIT ≡ index_limit }
     ensures id { ID_LIMIT ≡ id_limit }

@@ -1,8 +1,8 @@
-//! The words that all other crates share: documents, sources, actions and writes, which keep the
-//! limits in their types, operations and the mail that carries them to a lane, and the byte streams
-//! that are read and written. It stands on no other crate of the workspace.
+//! The vocabulary that all other crates share: documents, sources, actions and writes, whose types
+//! keep the limits; operations, and the mail that carries them to a lane; and the byte streams that
+//! are read and written. It depends on no other crate of the workspace.
 //!
-//! It carries these promises: a constructor accepts exactly what keeps the limits, a copy equals its
+//! What is proved: a constructor accepts exactly what is within the limits, a copy equals its
 //! original, and a stream that shows its bytes shows exactly those that went through it.
 #![tactic(auto)]
 

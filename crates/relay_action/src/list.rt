@@ -18,21 +18,21 @@ impl<T> Model for List<T> {
 }
 
 impl<T> List<T> {
-    /// The list of a vector's items. It takes no memory.
+    /// A list of the vector's items. It does not allocate.
     pub fn of(items: Vec<T>) -> List<T>
         ensures { result ≡ items.items }
     {
         List { held: items }
     }
 
-    /// The items, lent.
+    /// The items.
     pub fn as_slice(&self) -> &[T]
         ensures { result.now ≡ self.now }
     {
         self.held.as_slice()
     }
 
-    /// The vector with the items. It takes no memory.
+    /// The items as a vector. It does not allocate.
     pub fn into_vec(self) -> Vec<T>
         ensures { result.items ≡ self }
     {

@@ -1,4 +1,4 @@
-//! Long texts, which lie in memory of their own.
+//! Texts on the heap.
 ghost use Rattle.std.specs.Prelude.{◌≡◌, IfOk};
 
 use std::alloc::{AllocError, Global};
@@ -20,7 +20,7 @@ impl Model for LongText {
 }
 
 impl LongText {
-    /// A copy of a text. `AllocError`: there was no memory for its bytes.
+    /// A copy of a text. `AllocError`: allocation failed.
     pub(crate) fn new(alloc: Global, text: &str) -> Result<LongText, AllocError>
         ensures { IfOk result (λ t. t ≡ text.now) }
     {
@@ -29,14 +29,14 @@ impl LongText {
         })
     }
 
-    /// The text, lent.
+    /// The text.
     pub(crate) fn as_str(&self) -> &str
         ensures { result.now ≡ self.now }
     {
         self.text.as_str()
     }
 
-    /// An equal text. `AllocError`: there was no memory for its bytes.
+    /// A copy of the text. `AllocError`: allocation failed.
     pub(crate) fn copy(&self) -> Result<LongText, AllocError>
         ensures { IfOk result (λ t. t ≡ self.now) }
     {

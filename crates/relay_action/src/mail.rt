@@ -1,26 +1,27 @@
-//! What a lane is sent.
+//! Messages to a lane.
 use crate::operation::Op;
 
-/// What a message says to a lane.
+/// The content of a message to a lane.
 #[derive(Debug, Drop)]
 pub enum Body {
-    /// An operation is to be delivered.
+    /// An operation to deliver.
     Put(Op),
-    /// A tick of the clock has passed.
+    /// One tick of the clock has passed.
     Tick,
-    /// What is held is to be sent, full batch or not.
+    /// What is held is to be sent, whether or not the batch is full.
     Flush,
-    /// The sender has closed: this is its last message.
+    /// The sender has closed; this is its last message.
     Done,
 }
 
 /// A message to a lane.
 #[derive(Debug, Drop)]
 pub struct Mail {
-    /// Who sent it: a producer, from 0, or the control, numbered one past the last producer.
+    /// The sender: a producer, from 0, or the control, whose number is one above that of the last
+    /// producer.
     pub sender: u32,
-    /// Which of its messages to this lane it is, from 1.
+    /// The number of the message among those of its sender to this lane, from 1.
     pub number: u64,
-    /// What it says.
+    /// The content.
     pub body: Body,
 }

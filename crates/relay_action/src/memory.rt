@@ -7,8 +7,8 @@ use crate::stream::{ByteIn, ByteOut, ByteStream, StreamFailed};
 use std::alloc::{AllocError, Global};
 use std::marker::Model;
 
-/// A stream in memory: it gives its input, keeps what is written, moves only so many bytes in a call,
-/// and one of its calls fails.
+/// A stream in memory. Reads return its input, a few bytes per call; what is written is kept; and
+/// one of its calls can be made to fail.
 #[derive(Drop)]
 pub struct MemStream {
     input: Vec<u8>,
@@ -41,10 +41,9 @@ impl Model for MemStream {
 }
 
 impl MemStream {
-    /// A stream that gives `input`, and has room for `room` bytes of output, which it reserves. A call
-    /// moves at most `piece` bytes. A write fails where no room is left, and so does the `fail_at`-th
-    /// call, counted from 1 over reads and writes; 0 is none of them. `AllocError`: there was no memory
-    /// for the room.
+    /// A stream with `input` to read and room for `room` bytes of output, which is reserved. A call
+    /// moves at most `piece` bytes. A write fails if no room is left, and so does the `fail_at`-th
+    /// call, counted from 1 over reads and writes; 0 means none. `AllocError`: allocation failed.
     pub fn new(
         alloc: Global,
         input: Vec<u8>,
@@ -67,14 +66,14 @@ impl MemStream {
         })
     }
 
-    /// What was written.
+    /// The bytes written so far.
     pub fn written(&self) -> &[u8]
         ensures { result.now ≡ self.now.written }
     {
         self.output.as_slice()
     }
 
-    // Counts a call, and tells whether it is the one that fails.
+    // Counts a call, and returns whether it is the one that fails.
     fn begin(&mut self) -> bool
         ensures calls { self.new ≡ called self.old }
         ensures fails { result ≡ is_call self.old }
@@ -83,7 +82,6 @@ impl MemStream {
         self.calls == self.fail_at
     }
 
-    // Counts a failed call.
     fn fail(&mut self) -> StreamFailed
         ensures { self.new ≡ refused self.old }
     {
@@ -91,7 +89,7 @@ impl MemStream {
         StreamFailed
     }
 
-    // Moves a piece of what is left to the front of the buffer.
+    // Copies the next piece of the input to the front of the buffer.
     fn give(&mut self, buffer: &mut [u8]) -> usize
         ensures count { result ≡ given_count self.old (length buffer.old) }
         ensures stream { self.new ≡ given self.old result }
@@ -104,7 +102,7 @@ impl MemStream {
         count
     }
 
-    // Moves a piece of the bytes to the end of what was written.
+    // Appends a piece of the bytes to the output.
     fn take(&mut self, bytes: &[u8]) -> usize
         ensures count { result ≡ taken_count self.old (length bytes.now) }
         ensures stream { self.new ≡ taken self.old (take result bytes.now) }
@@ -138,7 +136,7 @@ impl ByteIn for MemStream {
             (if is_ok result then self.old.failed else one_more self.old.failed) }
         ensures written { Some self.new.written ≡ Some self.old.written }
 
-        // Which call fails, how many bytes move, and what is left.
+        // When the call fails, how many bytes it moves, and what is left.
         ensures fails { is_ok result ≡ not (is_call self.old) }
         ensures moves { IfOk result (λ n. n ≡ given_count self.old (length buffer.old)) }
         ensures after { IfOk result (λ n. self.new ≡ given (called self.old) n) }
@@ -161,7 +159,7 @@ impl ByteOut for MemStream {
             (if takes_some result bytes.now then self.old.failed else one_more self.old.failed) }
         ensures left { Some self.new.left ≡ Some self.old.left }
 
-        // Which call fails, how many bytes move, and what was written.
+        // When the call fails, how many bytes it moves, and what was written.
         ensures fails { is_ok result ≡ not (is_full self.old) }
         ensures moves { IfOk result (λ n. n ≡ taken_count self.old (length bytes.now)) }
         ensures after { IfOk result (λ n. self.new ≡ taken (called self.old) (take n bytes.now)) }

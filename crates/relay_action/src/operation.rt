@@ -1,34 +1,34 @@
-//! Operations: what a producer asks for, under a name.
+//! Operations that producers put, and their names.
 ghost use Rattle.std.specs.Prelude.{◌≡◌, IfOk};
 
 use crate::action::Action;
 use crate::key::DocKey;
 use std::alloc::AllocError;
 
-/// The name of an operation: in which epoch it was put, who put it, and as which of its operations in
-/// that epoch, counted from 1 over all lanes.
+/// The name of an operation: the epoch in which it was put, its producer, and its number among the
+/// producer's operations in that epoch, over all lanes.
 #[derive(Clone, Copy, Debug, PartialEq, Eq)]
 pub struct OpName {
-    /// The epoch in which it was put.
+    /// The epoch in which the operation was put.
     pub epoch: u32,
     /// The producer, from 0.
     pub producer: u32,
-    /// Which of its operations of the epoch this is, from 1.
+    /// The operation's number among those of its producer in the epoch, from 1.
     pub number: u64,
 }
 
 /// An operation of a producer.
 #[derive(Debug, Drop)]
 pub struct Op {
-    /// The epoch in which it was put.
+    /// The epoch in which the operation was put.
     pub epoch: u32,
     /// The producer, from 0.
     pub producer: u32,
-    /// Which of its operations of the epoch this is, from 1.
+    /// The operation's number among those of its producer in the epoch, from 1.
     pub number: u64,
-    /// The document.
+    /// The document that it changes.
     pub key: DocKey,
-    /// What is to be done to it.
+    /// The change.
     pub action: Action,
 }
 
@@ -50,7 +50,7 @@ impl Op {
         }
     }
 
-    /// An equal operation. `AllocError`: there was no memory for its texts.
+    /// A copy of the operation. `AllocError`: allocation failed.
     pub fn copy(&self) -> Result<Op, AllocError>
         ensures { IfOk result (λ o. o ≡ self.now) }
     {

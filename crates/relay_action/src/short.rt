@@ -1,14 +1,14 @@
-//! Short texts, which lie in their value.
+//! Texts without a heap allocation.
 ghost use Rattle.std.specs.Prelude.{◌≡◌, ◌≤◌, ◌<◌, length, take, IsNone, ◌↔◌, IfSome, [], IsUtf8};
 ghost use Rattle.relay_action.specs.declared.short.TheConstants.{SHORT_LIMIT};
 
 use std::marker::Model;
 use std::str;
 
-/// The most bytes of a short text: a UUID takes 36.
+/// The maximum size of a short text, in bytes; a UUID takes 36.
 pub(crate) const SHORT_LIMIT: usize = 38;
 
-/// A UTF-8 text of up to 38 bytes, which lie in the value.
+/// A UTF-8 text of up to 38 bytes, stored inline.
 #[derive(Drop)]
 pub(crate) struct ShortText {
     bytes: [u8; SHORT_LIMIT],
@@ -26,7 +26,7 @@ impl Model for ShortText {
 }
 
 impl ShortText {
-    /// The text of no bytes.
+    /// The empty text.
     pub(crate) fn empty() -> ShortText
         ensures { result ≡ [] }
     {
@@ -52,7 +52,7 @@ impl ShortText {
         })
     }
 
-    /// An equal text.
+    /// A copy of the text.
     pub(crate) fn copy(&self) -> ShortText
         ensures { result ≡ self.now }
     {
@@ -62,7 +62,7 @@ impl ShortText {
         }
     }
 
-    /// The text, lent.
+    /// The text.
     pub(crate) fn as_str(&self) -> &str
         ensures { result.now ≡ self.now }
     {

@@ -1,4 +1,4 @@
-//! Streams over the readers and writers of std.
+//! Streams over the readers and writers of `std`.
 ghost use Rattle.std.specs.Prelude.{◌≡◌, ◌≤◌, length, None, IfOk, is_ok, if◌then◌else◌};
 ghost use Rattle.std.specs.Io.KnownBytes.{ReadConsumes, WriteAppends};
 ghost use Rattle.relay_action.specs.Streams.{one_more, takes_some};
@@ -7,10 +7,10 @@ use crate::stream::{ByteIn, ByteOut, ByteStream, StreamFailed};
 use std::io;
 use std::marker::Model;
 
-/// A reader or a writer of std as a stream. As a stream it shows no bytes, since one that stands for a
-/// device has none to show, and it counts the calls that failed. Each call makes one call of what it
-/// holds, of any error of which it answers [`StreamFailed`]. Where the reader or the writer that it holds
-/// knows its bytes, exactly those move that a call answers.
+/// A stream over a reader or a writer of `std`. It shows no bytes, since a device has none to show,
+/// and counts the calls that failed. Each call makes one call of the reader or writer, whose every
+/// error becomes [`StreamFailed`]. If the contract of the reader or writer says which bytes moved,
+/// so does that of the stream.
 #[derive(Drop)]
 pub struct StdStream<T> {
     inner: T,
@@ -33,14 +33,13 @@ impl<T> StdStream<T> {
         StdStream { inner, failed: 0 }
     }
 
-    /// What it stands over.
+    /// The reader or writer.
     pub fn get_ref(&self) -> &T
         ensures { result.now ≡ self.now.0 }
     {
         &self.inner
     }
 
-    // Counts a failed call.
     fn fail(&mut self) -> StreamFailed
         ensures { self.new ≡ (self.old.0, one_more self.old.1) }
     {

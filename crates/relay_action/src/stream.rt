@@ -1,33 +1,32 @@
-//! Streams of bytes that show what went through them, where they can, and count the calls that failed.
+//! Byte streams, which show contracts what went through them if they can, and count failed calls.
 ghost use Rattle.std.specs.Prelude.{◌≡◌, ◌<◌, ◌≤◌, ℕ, List, [], length, take, Option, IfOk, IfErr, OnOk, OnErr, is_ok, if◌then◌else◌};
 ghost use Rattle.std.specs.Io.KnownBytes.{append_known, prepend_known, IsAtEnd};
 ghost use Rattle.relay_action.specs.Streams.{one_more, takes_some, FailedSince};
 
 use thiserror::Error;
 
-/// A call of a stream failed. It moved no bytes, and is not repeated.
+/// A call of a stream failed. It moved no bytes, and is not to be repeated.
 #[derive(Clone, Copy, Debug, PartialEq, Eq, Error)]
 #[error("stream failed")]
 pub struct StreamFailed;
 
-/// What a stream shows to contracts. A stream that shows no bytes has `None`, of which every clause
-/// below holds.
+/// What contracts can see of a stream. A stream that shows no bytes has `None` here, for which the
+/// clauses below hold trivially.
 pub trait ByteStream {
-    /// The bytes that reads will give from here on.
+    /// The bytes that are still to be read.
     ghost left: { Self → Option (List ℕ) };
 
-    /// The bytes that writes gave it.
+    /// The bytes written so far.
     ghost written: { Self → Option (List ℕ) };
 
-    /// How many of its calls failed. At 2^64 - 1 the count stays.
+    /// The number of failed calls; it saturates at 2^64 - 1.
     ghost failed: { Self → ℕ };
 }
 
-/// A stream that is read.
+/// A stream to read from.
 pub trait ByteIn: ByteStream {
-    /// Reads some bytes into the front of the buffer, and answers how many. At most as many come as
-    /// the buffer has room for, and none come only at the end or where it has no room. After
-    /// [`StreamFailed`] nothing was read.
+    /// Reads bytes into the front of the buffer, and returns how many. 0 means the end of the
+    /// stream, unless the buffer is empty. After [`StreamFailed`] nothing was read.
     fn read(&mut self, buffer: &mut [u8]) -> Result<usize, StreamFailed>
         ensures bound { IfOk result (λ n. n ≤ length buffer.new) }
         ensures bytes { IfOk result
@@ -40,10 +39,10 @@ pub trait ByteIn: ByteStream {
         ensures written { Self.written self.new ≡ Self.written self.old };
 }
 
-/// A stream that is written.
+/// A stream to write to.
 pub trait ByteOut: ByteStream {
-    /// Writes some bytes from the front of a slice, and answers how many. A call that takes none of
-    /// the bytes that it was handed counts as failed. After [`StreamFailed`] nothing was written.
+    /// Writes bytes from the front of a slice, and returns how many. Taking none of one or more
+    /// bytes is a failure. After [`StreamFailed`] nothing was written.
     fn write(&mut self, bytes: &[u8]) -> Result<usize, StreamFailed>
         ensures bound { IfOk result (λ n. n ≤ length bytes.now) }
         ensures bytes { IfOk result
@@ -54,8 +53,8 @@ pub trait ByteOut: ByteStream {
         ensures left { Self.left self.new ≡ Self.left self.old };
 }
 
-/// Writes all the bytes. `Err(sent)`: a write failed, and exactly the first `sent` bytes went out, fewer
-/// than all. The write that failed is not repeated.
+/// Writes all the bytes. `Err(sent)`: a write failed after exactly the first `sent` bytes, which
+/// are fewer than all. The failed write is not repeated.
 #[tactic(auto, using(crate::proofs::Shown::append_known_piece))]
 pub fn write_all<W: ByteOut>(out: &mut W, bytes: &[u8]) -> Result<(), usize>
     ensures ok { OnOk result (W.written out.new ≡ append_known (W.written out.old) bytes.now) }

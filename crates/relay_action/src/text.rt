@@ -1,4 +1,4 @@
-//! A text that contracts see as the list of its bytes.
+//! Texts that contracts see as the list of their bytes.
 ghost use Rattle.std.specs.Prelude.{◌≡◌, [], IfOk, bytes_eq};
 ghost use Rattle.std.specs.Cmp.Rules.{comparing, hashing};
 ghost use Rattle.std.specs.Hash as fed;
@@ -11,15 +11,14 @@ use std::fmt;
 use std::hash::{Hash, Hasher};
 use std::marker::Model;
 
-// Where the bytes of a text lie.
 #[derive(Drop)]
 enum Held {
     Short(ShortText),
     Long(LongText),
 }
 
-/// A UTF-8 text, owned. Two texts are equal where their bytes are. One of up to 38 bytes takes no
-/// memory but that of the value.
+/// An owned UTF-8 text. Two texts are equal if their bytes are. Up to 38 bytes are stored inline,
+/// without an allocation.
 #[derive(Drop)]
 pub struct Text {
     held: Held,
@@ -35,7 +34,7 @@ impl Model for Text {
 }
 
 impl Text {
-    /// A copy of a text. `AllocError`: there was no memory for its bytes.
+    /// A copy of a text. `AllocError`: allocation failed.
     pub fn new(alloc: Global, text: &str) -> Result<Text, AllocError>
         ensures { IfOk result (λ t. t ≡ text.now) }
     {
@@ -47,7 +46,7 @@ impl Text {
         })
     }
 
-    /// The text of no bytes.
+    /// The empty text.
     pub fn empty() -> Text
         ensures { result ≡ [] }
     {
@@ -56,7 +55,7 @@ impl Text {
         }
     }
 
-    /// The text, lent.
+    /// The text.
     pub fn as_str(&self) -> &str
         ensures { result.now ≡ self.now }
     {
@@ -66,7 +65,7 @@ impl Text {
         }
     }
 
-    /// An equal text. `AllocError`: there was no memory for its bytes.
+    /// A copy of the text. `AllocError`: allocation failed.
     pub fn copy(&self) -> Result<Text, AllocError>
         ensures { IfOk result (λ t. t ≡ self.now) }
     {

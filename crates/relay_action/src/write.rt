@@ -1,27 +1,27 @@
-//! Writes: what a bulk request asks of the index.
+//! Writes: the changes that a bulk request asks for.
 ghost use Rattle.std.specs.Prelude.{◌≡◌, IfOk};
 
 use crate::action::Action;
 use crate::key::DocKey;
 use std::alloc::AllocError;
 
-/// The last version: OpenSearch takes external versions up to 2^63 - 1, and the relay deals none above
-/// this one.
+/// The highest version. OpenSearch accepts external versions up to 2^63 - 1; the relay assigns none
+/// above this one.
 pub const LAST_VERSION: u64 = 9_000_000_000_000_000_000;
 
-/// A write: a document, the external version that it is given, and what is done.
+/// A write: a document, the external version to give it, and the change.
 #[derive(Debug, Drop)]
 pub struct Write {
     /// The document.
     pub key: DocKey,
-    /// The version, for `version_type` `external`.
+    /// The version, of `version_type` `external`.
     pub version: u64,
-    /// What is done.
+    /// The change.
     pub action: Action,
 }
 
 impl Write {
-    /// An equal write. `AllocError`: there was no memory for its texts.
+    /// A copy of the write. `AllocError`: allocation failed.
     pub fn copy(&self) -> Result<Write, AllocError>
         ensures { IfOk result (λ w. w ≡ self.now) }
     {

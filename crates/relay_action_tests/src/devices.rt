@@ -5,7 +5,8 @@ use relay_action::{ByteIn, ByteOut, StdStream, StreamFailed};
 use std::io;
 use std::test::Fail;
 
-// A reader and a writer that moves one byte a call, whose call of this number fails, and which counts its calls.
+// A reader and a writer that moves one byte per call, fails at the call with this number, and
+// counts its calls.
 #[derive(Drop)]
 struct Device {
     fail_at: u64,
@@ -13,7 +14,7 @@ struct Device {
 }
 
 impl Device {
-    // The next call, for so many bytes.
+    // The next call, for this many bytes.
     fn call(&mut self, len: usize) -> io::Result<usize>
         ensures { IfOk result (λ n. n ≤ len) }
     {
@@ -49,10 +50,10 @@ fn write_once(device: &mut Device) -> Result<usize, StreamFailed> {
     StdStream::new(device).write(b"ab")
 }
 
-// The number of the call that fails, and what the first call of a stream answers.
+// The number of the call that fails, and the result of the first call of a stream.
 const ROWS: [(u64, Result<usize, StreamFailed>); 2] = [(1, Err(StreamFailed)), (2, Ok(1))];
 
-// A read that failed is not repeated, and what a read gave is not added to.
+// A failed read is not retried, and a read is not added to.
 #[test]
 fn a_read_is_one_call(rt: HostRuntime) -> Result<(), Fail> {
     for (fail_at, answer) in ROWS {
@@ -62,7 +63,7 @@ fn a_read_is_one_call(rt: HostRuntime) -> Result<(), Fail> {
     Ok(())
 }
 
-// A write that failed is not repeated, and after a part was written no error of a second call is hidden.
+// A failed write is not retried, and after part was written no error of a second call is hidden.
 #[test]
 fn a_write_is_one_call(rt: HostRuntime) -> Result<(), Fail> {
     for (fail_at, answer) in ROWS {

@@ -1,4 +1,4 @@
-//! The tests of `relay_action`: limits, copies, and what a generic caller sees of a stream.
+//! The tests of `relay_action`: limits, copies, and streams as a generic caller sees them.
 #![tactic(auto)]
 
 #[cfg(test)]

@@ -1,4 +1,4 @@
-//! Limits, copies, and what a generic caller sees of a stream.
+//! Limits, copies, and streams as a generic caller sees them.
 use relay_action::{
     Action, ActionFault, ActionKind, ByteIn, ByteOut, DocKey, List, MemStream, Op, OpName,
     StdStream, StreamFailed, Text, Write, lane_of, write_all,
@@ -6,7 +6,7 @@ use relay_action::{
 use std::alloc::{AllocError, Global};
 use std::test::Fail;
 
-// A text of so many letters.
+// A text of this many letters.
 fn letters(alloc: Global, count: usize) -> Result<String, AllocError> {
     let mut text = String::new(alloc);
     for _ in 0..count {
@@ -15,13 +15,13 @@ fn letters(alloc: Global, count: usize) -> Result<String, AllocError> {
     Ok(text)
 }
 
-// Whether a text holds these letters, equals its copy and differs from another.
+// Whether a text has these letters, equals its copy and differs from another.
 fn is_text(alloc: Global, letters: &str, other: &str) -> Result<bool, AllocError> {
     let text = Text::new(alloc, letters)?;
     Ok(text.as_str() == letters && text.copy()? == text && Text::new(alloc, other)? != text)
 }
 
-// Whether a list holds these items, and gives them up.
+// Whether a list has these items, and returns them.
 fn is_list(alloc: Global, items: &[u8]) -> Result<bool, AllocError> {
     let list = List::of(items.to_vec(alloc)?);
     Ok(list.as_slice() == items && list.into_vec().as_slice() == items)
@@ -33,7 +33,8 @@ fn texts_and_lists_hold_what_they_were_given(rt: HostRuntime) {
     assert!(rt; is_list(rt.alloc(), &[3, 1]) == Ok(true));
 }
 
-// Whether a text of so many letters holds them, equals its copy, and is the empty one just where there are none.
+// Whether a text of this many letters has them, equals its copy, and is the empty text exactly if
+// there are none.
 fn is_text_of(alloc: Global, length: usize) -> Result<bool, AllocError> {
     let letters = letters(alloc, length)?;
     let text = Text::new(alloc, letters.as_str())?;
@@ -41,7 +42,7 @@ fn is_text_of(alloc: Global, length: usize) -> Result<bool, AllocError> {
     Ok(text.as_str() == letters.as_str() && text.copy()? == text && is_empty == (length == 0))
 }
 
-// A text keeps its bytes where they lie in the value, and where they do not.
+// A text keeps its bytes, inline and on the heap.
 #[test]
 fn texts_of_all_lengths(rt: HostRuntime) {
     for length in [0usize, 1, 37, 38, 39, 600] {
@@ -56,7 +57,7 @@ fn is_key(alloc: Global, index: &str, id: &str) -> Result<bool, ActionFault> {
     Ok(key.index() == index && key.id() == id && copy == key)
 }
 
-// The same of an index and an id of so many letters.
+// The same for an index and an id of this many letters.
 fn is_key_of(alloc: Global, index: usize, id: usize) -> Result<bool, ActionFault> {
     let index = letters(alloc, index).map_err(|_| ActionFault::Memory)?;
     let id = letters(alloc, id).map_err(|_| ActionFault::Memory)?;
@@ -92,12 +93,12 @@ const NAMES: &[(ActionFault, &str)] = &[
     (ActionFault::Memory, "Memory"),
 ];
 
-// Whether a fault has this name and is printed by it.
+// Whether a fault has this name and is printed as it.
 fn is_named(alloc: Global, fault: ActionFault, name: &str) -> Result<bool, AllocError> {
     Ok(fault.name() == name && format!(in alloc; "{fault}")?.as_str() == name)
 }
 
-// A fault is printed by its name.
+// A fault is printed as its name.
 #[test]
 fn names_of_faults(rt: HostRuntime) {
     for (fault, name) in NAMES {
@@ -113,14 +114,14 @@ fn indexes(action: &Action, text: &str) -> Result<bool, AllocError> {
     }
 }
 
-// The same of the action that is made of a text.
+// The same for the action made of a text.
 fn is_source(alloc: Global, text: &str) -> Result<bool, ActionFault> {
     let action = Action::index(alloc, text)?;
     let same = indexes(&action, text).map_err(|_| ActionFault::Memory)?;
     Ok(same && action.kind() == ActionKind::Index)
 }
 
-// The same of a source of so many letters.
+// The same for a source of this many letters.
 fn is_source_of(alloc: Global, length: usize) -> Result<bool, ActionFault> {
     let text = letters(alloc, length).map_err(|_| ActionFault::Memory)?;
     is_source(alloc, text.as_str())
@@ -152,7 +153,7 @@ const KINDS: &[(&str, Option<ActionKind>)] = &[
     ("", None),
 ];
 
-// OpenSearch has four names; the relay takes two of them, as they are spelled.
+// OpenSearch has four names; the relay accepts two of them, in this spelling.
 #[test]
 fn kinds_of_names(rt: HostRuntime) {
     for (name, kind) in KINDS {
@@ -218,7 +219,7 @@ fn copies_of_operations_equal_them(rt: HostRuntime) -> Result<(), Fail> {
     Ok(())
 }
 
-// A key, by a second call where the first was refused memory.
+// A key, made by a second call if the first one's allocation failed.
 fn key_again(alloc: Global) -> Result<DocKey, ActionFault> {
     match DocKey::new(alloc, "books", "1") {
         Err(ActionFault::Memory) => DocKey::new(alloc, "books", "1"),
@@ -226,7 +227,7 @@ fn key_again(alloc: Global) -> Result<DocKey, ActionFault> {
     }
 }
 
-// Whether the copy of a key, where there is memory for it, equals it.
+// Whether the copy of a key, if it could be allocated, equals it.
 fn is_copied_key(key: &DocKey) -> bool {
     match key.copy() {
         Ok(copy) => copy == *key,
@@ -234,7 +235,7 @@ fn is_copied_key(key: &DocKey) -> bool {
     }
 }
 
-// Each refused allocation is answered as out of memory, and nothing else changes.
+// A failed allocation is reported as out of memory, and nothing else changes.
 #[test]
 fn refusals(rt: HostRuntime) -> Result<(), Fail> {
     let key = key_again(rt.alloc())?;
@@ -251,7 +252,8 @@ fn copy_piece<S: ByteIn + ByteOut>(stream: &mut S) -> usize {
     }
 }
 
-// Whether a stream of six bytes in pieces of three, whose fourth call fails, is copied and written so.
+// Whether a stream of six bytes in pieces of three, whose fourth call fails, is copied and written
+// like this.
 fn goes_in_pieces(alloc: Global) -> Result<bool, AllocError> {
     let mut stream = MemStream::new(alloc, b"abcdef".to_vec(alloc)?, 5, 3, 4)?;
     Ok(
@@ -271,7 +273,7 @@ fn pieces(rt: HostRuntime) {
 
 const TEN: &[u8] = b"0123456789";
 
-// The call that fails, and what is sent of ten bytes in pieces of three.
+// The call that fails, and how many of ten bytes are sent in pieces of three.
 const SENT: &[(u64, Result<(), usize>)] = &[
     (1, Err(0)),
     (2, Err(3)),
@@ -280,7 +282,7 @@ const SENT: &[(u64, Result<(), usize>)] = &[
     (5, Ok(())),
 ];
 
-// Whether so much is sent, and no more is written.
+// Whether this many bytes are sent, and no more are written.
 fn is_sent(alloc: Global, fail_at: u64, sent: Result<(), usize>) -> Result<bool, AllocError> {
     let mut stream = MemStream::new(alloc, Vec::new(alloc), 10, 3, fail_at)?;
     let found = write_all(&mut stream, TEN);
@@ -296,7 +298,7 @@ fn each_call_fails_in_turn(rt: HostRuntime) {
     }
 }
 
-// A reader and a writer of std, and their end and their want of room.
+// A reader and a writer of `std`, at the end and without room.
 #[test]
 fn streams_of_std(rt: HostRuntime) -> Result<(), Fail> {
     let mut reader = StdStream::new(b"abc".as_slice());
@@ -314,7 +316,7 @@ fn streams_of_std(rt: HostRuntime) -> Result<(), Fail> {
     Ok(())
 }
 
-// The lanes of the ids 0 to 7 of one index, of eight lanes.
+// The lanes of the ids 0 to 7 of one index, with eight lanes.
 const LANES: &[(&str, u32)] = &[
     ("0", 6),
     ("1", 1),
@@ -326,7 +328,7 @@ const LANES: &[(&str, u32)] = &[
     ("7", 7),
 ];
 
-// The lane of an id, of eight and of one.
+// The lane of an id, with eight lanes and with one.
 fn lanes_of(alloc: Global, id: &str) -> Result<(u32, u32), ActionFault> {
     let key = DocKey::new(alloc, "books", id)?;
     Ok((lane_of(&key, 8), lane_of(&key, 1)))

@@ -1,8 +1,8 @@
-//! All that a program over the relay calls, in one place: a program that lists this crate, and the
-//! crates whose types its own signatures name, imports from here alone.
+//! Everything that a program built on the relay calls, in one place. Such a program lists this
+//! crate and the crates whose types are in its own signatures, and imports from here alone.
 //!
-//! The crate has no code of its own. What each item promises stands at the item, and in the README of
-//! the crate that it comes from.
+//! The crate has no code of its own. What each item promises is documented at the item and in the
+//! README of its crate.
 #![tactic(auto)]
 
 // Documents, actions, operations and streams.
@@ -44,7 +44,7 @@ pub use relay_threads::{
     FinishFault, FinishFaultKind, LaneEnd, LaneEndKind, LaneSummary, Relay, StartFault, Summary,
     run_lane,
 };
-// The programs as functions.
+// The commands as functions.
 pub use relay_commands::apply::{ApplyFault, apply};
 pub use relay_commands::exit::Exit;
 pub use relay_commands::lines::{LinesFault, lines};

@@ -5,7 +5,7 @@ ghost use Rattle.relay_batch.specs.Batches.{HasDistinctDocuments};
 use crate::item::BatchItem;
 use std::marker::Model;
 
-/// A batch: one item or more, of distinct documents, in the order in which they were added.
+/// A batch: one or more items, of distinct documents, in the order in which they were added.
 /// Contracts see it as the list of its items.
 #[derive(Debug, Drop)]
 pub struct Batch {
@@ -25,7 +25,6 @@ impl Model for Batch {
 }
 
 impl Batch {
-    // The batch of these items.
     pub(crate) fn of(held: Vec<BatchItem>) -> Batch
         requires filled { 0 < length held.items }
         requires distinct { HasDistinctDocuments held.items }

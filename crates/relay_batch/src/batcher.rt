@@ -1,4 +1,4 @@
-//! The batch that a lane gathers.
+//! A batch while it is gathered.
 ghost use Rattle.std.specs.Prelude.{◌≡◌, ◌+◌, [], MatchOption, OnErr, IfOk, None, Some, if◌then◌else◌};
 ghost use Rattle.std.specs.Prelude.{◌≤◌, nat_eq};
 ghost use Rattle.indexmap.specs.IndexSet.{insert_key, spare};
@@ -12,13 +12,14 @@ use indexmap::IndexSet;
 use std::alloc::{AllocError, Global};
 use std::marker::Model;
 
-/// A batch that is gathered under limits. Contracts see it as those limits and its items so far.
+/// A batch that is being gathered within limits. Contracts see it as those limits and the items so
+/// far.
 #[derive(Debug, Drop)]
 pub struct Batcher {
     limits: Limits,
     held: Vec<BatchItem>,
     total: u64,
-    // The least of the limit's count and the caps of the items.
+    // The lowest of the limit's count and the caps of the items.
     most: u32,
     // The documents of the items.
     documents: IndexSet<u64>,
@@ -41,7 +42,7 @@ impl Model for Batcher {
     } };
 }
 
-// A document enters the set, which has room for it.
+// Adds a document to the set, which has room for it.
 fn note(documents: &mut IndexSet<u64>, doc: u64)
     requires { 1 ≤ spare documents.old }
     ensures { documents.new.keys ≡ insert_key nat_eq documents.old.keys doc }
@@ -50,7 +51,7 @@ fn note(documents: &mut IndexSet<u64>, doc: u64)
 }
 
 impl Batcher {
-    /// A batch with no item yet. It takes no memory, and any limits will do.
+    /// An empty batch, within any limits. It does not allocate.
     pub fn new(alloc: Global, limits: Limits) -> Batcher
         ensures { result ≡ record { limits = limits; items = [] } }
     {
@@ -63,28 +64,27 @@ impl Batcher {
         }
     }
 
-    // Whether an item of the document stands in the batch.
     fn holds(&self, doc: u64) -> bool
         ensures { result ≡ holds_document doc self.now.items }
     {
         self.documents.contains(&doc)
     }
 
-    // Whether the batch has as many items as its limit or one of their caps says.
+    // Whether the batch has reached the limit's count or the cap of one of its items.
     fn is_full(&self) -> bool
         ensures { result ≡ is_count_reached self.now }
     {
         self.held.len() >= self.most as usize
     }
 
-    // Whether something stands in the batch, and it has no room for an item with this cap.
+    // Whether the batch has an item, and no room for another one with this cap.
     fn is_full_for(&self, cap: u32) -> bool
         ensures { result ≡ passes_count self.now cap }
     {
         !self.held.is_empty() && self.held.len() >= self.most.min(cap) as usize
     }
 
-    // The bytes of the batch with so many more, unless they pass the limit.
+    // The bytes of the batch with these in addition, unless they exceed the limit.
     fn total_with(&self, bytes: u64) -> Option<u64>
         ensures { result ≡ (if passes_bytes self.now bytes then None
             else Some (bytes_of self.now.items + bytes)) }
@@ -99,9 +99,9 @@ impl Batcher {
         }
     }
 
-    /// Offers an item. It returns the first of [`Offer`] that holds; only `Added` changes the
-    /// batch. `AllocError`: the allocation for an item that was to be added failed, and the batch
-    /// is unchanged.
+    /// Offers an item. Returns the first of [`Offer`] that applies; only `Added` changes the batch.
+    /// `AllocError`: the allocation for an item that was to be added failed, and the batch is
+    /// unchanged.
     pub fn offer(&mut self, item: BatchItem) -> Result<Offer, AllocError>
         ensures answer { IfOk result (λ o. o ≡ answer_to item self.old) }
         ensures refused { OnErr result (answer_to item self.old ≡ Offer.Added) }
@@ -124,10 +124,10 @@ impl Batcher {
         Ok(Offer::Added)
     }
 
-    /// Whether the batch is to be sent at the clock `now`, in ticks: it is not empty, and it has as
-    /// many items as its limit or the least of their caps, or at least as many bytes as its limit,
-    /// or its first item's `taken_at` plus the linger time is at most `now`. The sum does not
-    /// overflow, so any clock is valid, even one before the item was taken. It does not allocate.
+    /// Whether the batch is to be sent at the clock `now`, in ticks: it is not empty, and it has
+    /// reached the limit's count or the lowest cap of its items, or the limit's bytes, or its first
+    /// item was taken at least the linger time before `now`. The sum does not overflow, so any
+    /// clock is valid, even one before the item was taken. It does not allocate.
     pub fn ready(&self, now: u64) -> bool
         ensures { result ≡ is_ready now self.now }
     {
@@ -143,8 +143,8 @@ impl Batcher {
         }
     }
 
-    /// The items and the bytes that may still be added until the batch reaches its limits and the
-    /// caps of its items; 0 if it has reached them. It does not allocate.
+    /// How many items and bytes may still be added before the batch reaches its limits and the caps
+    /// of its items; 0 if it has reached them. It does not allocate.
     pub fn room(&self) -> Room
         ensures { result ≡ room_of self.now }
     {
@@ -154,7 +154,7 @@ impl Batcher {
         }
     }
 
-    /// The batch of the items, which keeps its limits, or `None` if there is no item. It does not
+    /// The finished batch, which is within its limits, or `None` if there is no item. It does not
     /// allocate.
     pub fn close(self) -> Option<Batch>
         ensures items { MatchOption result (self.items ≡ []) (λ b. b ≡ self.items) }

@@ -1,38 +1,38 @@
-//! What a batch is made of, and its limits.
+//! The items of a batch, and its limits.
 use relay_action::OpName;
 
-/// The limits of a batch. No value is refused here: an empty batch takes any item.
+/// The limits of a batch. No value is invalid: an empty batch takes any item.
 #[derive(Clone, Copy, Debug, PartialEq, Eq)]
 pub struct Limits {
-    /// The most items of a batch of two items or more, beside the caps of its items.
+    /// The maximum number of items, apart from their caps.
     pub count: u32,
-    /// The most bytes of a batch of two items or more. One item alone may have more.
+    /// The maximum number of bytes of two or more items. A single item may have more.
     pub bytes: u64,
-    /// How many ticks after its first item was taken a batch is ready, full or not.
+    /// How many ticks after its first item was taken a batch is ready even if it is not full.
     pub linger: u32,
 }
 
-/// What a batch has room for: items, and bytes that they have together.
+/// The room that is left in a batch.
 #[derive(Clone, Copy, Debug, PartialEq, Eq)]
 pub struct Room {
-    /// How many items.
+    /// The number of items.
     pub items: u32,
-    /// How many bytes.
+    /// The number of bytes, of all these items together.
     pub bytes: u64,
 }
 
-/// An item of a batch: one operation that is to be sent.
+/// An item of a batch: one operation to send.
 #[derive(Clone, Copy, Debug, PartialEq, Eq)]
 pub struct BatchItem {
     /// The operation's name.
     pub name: OpName,
-    /// The lane's number for the held document.
+    /// The lane's number for the document.
     pub doc: u64,
-    /// The version that the operation was given.
+    /// The version that the operation was assigned.
     pub version: u64,
-    /// How many bytes its lines have in the request's text.
+    /// The length of its lines in the text of the request, in bytes.
     pub bytes: u64,
-    /// The most items of a batch of two items or more that it stands in.
+    /// The maximum number of items in a batch that has this item, unless it is alone.
     pub cap: u32,
     /// The lane's clock when the operation was taken, in ticks.
     pub taken_at: u64,

@@ -1,9 +1,10 @@
-//! One batch of a lane, gathered under limits: items are offered one by one, and each offer is
-//! answered in a fixed order. It stands on `relay_action`, for the names of operations.
+//! One batch of a lane, gathered within limits: items are offered one by one, and the answer to
+//! each offer is the first that applies in a fixed order. It depends on `relay_action`, for the
+//! names of operations.
 //!
-//! It carries this promise: a batch has distinct documents and keeps its limits and the caps of its
-//! items, but that one item alone may be over each of them; and each offer gets exactly the answer
-//! that the limits say.
+//! What is proved: a batch has distinct documents and keeps its limits and the caps of its items,
+//! except that a single item may exceed any of them; and each offer gets exactly the answer that
+//! the limits demand.
 #![tactic(auto)]
 
 pub mod batch;

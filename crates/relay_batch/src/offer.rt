@@ -1,13 +1,13 @@
-//! What comes of an offer.
+//! The answers to an offer.
 
-/// The answer to an offer. The first that holds is given, in this order.
+/// The answer to an offer: the first that applies, in this order.
 #[derive(Clone, Copy, Debug, PartialEq, Eq)]
 pub enum Offer {
-    /// An item of that document stands in the batch already.
+    /// The batch has an item of that document.
     Busy,
-    /// The batch is not empty, and it has as many items as its limit or one of the caps says, the
-    /// item's too, or the item's bytes would take it past its limit.
+    /// The batch is not empty, and it has reached the limit's count or one of the caps, including
+    /// that of the item offered, or the item's bytes would exceed the limit.
     Closed,
-    /// The item stands at the end of the batch.
+    /// The item was added at the end.
     Added,
 }

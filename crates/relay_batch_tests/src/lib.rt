@@ -1,4 +1,5 @@
-//! The tests of `relay_batch`: what batches hold, and when they are offered to, closed and ready.
+//! The tests of `relay_batch`: what batches hold, and when they take an item, are closed and are
+//! ready.
 #![tactic(auto)]
 
 #[cfg(test)]

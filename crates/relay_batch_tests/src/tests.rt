@@ -1,10 +1,10 @@
-//! Offers and readiness at the limits, and what a closed batch holds.
+//! Offers and readiness at the limits, and the items of a closed batch.
 use relay_action::OpName;
 use relay_batch::{BatchItem, Batcher, Limits, Offer, Room};
 use std::alloc::{AllocError, Global};
 use std::test::Fail;
 
-// An item of a document, with so many bytes.
+// An item of a document, with this many bytes.
 fn item(doc: u64, bytes: u64, taken_at: u64) -> BatchItem {
     BatchItem {
         name: OpName {
@@ -27,7 +27,7 @@ const LIMITS: Limits = Limits {
     linger: 5,
 };
 
-// Whether items taken at tick 10, offered by document and bytes, are answered so.
+// Whether items taken at tick 10, offered by document and bytes, get these answers.
 fn answers(batcher: &mut Batcher, offers: &[(u64, u64, Offer)]) -> Result<bool, AllocError> {
     let mut same = true;
     for (doc, bytes, answer) in offers {
@@ -36,7 +36,7 @@ fn answers(batcher: &mut Batcher, offers: &[(u64, u64, Offer)]) -> Result<bool, 
     Ok(same)
 }
 
-// Whether a batch is ready at a tick after offers that are answered so; `None`: they are not.
+// Whether a batch is ready at a tick after offers with these answers; `None`: the answers differ.
 fn ready_after(
     alloc: Global,
     limits: Limits,
@@ -51,7 +51,7 @@ fn ready_after(
 }
 
 const OFFERS: &[(&[(u64, u64, Offer)], bool)] = &[
-    // As many bytes, and as many items, as the limits say.
+    // Exactly the limits, in bytes and in items.
     (
         &[
             (1, 400, Offer::Added),
@@ -61,7 +61,7 @@ const OFFERS: &[(&[(u64, u64, Offer)], bool)] = &[
         ],
         true,
     ),
-    // One byte too many, of an offer that leaves the batch open for a smaller one.
+    // One byte too many; the batch still takes a smaller item.
     (
         &[
             (1, 400, Offer::Added),
@@ -71,7 +71,7 @@ const OFFERS: &[(&[(u64, u64, Offer)], bool)] = &[
         ],
         true,
     ),
-    // One item alone may have more bytes than the limit.
+    // A single item may have more bytes than the limit.
     (
         &[
             (1, 5000, Offer::Added),
@@ -91,7 +91,7 @@ const OFFERS: &[(&[(u64, u64, Offer)], bool)] = &[
         ],
         false,
     ),
-    // Busy comes before Closed also where the count is reached.
+    // Busy comes before Closed even if the count is reached.
     (
         &[
             (1, 0, Offer::Added),
@@ -117,7 +117,7 @@ const BYTES: &[(u64, Offer, Offer)] = &[
     (0, Offer::Closed, Offer::Closed),
 ];
 
-// The greatest number of bytes, then none, then one.
+// The highest number of bytes, then none, then one.
 #[test]
 fn bytes_have_no_end(rt: HostRuntime) {
     for (bytes, none, one) in BYTES {
@@ -145,8 +145,8 @@ const LINGERING: &[(u32, u64, u64, bool)] = &[
     (u32::MAX, 0, 4_294_967_294, false),
 ];
 
-// Whether a batch of an item taken at a tick, and one taken at 0, is ready; `None`: the empty batch was, or
-// an item was not added.
+// Whether a batch of an item taken at a tick, and one taken at 0, is ready; `None`: the empty batch
+// was, or an item was not added.
 fn ready_of_two(
     alloc: Global,
     linger: u32,
@@ -168,7 +168,7 @@ fn ready_of_two(
     Ok(Some(batcher.ready(now)))
 }
 
-// Items that no other limit makes ready.
+// Items that are only ready because of the tick.
 #[test]
 fn lingering(rt: HostRuntime) {
     for (linger, taken_at, now, ready) in LINGERING {
@@ -191,7 +191,7 @@ fn a_count_of_none_takes_one(rt: HostRuntime) -> Result<(), Fail> {
     Ok(())
 }
 
-// Whether a closed batch holds these items, and no others.
+// Whether a closed batch has exactly these items.
 fn holds(batcher: Batcher, items: &[BatchItem]) -> bool {
     match batcher.close() {
         Some(batch) => batch.items() == items,
@@ -218,8 +218,8 @@ fn an_empty_batch_is_not_closed(rt: HostRuntime) {
     assert!(rt; Batcher::new(rt.alloc(), LIMITS).close().is_none());
 }
 
-// Whether a batch takes ten thousand items, the documents from 0 on, and is ready with the last of them
-// alone.
+// Whether a batch takes ten thousand items, of the documents from 0 on, and is ready only with the
+// last of them.
 fn takes_ten_thousand(batcher: &mut Batcher) -> Result<bool, AllocError> {
     let mut same = true;
     for doc in 0..10_000u64 {
@@ -229,7 +229,7 @@ fn takes_ten_thousand(batcher: &mut Batcher) -> Result<bool, AllocError> {
     Ok(same && batcher.ready(0))
 }
 
-// Whether a closed batch holds ten thousand items, from the first document to the last.
+// Whether a closed batch has ten thousand items, from the first document to the last.
 fn holds_ten_thousand(batcher: Batcher) -> bool {
     match batcher.close() {
         Some(batch) => {
@@ -273,7 +273,7 @@ const ROOMS: &[(&[(u64, u64, Offer)], u32, u64)] = &[
     ),
 ];
 
-// What is left of the limits after offers that are answered so; `None`: they are not.
+// What is left of the limits after offers with these answers; `None`: the answers differ.
 fn room_after(alloc: Global, offers: &[(u64, u64, Offer)]) -> Result<Option<Room>, AllocError> {
     let mut batcher = Batcher::new(alloc, LIMITS);
     if answers(&mut batcher, offers)? {
@@ -294,8 +294,8 @@ fn room_of_a_batch(rt: HostRuntime) {
     }
 }
 
-// Whether an item is added, at the second offer where the first is refused memory, and then the batch was
-// as before.
+// Whether an item is added, by a second offer if the first one's allocation failed, and the batch
+// was unchanged then.
 fn is_added(batcher: &mut Batcher) -> Result<bool, AllocError> {
     match batcher.offer(item(1, 1024, 10)) {
         Ok(answer) => Ok(answer == Offer::Added),
@@ -305,7 +305,7 @@ fn is_added(batcher: &mut Batcher) -> Result<bool, AllocError> {
     }
 }
 
-// A refused allocation is answered as out of memory, and the batch is as before.
+// A failed allocation is reported as out of memory, and the batch is unchanged.
 #[test]
 fn refusals(rt: HostRuntime) -> Result<(), Fail> {
     let mut batcher = Batcher::new(rt.alloc(), LIMITS);

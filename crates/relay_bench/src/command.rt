@@ -10,10 +10,10 @@ use std::thread::Threads;
 use std::time::Clock;
 use std::{env, io};
 
-// The most messages that a sender puts, and the most readings of a reply.
+// The maximum number of messages per sender, and of readings of a reply.
 const MOST: u64 = 1_000_000_000;
 
-// A run of the queue that the program measures.
+// A measurement of the queue.
 #[derive(Clone, Copy)]
 pub(crate) struct QueueTask {
     senders: u32,
@@ -35,7 +35,7 @@ pub(crate) enum Task {
     HttpWrite(WriteTask),
 }
 
-// How many bytes of a reply come at a time, and how often it is read.
+// The number of bytes of a reply that arrive at a time, and how often it is read.
 #[derive(Clone, Copy)]
 pub(crate) struct ReadTask {
     piece: usize,
@@ -44,7 +44,7 @@ pub(crate) struct ReadTask {
     ghost turns_in_range: { 0 < turns },
 }
 
-// How many writes a request has, the bytes of each source, and how often it is written.
+// The number of writes in a request, the size of each source in bytes, and how often it is written.
 #[derive(Clone, Copy)]
 pub(crate) struct WriteTask {
     count: u32,
@@ -53,7 +53,7 @@ pub(crate) struct WriteTask {
     ghost turns_in_range: { 0 < turns },
 }
 
-// How many operations the lane that is measured holds, and on how many documents.
+// The number of operations that the lane holds, and the number of their documents.
 #[derive(Clone, Copy)]
 pub(crate) struct HeldTask {
     held: u32,
@@ -62,7 +62,7 @@ pub(crate) struct HeldTask {
     ghost documents_in_range: { 0 < documents },
 }
 
-// The number of a word, where it is one from 1 to `most`.
+// The number in a word, if it is from 1 to `most`.
 fn number_of(word: &str, most: u64) -> Option<u64>
     ensures { IfSome result (λ n. (0 < n) × (n ≤ most)) }
 {
@@ -72,7 +72,7 @@ fn number_of(word: &str, most: u64) -> Option<u64>
     }
 }
 
-// The run that three words name.
+// The measurement with these three words.
 fn queue_task(senders: &str, capacity: &str, count: &str) -> Option<Task> {
     let senders = number_of(senders, 16)? as u32;
     let capacity = number_of(capacity, 65_536)? as u32;
@@ -84,21 +84,21 @@ fn queue_task(senders: &str, capacity: &str, count: &str) -> Option<Task> {
     }))
 }
 
-// The lane that two words name.
+// The lane with these two words.
 fn lane_task(held: &str, documents: &str) -> Option<Task> {
     let held = number_of(held, 65_536)? as u32;
     let documents = number_of(documents, 65_536)? as u32;
     Some(Task::Lane(HeldTask { held, documents }))
 }
 
-// The readings that two words name.
+// The readings with these two words.
 fn read_task(piece: &str, turns: &str) -> Option<Task> {
     let piece = number_of(piece, MOST)? as usize;
     let turns = number_of(turns, MOST)?;
     Some(Task::HttpRead(ReadTask { piece, turns }))
 }
 
-// The requests that three words name.
+// The requests with these three words.
 fn write_task(count: &str, size: &str, turns: &str) -> Option<Task> {
     let count = number_of(count, 10_000)? as u32;
     let size = number_of(size, 1_048_576)? as usize;
@@ -106,7 +106,7 @@ fn write_task(count: &str, size: &str, turns: &str) -> Option<Task> {
     Some(Task::HttpWrite(WriteTask { count, size, turns }))
 }
 
-// What the words of a command line ask for, the program's name among them.
+// What a command line asks for; its first word is the name of the program.
 pub(crate) fn task_of(words: &[String]) -> Option<Task> {
     match words {
         [] | [_] => Some(Task::Nothing),
@@ -130,7 +130,7 @@ pub(crate) fn task_of(words: &[String]) -> Option<Task> {
     }
 }
 
-// Measures the queue, and prints how long each message took.
+// Measures the queue, and prints the time per message.
 fn run_queue<R: Threads + Wait + Clock + Print + AllocGlobal + Copy + Send + 'static>(
     rt: R,
     task: QueueTask,
@@ -151,7 +151,7 @@ fn run_queue<R: Threads + Wait + Clock + Print + AllocGlobal + Copy + Send + 'st
     Ok(())
 }
 
-// Measures the readings of the reply on standard input, and prints how long each item took.
+// Measures reading the reply on standard input, and prints the time per item.
 fn run_replies<R: Clock + Input + Print + AllocGlobal>(
     rt: &R,
     turns: u64,
@@ -174,8 +174,8 @@ fn run_replies<R: Clock + Input + Print + AllocGlobal>(
     Ok(())
 }
 
-// Measures a lane, and prints how long an operation took at its take, in a request and in its reply, and how
-// long one question for the first due tick took.
+// Measures a lane, and prints the time per operation for taking it, for a request and for its
+// reply, and the time of one query for the first due tick.
 fn run_lane<R: Clock + Print + AllocGlobal>(rt: &R, task: HeldTask) -> Result<(), BenchFault> {
     let HeldTask { held, documents } = task;
     let times = lane::measure(rt, rt.alloc(), held, documents)?;
@@ -199,7 +199,7 @@ fn run_lane<R: Clock + Print + AllocGlobal>(rt: &R, task: HeldTask) -> Result<()
     Ok(())
 }
 
-// Measures the readings of the reply of HTTP on standard input, and prints how long each took.
+// Measures reading the HTTP reply on standard input, and prints the time per reading.
 fn run_http_read<R: Clock + Input + Print + AllocGlobal>(
     rt: &R,
     task: ReadTask,
@@ -218,7 +218,7 @@ fn run_http_read<R: Clock + Input + Print + AllocGlobal>(
     Ok(())
 }
 
-// Measures a request that is written, and prints how long each took.
+// Measures writing a request, and prints the time per request.
 fn run_http_write<R: Clock + Print + AllocGlobal>(
     rt: &R,
     task: WriteTask,
@@ -234,7 +234,7 @@ fn run_http_write<R: Clock + Print + AllocGlobal>(
     Ok(())
 }
 
-/// Does what the process's command line says.
+/// Runs what the command line of the process asks for.
 pub fn run<R>(rt: R) -> Result<(), BenchFault>
 where
     R: Threads + Wait + Clock + Input + Print + Env + AllocGlobal + Copy + Send + 'static,

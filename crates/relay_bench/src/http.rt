@@ -1,4 +1,4 @@
-//! Messages of HTTP over streams in memory, read or written again and again.
+//! Reading or writing HTTP messages over streams in memory, many times.
 ghost use Rattle.std.specs.Prelude.{◌≡◌, ◌<◌, ◌≤◌, ◌^◌, IfOk, length};
 ghost use Rattle.relay_ndjson.specs.Bulk.{text_of};
 
@@ -10,20 +10,20 @@ use relay_ndjson::bulk_len;
 use std::alloc::Global;
 use std::time::{Clock, Instant};
 
-// More bytes than the head of a request has.
+// More bytes than any request head has.
 const HEAD_ROOM: usize = 1024;
 
-// How many bytes a call of a stream moves that is written.
+// The number of bytes that a write to a stream moves at most.
 const PIECE: usize = 65_536;
 
-/// What the readings of a reply came to.
+/// The result of reading a reply many times.
 #[derive(Clone, Copy, Debug, PartialEq, Eq)]
 pub struct Read {
     /// The status.
     pub status: u16,
-    /// The bytes of the body.
+    /// The length of the body, in bytes.
     pub bytes: usize,
-    /// The nanoseconds that all readings took, at most 10^18.
+    /// The time of all readings in nanoseconds, at most 10^18.
     pub nanoseconds: u64,
 }
 
@@ -42,8 +42,8 @@ fn connect(
     }
 }
 
-// Reads the reply that stands in these bytes, which come so many at a time. The time of a reading is that of
-// the connection and of the call, without that of the copy of the bytes.
+// Reads the reply in these bytes, of which `piece` arrive at a time. The time is that of making the
+// connection and of the call, without copying the bytes.
 fn read_once<R: Clock>(
     rt: &R,
     alloc: Global,
@@ -68,7 +68,7 @@ fn read_once<R: Clock>(
     })
 }
 
-/// Reads the reply that stands in these bytes so many times.
+/// Reads the reply in these bytes `turns` times.
 pub fn measure_read<R: Clock>(
     rt: &R,
     alloc: Global,
@@ -113,7 +113,7 @@ fn write_of(alloc: Global, number: u64, source: &str) -> Result<Write, BenchFaul
     })
 }
 
-// So many writes with sources of so many bytes.
+// Writes with sources of this size.
 fn writes_of(alloc: Global, count: u32, size: usize) -> Result<Vec<Write>, BenchFault> {
     let mut source = String::new(alloc);
     for _byte in 0..size {
@@ -148,9 +148,9 @@ fn write_once<R: Clock>(
     }
 }
 
-/// Writes a request with so many writes, each with a source of so many bytes, so many times: the bytes of its
-/// body, and the nanoseconds of all turns, at most 10^18. At most 10,000 writes, whose text is within the
-/// limit of a request.
+/// Writes a request many times, with `count` writes whose sources have `size` bytes each, and
+/// returns the length of its body and the time of all turns in nanoseconds, at most 10^18. There
+/// may be at most 10,000 writes, whose text is within the limit of a request.
 pub fn measure_write<R: Clock>(
     rt: &R,
     alloc: Global,

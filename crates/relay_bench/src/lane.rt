@@ -1,5 +1,5 @@
-//! A lane that holds many operations: they are taken, and requests are formed and answered until 500 of them
-//! were applied, or all.
+//! A lane that holds many operations: they are taken, and requests are formed and answered until
+//! 500 operations, or all, were applied.
 ghost use Rattle.std.specs.Prelude.{◌<◌, ◌≤◌, ◌^◌, IfOk};
 
 use crate::fault::BenchFault;
@@ -11,29 +11,29 @@ use relay_results::Outcome;
 use std::alloc::Global;
 use std::time::{Clock, Instant};
 
-/// The most operations of the request.
+/// The maximum number of operations in a request.
 pub const BATCH: u32 = 500;
 
 // The source of each operation, of 100 bytes.
 const SOURCE: &str =
     "{\"title\":\"A document of one hundred bytes, as a service may hand it over\",\"year\":2026,\"tags\":[\"a\",\"b\"]}";
 
-/// What the calls of a lane took.
+/// The times of a lane's calls.
 #[derive(Clone, Copy, Debug, PartialEq, Eq)]
 pub struct LaneTimes {
-    /// The operations that the requests carried, all of which their replies applied.
+    /// The number of operations that the requests carried, all of which were applied.
     pub sent: u32,
-    /// The nanoseconds of all takes, at most 10^18.
+    /// The time of all takes in nanoseconds, at most 10^18.
     pub take: u64,
-    /// The nanoseconds of all requests, at most 10^18.
+    /// The time of all requests in nanoseconds, at most 10^18.
     pub request: u64,
-    /// The nanoseconds of all replies, at most 10^18.
+    /// The time of all replies in nanoseconds, at most 10^18.
     pub reply: u64,
-    /// The nanoseconds of one question for the first due tick, at most 10^18.
+    /// The time of one query for the first due tick in nanoseconds, at most 10^18.
     pub due: u64,
 }
 
-// The message that puts the operation with this number on one of so many documents.
+// The message that puts the operation with this number on one of `documents` documents.
 fn mail_of(alloc: Global, number: u64, documents: u32) -> Result<Mail, BenchFault>
     requires { 0 < documents }
 {
@@ -79,7 +79,7 @@ fn take_all(lane: &mut Lane, mails: Vec<Mail>) -> Result<(), BenchFault> {
     Ok(())
 }
 
-// What a reply says where each write was applied.
+// The entries of a reply in which each write was applied.
 fn applied(alloc: Global, writes: &[Write]) -> Result<Vec<Outcome>, BenchFault> {
     let mut outcomes = Vec::new(alloc);
     for write in writes {
@@ -96,7 +96,7 @@ fn applied(alloc: Global, writes: &[Write]) -> Result<Vec<Outcome>, BenchFault> 
     Ok(outcomes)
 }
 
-// Answers a request so that all of its writes were applied: how many those are, and how long it took.
+// Answers a request so that all of its writes were applied, and returns their number and the time.
 fn answer<R: Clock>(
     rt: &R,
     alloc: Global,
@@ -117,7 +117,8 @@ fn answer<R: Clock>(
     Ok((settled.applied, nanoseconds))
 }
 
-// Forms a request and answers it: how many operations it carried, and how long the request and its reply took.
+// Forms a request and answers it, and returns the number of its operations and the times of the
+// request and the reply.
 fn exchange<R: Clock>(rt: &R, alloc: Global, lane: &mut Lane) -> Result<(u32, u64, u64), BenchFault>
     ensures { IfOk result (λ r. (r.1 ≤ 10 ^ 18) × (r.2 ≤ 10 ^ 18)) }
 {
@@ -130,8 +131,8 @@ fn exchange<R: Clock>(rt: &R, alloc: Global, lane: &mut Lane) -> Result<(u32, u6
     Ok((sent, request, reply))
 }
 
-// Forms and answers requests until so many operations were sent: how many were, and how long all requests and
-// all replies took.
+// Forms and answers requests until `wanted` operations were sent, and returns their number and the
+// times of all requests and all replies.
 fn exchange_all<R: Clock>(
     rt: &R,
     alloc: Global,
@@ -154,7 +155,7 @@ fn exchange_all<R: Clock>(
     Ok((sent, capped(requests), capped(replies)))
 }
 
-// Takes so many operations, and forms and answers requests until 500 of them were sent, or all.
+// Takes the operations, and forms and answers requests until 500 of them, or all, were sent.
 fn drive<R: Clock>(
     rt: &R,
     alloc: Global,
@@ -183,7 +184,7 @@ fn drive<R: Clock>(
     })
 }
 
-/// Measures a lane that takes and holds so many operations, of 100 bytes each, on so many documents.
+/// Measures a lane that takes and holds operations of 100 bytes each on these many documents.
 pub fn measure<R: Clock>(
     rt: &R,
     alloc: Global,

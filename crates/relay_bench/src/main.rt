@@ -1,8 +1,9 @@
-//! What the benchmark has to drive in Rattle: a tool beside the product, of which `bench/run.py` prints the
-//! figures beside those of plain Rust programs. It stands on `relay_queue`, `relay_core`, `relay_results` and
-//! `relay_http`, and carries no promise of the product. Without arguments it prints nothing.
+//! The part of the benchmark that is written in Rattle: a tool that `bench/run.py` drives, to
+//! compare its figures with those of plain Rust programs. It depends on `relay_queue`,
+//! `relay_core`, `relay_results` and `relay_http`, and promises nothing of the product. Without
+//! arguments it prints nothing.
 //!
-//! Its queue part starts threads and waits for them.
+//! The measurement of the queue starts threads and waits for them.
 #![tactic(auto)]
 
 mod command;

@@ -13,7 +13,7 @@ use std::thread;
 use std::thread::{Promise, PromisedHandle, Threads};
 use std::time::{Clock, Instant};
 
-// A sender's thread promises that the closed end which it gives back is of the queue of its end.
+// A sender's thread promises that the closed end which it returns is of the queue of its end.
 #[derive(Drop)]
 struct SendPromise {
     put: Snapshot<LanePut>,
@@ -25,7 +25,7 @@ impl Promise<Option<ClosedPut>> for SendPromise {
 
 type SendThread = PromisedHandle<Option<ClosedPut>, SendPromise>;
 
-// Puts so many messages, and closes.
+// Puts `count` messages, and closes.
 fn send_all<R: Wait>(rt: &R, mut put: LanePut, count: u64) -> Option<ClosedPut>
     ensures { IfSome result (λ c. c.queue ≡ put.queue) }
 {
@@ -40,7 +40,7 @@ fn send_all<R: Wait>(rt: &R, mut put: LanePut, count: u64) -> Option<ClosedPut>
     }
 }
 
-// A thread for each sender.
+// Starts a thread for each sender.
 fn start_all<R: Threads + Wait + Copy + Send + 'static>(
     rt: R,
     alloc: Global,
@@ -61,7 +61,8 @@ fn start_all<R: Threads + Wait + Copy + Send + 'static>(
     Ok(threads)
 }
 
-// Takes until each sender has closed, and tells whether each message was the next one of its sender.
+// Takes until each sender has closed, and returns whether each message was the next one of its
+// sender.
 fn take_all<R: Wait>(rt: &R, take: &mut LaneTake, next: &mut Vec<u64>) -> bool
     ensures { take.new.queue ≡ take.old.queue }
 {
@@ -87,7 +88,7 @@ fn take_all<R: Wait>(rt: &R, take: &mut LaneTake, next: &mut Vec<u64>) -> bool
     unreachable!()
 }
 
-// Joins each thread, and meets its closed end; whether all were met.
+// Joins each thread and meets its closed end, and returns whether all were met.
 fn meet_all<R: Threads>(rt: &R, mut taken: Taken, mut threads: Vec<SendThread>) -> bool
     requires { All (λ t. t.promise.put.value.queue ≡ taken.queue) threads.items }
 {
@@ -100,9 +101,9 @@ fn meet_all<R: Threads>(rt: &R, mut taken: Taken, mut threads: Vec<SendThread>) 
     true
 }
 
-/// Puts `count` ticks from each of the senders' threads on one queue of `capacity` places, takes them and
-/// each Done, and meets each closed end. It answers the nanoseconds from the start of the first thread to
-/// the last Done, at most 10^18.
+/// Puts `count` ticks from each sender's thread on one queue of `capacity` places, takes them and
+/// each Done, and meets each closed end. Returns the time from the start of the first thread to the
+/// last Done in nanoseconds, at most 10^18.
 pub fn measure<R: Threads + Wait + Clock + Copy + Send + 'static>(
     rt: R,
     alloc: Global,

@@ -1,4 +1,4 @@
-//! One reply, read again and again.
+//! Reading one reply many times.
 ghost use Rattle.std.specs.Prelude.{◌≡◌, ◌≤◌, ◌^◌, IfOk, length};
 
 use crate::fault::BenchFault;
@@ -7,20 +7,20 @@ use relay_results::{Outcome, read_reply};
 use std::alloc::Global;
 use std::time::{Clock, Instant};
 
-/// What the readings of a reply came to.
+/// The result of reading a reply many times.
 #[derive(Clone, Copy, Debug, PartialEq, Eq)]
 pub struct Readings {
-    /// The items of the reply.
+    /// The number of items in the reply.
     pub items: u64,
-    /// How many of them tell an error.
+    /// The number of items with an error.
     pub errors: u64,
-    /// The sum of their status numbers.
+    /// The sum of their statuses.
     pub statuses: u64,
-    /// The nanoseconds that all readings took, at most 10^18.
+    /// The time of all readings in nanoseconds, at most 10^18.
     pub nanoseconds: u64,
 }
 
-// The items of a reply, those that tell an error, and the sum of the status numbers.
+// The number of items, of those with an error, and the sum of the statuses.
 fn sums(outcomes: &[Outcome]) -> (u64, u64, u64)
     ensures { result.0 ≡ length outcomes.now }
 {
@@ -35,7 +35,7 @@ fn sums(outcomes: &[Outcome]) -> (u64, u64, u64)
     (outcomes.len() as u64, errors, statuses)
 }
 
-/// Reads a reply so many times, and drops each list of outcomes before the next reading.
+/// Reads a reply `turns` times, and drops each list of outcomes before the next reading.
 pub fn measure<R: Clock>(
     rt: &R,
     alloc: Global,

@@ -1,4 +1,4 @@
--- The heaps that hold waiting operations, and the line beside one of them.
+-- The heaps of waiting operations, and the line beside one of them.
 use Rattle.std.specs.Prelude.{◌≡◌, ℕ, ◌==◌, ◌<◌, ◌≤◌, ◌+◌, ◌^◌, Bool, true, false, List, [], ◌∷◌, ◌++◌, map, length}
 use Rattle.std.specs.List.{IsDistinct, AllByRecursion}
 use Rattle.std.specs.Ordering.{nat_cmp}
@@ -9,7 +9,7 @@ use Rattle.relay_delay.specs.declared.ready.ByVersion.{ByVersion}
 use Rattle.relay_delay.specs.declared.later.ByDue.{ByDue}
 use Rattle.relay_delay.specs.Waiting.{insert, is_due, Rises}
 
--- how many there is room for, and those that are held, in rising version
+-- how many operations there is room for, and those that are there, in ascending order of version
 pub record Heap : Type 0 where
   pub room : ℕ
   pub entries : List Entry
@@ -18,7 +18,7 @@ abbrev pub sorted : List Entry → List Entry
 sorted [] = []
 sorted (e ∷ es) = insert e (sorted es)
 
--- each of the first is put into the others
+-- the first list, inserted one by one into the other
 abbrev pub inserted : List Entry → List Entry → List Entry
 inserted [] es = es
 inserted (x ∷ xs) es = insert x (inserted xs es)
@@ -40,7 +40,7 @@ ready_items bs = map (λ (b : ByVersion). b.0) bs
 abbrev pub later_items : List ByDue → List Entry
 later_items bs = map (λ (b : ByDue). b.0) bs
 
--- a heap, and beside it a line in rising version
+-- a heap, beside a line in ascending order of version
 pub record IsReady (bs : List ByVersion) (line : List Entry) : Type 0 where
   pub order : IsHeap by_version bs
   pub rises : Rises line
@@ -62,23 +62,23 @@ AllUpTo v es = AllByRecursion (λ (e : Entry). e.version ≤ v) es
 abbrev pub AllFrom : ℕ → List Entry → Type 0
 AllFrom v es = AllByRecursion (λ (e : Entry). v ≤ e.version) es
 
--- there is a first one, and its version is no higher
+-- there is a first one, and its version is at most this one
 abbrev pub StartsUpTo : ℕ → List Entry → Type 0
 StartsUpTo v [] = ⊥
 StartsUpTo v (e ∷ es) = e.version ≤ v
 
--- the first of these is no higher than any of the others; if there is none, there are no others
+-- the first of these is at most each of the others; if there is none, there are no others
 abbrev pub Leads : List Entry → List Entry → Type 0
 Leads [] es = es ≡ []
 Leads (x ∷ xs) es = AllFrom x.version es
 
--- the clock goes on: those in front and those that are ready are due, and maybe some of the others
+-- while the clock advances: those in front and those that are ready are due, and some of the others may be
 pub record IsMoving (clock : ℕ) (front : List Entry) (ready later : Heap) : Type 0 where
   pub rises : Rises (inserted later.entries (front ++ ready.entries))
   pub due : AllDue clock (front ++ ready.entries)
   pub count : length front + length ready.entries + length later.entries ≤ ready.room
 
--- the due ones are those in front and those that are ready, in this order, and the others are later
+-- the due ones are those in front and then those that are ready; the others are later
 pub record IsDelayed (clock room : ℕ) (front : List Entry) (ready later : Heap) : Type 0 where
   pub rises : Rises (inserted later.entries (front ++ ready.entries))
   pub due : AllDue clock (front ++ ready.entries)

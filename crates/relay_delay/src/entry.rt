@@ -1,4 +1,4 @@
-//! An operation that waits.
+//! A waiting operation.
 
 /// A waiting operation.
 #[derive(Clone, Copy, Debug, PartialEq, Eq)]
@@ -7,6 +7,6 @@ pub struct Entry {
     pub version: u64,
     /// The first tick at which it may be sent.
     pub due: u64,
-    /// Where its caller keeps it.
+    /// The caller's key for the operation; nothing here reads it.
     pub slot: usize,
 }

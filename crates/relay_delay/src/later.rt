@@ -11,7 +11,7 @@ use std::cmp::Ordering;
 use std::collections::BinaryHeap;
 use std::marker::Model;
 
-/// An operation in a heap of which the soonest is on top.
+/// An operation, ordered so that the soonest is on top of the heap.
 #[derive(Clone, Copy, Debug)]
 pub struct ByDue(Entry);
 
@@ -53,7 +53,7 @@ impl Ord for ByDue {
     }
 }
 
-/// A heap of operations with the soonest on top. Contracts see them in rising version.
+/// A heap of operations with the soonest on top. Contracts see them in ascending order of version.
 #[derive(Debug, Drop)]
 pub struct Later {
     heap: BinaryHeap<ByDue>,
@@ -74,7 +74,7 @@ impl Later {
     ghost use Rattle.relay_delay.specs.Waiting.{insert, has_version, is_due, first_due, Rises};
     ghost use Rattle.relay_delay.specs.Heaps.{NoneDue};
 
-    /// It holds none. It does not allocate.
+    /// An empty heap. It does not allocate.
     pub(crate) fn new(alloc: Global) -> Later
         ensures { result.entries ≡ [] }
     {
@@ -83,21 +83,21 @@ impl Later {
         }
     }
 
-    /// How many it holds.
+    /// The number of operations.
     pub(crate) fn len(&self) -> usize
         ensures { result ≡ length self.now.entries }
     {
         self.heap.len()
     }
 
-    /// How many it has room for.
+    /// The number of operations that it has room for.
     pub(crate) fn room(&self) -> usize
         ensures { result ≡ self.now.room }
     {
         self.heap.capacity()
     }
 
-    /// Room for `count`. It grows as a `Vec` does.
+    /// Makes room for `count`, growing as a `Vec` does.
     pub(crate) fn reserve(&mut self, count: usize) -> Result<(), AllocError>
         ensures ok { OnOk result (count ≤ self.new.room) }
         ensures err { OnErr result (self.old.room < count) }
@@ -108,7 +108,7 @@ impl Later {
         self.heap.reserve(more)
     }
 
-    /// Takes one more in. There is room for it, and none has its version.
+    /// Adds an operation. There must be room for it, and no other may have its version.
     pub(crate) fn push(&mut self, one: Entry)
         requires room { length self.old.entries < self.old.room }
         requires fresh { has_version one.version self.old.entries ≡ false }
@@ -118,7 +118,7 @@ impl Later {
         let _ = self.heap.push(ByDue(one));
     }
 
-    /// The first tick at which one is due.
+    /// The first tick at which an operation is due.
     pub(crate) fn first_due(&self) -> Option<u64>
         ensures { result ≡ first_due self.now.entries }
     {
@@ -128,7 +128,6 @@ impl Later {
         }
     }
 
-    // Takes the soonest out.
     fn pop(&mut self) -> Option<Entry>
         ensures { MatchOption result
             ((self.new ≡ self.old) × (self.old.entries ≡ []))
@@ -139,7 +138,7 @@ impl Later {
         Some(top.0)
     }
 
-    /// Takes one out that is due at a tick, if there is one.
+    /// Removes an operation that is due at this tick, if there is one.
     pub(crate) fn pop_due(&mut self, clock: u64) -> Option<Entry>
         ensures { MatchOption result
             ((self.new ≡ self.old) × NoneDue clock self.old.entries)

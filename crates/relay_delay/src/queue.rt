@@ -12,17 +12,17 @@ use std::alloc::{AllocError, Global};
 use std::collections::VecDeque;
 use std::marker::Model;
 
-/// Operations that wait, each with a version of its own, and the clock. Contracts see them in rising
-/// version.
+/// Waiting operations, each with its own version, and the clock. Contracts see them in ascending
+/// order of version.
 #[derive(Debug, Drop)]
 pub struct DelayQueue {
     clock: u64,
     room: usize,
-    /// The first of those that are due, in rising version, all below those in `ready`.
+    /// The first due operations, in ascending order of version, all below those in `ready`.
     front: VecDeque<Entry>,
-    /// The others that are due.
+    /// The other due operations.
     ready: Ready,
-    /// Those that are not due.
+    /// The operations that are not due.
     later: Later,
 }
 
@@ -38,7 +38,7 @@ impl Model for DelayQueue {
     ghost invariant = { λ d. IsDelayed d.clock d.room d.front.items d.ready d.later };
 }
 
-// The last in front goes back to the others that are due.
+// Moves the last operation in front back to the other due ones.
 fn give_back(front: &mut VecDeque<Entry>, ready: &mut Ready)
     requires some { 0 < length front.old.items }
     requires rises { Rises (front.old.items ++ ready.old.entries) }
@@ -52,7 +52,7 @@ fn give_back(front: &mut VecDeque<Entry>, ready: &mut Ready)
     }
 }
 
-// One more that is due. Those in front that are above it go back first.
+// Adds a due operation. Those in front with higher versions go back first.
 fn add(front: &mut VecDeque<Entry>, ready: &mut Ready, one: Entry)
     requires rises { Rises (front.old.items ++ ready.old.entries) }
     requires fresh { has_version one.version (front.old.items ++ ready.old.entries) ≡ false }
@@ -67,7 +67,7 @@ fn add(front: &mut VecDeque<Entry>, ready: &mut Ready, one: Entry)
     ready.push(one);
 }
 
-// The first of the others that are due comes to the front, for which there is room.
+// Moves the first of the other due operations to the front, which has room for it.
 fn bring(front: &mut VecDeque<Entry>, ready: &mut Ready)
     requires some { 0 < length ready.old.entries }
     requires room { length front.old.items < deque_capacity front.old }
@@ -81,7 +81,7 @@ fn bring(front: &mut VecDeque<Entry>, ready: &mut Ready)
     }
 }
 
-// The first of the others that are due come to the front, until `count` are there.
+// Moves due operations to the front until `count` are there, or none is left.
 fn bring_all(front: &mut VecDeque<Entry>, ready: &mut Ready, count: usize) -> Result<(), AllocError>
     requires { count ≤ length front.old.items + length ready.old.entries }
     ensures ok { OnOk result (count ≤ length front.new.items) }
@@ -95,14 +95,14 @@ fn bring_all(front: &mut VecDeque<Entry>, ready: &mut Ready, count: usize) -> Re
     Ok(())
 }
 
-// The one at a place in front.
+// The operation at a place in front.
 fn place(front: &VecDeque<Entry>, at: usize) -> Option<Entry>
     ensures { result ≡ slice_get front.now.items at }
 {
     front.get(at).copied()
 }
 
-// Those that are due at a tick join the others that are.
+// Moves the operations that are due at this tick to the other due ones.
 fn come_due(front: &mut VecDeque<Entry>, ready: &mut Ready, later: &mut Later, clock: u64)
     requires { IsMoving clock front.old.items ready.old later.old }
     ensures same { inserted later.new.entries (front.new.items ++ ready.new.entries)
@@ -118,7 +118,7 @@ fn come_due(front: &mut VecDeque<Entry>, ready: &mut Ready, later: &mut Later, c
 }
 
 impl DelayQueue {
-    /// Nothing waits, and the clock is 0. It does not allocate.
+    /// An empty queue, with the clock at 0. It does not allocate.
     pub fn new(alloc: Global) -> DelayQueue
         ensures { result ≡ record { clock = 0; room = 0; entries = [] } }
     {
@@ -138,7 +138,8 @@ impl DelayQueue {
         self.clock
     }
 
-    /// How many operations wait: no more than there is room for, and each under a version of its own.
+    /// The number of waiting operations: no more than there is room for, and no two with the same
+    /// version.
     pub fn len(&self) -> usize
         ensures len { result ≡ length self.now.entries }
         ensures room { length self.now.entries ≤ self.now.room }
@@ -147,15 +148,14 @@ impl DelayQueue {
         self.front.len() + self.ready.len() + self.later.len()
     }
 
-    // How many are due.
     fn count_due(&self) -> usize
         ensures { result ≡ length (due_entries self.now) }
     {
         self.front.len() + self.ready.len()
     }
 
-    /// Room for `count` operations in all. It at least doubles what it has, so asking for one more each
-    /// time copies little. `AllocError`: an allocation failed; what waits is as it was.
+    /// Makes room for `count` operations in all. The room at least doubles, so growing by one at a
+    /// time is cheap. `AllocError`: an allocation failed, and the waiting operations are unchanged.
     pub fn reserve(&mut self, count: usize) -> Result<(), AllocError>
         ensures ok { OnOk result (count ≤ self.new.room) }
         ensures err { OnErr result (self.old.room < count) }
@@ -172,7 +172,8 @@ impl DelayQueue {
         Ok(())
     }
 
-    /// An operation waits. There is room for it, and no other has its version. It does not allocate.
+    /// Adds an operation. There must be room for it, and no other may have its version. It does not
+    /// allocate.
     pub fn insert(&mut self, one: Entry)
         requires room { length self.old.entries < self.old.room }
         requires fresh { has_version one.version self.old.entries ≡ false }
@@ -185,10 +186,10 @@ impl DelayQueue {
         }
     }
 
-    /// The operation that is due at a place, from 0 for the lowest version, or `None` if fewer are due.
-    /// It brings all up to that place to the front, so ask for 0, 1, 2, .. in turn: each place then
-    /// costs O(log n) once and O(1) after that. `AllocError`: an allocation failed, and one is due at
-    /// the place.
+    /// The due operation at a place, where 0 is the lowest version, or `None` if fewer are due. It
+    /// brings all up to that place to the front, so ask for 0, 1, 2, .. in turn: each place then
+    /// costs O(log n) once and O(1) after that. `AllocError`: an allocation failed, and there is a
+    /// due operation at that place.
     pub fn due_at(&mut self, at: usize) -> Result<Option<Entry>, AllocError>
         ensures ok { IfOk result (λ e. e ≡ slice_get (due_entries self.old) at) }
         ensures err { OnErr result (at < length (due_entries self.old)) }
@@ -201,7 +202,7 @@ impl DelayQueue {
         Ok(place(&self.front, at))
     }
 
-    /// Takes the due operation of the lowest version out, if one is due. It does not allocate.
+    /// Removes the due operation with the lowest version, if one is due. It does not allocate.
     pub fn take_due(&mut self) -> Option<Entry>
         ensures first { result ≡ slice_get (due_entries self.old) 0 }
         ensures left { MatchOption result (self.new ≡ self.old)
@@ -213,7 +214,7 @@ impl DelayQueue {
         }
     }
 
-    /// The clock goes on to a tick. It does not allocate.
+    /// Sets the clock, which must not go back. It does not allocate.
     pub fn tick(&mut self, clock: u64)
         requires { self.old.clock ≤ clock }
         ensures { self.new ≡ record self.old { clock = clock } }
@@ -222,7 +223,7 @@ impl DelayQueue {
         come_due(&mut self.front, &mut self.ready, &mut self.later, clock);
     }
 
-    /// The ticks until an operation is due: 0 if one is, and `None` if nothing waits.
+    /// The number of ticks until an operation is due: 0 if one is due now, `None` if none waits.
     pub fn due_in(&self) -> Option<u64>
         ensures { result ≡ due_in self.now }
     {

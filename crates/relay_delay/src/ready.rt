@@ -1,4 +1,4 @@
-//! Operations that are due, the lowest version first.
+//! Due operations, the lowest version first.
 ghost use Rattle.std.specs.Prelude.{◌≡◌, ◌<◌, ◌≤◌, [], true, false, length, drop, slice_get, nat_eq, refl, OnOk, OnErr};
 ghost use Rattle.std.proofs.Common.{rules};
 ghost use Rattle.std.specs.Cmp.{partial_order_from_own_ties};
@@ -15,7 +15,7 @@ use std::cmp::Ordering;
 use std::collections::{BinaryHeap, VecDeque};
 use std::marker::Model;
 
-/// An operation in a heap of which the lowest version is on top.
+/// An operation, ordered so that the lowest version is on top of the heap.
 #[derive(Clone, Copy, Debug)]
 pub struct ByVersion(Entry);
 
@@ -57,11 +57,11 @@ impl Ord for ByVersion {
     }
 }
 
-/// Operations that are due. Contracts see them in rising version. The lowest version is that of the
-/// first in line or that of the top of the heap.
+/// Due operations. Contracts see them in ascending order of version. The lowest version is the
+/// first in line or the top of the heap.
 #[derive(Debug, Drop)]
 pub struct Ready {
-    /// Those that came in rising version. One of them goes in and comes out in O(1).
+    /// Those that were added in ascending order of version. Each goes in and comes out in O(1).
     line: VecDeque<Entry>,
     /// The others, the lowest version on top.
     heap: BinaryHeap<ByVersion>,
@@ -80,7 +80,7 @@ impl Model for Ready {
     ghost invariant = { λ r. IsReady (heap_items r.heap) r.line.items };
 }
 
-// Whether the top of the heap comes before all in the line.
+// Whether the top of the heap has a lower version than all in the line.
 fn top_is_first(heap: &BinaryHeap<ByVersion>, line: &VecDeque<Entry>) -> bool
     ensures top { result ≡ true → Rises line.now.items
         → Leads (ready_items (heap_items heap.now)) line.now.items }
@@ -96,7 +96,7 @@ fn top_is_first(heap: &BinaryHeap<ByVersion>, line: &VecDeque<Entry>) -> bool
 impl Ready {
     ghost use Rattle.relay_delay.specs.Waiting.{insert, has_version};
 
-    /// It holds none. It does not allocate.
+    /// Empty. It does not allocate.
     pub(crate) fn new(alloc: Global) -> Ready
         ensures { result.entries ≡ [] }
     {
@@ -106,21 +106,21 @@ impl Ready {
         }
     }
 
-    /// How many it holds.
+    /// The number of operations.
     pub(crate) fn len(&self) -> usize
         ensures { result ≡ length self.now.entries }
     {
         self.line.len() + self.heap.len()
     }
 
-    /// How many it has room for, whatever the order in which they come.
+    /// The number of operations that it has room for, in whatever order they are added.
     pub(crate) fn room(&self) -> usize
         ensures { result ≡ self.now.room }
     {
         self.line.capacity().min(self.heap.capacity())
     }
 
-    /// Room for `count`. The heap grows as a `Vec` does, and the line with it.
+    /// Makes room for `count`. The heap grows as a `Vec` does, and the line with it.
     pub(crate) fn reserve(&mut self, count: usize) -> Result<(), AllocError>
         ensures ok { OnOk result (count ≤ self.new.room) }
         ensures err { OnErr result (self.old.room < count) }
@@ -135,8 +135,8 @@ impl Ready {
         self.line.reserve(more)
     }
 
-    /// Takes one more in: behind the line if its version is above all there, else into the heap.
-    /// There is room for it, and none has its version.
+    /// Adds an operation: to the line if its version is above all there, otherwise to the heap.
+    /// There must be room for it, and no other may have its version.
     pub(crate) fn push(&mut self, one: Entry)
         requires room { length self.old.entries < self.old.room }
         requires fresh { has_version one.version self.old.entries ≡ false }
@@ -150,7 +150,7 @@ impl Ready {
         }
     }
 
-    /// Takes the one of the lowest version out.
+    /// Removes the operation with the lowest version.
     pub(crate) fn pop(&mut self) -> Option<Entry>
         ensures room { self.new.room ≡ self.old.room }
         ensures one { result ≡ slice_get self.old.entries 0 }

@@ -2,7 +2,7 @@
 use crate::desk::{Desk, due_at, empty_desk, push, put_back, take, wait};
 use std::alloc::Global;
 
-// Operations that are due at these ticks, under the versions 1, 2, 3, 4.
+// Operations that are due at these ticks, with the versions 1, 2, 3, 4.
 fn desk_of(alloc: Global, dues: [u64; 4]) -> Option<Desk> {
     let mut desk = empty_desk(alloc);
     for due in dues {
@@ -11,7 +11,7 @@ fn desk_of(alloc: Global, dues: [u64; 4]) -> Option<Desk> {
     Some(desk)
 }
 
-// Whether the first two that are due have these versions, where 0 is for none.
+// Whether the first two that are due have these versions, where 0 means none.
 fn begins(desk: &mut Desk, versions: [u64; 2]) -> bool {
     for at in 0..2usize {
         match due_at(desk, at) {
@@ -22,13 +22,13 @@ fn begins(desk: &mut Desk, versions: [u64; 2]) -> bool {
     true
 }
 
-// Whether the one that goes out has this version, where 0 is for none.
+// Whether the operation that is taken out has this version, where 0 means none.
 fn takes(desk: &mut Desk, version: u64) -> bool {
     take(desk) && desk.out.map_or(0, |one| one.version) == version
 }
 
-// What waits is due at the ticks 7, 3, 0 and 3. In each row the clock goes on by some ticks, and these
-// are then the first versions that are due.
+// The operations are due at the ticks 7, 3, 0 and 3. In each row the clock advances by some ticks,
+// and then these are the first versions that are due.
 const AFTER: &[(u64, [u64; 2])] = &[
     (0, [3, 0]),
     (2, [3, 0]),
@@ -50,7 +50,7 @@ fn who_is_due(rt: HostRuntime) {
     assert!(rt; desk.queue.len() == 4 && desk.queue.clock() == 7);
 }
 
-// Whether the first is due after each of these ticks.
+// Whether the first one is due after each of these ticks.
 fn falls_due(desk: &mut Desk, left: [u64; 3]) -> bool {
     for ticks in left {
         if desk.queue.due_in() != Some(ticks) {
@@ -73,7 +73,7 @@ fn how_long_until_one_is_due(rt: HostRuntime) {
     assert!(rt; empty_desk(rt.alloc()).queue.due_in().is_none());
 }
 
-// The one that goes out and comes back is the first again, if it is due.
+// The operation that is taken out and put back is the first again, if it is due.
 #[test]
 fn out_and_back(rt: HostRuntime) {
     let Some(mut desk) = desk_of(rt.alloc(), [0, 0, 0, 0]) else {

@@ -5,7 +5,7 @@ ghost use Rattle.relay_delay_tests.specs.Desk.{AllUnder, AllUnder-prop, IsApart,
 use relay_delay::{DelayQueue, Entry};
 use std::alloc::Global;
 
-/// What waits, below the next version, and the operation that is out.
+/// The waiting operations, all below the next version, and the one that was taken out.
 #[derive(Drop)]
 pub struct Desk {
     pub queue: DelayQueue,
@@ -24,7 +24,7 @@ pub fn empty_desk(alloc: Global) -> Desk {
     }
 }
 
-// Room for one more. If an allocation fails what waits is as it was, and it tries once more.
+// Makes room for one more. If an allocation fails, what waits is unchanged, and it tries once more.
 fn reserve_one(queue: &mut DelayQueue) -> bool
     ensures room { result ≡ true → length queue.new.entries < queue.new.room }
     ensures entries { queue.new.entries ≡ queue.old.entries }
@@ -40,7 +40,7 @@ fn reserve_one(queue: &mut DelayQueue) -> bool
     queue.len() == len && queue.due_in() == due_in && queue.reserve(len + 1).is_ok()
 }
 
-/// One more operation waits, under the next version. `None`: none was taken in.
+/// Adds an operation with the next version. `None`: it was not added.
 pub fn push(desk: &mut Desk, due: u64, slot: usize) -> Option<Entry> {
     if desk.next == u64::MAX || !reserve_one(&mut desk.queue) {
         return None;
@@ -55,7 +55,7 @@ pub fn push(desk: &mut Desk, due: u64, slot: usize) -> Option<Entry> {
     Some(one)
 }
 
-/// The first operation that is due goes out, if none is out. Whether none was.
+/// Takes out the first operation that is due, if none is out. Returns whether none was.
 pub fn take(desk: &mut Desk) -> bool {
     if desk.out.is_some() {
         return false;
@@ -64,7 +64,7 @@ pub fn take(desk: &mut Desk) -> bool {
     true
 }
 
-/// The operation that is out waits again. `None`: none is out.
+/// Puts the operation back that is out. `None`: none is out.
 pub fn put_back(desk: &mut Desk, due: u64) -> Option<Entry> {
     let Some(one) = desk.out else {
         return None;
@@ -78,7 +78,7 @@ pub fn put_back(desk: &mut Desk, due: u64) -> Option<Entry> {
     Some(one)
 }
 
-/// The clock goes on by this many ticks.
+/// Advances the clock by this many ticks.
 pub fn wait(desk: &mut Desk, ticks: u64) {
     let clock = desk.queue.clock().saturating_add(ticks);
     desk.queue.tick(clock);

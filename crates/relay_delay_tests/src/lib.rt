@@ -1,4 +1,4 @@
-//! Tests of relay_delay.
+//! The tests of `relay_delay`.
 #![tactic(auto)]
 
 #[cfg(test)]

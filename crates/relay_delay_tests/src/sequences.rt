@@ -1,11 +1,11 @@
-//! Calls drawn by a seed, beside a plain list.
+//! Random calls, compared with a plain list.
 ghost use Rattle.std.specs.Prelude.{◌<◌};
 
 use crate::desk::{Desk, due_at, empty_desk, push, put_back, take, wait};
 use relay_delay::Entry;
 use std::alloc::Global;
 
-// Both, and what comes next.
+// The queue and the list, and the random number.
 #[derive(Drop)]
 struct Game {
     desk: Desk,
@@ -25,7 +25,7 @@ fn draw(seed: &mut u64, bound: u64) -> u64
     (*seed >> 33) % bound
 }
 
-// The lowest version above another one that is due, in the plain list.
+// The lowest due version above another one, in the plain list.
 fn next_due(rows: &[Entry], clock: u64, above: u64) -> Option<Entry> {
     let mut found: Option<Entry> = None;
     for row in rows {
@@ -62,7 +62,7 @@ fn sees(game: &mut Game, count: usize) -> bool {
     true
 }
 
-// One more in the plain list. It tries once more if the allocation fails.
+// Adds one to the plain list. It tries once more if the allocation fails.
 fn adds(rows: &mut Vec<Entry>, one: Entry) -> bool {
     rows.push(one).is_ok() || rows.push(one).is_ok()
 }
@@ -141,7 +141,7 @@ fn steps(game: &mut Game) -> bool {
     }
 }
 
-// Sixty calls by a seed.
+// Sixty calls from a seed.
 fn plays(alloc: Global, seed: u64) -> bool {
     let mut game = Game {
         desk: empty_desk(alloc),

@@ -1,4 +1,4 @@
--- What is promised of all accepted operations, over any number of incarnations.
+-- What is promised about all accepted operations, over any number of incarnations.
 use Rattle.std.specs.Prelude.{◌≡◌, ◌⊎◌, ℕ, ◌+◌, ◌-◌, ◌<◌, List, [], ◌∷◌, ◌++◌, Option, Some, option_to_list, slice_get, Bool, ◌==◌, ◌&&◌, nat_lt, nat_le, filter, if◌then◌else◌}
 use Rattle.relay_action.specs.declared.write.Write.{Write}
 use Rattle.relay_action.specs.declared.operation.Op.{Op}
@@ -21,23 +21,23 @@ abbrev pub accepted_over : List Incarnation → ℕ → List Op
 accepted_over [] p = []
 accepted_over (i ∷ is) p = i.accepted p ++ accepted_over is p
 
--- from a producer, in the incarnation of an epoch; nothing where there was none
+-- from a producer, in the incarnation with this epoch; none if there was no such incarnation
 abbrev pub accepted_in : List Incarnation → ℕ → ℕ → List Op
 accepted_in [] e p = []
 accepted_in (i ∷ is) e p = if i.config.epoch == e then i.accepted p else accepted_in is e p
 
 -- ---- whose writes were applied
 
--- it may have dealt the version
+-- an incarnation with this config may have assigned the version
 abbrev pub deals_version : Config → ℕ → Bool
 deals_version g v = nat_le g.first v && nat_lt v (g.first + g.deals)
 
--- the operation that a lane dealt a version, in the incarnation that did
+-- the operation to which a lane assigned a version, in the incarnation that assigned it
 abbrev pub op_dealt : List Incarnation → ℕ → ℕ → List Op
 op_dealt [] l v = []
 op_dealt (i ∷ is) l v = if deals_version i.config v then option_to_list (slice_get (i.taken l) (v - i.config.first)) else op_dealt is l v
 
--- the operations that a lane's writes are of
+-- the operations of a lane's writes
 abbrev pub ops_over : List Incarnation → ℕ → List Write → List Op
 ops_over is l [] = []
 ops_over is l (w ∷ ws) = op_dealt is l w.version ++ ops_over is l ws
@@ -51,8 +51,8 @@ attributed_together g lane_of ended s k = ops_over (with_running ended g s) (lan
 abbrev pub reports_of : Together → ℕ → List Report
 reports_of s l = (s.lanes.lane l).reports
 
--- a report of a lane names an operation of that lane that was accepted in this incarnation, and its cause is true of all
--- requests and runs
+-- a report of a lane names an operation of that lane that was accepted in this incarnation, and its cause is true for
+-- all requests and runs
 pub record IsTrueTogether (g : Config) (lane_of : Document → ℕ) (s : Together) (versions : Op → Option ℕ) (l : ℕ) (r : Report) : Type 0 where
   pub op : Op
   pub producer : ℕ
@@ -62,9 +62,10 @@ pub record IsTrueTogether (g : Config) (lane_of : Document → ℕ) (s : Togethe
   pub document : r.document ≡ document_of op.key
   pub cause : IsTrueCause (terms_of g (s.lanes.lane l).taken) (outside_of lane_of s) op (versions op) r.cause
 
--- Over all incarnations the writes applied to each document are those of distinct accepted operations, in each incarnation
--- each producer's in its order, and those of an earlier incarnation before those of every later one. Of the last one each
--- report has a true cause, by one assignment of versions, which is that of all lanes; and none is reported twice.
+-- Over all incarnations the writes applied to each document are those of distinct accepted operations, in each
+-- incarnation each producer's in order, and those of an earlier incarnation before those of every later one. In the
+-- last incarnation each report has a true cause, by one assignment of versions, which is that of all lanes; and none
+-- is reported twice.
 pub record IsSoundTogether (g : Config) (lane_of : Document → ℕ) (ended : List Incarnation) (s : Together) (ops : Document → List Op) : Type 0 where
   pub attribution : (k : Document) → IsAttribution (accepted_over (with_running ended g s)) k ((outside_of lane_of s).applied k) (ops k)
   pub in_order : (k : Document) (e : ℕ) → IsInProducerOrder (accepted_in (with_running ended g s) e) (filter (is_in e) (ops k))
@@ -76,7 +77,7 @@ pub record IsSoundTogether (g : Config) (lane_of : Document → ℕ) (ended : Li
   pub once : (l : ℕ) → AllDistinct (names_of (reports_of s l))
   pub in_one_lane : (l m : ℕ) (r q : Report) → Mem r (reports_of s l) → Mem q (reports_of s m) → r.name ≡ q.name → l ≡ m
 
--- each operation that was accepted in the last incarnation was applied, or is reported by its lane
+-- each operation accepted in the last incarnation was applied, or is reported by its lane
 abbrev pub IsCompleteTogether : (Document → ℕ) → Together → (Document → List Op) → Type 0
 IsCompleteTogether lane_of s ops =
     (p : ℕ) (o : Op) → Mem o (s.lanes.accepted p) →
@@ -121,19 +122,20 @@ TogetherMay =
     (g : Config) (lane_of : Document → ℕ) (ended : List Incarnation) (s : Together) → CameAboutTogether g lane_of ended s →
     HappensInLanes g lane_of s
 
--- a run of one lane's item is one step of the one outside: it changes nothing of another document
+-- a run of one lane's item is one step of the common outside, and changes nothing of another document
 abbrev pub TogetherRuns : Type 0
 TogetherRuns =
     (g : Config) (lane_of : Document → ℕ) (ended : List Incarnation) (s : Together) (i place : ℕ) (o : RunOutcome)
     (from : Origin) → CameAboutTogether g lane_of ended s → MayAct g (RunsAt i place o from) s →
     (w : Write) × RunsItem (outside_of lane_of s) (outside_of lane_of (act g lane_of (RunsAt i place o from) s)) (run_at i place o) w
 
--- the first incarnation's config
+-- the config of the first incarnation
 abbrev pub first_of : List Incarnation → Config → Config
 first_of [] g = g
 first_of (i ∷ is) g = i.config
 
--- the one outside came of an opening in which every stored version is below the first one dealt, by events that may happen
+-- the common outside came about, by events that may happen, from an opening in which every stored version is below
+-- the first one assigned
 pub record ContinuesOpening (g : Config) (s : Outside) : Type 0 where
   pub start : Outside
   pub opening : IsOpening start
@@ -147,8 +149,8 @@ TogetherContinues =
 
 -- ---- whose names are kept
 
--- only a run of an item that applies its write changes to what operations writes are attributed: the write's operation then
--- stands at the end
+-- the attribution of writes is changed only by a run of an item that applies its write: then the write's operation is
+-- added at the end
 abbrev pub RunsNone : Act → Type 0
 RunsNone (Plain m) = Unit {0}
 RunsNone (SendsFrom l chosen) = Unit {0}

@@ -12,27 +12,27 @@ SameActions [] (w ∷ ws) = ⊥
 SameActions (o ∷ os) [] = ⊥
 SameActions (o ∷ os) (w ∷ ws) = (source_of o.action ≡ source_of w.action) × SameActions os ws
 
--- The operations are those of which the writes applied to a document came, one for each: at each place the action is
--- that of the write, no operation stands there twice, and each was accepted, for this document. No version is compared.
+-- The operations from which the writes applied to a document came, one for each: at each position the action is that
+-- of the write, no operation occurs twice, and each was accepted, for this document. Versions are not compared.
 pub record IsAttribution (accepted : ℕ → List Op) (k : Document) (writes : List Write) (ops : List Op) : Type 0 where
   pub actions : SameActions ops writes
   pub distinct : AllDistinct (map name_of ops)
   pub accepted_each : (o : Op) → Mem o ops → (p : ℕ) × Mem o (accepted p)
   pub of_document : (o : Op) → Mem o ops → document_of o.key ≡ k
 
--- those of one producer
+-- the operation is of this producer
 abbrev pub is_from : ℕ → Op → Bool
 is_from p o = o.producer == p
 
--- the operations of each producer stand in the order in which it put them
+-- the operations of each producer are in the order in which it put them
 abbrev pub IsInProducerOrder : (ℕ → List Op) → List Op → Type 0
 IsInProducerOrder accepted ops = (p : ℕ) → IsSubsequence (filter (is_from p) ops) (accepted p)
 
--- those of one epoch
+-- the operation is of this epoch
 abbrev pub is_in : ℕ → Op → Bool
 is_in e o = o.epoch == e
 
--- the operations of an earlier epoch stand before those of every later one
+-- the operations of an earlier epoch come before those of every later one
 abbrev pub AreByEpoch : List Op → Type 0
 AreByEpoch [] = Unit {0}
 AreByEpoch (o ∷ os) = ((p : Op) → Mem p os → o.epoch ≤ p.epoch) × AreByEpoch os

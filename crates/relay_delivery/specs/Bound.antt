@@ -1,4 +1,4 @@
--- How many requests a lane sends that takes nothing more.
+-- The number of requests that a lane sends if it takes nothing more.
 use Rattle.std.specs.Prelude.{◌≢◌, ℕ, zero, suc, ◌+◌, ◌-◌, ◌*◌, ◌/◌, ◌^◌, ◌<◌, ◌≤◌, ◌==◌, if◌then◌else◌, List, [], ◌∷◌, length}
 use Rattle.relay_delivery.specs.Machine.{Config, Core, Held, Step, Takes, Sends, Runs, Answers, steps_of, AllMayStep, CameAbout}
 
@@ -16,12 +16,12 @@ AllDraining (s ∷ ss) = IsDraining s × AllDraining ss
 abbrev pub sent_of : Core → ℕ
 sent_of c = length c.outside.requests
 
--- how often a number can be halved, rounded down, until it is 0, looked at so often
+-- how often a number can be halved, rounded down, until it is 0, in at most `looks` steps
 abbrev pub halvings_in : ℕ → ℕ → ℕ
 halvings_in zero n = 0
 halvings_in (suc looks) n = if n == 0 then 0 else suc (halvings_in looks (n / 2))
 
--- how often it can: one above is as many looks as it takes
+-- how often it can in all: `n` steps are enough
 abbrev pub halvings : ℕ → ℕ
 halvings n = halvings_in n n
 
@@ -30,14 +30,13 @@ abbrev pub tries_left : ℕ → List Held → ℕ
 tries_left max [] = 0
 tries_left max (h ∷ hs) = (max - h.attempts) + halvings h.cap + tries_left max hs
 
--- each further request takes one of them at least
+-- each further request uses up at least one of them
 abbrev pub WithinTriesLeft : Type 0
 WithinTriesLeft =
     (g : Config) (c : Core) (more : List Step) → 0 < g.max → CameAbout g c → AllMayStep g more c → AllDraining more →
     sent_of (steps_of g more c) + tries_left g.max (steps_of g more c).held ≤ sent_of c + tries_left g.max c.held
 
--- so there are at most as many as operations are held, times the tries and 14, where an operation begins with a cap below
--- 2 to the 14
+-- so there are at most `max + 14` for each operation held, if operations begin with a cap below 2 to the 14
 abbrev pub FewRequests : Type 0
 FewRequests =
     (g : Config) (c : Core) (more : List Step) → 0 < g.max → g.cap < 2 ^ 14 → CameAbout g c → AllMayStep g more c →

@@ -15,7 +15,7 @@ use Rattle.relay_results.specs.Fates.{HasEntry, IsRetried, says_too_large}
 
 -- ---- the version assignment
 
--- Operations are dealt versions, or none, and no two operations of one document the same.
+-- Operations are assigned versions, or none, and no two operations of the same document the same version.
 abbrev pub IsAssignment : (Op → Option ℕ) → Type 0
 IsAssignment versions =
     (a b : Op) (v : ℕ) → versions a ≡ Some v → versions b ≡ Some v → document_of a.key ≡ document_of b.key
@@ -23,11 +23,11 @@ IsAssignment versions =
 
 -- ---- what was carried and answered
 
--- a request carried the write: its document, its version and its action
+-- a request carried the write: the same document, version and action
 abbrev pub carries : Write → Request → Bool
 carries w q = list_any (same_write w) q.writes
 
--- it did, and does not say that it was too large: it counts as a try
+-- and was not answered as too large: it counts as a try
 abbrev pub is_try : Write → Request → Bool
 is_try w q = carries w q && not (says_too_large q.answer)
 
@@ -38,8 +38,8 @@ pub record CarriedAt (requests : List Request) (w : Write) (number place : ℕ) 
   pub stands : slice_get q.writes place ≡ Some write
   pub same : same_write w write ≡ true
 
--- a request that carried the write was answered by matching entries, of which the one at its place is this, and one of
--- the item's runs gave it
+-- a request that carried the write was answered with matching entries; this is the one for the write, and one of the
+-- item's runs gave it
 pub record IsAnswered (s : Outside) (w : Write) (o : Outcome) : Type 0 where
   pub number : ℕ
   pub place : ℕ
@@ -48,7 +48,7 @@ pub record IsAnswered (s : Outside) (w : Write) (o : Outcome) : Type 0 where
   pub says : HasEntry request.writes place request.answer o
   pub ran : WasRun s.runs number place o
 
--- a request that carried the write was answered as a whole with this status, and what it carried is not sent again for that
+-- a request that carried the write was answered as a whole with this status, which is not retried
 pub record IsAnsweredWhole (s : Outside) (w : Write) (status : ℕ) : Type 0 where
   pub number : ℕ
   pub place : ℕ
@@ -59,7 +59,8 @@ pub record IsAnsweredWhole (s : Outside) (w : Write) (status : ℕ) : Type 0 whe
 
 -- ---- true causes
 
--- Refused: it was answered by this status and this error's type, which one of its runs gave and the table refuses.
+-- Refused: it was answered with this status and this type of error, which one of its runs gave, and the verdict on
+-- which is Refused.
 pub record IsTrueRefusal (s : Outside) (w : Write) (status : ℕ) (error : List ℕ) : Type 0 where
   pub outcome : Outcome
   pub answered : IsAnswered s w outcome
@@ -67,21 +68,21 @@ pub record IsTrueRefusal (s : Outside) (w : Write) (status : ℕ) (error : List 
   pub status_is : outcome.status ≡ status
   pub error_is : unwrap_or outcome.error [] ≡ error
 
--- Conflict: exactly one request carried it, and that was answered by 409, which one of its runs gave.
+-- Conflict: exactly one request carried it, and that was answered with 409, which one of its runs gave.
 pub record IsTrueConflict (s : Outside) (w : Write) : Type 0 where
   pub once : count (carries w) s.requests ≡ 1
   pub outcome : Outcome
   pub answered : IsAnswered s w outcome
   pub conflict : is_conflict outcome.status ≡ true
 
--- GaveUp: exactly so many requests carried it; those of them that were not answered as too large are as many as tries were
--- allowed at least; and to each came an answer after which it is sent again.
+-- GaveUp: exactly `sends` requests carried it; at least `max` of them were not answered as too large; and each got an
+-- answer that is retried.
 pub record GaveUpAfter (requests : List Request) (w : Write) (max sends : ℕ) : Type 0 where
   pub exactly : count (carries w) requests ≡ sends
   pub enough : max ≤ count (is_try w) requests
   pub each : (number place : ℕ) (q : Request) → CarriedAt requests w number place q → IsRetried q.writes place q.answer
 
--- The cause is true of a write that was dealt a version, of which so many tries were allowed.
+-- The cause is true for a write that was assigned a version, of which `max` tries were allowed.
 abbrev pub IsTrueOf : ℕ → Outside → Write → Cause → Type 0
 IsTrueOf max s w (cause.Refused status error) = IsTrueRefusal s w status error
 IsTrueOf max s w (cause.Request status) = IsAnsweredWhole s w status
@@ -89,26 +90,26 @@ IsTrueOf max s w cause.Conflict = IsTrueConflict s w
 IsTrueOf max s w (cause.GaveUp sends) = GaveUpAfter s.requests w max sends
 IsTrueOf max s w cause.Spent = ⊥
 
--- what a lane's causes are judged by beside the outside: how many tries an operation has, how many versions the lane
--- deals, and how many Puts it took from its queue
+-- what the causes of a lane are judged by, besides the outside: how many tries an operation has, how many versions
+-- the lane assigns, and how many Puts it took from its queue
 pub record Terms : Type 0 where
   pub max : ℕ
   pub deals : ℕ
   pub taken : ℕ
 
--- the operation was dealt a version, and the cause is true of its write
+-- the operation was assigned a version, and the cause is true for its write
 pub record IsTrueDealt (max : ℕ) (s : Outside) (o : Op) (dealt : Option ℕ) (c : Cause) : Type 0 where
   pub version : ℕ
   pub is_dealt : dealt ≡ Some version
   pub of_write : IsTrueOf max s (write_for o version) c
 
--- Spent: no request carried the operation, under the version that it was dealt, if any, and its lane took more Puts than
--- it deals versions.
+-- Spent: no request carried the operation, under the version that it was assigned, if any, and its lane took more
+-- Puts than it assigns versions.
 pub record IsTrueSpent (t : Terms) (s : Outside) (o : Op) (dealt : Option ℕ) (c : Cause) : Type 0 where
   pub cause_is : c ≡ cause.Spent
   pub never_sent : (v : ℕ) → dealt ≡ Some v → count (carries (write_for o v)) s.requests ≡ 0
   pub over : t.deals < t.taken
 
--- the cause is true of an operation that was dealt this version, or none
+-- the cause is true for an operation that was assigned this version, or none
 abbrev pub IsTrueCause : Terms → Outside → Op → Option ℕ → Cause → Type 0
 IsTrueCause t s o dealt c = IsTrueDealt t.max s o dealt c ⊎ IsTrueSpent t s o dealt c

@@ -1,4 +1,4 @@
--- How many operations ended as applied, and how many by an earlier request, as the answers say it.
+-- How many operations ended as applied, and how many as applied by an earlier request, according to the answers.
 use Rattle.std.specs.Prelude.{◌≡◌, ℕ, ◌+◌, List, [], ◌∷◌, ◌++◌, is_some, Bool, true, false, ◌&&◌, nat_le, if◌then◌else◌}
 use Rattle.relay_action.specs.Actions.{kind_of}
 use Rattle.relay_action.specs.declared.write.Write.{Write}
@@ -14,7 +14,7 @@ use Rattle.relay_delivery.specs.Lane.{State, Fits}
 
 -- ---- the entry of a place
 
--- a test of a place: by how many requests carried its write, up to this one, by the write, and by its entry
+-- a test of an item: given how many requests carried its write, up to this one, the write, and its entry
 abbrev pub PlaceTest : Type 0
 PlaceTest = ℕ → Write → Outcome → Bool
 
@@ -22,19 +22,19 @@ PlaceTest = ℕ → Write → Outcome → Bool
 abbrev pub says_applied : PlaceTest
 says_applied sends w o = is_success (kind_of w.action) o.status (is_some o.error)
 
--- a conflict, and two requests at least carried the write, this one among them
+-- a conflict, and at least two requests carried the write, including this one
 abbrev pub says_already : PlaceTest
 says_already sends w o = is_conflict o.status && nat_le 2 sends
 
 -- ---- counted over the places of an answer, and over all requests
 
--- how many places have an entry that passes the test; `sent` are the requests up to this one
+-- the number of items whose entry passes the test; `sent` are the requests up to this one
 abbrev pub entries_that : PlaceTest → List Request → List Write → List Outcome → ℕ
 entries_that test sent [] os = 0
 entries_that test sent (w ∷ ws) [] = 0
 entries_that test sent (w ∷ ws) (o ∷ os) = one_if (test (count (carries w) sent) w o) + entries_that test sent ws os
 
--- only an answer of matching entries has any
+-- only an answer with matching entries has any
 abbrev pub places_that : PlaceTest → List Request → List Write → Answer → ℕ
 places_that test sent ws Unanswered = 0
 places_that test sent ws (Items os) = if matches os ws then entries_that test sent ws os else 0
@@ -46,18 +46,18 @@ abbrev pub places_from : PlaceTest → List Request → List Request → ℕ
 places_from test before [] = 0
 places_from test before (q ∷ qs) = places_that test (before ++ q ∷ []) q.writes q.answer + places_from test (before ++ q ∷ []) qs
 
--- how many places were answered as applied
+-- the number of items that were answered as applied
 abbrev pub settled_applied : List Request → ℕ
 settled_applied requests = places_from says_applied [] requests
 
--- how many were answered by a conflict, where two requests at least carried the write, up to the one that is answered so:
--- counted by the sends, in whatever order the answers came
+-- the number of items that were answered with a conflict after at least two requests had carried the write, including
+-- the answered one; sends are counted in the order of sending, in whatever order the answers arrived
 abbrev pub settled_already : List Request → ℕ
 settled_already requests = places_from says_already [] requests
 
 -- ---- the laws
 
--- a lane's counts are those of the answers to its requests, whatever came about
+-- in every reachable state, a lane's counts are those of the answers to its requests
 abbrev pub CountsAlways : Type 0
 CountsAlways =
     (g : Config) (c : Core) → CameAbout g c →

@@ -1,4 +1,4 @@
--- What is promised of the operations that a lane took.
+-- What is promised about the operations that a lane took.
 use Rattle.std.specs.Prelude.{◌≡◌, ◌⊎◌, ℕ, ◌+◌, ◌-◌, ◌<◌, ◌≤◌, List, [], ◌∷◌, ◌++◌, Option, Some, None, option_to_list, slice_get, nat_lt, if◌then◌else◌, map, filter, length}
 use Rattle.relay_action.specs.declared.write.Write.{Write}
 use Rattle.relay_action.specs.declared.operation.Op.{Op}
@@ -12,7 +12,7 @@ use Rattle.relay_delivery.specs.Machine.{Config, version_at, Held, Place, Core, 
 
 -- ---- sound
 
--- what it took of a producer, in order
+-- what it took from a producer, in order
 abbrev pub taken_of : List Op → ℕ → List Op
 taken_of taken p = filter (is_from p) taken
 
@@ -30,13 +30,13 @@ pub record IsTrueReport (g : Config) (taken : List Op) (s : Outside) (versions :
 abbrev pub names_of : List Report → List OpName
 names_of reports = map (λ (r : Report). r.name) reports
 
--- the version of the operation at a place of what was taken, if there is one left for it
+-- the version of the operation at a place of what was taken, if one was left for it
 abbrev pub assigned_at : Config → ℕ → Option ℕ
 assigned_at g place = if nat_lt place g.deals then Some (version_at g place) else None
 
--- The writes applied to each document are those of distinct operations that were taken, each producer's in its order; each
--- report has a true cause, by one assignment of versions, which is that by the places of what was taken; and none is reported
--- twice.
+-- The writes applied to each document are those of distinct operations that were taken, each producer's in order;
+-- each report has a true cause, by one assignment of versions, which is that by the places of what was taken; and
+-- none is reported twice.
 pub record IsSound (g : Config) (taken : List Op) (reports : List Report) (s : Outside) (ops : Document → List Op) : Type 0 where
   pub attribution : (k : Document) → IsAttribution (taken_of taken) k (s.applied k) (ops k)
   pub in_order : (k : Document) → IsInProducerOrder (taken_of taken) (ops k)
@@ -54,7 +54,7 @@ IsComplete taken reports ops = (o : Op) → Mem o taken → Mem o (ops (document
 
 -- ---- the promise
 
--- the operations that writes are of: a version says the place at which its operation was taken
+-- the operations of writes: a version gives the place at which its operation was taken
 abbrev pub ops_of : ℕ → List Op → List Write → List Op
 ops_of first taken [] = []
 ops_of first taken (w ∷ ws) = option_to_list (slice_get taken (w.version - first)) ++ ops_of first taken ws
@@ -63,17 +63,17 @@ ops_of first taken (w ∷ ws) = option_to_list (slice_get taken (w.version - fir
 abbrev pub attributed : Config → List Op → Outside → Document → List Op
 attributed g taken s k = ops_of g.first taken (s.applied k)
 
--- no two operations that were taken have one name
+-- no two operations that were taken have the same name
 abbrev pub HasDistinctNames : List Op → Type 0
 HasDistinctNames taken = AllDistinct (map name_of taken)
 
--- after any steps, from a fresh lane on, delivery is sound
+-- after any steps from a fresh lane on, delivery is sound
 abbrev pub SoundAlways : Type 0
 SoundAlways =
     (g : Config) (c : Core) → CameAbout g c → HasDistinctNames c.taken →
     IsSound g c.taken c.reports c.outside (attributed g c.taken c.outside)
 
--- and by the same attribution it is complete where nothing is held
+-- and by the same attribution it is complete if nothing is held
 abbrev pub CompleteAtTheEnd : Type 0
 CompleteAtTheEnd =
     (g : Config) (c : Core) → CameAbout g c → HasDistinctNames c.taken → c.held ≡ [] →
@@ -86,7 +86,7 @@ HasTotals c = length c.held + (c.applied + c.already) + length c.reports ≡ len
 abbrev pub TotalAlways : Type 0
 TotalAlways = (g : Config) (c : Core) → CameAbout g c → HasTotals c
 
--- each write that was sent is that of an operation that was taken, under the version that was dealt at its place
+-- each write that was sent is that of an operation that was taken, under the version assigned for its place
 pub record IsDealtWrite (g : Config) (taken : List Op) (w : Write) : Type 0 where
   pub op : Op
   pub place : ℕ
@@ -99,28 +99,28 @@ WritesAreDealt =
     (g : Config) (c : Core) → CameAbout g c → (q : Request) → Mem q c.outside.requests → (w : Write) → Mem w q.writes →
     IsDealtWrite g c.taken w
 
--- a held operation that flies is the earliest that is held of its document
+-- a held operation in flight is the earliest that is held of its document
 abbrev pub EarliestFlies : Type 0
 EarliestFlies =
     (g : Config) (c : Core) → CameAbout g c → (h j : Held) (f : Place) → Mem h c.held → Mem j c.held → h.flies ≡ Some f →
     document_of j.op.key ≡ document_of h.op.key → h.version ≤ j.version
 
--- so two of one document that fly are one
+-- so two of the same document in flight are the same
 abbrev pub OneFlies : Type 0
 OneFlies =
     (g : Config) (c : Core) → CameAbout g c → (h j : Held) (f k : Place) → Mem h c.held → Mem j c.held →
     h.flies ≡ Some f → j.flies ≡ Some k → document_of j.op.key ≡ document_of h.op.key → h ≡ j
 
--- what stands outside came of an opening, by events that may happen
+-- the outside came about from an opening, by events that may happen
 abbrev pub ContinuesAlways : Type 0
 ContinuesAlways = (g : Config) (c : Core) → CameAbout g c → (s : Outside) × IsOpening s × Continues s c.outside
 
 -- ---- what comes about
 
--- a fresh lane has come about
+-- a fresh lane is reachable
 abbrev pub FreshCameAbout : Type 0
 FreshCameAbout = (g : Config) (c : Core) → IsFresh g c → CameAbout g c
 
--- and so has what any step makes of what came about
+-- and so is the state after any step from a reachable one
 abbrev pub StepCameAbout : Type 0
 StepCameAbout = (g : Config) (c : Core) (s : Step) → CameAbout g c → MayStep s c → CameAbout g (step g s c)

@@ -1,4 +1,4 @@
--- A lane as its callers see it, what each call makes of it, and the outside that it fits: the form in which the calls of
+-- A lane as its callers see it, what each call does, and the outside that it fits: the form in which the calls of
 -- real code are tied to delivery.
 use Rattle.std.specs.Prelude.{◌≡◌, ◌≢◌, ◌≤◌, ℕ, ◌+◌, ◌-◌, ◌<◌, ◌^◌, min, List, [], ◌∷◌, ◌++◌, Option, Some, None, slice_get, Bool, true, false, ◌==◌, ◌&&◌, not, nat_lt, nat_le, map, filter, length, if◌then◌else◌}
 use Rattle.std.specs.List.{list_any}
@@ -13,7 +13,7 @@ use Rattle.relay_delivery.specs.Machine.{Config, Core, Held, Place, Report, writ
 use Rattle.relay_delivery.specs.Delivery.{HasDistinctNames, IsSound, IsComplete, attributed, IsDealtWrite}
 use Rattle.relay_delivery.specs.Bound.{tries_left}
 
--- a held operation, its bytes, the clock at its take, and the tick from which on it may be sent
+-- a held operation, the length of its lines, the clock when it was taken, and the first tick at which it may be sent
 pub record Entry : Type 0 where
   pub held : Held
   pub bytes : ℕ
@@ -25,8 +25,8 @@ pub record Flying : Type 0 where
   pub request : ℕ
   pub writes : List Write
 
--- the clock, how many Puts were taken and how many requests sent, what is held and what flies, the reports, and how many
--- ended as applied
+-- the clock, how many Puts were taken and how many requests were sent, what is held and what is in flight, the
+-- reports, and how many operations ended as applied
 pub record State : Type 0 where
   pub config : Config
   pub clock : ℕ
@@ -90,7 +90,7 @@ sent s chosen = record s {
 
 -- ---- reply, whole, lost
 
--- after so many tries it is due so many ticks later: 1, 2, 4 and so on, 64 at most
+-- the pause after `tries` tries: 1, 2, 4 and so on, at most 64 ticks
 abbrev pub backoff : ℕ → ℕ → ℕ
 backoff clock attempts = min (clock + min (2 ^ (attempts - 1)) 64) 18446744073709551615
 
@@ -128,13 +128,13 @@ abbrev pub writes_at : ℕ → List Flying → List Write
 writes_at request [] = []
 writes_at request (f ∷ fs) = if f.request == request then f.writes else writes_at request fs
 
--- an answer to the request with a number
+-- an answer to the request with this number
 abbrev pub answered : State → ℕ → Answer → State
 answered s number a = settled s (from_zero number) (writes_at (from_zero number) s.flying) a
 
 -- ---- the outside that a lane fits
 
--- the core that the lane stands for
+-- the core that the state stands for
 pub record IsOf (s : State) (c : Core) : Type 0 where
   pub taken : s.taken ≡ length c.taken
   pub held : held_of s.held ≡ c.held
@@ -144,8 +144,8 @@ pub record IsOf (s : State) (c : Core) : Type 0 where
   pub requests : s.requests ≡ length c.outside.requests
   pub flying : (f : Flying) → Mem f s.flying → slice_get c.outside.requests f.request ≡ Some (record { writes = f.writes; answer = Unanswered })
 
--- it took these operations, its requests are those that were sent, in order, and the answers alone settled them: both came
--- about by the same steps, from a fresh lane and an opening on
+-- it took these operations, its requests are those that were sent, in order, and it was settled by their answers
+-- alone: both came about by the same steps, from a fresh lane and an opening
 pub record Fits (s : State) (taken : List Op) (out : Outside) : Type 0 where
   pub core : Core
   pub came_about : CameAbout s.config core
@@ -164,14 +164,14 @@ FreshFits =
     (g : Config) (out : Outside) → IsOpening out → ((k : Document) (u : ℕ) → out.stored k ≡ Some u → u < g.first) →
     Fits (fresh_state g) [] out
 
--- a tick changes the clock alone
+-- a tick changes only the clock
 abbrev pub ClockFits : Type 0
 ClockFits = (s : State) (clock : ℕ) (taken : List Op) (out : Outside) → Fits s taken out → Fits (record s { clock = clock }) taken out
 
 abbrev pub TakeFits : Type 0
 TakeFits = (s : State) (o : Op) (bytes : ℕ) (taken : List Op) (out : Outside) → Fits s taken out → Fits (taken_op s o bytes) (taken ++ o ∷ []) out
 
--- some of the candidates are sent, which keep their caps
+-- some of the candidates, which keep their caps, are sent
 abbrev pub SendFits : Type 0
 SendFits =
     (s : State) (chosen : List Entry) (taken : List Op) (out : Outside) → IsSubsequence chosen (candidates s) →
@@ -207,13 +207,13 @@ TotalWhereItFits =
     (s.taken ≡ length taken) × (s.requests ≡ length out.requests)
     × (length s.held + (s.applied + s.already) + length s.reports ≡ s.taken)
 
--- each write that was sent is that of an operation that it took, under the version that was dealt at its take
+-- each write that was sent is that of an operation that it took, under the version assigned when it was taken
 abbrev pub WritesWhereItFits : Type 0
 WritesWhereItFits =
     (s : State) (taken : List Op) (out : Outside) → Fits s taken out → (q : Request) → Mem q out.requests → (w : Write) →
     Mem w q.writes → IsDealtWrite s.config taken w
 
--- of a document one operation flies at a time, the earliest that is held
+-- at most one operation of a document is in flight at a time, the earliest that is held
 abbrev pub EarliestWhereItFits : Type 0
 EarliestWhereItFits =
     (s : State) (taken : List Op) (out : Outside) → Fits s taken out → (e d : Entry) (f : Place) → Mem e s.held → Mem d s.held →
@@ -227,11 +227,11 @@ OneFliesWhereItFits =
 
 -- ---- how many requests it sends
 
--- the tries that are left to what it holds, and the halvings
+-- the tries and halvings that are left to what it holds
 abbrev pub tries_of : State → ℕ
 tries_of s = tries_left s.config.max (held_of s.held)
 
--- a request takes one of them at least, and no answer gives one back
+-- a request uses up at least one of them, and no answer gives one back
 abbrev pub SendTakesTry : Type 0
 SendTakesTry =
     (s : State) (chosen : List Entry) (taken : List Op) (out : Outside) → 0 < s.config.max → chosen ≢ [] →

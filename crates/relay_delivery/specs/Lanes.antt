@@ -4,24 +4,25 @@ use Rattle.relay_action.specs.declared.operation.Op.{Op}
 use Rattle.relay_results.specs.Documents.{Document, document_of}
 use Rattle.relay_delivery.specs.Machine.{Config, Core, Step, Takes, Sends, Runs, Answers, step, MayStep, IsFresh}
 
--- Of each producer what was accepted from it and whether it has closed; of each lane the operations that are queued for it
--- and its core. The outside of a lane has the requests of that lane alone, and the index as its own documents show it.
+-- For each producer what was accepted from it and whether it has closed; for each lane the operations in its queue,
+-- and its core. The outside of a lane has the requests of that lane alone, and the index as far as its own documents
+-- are concerned.
 pub record Lanes : Type 0 where
   pub accepted : ℕ → List Op
   pub closed : ℕ → Bool
   pub queue : ℕ → List Op
   pub lane : ℕ → Core
 
--- by number, this list has one more element at its end
+-- a function of numbers, with one more element at the end of this list
 abbrev pub added : {A : Type 0} → (ℕ → List A) → ℕ → A → ℕ → List A
 added f n x m = if m == n then f m ++ x ∷ [] else f m
 
--- by number, this one is now another
+-- a function of numbers, with another value for this one
 abbrev pub changed : {A : Type 0} → (ℕ → A) → ℕ → A → ℕ → A
 changed f n x m = if m == n then x else f m
 
--- an operation is put into the queue of its document's lane, a producer closes, a lane takes the front of its queue, or
--- makes another step
+-- an operation is put into the queue of its document's lane, a producer closes, a lane takes the front of its queue,
+-- or makes another step
 pub data Move : Type 0 where
   Puts : Op → Move
   Closes : ℕ → Move
@@ -48,13 +49,13 @@ move g lane_of (Closes p) w = record { accepted = w.accepted; closed = changed w
 move g lane_of (Fetches l) w = fetched g l w (w.queue l)
 move g lane_of (Steps l s) w = record { accepted = w.accepted; closed = w.closed; queue = w.queue; lane = changed w.lane l (step g s (w.lane l)) }
 
--- the next operation of a producer that has not closed, in the epoch that runs
+-- the next operation of a producer that has not closed, in the current epoch
 pub record MayPut (g : Config) (w : Lanes) (o : Op) : Type 0 where
   pub epoch : o.epoch ≡ g.epoch
   pub open_yet : w.closed o.producer ≡ false
   pub number : o.number ≡ length (w.accepted o.producer) + 1
 
--- a step that takes nothing: a lane takes from its queue alone
+-- a step that takes nothing: a lane takes only from its queue
 abbrev pub IsInner : Step → Type 0
 IsInner (Takes o) = ⊥
 IsInner (Sends chosen) = Unit {0}
@@ -86,7 +87,7 @@ pub record IsFinished (w : Lanes) : Type 0 where
   pub queues : (l : ℕ) → w.queue l ≡ []
   pub lanes : (l : ℕ) → (w.lane l).held ≡ []
 
--- from a closed producer nothing more is accepted
+-- nothing more is accepted from a closed producer
 abbrev pub NothingAfterClose : Type 0
 NothingAfterClose =
     (g : Config) (lane_of : Document → ℕ) (w : Lanes) (moves : List Move) (p : ℕ) → AllMayMove g lane_of moves w →

@@ -1,4 +1,4 @@
--- What the definitions of attribution, of true causes and of soundness rule out.
+-- What the definitions of attribution, true causes and soundness rule out.
 use Rattle.std.specs.Prelude.{◌⊎◌, ◌≡◌, ◌≢◌, ℕ, ◌≤◌, List, [], ◌∷◌, length, slice_get, Option, Some, None, false, if◌then◌else◌, true}
 use Rattle.relay_action.specs.declared.write.Write.{Write}
 use Rattle.relay_action.specs.declared.operation.Op.{Op}
@@ -39,13 +39,13 @@ NoneUnaccepted =
 abbrev pub NoneLeftOut : Type 0
 NoneLeftOut = (accepted : ℕ → List Op) (k : Document) (w : Write) → IsAttribution accepted k (w ∷ []) [] → ⊥
 
--- of two operations of one producer, the one put later stands first
+-- of two operations of one producer, the one put later comes first
 abbrev pub NoneOutOfOrder : Type 0
 NoneOutOfOrder =
     (accepted : ℕ → List Op) (a b : Op) → a.producer ≡ b.producer → accepted a.producer ≡ a ∷ b ∷ [] →
     name_of a ≢ name_of b → IsInProducerOrder accepted (b ∷ a ∷ []) → ⊥
 
--- the requests that were sent, where the outside is of no other matter
+-- the requests that were sent, if nothing else of the outside matters
 abbrev pub sent : List Request → List Ran → Outside
 sent requests runs = record {
   requests = requests;
@@ -88,19 +88,19 @@ NotRefusedWithoutError =
     (o : Op) (dealt : Option ℕ) (t : Terms) (s : Outside) (status : ℕ) (error : List ℕ) → error ≢ [] →
     ((r : Ran) → Mem r s.runs → r.outcome.error ≢ Some error) → IsTrueCause t s o dealt (cause.Refused status error) → ⊥
 
--- a conflict is no refusal, and neither is an index that is too busy
+-- a conflict is not a refusal, and neither is an index that is too busy
 abbrev pub NotRefusedWhenBusy : Type 0
 NotRefusedWhenBusy =
     (o : Op) (dealt : Option ℕ) (t : Terms) (s : Outside) (status : ℕ) (error : List ℕ) →
     (is_conflict status ≡ true) ⊎ (is_retried_item status ≡ true) → IsTrueCause t s o dealt (cause.Refused status error) → ⊥
 
--- no request carried it, and it had a try at least
+-- no request carried it, and it had at least one try
 abbrev pub NotReportedUnsent : Type 0
 NotReportedUnsent =
     (o : Op) (v : ℕ) (t : Terms) (s : Outside) (c : Cause) → 1 ≤ t.max → count (carries (write_for o v)) s.requests ≡ 0 →
     IsTrueCause t s o (Some v) c → c ≡ cause.Spent
 
--- no request was answered so; it was, and that is tried again
+-- no request was answered so; one was, and that is retried
 abbrev pub NotRejectedWithoutAnswer : Type 0
 NotRejectedWithoutAnswer =
     (o : Op) (dealt : Option ℕ) (t : Terms) (s : Outside) (status : ℕ) →
@@ -112,7 +112,7 @@ NotRejectedWhenRetried =
     (o : Op) (dealt : Option ℕ) (t : Terms) (s : Outside) (status : ℕ) → is_retried_whole status ≡ true →
     IsTrueCause t s o dealt (cause.Request status) → ⊥
 
--- of three requests that carried it two were too large: one counts as a try
+-- of three requests that carried it two were too large: only one counts as a try
 abbrev pub NotGivenUpForHalves : Type 0
 NotGivenUpForHalves = (o : Op) (v deals taken sends : ℕ) (x y : Write) (runs : List Ran) →
     let w = write_for o v in
@@ -132,20 +132,20 @@ NoConflictWithoutRun =
     (o : Op) (dealt : Option ℕ) (t : Terms) (s : Outside) →
     ((r : Ran) → Mem r s.runs → r.outcome.status ≢ 409) → IsTrueCause t s o dealt cause.Conflict → ⊥
 
--- its lane took no more Puts than it deals versions
+-- its lane took no more Puts than it assigns versions
 abbrev pub NotSpentWithinLimit : Type 0
 NotSpentWithinLimit =
     (o : Op) (dealt : Option ℕ) (t : Terms) (s : Outside) → t.taken ≤ t.deals → IsTrueCause t s o dealt cause.Spent → ⊥
 
 -- ---- reports
 
--- one report stands there twice
+-- one report occurs twice
 abbrev pub NoneReportedTwice : Type 0
 NoneReportedTwice =
     (g : Config) (taken : List Op) (r : Report) (s : Outside) (ops : Document → List Op) →
     IsSound g taken (r ∷ r ∷ []) s ops → ⊥
 
--- a report is on no operation that was taken
+-- a report is on an operation that was not taken
 abbrev pub NoneReportedUntaken : Type 0
 NoneReportedUntaken =
     (g : Config) (taken : List Op) (reports : List Report) (r : Report) (s : Outside) (ops : Document → List Op) →
@@ -153,13 +153,13 @@ NoneReportedUntaken =
 
 -- ---- the version assignment
 
--- two operations of one document have one version
+-- two operations of one document have the same version
 abbrev pub NotAssignedTwice : Type 0
 NotAssignedTwice =
     (versions : Op → Option ℕ) (a b : Op) (v : ℕ) → document_of a.key ≡ document_of b.key → a.number ≢ b.number →
     versions a ≡ Some v → versions b ≡ Some v → IsAssignment versions → ⊥
 
--- the first operation is dealt 1, the second 2, and no other any
+-- the first operation is assigned 1, the second 2, and no other one any version
 abbrev pub first_two : Op → Op → Op → Option ℕ
 first_two a b o = if same_op o a then Some 1 else if same_op o b then Some 2 else None
 
@@ -171,7 +171,7 @@ AssignsTwo =
 
 -- ---- schedules
 
--- before a schedule nothing was sent, and what stands at its end continues that
+-- before a schedule nothing was sent, and its end continues that
 abbrev pub PlaysFromOpening : Type 0
 PlaysFromOpening =
     (accepted : List Op) (events : List Event) (k : Document) (ws : List Write) (ops : List Op) →

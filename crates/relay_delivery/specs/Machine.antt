@@ -1,5 +1,5 @@
--- A lane as delivery sees it, beside what stands outside: what it took, what it holds and what it reported. It has no
--- clock, batch or queue, and of all limits only the caps: the others only decide which of these steps are made, and when.
+-- A lane as delivery sees it, and the outside: what it took, what it holds and what it reported. It has no clock,
+-- batch or queue, and of all limits only the caps: the others only decide which of these steps are made, and when.
 use Rattle.std.specs.Prelude.{◌≡◌, ℕ, suc, ◌+◌, ◌-◌, ◌*◌, ◌^◌, ◌<◌, ◌≤◌, List, [], ◌∷◌, ◌++◌, Option, Some, None, option_map, slice_get, Bool, true, false, ◌==◌, nat_lt, if◌then◌else◌, map, length}
 use Rattle.relay_action.specs.Actions.{kind_of}
 use Rattle.relay_action.specs.declared.write.Write.{Write}
@@ -15,8 +15,8 @@ use Rattle.relay_results.specs.Fates.{Fate, Flies, Applied, Already, Retried, Ha
 
 -- ---- what a lane has
 
--- the epoch in which it runs, the first version that it deals, how many it deals, how many tries an operation has, and
--- the cap that it begins with
+-- the epoch in which it runs, the first version that it assigns, how many it assigns, how many tries an operation
+-- has, and the cap that it begins with
 pub record Config : Type 0 where
   pub epoch : ℕ
   pub first : ℕ
@@ -28,11 +28,11 @@ pub record Config : Type 0 where
 abbrev pub first_in : ℕ → ℕ
 first_in epoch = epoch * 2 ^ 40 + 1
 
--- a lane of this epoch deals so many versions, and its operations have so many tries and begin with this cap
+-- a lane of this epoch, with this many versions to assign, and this many tries and this cap for each operation
 abbrev pub in_epoch : ℕ → ℕ → ℕ → ℕ → Config
 in_epoch epoch deals max cap = record { epoch = epoch; first = first_in epoch; deals = deals; max = max; cap = cap }
 
--- the version that is dealt at a place of what is taken
+-- the version assigned for a place of what is taken
 abbrev pub version_at : Config → ℕ → ℕ
 version_at g place = g.first + place
 
@@ -41,8 +41,8 @@ pub record Place : Type 0 where
   pub request : ℕ
   pub place : ℕ
 
--- an operation that is neither done nor reported: the version that it was dealt, how many requests carried it, how many of
--- them count as tries, how many operations a request may have with it, unless it stands alone, and where it flies, if it does
+-- an operation that is neither done nor reported: the version that it was assigned, how many requests carried it, how
+-- many of them count as tries, the cap, and where it is in flight, if it is
 pub record Held : Type 0 where
   pub op : Op
   pub version : ℕ
@@ -62,8 +62,8 @@ pub record Report : Type 0 where
 abbrev pub report_on : Op → Cause → Report
 report_on o cause = record { name = name_of o; document = document_of o.key; cause = cause }
 
--- All operations that were taken, in order; those that are held; the reports, in order; how many ended as applied, by the
--- answer and by an earlier request; and what stands outside.
+-- All operations that were taken, in order; those that are held; the reports, in order; how many ended as applied, by
+-- the answered request and by an earlier one; and the outside.
 pub record Core : Type 0 where
   pub taken : List Op
   pub held : List Held
@@ -77,7 +77,7 @@ pub record Core : Type 0 where
 abbrev pub held_at : Config → ℕ → Op → Held
 held_at g place o = record { op = o; version = version_at g place; sends = 0; attempts = 0; cap = g.cap; flies = None }
 
--- it is held where a version is left for it, and else reported
+-- it is held if a version is left for it, otherwise reported
 abbrev pub held_if : Bool → Config → ℕ → Op → List Held
 held_if true g place o = held_at g place o ∷ []
 held_if false g place o = []
@@ -104,7 +104,7 @@ pub record IsEligible (held : List Held) (h : Held) : Type 0 where
   pub waits : h.flies ≡ None
   pub first : (j : Held) → Mem j held → document_of j.op.key ≡ document_of h.op.key → h.version ≤ j.version
 
--- two operations or more are at most as many as the cap of each
+-- two or more operations are within the cap of each
 abbrev pub KeepsCaps : List Held → Type 0
 KeepsCaps chosen = 1 < length chosen → (h : Held) → Mem h chosen → length chosen ≤ h.cap
 
@@ -114,12 +114,12 @@ pub record MaySend (c : Core) (chosen : List Held) : Type 0 where
   pub distinct : AllDistinct (map (λ (h : Held). h.version) chosen)
   pub caps : KeepsCaps chosen
 
--- the place among them of the operation with a version
+-- the place among them of the operation with this version
 abbrev pub place_of : ℕ → List Held → Option ℕ
 place_of version [] = None
 place_of version (h ∷ hs) = if h.version == version then Some 0 else option_map suc (place_of version hs)
 
--- each of them flies, is sent once more, and has one try more
+-- each of them is in flight, with one more send and one more try
 abbrev pub launched_at : ℕ → Held → Option ℕ → Held
 launched_at number h None = h
 launched_at number h (Some place) = record {
@@ -146,7 +146,7 @@ send chosen c = record {
 
 -- ---- a request is answered
 
--- what becomes of a held operation; one that does not fly in this request stays as it is
+-- the fate of a held operation; one that is not in flight in this request is unchanged
 abbrev pub fate_of : Config → ℕ → List Write → Answer → Held → Option Place → Fate
 fate_of g number ws a h None = Flies
 fate_of g number ws a h (Some f) =
@@ -221,7 +221,8 @@ settle g number a c = record {
 
 -- ---- steps
 
--- an operation is taken, held operations are sent as one request, an item of a request is run, or a request is answered
+-- an operation is taken, held operations are sent as one request, an item of a request is run, or a request is
+-- answered
 pub data Step : Type 0 where
   Takes : Op → Step
   Sends : List Held → Step
@@ -245,7 +246,7 @@ MayStep (Sends chosen) c = MaySend c chosen
 MayStep (Runs r) c = MayRun c.outside r
 MayStep (Answers number a) c = MayAnswer c.outside number a
 
--- steps one after another
+-- after a sequence of steps
 abbrev pub steps_of : Config → List Step → Core → Core
 steps_of g [] c = c
 steps_of g (s ∷ ss) c = steps_of g ss (step g s c)
@@ -256,7 +257,7 @@ AllMayStep g (s ∷ ss) c = MayStep s c × AllMayStep g ss (step g s c)
 
 -- ---- a fresh lane, and what comes of it
 
--- nothing was taken and nothing sent, and each version that is stored is below the first one dealt
+-- nothing was taken and nothing sent, and each stored version is below the first one assigned
 pub record IsFresh (g : Config) (c : Core) : Type 0 where
   pub taken : c.taken ≡ []
   pub held : c.held ≡ []
@@ -266,7 +267,7 @@ pub record IsFresh (g : Config) (c : Core) : Type 0 where
   pub opening : IsOpening c.outside
   pub below : (k : Document) (u : ℕ) → c.outside.stored k ≡ Some u → u < g.first
 
--- it came about by steps that may happen, from a fresh lane on
+-- it came about by steps that may happen, starting from a fresh lane
 pub record CameAbout (g : Config) (c : Core) : Type 0 where
   pub start : Core
   pub fresh : IsFresh g start

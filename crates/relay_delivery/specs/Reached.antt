@@ -1,4 +1,4 @@
--- What a lane comes to by its calls, whatever it is answered: an answer need not be honest, and no index need stand behind it.
+-- What a lane reaches by its calls, whatever the answers: they need not be honest, and there need not be an index.
 use Rattle.std.specs.Prelude.{◌≡◌, ◌≢◌, ℕ, ◌+◌, ◌<◌, List, [], ◌∷◌, ◌++◌, Some, slice_get, true, map, length}
 use Rattle.relay_action.specs.declared.write.Write.{Write}
 use Rattle.relay_action.specs.declared.operation.Op.{Op}
@@ -11,8 +11,8 @@ use Rattle.relay_delivery.specs.Lane.{Entry, Flying, State, held_of, taken_op, c
 
 -- ---- calls
 
--- an operation of a number of bytes is taken, the clock is set, entries are sent as one request, or the request with a number,
--- from 1, is answered
+-- an operation is taken, with the length of its lines; the clock is set; entries are sent as one request; or the
+-- request with this number, from 1, is answered
 pub data Call : Type 0 where
   Takes : Op → ℕ → Call
   Ticks : ℕ → Call
@@ -25,15 +25,15 @@ call (Ticks clock) s = record s { clock = clock }
 call (Sends chosen) s = sent s chosen
 call (Answers number a) s = answered s number a
 
--- Any operation may be taken, and the clock set, at any time; candidates may be sent that keep their caps; and a request in
--- flight may be given any answer.
+-- Any operation may be taken, and the clock set, at any time; candidates that keep their caps may be sent; and a
+-- request in flight may get any answer.
 abbrev pub MayCall : Call → State → Type 0
 MayCall (Takes o bytes) s = Unit {0}
 MayCall (Ticks clock) s = Unit {0}
 MayCall (Sends chosen) s = IsSubsequence chosen (candidates s) × KeepsCaps (held_of chosen)
 MayCall (Answers number a) s = (is_flying number s ≡ true) × (a ≢ Unanswered)
 
--- calls one after another
+-- after a sequence of calls
 abbrev pub calls_of : List Call → State → State
 calls_of [] s = s
 calls_of (c ∷ cs) s = calls_of cs (call c s)
@@ -49,12 +49,12 @@ taken_by (Ticks clock) = []
 taken_by (Sends chosen) = []
 taken_by (Answers number a) = []
 
--- those that calls take, in order
+-- those that the calls take, in order
 abbrev pub taken_in : List Call → List Op
 taken_in [] = []
 taken_in (c ∷ cs) = taken_by c ++ taken_in cs
 
--- a lane comes to this state by calls that may be made, from a fresh lane on, which took these operations
+-- a lane reaches this state by calls that may be made, starting from a fresh lane, and they took these operations
 pub record Reached (s : State) (taken : List Op) : Type 0 where
   pub calls : List Call
   pub may : AllMayCall calls (fresh_state s.config)
@@ -63,14 +63,14 @@ pub record Reached (s : State) (taken : List Op) : Type 0 where
 
 -- ---- what holds then
 
--- the held operation was taken, and it has the version that its place was assigned
+-- the held operation was taken, and it has the version assigned for its place
 pub record IsOfTaken (g : Config) (taken : List Op) (h : Held) : Type 0 where
   pub place : ℕ
   pub was_taken : slice_get taken place ≡ Some h.op
   pub within : place < g.deals
   pub version : h.version ≡ version_at g place
 
--- the write is that of a held operation that flies at this place
+-- the write is that of a held operation that is in flight at this place
 pub record IsHeldAtPlace (held : List Entry) (w : Write) (p : Place) : Type 0 where
   pub entry : Entry
   pub is_held : Mem entry held
@@ -87,14 +87,15 @@ pub record IsInFlight (flying : List Flying) (w : Write) (p : Place) : Type 0 wh
   pub request : of.request ≡ p.request
   pub stands : slice_get of.writes p.place ≡ Some w
 
--- the documents of the writes that are in flight, request by request
+-- the documents of the writes in flight, request by request
 abbrev pub documents_of : List Flying → List Document
 documents_of [] = []
 documents_of (f ∷ fs) = map (λ (w : Write). document_of w.key) f.writes ++ documents_of fs
 
--- Held operations rise in version. Each was taken, and so was that of each write in flight, under the version that its place
--- was assigned; a write in flight is that of a held operation that flies there, and what flies is in flight. No document is in
--- flight twice, in one request or in two. Each operation that was taken is held, ended as applied, or was reported.
+-- Held operations have ascending versions. Each was taken, and so was that of each write in flight, under the version
+-- assigned for its place; a write in flight is that of a held operation that is in flight there, and the other way
+-- round. No document is in flight twice, in one request or in two. Each operation that was taken is held, ended as
+-- applied, or was reported.
 pub record IsOrderly (s : State) (taken : List Op) : Type 0 where
   pub rising : (i j : ℕ) (e d : Entry) → i < j → slice_get s.held i ≡ Some e → slice_get s.held j ≡ Some d → e.held.version < d.held.version
   pub held : (e : Entry) → Mem e s.held → IsOfTaken s.config taken e.held
@@ -105,7 +106,7 @@ pub record IsOrderly (s : State) (taken : List Op) : Type 0 where
   pub count : s.taken ≡ length taken
   pub totals : length s.held + (s.applied + s.already) + length s.reports ≡ s.taken
 
--- whatever it was answered
+-- whatever the answers
 abbrev pub ReachedHolds : Type 0
 ReachedHolds = (s : State) (taken : List Op) → Reached s taken → IsOrderly s taken
 

@@ -1,5 +1,5 @@
--- Worked schedules, of any document and any source: what is sent, run and answered, what is applied then, and what
--- becomes of the operations.
+-- Worked schedules, for any document and any source: what is sent, run and answered, what is applied then, and the
+-- fate of the operations.
 use Rattle.std.specs.Prelude.{◌≡◌, ℕ, List, [], ◌∷◌, Some, None, false, codes, filter}
 use Rattle.relay_action.specs.Actions.{kind_of}
 use Rattle.relay_action.specs.declared.key.DocKey.{DocKey}
@@ -23,7 +23,7 @@ use Rattle.relay_delivery.specs.Causes.{Terms, IsTrueCause}
 abbrev pub nothing : Outside
 nothing = record { requests = []; runs = []; stored = λ k. None; before = λ k. []; applied = λ k. [] }
 
--- what stands outside after these events
+-- the outside after these events
 abbrev pub end_of : List Event → Outside
 end_of events = after_all events nothing
 
@@ -31,7 +31,7 @@ end_of events = after_all events nothing
 abbrev pub op : ℕ → DocKey → Action → Op
 op number key action = record { epoch = 0; producer = 0; number = number; key = key; action = action }
 
--- the accepted lists, where these operations were accepted in this order
+-- the accepted lists, if these operations were accepted in this order
 abbrev pub accepted_of : List Op → ℕ → List Op
 accepted_of ops p = filter (is_from p) ops
 
@@ -62,23 +62,23 @@ busy = codes "rejected_execution_exception"
 abbrev pub refusal : List ℕ
 refusal = codes "mapper_parsing_exception"
 
--- an operation that so many requests carried, all of them tries, of which it may have so many
+-- an operation that this many requests carried, all of them tries, and the number of tries that it may have
 abbrev pub tried : ℕ → ℕ → Tries
 tried sends max = record { sends = sends; attempts = sends; max = max }
 
--- so many tries, so many versions that the lane deals, and so many Puts that it took
+-- this many tries, this many versions that the lane assigns, and this many Puts that it took
 abbrev pub terms : ℕ → ℕ → ℕ → Terms
 terms max deals taken = record { max = max; deals = deals; taken = taken }
 
--- Each of the events may happen, from nothing; at their end these writes are applied to the document, and they are those
--- of these operations, each producer's in its order.
+-- Each of the events may happen, starting from nothing; at the end these writes are applied to the document, and they
+-- are those of these operations, each producer's in order.
 pub record Plays (accepted : List Op) (events : List Event) (k : Document) (writes : List Write) (ops : List Op) : Type 0 where
   pub may : AllMayHappen events nothing
   pub applied : (end_of events).applied k ≡ writes
   pub attribution : IsAttribution (accepted_of accepted) k writes ops
   pub in_order : IsInProducerOrder (accepted_of accepted) ops
 
--- what the answer of a sent request makes of the item at a place
+-- the fate of the item at a place, by the answer to its request
 abbrev pub becomes : Tries → List Write → ℕ → Action → Answer → Fate → Type 0
 becomes t ws place action answer f = fate t ws place (kind_of action) answer ≡ f
 
@@ -111,7 +111,7 @@ LateRunChangesNothing = (key : DocKey) (source : Source) →
     Plays (o ∷ []) (lost_then_late w) (document_of key) (w ∷ []) (o ∷ [])
     × becomes (tried 2 3) (w ∷ []) 0 (Index source) (Items (entry w 201 ∷ [])) of.Applied
 
--- one request is run twice: which of its runs is answered decides
+-- one request is run twice: its answer decides which of the runs counts
 abbrev pub run_twice : Write → Answer → List Event
 run_twice w answer = Sends (w ∷ []) ∷ Runs (ran 0 0 404) ∷ Runs (failed 0 0 409 conflict) ∷ Answers 0 answer ∷ []
 
@@ -168,8 +168,8 @@ BusyThenNext = (key : DocKey) (source other : Source) →
     × becomes (tried 2 3) (w ∷ []) 0 (Index source) (Items (entry w 201 ∷ [])) of.Applied
     × becomes (tried 1 3) (x ∷ []) 0 (Index other) (Items (entry x 200 ∷ [])) of.Applied
 
--- both replies of the first are lost, and it is given up after two tries; its first request is run late, before the second
--- operation, and its second request after it
+-- both replies of the first are lost, and it is given up after two tries; its first request is run late, before the
+-- second operation, and its second request after it
 abbrev pub given_up_then_next : Write → Write → List Event
 given_up_then_next w x =
     Sends (w ∷ []) ∷ Answers 0 Lost ∷ Sends (w ∷ []) ∷ Answers 1 Lost
@@ -189,8 +189,8 @@ GivenUpAndApplied = (key : DocKey) (source : Source) →
 
 -- ---- three documents
 
--- of three items one is applied, one refused since the index is busy, and one finds no document to delete; the refused one
--- is sent again
+-- of three items one is applied, one is refused since the index is busy, and one finds no document to delete; the
+-- refused one is sent again
 abbrev pub three_then_one : Write → Write → Write → List Event
 three_then_one w x y =
     Sends (w ∷ x ∷ y ∷ []) ∷ Runs (ran 0 0 201) ∷ Runs (failed 0 1 429 busy) ∷ Runs (ran 0 2 404)
@@ -214,8 +214,8 @@ ThreeThenOne = (k l m : DocKey) (source other : Source) →
 
 -- ---- a request that is too large
 
--- a request of two items is too large and is halved; alone, one is too large still and is reported, and the reply of the
--- other is lost, which was its one try
+-- a request of two items is too large and is halved; alone, one is still too large and is reported, and the reply of
+-- the other is lost, which was its only try
 abbrev pub halved_then_alone : Write → Write → List Event
 halved_then_alone w x =
     Sends (w ∷ x ∷ []) ∷ Answers 0 (Whole 413)

@@ -6,7 +6,7 @@ use Rattle.relay_results.specs.Outside.{Answer, Unanswered, Request, writes_of, 
 use Rattle.relay_delivery.specs.Machine.{Config, Held, Sends, Runs, Answers, write_of, MayStep}
 use Rattle.relay_delivery.specs.Lanes.{Lanes, Move, Puts, Closes, Fetches, Steps, move, MayMove, IsStart}
 
--- the lane that sent a request, and the request's count there
+-- the lane that sent a request, and the number of the request there
 pub record Origin : Type 0 where
   pub lane : ℕ
   pub number : ℕ
@@ -20,8 +20,8 @@ pub record Together : Type 0 where
 
 -- ---- acts
 
--- a put, a close or a take; a lane sends; an item is run; a request is answered: each by its count among all requests,
--- beside its origin
+-- a put, a close or a take; a lane sends; an item is run; a request is answered: each by its number among all
+-- requests, with its origin
 pub data Act : Type 0 where
   Plain : Move → Act
   SendsFrom : ℕ → List Held → Act
@@ -58,7 +58,7 @@ IsPlain (Closes p) = Unit {0}
 IsPlain (Fetches l) = Unit {0}
 IsPlain (Steps l s) = ⊥
 
--- each act is a move of its lane, beside the origin of its request
+-- each act is a move of its lane, given the origin of its request
 abbrev pub MayAct : Config → Act → Together → Type 0
 MayAct g (Plain m) s = IsPlain m × MayMove g m s.lanes
 MayAct g (SendsFrom l chosen) s = MayStep (Sends chosen) (s.lanes.lane l)
@@ -83,7 +83,7 @@ pub record IsFreshTogether (g : Config) (s : Together) : Type 0 where
 
 -- ---- the one outside
 
--- what stands outside all lanes; of a document its lane's outside shows what the index has
+-- the common outside of all lanes; for a document, its lane's outside shows what the index has
 abbrev pub outside_of : (Document → ℕ) → Together → Outside
 outside_of lane_of s = record {
   requests = s.sent;

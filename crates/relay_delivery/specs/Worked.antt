@@ -1,5 +1,5 @@
--- Worked schedules of the machine, of any document and any source: one that meets the promises, and those that show why
--- each condition is needed.
+-- Worked schedules of the machine, for any document and any source: one that satisfies the promises, and those that
+-- show why each condition is needed.
 use Rattle.std.specs.Prelude.{◌≡◌, ℕ, List, [], ◌∷◌, Some, None}
 use Rattle.relay_action.specs.declared.key.DocKey.{DocKey}
 use Rattle.relay_action.specs.declared.action.Source.{Source}
@@ -17,15 +17,15 @@ use Rattle.relay_delivery.specs.Schedules.{op, accepted_of, nothing, end_of, ran
 
 -- ---- the words of a schedule
 
--- versions from 1, three tries, and requests of two operations at most
+-- versions from 1, three tries, and requests of at most two operations
 abbrev pub config : Config
 config = record { epoch = 0; first = 1; deals = 10; max = 3; cap = 2 }
 
--- a lane that took nothing, beside an outside
+-- a lane that took nothing, with this outside
 abbrev pub begun : Outside → Core
 begun out = record { taken = []; held = []; reports = []; applied = 0; already = 0; outside = out }
 
--- an operation as it is held, under a version and after so many sends, all of them tries
+-- an operation as it is held, under a version and after this many sends, all of them tries
 abbrev pub waiting : Op → ℕ → ℕ → Held
 waiting o version sends = record { op = o; version = version; sends = sends; attempts = sends; cap = 2; flies = None }
 
@@ -43,7 +43,8 @@ lost_then_conflict o =
 
 -- ---- one that meets the promises
 
--- it may happen so from a fresh lane; then nothing is held or reported, and the one write is attributed to the operation
+-- this may happen, starting from a fresh lane; then nothing is held or reported, and the one write is attributed to
+-- the operation
 pub record EndsAlready (key : DocKey) (o : Op) : Type 0 where
   pub fresh : IsFresh config (begun nothing)
   pub may : AllMayStep config (lost_then_conflict o) (begun nothing)
@@ -57,14 +58,14 @@ MachineWorks = (key : DocKey) (source : Source) → EndsAlready key (op 1 key (I
 
 -- ---- none may be left out
 
--- Whatever operations the applied writes are attributed to, one that was taken is not accounted for, though nothing is
--- held.
+-- Whatever operations the applied writes are attributed to, one that was taken is not accounted for, though nothing
+-- is held.
 pub record LosesOperation (c : Core) : Type 0 where
   pub none_held : c.held ≡ []
   pub lost : (ops : Document → List Op) → ((k : Document) → IsAttribution (taken_of c.taken) k (c.outside.applied k) (ops k))
       → IsComplete c.taken c.reports ops → ⊥
 
--- of every document this version is stored, and nothing was sent
+-- for every document this version is stored, and nothing was sent
 abbrev pub stored_everywhere : ℕ → Outside
 stored_everywhere version = record { requests = []; runs = []; stored = λ k. Some version; before = λ k. []; applied = λ k. [] }
 
@@ -79,7 +80,7 @@ lost_and_stale o =
     ∷ Answers 1 (Items (failed_entry (write_for o 1) 409 conflict ∷ []))
     ∷ []
 
--- Stored versions have to be below the first one dealt: beside an opening where one is not, an operation is lost.
+-- Stored versions must be below the first one assigned: with an opening where one is not, an operation is lost.
 pub record LosesBesideStored (o : Op) : Type 0 where
   pub opening : IsOpening (stored_everywhere 5)
   pub may : AllMayStep config (lost_and_stale o) (begun (stored_everywhere 5))
@@ -107,7 +108,7 @@ second_applied o p =
     ∷ Answers 2 (Items (failed_entry (write_for o 1) 409 conflict ∷ []))
     ∷ []
 
--- An operation has to wait for the earlier ones of its document: where two fly at once, the first is lost.
+-- An operation must wait for the earlier ones of its document: if two are in flight at once, the first is lost.
 pub record LosesFirst (o p : Op) : Type 0 where
   pub fresh : IsFresh config (begun nothing)
   pub may_before : AllMayStep config (first_sent o p) (begun nothing)
@@ -127,7 +128,7 @@ fresh_at_retry w x =
     ∷ outside.Runs (ran 0 0 201) ∷ outside.Runs (ran 1 0 200) ∷ outside.Answers 1 (Items (entry x 200 ∷ []))
     ∷ []
 
--- It may happen so, the one operation is applied twice, and no attribution is left.
+-- This may happen, the one operation is applied twice, and no attribution is left.
 pub record AppliesTwice (key : DocKey) (o : Op) : Type 0 where
   pub may : AllMayHappen (fresh_at_retry (write_for o 1) (write_for o 2)) nothing
   pub applied : (end_of (fresh_at_retry (write_for o 1) (write_for o 2))).applied (document_of key) ≡ write_for o 1 ∷ write_for o 2 ∷ []

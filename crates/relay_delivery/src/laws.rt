@@ -1,4 +1,4 @@
-//! Worked schedules meet the definitions, and what none may do does not. These functions do nothing;
+//! Worked schedules satisfy the definitions, and excluded ones do not. These functions do nothing;
 //! their contracts are the laws.
 ghost use Rattle.relay_delivery.specs.Schedules.{LostThenAlready, LateRunChangesNothing, RunTwice, RefusedOrRejected, NoVersionLeft, BusyThenNext, GivenUpAndApplied, ThreeThenOne, HalvedThenAlone};
 ghost use Rattle.relay_delivery.specs.Worked.{MachineWorks, StoredVersionsBelow, EarlierOnesFirst, OneVersionForAllTries};
@@ -6,8 +6,8 @@ ghost use Rattle.relay_delivery.specs.Counts.{CountsAlways, CountsWhereItFits};
 ghost use Rattle.relay_delivery.specs.Reached.{FreshReached, CallReached, ReachedHolds};
 ghost use Rattle.relay_delivery.specs.Laws.{NoneTwice, NoneOutOfOrder, NoneOfOtherAction, NoneOfOtherDocument, NoneUnaccepted, NoneLeftOut, NotGivenUpAfterOne, NotGivenUpWhenSettled, NoConflictAfterTwo, NotRefusedWithoutStatus, NotRefusedWithoutError, NotSpentWithinLimit, NotRefusedWhenBusy, NotReportedUnsent, NotRejectedWithoutAnswer, NotRejectedWhenRetried, NotGivenUpForHalves, NotRejectedWhenHalved, NoConflictWithoutRun, NoneReportedTwice, NoneReportedUntaken, AssignsTwo, NotAssignedTwice, PlaysFromOpening};
 
-/// Worked schedules of one operation meet the definitions: applied and lost, then a conflict with
-/// its own version; run late, after its repeat; run twice; refused, or rejected with its whole
+/// Worked schedules of one operation satisfy the definitions: applied and lost, then a conflict
+/// with its own version; run late, after its repeat; run twice; refused, or rejected with its whole
 /// request; spent.
 pub fn schedules_of_one()
     ensures already { LostThenAlready }
@@ -17,9 +17,9 @@ pub fn schedules_of_one()
     ensures spent { NoVersionLeft }
 {}
 
-/// Worked schedules of several operations meet the definitions: retried before the next of its
-/// document is sent; given up, and applied all the same before the next; three documents in one
-/// request; a request that is too large and is halved.
+/// Worked schedules of several operations satisfy the definitions: retried before the next
+/// operation of its document is sent; given up, and nevertheless applied before the next one; three
+/// documents in one request; a request that is too large and is halved.
 pub fn schedules_of_several()
     ensures busy { BusyThenNext }
     ensures given_up { GivenUpAndApplied }
@@ -27,27 +27,28 @@ pub fn schedules_of_several()
     ensures halved { HalvedThenAlone }
 {}
 
-/// A schedule begins where nothing was sent.
+/// A schedule begins with nothing sent.
 pub fn schedules_begin()
     ensures opening { PlaysFromOpening }
 {}
 
-/// A lane's own schedule: an operation is applied and lost, sent again, and ends by a conflict with its
-/// own version.
+/// A schedule of a lane: an operation is applied and its reply lost, it is sent again, and it ends
+/// by a conflict with its own version.
 pub fn machine_works()
     ensures { MachineWorks }
 {}
 
-/// No condition may be left out. A stored version at or above the first one dealt, or a second
-/// operation of a document in flight, loses an operation; a fresh version at a retry applies one twice.
+/// Every condition is needed. A stored version at or above the first one assigned, or a second
+/// operation of a document in flight, loses an operation; a fresh version for a repeat applies an
+/// operation twice.
 pub fn conditions_are_needed()
     ensures stored { StoredVersionsBelow }
     ensures eligible { EarlierOnesFirst }
     ensures version { OneVersionForAllTries }
 {}
 
-/// No attribution has an operation twice, one producer's operations out of their order, an operation
-/// with another action, of another document or that was not accepted, or none for a write.
+/// No attribution has an operation twice, a producer's operations out of order, an operation with
+/// another action, of another document or that was not accepted, or none for a write.
 pub fn attributions_exclude()
     ensures twice { NoneTwice }
     ensures order { NoneOutOfOrder }
@@ -57,7 +58,7 @@ pub fn attributions_exclude()
     ensures left_out { NoneLeftOut }
 {}
 
-/// No cause is true that the requests, the runs and the answers do not bear out.
+/// No cause is true that is not supported by the requests, the runs and the answers.
 pub fn causes_exclude()
     ensures one_lost { NotGivenUpAfterOne }
     ensures settled { NotGivenUpWhenSettled }
@@ -74,29 +75,31 @@ pub fn causes_exclude()
     ensures no_conflict { NoConflictWithoutRun }
 {}
 
-/// Where delivery is sound no operation is reported twice, and none that was not taken.
+/// If delivery is sound, no operation is reported twice, and none that was not taken.
 pub fn reports_exclude()
     ensures twice { NoneReportedTwice }
     ensures untaken { NoneReportedUntaken }
 {}
 
-/// A version assignment may deal versions, and gives none to two operations of one document.
+/// A version assignment may assign versions, but never the same one to two operations of one
+/// document.
 pub fn assignments_differ()
     ensures deals { AssignsTwo }
     ensures twice { NotAssignedTwice }
 {}
 
-/// What a lane counts as applied, and as already, is what the answers to its requests say: the places
-/// answered as a success, and those answered by a conflict where two requests at least carried the write.
+/// What a lane counts as applied, and as already applied, is what the answers to its requests say:
+/// the items answered with success, and those answered with a conflict after at least two requests
+/// had carried the write.
 pub fn counts_follow_answers()
     ensures always { CountsAlways }
     ensures fits { CountsWhereItFits }
 {}
 
-/// What holds of a lane whatever it is answered, by an index or by anything else: held operations rise in
-/// version; each, and that of each write in flight, was taken, and has the version that its place was
-/// assigned; no document is in flight twice; and each operation that was taken is held, counted as applied
-/// or reported.
+/// What holds of a lane whatever the answers, from an index or from anything else: held operations
+/// have ascending versions; each of them, and the operation of each write in flight, was taken, and
+/// has the version assigned for its place; no document is in flight twice; and each operation that
+/// was taken is held, counted as applied or reported.
 pub fn any_answers_keep_order()
     ensures fresh { FreshReached }
     ensures call { CallReached }

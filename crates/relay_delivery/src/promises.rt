@@ -7,11 +7,11 @@ ghost use Rattle.relay_delivery.specs.Numbered.{TakesOn, CandidatesOn, SendsOn, 
 ghost use Rattle.relay_delivery.specs.Restarts.{EpochsAreAbove};
 ghost use Rattle.relay_delivery.specs.Accounted.{SoundTogether, CompleteTogether, FreshTogether, ActTogether, RestartTogether, TogetherMay, TogetherRuns, TogetherContinues, ActsKeepNames, RestartsKeepNames};
 
-/// After any steps of a lane and of what stands outside it, from a fresh lane on: the writes that the
-/// index applied are those of distinct operations that the lane took, each producer's in its order;
-/// each report has a true cause; and none is reported twice. Where nothing is held, each operation that
-/// it took was applied or is reported, by the same attribution. The one condition is that no two
-/// operations that it took have one name.
+/// After any steps of a lane and the outside, starting from a fresh lane: the writes that the index
+/// applied are those of distinct operations that the lane took, each producer's in order; each
+/// report has a true cause; and none is reported twice. If nothing is held, each operation that the
+/// lane took was applied or is reported, by the same attribution. The only condition is that no two
+/// operations that it took have the same name.
 pub fn delivery_is_exact()
     ensures sound { SoundAlways }
     ensures complete { CompleteAtTheEnd }
@@ -19,29 +19,30 @@ pub fn delivery_is_exact()
     ensures outside { ContinuesAlways }
 {}
 
-/// Each write that was sent is that of an operation that was taken, under the version that was dealt
-/// at its take; and of a document one operation flies at a time, the earliest that is held.
+/// Each write that was sent is that of an operation that was taken, under the version assigned when
+/// it was taken; and at most one operation of a document is in flight at a time, the earliest that
+/// is held.
 pub fn one_is_in_flight()
     ensures writes { WritesAreDealt }
     ensures earliest { EarliestFlies }
     ensures one { OneFlies }
 {}
 
-/// A fresh lane has come about, and each step leads on from what came about.
+/// A fresh lane is reachable, and each step from a reachable state leads to one.
 pub fn steps_lead_on()
     ensures fresh { FreshCameAbout }
     ensures step { StepCameAbout }
 {}
 
 /// A lane that takes nothing more sends at most as many requests as its held operations have tries
-/// left, so at most as many as it holds, times the tries.
+/// and halvings left, so at most `max + 14` for each operation that it holds.
 pub fn requests_are_bounded()
     ensures left { WithinTriesLeft }
     ensures held { FewRequests }
 {}
 
-/// Each call of a lane is a step beside its outside, so that a lane which fits an outside before the
-/// call fits the outside after it.
+/// Each call of a lane is a step beside its outside, so a lane that fits an outside before the call
+/// fits the outside after it.
 pub fn calls_are_steps()
     ensures fresh { FreshFits }
     ensures clock { ClockFits }
@@ -51,8 +52,8 @@ pub fn calls_are_steps()
     ensures answer { AnswerFits }
 {}
 
-/// A lane that counts its requests anew after a restart makes, numbered on from those before, the same
-/// calls.
+/// A lane that numbers its requests from the beginning again after a restart makes the same calls
+/// as one that numbers them on.
 pub fn requests_are_numbered_on()
     ensures take { TakesOn }
     ensures candidates { CandidatesOn }
@@ -63,8 +64,8 @@ pub fn requests_are_numbered_on()
     ensures answer { AnswersOn }
 {}
 
-/// What is promised of a lane and an outside that it fits: delivery, the counts, what is sent, and that
-/// of a document one operation flies at a time.
+/// What is promised about a lane and an outside that it fits: delivery, the counts, what is sent,
+/// and that at most one operation of a document is in flight at a time.
 pub fn lanes_deliver()
     ensures sound { SoundWhereItFits }
     ensures complete { CompleteWhereItFits }
@@ -74,28 +75,28 @@ pub fn lanes_deliver()
     ensures one { OneFliesWhereItFits }
 {}
 
-/// Each request that a lane sends takes a try of what it holds, and no answer gives one back: so the
-/// tries that are left bound the requests.
+/// Each request that a lane sends uses up a try or a halving of what it holds, and no answer gives
+/// one back: so those that are left bound the number of requests.
 pub fn requests_take_tries()
     ensures send { SendTakesTry }
     ensures answer { AnswerGivesNoTry }
 {}
 
-/// Several lanes over one index, each with its own documents: after any puts, closes, takes and steps, and
-/// after any number of restarts with requests of earlier incarnations still arriving, the writes that the
-/// index applied are those of distinct accepted operations, in each incarnation each producer's in its
-/// order, and those of an earlier incarnation before those of every later one. Of the last incarnation
-/// each report has a true cause; when nothing is queued or held, each operation that was accepted in it
-/// was applied or is reported.
+/// Several lanes over one index, each with its own documents: after any puts, closes, takes and
+/// steps, and after any number of restarts with requests of earlier incarnations still arriving,
+/// the writes that the index applied are those of distinct accepted operations, in each incarnation
+/// each producer's in order, and those of an earlier incarnation before those of every later one.
+/// In the last incarnation each report has a true cause; and when nothing is queued or held, each
+/// operation accepted in it was applied or is reported.
 pub fn lanes_together_deliver()
     ensures sound { SoundTogether }
     ensures complete { CompleteTogether }
 {}
 
-/// Fresh lanes have come about, and each act and each restart leads on. What may happen outside all lanes may happen in
-/// one of them; a run of a lane's item is one step of the one outside and changes nothing of another
-/// document; the one outside came of an opening, by events that may happen; and nothing is accepted from
-/// a producer that has closed.
+/// Fresh lanes are reachable, and each act and each restart leads on from there. What may happen
+/// outside all lanes may happen outside one of them; a run of a lane's item is one step of the
+/// common outside, and changes nothing of another document; the common outside came about from an
+/// opening by events that may happen; and nothing is accepted from a producer that has closed.
 pub fn acts_lead_on()
     ensures fresh { FreshTogether }
     ensures act { ActTogether }
@@ -107,8 +108,8 @@ pub fn acts_lead_on()
     ensures closed { NothingAfterClose }
 {}
 
-/// To which operations the applied writes of a document are attributed no act changes but a run that
-/// applies one more, and no restart.
+/// The attribution of the writes applied to a document is changed only by a run that applies one
+/// more write, not by any other act or by a restart.
 pub fn names_stay()
     ensures act { ActsKeepNames }
     ensures restart { RestartsKeepNames }

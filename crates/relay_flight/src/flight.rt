@@ -10,8 +10,8 @@ use relay_batch::Batch;
 use std::alloc::{AllocError, Global};
 use std::marker::Model;
 
-/// The requests in flight, each under its number. Contracts see it as the most that may be in flight,
-/// the number that comes next, and the requests in rising order of their numbers.
+/// The requests in flight, by number. Contracts see it as the maximum number of requests in flight,
+/// the next number, and the requests in ascending order of their numbers.
 #[derive(Debug, Drop)]
 pub struct Flight {
     max: u32,
@@ -35,8 +35,8 @@ impl Model for Flight {
 }
 
 impl Flight {
-    /// A table in which at most `max` requests are in flight, and none is yet. It reserves all their
-    /// places, so that no later call allocates. `AllocError`: the allocation of the places failed.
+    /// An empty table for at most `max` requests. It reserves all their places, so no later call
+    /// allocates. `AllocError`: that allocation failed.
     pub fn new(alloc: Global, max: u32) -> Result<Flight, AllocError>
         ensures { IfOk result (λ f. f ≡ record { max = max; next = 1; requests = [] }) }
     {
@@ -47,9 +47,9 @@ impl Flight {
         })
     }
 
-    /// A request of this batch and these writes goes into flight. Returns its number: 1 for the
-    /// first, and one more each time. The next number has to be below 2^63. [`Full`] hands both back,
-    /// exactly if `max` requests are in flight, and changes nothing.
+    /// Adds a request of this batch and these writes, and returns its number: 1 for the first, then
+    /// 2 and so on. The next number must be below 2^63. [`Full`] is returned exactly if `max`
+    /// requests are in flight; it hands both back, and nothing has changed.
     pub fn enter(&mut self, batch: Batch, writes: Vec<Write>) -> Result<u64, Full>
         requires { self.old.next < 2 ^ 63 }
         ensures room { is_ok result ≡ nat_lt (length self.old.requests) self.old.max }
@@ -77,7 +77,7 @@ impl Flight {
         Ok(number)
     }
 
-    /// The number that comes next, from 1.
+    /// The next number, from 1.
     pub fn next(&self) -> u64
         ensures next { result ≡ self.now.next }
         ensures kept { IsInFlight self.now }
@@ -85,7 +85,6 @@ impl Flight {
         self.next
     }
 
-    // The place of a number.
     fn place(&self, number: u64) -> Option<usize>
         ensures { result ≡ position (has_number number) self.now.requests }
     {
@@ -94,7 +93,7 @@ impl Flight {
             .position(|request| request.number == number)
     }
 
-    /// The batch of the request of this number, or `None` if it is not in flight.
+    /// The batch of the request with this number, or `None` if it is not in flight.
     pub fn batch(&self, number: u64) -> Option<&Batch>
         ensures { option_copied result ≡ option_map (λ r. r.batch) (request_at number self.now) }
     {
@@ -102,8 +101,8 @@ impl Flight {
         Some(&self.held[at].batch)
     }
 
-    /// The writes of the request of this number, in the order of its batch, or `None` if it is not in
-    /// flight.
+    /// The writes of the request with this number, in the order of its batch, or `None` if it is
+    /// not in flight.
     pub fn writes(&self, number: u64) -> Option<&[Write]>
         ensures { option_map (λ ws. ws.now) result ≡ option_map (λ r. r.writes.items) (request_at number self.now) }
     {
@@ -111,8 +110,8 @@ impl Flight {
         Some(self.held[at].writes.as_slice())
     }
 
-    /// Takes the request of this number out of the table. Returns `None` if it is not in flight, and
-    /// changes nothing then.
+    /// Removes the request with this number from the table. `None`: it is not in flight, and
+    /// nothing has changed.
     pub fn settle(&mut self, number: u64) -> Option<Request>
         ensures request { result ≡ request_at number self.old }
         ensures after { self.new ≡ without_request number self.old }
@@ -125,7 +124,7 @@ impl Flight {
         Some(self.held.remove(at))
     }
 
-    /// The least number in flight, or `None` if none is.
+    /// The lowest number in flight, or `None` if there is none.
     pub fn oldest(&self) -> Option<u64>
         ensures { MatchOption result (self.now.requests ≡ []) (λ no. IsOldest no self.now) }
     {
@@ -133,7 +132,7 @@ impl Flight {
         Some(request.number)
     }
 
-    /// How many requests are in flight.
+    /// The number of requests in flight.
     pub fn flying(&self) -> u32
         ensures { result ≡ length self.now.requests }
     {

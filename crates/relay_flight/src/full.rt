@@ -1,14 +1,14 @@
-//! Why a request does not enter.
+//! The refusal of a request.
 use relay_action::Write;
 use relay_batch::Batch;
 use thiserror::Error;
 
-/// As many requests as may be are in flight. It hands back what was to enter.
+/// The maximum number of requests is in flight. It hands back what was to be added.
 #[derive(Debug, Drop, Error)]
 #[error("Full")]
 pub struct Full {
-    /// The batch, as it was given.
+    /// The batch.
     pub batch: Batch,
-    /// The writes, as they were given.
+    /// The writes.
     pub writes: Vec<Write>,
 }

@@ -1,8 +1,9 @@
-//! The requests of a lane that are in flight: sent, and not yet settled. It stands on `relay_action` and `relay_batch`.
+//! The requests of a lane that are in flight: sent, and not yet settled. It depends on
+//! `relay_action` and `relay_batch`.
 //!
-//! It carries this promise: the table is a map from numbers to requests, each with its batch and its
-//! writes; numbers rise from 1 and none is used again, and settling a number gives back what entered
-//! under it. Once the table is made, no call allocates.
+//! What is proved: the table is a map from numbers to requests, each with its batch and its writes;
+//! numbers rise from 1 and none is used again, and settling a number returns what was added under
+//! it. Once the table is made, no call allocates.
 #![tactic(auto)]
 
 pub mod flight;

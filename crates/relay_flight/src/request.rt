@@ -5,7 +5,7 @@ use relay_batch::Batch;
 /// A request in flight: its batch, and the writes of the operations in it.
 #[derive(Debug, Drop)]
 pub struct Request {
-    /// Its number: 1 for the first of a lane, and one more each time.
+    /// Its number: 1 for the first request of a lane, then 2 and so on.
     pub number: u64,
     /// Its batch.
     pub batch: Batch,

@@ -1,4 +1,4 @@
-//! The tests of `relay_flight`: numbers, room and settling of batches in flight.
+//! The tests of `relay_flight`: numbers, room, and settling requests in flight.
 #![tactic(auto)]
 
 #[cfg(test)]

@@ -21,7 +21,7 @@ fn item(doc: u64) -> BatchItem {
     }
 }
 
-// Two items that are gathered, the first of them of the document.
+// Two items that are gathered, the first one of this document.
 fn gathered(alloc: Global, doc: u64) -> Result<Batcher, AllocError> {
     let limits = Limits {
         count: 10,
@@ -34,12 +34,11 @@ fn gathered(alloc: Global, doc: u64) -> Result<Batcher, AllocError> {
     Ok(batcher)
 }
 
-// The batch of them.
 fn batch(alloc: Global, doc: u64) -> Result<Batch, Fail> {
     Ok(gathered(alloc, doc)?.close().ok_or("empty")?)
 }
 
-// Its writes, of which there is one: a delete whose version is the document. `None`: out of memory.
+// The one write for it: a delete whose version is the document. `None`: allocation failed.
 fn deletes(alloc: Global, doc: u64) -> Option<Vec<Write>> {
     let mut writes = Vec::with_capacity(alloc, 1).ok()?;
     let key = DocKey::new(alloc, "b", "d").ok()?;
@@ -60,17 +59,17 @@ fn document(batch: &Batch) -> Option<u64> {
     batch.items().first().map(|item| item.doc)
 }
 
-// The version of the first of these writes.
+// The version of the first write.
 fn version(writes: &[Write]) -> Option<u64> {
     writes.first().map(|write| write.version)
 }
 
-// Whether a batch holds the item of this document and the one beside it.
+// Whether a batch has the item of this document and the other one.
 fn is_batch(batch: &Batch, doc: u64) -> bool {
     batch.items() == [item(doc), item(1_000)].as_slice()
 }
 
-// Whether these are the writes that go with that batch.
+// Whether these are the writes for that batch.
 fn are_writes(writes: &[Write], doc: u64) -> bool {
     writes.len() == 1 && version(writes) == Some(doc)
 }
@@ -82,10 +81,10 @@ fn is_whole(request: &Request, number: u64, doc: u64) -> bool {
         && are_writes(request.writes.as_slice(), doc)
 }
 
-// The last number that is dealt here.
+// The last number that is used here.
 const LAST: u64 = 1_000;
 
-// The number that a request gets; `None`: there is no room, or no number is left.
+// The number of a request; `None`: there is no room, or no number is left.
 fn enter(flight: &mut Flight, batch: Batch, writes: Vec<Write>) -> Option<u64> {
     if flight.next() > LAST {
         return None;
@@ -93,13 +92,13 @@ fn enter(flight: &mut Flight, batch: Batch, writes: Vec<Write>) -> Option<u64> {
     flight.enter(batch, writes).ok()
 }
 
-// The number that a request of a document gets.
+// The number of a request with this document.
 fn number_of(flight: &mut Flight, alloc: Global, doc: u64) -> Result<Option<u64>, Fail> {
     let writes = writes(alloc, doc)?;
     Ok(enter(flight, batch(alloc, doc)?, writes))
 }
 
-// What comes back from a flight without room, if the fault says so.
+// What is returned by a table without room, if the fault says so.
 fn refused(
     flight: &mut Flight,
     alloc: Global,
@@ -118,7 +117,8 @@ fn refused(
     }
 }
 
-// Whether there is no room for a request of a document, and the fault says so and gives it back whole.
+// Whether there is no room for a request with this document, and the fault says so and returns all
+// of it.
 fn comes_back(flight: &mut Flight, alloc: Global, doc: u64) -> Result<bool, Fail> {
     let writes = writes(alloc, doc)?;
     let back = refused(flight, alloc, batch(alloc, doc)?, writes)?;
@@ -127,7 +127,8 @@ fn comes_back(flight: &mut Flight, alloc: Global, doc: u64) -> Result<bool, Fail
     }))
 }
 
-// Whether the request of a number comes out whole, and no more, and enters again as another.
+// Whether the request with a number can be taken out just once, and entered again under another
+// one.
 fn goes_round(flight: &mut Flight, number: u64, doc: u64, again: u64) -> bool {
     match flight.settle(number) {
         Some(request) => {
@@ -160,8 +161,8 @@ fn a_flight_of_none(rt: HostRuntime) -> Result<(), Fail> {
     Ok(())
 }
 
-// A number that is settled, the document of what it gives, and then the least number that flies and how
-// many do.
+// A number to settle, the document of what is returned, and then the lowest number in flight and
+// how many are.
 const SETTLED: &[(u64, Option<u64>, Option<u64>, u32)] = &[
     (0, None, Some(1), 3),
     (4, None, Some(1), 3),
@@ -174,7 +175,7 @@ const SETTLED: &[(u64, Option<u64>, Option<u64>, u32)] = &[
     (3, None, None, 0),
 ];
 
-// What a request holds: its number, its document and the version of its write.
+// The contents of a request: its number, its document and the version of its write.
 fn holds(request: &Request) -> (u64, Option<u64>, Option<u64>) {
     (
         request.number,
@@ -183,19 +184,19 @@ fn holds(request: &Request) -> (u64, Option<u64>, Option<u64>) {
     )
 }
 
-// Whether a number stands for a request of this document, or for none.
+// Whether a number has a request with this document, or none.
 fn stands(flight: &Flight, number: u64, doc: Option<u64>) -> bool {
     flight.batch(number).and_then(document) == doc && flight.writes(number).and_then(version) == doc
 }
 
-// Whether it does until it is settled, and then for none.
+// Whether it has until it is settled, and then none.
 fn settles(flight: &mut Flight, number: u64, doc: Option<u64>) -> bool {
     stands(flight, number, doc)
         && flight.settle(number).map(|request| holds(&request)) == doc.map(|_| (number, doc, doc))
         && stands(flight, number, None)
 }
 
-// Of three requests, of the documents 7, 8 and 9.
+// Three requests, with the documents 7, 8 and 9.
 #[test]
 fn settling_out_of_order(rt: HostRuntime) -> Result<(), Fail> {
     let mut flight = Flight::new(rt.alloc(), 3)?;
@@ -209,7 +210,7 @@ fn settling_out_of_order(rt: HostRuntime) -> Result<(), Fail> {
     Ok(())
 }
 
-// A place that was settled is free again, and its number is not used again.
+// The place of a settled request is free again, and its number is not used again.
 #[test]
 fn numbers_are_not_used_again(rt: HostRuntime) -> Result<(), Fail> {
     let mut flight = Flight::new(rt.alloc(), 2)?;
@@ -223,7 +224,7 @@ fn numbers_are_not_used_again(rt: HostRuntime) -> Result<(), Fail> {
     Ok(())
 }
 
-// A table, at the second call where the first was refused memory.
+// A table, made by a second call if the first one's allocation failed.
 fn table(alloc: Global) -> Result<Flight, AllocError> {
     match Flight::new(alloc, 2) {
         Ok(flight) => Ok(flight),
@@ -231,7 +232,7 @@ fn table(alloc: Global) -> Result<Flight, AllocError> {
     }
 }
 
-// A batch, at the second call where the first was refused memory.
+// A batch, made by a second call if the first one's allocation failed.
 fn batch_again(alloc: Global) -> Result<Batch, Fail> {
     let batcher = match gathered(alloc, 7) {
         Ok(batcher) => batcher,
@@ -240,7 +241,7 @@ fn batch_again(alloc: Global) -> Result<Batch, Fail> {
     Ok(batcher.close().ok_or("empty")?)
 }
 
-// Writes, at the second call where the first was refused memory.
+// Writes, made by a second call if the first one's allocation failed.
 fn writes_again(alloc: Global) -> Result<Vec<Write>, Fail> {
     let writes = match deletes(alloc, 7) {
         Some(writes) => writes,
@@ -249,7 +250,7 @@ fn writes_again(alloc: Global) -> Result<Vec<Write>, Fail> {
     Ok(writes)
 }
 
-// A refused allocation is answered as out of memory; once the table is made it takes none.
+// A failed allocation is reported as out of memory; once the table is made, no call allocates.
 #[test]
 fn refusals(rt: HostRuntime) -> Result<(), Fail> {
     let mut flight = table(rt.alloc())?;

@@ -14,19 +14,19 @@ trailer_limit = 16384
 abbrev pub trailer_fields : ℕ
 trailer_fields = 64
 
--- a size line within its limit
+-- a chunk-size line within its limit
 pub record FitsLine (l : ChunkLine) : Type 0 where
   pub grammar : IsChunkLine l
   pub size : length (print_chunk_line l) ≤ size_line_limit
 
--- the bytes are a size line that gives this size
+-- the bytes are a chunk-size line with this size
 pub record IsSizeLine (bytes : List ℕ) (ends : Bool) (size : ℕ) : Type 0 where
   pub line : ChunkLine
   pub fits : FitsLine line
   pub bytes_are : bytes ≡ print_chunk_line line
   pub size_is : size ≡ chunk_size line
 
--- a size line, that many bytes, and CRLF
+-- a chunk-size line, that many bytes, and CRLF
 pub record Chunk : Type 0 where
   pub line : ChunkLine
   pub content : List ℕ
@@ -48,7 +48,7 @@ pub record IsTrailerText (bytes : List ℕ) : Type 0 where
   pub count : length fields ≤ trailer_fields
   pub bytes_are : bytes ≡ print_section fields last
 
--- the bytes are chunks, a line of size 0 and a trailer, and the content is what came before and their content
+-- the bytes are chunks, a line of size 0 and a trailer; the content is what came before, and theirs
 pub record IsChunkedAfter (limit : ℕ) (before : List ℕ) (bytes : List ℕ) (ends : Bool) (content : List ℕ) : Type 0 where
   pub chunks : List Chunk
   pub each : AllByRecursion IsChunk chunks
@@ -61,11 +61,11 @@ pub record IsChunkedAfter (limit : ℕ) (before : List ℕ) (bytes : List ℕ) (
   pub size : length content ≤ limit
   pub bytes_are : bytes ≡ flat_map print_chunk chunks ++ (print_chunk_line zero_line ++ trailer)
 
--- the bytes are a chunked body with at most limit bytes of content
+-- the bytes are a chunked body with at most `limit` bytes of content
 abbrev pub IsChunked : ℕ → Form (List ℕ)
 IsChunked limit = IsChunkedAfter limit []
 
--- chunks stand there, and then a size line with which the content so far passes the limit
+-- there are chunks at the front, and then a chunk-size line that takes the content over the limit
 pub record IsLongChunked (limit : ℕ) (before : List ℕ) (stream : List ℕ) : Type 0 where
   pub chunks : List Chunk
   pub each : AllByRecursion IsChunk chunks

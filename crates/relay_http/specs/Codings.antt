@@ -1,4 +1,4 @@
--- What the Transfer-Encoding fields come to.
+-- The transfer coding, from the Transfer-Encoding fields.
 use Rattle.std.specs.Prelude.{ℕ, List, [], ◌∷◌, if◌then◌else◌, codes}
 use Rattle.relay_http.specs.Fields.{same_word}
 use Rattle.relay_http.specs.declared.fields.Coding.{Coding}

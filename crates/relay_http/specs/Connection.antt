@@ -9,8 +9,8 @@ use Rattle.relay_http.specs.declared.phase.Phase.TheVariants as phase
 use Rattle.relay_http.specs.declared.reply.HttpReply.{HttpReply}
 use Rattle.relay_http.specs.declared.request.HttpRequest.{HttpRequest}
 
--- what was read and not used yet; what the stream has left, what it was given, and how many of its calls failed; and
--- what may still be carried
+-- the bytes that were read ahead; what the stream has left, what was written to it, and how many of its calls failed;
+-- and what the connection may still carry
 pub record Connection : Type 0 where
   pub held : List ℕ
   pub left : Option (List ℕ)
@@ -18,12 +18,12 @@ pub record Connection : Type 0 where
   pub failed : ℕ
   pub phase : Phase
 
--- the bytes that stand: those that were read and not used, and those that the stream has left
+-- the bytes to come: those that were read ahead, and those that the stream has left
 abbrev pub ahead : Connection → Option (List ℕ)
 ahead c = prepend_known c.held c.left
 
--- Nothing is ahead that nobody asked for: no byte was read beyond the messages so far, and the stream shows neither bytes
--- that it has left nor its end. A stream that shows its bytes shows one or the other.
+-- Nothing has arrived that was not asked for: no byte was read beyond the messages so far, and the stream shows
+-- neither bytes that are left nor its end. A stream that shows its bytes shows one or the other.
 pub record IsQuiet (c : Connection) : Type 0 where
   pub held : c.held ≡ []
   pub left : c.left ≡ None
@@ -42,7 +42,7 @@ is_broken phase.Open = false
 is_broken phase.Closing = false
 is_broken phase.Broken = true
 
--- after a message that lets the connection carry a further one, or does not; a request leaves its answer to be written
+-- after a message that keeps the connection, or does not; after a request its answer may still be written
 abbrev pub phase_of : Bool → Phase
 phase_of keep = if keep then phase.Open else phase.Broken
 
@@ -93,7 +93,7 @@ is_write (Err fault.TooManyInterim) = false
 is_write (Err fault.Memory) = false
 is_write (Err fault.Broken) = false
 
--- how many calls have failed after a call that reads, and after one that writes
+-- the number of failed calls after a call that reads, and after one that writes
 abbrev pub failed_reading : {A : Type 0} → Result A HttpFault → ℕ → ℕ
 failed_reading result failed = if is_read result then one_more failed else failed
 

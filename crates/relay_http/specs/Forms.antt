@@ -1,11 +1,11 @@
--- Messages at the front of a stream, and what a call that reads one says of the bytes that stood there.
+-- Messages at the front of a stream, and what a call that reads one says of the bytes there.
 use Rattle.std.specs.Prelude.{◌≡◌, ◌⊎◌, ℕ, List, [], ◌++◌, Bool, true, false, Option}
 use Rattle.std.specs.Io.KnownBytes.{IsAtEnd}
 use Rattle.std.specs.Io.KnownBytes.{prepend_known}
 use Rattle.relay_http.specs.declared.fault.HttpFault.{HttpFault}
 use Rattle.relay_http.specs.declared.fault.HttpFault.TheVariants as fault
 
--- M bytes ends value: the bytes, after which the stream ends or not, are a message with this value
+-- M bytes ends value: the bytes, with or without the end of the stream after them, are a message with this value
 abbrev pub Form : Type 0 → Type 1
 Form A = List ℕ → Bool → A → Type 0
 
@@ -19,16 +19,16 @@ pub record Begins {A : Type 0} (M : Form A) (stream : List ℕ) : Type 0 where
   pub split : stream ≡ front ++ rest
   pub last : ends ≡ true → rest ≡ []
 
--- the message at the front has this value, and this rest follows it
+-- the message at the front has this value, and this is the rest
 pub record Gives {A : Type 0} {M : Form A} {s : List ℕ} (value : A) (rest : List ℕ) (b : Begins M s) : Type 0 where
   pub value_is : value ≡ b.value
   pub rest_is : rest ≡ b.rest
 
--- no stream begins with two messages, nor with one at two lengths
+-- no stream begins with two messages, or with the same one at two lengths
 pub record IsUnique {A : Type 0} (M : Form A) : Type 0 where
   pub same : (stream : List ℕ) (b c : Begins M stream) → Gives b.value b.rest c
 
--- a head, and after it what the head leads to
+-- a head, and what the head leads to
 pub record IsHeadThen {I A : Type 0} (H : Form I) (T : I → Form A) (bytes : List ℕ) (ends : Bool) (value : A) : Type 0 where
   pub info : I
   pub head : List ℕ
@@ -58,15 +58,15 @@ pub record Refused {A : Type 0} (M : Form A) (old left : Option (List ℕ)) : Ty
   pub stood : old ≡ prepend_known read left
   pub never : (more : List ℕ) → ¬ (Begins M (read ++ more))
 
--- a read failed, or memory was refused
+-- a read or an allocation failed
 abbrev pub IsOutside : HttpFault → Type 0
 IsOutside f = (f ≡ fault.Read) ⊎ (f ≡ fault.Memory)
 
--- that fault, unless a read failed or memory was refused
+-- this fault, unless a read or an allocation failed
 abbrev pub IsThatOrOutside : HttpFault → HttpFault → Type 0
 IsThatOrOutside f answer = (answer ≡ f) ⊎ IsOutside answer
 
--- when a read of a message fails
+-- when reading a message fails
 abbrev pub Fails : {A : Type 0} → Form A → Option (List ℕ) → Option (List ℕ) → HttpFault → Type 0
 Fails M old left fault.Malformed = Refused M old left
 Fails M old left fault.HeadLong = Refused M old left

@@ -1,4 +1,4 @@
--- Where the body of a message ends, from its status and its fields (RFC 9112, section 6.3).
+-- Where the body of a message ends, given its status and its fields (RFC 9112, section 6.3).
 use Rattle.std.specs.Prelude.{ℕ, Bool, true, false, not, ◌&&◌, ◌||◌, List, [], ◌∷◌, length, if◌then◌else◌, ◌==◌, nat_lt, nat_le, codes, Result, Ok, Err}
 use Rattle.std.specs.List.{list_all, list_any}
 use Rattle.relay_http.specs.Fields.{Header, same_word, values_named, elements_named, has_field, number, agrees}
@@ -7,15 +7,16 @@ use Rattle.relay_http.specs.declared.fault.HttpFault.TheVariants.{Malformed, Bod
 use Rattle.relay_http.specs.declared.framing.Framing.{Framing}
 use Rattle.relay_http.specs.declared.framing.Framing.TheVariants.{Absent, Sized, Chunked, ToEnd}
 
--- the most bytes of a reply's body
+-- the maximum length of a reply's body, in bytes
 abbrev pub reply_limit : ℕ
 reply_limit = 67108864
 
--- the most bytes of a request's body
+-- the maximum length of a request's body, in bytes
 abbrev pub request_limit : ℕ
 request_limit = 16777216
 
--- the length that the elements of the Content-Length fields agree on, within a limit; where there is none, the open framing
+-- the length on which the elements of the Content-Length fields agree, within a limit; the open framing if there are
+-- none
 abbrev pub sized : ℕ → Framing → List (List ℕ) → Result Framing HttpFault
 sized limit open_framing [] = Ok open_framing
 sized limit open_framing (e ∷ es) =
@@ -23,17 +24,18 @@ sized limit open_framing (e ∷ es) =
     then (if nat_le (number e) limit then Ok (Sized (number e)) else Err BodyLong)
     else Err Malformed
 
--- whether a body with this Content-Encoding is as it was sent (RFC 9110, section 8.4)
+-- whether this Content-Encoding leaves the body as it is (RFC 9110, section 8.4)
 abbrev pub is_plain : List ℕ → Bool
 is_plain value = (length value == 0) || same_word value (codes "identity")
 
--- whether the Transfer-Encoding fields are one, which says chunked
+-- whether there is exactly one Transfer-Encoding field, and it says chunked
 abbrev pub is_chunked : List (List ℕ) → Bool
 is_chunked [] = false
 is_chunked (value ∷ []) = same_word value (codes "chunked")
 is_chunked (value ∷ (other ∷ values)) = false
 
--- the framing of a message that may have a body, of at most limit bytes; the open framing where no field says a length
+-- the framing of a message that may have a body, of at most `limit` bytes; the open framing if no field gives a
+-- length
 abbrev pub framing_of_fields : ℕ → Framing → List Header → Result Framing HttpFault
 framing_of_fields limit open_framing fields =
     let codings = values_named (codes "transfer-encoding") fields in
@@ -43,11 +45,11 @@ framing_of_fields limit open_framing fields =
     else (if (coded && not (is_chunked codings)) || not (list_all is_plain (values_named (codes "content-encoding") fields)) then Err CodedBody
     else (if coded then Ok Chunked else sized limit open_framing lengths))
 
--- a head of this status is one before the final one, and is dropped (RFC 9110, section 15.2)
+-- a head with this status precedes the final one, and is dropped (RFC 9110, section 15.2)
 abbrev pub is_interim : ℕ → Bool
 is_interim status = nat_le 100 status && (nat_lt status 200 && not (status == 101))
 
--- the framing of a reply whose last head has this status; an interim head is the last only where too many stand
+-- the framing of a reply whose last head has this status; an interim head is the last one only if there are too many
 abbrev pub framing_of : ℕ → List Header → Result Framing HttpFault
 framing_of status fields =
     if is_interim status then Err TooManyInterim
@@ -59,11 +61,11 @@ framing_of status fields =
 abbrev pub framing_of_request : List Header → Result Framing HttpFault
 framing_of_request fields = framing_of_fields request_limit Absent fields
 
--- whether the head lets the connection carry a further message (RFC 9112, section 9.3)
+-- whether the head keeps the connection (RFC 9112, section 9.3)
 abbrev pub keeps : ℕ → List Header → Bool
 keeps minor fields = nat_lt 0 minor && not (list_any (λ e. same_word e (codes "close")) (elements_named (codes "connection") fields))
 
--- whether the body ends with the stream
+-- whether the body extends to the end of the stream
 abbrev pub is_to_end : Framing → Bool
 is_to_end Absent = false
 is_to_end (Sized n) = false

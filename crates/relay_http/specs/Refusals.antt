@@ -1,4 +1,4 @@
--- Why a message is refused: what stands in the stream where a fault is answered.
+-- Why a message is refused: what is at the front of the stream, for each fault.
 use Rattle.std.specs.Prelude.{◌≡◌, ◌⊎◌, ℕ, ◌<◌, ◌≤◌, List, [], ◌++◌, length, take, flat_map, Ok}
 use Rattle.std.specs.List.{AllByRecursion}
 use Rattle.httparse.specs.Ascii.{crlf_bytes}
@@ -17,7 +17,7 @@ use Rattle.relay_http.specs.declared.framing.Framing.TheVariants as framing
 
 -- ---- pieces
 
--- What stands there is longer than it may be: so many bytes with no end, or more fields.
+-- It is too long: these many bytes without an end, or too many fields.
 abbrev pub OverrunsHead : List ℕ → Type 0
 OverrunsHead s = ((head_limit ≤ length s) × HasNoResponse (take head_limit s)) ⊎ ResponseExceeds field_limit s
 
@@ -34,11 +34,11 @@ OverrunsLine s = (size_line_limit ≤ length s) × HasNoChunkLine (take size_lin
 abbrev pub OverrunsNever : List ℕ → Type 0
 OverrunsNever s = ⊥
 
--- no CRLF stands there, and none will
+-- there is no CRLF, and more bytes will not make one
 abbrev pub NeverHasCrlf : List ℕ → Type 0
 NeverHasCrlf s = (more rest : List ℕ) → ¬ (s ++ more ≡ crlf_bytes ++ rest)
 
--- a fault of a piece: Malformed where what stands there breaks its grammar, HeadLong where it is longer than it may be
+-- the fault of a piece: Malformed if the bytes there break its grammar, HeadLong if they exceed its limits
 abbrev pub PieceFault : (List ℕ → Type 0) → (List ℕ → Type 0) → List ℕ → HttpFault → Type 0
 PieceFault breaks overruns s fault.Malformed = breaks s
 PieceFault breaks overruns s fault.HeadLong = overruns s
@@ -54,7 +54,7 @@ PieceFault breaks overruns s fault.Broken = ⊥
 
 -- ---- chunked bodies
 
--- chunks stand there, and after them what P says
+-- there are chunks at the front, and P holds after them
 pub record AfterChunks (P : List ℕ → Type 0) (stream : List ℕ) : Type 0 where
   pub chunks : List Chunk
   pub each : AllByRecursion IsChunk chunks
@@ -62,7 +62,7 @@ pub record AfterChunks (P : List ℕ → Type 0) (stream : List ℕ) : Type 0 wh
   pub there : P rest
   pub split : stream ≡ flat_map print_chunk chunks ++ rest
 
--- a size line stands there, and after it what P says of its size
+-- there is a chunk-size line at the front, and P holds of its size and the bytes after it
 pub record AfterSizeLine (P : ℕ → List ℕ → Type 0) (stream : List ℕ) : Type 0 where
   pub line : ChunkLine
   pub fits : FitsLine line
@@ -70,7 +70,7 @@ pub record AfterSizeLine (P : ℕ → List ℕ → Type 0) (stream : List ℕ) :
   pub there : P (chunk_size line) rest
   pub split : stream ≡ print_chunk_line line ++ rest
 
--- so many bytes stand there, and no CRLF after them
+-- there are this many bytes at the front, and no CRLF after them
 pub record HasNoChunkEnd (size : ℕ) (stream : List ℕ) : Type 0 where
   pub content : List ℕ
   pub rest : List ℕ
@@ -78,7 +78,7 @@ pub record HasNoChunkEnd (size : ℕ) (stream : List ℕ) : Type 0 where
   pub none : NeverHasCrlf rest
   pub split : stream ≡ content ++ rest
 
--- after a size line: no trailer behind the last, or no CRLF behind the content
+-- after a chunk-size line: no trailer after the last chunk, or no CRLF after the content
 abbrev pub BreaksAfterLine : ℕ → List ℕ → Type 0
 BreaksAfterLine size s = ((size ≡ 0) × NeverHasSection s) ⊎ ((0 < size) × HasNoChunkEnd size s)
 
@@ -107,7 +107,7 @@ OverrunsBody (framing.Sized n) s = ⊥
 OverrunsBody framing.Chunked s = AfterChunks OverrunsChunk s
 OverrunsBody framing.ToEnd s = ⊥
 
--- a fault of a body of at most limit bytes in this framing
+-- the fault of a body with this framing and at most `limit` bytes
 abbrev pub BodyFault : ℕ → Framing → List ℕ → HttpFault → Type 0
 BodyFault limit f s fault.Malformed = BreaksBody f s
 BodyFault limit f s fault.HeadLong = OverrunsBody f s
@@ -123,7 +123,7 @@ BodyFault limit f s fault.Broken = ⊥
 
 -- ---- replies
 
--- at most eight interim heads stand there, and after them what P says
+-- there are at most eight interim heads at the front, and P holds after them
 pub record AfterInterim (P : List ℕ → Type 0) (stream : List ℕ) : Type 0 where
   pub interim : List ResponseHead
   pub few : length interim ≤ interim_limit
@@ -132,16 +132,16 @@ pub record AfterInterim (P : List ℕ → Type 0) (stream : List ℕ) : Type 0 w
   pub there : P rest
   pub split : stream ≡ flat_map print_response interim ++ rest
 
--- the heads of a reply stand there, and after them what P says of the framing that they state
+-- the heads of a reply are at the front, and P holds of their framing and the bytes after them
 pub record AfterHeads (P : Framing → List ℕ → Type 0) (stream : List ℕ) : Type 0 where
   pub heads : Begins IsHeads stream
   pub framing : Framing
   pub framed : heads.value.framing ≡ Ok framing
   pub there : P framing heads.rest
 
--- Which fault is answered for what stands in the stream in place of a reply. Malformed: the heads state it, a head breaks
--- the grammar, or a chunked body does. HeadLong: a head, a size line or a trailer is longer than it may be. BodyLong: the
--- heads state it, or the body passes its limit. The others of the bytes: the heads state it.
+-- The fault for what is at the front of the stream in place of a reply. Malformed: the heads say so, or a head or a
+-- chunked body breaks the grammar. HeadLong: a head, a chunk-size line or a trailer is too long. BodyLong: the heads
+-- say so, or the body exceeds its limit. The other faults of the bytes: the heads say so.
 abbrev pub ReplyFault : List ℕ → HttpFault → Type 0
 ReplyFault s fault.Malformed = ReplyStates s fault.Malformed ⊎ (AfterInterim NeverHasResponse s ⊎ AfterHeads BreaksBody s)
 ReplyFault s fault.HeadLong = AfterInterim OverrunsHead s ⊎ AfterHeads OverrunsBody s
@@ -157,7 +157,7 @@ ReplyFault s fault.Broken = ⊥
 
 -- ---- requests
 
--- the head of a request stands there, and after it what P says of the framing that it states
+-- the head of a request is at the front, and P holds of its framing and the bytes after it
 pub record AfterRequestHead (P : Framing → List ℕ → Type 0) (stream : List ℕ) : Type 0 where
   pub head : Begins IsRequestInfo stream
   pub framing : Framing

@@ -12,14 +12,14 @@ use Rattle.relay_http.specs.declared.framing.Framing.{Framing}
 use Rattle.relay_http.specs.declared.head.HeadInfo.{HeadInfo}
 use Rattle.relay_http.specs.declared.reply.HttpReply.{HttpReply}
 
--- the most bytes of a head, and the most fields
+-- the maximum length of a head, in bytes, and its maximum number of fields
 abbrev pub head_limit : ℕ
 head_limit = 16384
 
 abbrev pub field_limit : ℕ
 field_limit = 64
 
--- the most interim heads
+-- the maximum number of interim heads
 abbrev pub interim_limit : ℕ
 interim_limit = 8
 
@@ -53,7 +53,8 @@ pub record IsInterim (h : ResponseHead) : Type 0 where
   pub fits : FitsHead h
   pub status : is_interim (status_code h) ≡ true
 
--- the bytes are at most so many interim heads and one head more, which says this; that one is interim only after so many
+-- the bytes are at most `most` interim heads and one more head, which says this; that one is interim only after
+-- `most` others
 pub record IsHeadsWith (most : ℕ) (bytes : List ℕ) (ends : Bool) (info : HeadInfo) : Type 0 where
   pub interim : List ResponseHead
   pub few : length interim ≤ most
@@ -82,22 +83,22 @@ pub record IsReplyBody (info : HeadInfo) (bytes : List ℕ) (ends : Bool) (reply
   pub status_is : reply.status ≡ info.status
   pub keep_is : reply.keep ≡ (info.lasting && not (is_to_end framing))
 
--- the bytes, after which the stream ends or not, are this reply
+-- the bytes, with or without the end of the stream after them, are this reply
 abbrev pub IsReply : Form Reply
 IsReply = IsHeadThen IsHeads IsReplyBody
 
--- the heads at the front of a stream state this fault
+-- the heads at the front of a stream have this fault
 pub record ReplyStates (stream : List ℕ) (f : HttpFault) : Type 0 where
   pub heads : Begins IsHeads stream
   pub fault_is : heads.value.framing ≡ Err f
 
--- the heads at the front of a stream state a body, and what follows them passes its limit
+-- the heads at the front of a stream announce a body, and what follows them exceeds its limit
 pub record ReplyPasses (stream : List ℕ) : Type 0 where
   pub heads : Begins IsHeads stream
   pub framing : Framing
   pub framed : heads.value.framing ≡ Ok framing
   pub long : IsLongBody reply_limit framing heads.rest
 
--- a reply, wherever it lies in memory
+-- a reply, wherever it is in memory
 abbrev pub reply_view : HttpReply → Reply
 reply_view r = record { status = r.status; body = r.body.items; keep = r.keep }

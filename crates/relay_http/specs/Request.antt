@@ -1,4 +1,4 @@
--- A request as it is read (RFC 9112, section 3): a head, and a body in the framing that it states.
+-- A request, when it is read (RFC 9112, section 3): a head, and a body with the framing that it gives.
 use Rattle.std.specs.Prelude.{◌&&◌, ◌≡◌, ℕ, ◌≤◌, Option, Some, None, Bool, List, map, length, codes, bytes_eq, Ok, Err}
 use Rattle.std.specs.Io.KnownBytes.{IsAtEnd}
 use Rattle.httparse.specs.Grammar.{RequestHead, IsRequestHead, print_request}
@@ -56,32 +56,32 @@ pub record IsRequestBody (info : RequestInfo) (bytes : List ℕ) (ends : Bool) (
   pub bulk_is : request.bulk ≡ info.bulk
   pub keep_is : request.keep ≡ info.lasting
 
--- the bytes, after which the stream ends or not, are this request
+-- the bytes, with or without the end of the stream after them, are this request
 abbrev pub IsRequest : Form Request
 IsRequest = IsHeadThen IsRequestInfo IsRequestBody
 
--- the head at the front of a stream states this fault
+-- the head at the front of a stream has this fault
 pub record RequestStates (stream : List ℕ) (f : HttpFault) : Type 0 where
   pub head : Begins IsRequestInfo stream
   pub fault_is : head.value.framing ≡ Err f
 
--- the head at the front of a stream states a body, and what follows it passes its limit
+-- the head at the front of a stream announces a body, and what follows it exceeds its limit
 pub record RequestPasses (stream : List ℕ) : Type 0 where
   pub head : Begins IsRequestInfo stream
   pub framing : Framing
   pub framed : head.value.framing ≡ Ok framing
   pub long : IsLongBody request_limit framing head.rest
 
--- a request, wherever it lies in memory
+-- a request, wherever it is in memory
 abbrev pub request_view : HttpRequest → Request
 request_view r = record { bulk = r.bulk; body = r.body.items; keep = r.keep }
 
--- the request that stood there, or none at the end of the stream
+-- the request that was at the front, or none at the end of the stream
 abbrev pub TookRequest : Option (List ℕ) → Option (List ℕ) → Option HttpRequest → Type 0
 TookRequest old new None = IsAtEnd old × (new ≡ old)
 TookRequest old new (Some r) = Took IsRequest old new (request_view r)
 
--- the answer is the request that stands at the front, and the rest stays
+-- the request at the front is returned, and the rest is left
 abbrev pub IsFound : {stream : List ℕ} → Begins IsRequest stream → Option (List ℕ) → Option HttpRequest → Type 0
 IsFound there new None = ⊥
 IsFound there new (Some r) = (request_view r ≡ there.value) × (new ≡ Some there.rest)

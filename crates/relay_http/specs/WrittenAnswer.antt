@@ -1,4 +1,4 @@
--- The answer to a request (RFC 9112, section 4), as it is written.
+-- The answer to a request (RFC 9112, section 4), when it is written.
 use Rattle.std.specs.Prelude.{◌≢◌, ℕ, ◌≤◌, ◌==◌, Bool, List, [], ◌∷◌, ◌++◌, length, codes, if◌then◌else◌, Some}
 use Rattle.std.specs.Fmt.{decimal}
 use Rattle.httparse.specs.Ascii.{crlf_bytes}
@@ -8,7 +8,7 @@ use Rattle.httparse.specs.Grammar.{ResponseHead, Field, crlf}
 abbrev pub IsAnswerStatus : ℕ → Type 0
 IsAnswerStatus status = (200 ≤ status) × (status ≤ 599) × (status ≢ 204) × (status ≢ 304)
 
--- the phrase of a status, where it has one here
+-- the reason phrase of a status, if it has one here
 abbrev pub reason_of : ℕ → List ℕ
 reason_of status =
     if status == 200 then codes "OK"
@@ -24,18 +24,18 @@ reason_of status =
 abbrev pub ending : Bool → List ℕ
 ending keep = if keep then crlf_bytes ++ crlf_bytes else crlf_bytes ++ (codes "Connection: close" ++ (crlf_bytes ++ crlf_bytes))
 
--- the head of an answer, with a status and a length written as these digits
+-- the head of an answer, with a status and a length in these digits
 unfoldable pub answer_text : List ℕ → List ℕ → List ℕ → Bool → List ℕ
 answer_text status reason digits keep =
     codes "HTTP/1.1 " ++ (status ++ (32 ∷ (reason ++ (crlf_bytes
     ++ (codes "Content-Type: application/json" ++ (crlf_bytes
     ++ (codes "Content-Length: " ++ (digits ++ ending keep))))))))
 
--- the answer with this status and this body, which says close or not
+-- the answer with this status and this body, with or without `close`
 abbrev pub answer : ℕ → List ℕ → Bool → List ℕ
 answer status body keep = answer_text (decimal status) (reason_of status) (decimal (length body)) keep ++ body
 
--- its head as a tree of the grammar
+-- its head as a parse tree
 abbrev pub json_field : Field
 json_field = record { name = codes "Content-Type"; raw = codes " application/json"; end = crlf }
 

@@ -1,4 +1,4 @@
--- The request that carries a bulk body (RFC 9112, section 3), as it is written.
+-- The request with a bulk body (RFC 9112, section 3), when it is written.
 use Rattle.std.specs.Prelude.{◌≡◌, ◌⊎◌, ◌&&◌, ℕ, ◌<◌, nat_le, nat_lt, Bool, List, [], ◌∷◌, ◌++◌, length, take, codes, Option, Result, Ok, Err}
 use Rattle.std.specs.Fmt.{decimal}
 use Rattle.std.specs.Io.KnownBytes.{append_known}
@@ -18,7 +18,7 @@ is_visible b = nat_le 33 b && nat_le b 126
 abbrev pub is_host : List ℕ → Bool
 is_host host = nat_lt 0 (length host) && (nat_le (length host) 255 && list_all is_visible host)
 
--- the head of a request to this host, with a length written as these digits
+-- the head of a request to this host, with a length in these digits
 unfoldable pub head_text : List ℕ → List ℕ → List ℕ
 head_text host digits =
     codes "POST /_bulk HTTP/1.1" ++ (crlf_bytes
@@ -31,7 +31,7 @@ head_text host digits =
 abbrev pub request : List ℕ → List ℕ → List ℕ
 request host body = head_text host (decimal (length body)) ++ body
 
--- its head as a tree of the grammar
+-- its head as a parse tree
 abbrev pub host_field : List ℕ → Field
 host_field host = record { name = codes "Host"; raw = 32 ∷ host; end = crlf }
 
@@ -52,29 +52,29 @@ written_head host digits = record {
   last = crlf;
 }
 
--- the most bytes that the head of a request with a host of this length has
+-- the maximum length of a request's head with a host of this length
 abbrev pub head_room : ℕ
 head_room = 512
 
--- the front of a text went out, less than all of it
+-- a prefix of a text was sent, less than all of it
 abbrev pub SendsFront : List ℕ → Option (List ℕ) → Option (List ℕ) → Type 0
 SendsFront text old new = (sent : ℕ) × (sent < length text) × (new ≡ append_known old (take sent text))
 
--- the head of the request with these writes went out, and the lines of the first of them, less than all
+-- the head of the request with these writes was sent, and the lines of the first few, fewer than all
 abbrev pub SendsFirst : List ℕ → List Write → Option (List ℕ) → Option (List ℕ) → Type 0
 SendsFirst host ws old new =
     (count : ℕ) × (count < length ws)
     × (new ≡ append_known old (head_text host (decimal (length (text_of ws))) ++ text_of (take count ws)))
 
--- What a write of the request with these writes leaves: all of it, or the front of it if a write failed. If memory was
--- refused, nothing went out, or the head and the lines of the first writes.
+-- How much of the request with these writes was sent: all of it, or a prefix if a write failed. If an allocation
+-- failed, nothing, or the head and the lines of the first writes.
 abbrev pub SendsRequest : List ℕ → List Write → Option (List ℕ) → Option (List ℕ) → Result (Unit {0}) HttpFault → Type 0
 SendsRequest host ws old new (Ok _) = new ≡ append_known old (request host (text_of ws))
 SendsRequest host ws old new (Err fault.Write) = SendsFront (request host (text_of ws)) old new
 SendsRequest host ws old new (Err fault.Memory) = (new ≡ old) ⊎ SendsFirst host ws old new
 SendsRequest host ws old new (Err f) = ⊥
 
--- what a write of this message leaves: all of it, or a part where a write failed, or nothing
+-- how much of this message was sent: all of it, part of it if a write failed, or nothing
 abbrev pub Sends : List ℕ → Option (List ℕ) → Option (List ℕ) → Result (Unit {0}) HttpFault → Type 0
 Sends text old new (Ok _) = new ≡ append_known old text
 Sends text old new (Err fault.Write) = (sent : ℕ) × (sent < length text) × (new ≡ append_known old (take sent text))

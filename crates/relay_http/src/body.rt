@@ -18,8 +18,8 @@ use relay_action::ByteIn;
 use std::alloc::Global;
 
 impl<S: ByteIn + Drop> Buffered<S> {
-    // Moves some bytes to the end of a content, and answers how many. None are moved only at the end of
-    // the stream. Many are read straight into the content, few through the window.
+    // Moves up to `most` bytes to the end of a content, and returns how many. 0 means the end of
+    // the stream. Large amounts are read straight into the content, small ones through the window.
     fn take_some(&mut self, most: usize, into: &mut Content) -> Result<usize, HttpFault>
         requires { 0 < most }
         ensures moved { IfOk result (Moved (pending S.left self.old) (pending S.left self.new) (S.left self.new.stream) into.old into.new most) }
@@ -57,7 +57,7 @@ impl<S: ByteIn + Drop> Buffered<S> {
         Ok(count)
     }
 
-    // Moves so many bytes to the end of a content.
+    // Moves exactly `size` bytes to the end of a content.
     pub(crate) fn read_data(&mut self, size: usize, into: &mut Content) -> Result<(), HttpFault>
         ensures why { IfErr result (IsThatOrOutside HttpFault.Ended) }
         ensures answer { MatchResult result (λ u. TookData size (pending S.left self.old) (pending S.left self.new) into.old into.new) (Fails (IsSized size) (pending S.left self.old) (S.left self.new.stream)) }
@@ -75,7 +75,6 @@ impl<S: ByteIn + Drop> Buffered<S> {
         Ok(())
     }
 
-    // Reads a body of so many bytes.
     pub(crate) fn read_sized(&mut self, alloc: Global, size: usize) -> Result<Vec<u8>, HttpFault>
         ensures why { IfErr result (IsThatOrOutside HttpFault.Ended) }
         ensures answer { MatchResult result (λ body. Took (IsSized size) (pending S.left self.old) (pending S.left self.new) body.items) (Fails (IsSized size) (pending S.left self.old) (S.left self.new.stream)) }
@@ -89,7 +88,7 @@ impl<S: ByteIn + Drop> Buffered<S> {
         }
     }
 
-    // Reads what is left of the stream.
+    // Reads to the end of the stream.
     pub(crate) fn read_rest(&mut self, alloc: Global, limit: usize) -> Result<Vec<u8>, HttpFault>
         requires { limit < 4294967296 }
         ensures long { (stream : List ℕ) → IsLongRest limit stream → pending S.left self.old ≡ Some stream → MatchResult result (λ body. ⊥) (IsThatOrOutside HttpFault.BodyLong) }
@@ -109,7 +108,6 @@ impl<S: ByteIn + Drop> Buffered<S> {
         Err(HttpFault::BodyLong)
     }
 
-    // Reads a body.
     pub(crate) fn read_body(
         &mut self,
         alloc: Global,

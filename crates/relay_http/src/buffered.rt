@@ -1,4 +1,4 @@
-//! A stream, and the window of what was read of it.
+//! A stream with a read-ahead window.
 ghost use Rattle.std.specs.Prelude.{◌≡◌, ◌<◌, ◌≤◌, ◌++◌, length, OnErr, OnOk, IfOk, Err, if◌then◌else◌, is_ok};
 ghost use Rattle.std.specs.Io.KnownBytes.{IsAtEnd};
 ghost use Rattle.relay_action.specs.Streams.{one_more};
@@ -9,7 +9,7 @@ use crate::fault::HttpFault;
 use crate::window::Window;
 use relay_action::ByteIn;
 
-/// A stream, and the window of what was read of it and not used yet.
+/// A stream, and the window of what was read ahead of it.
 #[derive(Drop)]
 pub struct Buffered<S> {
     pub(crate) stream: S,
@@ -17,7 +17,7 @@ pub struct Buffered<S> {
 }
 
 impl<S: ByteIn + Drop> Buffered<S> {
-    // Reads some more bytes, and answers how many. None come only at the end of the stream.
+    // Reads more bytes, and returns how many. 0 means the end of the stream.
     pub(crate) fn fill(&mut self) -> Result<usize, HttpFault>
         requires { length self.old.window < window_size }
         ensures bytes { IfOk result (Grown self.old.window self.new.window (S.left self.old.stream) (S.left self.new.stream)) }
@@ -32,7 +32,7 @@ impl<S: ByteIn + Drop> Buffered<S> {
         }
     }
 
-    // Fills an empty window.
+    // Fills the window if it is empty.
     pub(crate) fn ready(&mut self) -> Result<(), HttpFault>
         ensures stands { OnOk result (pending S.left self.new ≡ pending S.left self.old) }
         ensures end { OnOk result (length self.new.window ≡ 0 → IsAtEnd (S.left self.new.stream)) }

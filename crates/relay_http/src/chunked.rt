@@ -35,7 +35,6 @@ impl<S: ByteIn + Drop> Buffered<S> {
         }
     }
 
-    // Reads a chunked body.
     pub(crate) fn read_chunked(&mut self, alloc: Global, limit: usize) -> Result<Vec<u8>, HttpFault>
         requires { limit < 4294967296 }
         ensures long { (stream : List ℕ) → IsLongChunked limit [] stream → pending S.left self.old ≡ Some stream → MatchResult result (λ body. ⊥) (IsThatOrOutside HttpFault.BodyLong) }

@@ -25,17 +25,17 @@ use relay_action::{ByteIn, ByteOut, ByteStream, Write};
 use std::alloc::{AllocError, Global};
 use std::marker::Model;
 
-/// A connection over a stream. It holds a window of 16,384 bytes, which `new` makes, and room for
-/// what it writes: for a piece of a request and the lines of one write, or for the longest answer
-/// that it wrote.
+/// A connection over a stream. It allocates a window of 16,384 bytes in `new`, and a buffer for
+/// writing, which holds a piece of a request and the lines of one write, or the longest answer so
+/// far.
 ///
-/// A call that answers a fault breaks it, and so does a message after which there is no other: then
-/// each call answers `Broken` and leaves it as it is.
+/// After a call that returns a fault, and after a message that does not keep the connection, it is
+/// broken: then each call returns `Broken` and changes nothing.
 #[derive(Drop)]
 pub struct Conn<S: ByteStream> {
     bytes: Buffered<S>,
     phase: Phase,
-    /// The answer or the piece of a request that is being written; its room is kept.
+    /// The answer or the piece of a request that is being written. Its room is kept.
     text: Vec<u8>,
 }
 
@@ -54,8 +54,8 @@ impl<S: ByteStream> Model for Conn<S> {
 }
 
 impl<S: ByteStream> Conn<S> {
-    /// A connection over a stream, of which nothing was read. Where there was no memory for the window
-    /// the stream is handed back as it was.
+    /// A connection over a stream that nothing was read from. If allocating the window fails, the
+    /// stream is returned unchanged.
     pub fn new(alloc: Global, stream: S) -> Result<Conn<S>, (AllocError, S)>
         ensures fresh { IfOk result (λ c. c ≡ fresh (S.left stream) (S.written stream) (S.failed stream)) }
         ensures handed_back { IfErr result (λ refused. refused.1 ≡ stream) }
@@ -77,7 +77,7 @@ impl<S: ByteStream> Conn<S> {
         matches!(self.phase, Phase::Open)
     }
 
-    /// How many bytes were read and not used yet: those that stand after the messages so far.
+    /// The number of bytes that were read beyond the messages so far.
     pub fn held(&self) -> usize
         ensures count { result ≡ length self.now.held }
         ensures bound { result ≤ window_size }
@@ -85,7 +85,7 @@ impl<S: ByteStream> Conn<S> {
         self.bytes.window.as_slice().len()
     }
 
-    /// The stream. What was read of it and not used yet is dropped.
+    /// The stream. Bytes that were read ahead are dropped.
     pub fn into_stream(self) -> S
         ensures left { S.left result ≡ self.left }
         ensures written { S.written result ≡ self.written }
@@ -96,9 +96,9 @@ impl<S: ByteStream> Conn<S> {
 }
 
 impl<S: Peek> Conn<S> {
-    /// Whether nothing is ahead that nobody asked for: no byte was read beyond the messages so far,
-    /// and neither a byte nor the end of the stream came since. It does not wait, and it reads
-    /// nothing.
+    /// Whether nothing has arrived that was not asked for: no byte was read beyond the messages so
+    /// far, and neither a byte nor the end of the stream has arrived since. It does not wait, and
+    /// it reads nothing.
     pub fn is_quiet(&self) -> bool
         ensures { IsTrue result → IsQuiet self.now }
     {
@@ -107,26 +107,26 @@ impl<S: Peek> Conn<S> {
 }
 
 impl<S: ByteIn + Drop> Conn<S> {
-    /// Reads the next reply. The faults are those of [`HttpFault`] but `Write`; after a reply with
-    /// `keep` false the connection is broken.
+    /// Reads the next reply. The faults are those of [`HttpFault`] except `Write`; after a reply
+    /// with `keep` false the connection is broken.
     pub fn read_reply(&mut self, alloc: Global) -> Result<HttpReply, HttpFault>
-        // A connection that carries no further message answers Broken, and stays as it is.
+        // A connection that carries no further message returns Broken, and is unchanged.
         ensures broken { IsFalse (is_open self.old.phase) → (result ≡ Err HttpFault.Broken) × (self.new ≡ self.old) }
-        // What is answered is the reply that stood there, and each fault comes where it may.
+        // A reply that is returned was at the front, and each fault has its cause.
         ensures answer { IsTrue (is_open self.old.phase) → MatchResult result (λ reply. Took IsReply (ahead self.old) (ahead self.new) (reply_view reply)) (Fails IsReply (ahead self.old) self.new.left) }
-        // A reply that stands there is answered, and the bytes after it stay.
+        // A reply at the front is returned, and the bytes after it are left.
         ensures found { (stream : List ℕ) (there : Begins IsReply stream) → IsTrue (is_open self.old.phase) → ahead self.old ≡ Some stream
             → MatchResult result (λ reply. (reply_view reply ≡ there.value) × (ahead self.new ≡ Some there.rest)) IsOutside }
-        // Which fault is answered says what stands there.
+        // Each fault says what is at the front.
         ensures why { (stream : List ℕ) → IsTrue (is_open self.old.phase) → ahead self.old ≡ Some stream → IfErr result (ReplyFault stream) }
-        // A fault that the heads there state is answered.
+        // A fault in the heads at the front is returned.
         ensures stated { (stream : List ℕ) (f : HttpFault) → ReplyStates stream f → IsTrue (is_open self.old.phase) → ahead self.old ≡ Some stream
             → MatchResult result (λ reply. ⊥) (IsThatOrOutside f) }
-        // A body that passes its limit is answered as too long.
+        // A body that exceeds its limit is refused as too long.
         ensures long { (stream : List ℕ) → ReplyPasses stream → IsTrue (is_open self.old.phase) → ahead self.old ≡ Some stream
             → MatchResult result (λ reply. ⊥) (IsThatOrOutside HttpFault.BodyLong) }
         ensures phase { IsTrue (is_open self.old.phase) → self.new.phase ≡ after_reply result }
-        // One call of the stream failed at most: a read, where that is the answer.
+        // At most one call of the stream failed: a read, if the fault says so.
         ensures failed { IsTrue (is_open self.old.phase) → self.new.failed ≡ failed_reading result self.old.failed }
         ensures written { self.new.written ≡ self.old.written }
     {
@@ -141,29 +141,29 @@ impl<S: ByteIn + Drop> Conn<S> {
         result
     }
 
-    /// Reads the next request. `None`: the stream ended before its first byte. The faults are those of
-    /// [`HttpFault`] but `Write` and `TooManyInterim`. After a request with `keep` false its answer may
-    /// be written, and nothing else.
+    /// Reads the next request. `None`: the stream ended before its first byte. The faults are those
+    /// of [`HttpFault`] except `Write` and `TooManyInterim`. After a request with `keep` false its
+    /// answer may be written, and nothing else.
     pub fn read_request(&mut self, alloc: Global) -> Result<Option<HttpRequest>, HttpFault>
-        // A connection that carries no further message answers Broken, and stays as it is.
+        // A connection that carries no further message returns Broken, and is unchanged.
         ensures broken { IsFalse (is_open self.old.phase) → (result ≡ Err HttpFault.Broken) × (self.new ≡ self.old) }
-        // What is answered is the request that stood there, and each fault comes where it may.
+        // A request that is returned was at the front, and each fault has its cause.
         ensures answer { IsTrue (is_open self.old.phase) → MatchResult result (TookRequest (ahead self.old) (ahead self.new)) (Fails IsRequest (ahead self.old) self.new.left) }
-        // A request that stands there is answered, and the bytes after it stay.
+        // A request at the front is returned, and the bytes after it are left.
         ensures found { (stream : List ℕ) (there : Begins IsRequest stream) → IsTrue (is_open self.old.phase) → ahead self.old ≡ Some stream
             → MatchResult result (IsFound there (ahead self.new)) IsOutside }
-        // Which fault is answered says what stands there.
+        // Each fault says what is at the front.
         ensures why { (stream : List ℕ) → IsTrue (is_open self.old.phase) → ahead self.old ≡ Some stream → IfErr result (RequestFault stream) }
-        // A fault that the head there states is answered.
+        // A fault in the head at the front is returned.
         ensures stated { (stream : List ℕ) (f : HttpFault) → RequestStates stream f → IsTrue (is_open self.old.phase) → ahead self.old ≡ Some stream
             → MatchResult result (λ request. ⊥) (IsThatOrOutside f) }
-        // A body that passes its limit is answered as too long.
+        // A body that exceeds its limit is refused as too long.
         ensures long { (stream : List ℕ) → RequestPasses stream → IsTrue (is_open self.old.phase) → ahead self.old ≡ Some stream
             → MatchResult result (λ request. ⊥) (IsThatOrOutside HttpFault.BodyLong) }
-        // Where nothing more stands, there is none.
+        // At the end of the stream there is no request.
         ensures none { IsTrue (is_open self.old.phase) → ahead self.old ≡ Some [] → MatchResult result (λ request. request ≡ None) IsOutside }
         ensures phase { IsTrue (is_open self.old.phase) → self.new.phase ≡ after_request result }
-        // One call of the stream failed at most: a read, where that is the answer.
+        // At most one call of the stream failed: a read, if the fault says so.
         ensures failed { IsTrue (is_open self.old.phase) → self.new.failed ≡ failed_reading result self.old.failed }
         ensures written { self.new.written ≡ self.old.written }
     {
@@ -181,10 +181,10 @@ impl<S: ByteIn + Drop> Conn<S> {
 }
 
 impl<S: ByteOut + Drop> Conn<S> {
-    /// Writes the request that carries these writes, at most 10,000, to this host, with the bulk
-    /// text of the writes as its body. It goes out in pieces of some 64 KiB, so that no whole body
-    /// is in memory. The faults: `Broken`, `Memory` and `Write`. After the last two a part of the
-    /// request may be out.
+    /// Writes the request with these writes, at most 10,000, to this host; its body is their bulk
+    /// text. It is sent in pieces of about 64 KiB, so the whole body is never in memory. The
+    /// faults: `Broken`, `Memory` and `Write`. After the last two part of the request may have been
+    /// sent.
     pub fn write_request(
         &mut self,
         alloc: Global,
@@ -194,15 +194,15 @@ impl<S: ByteOut + Drop> Conn<S> {
         requires host { IsTrue (is_host host.now) }
         requires few { length writes.now ≤ 10000 }
         requires size { length (text_of writes.now) ≤ request_limit }
-        // A connection that carries no further message answers Broken, and stays as it is.
+        // A connection that carries no further message returns Broken, and is unchanged.
         ensures broken { IsFalse (is_open self.old.phase) → (result ≡ Err HttpFault.Broken) × (self.new ≡ self.old) }
-        // The request went out; after Write the front of it did, and after Memory nothing, or the
-        // head and the lines of the first writes.
+        // The request was sent; after Write a prefix of it, and after Memory nothing, or the head
+        // and the lines of the first writes.
         ensures sent { IsTrue (is_open self.old.phase) → SendsRequest host.now writes.now self.old.written self.new.written result }
-        // And that text is the request of what was given.
+        // That text is the request with these writes.
         ensures message { IsRequest (request host.now (text_of writes.now)) false (record { bulk = true; body = text_of writes.now; keep = true }) }
         ensures phase { IsTrue (is_open self.old.phase) → self.new.phase ≡ after_write true result }
-        // One call of the stream failed at most: a write, where that is the answer.
+        // At most one call of the stream failed: a write, if the fault says so.
         ensures failed { IsTrue (is_open self.old.phase) → self.new.failed ≡ failed_writing result self.old.failed }
         ensures left { self.new.left ≡ self.old.left }
         ensures held { self.new.held ≡ self.old.held }
@@ -216,9 +216,9 @@ impl<S: ByteOut + Drop> Conn<S> {
     }
 
     /// Writes an answer with this status and this body. `keep`: whether the connection may carry a
-    /// further message; where it is false, or the request that was read last says so, the answer says
-    /// `close`, and the connection is broken after it. The faults: `Broken`, `Memory` (nothing went out)
-    /// and `Write`.
+    /// further message; if not, or if the last request said so, the answer says `close` and the
+    /// connection is broken after it. The faults: `Broken`, `Memory` (nothing was sent) and
+    /// `Write`.
     pub fn write_answer(
         &mut self,
         alloc: Global,
@@ -228,14 +228,14 @@ impl<S: ByteOut + Drop> Conn<S> {
     ) -> Result<(), HttpFault>
         requires status { IsAnswerStatus status }
         requires size { length body.now ≤ reply_limit }
-        // A connection that carries nothing more answers Broken, and stays as it is.
+        // A connection that carries nothing more returns Broken, and is unchanged.
         ensures broken { IsTrue (is_broken self.old.phase) → (result ≡ Err HttpFault.Broken) × (self.new ≡ self.old) }
-        // The answer went out; after Write a part of it did, and after Memory nothing.
+        // The answer was sent; after Write part of it, and after Memory nothing.
         ensures sent { IsFalse (is_broken self.old.phase) → Sends (answer status body.now (keep && is_open self.old.phase)) self.old.written self.new.written result }
-        // And that text is the reply of what was given.
+        // That text is the reply with this status and this body.
         ensures message { IsReply (answer status body.now (keep && is_open self.old.phase)) false (record { status = status; body = body.now; keep = keep && is_open self.old.phase }) }
         ensures phase { IsFalse (is_broken self.old.phase) → self.new.phase ≡ after_write (keep && is_open self.old.phase) result }
-        // One call of the stream failed at most: a write, where that is the answer.
+        // At most one call of the stream failed: a write, if the fault says so.
         ensures failed { IsFalse (is_broken self.old.phase) → self.new.failed ≡ failed_writing result self.old.failed }
         ensures left { self.new.left ≡ self.old.left }
         ensures held { self.new.held ≡ self.old.held }
@@ -250,7 +250,7 @@ impl<S: ByteOut + Drop> Conn<S> {
     }
 }
 
-// Writes the answer with this status and this body, which says close or not, put together in the text.
+// Writes an answer, with or without `close`, after composing it in the text.
 fn write_text<S: ByteOut>(
     stream: &mut S,
     text: &mut Vec<u8>,

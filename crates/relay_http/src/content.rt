@@ -1,4 +1,4 @@
-//! The content of a body as far as it came.
+//! The content of a body, while it arrives.
 ghost use Rattle.std.specs.Prelude.{◌≡◌, ◌+◌, ◌<◌, ◌≤◌, ◌++◌, [], length, take, vec_len, IfOk, IfErr, OnOk, if◌then◌else◌};
 ghost use Rattle.relay_action.specs.Streams.{one_more};
 ghost use Rattle.relay_http.specs.Forms.{IsOutside};
@@ -11,11 +11,11 @@ use relay_action::ByteIn;
 use std::alloc::{AllocError, Global};
 use std::marker::Model;
 
-/// The most bytes by which the room of a content grows before they came.
+/// The maximum number of bytes by which the room grows ahead of the content.
 pub const PIECE: usize = 65_536;
 
-/// The bytes of a body that came, in a vector with room for some more. The room grows with what came,
-/// and never at once to what a length promises.
+/// The content of a body so far, in a vector with some spare room. The room grows with what has
+/// arrived, and never at once to the length that a head announces.
 #[derive(Drop)]
 pub struct Content {
     bytes: Vec<u8>,
@@ -33,7 +33,7 @@ impl Model for Content {
 }
 
 impl Content {
-    /// No bytes.
+    /// An empty content.
     pub fn new(alloc: Global) -> Content
         ensures { result ≡ [] }
     {
@@ -43,7 +43,7 @@ impl Content {
         }
     }
 
-    /// How many bytes came.
+    /// The number of bytes so far.
     pub fn len(&self) -> usize
         ensures { result ≡ length self.now }
     {
@@ -60,7 +60,8 @@ impl Content {
         done
     }
 
-    /// Reads some bytes of a stream to the end, at most so many. None come only at the end of the stream.
+    /// Reads at most `most` bytes of a stream, and adds them at the end. 0 means the end of the
+    /// stream.
     pub fn fill<S: ByteIn>(&mut self, stream: &mut S, most: usize) -> Result<usize, HttpFault>
         requires { 0 < most }
         ensures bytes { IfOk result (Grown self.old self.new (S.left stream.old) (S.left stream.new)) }
@@ -93,7 +94,7 @@ impl Content {
     }
 }
 
-// Makes room after the first bytes, where there is none.
+// Makes room after the first bytes, if there is none.
 fn make_room(bytes: &mut Vec<u8>, filled: usize, more: usize) -> Result<(), AllocError>
     requires filled { filled ≤ vec_len bytes.old }
     requires more { (0 < more) × (more ≤ PIECE) }

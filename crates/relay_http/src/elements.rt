@@ -1,4 +1,4 @@
-//! Values that are lists.
+//! Field values that are lists.
 ghost use Rattle.std.specs.Prelude.{◌≡◌, map, codes};
 ghost use Rattle.std.specs.List.{list_all, list_any};
 ghost use Rattle.std.specs.Iterator.{YieldsFirstRef, item_count};
@@ -43,14 +43,14 @@ impl<'a> Iterator for Elements<'a> {
     }
 }
 
-/// Whether an element says this word.
+/// Whether one of the elements is this word.
 pub fn lists_word(value: &[u8], word: &[u8]) -> bool
     ensures { result ≡ list_any (λ e. same_word e word.now) (elements value.now) }
 {
     Elements::new(value).any(|e| same_word(e, word))
 }
 
-/// Whether each element is the number that the first digits give.
+/// Whether each element is the same number as `first`.
 pub fn all_agree(value: &[u8], first: &[u8]) -> bool
     ensures { result ≡ list_all (agrees first.now) (elements value.now) }
 {

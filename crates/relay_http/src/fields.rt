@@ -14,12 +14,12 @@ use crate::request::REQUEST_LIMIT;
 use crate::word::{parse_number, same_word, trim_ows};
 use httparse::spans::HeaderSpan;
 
-/// What the `Transfer-Encoding` fields come to.
+/// The transfer coding, from the `Transfer-Encoding` fields.
 #[derive(Clone, Copy, Debug, PartialEq, Eq)]
 pub enum Coding {
-    /// There is none.
+    /// There is no such field.
     Absent,
-    /// One, which says `chunked`.
+    /// There is one, which says `chunked`.
     Chunked,
     /// Anything else.
     Other,
@@ -146,7 +146,7 @@ fn closes(buf: &[u8], headers: &[HeaderSpan]) -> bool
     close
 }
 
-// The length that the first digits give, where all agree with them.
+// The length that `first` gives, if all agree with it.
 fn agreed(first: &[u8], all: bool, limit: u64) -> Result<Framing, HttpFault>
     requires { limit < 4294967296 }
     ensures { (rest : List (List ℕ)) → all ≡ list_all (agrees first.now) (first.now ∷ rest) → result ≡
@@ -161,7 +161,6 @@ fn agreed(first: &[u8], all: bool, limit: u64) -> Result<Framing, HttpFault>
     }
 }
 
-// The first element of a value.
 fn first_element(value: &[u8]) -> &[u8]
     ensures { (rest : List (List ℕ)) × (elements value.now ≡ result.now ∷ rest) }
 {
@@ -171,7 +170,6 @@ fn first_element(value: &[u8]) -> &[u8]
     }
 }
 
-// The length of a body.
 fn sized(
     buf: &[u8],
     headers: &[HeaderSpan],
@@ -214,15 +212,15 @@ fn framing_of_fields(
     sized(buf, headers, limit, otherwise)
 }
 
-/// Whether a head of this status stands before the final one and is dropped.
+/// Whether a head with this status is interim: it precedes the final one and is dropped.
 pub fn is_interim(status: u16) -> bool
     ensures { result ≡ is_interim status }
 {
     status >= 100 && status < 200 && status != 101
 }
 
-/// Where the body of a reply ends, or why there is none: `TooManyInterim` (the status is interim),
-/// `Malformed` (it is not 200 to 599), and those of the fields.
+/// Where the body of a reply ends, or why it has none: `TooManyInterim` (the status is interim),
+/// `Malformed` (it is not 200 to 599), and the faults of the fields.
 pub fn framing(status: u16, buf: &[u8], headers: &[HeaderSpan]) -> Result<Framing, HttpFault>
     requires { All (IsHeaderWithin (length buf.now)) headers.now }
     ensures { result ≡ framing_of status (map (header_bytes buf.now) headers.now) }

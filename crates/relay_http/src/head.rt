@@ -12,10 +12,10 @@ use crate::piece::Piece;
 use httparse::spans::{EMPTY_HEADER_SPAN, parse_response};
 use httparse::{Error, Status};
 
-/// The most bytes of a head, its empty line among them.
+/// The maximum length of a head, including its empty line.
 pub const HEAD_LIMIT: usize = 16_384;
 
-/// The most fields of a head or a trailer.
+/// The maximum number of fields of a head or a trailer.
 pub const FIELD_LIMIT: usize = 64;
 
 /// What the head of a reply says.
@@ -23,7 +23,7 @@ pub const FIELD_LIMIT: usize = 64;
 pub struct HeadInfo {
     /// The status.
     pub status: u16,
-    /// Where the body ends, or why no reply has this as its final head.
+    /// Where the body ends, or why this is not the final head of a reply.
     pub framing: Result<Framing, HttpFault>,
     /// Whether the connection may carry a further message.
     pub lasting: bool,
@@ -47,8 +47,8 @@ impl Piece for HeadInfo {
     }
 }
 
-/// Looks for a whole head at the front of the bytes, and answers it with its length. The faults:
-/// `Malformed`, and `HeadLong` where it has more than 64 fields or more than 16,384 bytes.
+/// Looks for a whole head at the front of the bytes, and returns it with its length. The faults:
+/// `Malformed`, and `HeadLong` if it has more than 64 fields or more than 16,384 bytes.
 pub fn find_head(buf: &[u8]) -> Result<Option<(HeadInfo, usize)>, HttpFault>
     requires { length buf.now ≤ head_limit }
     ensures found { Finds IsHead buf.now result }

@@ -1,11 +1,11 @@
-//! Hosts, as a request names them (RFC 9110, section 7.2).
+//! The `Host` of a request (RFC 9110, section 7.2).
 ghost use Rattle.std.specs.Prelude.{◌≡◌};
 ghost use Rattle.relay_http.specs.WrittenRequest.{is_host};
 
-/// The most bytes of a host.
+/// The maximum length of a host.
 pub const HOST_LIMIT: usize = 255;
 
-/// Whether the text is 1 to 255 visible ASCII characters, so that a request may be written to it.
+/// Whether the text may be the host of a request: 1 to 255 visible ASCII characters.
 pub fn is_host(host: &str) -> bool
     ensures { result ≡ is_host host.now }
 {

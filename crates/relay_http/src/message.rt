@@ -1,4 +1,4 @@
-//! Answers as they are written (RFC 9112, section 4).
+//! Writing answers (RFC 9112, section 4).
 ghost use Rattle.std.specs.Prelude.{◌≡◌, OnOk};
 ghost use Rattle.std.specs.Fmt.{decimal};
 ghost use Rattle.relay_http.specs.Connection.{failed_writing};
@@ -10,8 +10,8 @@ use itoa::Buffer;
 use relay_action::{ByteOut, write_all};
 use std::alloc::AllocError;
 
-// Puts together the answer with this status and this body, which says close or not. `AllocError`: there
-// was no memory for it, and the text may hold anything.
+// Composes the answer with this status and this body, with or without `close`. `AllocError`:
+// allocation failed, and the text may hold anything.
 pub(crate) fn gather_answer(
     text: &mut Vec<u8>,
     status: u16,
@@ -24,7 +24,8 @@ pub(crate) fn gather_answer(
     text.extend_from_slice(body.as_bytes())
 }
 
-// Makes a text the head of an answer with a body of so many bytes. An error leaves some of it.
+// Sets a text to the head of an answer with a body of this length. After an error, part of it may
+// be there.
 fn answer_head(text: &mut Vec<u8>, status: u16, size: usize, keep: bool) -> Result<(), AllocError>
     ensures { OnOk result (text.new.items ≡ answer_text (decimal status) (reason_of status) (decimal size) keep) }
 {
@@ -40,7 +41,7 @@ fn answer_head(text: &mut Vec<u8>, status: u16, size: usize, keep: bool) -> Resu
     text.extend_from_slice(ending(keep))
 }
 
-// The reason phrase of a status, empty where it has none here.
+// The reason phrase of a status, or nothing if it has none here.
 fn reason(status: u16) -> &'static [u8]
     ensures { result.now ≡ reason_of status }
 {
@@ -67,7 +68,6 @@ fn ending(keep: bool) -> &'static [u8]
     }
 }
 
-// Writes a message.
 pub(crate) fn send<S: ByteOut>(stream: &mut S, message: &[u8]) -> Result<(), HttpFault>
     ensures sent { Sends message.now (S.written stream.old) (S.written stream.new) result }
     ensures failed { S.failed stream.new ≡ failed_writing result (S.failed stream.old) }

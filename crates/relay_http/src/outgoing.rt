@@ -1,4 +1,4 @@
-//! Requests as they are written, piece by piece (RFC 9112, section 3).
+//! Writing requests, piece by piece (RFC 9112, section 3).
 ghost use Rattle.std.specs.Prelude.{◌≡◌, ◌≤◌, ◌<◌, ◌++◌, length, OnOk, IfSome};
 ghost use Rattle.std.specs.Fmt.{decimal};
 ghost use Rattle.relay_ndjson.specs.Bulk.{line_end, source_line, text_of, write_text};
@@ -12,22 +12,23 @@ use relay_action::{Action, ByteOut, Write, write_all};
 use relay_ndjson::{append_action_line, append_write, bulk_len, has_escapes};
 use std::alloc::{AllocError, Global};
 
-// From how many bytes on what was gathered goes out.
+// What was gathered is sent once it has this many bytes.
 const PIECE: usize = 60_416;
 
-// The room that is made for what is gathered: a piece, the longest action line, which has 4,693 bytes,
-// and the longest source that is gathered. So no lines make it grow.
+// The room for what is gathered: a piece, the longest action line, which has 4,693 bytes, and the
+// longest source that is gathered. So adding lines does not allocate.
 const ROOM: u64 = 81_920;
 
-// From how many bytes on a source goes out from where it lies. A shorter one is sooner copied.
+// A source of this many bytes or more is written from where it is. Copying a shorter one is
+// quicker.
 const LONG_SOURCE: usize = 16_384;
 
-// More bytes than a head has.
+// More bytes than any head has.
 const HEAD_ROOM: u64 = 512;
 
-// Writes the request that carries these writes to this host. What goes out is gathered in the text,
-// a piece at a time, and a long source goes out from where it lies. If memory is refused after the
-// head was made, the head is out.
+// Writes the request with these writes to this host. It is gathered in the text and sent a piece at
+// a time, except that long sources are written from where they are. If an allocation fails after
+// the head was composed, the head is sent.
 pub(crate) fn write_bulk<S: ByteOut>(
     alloc: Global,
     stream: &mut S,
@@ -51,8 +52,8 @@ pub(crate) fn write_bulk<S: ByteOut>(
     flush(stream, text)
 }
 
-// Gathers the head, and sends it ahead where a line may need memory that may be refused. A request that
-// takes several pieces is not looked through for that: one more of them costs less than the look.
+// Gathers the head, and sends it ahead if a line may need an allocation. A request of several
+// pieces is not checked for that: sending one more piece costs less.
 fn start<S: ByteOut>(
     stream: &mut S,
     text: &mut Vec<u8>,
@@ -74,12 +75,13 @@ fn start<S: ByteOut>(
     Ok(())
 }
 
-// Whether the lines of a write may take memory beside the room that is made for what is gathered.
+// Whether the lines of one of the writes may need an allocation beyond the room for what is
+// gathered.
 fn takes_memory(writes: &[Write]) -> bool {
     writes.iter().any(|write| has_escapes(write))
 }
 
-// Makes a text the head of the request to this host with a body of so many bytes, and makes room
+// Sets a text to the head of the request to this host with a body of this length, and makes room
 // for a piece.
 fn begin(text: &mut Vec<u8>, host: &str, size: u64) -> Result<(), AllocError>
     ensures { OnOk result (text.new.items ≡ head_text host.now (decimal size)) }
@@ -94,7 +96,7 @@ fn begin(text: &mut Vec<u8>, host: &str, size: u64) -> Result<(), AllocError>
     text.extend_from_slice(b"\r\n\r\n")
 }
 
-// Adds the lines of a write to what was gathered, of which the front goes out, or sends them.
+// Gathers or sends the lines of a write.
 fn gather<S: ByteOut>(
     alloc: Global,
     stream: &mut S,
@@ -111,7 +113,6 @@ fn gather<S: ByteOut>(
     }
 }
 
-// The source of a write, where it is long.
 fn long_source(write: &Write) -> Option<&[u8]>
     ensures { IfSome result (λ source. source_line write.now.action ≡ source.now ++ line_end) }
 {
@@ -123,8 +124,8 @@ fn long_source(write: &Write) -> Option<&[u8]>
     }
 }
 
-// Adds the lines of a write to what was gathered, which goes out if it makes a piece. If memory is
-// refused, what was gathered before goes out.
+// Gathers the lines of a write, and sends what was gathered once it makes a piece. If an allocation
+// fails, what was gathered before is sent.
 fn gather_lines<S: ByteOut>(
     alloc: Global,
     stream: &mut S,
@@ -147,8 +148,8 @@ fn gather_lines<S: ByteOut>(
     flush(stream, text)
 }
 
-// Sends what was gathered, the action line of a write and its source, and gathers the line end after
-// it. If memory is refused, what was gathered before goes out.
+// Sends what was gathered, the action line of a write and its source, and gathers the line end
+// after it. If an allocation fails, what was gathered before is sent.
 fn send_source<S: ByteOut>(
     alloc: Global,
     stream: &mut S,
@@ -191,7 +192,7 @@ fn send_both<S: ByteOut>(stream: &mut S, first: &[u8], second: &[u8]) -> Result<
     Ok(())
 }
 
-// Leaves a line end of what was gathered, in the room that stands.
+// Leaves only a line end of what was gathered; it has room.
 fn keep_line_end(text: &mut Vec<u8>)
     requires { 0 < length text.old.items }
     ensures { text.new.items ≡ line_end }
@@ -200,7 +201,7 @@ fn keep_line_end(text: &mut Vec<u8>)
     text[0] = b'\n';
 }
 
-// Hands what was gathered to the stream.
+// Sends what was gathered.
 fn flush<S: ByteOut>(stream: &mut S, text: &mut Vec<u8>) -> Result<(), HttpFault>
     ensures sent { Flushes text.old.items text.new.items (S.written stream.old) (S.written stream.new) result }
     ensures failed { S.failed stream.new ≡ failed_writing result (S.failed stream.old) }

@@ -1,21 +1,21 @@
-//! Streams that tell whether something came.
+//! Streams that can tell whether something arrived.
 ghost use Rattle.std.specs.Prelude.{◌≡◌, None, false, IsTrue};
 
 use relay_action::{ByteStream, MemStream, StdStream};
 use std::io::ErrorKind;
 use std::net::OpenStream;
 
-/// A stream that tells, without waiting, whether something came that was not read.
+/// A stream that can tell, without waiting, whether something has arrived that was not read.
 pub trait Peek: ByteStream {
-    /// Whether nothing came that was not read: neither a byte nor the end of the stream. It does
-    /// not wait, and it reads nothing. A stream that shows its bytes has either bytes left or
-    /// reached its end, so it is never quiet.
+    /// Whether nothing has arrived that was not read: neither a byte nor the end of the stream. It
+    /// does not wait, and it reads nothing. A stream that shows its bytes either has bytes left or
+    /// has ended, so it is never quiet.
     fn is_quiet(&self) -> bool
         ensures { IsTrue result → Self.left self.now ≡ None };
 }
 
 impl Peek for MemStream {
-    /// Never: all its bytes have come, and its end after them.
+    /// Never: all of its bytes have arrived, and the end after them.
     fn is_quiet(&self) -> bool
         ensures { result ≡ false }
     {
@@ -24,9 +24,9 @@ impl Peek for MemStream {
 }
 
 impl<T: OpenStream> Peek for StdStream<T> {
-    /// Whether nothing came that was not read. It asks the socket for a byte without waiting and
-    /// without taking it. A socket that answers anything but that there is none yet is not quiet: a
-    /// byte came, its end, or an error.
+    /// Whether nothing has arrived that was not read. It asks the socket for a byte without waiting
+    /// and without taking it. Any result other than "none yet" means that it is not quiet: a byte,
+    /// the end, or an error.
     fn is_quiet(&self) -> bool {
         let socket = self.get_ref();
         if socket.set_nonblocking(true).is_err() {

@@ -7,7 +7,7 @@ ghost use Rattle.relay_http.specs.Connection.{is_open, is_broken, phase_of, phas
 pub enum Phase {
     /// Further messages.
     Open,
-    /// The answer to the request that was read last, and nothing after it.
+    /// The answer to the last request, and nothing after it.
     Closing,
     /// Nothing.
     Broken,
@@ -34,14 +34,14 @@ impl Phase {
         }
     }
 
-    // The phase after a message that lets the connection carry a further one, or does not.
+    // The phase after a message that keeps the connection, or does not.
     pub(crate) fn after(keep: bool) -> Phase
         ensures { result ≡ phase_of keep }
     {
         if keep { Phase::Open } else { Phase::Broken }
     }
 
-    // The phase after a request that lets the connection carry a further one, or does not.
+    // The phase after a request that keeps the connection, or does not.
     pub(crate) fn after_request(keep: bool) -> Phase
         ensures { result ≡ phase_with keep }
     {

@@ -1,4 +1,4 @@
-//! Pieces of a message that are looked for at the front of the window.
+//! The pieces of a message that are looked for at the front of the window.
 ghost use Rattle.std.specs.Prelude.{◌≡◌, ◌<◌, ◌≤◌, ◌++◌, ℕ, List, Some, IfErr, Bool, length, Ok, None, Err, IfOk, OnOk, OnErr, IsTrue, IsFalse, is_ok, if◌then◌else◌};
 ghost use Rattle.std.specs.Io.KnownBytes.{IsAtEnd};
 ghost use Rattle.relay_action.specs.Streams.{one_more};
@@ -12,26 +12,26 @@ use crate::fault::HttpFault;
 use memchr::memchr;
 use relay_action::ByteIn;
 
-/// A piece of a message, which ends in a line feed.
+/// A piece of a message, which ends with a line feed.
 pub trait Piece: Copy {
     /// The bytes are this piece.
     ghost form: { List ℕ → Bool → Self → Type 0 };
 
-    /// The most bytes that it has.
+    /// Its maximum length, in bytes.
     ghost size: { ℕ };
 
     /// The bytes break its grammar, whatever follows them.
     ghost breaks: { List ℕ → Type 0 };
 
-    /// The bytes are more than it may have, or say more.
+    /// The bytes exceed one of its limits.
     ghost overruns: { List ℕ → Type 0 };
 
-    /// The most bytes that it has.
+    /// Its maximum length, in bytes.
     fn most() -> usize
         ensures { (result ≡ Self.size) × (result ≤ window_size) };
 
-    /// Looks for the piece at the front of the bytes, and answers it with its length. `None`: more
-    /// bytes may make one.
+    /// Looks for the piece at the front of the bytes, and returns it with its length. `None`: more
+    /// bytes may complete one.
     fn find(buf: &[u8]) -> Result<Option<(Self, usize)>, HttpFault>
         requires { length buf.now ≤ window_size }
         ensures found { Finds Self.form buf.now result }
@@ -40,7 +40,8 @@ pub trait Piece: Copy {
 }
 
 impl<S: ByteIn + Drop> Buffered<S> {
-    // Reads until a line feed came, so many bytes stand in the window, or the stream ended. `false`: it ended.
+    // Reads until a line feed arrives, the window has `most` bytes, or the stream ends. `false`: it
+    // ended.
     fn fill_line(&mut self, most: usize) -> Result<bool, HttpFault>
         requires { (length self.old.window < most) × (most ≤ window_size) }
         ensures stands { OnOk result (pending S.left self.old ≡ pending S.left self.new) }
@@ -65,8 +66,8 @@ impl<S: ByteIn + Drop> Buffered<S> {
         }
     }
 
-    // Reads a piece. The bytes are looked at again only where a line feed came, the limit is reached or
-    // the stream ended, since each piece ends in a line feed.
+    // Reads a piece. It is parsed again only when a line feed arrives, the limit is reached or the
+    // stream ends, since each piece ends with a line feed.
     pub(crate) fn read_piece<P: Piece>(&mut self) -> Result<P, HttpFault>
         ensures answer { Answers P.form (pending S.left self.old) (pending S.left self.new) (S.left self.new.stream) result }
         ensures why { (stream : List ℕ) → pending S.left self.old ≡ Some stream → IfErr result (PieceFault P.breaks P.overruns stream) }

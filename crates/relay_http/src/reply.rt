@@ -18,10 +18,10 @@ use crate::head::HeadInfo;
 use relay_action::ByteIn;
 use std::alloc::Global;
 
-/// The most interim heads before the final one.
+/// The maximum number of interim heads before the final one.
 pub const INTERIM_LIMIT: u8 = 8;
 
-/// The most bytes of a reply's body.
+/// The maximum length of a reply's body, in bytes.
 pub const REPLY_LIMIT: usize = 67_108_864;
 
 /// A reply.
@@ -29,14 +29,14 @@ pub const REPLY_LIMIT: usize = 67_108_864;
 pub struct HttpReply {
     /// The final status, from 200 to 599.
     pub status: u16,
-    /// The body, at most 67,108,864 bytes.
+    /// The body, of at most 67,108,864 bytes.
     pub body: Vec<u8>,
-    /// Whether the connection may carry a further message. `false` for HTTP/1.0, where the head says
-    /// `close`, and where the body goes to the end of the stream.
+    /// Whether the connection may carry a further message: not for HTTP/1.0, if the head says
+    /// `close`, or if the body extends to the end of the stream.
     pub keep: bool,
 }
 
-// Whether a message with this framing lets the connection carry a further one.
+// Whether a message with this framing keeps the connection.
 fn keeps(lasting: bool, framing: Framing) -> bool
     ensures { result ≡ (lasting && not (is_to_end framing)) }
 {
@@ -47,7 +47,7 @@ fn keeps(lasting: bool, framing: Framing) -> bool
 }
 
 impl<S: ByteIn + Drop> Buffered<S> {
-    // Reads the heads of a reply, and answers what the last of them says.
+    // Reads the heads of a reply, and returns what the last of them says.
     fn read_heads(&mut self) -> Result<HeadInfo, HttpFault>
         ensures why { (stream : List ℕ) → pending S.left self.old ≡ Some stream → IfErr result (PieceFault (AfterInterim NeverHasResponse) (AfterInterim OverrunsHead) stream) }
         ensures answer { Answers IsHeads (pending S.left self.old) (pending S.left self.new) (S.left self.new.stream) result }
@@ -67,7 +67,7 @@ impl<S: ByteIn + Drop> Buffered<S> {
         }
     }
 
-    // Reads a reply. What stands there is found, and so is a fault that the heads there state.
+    // Reads a reply. One at the front is found, and so is a fault in the heads there.
     pub(crate) fn next_reply(&mut self, alloc: Global) -> Result<HttpReply, HttpFault>
         ensures answer { MatchResult result (λ reply. Took IsReply (pending S.left self.old) (pending S.left self.new) (reply_view reply)) (Fails IsReply (pending S.left self.old) (S.left self.new.stream)) }
         ensures why { (stream : List ℕ) → pending S.left self.old ≡ Some stream → IfErr result (ReplyFault stream) }

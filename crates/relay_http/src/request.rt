@@ -14,7 +14,7 @@ use crate::request_head::RequestInfo;
 use relay_action::ByteIn;
 use std::alloc::Global;
 
-/// The most bytes of a request's body.
+/// The maximum length of a request's body, in bytes.
 pub const REQUEST_LIMIT: usize = 16_777_216;
 
 /// A request.
@@ -22,10 +22,10 @@ pub const REQUEST_LIMIT: usize = 16_777_216;
 pub struct HttpRequest {
     /// Whether it is a POST to `/_bulk`.
     pub bulk: bool,
-    /// The body, at most 16,777,216 bytes.
+    /// The body, of at most 16,777,216 bytes.
     pub body: Vec<u8>,
-    /// Whether the connection may carry a further message. `false` for HTTP/1.0, and where the head
-    /// says `close`.
+    /// Whether the connection may carry a further message: not for HTTP/1.0, or if the head says
+    /// `close`.
     pub keep: bool,
 }
 
@@ -54,7 +54,6 @@ impl<S: ByteIn + Drop> Buffered<S> {
         }
     }
 
-    // Reads a request.
     fn read_whole_request(&mut self, alloc: Global) -> Result<HttpRequest, HttpFault>
         ensures answer { MatchResult result (λ request. TookRequest (pending S.left self.old) (pending S.left self.new) (Some request)) (Fails IsRequest (pending S.left self.old) (S.left self.new.stream)) }
         ensures why { (stream : List ℕ) → pending S.left self.old ≡ Some stream → IfErr result (RequestFault stream) }

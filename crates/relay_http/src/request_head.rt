@@ -43,15 +43,15 @@ impl Piece for RequestInfo {
     }
 }
 
-// Whether a request with this method and this target is one for the bulk API.
+// Whether a request with this method and target is for the bulk API.
 fn is_bulk(method: &[u8], target: &[u8]) -> bool
     ensures { result ≡ (bytes_eq method.now (codes "POST") && bytes_eq target.now (codes "/_bulk")) }
 {
     method == b"POST".as_slice() && target == b"/_bulk".as_slice()
 }
 
-/// Looks for a whole head at the front of the bytes, and answers it with its length. The faults:
-/// `Malformed`, and `HeadLong` where it has more than 64 fields or more than 16,384 bytes.
+/// Looks for a whole head at the front of the bytes, and returns it with its length. The faults:
+/// `Malformed`, and `HeadLong` if it has more than 64 fields or more than 16,384 bytes.
 pub fn find_request_head(buf: &[u8]) -> Result<Option<(RequestInfo, usize)>, HttpFault>
     requires { length buf.now ≤ head_limit }
     ensures found { Finds IsRequestInfo buf.now result }

@@ -1,4 +1,4 @@
-//! A window on a stream: the bytes that were read and not used yet.
+//! The bytes that were read ahead of a stream.
 ghost use Rattle.std.specs.Prelude.{◌≡◌, ◌+◌, ◌-◌, ◌<◌, ◌≤◌, ◌++◌, ℕ, List, [], length, take, drop, IfOk, OnErr, is_ok, if◌then◌else◌};
 ghost use Rattle.std.specs.Io.KnownBytes.{IsAtEnd};
 ghost use Rattle.relay_action.specs.Streams.{one_more};
@@ -10,10 +10,10 @@ use relay_action::{ByteIn, StreamFailed};
 use std::alloc::{AllocError, Global};
 use std::marker::Model;
 
-/// The most bytes that a window holds.
+/// The maximum number of bytes in a window.
 pub const WINDOW_SIZE: usize = 16_384;
 
-/// The bytes that were read and not used yet, at most 16,384, which `new` reserves.
+/// The bytes that were read ahead, at most 16,384, for which `new` reserves room.
 #[derive(Drop)]
 pub struct Window {
     bytes: Vec<u8>,
@@ -33,7 +33,7 @@ impl Model for Window {
 }
 
 impl Window {
-    /// A window with no bytes.
+    /// An empty window.
     pub fn new(alloc: Global) -> Result<Window, AllocError>
         ensures { IfOk result (λ w. w ≡ []) }
     {
@@ -52,7 +52,7 @@ impl Window {
         &self.bytes[self.from..self.to]
     }
 
-    /// Drops the first bytes, which are used.
+    /// Drops the first `count` bytes, which were used.
     pub fn skip(&mut self, count: usize)
         requires { count ≤ length self.old }
         ensures { self.new ≡ drop count self.old }
@@ -60,7 +60,7 @@ impl Window {
         self.from += count;
     }
 
-    /// Reads some more bytes. None come only at the end of the stream.
+    /// Reads more bytes. 0 means the end of the stream.
     pub fn fill<S: ByteIn>(&mut self, stream: &mut S) -> Result<usize, StreamFailed>
         requires { length self.old < window_size }
         ensures bytes { IfOk result (Grown self.old self.new (S.left stream.old) (S.left stream.new)) }
@@ -80,7 +80,6 @@ impl Window {
     }
 }
 
-// Moves a range of bytes to the front.
 fn move_to_front(bytes: &mut [u8], from: usize, to: usize)
     requires { (from ≤ to) × (to ≤ length bytes.old) }
     ensures front { take (to - from) bytes.new ≡ take (to - from) (drop from bytes.old) }
@@ -89,7 +88,7 @@ fn move_to_front(bytes: &mut [u8], from: usize, to: usize)
     bytes.copy_within(from..to, 0);
 }
 
-// Reads some bytes into the room from `at` to `to`, after the first ones.
+// Reads bytes into the room from `at` to `to`.
 pub(crate) fn read_behind<S: ByteIn>(
     stream: &mut S,
     bytes: &mut [u8],

@@ -1,4 +1,4 @@
-//! Words and numbers in the values of fields.
+//! Words and numbers in field values.
 ghost use Rattle.std.specs.Prelude.{◌≡◌, ◌==◌, true, reverse, if◌then◌else◌, Some, None};
 ghost use Rattle.httparse.specs.Grammar.{skip_ows, trim_ows};
 ghost use Rattle.relay_http.specs.Fields.{same_word, is_number, number, agrees};
@@ -34,14 +34,14 @@ pub(crate) fn trim_ows(s: &[u8]) -> &[u8]
     trim_end(trim_start(s))
 }
 
-/// Whether two words are the same, in any case.
+/// Whether two words are equal, ignoring case.
 pub fn same_word(a: &[u8], b: &[u8]) -> bool
     ensures { result ≡ same_word a.now b.now }
 {
     a.eq_ignore_ascii_case(b)
 }
 
-/// Whether the bytes are digits, at least one.
+/// Whether the bytes are one or more digits.
 pub fn is_number(text: &[u8]) -> bool
     ensures { result ≡ is_number text.now }
 {
@@ -52,7 +52,7 @@ pub fn is_number(text: &[u8]) -> bool
     all & !text.is_empty()
 }
 
-/// The number, where it is below 2^64.
+/// The number, if it is below 2^64.
 pub fn parse_number(digits: &[u8]) -> Option<u64>
     ensures { result ≡ (if fits_number digits.now then Some (number digits.now) else None) }
 {
@@ -80,7 +80,7 @@ fn significant(mut s: &[u8]) -> &[u8]
     s
 }
 
-/// Whether both texts are decimal digits that say one number, of whatever length.
+/// Whether both texts are decimal digits for the same number, of any length.
 pub fn agrees(first: &[u8], text: &[u8]) -> bool
     ensures { result ≡ agrees first.now text.now }
 {
@@ -90,7 +90,7 @@ pub fn agrees(first: &[u8], text: &[u8]) -> bool
     is_same_number(first, text)
 }
 
-// Whether digits say one number: they do where they are the same from the first that is not 0.
+// Whether digits give the same number: they are equal from the first that is not 0.
 fn is_same_number(first: &[u8], text: &[u8]) -> bool
     requires { (is_number first.now ≡ true) × (is_number text.now ≡ true) }
     ensures { result ≡ (number first.now == number text.now) }

@@ -1,4 +1,4 @@
-//! Streams that move 7 bytes at a time and of which one call fails, at each place in turn.
+//! Streams that move 7 bytes at a time, with one call failing, at each position in turn.
 ghost use Rattle.std.specs.Prelude.{◌≤◌, length};
 ghost use Rattle.relay_ndjson.specs.Bulk.{text_of};
 
@@ -21,7 +21,7 @@ const BULK: &[u8] =
 const ANSWER: &[u8] =
     b"HTTP/1.1 200 OK\r\nContent-Type: application/json\r\nContent-Length: 11\r\n\r\nhello world";
 
-// The answer to a read of a reply, and whether the connection is open after it.
+// The result of reading a reply, and whether the connection is open afterwards.
 fn reply_failing(
     alloc: Global,
     fail_at: u64,
@@ -31,7 +31,7 @@ fn reply_failing(
     Ok((read, conn.is_open()))
 }
 
-// The same of a request.
+// The same for a request.
 fn request_failing(
     alloc: Global,
     fail_at: u64,
@@ -59,7 +59,7 @@ fn each_read_of_a_request_fails_in_turn(rt: HostRuntime) {
     assert!(rt; request_failing(rt.alloc(), reads + 1) == Ok((Ok(true), true)));
 }
 
-// How many bytes a stream was given, if they are the first ones of this message.
+// How many bytes were written to a stream, if they are a prefix of this message.
 fn sent(stream: &MemStream, message: &[u8]) -> Option<usize> {
     if message.starts_with(stream.written()) {
         Some(stream.written().len())
@@ -68,8 +68,8 @@ fn sent(stream: &MemStream, message: &[u8]) -> Option<usize> {
     }
 }
 
-// What a write answers, whether the connection is open after it, and how many bytes went out, if
-// they are the first ones of the message.
+// The result of a write, whether the connection is open afterwards, and how many bytes were
+// written, if they are a prefix of the message.
 type Written = (Result<(), HttpFault>, bool, Option<usize>);
 
 fn answer_failing(alloc: Global, room: usize, fail_at: u64) -> Result<Written, AllocError> {
@@ -79,7 +79,7 @@ fn answer_failing(alloc: Global, room: usize, fail_at: u64) -> Result<Written, A
     Ok((done, open, sent(&conn.into_stream(), ANSWER)))
 }
 
-// The same of a request.
+// The same for a request.
 fn bulk_failing(
     alloc: Global,
     writes: &[Write],

@@ -1,5 +1,5 @@
-//! A length that is promised takes no memory before its bytes come, and no body of a request is in
-//! memory.
+//! An announced length does not allocate before its bytes arrive, and the whole body of a request
+//! is never in memory.
 ghost use Rattle.std.specs.Prelude.{None};
 
 use crate::large::writes_of;
@@ -11,17 +11,17 @@ use std::alloc::{AllocError, Global};
 use std::fs;
 use std::test::Fail;
 
-// The most that these tests may take of memory, in kilobytes: half of the smallest length that is promised.
+// The maximum memory that these tests may use, in kilobytes: half of the smallest announced length.
 const ROOM: u64 = 8_192;
 
-// What the system tells of this process, in kilobytes: what it has, and the most that it had at a time.
+// The memory of this process, in kilobytes: current and peak.
 #[derive(Clone, Copy)]
 struct Memory {
     size: u64,
     peak: u64,
 }
 
-// The kilobytes that stand on the line of this name.
+// The kilobytes on the line with this name.
 fn kilobytes(status: &str, name: &str) -> Option<u64> {
     let line = status.lines().find(|line| line.starts_with(name))?;
     line.split_ascii_whitespace().nth(1)?.parse().ok()
@@ -42,7 +42,8 @@ const REPLIES: &[&[u8]] = &[
 
 const REQUEST: &[u8] = b"POST /_bulk HTTP/1.1\r\nContent-Length: 16777216\r\n\r\n";
 
-// Whether each of these messages, whose length is promised and whose body does not come, has ended.
+// Whether each of these messages, whose length is announced and whose body does not arrive, has
+// ended.
 fn have_ended(alloc: Global) -> Result<bool, AllocError> {
     for reply in REPLIES {
         if !reads_reply(alloc, *reply, 100_000, Err(HttpFault::Ended))? {
@@ -64,7 +65,7 @@ fn lengths_without_bodies(rt: HostRuntime) -> Result<(), Fail> {
     Ok(())
 }
 
-// A stream that takes what it is given, and keeps nothing.
+// A stream that accepts what is written and keeps nothing.
 #[derive(Drop)]
 struct Sink;
 
@@ -82,7 +83,7 @@ impl ByteOut for Sink {
     }
 }
 
-// Whether a request of some 16 MiB with these writes is written.
+// Whether a request of about 16 MiB with these writes is written.
 fn is_written(alloc: Global, writes: &[Write]) -> bool {
     if writes.len() > 10_000 {
         return false;

@@ -1,11 +1,11 @@
-//! Requests that go out in many pieces, and those for which memory is refused.
+//! Requests that are sent in many pieces, and failed allocations.
 use crate::reading::over_failing;
 use relay_action::{Action, DocKey, Write};
 use relay_http::HttpFault;
 use relay_ndjson::bulk_len;
 use std::alloc::{AllocError, Global};
 
-// A write of the document with this id, under this version.
+// A write of the document with this id and version.
 fn write_of(alloc: Global, id: &str, version: u64, source: &str) -> Option<Write> {
     Some(Write {
         key: DocKey::new(alloc, "a", id).ok()?,
@@ -14,7 +14,7 @@ fn write_of(alloc: Global, id: &str, version: u64, source: &str) -> Option<Write
     })
 }
 
-// A text of so many bytes.
+// A text of this many bytes.
 fn text_of(alloc: Global, size: usize) -> Result<String, AllocError> {
     let mut text = String::new(alloc);
     for _byte in 0..size {
@@ -23,12 +23,12 @@ fn text_of(alloc: Global, size: usize) -> Result<String, AllocError> {
     Ok(text)
 }
 
-/// So many writes, each of a document of its own with a source of so many bytes.
+/// Writes of distinct documents, with sources of this many bytes.
 pub fn writes_of(alloc: Global, count: u64, size: usize) -> Option<Vec<Write>> {
     writes_named(alloc, "", count, size)
 }
 
-// The same, where each id begins with this.
+// The same, with ids that begin with this.
 fn writes_named(alloc: Global, start: &str, count: u64, size: usize) -> Option<Vec<Write>> {
     let source = text_of(alloc, size).ok()?;
     let mut writes = Vec::new(alloc);
@@ -63,9 +63,9 @@ fn request_of(alloc: Global, lines: &str) -> Result<String, AllocError> {
     )
 }
 
-// What a write of the request with these writes leaves on a stream that takes so many bytes at a
-// time: the answer, and whether these bytes went out, or, if memory was refused, none or a front of
-// them with the head.
+// The result of writing the request with these writes to a stream that takes a few bytes at a time:
+// the result, and whether these bytes were written, or, if an allocation failed, none or a prefix
+// of them with the head.
 fn leaves(alloc: Global, writes: &[Write], wanted: &str, piece: usize) -> Result<bool, AllocError> {
     if piece == 0 || writes.len() > 10_000 || bulk_len(writes) > 16_777_216 {
         return Ok(false);
@@ -88,14 +88,14 @@ fn leaves(alloc: Global, writes: &[Write], wanted: &str, piece: usize) -> Result
     })
 }
 
-// Whether nothing went out, or the head and a part of the body, which has so many bytes.
+// Whether nothing was written, or the head and part of the body of this length.
 fn is_front(written: &[u8], wanted: &[u8], body: usize) -> bool {
     written.is_empty()
         || (wanted.starts_with(written) && written.len().saturating_add(body) >= wanted.len())
 }
 
-// Whether the request with so many writes, whose ids begin with a text that stands so in a JSON
-// string, is written as it is to be. `None`: there was no memory for the test.
+// Whether a request is written as expected whose ids begin with a text that has this form in a JSON
+// string. `None`: an allocation of the test failed.
 fn is_written_named(
     alloc: Global,
     start: (&str, &str),
@@ -109,7 +109,7 @@ fn is_written_named(
     leaves(alloc, writes.as_slice(), wanted.as_str(), piece).ok()
 }
 
-// The same with ids that stand for themselves.
+// The same with ids that need no escapes.
 fn is_written(alloc: Global, count: u64, size: usize, piece: usize) -> Option<bool> {
     is_written_named(alloc, ("", ""), count, size, piece)
 }
@@ -124,8 +124,7 @@ fn a_byte_at_a_time(rt: HostRuntime) {
     assert!(rt; is_written(rt.alloc(), 100, 1_000, 1) == Some(true));
 }
 
-// A source of 16,384 bytes goes out from where it lies, and one alone may be longer than what goes
-// out at a time.
+// A source of 16,384 bytes is sent without copying it, and a single one may be longer than a piece.
 #[test]
 fn long_sources(rt: HostRuntime) {
     for size in [16_383, 16_384, 65_536, 1_000_000] {
@@ -133,9 +132,9 @@ fn long_sources(rt: HostRuntime) {
     }
 }
 
-// An id with a quote takes memory when its line is written, and the head is out before. The test
-// passes whichever allocation is refused, so that each can be in turn (`rt try --test --fail-alloc
-// N`): then nothing is out, or the whole head and a part of the body.
+// An id with a quote needs an allocation when its line is written, and the head is sent before. The
+// test passes whichever allocation fails, so that each can be refused in turn (`rt try --test
+// --fail-alloc N`): then nothing was sent, or the whole head and part of the body.
 #[test]
 fn memory_that_is_refused(rt: HostRuntime) {
     for size in [100, 30_000] {

@@ -1,6 +1,6 @@
-//! Tests of `relay_http`, over its public items: replies and requests by rows, in pieces of several
-//! sizes and cut at each place; messages at their limits; what is written; streams that fail; and what
-//! other programs write.
+//! Tests of `relay_http`, over its public items: tables of replies and requests, in pieces of
+//! several sizes and cut at each position; messages at their limits; what is written; failing
+//! streams; and what other programs write.
 #![tactic(auto)]
 
 #[cfg(test)]

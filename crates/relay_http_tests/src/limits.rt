@@ -1,11 +1,11 @@
-//! Messages at their limits, and one past them.
+//! Messages at their limits, and one beyond them.
 ghost use Rattle.std.specs.Prelude.{◌<◌};
 
 use crate::reading::{PIECES, Reply, reads_reply};
 use relay_http::HttpFault;
 use std::alloc::{AllocError, Global};
 
-// The first text, so many times the second, and the third.
+// The first text, the second one repeated, and the third.
 fn repeated(
     alloc: Global,
     first: &[u8],
@@ -21,10 +21,10 @@ fn repeated(
     Ok(text)
 }
 
-// A row: what is repeated how often between what, and what the whole is read as.
+// A row: what is repeated how often between what, and the result of reading all of it.
 type Row<'a> = (&'a [u8], &'a [u8], usize, &'a [u8], Reply<'a>);
 
-// Whether the text of a row is read so.
+// Whether reading the text of a row has this result.
 fn is_read(alloc: Global, row: Row, piece: usize) -> Result<bool, AllocError>
     requires { 0 < piece }
 {
@@ -32,7 +32,7 @@ fn is_read(alloc: Global, row: Row, piece: usize) -> Result<bool, AllocError>
     reads_reply(alloc, text.as_slice(), piece, row.4)
 }
 
-// Whether the text of each row is read so.
+// Whether reading the text of each row has its result.
 fn are_read(alloc: Global, rows: &[Row], piece: usize) -> Result<bool, AllocError>
     requires { 0 < piece }
 {
@@ -44,7 +44,7 @@ fn are_read(alloc: Global, rows: &[Row], piece: usize) -> Result<bool, AllocErro
     Ok(true)
 }
 
-// 20 bytes, those that are repeated, and 23 bytes to the end of the head: 16,384 with 16,341 of them
+// 20 bytes, the repeated ones, and 23 bytes to the end of the head: 16,384 with 16,341 of them
 const HEADS: &[Row] = &[
     (
         b"HTTP/1.1 200 OK\r\nX: ",
@@ -97,7 +97,7 @@ const HEADS: &[Row] = &[
     ),
 ];
 
-// Empty lines before a head, after each of which what came is looked at again.
+// Empty lines before a head, after each of which it is parsed again.
 const EMPTY_LINES: &[Row] = &[(
     b"",
     b"\n",

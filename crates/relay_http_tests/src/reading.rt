@@ -1,21 +1,22 @@
-//! What the tests ask of a connection over bytes.
+//! Helpers that read from a connection over bytes.
 ghost use Rattle.std.specs.Prelude.{◌<◌};
 
 use relay_action::MemStream;
 use relay_http::{Conn, HttpFault, HttpReply, HttpRequest};
 use std::alloc::{AllocError, Global};
 
-/// How many bytes come at a time in the tests: one, a few, and all.
+/// How many bytes arrive at a time in the tests: one, a few, or all.
 pub const PIECES: [usize; 3] = [1, 7, 100_000];
 
-/// What a reply says, or its fault.
+/// The contents of a reply, or the fault.
 pub type Reply<'a> = Result<(u16, &'a [u8], bool), HttpFault>;
 
-/// What a request says (whether it is one for the bulk API, body, whether another may follow), or its fault.
+/// The contents of a request (whether it is for the bulk API, the body, whether another may
+/// follow), or the fault.
 pub type Request<'a> = Result<Option<(bool, &'a [u8], bool)>, HttpFault>;
 
-/// A connection over bytes that come so many at a time, whose stream takes so many bytes, and of which
-/// one call fails; 0 is none of them.
+/// A connection over bytes that arrive a few at a time; its stream takes `room` bytes, and one of
+/// its calls fails, unless that is 0.
 pub fn over_failing(
     alloc: Global,
     bytes: &[u8],
@@ -32,7 +33,7 @@ pub fn over_failing(
     }
 }
 
-/// A connection over bytes that come so many at a time, and whose stream takes 1,000 bytes.
+/// A connection over bytes that arrive a few at a time; its stream takes 1,000 bytes.
 pub fn over(alloc: Global, bytes: &[u8], piece: usize) -> Result<Conn<MemStream>, AllocError>
     requires { 0 < piece }
 {
@@ -78,7 +79,7 @@ pub fn gives_request(alloc: Global, conn: &mut Conn<MemStream>, wanted: Request)
     is_request(&read, wanted)
 }
 
-// Whether the next reply is this one, and the connection is broken after a fault and after a reply that
+// Whether the next reply is this one, and the connection is broken after a fault or a reply that
 // does not keep it.
 fn leaves_reply(alloc: Global, conn: &mut Conn<MemStream>, wanted: Reply) -> bool {
     let lasts = matches!(wanted, Ok((_, _, true)));
@@ -87,7 +88,7 @@ fn leaves_reply(alloc: Global, conn: &mut Conn<MemStream>, wanted: Reply) -> boo
         && conn.is_open() == lasts
 }
 
-// Whether the next request is this one, and nothing more is read after a fault and after a request that
+// Whether the next request is this one, and nothing more is read after a fault or a request that
 // does not keep the connection.
 fn leaves_request(alloc: Global, conn: &mut Conn<MemStream>, wanted: Request) -> bool {
     let lasts = matches!(wanted, Ok(Some((_, _, true))) | Ok(None));
@@ -96,7 +97,7 @@ fn leaves_request(alloc: Global, conn: &mut Conn<MemStream>, wanted: Request) ->
         && conn.is_open() == lasts
 }
 
-/// Whether these bytes are read as this reply, and the connection is broken after a fault and after a
+/// Whether these bytes are read as this reply, and the connection is broken after a fault or a
 /// reply that does not keep it.
 pub fn reads_reply(
     alloc: Global,
@@ -109,7 +110,7 @@ pub fn reads_reply(
     Ok(leaves_reply(alloc, &mut over(alloc, bytes, piece)?, wanted))
 }
 
-/// Whether these bytes are read as this request, and nothing more is read after a fault and after a
+/// Whether these bytes are read as this request, and nothing more is read after a fault or a
 /// request that does not keep the connection.
 pub fn reads_request(
     alloc: Global,

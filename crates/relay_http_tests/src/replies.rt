@@ -1,4 +1,4 @@
-//! Replies by rows, in one piece, in pieces of seven bytes and of one.
+//! A table of replies, read in one piece, in pieces of seven bytes, and byte by byte.
 use crate::reading::{PIECES, Reply, gives_replies, reads_replies, reads_reply};
 use relay_http::HttpFault;
 

@@ -1,4 +1,4 @@
-//! Requests by rows, in one piece, in pieces of seven bytes and of one.
+//! A table of requests, read in one piece, in pieces of seven bytes, and byte by byte.
 use crate::reading::{PIECES, Request, gives_requests, reads_request, reads_requests};
 use relay_http::HttpFault;
 

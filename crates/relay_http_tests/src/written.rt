@@ -1,4 +1,4 @@
-//! Requests and answers as they are written, and what they leave of the connection.
+//! Requests and answers as they are written, and the connection after them.
 ghost use Rattle.std.specs.Prelude.{◌≤◌, length, IsTrue};
 ghost use Rattle.relay_ndjson.specs.Bulk.{text_of};
 ghost use Rattle.relay_http.specs.WrittenAnswer.{IsAnswerStatus};
@@ -22,7 +22,7 @@ pub fn one_write(alloc: Global) -> Result<Vec<Write>, Fail> {
     Ok(writes)
 }
 
-// Whether the stream of a connection was given these bytes.
+// Whether these bytes were written to the stream of a connection.
 fn was_written(conn: Conn<MemStream>, wanted: &[u8]) -> bool {
     conn.into_stream().written() == wanted
 }
@@ -59,7 +59,7 @@ fn a_request(rt: HostRuntime) -> Result<(), Fail> {
     Ok(())
 }
 
-// Whether a request with these writes is read back as it is written, with this body, and nothing after it.
+// Whether a request with these writes reads back with this body, and nothing follows it.
 fn reads_back(alloc: Global, writes: &[Write], body: &'static [u8]) -> Result<bool, AllocError>
     requires few { length writes.now ≤ 1 }
     requires size { length (text_of writes.now) ≤ 1000 }
@@ -125,7 +125,7 @@ fn messages_one_after_another(rt: HostRuntime) -> Result<(), Fail> {
     Ok(())
 }
 
-// Whether this answer is written as these bytes, and leaves the connection open where it keeps it.
+// Whether this answer is written as these bytes, and leaves the connection open if it keeps it.
 fn is_answer(
     alloc: Global,
     status: u16,
@@ -191,7 +191,7 @@ fn answers(rt: HostRuntime) {
     );
 }
 
-// What is written where a request was read before it, and what the connection may carry then.
+// What is written after a request was read, and what the connection may carry then.
 fn answers_to(alloc: Global, request: &[u8]) -> Result<(bool, bool), AllocError> {
     let mut conn = over(alloc, request, 5)?;
     let read = conn.read_request(alloc).is_ok();
@@ -220,7 +220,7 @@ fn an_answer_closes_where_the_request_does(rt: HostRuntime) {
     }
 }
 
-// Whether nothing can be written to a connection or read of it any more.
+// Whether nothing can be written to a connection or read from it any more.
 fn carries_nothing(alloc: Global, conn: &mut Conn<MemStream>) -> bool {
     conn.write_answer(alloc, 200, "", true) == Err(HttpFault::Broken)
         && conn.write_request(alloc, "a", &[]) == Err(HttpFault::Broken)

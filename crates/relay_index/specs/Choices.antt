@@ -1,10 +1,10 @@
--- Which statuses an index may refuse a write with, and what it may choose to do with one.
+-- The statuses with which an index may refuse a write, and what it may do with one.
 use Rattle.std.specs.Prelude.{◌≢◌, ℕ, ◌≤◌}
 use Rattle.relay_index.specs.declared.choice.Choice.{Choice}
 use Rattle.relay_index.specs.declared.choice.Choice.TheVariants.{Run, Refuse}
 
--- An index may refuse a write with a status from 400 to 599. 404 is no refusal, since it says that a delete found no
--- document, nor is 409, a version conflict.
+-- An index may refuse a write with a status from 400 to 599, except 404, which says that a delete found no document,
+-- and 409, a version conflict.
 pub record MayRefuse (status : ℕ) : Type 0 where
   pub least : 400 ≤ status
   pub most : status ≤ 599

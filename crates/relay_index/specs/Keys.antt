@@ -9,14 +9,14 @@ use Rattle.relay_action.specs.declared.key.DocKey.{DocKey}
 use Rattle.relay_results.specs.Documents.{Document, document_of, same_document}
 use Rattle.relay_index.specs.States.{State, stored}
 
--- the order of documents: that of the bytes of their index names, then that of their ids
+-- the order of documents: by the bytes of their index names, then of their ids
 abbrev pub document_order : Document → Document → Ordering
 document_order a b = ordering_then (slice_cmp nat_cmp a.index b.index) (slice_cmp nat_cmp a.id b.id)
 
 abbrev pub key_order : DocKey → DocKey → Ordering
 key_order a b = document_order (document_of a) (document_of b)
 
--- the two keys are of one document
+-- the two keys are of the same document
 abbrev pub same_key : DocKey → DocKey → Bool
 same_key a b = same_document (document_of a) (document_of b)
 
@@ -24,8 +24,8 @@ same_key a b = same_document (document_of a) (document_of b)
 abbrev pub is_among : Document → List DocKey → Bool
 is_among k keys = list_any (λ key. same_document k (document_of key)) keys
 
--- The keys are those of the documents that a write was applied to, deleted ones too: each of these, no other, none twice,
--- and in their order.
+-- The keys are exactly those of the documents to which a write was applied, including deleted ones: no other, none
+-- twice, and in order.
 pub record AreKeys (s : State) (keys : List DocKey) : Type 0 where
   pub rising : IsStrictlySortedBy key_order keys
   pub written : (k : Document) → is_among k keys ≡ is_some (stored s k)

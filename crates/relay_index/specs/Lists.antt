@@ -8,13 +8,13 @@ use Rattle.relay_index.specs.declared.choice.Choice.{Choice}
 use Rattle.relay_index.specs.States.{State}
 use Rattle.relay_index.specs.Runs.{is_run}
 
--- the write stands at the end of its document's list; a document that had none comes last
+-- the write is at the end of its document's list; a document that had none comes last
 abbrev pub with_write : List (DocKey × List Write) → Write → List (DocKey × List Write)
 with_write [] w = (w.key, w ∷ []) ∷ []
 with_write (e ∷ es) w =
     if same_document (document_of w.key) (document_of e.0) then (e.0, e.1 ++ w ∷ []) ∷ es else e ∷ with_write es w
 
--- the index after the write is applied
+-- the index after the write was applied
 abbrev pub appended : State → Write → State
 appended s w = record { documents = with_write s.documents w; count = one_more s.count }
 

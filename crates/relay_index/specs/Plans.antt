@@ -6,8 +6,9 @@ use Rattle.relay_index.specs.declared.choice.Choice.{Choice}
 use Rattle.relay_index.specs.declared.choice.Choice.TheVariants.{Run, Refuse}
 use Rattle.relay_index.specs.declared.refusal.Refusal.{Refusal}
 
--- Which items are refused, each by its place among all items that are run under the script, and with which status. And
--- how many were run so far. The place of an item is the count with it; at 2^64 - 1 the count stays.
+-- Which items are refused, by their place among all items that are run under the script, and with which status; how
+-- many items were run so far; and the limit of a body. The place of an item is the count that includes it; the count
+-- saturates at 2^64 - 1.
 pub record Plan : Type 0 where
   pub refusals : List (ℕ × Refusal)
   pub ran : ℕ
@@ -17,11 +18,11 @@ pub record Plan : Type 0 where
 abbrev pub unscripted : Plan
 unscripted = record { refusals = []; ran = 0; limit = None }
 
--- the status that the item at a place is refused with, if it is
+-- the status with which the item at a place is refused, if it is
 abbrev pub refusal_at : Plan → ℕ → Option ℕ
 refusal_at plan place = option_map (λ (r : Refusal). r.status) (lookup (λ p. place == p) plan.refusals)
 
--- what becomes of the item that is run next
+-- the choice for the next item
 abbrev pub choice_by : Option ℕ → Choice
 choice_by None = Run
 choice_by (Some status) = Refuse status
@@ -29,7 +30,7 @@ choice_by (Some status) = Refuse status
 abbrev pub choice_at : Plan → Choice
 choice_at plan = choice_by (refusal_at plan (one_more plan.ran))
 
--- a body of so many bytes is taken
+-- a body of this size is accepted
 abbrev pub takes_by : Option ℕ → ℕ → Bool
 takes_by None bytes = true
 takes_by (Some most) bytes = nat_le bytes most
@@ -37,7 +38,7 @@ takes_by (Some most) bytes = nat_le bytes most
 abbrev pub takes : Plan → ℕ → Bool
 takes plan bytes = takes_by plan.limit bytes
 
--- from now on a body has this many bytes at most
+-- from now on a body has at most this many bytes
 abbrev pub limited : ℕ → Plan → Plan
 limited most plan = record plan { limit = Some most }
 

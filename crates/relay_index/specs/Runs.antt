@@ -15,7 +15,7 @@ use Rattle.relay_index.specs.declared.choice.Choice.{Choice}
 use Rattle.relay_index.specs.declared.choice.Choice.TheVariants.{Run, Refuse}
 use Rattle.relay_index.specs.States.{State, applied, stored, is_live}
 
--- what an applied write did, where its document was live and where it was not
+-- the result of an applied write, by whether its document existed
 abbrev pub applied_result : ActionKind → Bool → DoneResult
 applied_result kind.Index true = done.Updated
 applied_result kind.Index false = done.Created
@@ -50,8 +50,8 @@ abbrev pub status_by : State → Write → Choice → ℕ
 status_by s w Run = status_of (result_of s w Run)
 status_by s w (Refuse status) = status
 
--- What an index answers to a write: its document and kind, the status and the result. Of a write that was applied also
--- its version, and as sequence number how many were applied before it; else 0 for both.
+-- What an index returns for a write: its document and kind, the status and the result. For an applied write also its
+-- version, and as sequence number how many were applied before it; otherwise 0 for both.
 abbrev pub done_of : State → Write → Choice → ItemDone
 done_of s w choice = record {
   key = w.key;
@@ -62,8 +62,8 @@ done_of s w choice = record {
   seq = if is_run s w choice then s.count else 0;
 }
 
--- What an index has after a write: every document has its list, and the write's document has the write after it where
--- the write was applied, which is counted. Nothing else changes.
+-- The index after a write: if the write was applied, it is at the end of its document's list, and counted. Nothing
+-- else changes.
 pub record Effect (old : State) (w : Write) (choice : Choice) (new : State) : Type 0 where
   pub lists : (k : Document) → applied new k
       ≡ applied old k ++ (if is_run old w choice && same_document k (document_of w.key) then w ∷ [] else [])
@@ -76,11 +76,11 @@ pub record RunsOne (old : State) (w : Write) (choice : Choice) (item : ItemDone)
 
 -- ---- as the outside of a lane
 
--- the outcome that the answer to a write is
+-- the answer to a write, as the outcome of a run
 abbrev pub outcome_of_run : ItemDone → RunOutcome
 outcome_of_run d = record { status = d.status; error = failure d.result }
 
--- the outside shows this index: of each document the same version is stored, and the list is the same
+-- the outside shows this index: for each document the stored version and the list are the same
 pub record Shows (o : Outside) (s : State) : Type 0 where
   pub versions : (k : Document) → o.stored k ≡ stored s k
   pub lists : (k : Document) → list_of o k ≡ applied s k

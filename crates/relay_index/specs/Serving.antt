@@ -15,7 +15,7 @@ use Rattle.relay_index.specs.States.{State}
 use Rattle.relay_index.specs.Runs.{RunsOne}
 use Rattle.relay_index.specs.Plans.{Plan, choice_at, takes, stepped}
 
--- An index beside the script that it runs items under.
+-- An index and the script under which it runs items.
 pub record Server : Type 0 where
   pub index : State
   pub script : Plan
@@ -23,7 +23,7 @@ pub record Server : Type 0 where
 abbrev pub under : State → Plan → Server
 under index script = record { index = index; script = script }
 
--- what a request is answered: a status and a text
+-- the answer to a request: a status and a text
 pub record Answer : Type 0 where
   pub status : ℕ
   pub text : List ℕ
@@ -31,21 +31,21 @@ pub record Answer : Type 0 where
 abbrev pub answer_of : ℕ → List ℕ → Answer
 answer_of status text = record { status = status; text = text }
 
--- The writes are run once each, in their order, each with what the script has for its place: this is answered to each,
--- and the server ends so.
+-- The writes are run once each, in order, each as the script says for its place, with these results, and this is the
+-- server afterwards.
 abbrev pub RunsAll : Server → List Write → List ItemDone → Server → Type 0
 RunsAll old [] items new = (items ≡ []) × (new ≡ old)
 RunsAll old (w ∷ ws) items new =
     (item : ItemDone) × (rest : List ItemDone) × (next : State) × RunsOne old.index w (choice_at old.script) item next
     × RunsAll (under next (stepped old.script)) ws rest new × (items ≡ item ∷ rest)
 
--- the first writes, as many as this, were run, and no more
+-- exactly the first `ran` writes were run
 pub record RunsFirst (ran : ℕ) (old : Server) (ws : List Write) (new : Server) : Type 0 where
   pub within : ran ≤ length ws
   pub items : List ItemDone
   pub runs : RunsAll old (take ran ws) items new
 
--- All writes were run, and this is the text of the reply, which reads as what was answered to each.
+-- All writes were run, and this is the text of the reply, which reads back as the results.
 pub record Replies (old : Server) (ws : List Write) (text : List ℕ) (new : Server) : Type 0 where
   pub items : List ItemDone
   pub runs : RunsAll old ws items new
@@ -54,7 +54,7 @@ pub record Replies (old : Server) (ws : List Write) (text : List ℕ) (new : Ser
 
 -- ---- a body that is no bulk request
 
--- the text that says which line of a body is at fault and why, with its keys in byte order
+-- the text that names the bad line of a body and its fault, with its keys in byte order
 abbrev pub fault_data : ℕ → List ℕ → Data
 fault_data line kind =
     object (member (codes "error")
@@ -64,7 +64,7 @@ fault_data line kind =
 unfoldable pub fault_text : ℕ → List ℕ → List ℕ
 fault_text line kind = compact_text (fault_data line kind)
 
--- the answer to a fault other than that memory ran out
+-- the answer to a fault other than a failed allocation
 pub record IsRejection (fault : BulkFault) (answer : Answer) : Type 0 where
   pub cause : fault.kind ≢ kind.Memory
   pub failure : answer.status ≡ 400
@@ -96,7 +96,7 @@ pub record Serves (body : List ℕ) (old : Server) (answer : Answer) (new : Serv
   pub success : answer.status ≡ 200
   pub replies : Replies old writes answer.text new
 
--- the body is none: 400, and the text that names the first line that is at fault; nothing is run
+-- the body is not: 400, and the text that names the first bad line; nothing is run
 pub record Rejects (body : List ℕ) (old : Server) (answer : Answer) (new : Server) : Type 0 where
   pub within : takes old.script (length body) ≡ true
   pub line : ℕ
@@ -115,12 +115,12 @@ pub record RefusesLength (body : List ℕ) (old : Server) (answer : Answer) (new
 abbrev pub Answers : List ℕ → Server → Answer → Server → Type 0
 Answers body old answer new = Serves body old answer new ⊎ (Rejects body old answer new ⊎ RefusesLength body old answer new)
 
--- memory ran out while the body was read or its fault was written: nothing is run
+-- an allocation failed while the body was read or its fault was written: nothing is run
 pub record RunsNone (ran : ℕ) (old new : Server) : Type 0 where
   pub none : ran ≡ 0
   pub stays : new ≡ old
 
--- memory ran out later: the first writes, as many as this, were run, and no more
+-- an allocation failed later: exactly the first `ran` writes were run
 pub record RunsSome (ran : ℕ) (body : List ℕ) (old new : Server) : Type 0 where
   pub writes : List Write
   pub reads : IsBulk body writes

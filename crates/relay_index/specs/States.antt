@@ -1,4 +1,4 @@
--- What an index has: of each document the writes that it applied, and how many it applied in all.
+-- What an index has: for each document the writes that it applied, and their number over all documents.
 use Rattle.std.specs.Prelude.{◌≡◌, ◌≢◌, ℕ, ◌+◌, ◌-◌, min, ◌<◌, ◌≤◌, List, [], ◌∷◌, length, slice_get, Option, None, Some, is_some, option_map, option_and_then, unwrap_or, Bool}
 use Rattle.std.specs.Map.{lookup}
 use Rattle.relay_action.specs.Streams.{most}
@@ -6,8 +6,8 @@ use Rattle.relay_action.specs.declared.key.DocKey.{DocKey}
 use Rattle.relay_action.specs.declared.write.Write.{Write}
 use Rattle.relay_results.specs.Documents.{Document, document_of, same_document, source_of}
 
--- Each document that a write was applied to, beside its list: those writes, in their order. And the count of the writes
--- that were applied, over all documents; at 2^64 - 1 it stays.
+-- Each document to which a write was applied, with those writes, in order; and the number of applied writes, over all
+-- documents, which saturates at 2^64 - 1.
 pub record State : Type 0 where
   pub documents : List (DocKey × List Write)
   pub count : ℕ
@@ -27,12 +27,12 @@ applied s k = applied_among s.documents k
 abbrev pub last_of : List Write → Option Write
 last_of ws = slice_get ws (length ws - 1)
 
--- the version that is stored of a document: that of the last write applied to it. A deleted document keeps its version
--- for good.
+-- the stored version of a document: that of the last write applied to it. A deleted document keeps its version
+-- forever.
 abbrev pub stored : State → Document → Option ℕ
 stored s k = option_map (λ (w : Write). w.version) (last_of (applied s k))
 
--- the source of a document: what the last write applied to it stored; none where that was a delete, or nothing was
+-- the source of a document: that of the last write applied to it; none if that was a delete, or if no write was
 -- applied
 abbrev pub live : State → Document → Option (List ℕ)
 live s k = option_and_then (λ (w : Write). source_of w.action) (last_of (applied s k))
@@ -64,14 +64,14 @@ total [] = 0
 total (e ∷ es) = length e.1 + total es
 
 -- a document's list has writes of that document alone, at least one, and their versions rise strictly; the count is
--- that of the writes in all lists, and stays at 2^64 - 1
+-- that of the writes in all lists, and saturates at 2^64 - 1
 pub record IsIndex (s : State) : Type 0 where
   pub begun : NoneEmpty s.documents
   pub of_document : (k : Document) → AreOf k (applied s k)
   pub rising : (k : Document) → RiseFrom None (applied s k)
   pub counted : s.count ≡ min (total s.documents) most
 
--- the greatest version that is stored: some document has it and none has a greater one; none where no version is stored
+-- the highest stored version: some document has it and none has a higher one; none if no version is stored
 abbrev pub IsHighest : State → Option ℕ → Type 0
 IsHighest s None = (k : Document) → stored s k ≡ None
 IsHighest s (Some version) =

@@ -5,7 +5,7 @@ use relay_action::Write;
 use std::alloc::{AllocError, Global};
 use std::marker::Model;
 
-// The writes that were applied to a document, in their order. Contracts see it as the list of them.
+// The writes that were applied to a document, in order. Contracts see it as their list.
 #[derive(Drop)]
 pub(crate) struct History {
     writes: Vec<Write>,
@@ -21,7 +21,6 @@ impl Model for History {
 }
 
 impl History {
-    // A history with no write. It takes no memory.
     pub(crate) fn new(alloc: Global) -> History
         ensures { result ≡ [] }
     {
@@ -30,14 +29,13 @@ impl History {
         }
     }
 
-    // The writes, lent.
     pub(crate) fn as_slice(&self) -> &[Write]
         ensures { result.now ≡ self.now }
     {
         self.writes.as_slice()
     }
 
-    // One more write. `AllocError`: there was no memory for it, and the history is as before.
+    // Adds a write. `AllocError`: allocation failed, and the history is unchanged.
     pub(crate) fn push(&mut self, write: Write) -> Result<(), AllocError>
         ensures ok { OnOk result (self.new ≡ self.old ++ write ∷ []) }
         ensures err { OnErr result (self.new ≡ self.old) }

@@ -19,8 +19,8 @@ use std::alloc::{AllocError, Global};
 use std::cmp::Ordering;
 use std::marker::Model;
 
-/// An index in memory. Contracts see it as the writes that it applied to each document, in their
-/// order, and their count.
+/// An index in memory. Contracts see it as the writes that it applied to each document, in order,
+/// and their number.
 #[derive(Drop)]
 pub struct Index {
     documents: IndexMap<DocKey, History>,
@@ -41,8 +41,8 @@ impl Model for Index {
     } };
 }
 
-// Puts a copy of a write at the end of its document's list. `AllocError`: there was no memory for it, and the
-// lists are as before.
+// Adds a copy of a write at the end of its document's list. `AllocError`: allocation failed, and
+// the lists are unchanged.
 fn append(documents: &mut IndexMap<DocKey, History>, write: &Write) -> Result<(), AllocError>
     ensures ok { OnOk result (documents.new.entries ≡ with_write documents.old.entries write.now) }
     ensures err { OnErr result (documents.new.entries ≡ documents.old.entries) }
@@ -58,7 +58,7 @@ fn append(documents: &mut IndexMap<DocKey, History>, write: &Write) -> Result<()
     Ok(())
 }
 
-// What an applied write did, and its status.
+// The result and the status of an applied write.
 fn applied_answer(kind: ActionKind, live: bool) -> (u16, DoneResult)
     ensures { result ≡ (status_of (applied_result kind live), applied_result kind live) }
 {
@@ -70,7 +70,7 @@ fn applied_answer(kind: ActionKind, live: bool) -> (u16, DoneResult)
     }
 }
 
-// Copies of the keys of the map, in its order. `AllocError`: there was no memory for them.
+// Copies of the keys of the map, in its order. `AllocError`: allocation failed.
 fn copied_keys(
     alloc: Global,
     documents: &IndexMap<DocKey, History>,
@@ -86,7 +86,7 @@ fn copied_keys(
     Ok(keys)
 }
 
-// How two documents stand in their order.
+// The order of documents.
 fn compare(a: &DocKey, b: &DocKey) -> Ordering
     ensures { result ≡ document_order (document_of a.now) (document_of b.now) }
 {
@@ -94,7 +94,7 @@ fn compare(a: &DocKey, b: &DocKey) -> Ordering
 }
 
 impl Index {
-    /// An index that has applied nothing. It takes no memory.
+    /// An empty index. It does not allocate.
     pub fn new(alloc: Global) -> Index
         ensures { result ≡ fresh }
     {
@@ -105,16 +105,16 @@ impl Index {
         }
     }
 
-    /// The version that is stored of a document, also of one that was deleted, or `None` where nothing
-    /// was applied to it.
+    /// The stored version of a document, even if it was deleted, or `None` if no write was applied
+    /// to it.
     pub fn version(&self, key: &DocKey) -> Option<u64>
         ensures { result ≡ stored self.now (document_of key.now) }
     {
         Some(self.applied(key).last()?.version)
     }
 
-    /// The source of a document, or `None` where there is no such document: it was deleted, or nothing
-    /// was applied to it.
+    /// The source of a document, or `None` if it does not exist: it was deleted, or no write was
+    /// applied to it.
     pub fn source(&self, key: &DocKey) -> Option<&str>
         ensures { option_map (λ t. t.now) result ≡ live self.now (document_of key.now) }
     {
@@ -124,7 +124,7 @@ impl Index {
         }
     }
 
-    /// The writes that were applied to a document, in their order.
+    /// The writes that were applied to a document, in order.
     pub fn applied(&self, key: &DocKey) -> &[Write]
         ensures applied { result.now ≡ applied self.now (document_of key.now) }
         ensures kept { IsIndex self.now }
@@ -135,15 +135,15 @@ impl Index {
         }
     }
 
-    /// The greatest version that is stored, or `None` where nothing was applied.
+    /// The highest stored version, or `None` if no write was applied.
     pub fn highest(&self) -> Option<u64>
         ensures { IsHighest self.now result }
     {
         self.highest
     }
 
-    /// The documents that a write was applied to, deleted ones too, in byte order of their index names
-    /// and then of their ids. `AllocError`: there was no memory for them.
+    /// The documents to which a write was applied, including deleted ones, in byte order of their
+    /// index names and then of their ids. `AllocError`: allocation failed.
     pub fn keys(&self, alloc: Global) -> Result<Vec<DocKey>, AllocError>
         ensures { IfOk result (λ keys. AreKeys self.now keys.items) }
     {
@@ -152,7 +152,7 @@ impl Index {
         Ok(keys)
     }
 
-    // Whether no version of the write's document is stored, or one below the write's.
+    // Whether no version of the write's document is stored, or a lower one.
     fn is_newer(&self, write: &Write) -> bool
         ensures { result ≡ is_newer self.now write.now }
     {
@@ -173,8 +173,8 @@ impl Index {
         }
     }
 
-    // Applies a write whose version is new. `AllocError`: there was no memory for its copy, and the
-    // index is as before.
+    // Applies a write whose version is new. `AllocError`: allocation failed, and the index is
+    // unchanged.
     fn apply(&mut self, write: &Write) -> Result<(), AllocError>
         requires { IsTrue (is_newer self.old write.now) }
         ensures ok { OnOk result (self.new ≡ appended self.old write.now) }
@@ -186,7 +186,7 @@ impl Index {
         Ok(())
     }
 
-    // Runs a write, or refuses it, as `run` does.
+    // Runs or refuses a write, as `run` does.
     fn carry_out(&mut self, write: &Write, choice: Choice) -> Result<ItemDone, AllocError>
         ensures item { IfOk result (λ done. done ≡ done_of self.old write.now choice) }
         ensures after { OnOk result (self.new ≡ after_run self.old write.now choice) }
@@ -209,19 +209,20 @@ impl Index {
         Ok(done)
     }
 
-    /// What becomes of a write.
+    /// Runs or refuses a write, and returns its result.
     ///
-    /// `Refuse` gives its status and changes nothing; the status has to be one that [`may_refuse`] takes.
-    /// `Run` gives 409 and `Conflict` where the version is not above the one stored of the document, and
-    /// changes nothing. Else it applies the write, whose version is stored then (OpenSearch, index
-    /// document API, `version_type` `external`): an index action gives 201 and `Created` where there was
-    /// no such document, else 200 and `Updated`; a delete gives 200 and `Deleted` where there was one,
-    /// else 404 and `NotFound`. The sequence number of an applied write is the number of writes that were
-    /// applied before it, over all documents; at 2^64 - 1 it stays.
+    /// `Refuse` returns its status and changes nothing; the status must be one that [`may_refuse`]
+    /// accepts. `Run` returns 409 and `Conflict`, and changes nothing, if the version is not above
+    /// the stored one of the document. Otherwise the write is applied and its version stored
+    /// (OpenSearch, index document API, `version_type` `external`): an index action returns 201 and
+    /// `Created` if there was no such document, otherwise 200 and `Updated`; a delete returns 200
+    /// and `Deleted` if there was one, otherwise 404 and `NotFound`. The sequence number of an
+    /// applied write is the number of writes applied before it, over all documents; it saturates at
+    /// 2^64 - 1.
     ///
     /// [`may_refuse`]: crate::may_refuse
     ///
-    /// `AllocError`: there was no memory for copies of the write, and the index is as before.
+    /// `AllocError`: allocation failed, and the index is unchanged.
     pub fn run(&mut self, write: &Write, choice: Choice) -> Result<ItemDone, AllocError>
         requires { MayChoose choice }
         ensures item { IfOk result (λ done. done ≡ done_of self.old write.now choice) }
@@ -234,7 +235,7 @@ impl Index {
         ensures kept { OnOk result (IsIndex self.new) }
     {
         let done = self.carry_out(write, choice)?;
-        // A field is read, so that the index's invariant is at hand for the contract.
+        // Reading a field makes the index's invariant available to the contract.
         let _ = &self.documents;
         Ok(done)
     }

@@ -1,9 +1,9 @@
-//! The stand-in index: what a bulk endpoint with external versions does, in memory. It runs one write,
-//! or the body of a bulk request under a script of refusals, and keeps of each document every write
-//! that it applied. It stands on `relay_action`, `relay_ndjson` and `relay_results`.
+//! The stand-in index: a bulk endpoint with external versions, in memory. It runs one write, or the
+//! body of a bulk request under a script of refusals, and keeps every write that it applied to each
+//! document. It depends on `relay_action`, `relay_ndjson` and `relay_results`.
 //!
-//! It carries this promise: each run of a write is a run of the outside that all promises on delivery
-//! speak of, and what it says of itself is what it applied.
+//! What is proved: each run of a write is a run of the outside to which all promises of delivery
+//! refer, and its result says what was applied.
 #![tactic(auto)]
 
 pub mod choice;

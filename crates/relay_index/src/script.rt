@@ -9,9 +9,9 @@ use indexmap::IndexMap;
 use std::alloc::{AllocError, Global};
 use std::marker::Model;
 
-/// Which items an index refuses, by their places among all items that are run under the script. It
-/// counts those items. It may limit the bytes of a body, too. Contracts see it as the refusals, that count
-/// and that limit.
+/// Which items an index refuses, by their place among all items that are run under the script,
+/// which counts them. It may also limit the size of a body. Contracts see it as the refusals, the
+/// count and the limit.
 #[derive(Drop)]
 pub struct Script {
     refusals: IndexMap<u64, Refusal>,
@@ -28,7 +28,7 @@ impl Model for Script {
 }
 
 impl Script {
-    /// A script that refuses nothing, under which nothing was run. It takes no memory.
+    /// A script that refuses nothing, before any item was run. It does not allocate.
     pub fn new(alloc: Global) -> Script
         ensures { result ≡ unscripted }
     {
@@ -39,10 +39,10 @@ impl Script {
         }
     }
 
-    /// The item at this place, counted from 1 over all items that are run under the script, is refused
-    /// with this status. A second refusal of a place replaces the first; one of a place that has been
-    /// passed, or of place 0, changes nothing more. The status has to be one that [`may_refuse`] takes.
-    /// `AllocError`: there was no memory for it, and the script is as before.
+    /// Refuses the item at this place, counted from 1 over all items that are run under the script,
+    /// with this status. A second refusal of a place replaces the first; a refusal of a place that
+    /// has been passed, or of place 0, has no effect. The status must be one that [`may_refuse`]
+    /// accepts. `AllocError`: allocation failed, and the script is unchanged.
     ///
     /// [`may_refuse`]: crate::may_refuse
     pub fn refuse(&mut self, place: u64, status: u16) -> Result<(), AllocError>
@@ -57,15 +57,15 @@ impl Script {
         Ok(())
     }
 
-    /// A body of more bytes than this is answered 413 from now on, and nothing of it is read. It takes no
-    /// memory.
+    /// From now on a body of more than `max` bytes gets 413, and no line of it is read. It does not
+    /// allocate.
     pub fn too_large(&mut self, max: u64)
         ensures { self.new ≡ limited max self.old }
     {
         self.limit = Some(max);
     }
 
-    // Whether a body of so many bytes is taken.
+    // Whether a body of this size is accepted.
     pub(crate) fn takes(&self, bytes: usize) -> bool
         ensures { result ≡ takes self.now bytes }
     {
@@ -75,7 +75,7 @@ impl Script {
         }
     }
 
-    // What becomes of the item that is run next.
+    // The choice for the next item.
     pub(crate) fn choice(&self) -> Choice
         ensures choice { result ≡ choice_at self.now }
         ensures may { MayChoose result }
@@ -86,7 +86,6 @@ impl Script {
         }
     }
 
-    // Counts an item that was run.
     pub(crate) fn step(&mut self)
         ensures { self.new ≡ stepped self.old }
     {

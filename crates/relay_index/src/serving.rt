@@ -1,4 +1,4 @@
-//! Bulk requests served.
+//! Serving bulk requests.
 ghost use Rattle.std.specs.Prelude.{◌≡◌, IfOk, IfErr, string_bytes};
 ghost use Rattle.serde_json.specs.View.{view};
 ghost use Rattle.relay_index.specs.Serving.{under, answer_of, RunsAll, RunsFirst, Replies, fault_data, fault_text, too_large_data, too_large_text, IsRejection, IsTooLarge, Answers, StopsAfter};
@@ -12,15 +12,15 @@ use serde_json::{Value, json};
 use std::alloc::{AllocError, Global};
 use thiserror::Error;
 
-/// There was no memory to serve a request to its end.
+/// An allocation failed while a request was served.
 #[derive(Clone, Copy, Debug, PartialEq, Eq, Error)]
 #[error("no memory after {ran} items")]
 pub struct ServeFault {
-    /// How many items of the request were run: exactly the first so many.
+    /// How many items of the request were run: exactly the first `ran`.
     pub ran: u64,
 }
 
-// What says that a line of a body is at fault.
+// The JSON value that names the bad line of a body.
 fn fault_value(alloc: Global, line: u64, kind: &str) -> Result<Value, AllocError>
     ensures { IfOk result (λ v. view v ≡ fault_data line kind.now) }
 {
@@ -28,7 +28,6 @@ fn fault_value(alloc: Global, line: u64, kind: &str) -> Result<Value, AllocError
     json!(in alloc; {"error": {"line": line, "type": kind}, "status": status})
 }
 
-// Its text.
 #[tactic(auto, unfolding(crate::specs::Serving::fault_text))]
 fn write_fault(alloc: Global, line: u64, kind: &str) -> Result<String, AllocError>
     ensures { IfOk result (λ s. string_bytes s ≡ fault_text line kind.now) }
@@ -38,7 +37,7 @@ fn write_fault(alloc: Global, line: u64, kind: &str) -> Result<String, AllocErro
     Ok(text)
 }
 
-// The answer to a body with a fault: 400 and the text that names it, unless memory ran out.
+// The answer to a body with a fault: 400 and the text that names it, unless an allocation failed.
 fn reject(alloc: Global, fault: BulkFault) -> Result<(u16, String), ServeFault>
     ensures ok { IfOk result (λ answer. IsRejection fault (answer_of answer.0 (string_bytes answer.1))) }
     ensures err { IfErr result (λ e. e.ran ≡ 0) }
@@ -52,7 +51,7 @@ fn reject(alloc: Global, fault: BulkFault) -> Result<(u16, String), ServeFault>
     }
 }
 
-// What says that a body is too large.
+// The JSON value that says that a body is too large.
 fn too_large_value(alloc: Global) -> Result<Value, AllocError>
     ensures { IfOk result (λ v. view v ≡ too_large_data) }
 {
@@ -60,7 +59,6 @@ fn too_large_value(alloc: Global) -> Result<Value, AllocError>
     json!(in alloc; {"error": {"type": "TooLarge"}, "status": status})
 }
 
-// Its text.
 #[tactic(auto, unfolding(crate::specs::Serving::too_large_text))]
 fn write_too_large(alloc: Global) -> Result<String, AllocError>
     ensures { IfOk result (λ s. string_bytes s ≡ too_large_text) }
@@ -70,7 +68,7 @@ fn write_too_large(alloc: Global) -> Result<String, AllocError>
     Ok(text)
 }
 
-// The answer to a body that is too large, unless memory ran out.
+// The answer to a body that is too large, unless an allocation fails.
 fn refuse_length(alloc: Global) -> Result<(u16, String), ServeFault>
     ensures ok { IfOk result (λ answer. IsTooLarge (answer_of answer.0 (string_bytes answer.1))) }
     ensures err { IfErr result (λ e. e.ran ≡ 0) }
@@ -82,8 +80,8 @@ fn refuse_length(alloc: Global) -> Result<(u16, String), ServeFault>
 }
 
 impl Index {
-    // Runs the writes in their order under the script. The fault says that memory ran out, after exactly
-    // the first `ran` writes.
+    // Runs the writes in order under the script. The fault says that an allocation failed after
+    // exactly the first `ran` writes.
     fn run_all(
         &mut self,
         alloc: Global,
@@ -115,8 +113,8 @@ impl Index {
         Ok(items)
     }
 
-    // Runs the writes in their order under the script, and answers with the reply. The fault says that
-    // memory ran out, after exactly the first `ran` writes.
+    // Runs the writes in order under the script, and returns the text of the reply. The fault says
+    // that an allocation failed after exactly the first `ran` writes.
     fn serve_writes(
         &mut self,
         alloc: Global,
@@ -137,18 +135,18 @@ impl Index {
         }
     }
 
-    /// Serves the body of a bulk request: runs its writes once each, in their order, each with what the
-    /// script has for its place, and gives the status of the answer and its text.
+    /// Serves the body of a bulk request: runs its writes once each, in order, each as the script
+    /// says for its place, and returns the status and the text of the answer.
     ///
-    /// To a body of more bytes than the script takes the answer is 413 and
-    /// `{"error":{"type":"TooLarge"},"status":413}`; then no line is read and nothing is run. Else the
-    /// answer is 200 and the reply, with `took` 0. To a body that is no bulk request it is 400 and
-    /// `{"error":{"line":N,"type":"KIND"},"status":400}`, with the first line that is at fault and the
-    /// name of its kind; then nothing is run, and index and script are as before.
+    /// If the body has more bytes than the script accepts, the answer is 413 and
+    /// `{"error":{"type":"TooLarge"},"status":413}`, no line is read and nothing is run. Otherwise
+    /// the answer is 200 and the reply, with `took` 0. If the body is not a bulk request, it is 400
+    /// and `{"error":{"line":N,"type":"KIND"},"status":400}`, with the first bad line and the name
+    /// of the kind of its fault; then nothing is run, and the index and the script are unchanged.
     ///
-    /// `ServeFault`: there was no memory, after exactly the first `ran` items were run. That is 0 where
-    /// the body could not be read or the text of its fault not be made, and the number of all items
-    /// where only the reply could not be made.
+    /// `ServeFault`: an allocation failed after exactly the first `ran` items were run. That is 0
+    /// if it failed for the body or for the text of its fault, and the number of all items if it
+    /// failed only for the reply.
     pub fn serve_body(
         &mut self,
         alloc: Global,

@@ -7,8 +7,8 @@ use relay_results::{DoneResult, ItemDone, Outcome, read_reply, write_reply};
 use std::alloc::{AllocError, Global};
 use std::test::Fail;
 
-/// The id, the version and the source of a write of a document of index `b`; `None` for its source is a
-/// delete.
+/// The id, the version and the source of a write to a document of index `b`; a source of `None` is
+/// a delete.
 type Row<'r> = (&'r str, u64, Option<&'r str>);
 
 fn write_of(alloc: Global, row: Row) -> Result<Write, ActionFault> {
@@ -24,10 +24,10 @@ fn write_of(alloc: Global, row: Row) -> Result<Write, ActionFault> {
     })
 }
 
-/// The status, the result, the stored version and the sequence number of a write that was run.
+/// The status, the result, the stored version and the sequence number after running a write.
 type Said = (u16, DoneResult, u64, u64);
 
-// What an index says of a write, where it says so of its document.
+// The result of running a write, if it names its document.
 fn said_of(index: &mut Index, write: &Write, choice: Choice) -> Option<Said>
     requires { MayChoose choice }
 {
@@ -39,7 +39,7 @@ fn said_of(index: &mut Index, write: &Write, choice: Choice) -> Option<Said>
     }
 }
 
-// What an index says of the write of a row.
+// The result of running the write of a row.
 fn run(alloc: Global, index: &mut Index, row: Row, choice: Choice) -> Option<Said>
     requires { MayChoose choice }
 {
@@ -61,7 +61,7 @@ const RUNS: &[(Row<'static>, Said)] = &[
     (("2", 10, None), (404, DoneResult::NotFound, 10, 5)),
 ];
 
-// The table of what becomes of a write, one line after another.
+// The table of results of a write, line by line.
 #[test]
 fn writes_that_run(rt: HostRuntime) {
     let mut index = Index::new(rt.alloc());
@@ -70,7 +70,7 @@ fn writes_that_run(rt: HostRuntime) {
     }
 }
 
-// The statuses at the ends of what may be a refusal, and the two within that are none.
+// The statuses at the ends of the range of refusals, and the two inside it that are not.
 #[test]
 fn statuses_of_refusals(rt: HostRuntime) {
     let rows = [
@@ -100,7 +100,7 @@ fn writes_that_are_refused(rt: HostRuntime) {
     );
 }
 
-// Whether an index runs the writes of these rows.
+// Whether an index runs the writes of these rows with these results.
 fn runs_all(alloc: Global, index: &mut Index, rows: &[Row]) -> bool {
     let mut good = true;
     for row in rows {
@@ -109,7 +109,7 @@ fn runs_all(alloc: Global, index: &mut Index, rows: &[Row]) -> bool {
     good
 }
 
-// The version and the source of a document, and how many writes it applied.
+// The version and the source of a document, and how many writes were applied to it.
 fn look_up<'i>(
     alloc: Global,
     index: &'i Index,
@@ -138,7 +138,7 @@ const LOOK_UPS: &[(&str, (Option<u64>, Option<&str>, usize))] = &[
     ("4", (None, None, 0)),
 ];
 
-// A document that is live, one that was deleted, one that was replaced, and one that never was.
+// A document that exists, one that was deleted, one that was replaced, and one that never existed.
 #[test]
 fn look_ups(rt: HostRuntime) {
     let mut index = Index::new(rt.alloc());
@@ -150,7 +150,7 @@ fn look_ups(rt: HostRuntime) {
     }
 }
 
-// Whether an index runs the delete of a document twice with one version.
+// Whether an index runs the delete of a document twice with the same version.
 fn deletes_twice(alloc: Global, index: &mut Index, name: &str, id: &str) -> bool {
     let Ok(key) = DocKey::new(alloc, name, id) else {
         return false;
@@ -196,7 +196,7 @@ const IN_ORDER: &[(&str, &str)] = &[
     ("\u{e9}", "1"),
 ];
 
-// Documents stand in byte order, a name before those that it begins, and each once.
+// Documents are in byte order, a name before those that begin with it, each once.
 #[test]
 fn documents_in_order(rt: HostRuntime) {
     let mut index = Index::new(rt.alloc());
@@ -227,7 +227,7 @@ fn items_of(alloc: Global, index: &mut Index) -> Result<Vec<ItemDone>, Fail> {
     Ok(items)
 }
 
-// What is read from the reply to items.
+// What is read from the reply to these items.
 fn read_of_reply(alloc: Global, items: &[ItemDone]) -> Result<Vec<Outcome>, Fail> {
     let text = write_reply(alloc, 0, items)?;
     Ok(read_reply(alloc, text.as_str().as_bytes())?)
@@ -273,8 +273,7 @@ fn serves(
     }
 }
 
-// Whether an index that has applied nothing answers a body with this text, under a script that refuses
-// nothing.
+// Whether a fresh index answers a body with this text, under a script that refuses nothing.
 fn serves_first(alloc: Global, body: &str, text: &str) -> bool {
     let mut index = Index::new(alloc);
     let mut script = Script::new(alloc);
@@ -298,7 +297,7 @@ const BODIES: &[(&str, &str)] = &[
     ),
 ];
 
-// No bytes; one delete; and behind it index actions of the same document with a lower and a higher
+// No bytes; one delete; and then index actions on the same document with a lower and a higher
 // version.
 #[test]
 fn bodies(rt: HostRuntime) {
@@ -307,7 +306,7 @@ fn bodies(rt: HostRuntime) {
     }
 }
 
-// Whether an index that has applied nothing answers these bodies so, one after another, under a script; and
+// Whether a fresh index gives these answers to these bodies, one after another, under a script; and
 // the highest version afterwards.
 fn serves_all(
     alloc: Global,
@@ -338,7 +337,7 @@ const SCRIPTED: &[(&str, u16, &str)] = &[
     ),
 ];
 
-// A script counts its places over all bodies, and the last status of a place holds.
+// A script counts positions over all bodies, and the last status of a position counts.
 #[test]
 fn scripted(rt: HostRuntime) {
     let mut script = Script::new(rt.alloc());
@@ -365,7 +364,7 @@ const REJECTED: &[(&str, u16, &str)] = &[
     ),
 ];
 
-// A body with a fault runs nothing, not even the writes before the fault, and counts no place.
+// A body with a fault runs nothing, not even the writes before the fault, and counts no position.
 #[test]
 fn rejected_bodies(rt: HostRuntime) {
     let mut script = Script::new(rt.alloc());

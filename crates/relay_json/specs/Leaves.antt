@@ -1,4 +1,4 @@
--- What a leaf shows by its variant alone, also of a number that is out of range.
+-- What the variant of a leaf shows by itself, even of a number that is out of range.
 use Rattle.std.specs.Prelude.{List, ℕ, Bool, true, false, Option, Some, None}
 use Rattle.serde_json.specs.Data.{Num}
 use Rattle.serde_json.specs.Read.{number_of}
@@ -21,7 +21,7 @@ text_shown (leaf.String s) = Some s.now
 text_shown leaf.Array = None
 text_shown leaf.Object = None
 
--- no number where it is out of range
+-- nothing of a number that is out of range
 abbrev pub number_shown : Leaf → Option Num
 number_shown leaf.Null = None
 number_shown (leaf.Bool b) = None

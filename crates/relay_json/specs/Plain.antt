@@ -2,7 +2,7 @@
 use Rattle.std.specs.Prelude.{◌≡◌, ℕ, Bool, true, not, ◌&&◌, ◌==◌, nat_le, nat_lt, List}
 use Rattle.std.specs.List.{list_all}
 
--- a character of ASCII from the space on, but no quote, no backslash and no DEL
+-- an ASCII character from the space on, except the quote, the backslash and DEL
 abbrev pub is_plain_byte : ℕ → Bool
 is_plain_byte b = nat_le 32 b && nat_lt b 127 && not (b == 34) && not (b == 92)
 

@@ -9,11 +9,11 @@ use Rattle.relay_json.specs.declared.leaf.Leaf.{Leaf}
 use Rattle.relay_json.specs.declared.leaf.Leaf.TheVariants as leaf
 use Rattle.relay_json.specs.declared.walk.Walk.{Walk}
 
--- the tokens begin with a value of this data, nested at most so deep, and `rest` follows it
+-- the tokens begin with a value of this data, nested at most `depth` deep, and `rest` follows it
 abbrev pub Reads : ℕ → List Token → Data → List Token → Type 0
 Reads depth tokens d rest = converted of_json (value depth tokens) ≡ Some (d, rest)
 
--- they begin with none
+-- they do not begin with a value
 abbrev pub Refuses : ℕ → List Token → Type 0
 Refuses depth tokens = converted of_json (value depth tokens) ≡ None
 
@@ -21,7 +21,7 @@ Refuses depth tokens = converted of_json (value depth tokens) ≡ None
 abbrev pub IsRead : Walk → Data → Walk → Type 0
 IsRead old d new = (new.depth ≡ old.depth) × Reads old.depth old.reader d new.reader
 
--- where the walk stands no value begins
+-- no value begins at the position of the walk
 abbrev pub IsRefused : Walk → Type 0
 IsRefused walk = Refuses walk.depth walk.reader
 
@@ -38,7 +38,7 @@ IsLeaf (leaf.String s) d = d ≡ string s.now
 IsLeaf leaf.Array d = (ds : Items) × (d ≡ array ds)
 IsLeaf leaf.Object d = (ms : Members) × (d ≡ object ms)
 
--- where it is a number, these tokens begin with it as it stands there, and `rest` follows it
+-- if it is a number, these tokens begin with it as it is written, and `rest` follows it
 abbrev pub NumberStands : List Token → Leaf → List Token → Type 0
 NumberStands tokens leaf.Null rest = Unit {0}
 NumberStands tokens (leaf.Bool b) rest = Unit {0}
@@ -47,19 +47,19 @@ NumberStands tokens (leaf.String s) rest = Unit {0}
 NumberStands tokens leaf.Array rest = Unit {0}
 NumberStands tokens leaf.Object rest = Unit {0}
 
--- where it is a number, it is the text that the walk passed
+-- if it is a number, it is the text that the walk passed
 abbrev pub IsNumberPassed : Walk → Leaf → Walk → Type 0
 IsNumberPassed old leaf new = NumberStands old.reader leaf new.reader
 
--- what was made of the members, where the data is an object
+-- what was gathered from the members, if the data is an object
 abbrev pub Gathered : {G : Type 0} → (G → Members → Type 0) → Data → Option G → Type 0
 Gathered Holds d found = MatchOption found (as_object d ≡ None) (λ g. (ms : Members) × (as_object d ≡ Some ms) × Holds g ms)
 
--- the same, or what the data is at its top
+-- the same, or the top level of the data
 abbrev pub GatheredOrLeaf : {G : Type 0} → (G → Members → Type 0) → Data → Result G Leaf → Type 0
 GatheredOrLeaf Holds d (Ok g) = (ms : Members) × (as_object d ≡ Some ms) × Holds g ms
 GatheredOrLeaf Holds d (Err leaf) = (as_object d ≡ None) × IsLeaf leaf d
 
--- what was made of the items, where the data is an array
+-- what was collected from the items, if the data is an array
 abbrev pub Collected : {C : Type 0} → (C → Items → Type 0) → Data → Option C → Type 0
 Collected Holds d found = MatchOption found (as_array d ≡ None) (λ c. (ds : Items) × (as_array d ≡ Some ds) × Holds c ds)

@@ -1,14 +1,14 @@
-//! A decimal number at the front of some bytes.
+//! A decimal number at the front of a byte slice.
 ghost use Rattle.std.specs.Prelude.{◌≡◌, ℕ, ◌^◌, ◌<◌, List, ◌++◌, IfSome, IfNone, decimal};
 ghost use Rattle.relay_json.specs.Decimals.{IsWhole};
 
 // The least number of 18 digits.
 const LEAST_OF_18_DIGITS: u64 = 100_000_000_000_000_000;
 
-/// The number that stands in front of some bytes as decimal digits, with no sign and no zero in front of
-/// other digits, and what follows it. All digits that stand there are taken, but none after a first `0`.
+/// The number at the front, in decimal digits without a sign and without leading zeros, and what
+/// follows it. All digits are taken, except that none is taken after a first `0`.
 ///
-/// `None`: no digit stands in front, or there are more than 18.
+/// `None`: there is no digit at the front, or there are more than 18.
 pub fn take_decimal(bytes: &[u8]) -> Option<(u64, &[u8])>
     ensures parts { IfSome result (λ d. bytes.now ≡ decimal d.0 ++ d.1.now) }
     ensures whole { IfSome result (λ d. IsWhole d.0 d.1.now) }
@@ -22,8 +22,8 @@ pub fn take_decimal(bytes: &[u8]) -> Option<(u64, &[u8])>
     }
 }
 
-// The number that begins with the digits of `front` and goes on with those in front of some bytes, and
-// what follows it.
+// The number whose first digits make `front` and whose other digits are at the front of the bytes,
+// and what follows it.
 #[inline(always)]
 fn take_digits(front: u64, bytes: &[u8]) -> Option<(u64, &[u8])>
     requires { (0 < front) × (front < 10 ^ 18) }

@@ -1,8 +1,8 @@
-//! JSON texts read from front to end (RFC 8259), with nothing kept but what counts. It stands on the
-//! reader of `json`, and on the definitions of `serde_json`: a text says the same value here as there.
+//! Reading JSON texts (RFC 8259) from front to back, keeping only what is needed. It uses the
+//! reader of `json` and the definitions of `serde_json`: a text has the same value here as there.
 //!
-//! Numbers stay text until they are asked for; a text with a number that is too large for a float is
-//! no JSON, also where nobody asks for it.
+//! Numbers stay text until they are asked for. A text with a number that is too large for a float
+//! is refused even if nobody asks for that number.
 #![tactic(auto)]
 
 mod decimal;

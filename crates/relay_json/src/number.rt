@@ -1,4 +1,4 @@
-//! The number of a text.
+//! Numbers, from their texts.
 ghost use Rattle.std.specs.Prelude.{◌≡◌, ◌<◌, ◌==◌, ℕ, true, false, IsTrue, length, slice_index, Some, None, is_some, option_and_then, option_map};
 ghost use Rattle.std.specs.Str.Parse.{AllDigits};
 ghost use Rattle.fast_float.specs.Text.{Parts};
@@ -8,7 +8,6 @@ ghost use Rattle.serde_json.specs.Read.{number_of, number_from, float_of};
 
 use fast_float::Numeral;
 
-// Whether a text begins with a minus.
 #[inline(always)]
 fn has_minus(bytes: &[u8]) -> bool
     ensures value { result ≡ (slice_index bytes.now 0 == 45) }
@@ -25,7 +24,6 @@ fn is_float(negative: bool, numeral: &Numeral<'_>) -> bool
     numeral.to_float::<f64>(negative).is_finite()
 }
 
-// Whether a numeral is a number that fits.
 #[inline(always)]
 fn fits_unsigned(numeral: &Numeral<'_>) -> bool
     ensures { result ≡ is_some (number_from false numeral.now) }
@@ -33,7 +31,6 @@ fn fits_unsigned(numeral: &Numeral<'_>) -> bool
     numeral.to_u64().is_some() || is_float(false, numeral)
 }
 
-// The same after a minus.
 #[inline(never)]
 fn fits_negative(numeral: &Numeral<'_>) -> bool
     ensures { result ≡ is_some (number_from true numeral.now) }
@@ -46,7 +43,6 @@ fn fits_negative(numeral: &Numeral<'_>) -> bool
     is_float(true, numeral)
 }
 
-// Whether all bytes are digits.
 #[inline(always)]
 fn are_digits(bytes: &[u8]) -> bool
     ensures { IsTrue result → AllDigits 10 bytes.now }
@@ -59,7 +55,7 @@ fn are_digits(bytes: &[u8]) -> bool
     true
 }
 
-// Whether a number's text is so short an integer that it fits 64 bits.
+// Whether the text is an integer so short that it fits 64 bits.
 #[inline(always)]
 fn is_short_integer(bytes: &[u8]) -> bool
     ensures { IsTrue result → is_some (number_of bytes.now) ≡ true }
@@ -71,7 +67,6 @@ fn is_short_integer(bytes: &[u8]) -> bool
     are_digits(bytes)
 }
 
-// Whether a number's text is in range.
 #[inline(never)]
 fn fits(bytes: &[u8]) -> bool
     ensures { result ≡ is_some (number_of bytes.now) }
@@ -83,7 +78,7 @@ fn fits(bytes: &[u8]) -> bool
     }
 }
 
-// Whether a number's text is in range: an integer of 64 bits, or one whose nearest float is finite.
+// Whether the number is in range: a 64-bit integer, or a number whose nearest float is finite.
 #[inline(always)]
 pub(crate) fn is_in_range(text: &str) -> bool
     ensures { result ≡ is_some (number_of text.now) }
@@ -92,14 +87,14 @@ pub(crate) fn is_in_range(text: &str) -> bool
     is_short_integer(bytes) || fits(bytes)
 }
 
-// The integer of a numeral, where it is one of 64 bits.
+// The value of the numeral, if it is a 64-bit integer.
 fn unsigned_of(numeral: &Numeral<'_>) -> Option<u64>
     ensures { result ≡ option_and_then as_u64 (number_from false numeral.now) }
 {
     numeral.to_u64()
 }
 
-// The integer of a number's text, where it is one of 64 bits without a sign.
+// The value, if it is an unsigned 64-bit integer.
 pub(crate) fn to_u64(text: &str) -> Option<u64>
     ensures { result ≡ option_and_then as_u64 (number_of text.now) }
 {
@@ -111,7 +106,7 @@ pub(crate) fn to_u64(text: &str) -> Option<u64>
     }
 }
 
-// The integer of a numeral without a sign, where it is one of 64 bits with a sign.
+// The value of a numeral without a minus, if it is a signed 64-bit integer.
 fn positive_of(numeral: &Numeral<'_>) -> Option<i64>
     ensures { result ≡ option_and_then as_i64 (number_from false numeral.now) }
 {
@@ -125,7 +120,7 @@ fn positive_of(numeral: &Numeral<'_>) -> Option<i64>
     }
 }
 
-// The integer of a numeral after a minus, where it is one of 64 bits and not 0.
+// The value of a numeral after a minus, if it is a signed 64-bit integer and not 0.
 fn negative_of(numeral: &Numeral<'_>) -> Option<i64>
     ensures { result ≡ option_and_then as_i64 (number_from true numeral.now) }
 {
@@ -137,7 +132,7 @@ fn negative_of(numeral: &Numeral<'_>) -> Option<i64>
     None
 }
 
-// The integer of a number's text, where it is one of 64 bits with a sign, and not `-0`.
+// The value, if it is a signed 64-bit integer and not `-0`.
 pub(crate) fn to_i64(text: &str) -> Option<i64>
     ensures { result ≡ option_and_then as_i64 (number_of text.now) }
 {

@@ -1,4 +1,4 @@
-//! Texts that stand for themselves, and the bytes between them.
+//! Texts that need no unescaping, and the bytes between them.
 ghost use Rattle.std.specs.Prelude.{◌≡◌, ◌≢◌, ℕ, List, ◌++◌, ◌∷◌, IfSome, IfNone, MatchOption};
 ghost use Rattle.std.specs.List.{list_all};
 ghost use Rattle.relay_json.specs.Plain.{is_plain_byte, IsPlain};
@@ -6,7 +6,7 @@ ghost use Rattle.relay_json.specs.Plain.{is_plain_byte, IsPlain};
 use memchr::memchr;
 use std::str;
 
-/// What follows these bytes, where they stand in front.
+/// What follows `front`, if the bytes start with it.
 #[inline(always)]
 pub fn after<'t>(bytes: &'t [u8], front: &[u8]) -> Option<&'t [u8]>
     ensures { MatchOption result ((rest : List ℕ) → bytes.now ≢ front.now ++ rest)
@@ -15,8 +15,9 @@ pub fn after<'t>(bytes: &'t [u8], front: &[u8]) -> Option<&'t [u8]>
     bytes.strip_prefix(front)
 }
 
-/// The text of bytes that all are characters of ASCII from the space on, but no quote, no backslash and
-/// no DEL: in a JSON string they stand for themselves (RFC 8259, section 7). `None`: some are not.
+/// The bytes as a text, if all are ASCII characters from the space on except the quote, the
+/// backslash and DEL: in a JSON string these stand for themselves (RFC 8259, section 7). `None`
+/// otherwise.
 pub fn plain_text(bytes: &[u8]) -> Option<&str>
     ensures same { IfSome result (λ text. text.now ≡ bytes.now) }
     ensures plain { IfSome result (λ text. IsPlain text.now) }
@@ -28,8 +29,8 @@ pub fn plain_text(bytes: &[u8]) -> Option<&str>
     Some(unsafe { str::from_utf8_unchecked(bytes) })
 }
 
-/// The plain text up to the next quote, and what follows the quote. `None`: there is no quote, or the
-/// text before it is not plain.
+/// The plain text up to the next quote, and what follows the quote. `None`: there is no quote, or
+/// the text before it is not plain.
 pub fn take_plain(bytes: &[u8]) -> Option<(&str, &[u8])>
     ensures parts { IfSome result (λ t. bytes.now ≡ t.0.now ++ 34 ∷ t.1.now) }
     ensures plain { IfSome result (λ t. IsPlain t.0.now) }
@@ -40,7 +41,7 @@ pub fn take_plain(bytes: &[u8]) -> Option<(&str, &[u8])>
     Some((plain_text(text)?, rest.strip_prefix(b"\"")?))
 }
 
-// Whether each byte is a character of ASCII that stands for itself.
+// Whether each byte is an ASCII character that stands for itself.
 fn is_plain(bytes: &[u8]) -> bool
     ensures { result ≡ list_all is_plain_byte bytes.now }
 {

@@ -1,4 +1,4 @@
-//! A text read.
+//! Reading a whole text.
 ghost use Rattle.std.specs.Prelude.{◌≡◌, ◌<◌, ◌⊎◌, None, Some, Err, IfOk, length, IsUtf8};
 ghost use Rattle.json.specs.Scratch.{room};
 ghost use Rattle.serde_json.specs.Data.{Data, no_members};
@@ -11,12 +11,13 @@ use crate::sole::Fields;
 use crate::walk::{Gather, Walk};
 use json::Scratch;
 
-/// Reads the value that a text is: bytes of JSON (RFC 8259) in UTF-8, nested at most 127 deep, each
-/// number an integer of 64 bits or one that a float holds. Where it is an object, `start` is told of
-/// its members; else the answer is `None`. Of members of one name the last counts.
+/// Reads a text: JSON (RFC 8259) in UTF-8, nested at most 127 deep, in which each number is a
+/// 64-bit integer or fits a float. If the value is an object, its members are passed to `start`,
+/// which is returned; otherwise the result is `None`. Of members with the same name the last
+/// counts.
 ///
-/// `scratch` is room that serves one text after another; it grows to the length of the longest. A
-/// refused text leaves nothing behind but that room.
+/// `scratch` is a buffer to be used for one text after another; it grows to the length of the
+/// longest. A refused text leaves nothing in it but that room.
 pub fn read_object<'t, G: Gather<'t>>(
     text: &'t [u8],
     scratch: &'t mut Scratch,
@@ -33,9 +34,9 @@ pub fn read_object<'t, G: Gather<'t>>(
     Ok(found)
 }
 
-/// Reads a text as [`read_object`] does, and answers the name of its one member, and what counts of that
-/// member's value; `None` where the value is no object, has no member or members of several names, or
-/// where the member's value is no object.
+/// Reads a text as [`read_object`] does, and returns the name of its only member, and what was
+/// gathered from that member's value. `None`: the value is not an object, it has no member or
+/// members with different names, or the value of the member is not an object.
 pub fn read_sole_object<'t, F: Fields<'t>>(
     text: &'t [u8],
     scratch: &'t mut Scratch,

@@ -1,28 +1,28 @@
-//! Objects of one member.
+//! Objects with a single member.
 ghost use Rattle.std.specs.Prelude.{◌≡◌};
 ghost use Rattle.serde_json.specs.Data.{no_members};
 ghost use Rattle.relay_json.specs.Sole.{and_member, found_object};
 
 use crate::walk::Gather;
 
-/// Members that are looked for.
+/// The members to look for.
 pub trait Fields<'t>: Gather<'t> {
-    /// Of no members.
+    /// Before any member.
     fn none() -> Self
         ensures { Self.Holds result no_members };
 }
 
-// What was found of an object.
+// What was found in an object so far.
 #[derive(Drop)]
 pub(crate) enum Found<'t, F> {
     Nothing,
-    // A member, and what counts of its value where that is an object.
+    // One member, and what was gathered from its value if that is an object.
     One(&'t str, Option<F>),
     Several,
 }
 
 impl<'t, F: Drop> Found<'t, F> {
-    // What is found with one more member.
+    // After one more member.
     pub(crate) fn and_member(self, name: &'t str, value: Option<F>) -> Found<'t, F>
         ensures { result ≡ and_member self.entry name.entry value }
     {
@@ -33,7 +33,7 @@ impl<'t, F: Drop> Found<'t, F> {
         }
     }
 
-    // The name of the one member, and what counts of its value, where that is an object.
+    // The name of the only member, and what was gathered from its value, if that is an object.
     pub(crate) fn object(self) -> Option<(&'t str, F)>
         ensures { result ≡ found_object self.entry }
     {

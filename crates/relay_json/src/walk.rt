@@ -1,4 +1,4 @@
-//! A text read from its front to its end.
+//! Reading a text from front to back.
 ghost use Rattle.std.specs.Prelude.{◌≡◌, ◌≢◌, ◌+◌, ◌<◌, [], ◌∷◌, List, length, None, Some, Err, IfOk, IfErr, IfSome, OnOk, OnErr, MatchOption, IsUtf8};
 ghost use Rattle.std.specs.Bool.{MatchBool};
 ghost use Rattle.json.specs.Token.{Token as SpecToken, begin_array, begin_object};
@@ -19,10 +19,9 @@ use crate::number::is_in_range;
 use crate::sole::{Fields, Found};
 use json::{Invalid, Reader, Scratch, Token};
 
-// How deep arrays and objects may nest.
+// The maximum depth of nested arrays and objects.
 const MAX_DEPTH: usize = 127;
 
-// A number that is in range.
 #[inline(always)]
 fn number<'t>(text: &'t str) -> Result<Leaf<'t>, Invalid>
     ensures ok { IfOk result (λ leaf. (n : Num) × (number_of text.now ≡ Some n) × IsLeaf leaf (number n)) }
@@ -36,7 +35,7 @@ fn number<'t>(text: &'t str) -> Result<Leaf<'t>, Invalid>
     }
 }
 
-// What the value is at its top whose first token was taken. All of it is passed.
+// The top level of the value whose first token was taken. The whole value is passed.
 #[cycle(pass)]
 #[inline(always)]
 fn pass_from<'t>(
@@ -74,7 +73,7 @@ fn pass_from<'t>(
     }
 }
 
-// What the next value is at its top. All of it is passed.
+// The top level of the next value. The whole value is passed.
 #[cycle(pass)]
 #[inline(always)]
 fn pass<'t>(reader: &mut Reader<'t>, depth: usize) -> Result<Leaf<'t>, Invalid>
@@ -86,7 +85,7 @@ fn pass<'t>(reader: &mut Reader<'t>, depth: usize) -> Result<Leaf<'t>, Invalid>
     pass_from(token, reader, depth)
 }
 
-// Passes the items of an array, and its closing bracket.
+// Passes the items of an array and its closing bracket.
 #[cycle(pass)]
 #[inline(never)]
 fn pass_items(reader: &mut Reader<'_>, depth: usize) -> Result<(), Invalid>
@@ -101,7 +100,7 @@ fn pass_items(reader: &mut Reader<'_>, depth: usize) -> Result<(), Invalid>
     Ok(())
 }
 
-// Passes the members of an object, and its closing bracket.
+// Passes the members of an object and its closing bracket.
 #[cycle(pass)]
 #[inline(never)]
 fn pass_members(reader: &mut Reader<'_>, depth: usize) -> Result<(), Invalid>
@@ -117,21 +116,21 @@ fn pass_members(reader: &mut Reader<'_>, depth: usize) -> Result<(), Invalid>
     Ok(())
 }
 
-/// A place in a text, where a value begins. Values are read one after another, and nothing is kept of
+/// A position in a text, before a value. Values are read one after another, and nothing is kept of
 /// them.
 #[derive(Drop)]
 pub struct Walk<'t> {
     reader: Reader<'t>,
-    // How deep the next value may nest.
+    // How deep the next value may be nested.
     depth: usize,
 }
 
-/// What counts of the members of an object. It is told of them one after another.
+/// What is gathered from the members of an object, which are passed to it one after another.
 pub trait Gather<'t>: Drop {
-    /// What it holds of members: of a name that was given twice those of the last.
+    /// What it has gathered from these members: of members with the same name, from the last.
     ghost Holds: { Self → Members → Type 0 };
 
-    /// Whether it may want memory.
+    /// Whether it may fail to allocate.
     ghost MayFail: { Type 0 };
 
     /// Reads the value of the next member.
@@ -142,12 +141,12 @@ pub trait Gather<'t>: Drop {
         ensures memory { result ≡ Err ReadFault.Memory → MayFail };
 }
 
-/// What counts of the items of an array. It is told of them one after another.
+/// What is collected from the items of an array, which are passed to it one after another.
 pub trait Collect<'t>: Drop {
-    /// What it holds of items.
+    /// What it has collected from these items.
     ghost Holds: { Self → Items → Type 0 };
 
-    /// Whether it may want memory.
+    /// Whether it may fail to allocate.
     ghost MayFail: { Type 0 };
 
     /// Reads the next item.
@@ -159,7 +158,6 @@ pub trait Collect<'t>: Drop {
 }
 
 impl<'t> Walk<'t> {
-    // The front of a text.
     pub(crate) fn over(text: &'t [u8], scratch: &'t mut Scratch) -> Result<Walk<'t>, ReadFault>
         ensures ok { IfOk result (λ walk. IsUtf8 text.now × (walk.reader ≡ tokens text.now)
             × (walk.depth ≡ max_depth)) }
@@ -178,7 +176,7 @@ impl<'t> Walk<'t> {
         })
     }
 
-    // Nothing may be left.
+    // Refuses anything but blanks up to the end of the text.
     pub(crate) fn end(&mut self) -> Result<(), ReadFault>
         ensures ok { OnOk result (self.old.reader ≡ []) }
         ensures err { IfErr result (λ e. (e ≡ ReadFault.NotJson)
@@ -190,7 +188,7 @@ impl<'t> Walk<'t> {
         Ok(())
     }
 
-    /// What the next value is at its top. It passes the value.
+    /// The top level of the next value, which is passed.
     #[inline(always)]
     pub fn leaf(&mut self) -> Result<Leaf<'t>, ReadFault>
         ensures ok { IfOk result (λ leaf. (d : Data) × IsRead self.old d self.new × IsLeaf leaf d) }
@@ -200,7 +198,7 @@ impl<'t> Walk<'t> {
         Ok(pass(&mut self.reader, self.depth)?)
     }
 
-    // Tells of the members of the object whose opening bracket was taken.
+    // Passes on the members of the object whose opening bracket was taken.
     fn members<G: Gather<'t>>(&mut self, start: G) -> Result<G, ReadFault>
         requires { G.Holds start no_members }
         ensures ok { IfOk result (λ g. (ms : Members)
@@ -217,7 +215,7 @@ impl<'t> Walk<'t> {
         Ok(gathered)
     }
 
-    // Looks for the one member of the object whose opening bracket was taken.
+    // Looks for the only member of the object whose opening bracket was taken.
     fn sole_member<F: Fields<'t>>(&mut self) -> Result<Found<'t, F>, ReadFault>
         ensures ok { IfOk result (λ found. (ms : Members)
             × (converted (λ js. of_members js no_members) (members (value self.old.depth) (length self.old.reader) self.old.reader)
@@ -234,7 +232,7 @@ impl<'t> Walk<'t> {
         Ok(found)
     }
 
-    // Tells of the items of the array whose opening bracket was taken.
+    // Passes on the items of the array whose opening bracket was taken.
     fn items<C: Collect<'t>>(&mut self, start: C) -> Result<C, ReadFault>
         requires { C.Holds start no_items }
         ensures ok { IfOk result (λ c. (ds : Items)
@@ -251,7 +249,7 @@ impl<'t> Walk<'t> {
         Ok(collected)
     }
 
-    // What the next value is at its top, and all of it is passed; `None` where it is an object, and then
+    // The top level of the next value, which is passed; or `None` if it is an object, and then only
     // its opening bracket was taken.
     pub(crate) fn leaf_or_object(&mut self) -> Result<Option<Leaf<'t>>, ReadFault>
         ensures ok { IfOk result (λ found. MatchOption found (Opens begin_object self.old self.new)
@@ -270,7 +268,8 @@ impl<'t> Walk<'t> {
         Ok(Some(pass_from(token, &mut self.reader, self.depth)?))
     }
 
-    // Whether the next value is an array. Then its opening bracket was taken, else all of it was passed.
+    // Whether the next value is an array. If so, its opening bracket was taken, otherwise the value
+    // was passed.
     fn opens_array(&mut self) -> Result<bool, ReadFault>
         ensures ok { IfOk result (λ opened. MatchBool opened (Opens begin_array self.old self.new)
             ((d : Data) × IsRead self.old d self.new × (as_array d ≡ None))) }
@@ -288,8 +287,8 @@ impl<'t> Walk<'t> {
         Ok(false)
     }
 
-    /// Reads the next value, and where it is an object tells of its members; else it answers what the
-    /// value is at its top.
+    /// Reads the next value. If it is an object, its members are passed to `start`, which is
+    /// returned; otherwise the top level of the value is returned.
     pub fn gather_or_leaf<G: Gather<'t>>(
         &mut self,
         start: G,
@@ -309,7 +308,8 @@ impl<'t> Walk<'t> {
         Ok(Ok(gathered))
     }
 
-    /// Reads the next value, and where it is an object tells of its members.
+    /// Reads the next value. If it is an object, its members are passed to `start`, which is
+    /// returned.
     pub fn gather<G: Gather<'t>>(&mut self, start: G) -> Result<Option<G>, ReadFault>
         requires { G.Holds start no_members }
         ensures ok { IfOk result (λ found. (d : Data) × IsRead self.old d self.new × Gathered G.Holds d found) }
@@ -319,7 +319,7 @@ impl<'t> Walk<'t> {
         Ok(self.gather_or_leaf(start)?.ok())
     }
 
-    /// Reads the next value, and where it is an array tells of its items.
+    /// Reads the next value. If it is an array, its items are passed to `start`, which is returned.
     pub fn collect<C: Collect<'t>>(&mut self, start: C) -> Result<Option<C>, ReadFault>
         requires { C.Holds start no_items }
         ensures ok { IfOk result (λ found. (d : Data) × IsRead self.old d self.new × Collected C.Holds d found) }
@@ -335,9 +335,9 @@ impl<'t> Walk<'t> {
         Ok(Some(collected))
     }
 
-    /// Reads the next value, and answers the name of its one member and what counts of that member's
-    /// value; `None` where the value is no object, has no member or members of several names, or where
-    /// the member's value is no object.
+    /// Reads the next value, and returns the name of its only member, and what was gathered from
+    /// that member's value. `None`: the value is not an object, it has no member or members with
+    /// different names, or the value of the member is not an object.
     pub fn sole_object<F: Fields<'t>>(&mut self) -> Result<Option<(&'t str, F)>, ReadFault>
         ensures ok { IfOk result (λ found. (d : Data) × IsRead self.old d self.new × SoleObject F.Holds d found) }
         ensures not_json { result ≡ Err ReadFault.NotJson → IsRefused self.old }

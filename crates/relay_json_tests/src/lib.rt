@@ -1,4 +1,4 @@
-//! The tests of `relay_json`: texts read, and what counts of them.
+//! The tests of `relay_json`: reading texts, and what is kept of them.
 #![tactic(auto)]
 
 #[cfg(test)]

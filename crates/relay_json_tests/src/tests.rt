@@ -1,4 +1,4 @@
-//! Texts read, and what counts of them.
+//! Reading texts, and what is kept of them.
 ghost use Rattle.std.specs.Prelude.{⊤};
 
 use relay_json::{
@@ -8,7 +8,7 @@ use relay_json::{
 use std::alloc::{AllocError, Global};
 use std::test::Fail;
 
-// What is told of the members of an object: their names, and the last value of the name `a`.
+// What is kept of the members of an object: their names, and the last value with the name `a`.
 #[derive(Clone, Copy, Drop)]
 struct Told<'t> {
     names: [&'t str; 4],
@@ -44,7 +44,7 @@ impl<'t> Fields<'t> for Told<'t> {
     }
 }
 
-// The integers of the items of an array, as far as they are such.
+// The integers among the items of an array.
 #[derive(Clone, Copy, PartialEq, Drop)]
 struct Integers {
     integers: [Option<u64>; 4],
@@ -66,7 +66,7 @@ impl<'t> Collect<'t> for Integers {
     }
 }
 
-// The items of the member `a`, where it is an array.
+// The items of the member `a`, if it is an array.
 #[derive(Clone, Copy, Drop)]
 struct Listed {
     items: Option<Integers>,
@@ -90,13 +90,13 @@ impl<'t> Gather<'t> for Listed {
     }
 }
 
-// Why a text gives no value, where it gives none.
+// Why a text has no value, if it has none.
 fn fault_of(alloc: Global, text: &[u8]) -> Option<ReadFault> {
     let mut scratch = Scratch::new(alloc);
     read_object(text, &mut scratch, Told::none()).err()
 }
 
-// The text of a fault is its name.
+// A fault is printed as its name.
 #[test]
 fn names_of_faults(rt: HostRuntime) -> Result<(), Fail> {
     let rows = [
@@ -109,7 +109,7 @@ fn names_of_faults(rt: HostRuntime) -> Result<(), Fail> {
     Ok(())
 }
 
-// So many openings, a middle and as many closings, between a front and a back.
+// Nested brackets: this many openings, a middle and as many closings, between a front and a back.
 fn nested(
     alloc: Global,
     front: &str,
@@ -174,7 +174,7 @@ fn texts_that_are_values(rt: HostRuntime) {
     }
 }
 
-// A number that no float holds, at the top and in members that nobody looks at.
+// A number that does not fit a float, at the top level and in members that are not looked at.
 #[test]
 fn numbers_too_large(rt: HostRuntime) {
     let rows: [&[u8]; 6] = [
@@ -200,7 +200,7 @@ const DEPTHS: [(&str, &str, usize, &str, &str, Option<ReadFault>); 7] = [
     ("{\"x\":", "[", 126, "7", "]", None),
 ];
 
-// JSON nests at most 127 deep, also in a member that nobody looks at.
+// JSON is nested at most 127 deep, even in a member that is not looked at.
 #[test]
 fn depth(rt: HostRuntime) -> Result<(), Fail> {
     let alloc = rt.alloc();
@@ -238,7 +238,7 @@ const MEMBERS: [(&str, Option<&str>); 9] = [
     ("[\"a\"]", None),
 ];
 
-// The text of a member, of which the last of its name counts.
+// The string of a member; the last one with its name counts.
 #[test]
 fn members(rt: HostRuntime) {
     for (text, found) in &MEMBERS {
@@ -246,7 +246,7 @@ fn members(rt: HostRuntime) {
     }
 }
 
-// Whether a text is an object of so many members with these names.
+// Whether a text is an object with this many members and these names.
 fn has_names(
     alloc: Global,
     text: &str,
@@ -272,7 +272,7 @@ const NAMES: [(&str, usize, [&str; 4]); 5] = [
     ),
 ];
 
-// The names of members, in their order, a name given twice told twice.
+// The names of members in order; a name given twice is passed twice.
 #[test]
 fn names_of_members(rt: HostRuntime) {
     for (text, count, names) in &NAMES {
@@ -280,7 +280,7 @@ fn names_of_members(rt: HostRuntime) {
     }
 }
 
-// The name of the one member, where its value is an object, and the integer `a` in it.
+// The name of the only member, if its value is an object, and the integer `a` in it.
 #[test]
 fn sole_objects(rt: HostRuntime) -> Result<(), Fail> {
     let rows: [(&str, Option<(&str, Option<u64>)>); 13] = [
@@ -314,7 +314,7 @@ fn sole_objects(rt: HostRuntime) -> Result<(), Fail> {
     Ok(())
 }
 
-// Numbers as integers of 64 bits, unsigned and signed.
+// Numbers as unsigned and signed 64-bit integers.
 const INTEGERS: [(&str, Option<u64>, Option<i64>); 12] = [
     ("{\"a\":0}", Some(0), Some(0)),
     ("{\"a\":-0}", None, None),
@@ -346,7 +346,7 @@ const INTEGERS: [(&str, Option<u64>, Option<i64>); 12] = [
     ("{\"a\":\"1\"}", None, None),
 ];
 
-// The member `a` of an object as an integer of 64 bits, unsigned and signed.
+// The member `a` of an object as an unsigned and a signed 64-bit integer.
 fn integers_of(alloc: Global, text: &str) -> Result<(Option<u64>, Option<i64>), ReadFault> {
     let mut scratch = Scratch::new(alloc);
     let leaf = member_a(text, &mut scratch)?;
@@ -375,7 +375,7 @@ const KINDS: [(&'static str, Leaf<'static>); 9] = [
     ("{\"a\":0.00}", Leaf::Number("0.00")),
 ];
 
-// Whether the member `a` of an object is this value, and null just where that is.
+// Whether the member `a` of an object is this value, and null exactly if this is.
 fn has_kind(alloc: Global, text: &str, kind: Leaf) -> Result<bool, ReadFault> {
     let mut scratch = Scratch::new(alloc);
     match member_a(text, &mut scratch)? {
@@ -384,7 +384,7 @@ fn has_kind(alloc: Global, text: &str, kind: Leaf) -> Result<bool, ReadFault> {
     }
 }
 
-// What a value is at its top.
+// The top level of a value.
 #[test]
 fn kinds(rt: HostRuntime) {
     for (text, kind) in &KINDS {
@@ -392,7 +392,7 @@ fn kinds(rt: HostRuntime) {
     }
 }
 
-// What leaves show that no walk answered: the numbers are out of range, or no JSON.
+// Leaves that no walk returned: the numbers are out of range, or not JSON.
 #[test]
 fn leaves_alone(rt: HostRuntime) {
     let leaves = [
@@ -411,7 +411,7 @@ fn of_items(count: usize, integers: [Option<u64>; 4]) -> Option<Integers> {
     Some(Integers { integers, count })
 }
 
-// The items of an array, in their order.
+// The items of an array, in order.
 #[test]
 fn items_in_order(rt: HostRuntime) -> Result<(), Fail> {
     let rows: [(&str, Option<Integers>); 6] = [
@@ -442,7 +442,7 @@ fn items_in_order(rt: HostRuntime) -> Result<(), Fail> {
     Ok(())
 }
 
-// How many members the last member has, where it is an object, and else what it is at its top.
+// How many members the last member has, if it is an object, otherwise its top level.
 #[derive(Clone, Copy, Drop)]
 struct Last<'t> {
     last: Result<usize, Leaf<'t>>,
@@ -459,7 +459,7 @@ impl<'t> Gather<'t> for Last<'t> {
     }
 }
 
-// Whether the last member of an object is an object of so many members, or this leaf.
+// Whether the last member of an object is an object with this many members, or this leaf.
 fn has_last(alloc: Global, text: &str, last: Result<usize, Leaf>) -> Result<bool, ReadFault> {
     let mut scratch = Scratch::new(alloc);
     let start = Last {
@@ -505,7 +505,7 @@ const DECIMALS: [(&str, Option<(u64, &str)>); 15] = [
     (":", None),
 ];
 
-// The number in front of some bytes, and what follows it.
+// The number at the front of some bytes, and what follows it.
 #[test]
 fn decimals(rt: HostRuntime) {
     for (text, front) in &DECIMALS {

@@ -1,5 +1,5 @@
 -- The bulk text of writes: the lines of a request `POST /_bulk` in the OpenSearch bulk API, with the keys of an
--- action line in byte order and no space.
+-- action line in byte order and without spaces.
 use Rattle.std.specs.Prelude.{◌≡◌, ◌<◌, ◌^◌, ℕ, Some, length, take, List, [], ◌∷◌, ◌++◌, codes}
 use Rattle.std.specs.List.{flat_map}
 use Rattle.serde_json.specs.Data.{Data, string, number, unsigned, object, member, no_members}
@@ -18,7 +18,7 @@ metadata w =
     (member (codes "version") (number (unsigned w.version))
     (member (codes "version_type") (string (codes "external")) no_members))))
 
--- what the action line of a write says
+-- the JSON value of a write's action line
 abbrev pub action_data : Write → Data
 action_data w = object (member (kind_name (kind_of w.action)) (metadata w) no_members)
 
@@ -30,11 +30,11 @@ line_end = 10 ∷ []
 unfoldable pub action_text : Write → List ℕ
 action_text w = compact_text (action_data w)
 
--- an action line reads as what it says
+-- an action line reads back as its JSON value
 abbrev pub ActionLinesReadBack : Type 0
 ActionLinesReadBack = (w : Write) → w.version < 2 ^ 64 → read (action_text w) ≡ Some (action_data w)
 
--- an index action has its source on a line of its own
+-- the source of an index action, on its own line
 abbrev pub source_line : Action → List ℕ
 source_line (Index source) = source.text ++ line_end
 source_line Delete = []
@@ -47,7 +47,7 @@ write_text w = action_text w ++ line_end ++ source_line w.action
 abbrev pub text_of : List Write → List ℕ
 text_of = flat_map write_text
 
--- how an action line begins, up to the text of the id
+-- the start of an action line, up to the text of the id
 abbrev pub opening : Action → List ℕ
 opening (Index source) = codes "{\"index\":{\"_id\":\""
 opening Delete = codes "{\"delete\":{\"_id\":\""

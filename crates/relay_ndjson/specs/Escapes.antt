@@ -1,4 +1,4 @@
--- How a byte stands in a JSON string: RFC 8259, section 7, with the short escapes where there are any.
+-- Escapes in JSON strings: RFC 8259, section 7, with the short form where there is one.
 use Rattle.std.specs.Prelude.{◌≡◌, ℕ, ◌+◌, ◌/◌, ◌%◌, List, [], ◌∷◌, ◌++◌, Bool, not, ◌&&◌, if◌then◌else◌, ◌==◌, nat_lt, nat_le, codes, Option, None, Some, string_bytes}
 use Rattle.std.specs.declared.string.String.{String}
 use Rattle.std.specs.declared.alloc.Global.{Global}
@@ -21,7 +21,7 @@ escaped b =
     else if nat_lt b 32 then codes "\\u00" ++ hex_digit (b / 16) ∷ hex_digit (b % 16) ∷ []
     else b ∷ []
 
--- texts are escaped as the table says
+-- texts are escaped by this table
 abbrev pub EscapesByTable : Type 0
 EscapesByTable = (b : ℕ) → escape_byte b ≡ escaped b
 
@@ -29,7 +29,7 @@ EscapesByTable = (b : ℕ) → escape_byte b ≡ escaped b
 abbrev pub is_plain_byte : ℕ → Bool
 is_plain_byte b = nat_le 32 b && not (b == 34) && not (b == 92)
 
--- the JSON string of a text, or nothing for a text that stands for itself
+-- the JSON string of a text, or `None` if the text needs no escapes
 abbrev pub IsEscapeOf : List ℕ → Option (String Global) → Type 0
 IsEscapeOf text None = escape text ≡ text
 IsEscapeOf text (Some s) = string_bytes s ≡ quoted text

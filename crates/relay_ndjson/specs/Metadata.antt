@@ -1,4 +1,4 @@
--- What an action line asks for, and the first fault that it has.
+-- What an action line asks for, and its first fault.
 use Rattle.std.specs.Prelude.{◌≡◌, ℕ, Bool, true, not, ◌||◌, bytes_eq, List, codes, decimal, if◌then◌else◌, Option, None, Some, is_some, option_map, option_and_then, IsUtf8}
 use denote.Ref.{Bor}
 use Rattle.std.specs.Str.{is_utf8}
@@ -14,7 +14,7 @@ use Rattle.relay_action.specs.declared.action.ActionKind.{ActionKind}
 use Rattle.relay_ndjson.specs.declared.kind.LineKind.{LineKind}
 use Rattle.relay_ndjson.specs.declared.kind.LineKind.TheVariants as kind
 
--- what a text that may be absent shows
+-- the bytes of an optional text
 abbrev pub shown : Option (Bor (List ℕ)) → Option (List ℕ)
 shown text = option_map (λ t. t.now) text
 
@@ -28,7 +28,7 @@ is_version name = bytes_eq name (codes "version") || bytes_eq name (codes "versi
 abbrev pub is_field : List ℕ → Bool
 is_field name = is_document name || is_version name
 
--- an id is a text, or an integer, which stands for its decimal text
+-- an id is a string, or an integer, which means its decimal text
 abbrev pub number_text : Num → Option (List ℕ)
 number_text (unsigned n) = Some (decimal n)
 number_text (negative z) = Some (signed_decimal z)
@@ -45,7 +45,7 @@ id_text (object ms) = None
 abbrev pub id_of : Data → Option (List ℕ)
 id_of metadata = option_and_then id_text (get (codes "_id") metadata)
 
--- the default serves where no index is given
+-- the default applies if no index is given
 abbrev pub text_or : Option (List ℕ) → Option Data → Option (List ℕ)
 text_or default None = default
 text_or default (Some d) = as_str d
@@ -64,22 +64,22 @@ abbrev pub Asks : Option (List ℕ) → Data → ActionKind → List ℕ → Lis
 Asks default d a index id =
     (ms : Members) × (d ≡ object (member (kind_name a) (object ms) no_members)) × IsDocument default (object ms) index id
 
--- the text says so
+-- the text does
 abbrev pub Says : Option (List ℕ) → List ℕ → ActionKind → List ℕ → List ℕ → Type 0
 Says default text a index id = IsUtf8 text × (d : Data) × (read text ≡ Some d) × Asks default d a index id
 
 -- ---- the first fault, in the order of the table
 
--- a fault where there is nothing, else what follows
+-- a fault if there is nothing, otherwise what follows
 abbrev pub fault_or : {A : Type 0} → LineKind → (A → Option LineKind) → Option A → Option LineKind
 fault_or k f None = Some k
 fault_or k f (Some a) = f a
 
--- of an id, where it is one
+-- of an id, if it is one
 abbrev pub id_fault : List ℕ → Option (List ℕ) → Option LineKind
 id_fault index = fault_or kind.MissingId (λ id. option_map kind.Action (key_fault index id))
 
--- of metadata whose members may be
+-- of metadata whose members are allowed
 abbrev pub document_fault : Option (List ℕ) → Data → Option LineKind
 document_fault default m = fault_or kind.MissingIndex (λ index. id_fault index (id_of m)) (index_of default m)
 

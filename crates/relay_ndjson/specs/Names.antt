@@ -7,6 +7,6 @@ abbrev pub all_names : (List ℕ → Bool) → Members → Bool
 all_names known no_members = true
 all_names known (member name d ms) = known name && all_names known ms
 
--- each member has such a name; so it is of a value that is no object
+-- each member has such a name; this holds of a value that is not an object
 abbrev pub has_only : (List ℕ → Bool) → Data → Bool
 has_only known d = all_names known (unwrap_or (as_object d) no_members)

@@ -1,5 +1,5 @@
--- The producer grammar over a stream: operations at its front, and what is no operation. An action line is as in the
--- OpenSearch bulk API: an index action has its source on the line after it.
+-- The producer grammar over a stream: the operations at its front, and what breaks it. Action lines are those of the
+-- OpenSearch bulk API: an index action is followed by its source on the next line.
 use Rattle.std.specs.Prelude.{◌≡◌, ◌≢◌, ℕ, ◌+◌, ◌≤◌, ◌⊎◌, min, List, [], Option, None, Some, Result, Ok, Err, if◌then◌else◌}
 use Rattle.std.specs.Io.KnownBytes.{IsAtEnd, prepend_known}
 use Rattle.relay_action.specs.Streams.{most, one_more}
@@ -14,15 +14,15 @@ use Rattle.relay_ndjson.specs.declared.kind.LineKind.TheVariants as kind
 use Rattle.relay_ndjson.specs.declared.kind.InputFault.{InputFault}
 use Rattle.relay_ndjson.specs.Metadata.{Says, line_fault, source_line_fault}
 
--- an operation that a producer hands over: a document, and what is done to it
+-- an operation that a producer submits: a document, and the action on it
 abbrev pub Operation : Type 0
 Operation = DocKey × Action
 
--- the most blank lines in succession
+-- the maximum number of consecutive blank lines
 abbrev pub blank_limit : ℕ
 blank_limit = 65536
 
--- a count of lines stays at its greatest value
+-- a count of lines, which saturates
 abbrev pub counted : ℕ → ℕ
 counted n = min n most
 
@@ -44,46 +44,46 @@ abbrev pub TakesOperation : Option (List ℕ) → Option (List ℕ) → Option (
 TakesOperation default old new n op =
     (mid : Option (List ℕ)) × (n ≤ blank_limit) × TakesBlank n old mid × TakesAction default mid new op.0 op.1
 
--- blank lines alone are left
+-- only blank lines are left
 abbrev pub HoldsNoMore : Option (List ℕ) → Type 0
 HoldsNoMore old = (n : ℕ) × (end : Option (List ℕ)) × (n ≤ blank_limit) × TakesBlank n old end × IsAtEnd end
 
 -- ---- faults
 
--- the line at the front is neither blank nor an action line
+-- the first line is neither blank nor an action line
 abbrev pub BreaksAction : Option (List ℕ) → Option (List ℕ) → LineKind → Type 0
 BreaksAction default old k =
     (IsLong old × (k ≡ kind.LineLong))
     ⊎ ((text : List ℕ) × (rest : Option (List ℕ)) × TakesText old rest text × (text ≢ []) × (line_fault default text ≡ Some k))
 
--- the line at the front is no source
+-- the first line is not a source
 abbrev pub BreaksSource : Option (List ℕ) → LineKind → Type 0
 BreaksSource old k =
     (IsLong old × (k ≡ kind.LineLong))
     ⊎ ((text : List ℕ) × (rest : Option (List ℕ)) × TakesText old rest text × (source_line_fault text ≡ Some k))
 
--- an index action stands at the front, and no source follows it. The fault is in the first line or the second
+-- there is an index action at the front without a source after it; the fault is in the first or the second line
 abbrev pub LacksSource : Option (List ℕ) → Option (List ℕ) → ℕ → LineKind → Type 0
 LacksSource default old place k =
     (text : List ℕ) × (rest : Option (List ℕ)) × (index : List ℕ) × (id : List ℕ) × TakesText old rest text
     × Says default text action.Index index id × (key_fault index id ≡ None)
     × ((IsAtEnd rest × (k ≡ kind.SourceMissing) × (place ≡ 1)) ⊎ (BreaksSource rest k × (place ≡ 2)))
 
--- one blank line more than may be
+-- one blank line too many
 abbrev pub IsPastBlank : ℕ → Option (List ℕ) → LineKind → Type 0
 IsPastBlank n old k = (n ≡ blank_limit) × (rest : Option (List ℕ)) × TakesText old rest [] × (k ≡ kind.LineLong)
 
--- what stands after n blank lines is no operation, since the line at this place has this fault
+-- after n blank lines there is no operation, since the line at this place has this fault
 abbrev pub BreaksAt : Option (List ℕ) → ℕ → Option (List ℕ) → ℕ → LineKind → Type 0
 BreaksAt default n old place k =
     (BreaksAction default old k × (place ≡ 1)) ⊎ (IsPastBlank n old k × (place ≡ 1)) ⊎ LacksSource default old place k
 
--- the line at this place, counted from 1, is the first that breaks the grammar
+-- the line at this place, from 1, is the first that breaks the grammar
 abbrev pub Breaks : Option (List ℕ) → Option (List ℕ) → ℕ → LineKind → Type 0
 Breaks default old at k =
     (n : ℕ) × (mid : Option (List ℕ)) × (place : ℕ) × (n ≤ blank_limit) × TakesBlank n old mid × BreaksAt default n mid place k × (at ≡ n + place)
 
--- a fault names the first line that breaks the grammar, unless a read failed or memory ran out
+-- a fault names the first line that breaks the grammar, unless a read or an allocation failed
 abbrev pub IsFault : Option (List ℕ) → Option (List ℕ) → ℕ → InputFault → Type 0
 IsFault default old count e =
     (e.kind ≡ kind.Read) ⊎ (e.kind ≡ kind.Memory)
@@ -91,27 +91,26 @@ IsFault default old count e =
 
 -- ---- where the reader stops
 
--- so many lines were taken that begin an operation and are not all of it: blank lines, or these and the line of an index
--- action
+-- these many lines were taken, the beginning of an operation: blank lines, or these and the line of an index action
 abbrev pub TakesBeginning : Option (List ℕ) → Option (List ℕ) → Option (List ℕ) → ℕ → Type 0
 TakesBeginning default old new count =
     ((count ≤ blank_limit) × TakesBlank count old new)
     ⊎ ((n : ℕ) × (mid : Option (List ℕ)) × (text : List ℕ) × (index : List ℕ) × (id : List ℕ) × (n ≤ blank_limit) × TakesBlank n old mid
     × TakesText mid new text × Says default text action.Index index id × (key_fault index id ≡ None) × (count ≡ n + 1))
 
--- where a reader stands in its stream: the bytes that were not used yet, where they are known, those of them that were
--- read, and how many lines were taken
+-- the position of a reader in its stream: the bytes that were not used yet, if they are known, those of them that
+-- were read, and the number of lines taken
 pub record Position : Type 0 where
   pub ahead : Option (List ℕ)
   pub held : List ℕ
   pub count : ℕ
 
--- by what the stream has left, what was read of it and not used, and how many lines were taken
+-- the position, given what the stream has left, what was read ahead and the number of lines taken
 abbrev pub position : Option (List ℕ) → List ℕ → ℕ → Position
 position left held count = record { ahead = prepend_known held left; held = held; count = count }
 
--- a fault names the line in which the reader stopped: before it stand the lines that begin an operation, and of what
--- follows no more was used than of this line
+-- a fault names the line in which the reader stopped: the lines before it are the beginning of an operation, and
+-- nothing beyond this line was used
 pub record Stops (default : Option (List ℕ)) (old new : Position) (e : InputFault) : Type 0 where
   pub taken : ℕ
   pub front : Option (List ℕ)
@@ -119,7 +118,7 @@ pub record Stops (default : Option (List ℕ)) (old new : Position) (e : InputFa
   pub line : e.line ≡ counted (old.count + taken + 1)
   pub stop : StopsInLine front new.ahead new.held e.kind
 
--- how many calls of the stream have failed after an answer
+-- the number of failed calls of the stream after this result
 abbrev pub failed_after : {T : Type 0} → Result T InputFault → ℕ → ℕ
 failed_after (Ok x) n = n
 failed_after (Err e) n = if is_read e.kind then one_more n else n

@@ -1,4 +1,4 @@
--- What a reader of operations is, and what each call of `next` answers.
+-- The state of a reader of operations, and what each call of `next` returns.
 use Rattle.std.specs.Prelude.{◌≡◌, ℕ, ◌+◌, ◌<◌, List, [], length, slice_index, false, Option, None, Some, Result, Ok, Err}
 use Rattle.std.specs.Io.KnownBytes.{prepend_known}
 use Rattle.relay_action.specs.Limits.{is_line_end}
@@ -8,8 +8,7 @@ use Rattle.relay_ndjson.specs.declared.parser.Phase.{Phase}
 use Rattle.relay_ndjson.specs.declared.parser.Phase.TheVariants as phase
 use Rattle.relay_ndjson.specs.Operations.{Operation, counted, TakesOperation, HoldsNoMore, IsFault, Position, Stops, line_count}
 
--- a parser: what was read and not used yet, how many lines were taken, the line of the last action, and what stands
--- for an absent index name
+-- a parser: what was read ahead, the number of lines taken, the line of the last action, and the default index
 pub record Parsing : Type 0 where
   pub held : List ℕ
   pub count : ℕ
@@ -21,15 +20,15 @@ pub record Parsing : Type 0 where
 abbrev pub start : Option (List ℕ) → Parsing
 start default = record { held = []; count = 0; line = 0; phase = phase.Open; default = default }
 
--- a byte that ends no line stands there, and two line feeds after it: so an operation, or what breaks the grammar,
--- stands there whole
+-- a byte that is not a line end, and two line feeds after it: so a whole operation, or what breaks the grammar, was
+-- read
 abbrev pub HoldsTwoLines : List ℕ → Type 0
 HoldsTwoLines held =
     (start : ℕ) × (first : ℕ) × (second : ℕ) × (start < first) × (first < second) × (second < length held)
     × (is_line_end (slice_index held start) ≡ false) × (slice_index held first ≡ 10) × (slice_index held second ≡ 10)
 
--- a parser and its stream: the bytes that were not used yet, where they are known, those of them that were read, and
--- how many calls of the stream failed
+-- a parser and its stream: the bytes that were not used yet, if they are known, those of them that were read, and the
+-- number of failed calls of the stream
 pub record Reading : Type 0 where
   pub ahead : Option (List ℕ)
   pub held : List ℕ
@@ -48,7 +47,7 @@ abbrev pub fresh : Option (List ℕ) → ℕ → Option (List ℕ) → Reading
 fresh ahead failed default =
     record { ahead = ahead; held = []; count = 0; line = 0; phase = phase.Open; default = default; failed = failed }
 
--- where the parser stands in its stream
+-- the position of the parser in its stream
 abbrev pub position_of : Reading → Position
 position_of r = record { ahead = r.ahead; held = r.held; count = r.count }
 
@@ -60,13 +59,13 @@ pub record Takes (old new : Reading) (n : ℕ) (op : Operation) : Type 0 where
   pub phase : new.phase ≡ phase.Open
   pub default : new.default ≡ old.default
 
--- blank lines alone were left
+-- only blank lines were left
 pub record Ends (old new : Reading) : Type 0 where
   pub lines : HoldsNoMore old.ahead
   pub line : new.line ≡ old.line
   pub phase : new.phase ≡ phase.Ended
 
--- a fault was answered, of the line in which the reader stopped
+-- a fault was returned, of the line in which the reader stopped
 pub record Fails (old new : Reading) (e : InputFault) : Type 0 where
   pub fault : IsFault old.default old.ahead old.count e
   pub stops : Stops old.default (position_of old) (position_of new) e
@@ -78,7 +77,7 @@ Answers old new (Ok (Some op)) = (n : ℕ) × Takes old new n op
 Answers old new (Ok None) = Ends old new
 Answers old new (Err e) = Fails old new e
 
--- after the end there is none, and after a fault the answer is that it failed, with the line of that fault
+-- after the end there is none, and after a fault `Failed` is returned with its line
 abbrev pub Steps : Phase → Reading → Reading → Result (Option Operation) InputFault → Type 0
 Steps phase.Open old new result = Answers old new result
 Steps phase.Ended old new result = (result ≡ Ok None) × (new ≡ old)

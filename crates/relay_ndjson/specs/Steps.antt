@@ -1,5 +1,5 @@
--- What the private steps of the readers answer, which find a line piece by piece and take a body line by line. No contract of a
--- public function speaks of them.
+-- The private steps of the readers, which find a line piece by piece and take a body line by line. No public contract
+-- refers to them.
 use Rattle.std.specs.Prelude.{◌≡◌, ◌≢◌, ℕ, ◌+◌, ◌<◌, ◌≤◌, ◌⊎◌, List, [], ◌∷◌, ◌++◌, length, Bool, true, false, Option, Some, None, Result, Ok, Err, slice_index, if◌then◌else◌}
 use Rattle.std.specs.Io.KnownBytes.{prepend_known, IsAtEnd}
 use Rattle.relay_action.specs.Actions.{IsIndexOf}
@@ -22,7 +22,7 @@ use Rattle.relay_ndjson.specs.Bodies.{BeginsWithLine, IsLinesOf}
 
 -- ---- a line
 
--- the bytes may be the start of a line: one more than its limit where that one may belong to its end
+-- the bytes may be the start of a line: they may exceed the limit by one byte that may belong to the line end
 abbrev pub IsStart : List ℕ → Type 0
 IsStart raw = (length raw ≤ line_limit + 1) × ((length raw ≡ line_limit + 1) → slice_index raw line_limit ≡ 13)
 
@@ -30,20 +30,20 @@ IsStart raw = (length raw ≤ line_limit + 1) × ((length raw ≡ line_limit + 1
 abbrev pub IsAddFault : List ℕ → LineKind → Type 0
 IsAddFault raw k = ((k ≡ kind.LineLong) × IsPastLimit raw) ⊎ (k ≡ kind.Memory)
 
--- what a piece gave of a line that had begun: its end, or all that it held
+-- what a piece contributed to a line: its end, or all that the piece held
 abbrev pub TakesPart : List ℕ → List ℕ → List ℕ → List ℕ → Result Part LineKind → Type 0
 TakesPart begun piece text rest (Ok part.End) = (raw : List ℕ) × IsUnbroken raw × IsRaw text raw × (length text ≤ line_limit) × (begun ++ piece ≡ raw ++ 10 ∷ rest)
 TakesPart begun piece text rest (Ok part.More) = IsUnbroken text × IsStart text × (text ≡ begun ++ piece) × (rest ≡ [])
 TakesPart begun piece text rest (Err k) = (raw : List ℕ) × (later : List ℕ) × IsUnbroken raw × (begun ++ piece ≡ raw ++ later) × IsAddFault raw k
 
--- what a read of a line took from the front, and what line it put into the buffer
+-- what reading a line took from the front, and the line that it put into the buffer
 abbrev pub TakesLine : Option (List ℕ) → Option (List ℕ) → List ℕ → Result Line LineKind → Type 0
 TakesLine old new text (Ok line.Ended) = (raw : List ℕ) × IsUnbroken raw × IsRaw text raw × (length text ≤ line_limit) × (old ≡ prepend_known (raw ++ 10 ∷ []) new)
 TakesLine old new text (Ok line.Open) = IsUnbroken text × (text ≢ []) × (length text ≤ line_limit) × (old ≡ prepend_known text new) × IsAtEnd new
 TakesLine old new text (Ok line.Absent) = IsAtEnd old × (new ≡ old)
 TakesLine old new text (Err k) = (k ≡ kind.Read) ⊎ (k ≡ kind.Memory) ⊎ ((k ≡ kind.LineLong) × IsLong old)
 
--- where a line ended, its bytes are its text and what ends it
+-- if a line ended, its bytes are its text and what ended it
 abbrev pub PartHasBytes : List ℕ → List ℕ → List ℕ → List ℕ → LineEnd → Result Part LineKind → Type 0
 PartHasBytes begun piece text rest end (Ok part.End) = IsLine text (text ++ end_bytes end) × (begun ++ piece ≡ (text ++ end_bytes end) ++ rest)
 PartHasBytes begun piece text rest end other = Unit {0}
@@ -54,7 +54,7 @@ LineHasBytes old new text end (Ok line.Open) = TakesBytes old new text end
 LineHasBytes old new text end (Ok line.Absent) = Unit {0}
 LineHasBytes old new text end (Err k) = Unit {0}
 
--- where the input ends after these bytes, they are the last line, or nothing was left, or they are too many
+-- if the input ends after these bytes, they are the last line, or nothing was left, or they are too many
 abbrev pub EndsLine : List ℕ → Result Line LineKind → Type 0
 EndsLine text (Ok line.Ended) = ⊥
 EndsLine text (Ok line.Open) = (text ≢ []) × (length text ≤ line_limit)
@@ -65,7 +65,7 @@ EndsLine text (Err k) = (k ≡ kind.LineLong) × (line_limit < length text)
 abbrev pub IsFillFault : LineKind → Type 0
 IsFillFault k = (k ≡ kind.Read) ⊎ (k ≡ kind.Memory)
 
--- how many calls of the stream have failed after an answer
+-- the number of failed calls of the stream after this result
 abbrev pub failed_by : {T : Type 0} → Result T LineKind → ℕ → ℕ
 failed_by (Ok x) n = n
 failed_by (Err k) n = if is_read k then one_more n else n
@@ -88,7 +88,8 @@ TakesSource old new line (Err e) =
     ⊎ (IsAtEnd old.ahead × (e.kind ≡ kind.SourceMissing) × (e.line ≡ line))
     ⊎ (BreaksSource old.ahead e.kind × (e.line ≡ one_more old.count))
 
--- where the reader stopped in place of a source: in its line, or at the end, which is a fault of the action's line
+-- where the reader stopped instead of reading a source: in its line, or at the end, which is a fault of the action's
+-- line
 abbrev pub StopsInSource : Position → Position → ℕ → InputFault → Type 0
 StopsInSource old new line e =
     ((e.line ≡ one_more old.count) × StopsInLine old.ahead new.ahead new.held e.kind)
@@ -103,10 +104,10 @@ Reads default old new (Err e) = IsFault default old.ahead old.count e
 
 -- ---- a body
 
--- the lines of a write stand at the front
+-- the lines of a write are at the front
 abbrev pub BeginsWithWrite : List ℕ → List ℕ → Write → Type 0
 BeginsWithWrite bytes rest w = (lines : List ℕ) × IsLinesOf lines w × (bytes ≡ lines ++ rest)
 
--- a source line stands at the front, and the action stores what is on it
+-- there is a source line at the front, and the action stores its text
 abbrev pub BeginsWithSource : List ℕ → List ℕ → Action → Type 0
 BeginsWithSource bytes rest a = (text : List ℕ) × BeginsWithLine bytes rest text × IsIndexOf text a

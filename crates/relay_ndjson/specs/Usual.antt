@@ -4,12 +4,12 @@ use Rattle.relay_json.specs.Plain.{IsPlain}
 use Rattle.relay_action.specs.declared.action.ActionKind.{ActionKind}
 use Rattle.relay_action.specs.declared.action.ActionKind.TheVariants as action
 
--- how a line begins, up to the first name of the metadata
+-- the start of a line, up to the first name in the metadata
 abbrev pub usual_start : ActionKind → List ℕ
 usual_start action.Index = codes "{\"index\":{"
 usual_start action.Delete = codes "{\"delete\":{"
 
--- the index name, where it is given, with what follows it
+-- the index name, if it is given, and what follows it
 abbrev pub with_index : Option (List ℕ) → List ℕ → List ℕ
 with_index None rest = rest
 with_index (Some index) rest = codes "\"_index\":\"" ++ (index ++ (codes "\"," ++ rest))

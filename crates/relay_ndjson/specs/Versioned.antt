@@ -1,5 +1,5 @@
--- What an action line of the index side asks for, and the first fault that it has: as in the OpenSearch bulk API, with
--- an external version on each action.
+-- What an action line on the index side asks for, and its first fault: as in the OpenSearch bulk API, with an
+-- external version for each action.
 use Rattle.std.specs.Prelude.{◌≡◌, ℕ, ◌&&◌, Bool, true, false, not, nat_le, bytes_eq, is_some, List, codes, Option, None, Some, option_map, option_and_then, unwrap_or, if◌then◌else◌, IsUtf8}
 use Rattle.std.specs.Str.{is_utf8}
 use Rattle.serde_json.specs.Data.{Data, object, Members, member, no_members}
@@ -14,21 +14,21 @@ use Rattle.relay_action.specs.Limits.{last_version}
 use Rattle.relay_ndjson.specs.Names.{has_only}
 use Rattle.relay_ndjson.specs.Metadata.{is_field, index_of, id_of, fault_or, document_fault, action_of}
 
--- a version as the index takes it
+-- a version that the index accepts
 abbrev pub within_last : ℕ → Option ℕ
 within_last n = if nat_le n last_version then Some n else None
 
--- the version of metadata: an integer of 64 bits without a sign, up to the last version
+-- the version in the metadata: an unsigned 64-bit integer up to the last version
 abbrev pub version_of : Data → Option ℕ
 version_of m = option_and_then within_last (option_and_then as_u64 (option_and_then as_number (get (codes "version") m)))
 
--- the versions are dealt outside of the index
+-- `version_type` is `external`
 abbrev pub is_external : Data → Bool
 is_external m = unwrap_or (option_map (λ t. bytes_eq t (codes "external")) (option_and_then as_str (get (codes "version_type") m))) false
 
 -- ---- the grammar
 
--- the metadata name a document and an external version of it
+-- the metadata name a document and an external version for it
 abbrev pub IsVersioned : Data → List ℕ → List ℕ → ℕ → Type 0
 IsVersioned m index id version =
     (has_only is_field m ≡ true) × (version_of m ≡ Some version) × (is_external m ≡ true) × (index_of None m ≡ Some index) × (id_of m ≡ Some id)
@@ -38,7 +38,7 @@ abbrev pub AsksVersioned : Data → ActionKind → List ℕ → List ℕ → ℕ
 AsksVersioned d a index id version =
     (ms : Members) × (d ≡ object (member (kind_name a) (object ms) no_members)) × IsVersioned (object ms) index id version
 
--- the text says so
+-- the text does
 abbrev pub SaysVersioned : List ℕ → ActionKind → List ℕ → List ℕ → ℕ → Type 0
 SaysVersioned text a index id version = IsUtf8 text × (d : Data) × (read text ≡ Some d) × AsksVersioned d a index id version
 

@@ -1,4 +1,4 @@
-//! What an action line asks for, and what a source line holds.
+//! Reading action lines and source lines.
 ghost use Rattle.std.specs.Prelude.{◌≡◌, ◌<◌, ◌⊎◌, Option, Some, Err, IfOk, IfErr, length, IsUtf8};
 ghost use Rattle.json.specs.Scratch.{room};
 ghost use Rattle.serde_json.specs.Data.{Data, Members, object};
@@ -15,8 +15,8 @@ use relay_json::{ReadFault, Scratch, read_sole_object};
 use simdutf8::compat::from_utf8;
 use std::alloc::Global;
 
-/// The action of a line, and its metadata. The scratch serves one line after another; the fault is
-/// `Memory` only where it had less room than the line has bytes.
+/// The action of a line, and its metadata. The scratch is used for one line after another; the
+/// fault is `Memory` only if it had less room than the line has bytes.
 pub fn action_of<'t>(
     line: &'t [u8],
     scratch: &'t mut Scratch,
@@ -38,7 +38,7 @@ pub fn action_of<'t>(
     }
 }
 
-/// What an action line asks for.
+/// The action and the document that a producer's action line asks for.
 pub fn read_action(
     alloc: Global,
     default_index: Option<&str>,
@@ -54,7 +54,7 @@ pub fn read_action(
     }
 }
 
-// What an action line of any form asks for.
+// The same for lines that are not in the usual form.
 fn parse_action(
     alloc: Global,
     default_index: Option<&str>,
@@ -69,7 +69,7 @@ fn parse_action(
     Ok((kind, key))
 }
 
-/// The action that stores what a line holds.
+/// The index action that stores the source on a line.
 pub fn read_source(alloc: Global, line: &[u8]) -> Result<Action, LineKind>
     ensures ok { IfOk result (λ a. IsUtf8 line.now × IsIndexOf line.now a) }
     ensures err { IfErr result (λ e. (e ≡ LineKind.Memory) ⊎ (source_line_fault line.now ≡ Some e)) }

@@ -14,10 +14,10 @@ use relay_action::{Action, ActionKind, Write};
 use relay_json::Scratch;
 use std::alloc::Global;
 
-/// The writes of a body. Each line ends with a line feed, one carriage return before it is dropped, and
-/// no line is blank; an action line has the members `_index`, `_id`, `version` and `version_type`, and
-/// an index action is followed by its source. No bytes are no writes. The fault is the first line that
-/// is none of this, in the order of lines, and then there are no writes; or out of memory.
+/// The writes of a body. Each line ends with a line feed, one carriage return before it is dropped,
+/// and no line is blank; an action line has the members `_index`, `_id`, `version` and
+/// `version_type`, and an index action is followed by its source. An empty body has no writes. The
+/// fault names the first bad line and no writes are returned, or an allocation failed.
 pub fn read_bulk(alloc: Global, body: &[u8]) -> Result<Vec<Write>, BulkFault>
     ensures ok { IfOk result (λ ws. IsBulk body.now ws.items) }
     ensures err { IfErr result (IsBulkFault body.now) }
@@ -54,7 +54,7 @@ pub fn read_bulk(alloc: Global, body: &[u8]) -> Result<Vec<Write>, BulkFault>
     Ok(writes)
 }
 
-// What stands before a line feed, without the one carriage return that may end it.
+// The line before its line feed, without one carriage return at its end.
 fn without_return(raw: &[u8]) -> &[u8]
     ensures { IsRaw result.now raw.now }
 {
@@ -64,7 +64,7 @@ fn without_return(raw: &[u8]) -> &[u8]
     }
 }
 
-// The text of the line at the front, and the bytes after it.
+// The text of the first line, and the bytes after it.
 fn front_line(bytes: &[u8]) -> Result<(&[u8], &[u8]), LineKind>
     requires { bytes.now ≢ [] }
     ensures ok { IfOk result (λ l. BeginsWithLine bytes.now l.1.now l.0.now) }
@@ -83,8 +83,8 @@ fn front_line(bytes: &[u8]) -> Result<(&[u8], &[u8]), LineKind>
     Ok((text, &bytes[end + 1..]))
 }
 
-// The source after an index action, and the bytes after its line. The fault's line is counted from
-// that of the action.
+// The source after an index action, and the bytes after its line. A fault's line is relative to the
+// action line.
 fn take_source(alloc: Global, bytes: &[u8]) -> Result<(Action, &[u8]), BulkFault>
     ensures ok { IfOk result (λ t. BeginsWithSource bytes.now t.1.now t.0) }
     ensures err { IfErr result (λ e. (e.kind ≡ LineKind.Memory) ⊎ IsNoSource bytes.now e.line e.kind) }
@@ -106,7 +106,7 @@ fn take_source(alloc: Global, bytes: &[u8]) -> Result<(Action, &[u8]), BulkFault
     }
 }
 
-// The write at the front, and the bytes after its lines. The fault's line is counted from the first.
+// The first write, and the bytes after its lines. A fault's line is relative to the first.
 fn take_write<'b>(
     alloc: Global,
     bytes: &'b [u8],
@@ -148,7 +148,6 @@ fn take_write<'b>(
     }
 }
 
-// How many lines a write has.
 fn line_count(action: &Action) -> u64
     ensures { result ≡ line_count action.now }
 {

@@ -1,4 +1,4 @@
-//! Writes as bulk lines.
+//! Bulk text of writes.
 ghost use Rattle.std.specs.Prelude.{◌≡◌, ◌++◌, IfOk, OnOk, OnErr, codes, decimal};
 ghost use Rattle.relay_ndjson.specs.Bulk.{action_text, line_end, source_line, write_text, text_of, opening, Begins, ActionLinesReadBack};
 ghost use Rattle.relay_ndjson.specs.Escapes.{EscapesByTable};
@@ -10,23 +10,23 @@ use relay_action::{Action, ByteOut, Write, write_all};
 use std::alloc::{AllocError, Global};
 use thiserror::Error;
 
-/// Why a text was not written whole.
+/// Why a text was not written in full.
 #[derive(Clone, Copy, Debug, PartialEq, Eq, Error)]
 pub enum TextFault {
-    /// A write of the stream failed. Exactly the first `sent` bytes of the text went out, fewer than
-    /// all.
+    /// A write to the stream failed after exactly the first `sent` bytes of the text, which are
+    /// fewer than all.
     #[error("write failed")]
     Write {
-        /// How many bytes went out.
+        /// The number of bytes that were written.
         sent: u64,
     },
-    /// There was no memory for the text. None of it went out.
+    /// An allocation for the text failed, and nothing was written.
     #[error("out of memory")]
     Memory,
 }
 
 /// Appends the lines of a write to a text: the action line, and for an index action the source.
-/// `AllocError`: there was no memory for them, and the text is as before.
+/// `AllocError`: allocation failed, and the text is unchanged.
 pub fn append_write(alloc: Global, text: &mut Vec<u8>, write: &Write) -> Result<(), AllocError>
     ensures ok { OnOk result (text.new.items ≡ text.old.items ++ write_text write.now) }
     ensures err { OnErr result (text.new.items ≡ text.old.items) }
@@ -39,9 +39,9 @@ pub fn append_write(alloc: Global, text: &mut Vec<u8>, write: &Write) -> Result<
     done
 }
 
-/// Appends the action line of a write to a text, with its end, and nothing of its source, for whoever
-/// writes a long source from where it lies. `AllocError`: there was no memory for it, and the text is as
-/// before.
+/// Appends the action line of a write, with its line end, but not the source: a caller can then
+/// write a long source without copying it. `AllocError`: allocation failed, and the text is
+/// unchanged.
 pub fn append_action_line(
     alloc: Global,
     text: &mut Vec<u8>,
@@ -58,8 +58,8 @@ pub fn append_action_line(
     done
 }
 
-/// Appends the bulk text of writes to a text: their lines, one after another. `AllocError`: there was no
-/// memory for them, and the lines of the first of them were appended, of fewer than all.
+/// Appends the lines of these writes, one write after another. `AllocError`: allocation failed, and
+/// the lines of the first few writes, fewer than all, were appended.
 pub fn append_bulk(text: &mut Vec<u8>, writes: &[Write]) -> Result<(), AllocError>
     ensures ok { OnOk result (text.new.items ≡ text.old.items ++ text_of writes.now) }
     ensures err { OnErr result (AppendsFirst text.old.items text.new.items writes.now) }
@@ -73,7 +73,7 @@ pub fn append_bulk(text: &mut Vec<u8>, writes: &[Write]) -> Result<(), AllocErro
     Ok(())
 }
 
-/// The bulk text of writes: their lines, one after another. `AllocError`: there was no memory for it.
+/// The bulk text of these writes. `AllocError`: allocation failed.
 pub fn bulk_text(alloc: Global, writes: &[Write]) -> Result<Vec<u8>, AllocError>
     ensures { IfOk result (λ text. text.items ≡ text_of writes.now) }
 {
@@ -82,7 +82,7 @@ pub fn bulk_text(alloc: Global, writes: &[Write]) -> Result<Vec<u8>, AllocError>
     Ok(text)
 }
 
-/// Writes the lines of a write to a stream. The faults say what went out.
+/// Writes the lines of a write to a stream. The fault says how much was written.
 pub fn write_write<W: ByteOut>(alloc: Global, out: &mut W, write: &Write) -> Result<(), TextFault>
     ensures text { WritesText (W.written out.old) (W.written out.new) (write_text write.now) result }
     ensures failed { FailsOnWrite (W.failed out.old) (W.failed out.new) result }
@@ -93,18 +93,18 @@ pub fn write_write<W: ByteOut>(alloc: Global, out: &mut W, write: &Write) -> Res
     write_all(out, text.as_slice()).map_err(|sent| TextFault::Write { sent: sent as u64 })
 }
 
-/// A law: a byte of a text stands in a JSON string as the table of escapes says.
+/// A law: the JSON string of a text is escaped by the table in `specs/Escapes.antt`.
 #[tactic(auto, unfolding(json::specs::Print::escape_byte))]
 pub fn escapes_by_table()
     ensures { EscapesByTable }
 {}
 
-/// A law: an action line reads, as the JSON value that `serde_json` reads, as what it says.
+/// A law: `serde_json` reads an action line as the JSON value that it stands for.
 pub fn action_lines_read_back()
     ensures { ActionLinesReadBack }
 {}
 
-// How an action line begins, up to the text of the id.
+// The start of an action line, up to the text of the id.
 fn opening(action: &Action) -> &'static [u8]
     ensures { result.now ≡ opening action.now }
 {
@@ -114,8 +114,8 @@ fn opening(action: &Action) -> &'static [u8]
     }
 }
 
-// Appends what an action line says of the document: its start, the text of the id and that of the index
-// name, both as they stand between quotes.
+// Appends the part of an action line that names the document: its start, the id and the index name,
+// escaped.
 fn append_document(
     text: &mut Vec<u8>,
     action: &Action,
@@ -132,7 +132,7 @@ fn append_document(
     text.extend_from_slice(index)
 }
 
-// Appends the rest of an action line and its end.
+// Appends the rest of an action line and its line end.
 fn append_version(text: &mut Vec<u8>, version: u64) -> Result<(), AllocError>
     ensures ok { OnOk result (text.new.items ≡ text.old.items
         ++ codes "\",\"version\":" ++ decimal version ++ codes ",\"version_type\":\"external\"}}\n") }
@@ -144,7 +144,7 @@ fn append_version(text: &mut Vec<u8>, version: u64) -> Result<(), AllocError>
     text.extend_from_slice(b",\"version_type\":\"external\"}}\n")
 }
 
-// Appends what follows an action line: for an index action its source and a line end.
+// Appends the source of an index action and a line end.
 fn append_source(text: &mut Vec<u8>, action: &Action) -> Result<(), AllocError>
     ensures ok { OnOk result (text.new.items ≡ text.old.items ++ source_line action.now) }
     ensures front { Begins text.old.items text.new.items }
@@ -156,7 +156,7 @@ fn append_source(text: &mut Vec<u8>, action: &Action) -> Result<(), AllocError>
     Ok(())
 }
 
-// Appends an action line and its end. An error leaves some of it.
+// Appends an action line and its line end. After an error, part of it may be there.
 #[tactic(auto, using(crate::proofs::Parts::line_in_parts))]
 fn append_line(alloc: Global, text: &mut Vec<u8>, write: &Write) -> Result<(), AllocError>
     ensures ok { OnOk result (text.new.items ≡ text.old.items ++ (action_text write.now ++ line_end)) }
@@ -173,7 +173,7 @@ fn append_line(alloc: Global, text: &mut Vec<u8>, write: &Write) -> Result<(), A
     append_version(text, write.version)
 }
 
-// Appends the lines of a write. An error leaves some of them.
+// Appends the lines of a write. After an error, part of them may be there.
 fn append_lines(alloc: Global, text: &mut Vec<u8>, write: &Write) -> Result<(), AllocError>
     ensures ok { OnOk result (text.new.items ≡ text.old.items ++ write_text write.now) }
     ensures front { Begins text.old.items text.new.items }

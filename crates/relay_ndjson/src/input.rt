@@ -1,4 +1,4 @@
-//! The operations of a producer with the stream that they are read from.
+//! A producer's operations, read from a stream that the reader owns.
 ghost use Rattle.std.specs.Prelude.{◌≡◌, ◌≤◌, ◌↔◌, length, IsTrue};
 
 use crate::kind::InputFault;
@@ -7,8 +7,8 @@ use relay_action::{Action, ByteIn, DocKey};
 use std::alloc::Global;
 use std::marker::Model;
 
-/// A producer's input: a stream of NDJSON, read in pieces of 64 KiB. `new` takes no memory; the first
-/// `next` makes room for a piece, and what is held does not grow with the input.
+/// A producer's input: a stream of NDJSON, read in pieces of 64 KiB. `new` does not allocate; the
+/// first `next` allocates room for one piece, and memory does not grow with the input.
 #[derive(Drop)]
 pub struct Input<'a, R: ByteIn> {
     reader: R,
@@ -29,8 +29,8 @@ impl<'a, R: ByteIn> Input<'a, R> {
     ghost use Rattle.relay_ndjson.specs.Operations.{failed_after};
     ghost use Rattle.relay_ndjson.specs.Reading.{fresh, Steps, HoldsTwoLines};
 
-    /// The input of a stream of which nothing was read. An operation that names no index has the default
-    /// index, if one is given; its length is judged with each operation that uses it.
+    /// The input from a stream of which nothing was read. Operations without an index name get the
+    /// default index, if one is given; its length is checked with each of them.
     pub fn new(alloc: Global, reader: R, default_index: Option<&'a str>) -> Input<'a, R>
         ensures { result ≡ fresh (R.left reader) (R.failed reader) (shown default_index.entry) }
     {
@@ -40,7 +40,7 @@ impl<'a, R: ByteIn> Input<'a, R> {
         }
     }
 
-    /// The next operation, or `None` at the end, as [`Parser::next`] says.
+    /// The next operation, or `None` at the end, as [`Parser::next`].
     pub fn next(&mut self) -> Result<Option<(DocKey, Action)>, InputFault>
         ensures lines { Steps self.old.phase self.old self.new result }
         ensures failed { self.new.failed ≡ failed_after result self.old.failed }
@@ -49,14 +49,15 @@ impl<'a, R: ByteIn> Input<'a, R> {
         self.parser.next(&mut self.reader)
     }
 
-    /// Whether the next answer needs no read, as [`Parser::is_ready`] says.
+    /// Whether the next call of `next` needs no read, as [`Parser::is_ready`].
     pub fn is_ready(&self) -> bool
         ensures { IsTrue result ↔ HoldsTwoLines self.now.held }
     {
         self.parser.is_ready()
     }
 
-    /// The number of the action line that was given last, 0 before the first. A fault does not change it.
+    /// The line number of the last action line returned, 0 before the first. A fault does not
+    /// change it.
     pub fn line(&self) -> u64
         ensures { result ≡ self.now.line }
     {

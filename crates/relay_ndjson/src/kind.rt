@@ -1,4 +1,4 @@
-//! What is wrong with a line.
+//! Faults of lines.
 ghost use Rattle.std.specs.Prelude.{◌≡◌};
 ghost use Rattle.relay_ndjson.specs.Kinds.{kind_of, name_of};
 
@@ -6,44 +6,45 @@ use relay_action::ActionFault;
 use std::fmt;
 use thiserror::Error;
 
-/// What is wrong with a line. Its text is its name, as the programs print it.
+/// What is wrong with a line. A kind is printed as its name.
 #[derive(Clone, Copy, Debug, PartialEq, Eq)]
 pub enum LineKind {
-    /// The line is not UTF-8, or an action line is not JSON, or nests more than 127 deep.
+    /// The line is not UTF-8, or an action line is not JSON or is nested more than 127 deep.
     NotJson,
-    /// The action line is not an object of one member whose value is an object.
+    /// The action line is not an object with one member whose value is an object.
     NotOneAction,
     /// The member is named neither `index` nor `delete`.
     UnsupportedAction,
-    /// The metadata have a member that is none of `_index`, `_id`, `version` and `version_type`.
+    /// The metadata have a member other than `_index`, `_id`, `version` and `version_type`.
     UnsupportedField,
-    /// `_index` is absent and there is no default, or it is not a text.
+    /// `_index` is absent and there is no default, or it is not a string.
     MissingIndex,
-    /// `_id` is absent, or is neither a text nor an integer of 64 bits.
+    /// `_id` is absent, or neither a string nor a 64-bit integer.
     MissingId,
-    /// A producer's line has `version` or `version_type`, which the relay gives.
+    /// A producer's line has `version` or `version_type`, which the relay assigns.
     VersionGiven,
-    /// On the index side, `version` or `version_type` is absent or not as it has to be.
+    /// On the index side, `version` or `version_type` is absent or invalid.
     VersionMissing,
-    /// The input ended after an index action, whose source was to follow.
+    /// The input ended after an index action, before its source.
     SourceMissing,
     /// The document or the source is refused.
     Action(ActionFault),
     /// On the index side, the last line has no line end.
     NoFinalNewline,
-    /// The line has more than 1,114,112 bytes without its end, or it is the blank line after 65,536
-    /// blank lines in succession.
+    /// The line has more than 1,114,112 bytes without its end, or is the blank line after 65,536
+    /// consecutive ones.
     LineLong,
-    /// A read failed. It is not repeated.
+    /// A read failed. It is not retried.
     Read,
-    /// There was no memory for the line or for what stands on it.
+    /// An allocation for the line or for its contents failed.
     Memory,
-    /// There was a fault before, on the line that is named.
+    /// An earlier call returned a fault, on the line that is named.
     Failed,
 }
 
 impl LineKind {
-    /// Its name, as it is printed: that of the variant, and of `Action` that of the fault inside.
+    /// The name, as the programs print it: that of the variant, or for `Action` that of the fault
+    /// inside.
     pub fn name(self) -> &'static str
         ensures { result.now ≡ name_of self }
     {
@@ -75,27 +76,27 @@ impl fmt::Display for LineKind {
 
 impl std::error::Error for LineKind {}
 
-/// Which line of an input is at fault, and why.
+/// The fault of an input: its line, and what is wrong with it.
 #[derive(Clone, Copy, Debug, PartialEq, Eq, Error)]
 #[error("line {line}: {kind}")]
 pub struct InputFault {
-    /// The line, counted from 1, blank lines included. At 2^64 - 1 the count stays.
+    /// The line, from 1, including blank lines; it saturates at 2^64 - 1.
     pub line: u64,
     /// What is wrong with it.
     pub kind: LineKind,
 }
 
-/// Which line of a body is at fault, and why.
+/// The fault of a body: its line, and what is wrong with it.
 #[derive(Clone, Copy, Debug, PartialEq, Eq, Error)]
 #[error("line {line}: {kind}")]
 pub struct BulkFault {
-    /// The line, counted from 1.
+    /// The line, from 1.
     pub line: u64,
-    /// What is wrong with it. `Read` and `Failed` are none of a body, nor is `VersionGiven`.
+    /// What is wrong with it. A body never has `Read`, `Failed` or `VersionGiven`.
     pub kind: LineKind,
 }
 
-/// The kind of a fault of a document or a source. Out of memory has a kind of its own.
+/// The kind for a fault of a document or a source. A failed allocation has its own kind.
 pub fn kind_of(fault: ActionFault) -> LineKind
     ensures { result ≡ kind_of fault }
 {

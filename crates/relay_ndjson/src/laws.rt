@@ -1,9 +1,10 @@
-//! What the grammars and their faults have to do with one another.
+//! How the grammars and their faults relate.
 ghost use Rattle.relay_ndjson.specs.Laws.{TextDecides, NoOperationAtFault, NoEndAtFault, NoOperationAtEnd, OneFault, OneOperation, NoOperationAtRead, AlwaysDecided, VersionedTextDecides, BulkTextIsBulk, OneBulk, NoFaultInBulk, OneBulkFault};
 
-/// Laws. A text has no fault exactly where it asks for an action on a document that may be. Over bytes
-/// that are known, an operation, the end and a fault exclude each other, one of them is always there, and
-/// there is one operation, or one first fault. Where a read failed, no whole operation had been read.
+/// Laws of a producer's input. A text has no fault exactly if it asks for an action on a valid
+/// document. Over known bytes, an operation, the end and a fault exclude each other, one of them
+/// always applies, and there is only one operation or one first fault. If a read failed, no whole
+/// operation had been read.
 pub fn faults_exclude()
     ensures text { TextDecides }
     ensures operation { NoOperationAtFault }
@@ -15,9 +16,9 @@ pub fn faults_exclude()
     ensures total { AlwaysDecided }
 {}
 
-/// Laws of bodies. A text has no fault exactly where it asks for an action on a document that may be, at a
-/// version. What is written for writes is a body of just these. A body has one list of writes, and then
-/// no fault; and there is one first fault.
+/// Laws of bodies. A text has no fault exactly if it asks for an action on a valid document at a
+/// version. The bulk text of writes is a body of exactly these writes. A body has a single list of
+/// writes, and then no fault; and there is only one first fault.
 pub fn bodies_are_one()
     ensures text { VersionedTextDecides }
     ensures written { BulkTextIsBulk }

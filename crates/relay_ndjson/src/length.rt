@@ -1,4 +1,4 @@
-//! How long bulk lines are, without writing them.
+//! Lengths of bulk lines, computed without writing them.
 ghost use Rattle.std.specs.Prelude.{◌≡◌, ◌*◌, ◌^◌, ◌<◌, ◌≤◌, length, decimal};
 ghost use Rattle.json.specs.Print.{escape, escape_byte};
 ghost use Rattle.relay_ndjson.specs.Bulk.{action_text, source_line, write_text, text_of};
@@ -6,7 +6,7 @@ ghost use Rattle.relay_ndjson.specs.Bulk.{action_text, source_line, write_text, 
 use itoa::Buffer;
 use relay_action::{Action, Write};
 
-/// The length of a write's lines, in bytes: below 2^21. It takes no memory.
+/// The length of a write's lines, in bytes: below 2^21. It does not allocate.
 pub fn write_len(write: &Write) -> u64
     ensures value { result ≡ length (write_text write.now) }
     ensures bound { result < 2 ^ 21 }
@@ -18,7 +18,7 @@ pub fn write_len(write: &Write) -> u64
     action_len(write) + 1 + source
 }
 
-/// The length of the bulk text of at most 10,000 writes, in bytes. It takes no memory.
+/// The length of the bulk text of at most 10,000 writes, in bytes. It does not allocate.
 pub fn bulk_len(writes: &[Write]) -> u64
     requires { length writes.now ≤ 10000 }
     ensures { result ≡ length (text_of writes.now) }
@@ -30,7 +30,7 @@ pub fn bulk_len(writes: &[Write]) -> u64
     total
 }
 
-// How many bytes stand for a byte in a JSON string.
+// The number of bytes that a byte becomes in a JSON string.
 #[tactic(auto, unfolding(json::specs::Print::escape_byte))]
 fn escape_len(byte: u8) -> u64
     ensures value { result ≡ length (escape_byte byte) }
@@ -43,7 +43,7 @@ fn escape_len(byte: u8) -> u64
     }
 }
 
-// How many bytes stand for a text in a JSON string, without its quotes.
+// The number of bytes that a text becomes in a JSON string, without the quotes.
 fn escaped_len(text: &str) -> u64
     requires { length text.now < 2 ^ 32 }
     ensures value { result ≡ length (escape text.now) }
@@ -56,7 +56,6 @@ fn escaped_len(text: &str) -> u64
     total
 }
 
-// How many digits a number has.
 fn digits(n: u64) -> u64
     ensures value { result ≡ length (decimal n) }
     ensures bound { result ≤ 20 }

@@ -1,11 +1,10 @@
-//! Bulk lines: the text of writes for `POST /_bulk`, there and back, and the operations that a producer
-//! hands over as NDJSON. It stands on `relay_action` for values and streams, on `serde_json` for JSON, on
-//! `itoa` for numbers and on `memchr` for line ends.
+//! Bulk text: writing the body of `POST /_bulk` and reading it back, and reading the operations
+//! that a producer submits as NDJSON. It depends on `relay_action` for values and streams, on
+//! `serde_json` for JSON, on `itoa` for numbers and on `memchr` for line ends.
 //!
-//! It carries these promises: what is written is the bulk text of the writes; a body is read as the
-//! writes whose lines it is, so what was written reads back; and what a producer's lines are read as is
-//! what the producer grammar says of them. A fault names the first line that breaks the grammar, with
-//! its kind.
+//! What is proved: what is written is the bulk text of the writes; a body is read as the writes
+//! whose lines it has, so what was written reads back; and a producer's lines are read as the
+//! producer grammar says. A fault names the first line that breaks the grammar, and its kind.
 #![tactic(auto)]
 
 pub mod action_line;

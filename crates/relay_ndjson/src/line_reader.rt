@@ -1,4 +1,4 @@
-//! The lines of a stream, for readers of another format than bulk text.
+//! The lines of a stream, for formats other than bulk text.
 ghost use Rattle.std.specs.Prelude.{◌≡◌, ◌≤◌, [], length, IfOk, IfErr, OnErr};
 ghost use Rattle.std.specs.Bool.{OnTrue};
 ghost use Rattle.std.specs.Io.KnownBytes.{prepend_known};
@@ -13,10 +13,10 @@ use relay_action::ByteIn;
 use std::alloc::Global;
 use std::marker::Model;
 
-/// The lines of a stream that the caller holds, one after another, as the readers of bulk text find them:
-/// what was read and not used yet, the line that was taken last and what ended it, and how many were taken. Each call is
-/// given the stream, always the same one. It takes no memory before the first call of `next`, which makes
-/// room for 64 KiB.
+/// The lines of a stream, read one after another by the rules of bulk text. The reader keeps what
+/// it has read ahead, the last line taken and what ended it, and the number of lines taken. The
+/// caller holds the stream and passes the same one to each call. It does not allocate before the
+/// first call of `next`, which allocates room for 64 KiB.
 #[derive(Drop)]
 pub struct LineReader {
     lines: Lines,
@@ -31,7 +31,7 @@ impl Model for LineReader {
 }
 
 impl LineReader {
-    /// A reader of which nothing was read.
+    /// A reader that has read nothing.
     pub fn new(alloc: Global) -> LineReader
         ensures held { result.held ≡ [] }
         ensures count { result.count ≡ 0 }
@@ -41,9 +41,9 @@ impl LineReader {
         }
     }
 
-    /// Takes the next line, and tells whether there was one. The faults, with the number of that line, are
-    /// `LineLong`, `Read` and `Memory`. After a fault the line is not whole and is not counted, and what
-    /// stands in front of the stream is the rest of it; a failed read is not repeated in the same call.
+    /// Takes the next line, and returns whether there was one. The faults, with the number of that
+    /// line, are `LineLong`, `Read` and `Memory`. After a fault the line is not counted, and the
+    /// stream is somewhere inside it; a failed read is not retried within a call.
     pub fn next<R: ByteIn>(&mut self, reader: &mut R) -> Result<bool, InputFault>
         ensures line { TakesNext (prepend_known self.old.held (R.left reader.old))
             (prepend_known self.new.held (R.left reader.new)) self.old.count self.new.count self.new.text result }
@@ -58,28 +58,28 @@ impl LineReader {
         self.lines.take_line(reader)
     }
 
-    /// The line that was taken last, without its end.
+    /// The last line taken, without its end.
     pub fn text(&self) -> &[u8]
         ensures { result.now ≡ self.now.text }
     {
         self.lines.text.as_slice()
     }
 
-    /// What ended the line that was taken last.
+    /// What ended the last line taken.
     pub fn end(&self) -> LineEnd
         ensures { result ≡ self.now.end }
     {
         self.lines.end
     }
 
-    /// How many lines were taken. At 2^64 - 1 the count stays.
+    /// The number of lines taken; it saturates at 2^64 - 1.
     pub fn count(&self) -> u64
         ensures { result ≡ self.now.count }
     {
         self.lines.count
     }
 
-    /// Whether the next answer needs no read: the end of a line stands in what was read.
+    /// Whether the next call of `next` needs no read: a whole line has been read ahead.
     #[tactic(auto, using(crate::proofs::LineEnds::found_end))]
     pub fn is_ready(&self) -> bool
         ensures { result ≡ holds_end self.now.held }

@@ -1,4 +1,4 @@
-//! Lines of a producer, and the operations that stand on them.
+//! The lines of a producer's input, and the operations on them.
 ghost use Rattle.std.specs.Prelude.{◌≡◌, ◌<◌, ◌≤◌, ◌↔◌, ◌∷◌, ◌++◌, ℕ, List, Option, [], true, false, OnOk, OnErr, IfOk, IfErr, IfSome, IfNone, IsTrue, length, slice_index};
 ghost use Rattle.std.specs.Bool.{OnTrue, OnFalse};
 ghost use Rattle.std.specs.Io.KnownBytes.{prepend_known};
@@ -17,20 +17,20 @@ use relay_action::{Action, ActionKind, ByteIn, DocKey};
 use relay_json::Scratch;
 use std::alloc::Global;
 
-/// The most bytes of a line, without its end.
+/// The maximum length of a line without its end, in bytes.
 pub const LINE_LIMIT: usize = 1_114_112;
 
-/// The most blank lines in succession.
+/// The maximum number of consecutive blank lines.
 pub const BLANK_LIMIT: u64 = 65_536;
 
-/// How a line was found.
+/// What was found in place of a line.
 #[derive(Clone, Copy, Debug, PartialEq, Eq)]
 pub enum Line {
-    /// With its end.
+    /// A line with its end.
     Ended,
-    /// The last line, without one.
+    /// A last line without an end.
     Open,
-    /// No bytes were left.
+    /// The end of the input.
     Absent,
 }
 
@@ -46,7 +46,7 @@ pub enum LineEnd {
 }
 
 impl LineEnd {
-    /// Its bytes.
+    /// The bytes that ended the line.
     pub fn bytes(self) -> &'static [u8]
         ensures { result.now ≡ end_bytes self }
     {
@@ -58,12 +58,12 @@ impl LineEnd {
     }
 }
 
-/// What a piece gave of a line.
+/// What a piece contributed to a line.
 #[derive(Clone, Copy, Debug, PartialEq, Eq)]
 pub enum Part {
-    /// The rest of it, with its end.
+    /// The rest of the line, with its end.
     End,
-    /// All that the piece held, which does not end it.
+    /// All that the piece held; the line goes on.
     More,
 }
 
@@ -75,8 +75,8 @@ pub struct NumberedOperation {
     pub action: Action,
 }
 
-/// The lines of a stream: what was read and not used yet, the line that was taken last, how many were
-/// taken, and room that serves the reading of one action line after another.
+/// The lines of a stream: what was read ahead, the last line taken, the number of lines taken, and
+/// the scratch for reading action lines.
 #[derive(Drop)]
 pub struct Lines {
     pub piece: Piece,
@@ -94,7 +94,7 @@ impl Lines {
     ghost use Rattle.relay_ndjson.specs.LineReading.{TakesNext};
     ghost use Rattle.relay_ndjson.specs.Steps.{SkipsBlank, TakesSource, Reads, StopsInSource};
 
-    /// Lines of which none was taken.
+    /// Before any line was taken.
     pub fn new(alloc: Global) -> Lines
         ensures piece { result.piece ≡ [] }
         ensures count { result.count ≡ 0 }
@@ -108,7 +108,7 @@ impl Lines {
         }
     }
 
-    // Adds what the piece holds of the line that has begun.
+    // Adds to the line what the piece holds of it.
     fn take_part(&mut self) -> Result<Part, LineKind>
         requires unbroken { IsUnbroken self.old.text.items }
         requires start { IsStart self.old.text.items }
@@ -272,7 +272,7 @@ impl Lines {
     }
 }
 
-/// Whether a byte that ends no line stands there, and two line feeds after it.
+/// Whether the piece has a byte that is not a line end, and two line feeds after it.
 pub fn holds_two_lines(piece: &Piece) -> bool
     ensures { IsTrue result ↔ HoldsTwoLines piece.now }
 {
@@ -286,7 +286,7 @@ pub fn holds_two_lines(piece: &Piece) -> bool
     piece.holds_feed_from(start + end + 1)
 }
 
-// Whether a line with these bytes added is longer than a line may be, whatever follows them.
+// Whether a line that begins with these bytes is too long, whatever follows them.
 #[tactic(auto, using(crate::proofs::Pieces::last_byte))]
 fn is_past_limit(line: &[u8], bytes: &[u8]) -> bool
     requires { IsStart line.now }
@@ -306,7 +306,7 @@ fn is_past_limit(line: &[u8], bytes: &[u8]) -> bool
     }
 }
 
-// Adds bytes to a line, unless that makes it longer than a line may be.
+// Adds bytes to a line, unless it gets too long.
 fn add(line: &mut Vec<u8>, bytes: &[u8]) -> Result<(), LineKind>
     requires { IsStart line.old.items }
     ensures ok { OnOk result ((line.new.items ≡ line.old.items ++ bytes.now) × IsStart line.new.items) }
@@ -318,7 +318,7 @@ fn add(line: &mut Vec<u8>, bytes: &[u8]) -> Result<(), LineKind>
     line.extend_from_slice(bytes).map_err(|_| LineKind::Memory)
 }
 
-// Drops the carriage return before a line feed, and tells what ends the line.
+// Drops the carriage return before a line feed, and returns what ended the line.
 fn drop_return(line: &mut Vec<u8>) -> LineEnd
     requires { IsStart line.old.items }
     ensures raw { IsRaw line.new.items line.old.items }
@@ -332,7 +332,7 @@ fn drop_return(line: &mut Vec<u8>) -> LineEnd
     LineEnd::Feed
 }
 
-// What the bytes of a line are where the input ends after them.
+// What the bytes of a line are if the input ends after them.
 fn end_of_line(line: &[u8]) -> Result<Line, LineKind>
     ensures { EndsLine line.now result }
 {
@@ -346,7 +346,7 @@ fn end_of_line(line: &[u8]) -> Result<Line, LineKind>
     })
 }
 
-// Where the first byte stands that ends no line.
+// The position of the first byte that is not a line end.
 fn text_start(bytes: &[u8]) -> Option<usize>
     ensures some { IfSome result (λ start. (start < length bytes.now) × (is_line_end (slice_index bytes.now start) ≡ false)) }
     ensures first { IfSome result (λ start. (k : ℕ) → k < start → is_line_end (slice_index bytes.now k) ≡ true) }

@@ -12,19 +12,20 @@ use relay_action::DocKey;
 use relay_json::{Fields, Gather, Leaf, ReadFault, Walk};
 use std::alloc::Global;
 
-/// What counts of the metadata of an action line: what each member that may be is, where it is there.
+/// What is kept of the metadata of an action line: the value of each member that is allowed, if it
+/// is there.
 #[derive(Clone, Copy)]
 pub struct Metadata<'t> {
     pub index: Option<Leaf<'t>>,
     pub id: Option<Leaf<'t>>,
     pub version: Option<Leaf<'t>>,
     pub version_type: Option<Leaf<'t>>,
-    /// Whether there is a member of another name.
+    /// Whether there is a member with another name.
     pub has_other: bool,
 }
 
 impl<'t> Metadata<'t> {
-    // One more member, which replaces those of its name.
+    // Sets a member, which replaces an earlier one of the same name.
     #[inline(always)]
     fn set(&mut self, name: &str, leaf: Leaf<'t>)
         ensures { (d : Data) (ms : Members) → IsLeaf leaf.entry d → HoldsMembers self.old ms
@@ -65,7 +66,7 @@ impl<'t> Fields<'t> for Metadata<'t> {
     }
 }
 
-/// The document of metadata whose members may be.
+/// The document of metadata that have only allowed members.
 pub fn document_of<'t>(
     alloc: Global,
     default_index: Option<&'t str>,
@@ -85,7 +86,7 @@ pub fn document_of<'t>(
     key_at(alloc, index, id)
 }
 
-// The index, where one is given or the default serves.
+// The index name that is given, or else the default.
 fn index_of<'t>(default_index: Option<&'t str>, metadata: &Metadata<'t>) -> Option<&'t str>
     ensures { (ms : Members) → HoldsMembers metadata.now ms
         → option_map (λ t. t.now) result ≡ index_of (shown default_index.entry) (object ms) }
@@ -96,7 +97,7 @@ fn index_of<'t>(default_index: Option<&'t str>, metadata: &Metadata<'t>) -> Opti
     }
 }
 
-// The decimal text of an integer of 64 bits.
+// The decimal text of a 64-bit integer.
 fn integer_text<'b>(leaf: Leaf<'_>, buffer: &'b mut Buffer) -> Option<&'b str>
     ensures { (d : Data) → IsLeaf leaf.entry d
         → option_map (λ t. t.now) result ≡ option_and_then number_text (as_number d) }
@@ -110,7 +111,6 @@ fn integer_text<'b>(leaf: Leaf<'_>, buffer: &'b mut Buffer) -> Option<&'b str>
     None
 }
 
-// The document of an index name and an id.
 fn key_at(alloc: Global, index: &str, id: Leaf<'_>) -> Result<DocKey, LineKind>
     ensures ok { (d : Data) → IsLeaf id.entry d
         → IfOk result (λ k. (k.index ≡ index.now) × (id_text d ≡ Some k.id)) }

@@ -1,4 +1,4 @@
-//! The operations of a producer, read one after another from a stream that the caller holds.
+//! A producer's operations, read one after another from a stream that the caller holds.
 ghost use Rattle.std.specs.Prelude.{◌≡◌, ◌≤◌, ◌↔◌, length, IsTrue};
 
 use crate::kind::{InputFault, LineKind};
@@ -7,20 +7,21 @@ use relay_action::{Action, ByteIn, DocKey};
 use std::alloc::Global;
 use std::marker::Model;
 
-/// Whether the operations go on.
+/// Whether there may be more operations.
 #[derive(Clone, Copy, Debug, PartialEq, Eq)]
 pub enum Phase {
-    /// They do.
+    /// There may be.
     Open,
     /// The input has ended.
     Ended,
-    /// The line of this number was at fault.
+    /// The line with this number had a fault.
     Failed(u64),
 }
 
-/// What was read of a producer's input and not used yet, and how far its lines were taken. It is the
-/// part of [`Input`](crate::Input) beside the stream; each call is given the stream, always the same one.
-/// It takes no memory before the first call of `next`, which makes room for 64 KiB.
+/// The state of reading a producer's input: what was read ahead, and the number of lines taken. It
+/// is [`Input`](crate::Input) without the stream, which the caller holds and passes to each call,
+/// always the same one. It does not allocate before the first call of `next`, which allocates room
+/// for 64 KiB.
 #[derive(Drop)]
 pub struct Parser<'a> {
     alloc: Global,
@@ -51,8 +52,8 @@ impl<'a> Parser<'a> {
     ghost use Rattle.relay_ndjson.specs.Operations.{failed_after};
     ghost use Rattle.relay_ndjson.specs.Reading.{start, reading, Steps, HoldsTwoLines};
 
-    /// A parser of which nothing was read. An operation that names no index has the default index, if
-    /// one is given; its length is judged with each operation that uses it.
+    /// A parser that has read nothing. Operations without an index name get the default index, if
+    /// one is given; its length is checked with each of them.
     pub fn new(alloc: Global, default_index: Option<&'a str>) -> Parser<'a>
         ensures { result ≡ start (shown default_index.entry) }
     {
@@ -65,11 +66,11 @@ impl<'a> Parser<'a> {
         }
     }
 
-    /// The next operation, or `None` at the end. The fault is the first line that breaks the producer
-    /// grammar, a failed read, or out of memory, with the line that was being read. No more of the stream
-    /// is read than the line at fault and a piece of 64 KiB, and a failed read is not repeated: before it
-    /// no whole operation was left. After `None` it answers `None`, and after a fault `Failed` with the
-    /// line of that fault; neither reads.
+    /// The next operation, or `None` at the end. The fault names the first line that breaks the
+    /// producer grammar, or the line that was being read when a read or an allocation failed. At
+    /// most the bad line and 64 KiB more are read. A failed read is not retried; no whole operation
+    /// was unread before it. After `None`, further calls return `None`; after a fault, they return
+    /// `Failed` with its line. Neither reads.
     pub fn next<R: ByteIn>(
         &mut self,
         reader: &mut R,
@@ -108,15 +109,16 @@ impl<'a> Parser<'a> {
         }
     }
 
-    /// Whether the next answer needs no read: after blank lines, two whole lines stand in what was read.
-    /// Where it says no, the next call of `next` may wait for the stream.
+    /// Whether the next call of `next` needs no read: two whole lines after any blank ones have
+    /// been read ahead. If not, `next` may wait for the stream.
     pub fn is_ready(&self) -> bool
         ensures { IsTrue result ↔ HoldsTwoLines self.now.held }
     {
         holds_two_lines(&self.lines.piece)
     }
 
-    /// The number of the action line that was given last, 0 before the first. A fault does not change it.
+    /// The line number of the last action line returned, 0 before the first. A fault does not
+    /// change it.
     pub fn line(&self) -> u64
         ensures { result ≡ self.now.line }
     {

@@ -1,4 +1,4 @@
-//! What was read of a stream and not used yet.
+//! What was read ahead of a stream.
 ghost use Rattle.std.specs.Prelude.{◌≡◌, ◌≢◌, ◌<◌, ◌≤◌, ◌↔◌, [], length, drop, vec_len, IsTrue, IfOk, IfErr, OnOk, OnErr};
 ghost use Rattle.std.specs.Bool.{OnTrue, OnFalse};
 ghost use Rattle.std.specs.Io.KnownBytes.{prepend_known, IsAtEnd};
@@ -11,18 +11,18 @@ use relay_action::ByteIn;
 use std::alloc::{AllocError, Global};
 use std::marker::Model;
 
-/// How many bytes are asked for at a time.
+/// The number of bytes to read at a time.
 const PIECE: usize = 65_536;
 
-/// A piece of a stream, of which contracts see the bytes that were not used yet. It takes no memory
-/// before it is filled.
+/// What was read ahead of a stream. Contracts see the bytes that were not used yet. It does not
+/// allocate before it is filled.
 #[derive(Drop)]
 pub struct Piece {
     alloc: Global,
     bytes: Vec<u8>,
     from: usize,
     to: usize,
-    // How far the last line that ends in what was read reaches, 0 where none ends there.
+    // Where the last line that ends in these bytes ends, or 0.
     ends: usize,
 }
 
@@ -39,14 +39,13 @@ impl Model for Piece {
         × EndsLinesAt p.ends p.to p.bytes.items };
 }
 
-// Room for a piece.
 fn make_room(alloc: Global) -> Result<Vec<u8>, AllocError>
     ensures { IfOk result (λ bytes. vec_len bytes ≡ piece_limit) }
 {
     vec![in alloc; 0; PIECE]
 }
 
-// How far the last line that ends there reaches, 0 where none does.
+// Where the last line that ends in these bytes ends, or 0.
 fn last_end(bytes: &[u8]) -> usize
     ensures { EndsLinesAt result (length bytes.now) bytes.now }
 {
@@ -57,7 +56,7 @@ fn last_end(bytes: &[u8]) -> usize
 }
 
 impl Piece {
-    /// A piece that holds nothing.
+    /// A piece with nothing read.
     pub fn new(alloc: Global) -> Piece
         ensures { result ≡ [] }
     {
@@ -84,15 +83,15 @@ impl Piece {
         self.from == self.to
     }
 
-    /// Whether a line ends at this place of the bytes that were not used yet, or after it. No byte is
-    /// looked at: the last end was sought when they were read.
+    /// Whether a line ends at or after this position of the unused bytes. It looks at no byte: the
+    /// last end was found when they were read.
     pub fn holds_feed_from(&self, start: usize) -> bool
         ensures { IsTrue result ↔ HoldsFeedFrom start self.now }
     {
         start < self.ends.saturating_sub(self.from)
     }
 
-    /// Uses the first bytes.
+    /// Uses the first `count` bytes.
     pub fn skip(&mut self, count: usize)
         requires { count ≤ length self.old }
         ensures { self.new ≡ drop count self.old }
@@ -100,7 +99,7 @@ impl Piece {
         self.from += count;
     }
 
-    // Reads a piece where none is left.
+    // Reads a piece if none is left.
     #[tactic(auto, using(crate::proofs::Pieces::prepend_nothing))]
     fn fill<R: ByteIn>(&mut self, reader: &mut R) -> Result<(), LineKind>
         requires { self.old ≡ [] }
@@ -130,8 +129,8 @@ impl Piece {
         }
     }
 
-    /// Sees that it holds bytes, by a read where none is left, and tells whether it does. Where it does
-    /// not, the stream has ended.
+    /// Reads a piece if none is left, and returns whether there are bytes now. If not, the stream
+    /// has ended.
     pub fn refill<R: ByteIn>(&mut self, reader: &mut R) -> Result<bool, LineKind>
         requires { length self.old ≤ piece_limit }
         ensures left { prepend_known self.old (R.left reader.old) ≡ prepend_known self.new (R.left reader.new) }

@@ -1,4 +1,4 @@
-//! Texts as they stand in JSON strings (RFC 8259, section 7).
+//! Texts as JSON strings (RFC 8259, section 7).
 ghost use Rattle.std.specs.Prelude.{◌≡◌, ◌&&◌, not, IfOk};
 ghost use Rattle.std.specs.List.{list_all};
 ghost use Rattle.json.specs.Print.{escape};
@@ -8,7 +8,7 @@ use relay_action::Write;
 use serde_json::Value;
 use std::alloc::{AllocError, Global};
 
-/// The JSON string of a text that needs escapes, and nothing for one that stands for itself.
+/// The JSON string of a text, or `None` if the text needs no escapes.
 #[tactic(auto, using(crate::proofs::Plain::escape_plain))]
 pub fn escape_of(alloc: Global, text: &str) -> Result<Option<String>, AllocError>
     ensures { IfOk result (λ o. IsEscapeOf text.now o) }
@@ -20,7 +20,7 @@ pub fn escape_of(alloc: Global, text: &str) -> Result<Option<String>, AllocError
     Ok(Some(string))
 }
 
-/// What stands between the quotes of the JSON string of a text.
+/// What is between the quotes of a text's JSON string.
 #[tactic(auto, using(crate::proofs::Plain::inside_quotes))]
 pub fn between_quotes<'t>(text: &'t str, string: &'t Option<String>) -> &'t [u8]
     requires { IsEscapeOf text.now string.now }
@@ -35,8 +35,8 @@ pub fn between_quotes<'t>(text: &'t str, string: &'t Option<String>) -> &'t [u8]
     }
 }
 
-/// Whether the id or the index name of a write's document needs an escape in its action line. Such a line
-/// takes memory beside the room of the text that it is appended to.
+/// Whether the id or the index name of a write's document needs an escape in its action line.
+/// Appending such a line allocates, even if the text it is appended to has room.
 pub fn has_escapes(write: &Write) -> bool
     ensures { result ≡ not (list_all is_plain_byte write.now.key.id && list_all is_plain_byte write.now.key.index) }
 {
@@ -50,7 +50,6 @@ fn is_plain_byte(byte: u8) -> bool
     byte >= 32 && byte != b'"' && byte != b'\\'
 }
 
-// Whether a text needs no escape.
 fn is_plain(bytes: &[u8]) -> bool
     ensures { result ≡ list_all is_plain_byte bytes.now }
 {

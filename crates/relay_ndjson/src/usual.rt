@@ -8,10 +8,10 @@ use relay_action::{ActionKind, DocKey};
 use relay_json::{after, plain_text, take_plain};
 use std::alloc::Global;
 
-/// What an action line in the usual form asks for: `{"index":{"_index":"I","_id":"ID"}}`, the same
-/// with `delete`, and both without the index name. There is no blank in it, and its texts are of ASCII
-/// characters that stand for themselves. `None`: the line has another form, has a fault, or there was
-/// no memory.
+/// Reads an action line in the usual form: `{"index":{"_index":"I","_id":"ID"}}`, the same with
+/// `delete`, and both without the index name, without blanks, and with texts of ASCII characters
+/// that stand for themselves. `None`: the line has another form or a fault, or an allocation
+/// failed.
 pub fn read_usual(
     alloc: Global,
     default_index: Option<&str>,
@@ -59,7 +59,7 @@ fn take_start(line: &[u8]) -> Option<(ActionKind, &[u8])>
     Some((ActionKind::Delete, rest))
 }
 
-// The index name, where it is given, and what follows it.
+// The index name, if it is given, and what follows it.
 fn take_index(bytes: &[u8]) -> Option<(Option<&str>, &[u8])>
     ensures parts { IfSome result (λ i. bytes.now ≡ with_index (shown i.0) i.1.now) }
     ensures text { IfSome result (λ i. IsPlainIndex (shown i.0)) }
@@ -73,7 +73,7 @@ fn take_index(bytes: &[u8]) -> Option<(Option<&str>, &[u8])>
     }
 }
 
-// The id, which nothing follows but the end of the line.
+// The id, if only the end of the line follows it.
 fn id_of(bytes: &[u8]) -> Option<&str>
     ensures parts { IfSome result (λ id. bytes.now ≡ usual_id id.now) }
     ensures text { IfSome result (λ id. IsPlain id.now) }
@@ -83,7 +83,7 @@ fn id_of(bytes: &[u8]) -> Option<&str>
     Some(id)
 }
 
-// What stands before the end of the line.
+// The bytes without the end of the line.
 fn before_end(bytes: &[u8]) -> Option<&[u8]>
     ensures { IfSome result (λ front. bytes.now ≡ front.now ++ codes "\"}}") }
 {

@@ -1,4 +1,4 @@
-//! What an action line of the index side asks for.
+//! Action lines on the index side.
 ghost use Rattle.std.specs.Prelude.{◌≡◌, ◌⊎◌, Some, None, IfOk, IfErr};
 ghost use Rattle.serde_json.specs.Data.{Members, object};
 ghost use Rattle.relay_ndjson.specs.Versioned.{version_of, is_external, IsVersioned, SaysVersioned, versioned_fault, write_line_fault};
@@ -11,7 +11,7 @@ use relay_action::{ActionKind, DocKey, LAST_VERSION};
 use relay_json::Scratch;
 use std::alloc::Global;
 
-/// What an action line asks for: an action on a document, at a version.
+/// An action line: an action on a document, at a version.
 #[derive(Drop)]
 pub struct ActionLine {
     pub kind: ActionKind,
@@ -33,7 +33,7 @@ pub fn read_versioned(
     Ok(ActionLine { kind, key, version })
 }
 
-// The version of metadata, where it is one that the index takes.
+// The version, if it is one that the index accepts.
 fn version_of(metadata: &Metadata<'_>) -> Option<u64>
     ensures { (ms : Members) → HoldsMembers metadata.now ms → result ≡ version_of (object ms) }
 {
@@ -45,7 +45,7 @@ fn version_of(metadata: &Metadata<'_>) -> Option<u64>
     }
 }
 
-// Whether the versions are dealt outside of the index.
+// Whether `version_type` is `external`.
 fn is_external(metadata: &Metadata<'_>) -> bool
     ensures { (ms : Members) → HoldsMembers metadata.now ms → result ≡ is_external (object ms) }
 {
@@ -55,7 +55,7 @@ fn is_external(metadata: &Metadata<'_>) -> bool
     }
 }
 
-// The document of metadata, and its version.
+// The document, and its version.
 fn versioned(alloc: Global, metadata: &Metadata<'_>) -> Result<(DocKey, u64), LineKind>
     ensures ok { (ms : Members) → HoldsMembers metadata.now ms
         → IfOk result (λ v. IsVersioned (object ms) v.0.index v.0.id v.1) }

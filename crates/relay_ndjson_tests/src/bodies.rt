@@ -1,4 +1,4 @@
-//! Bodies of bulk requests by rows, at the limit of lines, there and back.
+//! Tables of bulk bodies, lines at their limit, and reading back what was written.
 use relay_action::{Action, ActionFault, Write};
 use relay_ndjson::{BulkFault, LineKind, bulk_text, read_bulk};
 use std::alloc::{AllocError, Global};
@@ -15,7 +15,7 @@ fn at(line: u64, kind: LineKind) -> Option<BulkFault> {
     Some(BulkFault { line, kind })
 }
 
-// The bytes of several pieces.
+// Several pieces, joined.
 fn joined(alloc: Global, pieces: &[&[u8]]) -> Result<Vec<u8>, AllocError> {
     let mut bytes = Vec::new(alloc);
     for piece in pieces {
@@ -24,7 +24,7 @@ fn joined(alloc: Global, pieces: &[&[u8]]) -> Result<Vec<u8>, AllocError> {
     Ok(bytes)
 }
 
-// The number of writes of a body that has no fault.
+// The number of writes in a body without a fault.
 fn count(alloc: Global, body: &[u8]) -> Option<usize> {
     match read_bulk(alloc, body) {
         Ok(writes) => Some(writes.len()),
@@ -38,7 +38,7 @@ fn fault_of(alloc: Global, pieces: &[&[u8]]) -> Result<Option<BulkFault>, AllocE
     Ok(read_bulk(alloc, body.as_slice()).err())
 }
 
-// The fault that a line has alone, where it has the same after writes, and before other faulty lines.
+// The fault of a line by itself, if it is the same after writes and before other bad lines.
 fn fault_anywhere(alloc: Global, line: &[u8]) -> Result<Option<BulkFault>, AllocError> {
     let alone = fault_of(alloc, &[line])?;
     if fault_of(alloc, &[line, b"[1]\n"])? != alone || fault_of(alloc, &[line, b"\n"])? != alone {
@@ -102,7 +102,7 @@ fn order_of_metadata(rt: HostRuntime) {
     }
 }
 
-// The fault of a delete with this version and this kind of versions.
+// The fault of a delete with this version and this version type.
 fn fault_of_version(
     alloc: Global,
     version: &[u8],
@@ -120,7 +120,7 @@ fn fault_of_version(
     fault_of_metadata(alloc, metadata.as_slice())
 }
 
-// The number of writes of a delete with this version, where it has no fault.
+// The number of writes in a delete with this version, if it has no fault.
 fn count_with_version(alloc: Global, version: &[u8]) -> Result<Option<usize>, AllocError> {
     let body = joined(
         alloc,
@@ -159,7 +159,7 @@ fn versions(rt: HostRuntime) {
     }
 }
 
-// The fault of a source after its action line, where it has the same after another write.
+// The fault of a source after its action line, if it is the same after another write.
 fn fault_of_source(alloc: Global, source: &[u8]) -> Result<Option<BulkFault>, AllocError> {
     let Some(fault) = fault_of(alloc, &[INDEX, source])? else {
         return Ok(None);
@@ -229,7 +229,7 @@ fn a_line_that_ends(rt: HostRuntime) {
     assert!(rt; fault_of(rt.alloc(), &[OPEN, b"\r\n"]) == Ok(None));
 }
 
-// The fault of a body that is a front, 1,114,112 bytes after it, and an end.
+// The fault of a body of a front, 1,114,112 bytes after it, and an end.
 fn fault_at_limit(
     alloc: Global,
     front: &[u8],
@@ -266,7 +266,7 @@ fn is_of(write: &Write, id: &str, version: u64) -> bool {
     write.key.id() == id && write.version == version
 }
 
-// Whether a write has this source, or deletes where none is given.
+// Whether a write has this source, or deletes if none is given.
 fn has_source(write: &Write, source: Option<&str>) -> bool {
     match &write.action {
         Action::Index(text) => source == Some(text.text()),
@@ -274,7 +274,7 @@ fn has_source(write: &Write, source: Option<&str>) -> bool {
     }
 }
 
-// Whether writes are these of the index books.
+// Whether writes are these of the index `books`.
 fn are_books(writes: &[Write], wanted: &[(&str, u64, Option<&str>)]) -> bool {
     let mut good = writes.len() == wanted.len();
     for (write, (id, version, source)) in writes.iter().zip(wanted) {
@@ -300,7 +300,7 @@ const TWO_BOOKS: &[(&str, u64, Option<&str>)] = &[
     ("2", 2, None),
 ];
 
-// Whether the text of two books reads as them, and they are written as it.
+// Whether the text of two books is read as them, and they are written as it.
 fn reads_and_writes(alloc: Global) -> Result<bool, BulkFault> {
     let writes = read_bulk(alloc, TWO_LINES)?;
     Ok(are_books(&writes, TWO_BOOKS) && has_text(alloc, &writes, TWO_LINES))
@@ -337,7 +337,7 @@ fn another_form(rt: HostRuntime) {
     assert!(rt; is_one_write(rt.alloc(), text, "-9", 3, "{}"));
 }
 
-// Out of memory is a fault of its own.
+// A failed allocation has its own fault.
 #[test]
 fn refusals(rt: HostRuntime) {
     let found = read_bulk(rt.alloc(), DELETE).map(|writes| writes.len());
@@ -375,7 +375,7 @@ fn is_printed_as(alloc: Global, kind: LineKind, text: &str) -> Result<bool, Allo
     Ok(format!(in alloc; "{kind}")?.as_str() == text)
 }
 
-// A kind is printed by its name.
+// A kind is printed as its name.
 #[test]
 fn names(rt: HostRuntime) {
     for (kind, name) in NAMES {

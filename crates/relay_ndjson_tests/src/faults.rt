@@ -1,4 +1,4 @@
-//! The producer grammar by rows: the first fault of an input, and lines at their limit.
+//! A table of the producer grammar: the first fault of an input, and lines at their limit.
 use relay_action::{ActionFault, MemStream};
 use relay_ndjson::{Input, InputFault, LineKind};
 use std::alloc::{AllocError, Global};
@@ -8,7 +8,7 @@ pub fn at(line: u64, kind: LineKind) -> Option<InputFault> {
     Some(InputFault { line, kind })
 }
 
-/// The fault, where the next answer is Failed on its line.
+/// The fault, if the next result is Failed on its line.
 pub fn settled(input: &mut Input<MemStream>, fault: InputFault) -> Option<InputFault> {
     if input.next().err() == at(fault.line, LineKind::Failed) {
         Some(fault)
@@ -17,7 +17,7 @@ pub fn settled(input: &mut Input<MemStream>, fault: InputFault) -> Option<InputF
     }
 }
 
-// The first fault of an input, or the second answer after it where that is not Failed.
+// The first fault of an input, or the result after it if that is not Failed.
 fn first_fault(input: &mut Input<MemStream>) -> Option<InputFault> {
     for _ in 0..100_000u64 {
         match input.next() {
@@ -29,7 +29,7 @@ fn first_fault(input: &mut Input<MemStream>) -> Option<InputFault> {
     at(0, LineKind::Failed)
 }
 
-// The first fault of an input in pieces, or the second answer after it where that is not Failed.
+// The first fault of an input in pieces, or the result after it if that is not Failed.
 fn fault_of(
     alloc: Global,
     text: &[u8],
@@ -205,8 +205,8 @@ fn fault_at_limit(alloc: Global, end: &[u8]) -> Result<Option<InputFault>, Alloc
     Ok(Input::new(alloc, stream, None).next().err())
 }
 
-// Lines of 1,114,112 bytes and of one more, with each end. What stands on them is not JSON, which a line
-// that is not too long is found to be.
+// Lines of 1,114,112 bytes and of one more, with each end. Their text is not JSON, which is found
+// for a line that is not too long.
 const AT_THEIR_LIMIT: &[(&[u8], LineKind)] = &[
     (b"", LineKind::NotJson),
     (b"\n", LineKind::NotJson),

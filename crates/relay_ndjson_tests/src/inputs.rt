@@ -1,4 +1,4 @@
-//! The operations of an input and their lines, and what happens in mid-stream.
+//! The operations of an input and their lines, and failures in the middle.
 use crate::faults::{at, settled};
 use relay_action::{Action, DocKey, MemStream};
 use relay_ndjson::{Input, InputFault, LineKind, Parser};
@@ -9,7 +9,7 @@ fn is_of(key: &DocKey, id: &str, index: &str) -> bool {
     key.id() == id && key.index() == index
 }
 
-// Whether an action writes this text, or deletes where none is given.
+// Whether an action stores this text, or deletes if none is given.
 fn writes(action: &Action, source: Option<&str>) -> bool {
     match action {
         Action::Index(text) => source == Some(text.text()),
@@ -25,19 +25,19 @@ fn gives(input: &mut Input<MemStream>, id: &str, index: &str, source: Option<&st
     }
 }
 
-// Whether the next answer is the end.
+// Whether the next result is the end.
 fn ends(input: &mut Input<MemStream>) -> bool {
     matches!(input.next(), Ok(None))
 }
 
-// An input in pieces of five bytes, with the default index b.
+// An input in pieces of five bytes, with the default index `b`.
 fn input_of(alloc: Global, text: &[u8]) -> Result<Input<'static, MemStream>, AllocError> {
     let stream = MemStream::new(alloc, text.to_vec(alloc)?, 0, 5, 0)?;
     Ok(Input::new(alloc, stream, Some("b")))
 }
 
-// Whether the input gives a delete and a write, on the lines 1 and 3, and then no more, however often it is
-// asked.
+// Whether the input has a delete and a write, on the lines 1 and 3, and then no more, however often
+// it is asked.
 fn gives_two(input: &mut Input<MemStream>) -> bool {
     input.line() == 0
         && gives(input, "7", "b", None)
@@ -55,7 +55,7 @@ fn operations_and_their_lines(rt: HostRuntime) {
     assert!(rt; found == Ok(true));
 }
 
-// Lines in the usual form and in others, and what they say.
+// Lines in the usual form and in others, and their meaning.
 const FORMS: &[(&[u8], &str, &str, Option<&str>)] = &[
     (
         b"{\"index\":{\"_index\":\"c\",\"_id\":\"1\"}}\n{}",
@@ -121,7 +121,7 @@ const FORMS: &[(&[u8], &str, &str, Option<&str>)] = &[
     ),
 ];
 
-// Whether a text is one operation, of this document with this source.
+// Whether a text is one operation, on this document with this source.
 fn is_operation(
     alloc: Global,
     text: &[u8],
@@ -133,7 +133,7 @@ fn is_operation(
     Ok(gives(&mut input, id, index, source) && ends(&mut input))
 }
 
-// The same is read of a line in the usual form and of one in another form.
+// The same is read from a line in the usual form and from one in another form.
 #[test]
 fn forms_of_action_lines(rt: HostRuntime) {
     for (text, id, index, source) in FORMS {
@@ -141,7 +141,7 @@ fn forms_of_action_lines(rt: HostRuntime) {
     }
 }
 
-// How many operations an input gives, and its first fault, where the second answer after it is Failed on the
+// How many operations an input has, and its first fault, if the result after it is Failed on the
 // same line.
 fn given_until(input: &mut Input<MemStream>) -> (u64, Option<InputFault>) {
     let mut given = 0u64;
@@ -158,14 +158,14 @@ fn given_until(input: &mut Input<MemStream>) -> (u64, Option<InputFault>) {
 const TWO_DELETES: &[u8] =
     b"{\"delete\":{\"_id\":\"1\",\"_index\":\"b\"}}\n\n{\"delete\":{\"_id\":\"2\",\"_index\":\"b\"}}\n";
 
-// The operations and the first fault of two deletes with a blank line between them, where this read fails.
-// Nine bytes come at a time.
+// The operations and the first fault of two deletes with a blank line between them, if this read
+// fails. Nine bytes arrive at a time.
 fn failed_read(alloc: Global, fail_at: u64) -> Result<(u64, Option<InputFault>), AllocError> {
     let stream = MemStream::new(alloc, TWO_DELETES.to_vec(alloc)?, 0, 9, fail_at)?;
     Ok(given_until(&mut Input::new(alloc, stream, None)))
 }
 
-// How many operations come before each failed read, and which line was being read.
+// How many operations precede each failed read, and which line was being read.
 const BEFORE_READS: &[(u64, u64)] = &[
     (0, 1),
     (0, 1),
@@ -179,8 +179,8 @@ const BEFORE_READS: &[(u64, u64)] = &[
     (2, 4),
 ];
 
-// Of 36, 1 and 36 bytes each read fails in turn: all operations before it are given, the fault names the
-// line that was being read, and nothing is read again.
+// With 36, 1 and 36 bytes, each read fails in turn: all operations before it are returned, the
+// fault names the line that was being read, and nothing more is read.
 #[test]
 fn each_read_fails_in_turn(rt: HostRuntime) {
     let mut fail_at = 0u64;
@@ -193,10 +193,10 @@ fn each_read_fails_in_turn(rt: HostRuntime) {
     }
 }
 
-// Whether a parser needs no read for each answer, and whether the answer is an operation.
+// Whether a parser needs no read for each result, and whether the result is an operation.
 const STEPS: &[(bool, bool)] = &[(false, true), (true, true), (false, false)];
 
-// Whether a parser answers in these steps.
+// Whether a parser goes through these steps.
 fn steps(parser: &mut Parser, stream: &mut MemStream) -> bool {
     let mut good = true;
     for (ready, more) in STEPS {
@@ -207,14 +207,14 @@ fn steps(parser: &mut Parser, stream: &mut MemStream) -> bool {
     good
 }
 
-// Whether a parser of a text that is read at once answers in these steps.
+// Whether a parser goes through these steps if the text is read at once.
 fn is_parsed_in_steps(alloc: Global, text: &[u8]) -> Result<bool, AllocError> {
     let mut stream = MemStream::new(alloc, text.to_vec(alloc)?, 0, 1000, 0)?;
     let mut parser = Parser::new(alloc, None);
     Ok(steps(&mut parser, &mut stream))
 }
 
-// Whether the next answer of a parser needs no read.
+// Whether the next call of a parser needs no read.
 #[test]
 fn readiness_of_a_parser(rt: HostRuntime) {
     let text =
@@ -222,20 +222,20 @@ fn readiness_of_a_parser(rt: HostRuntime) {
     assert!(rt; is_parsed_in_steps(rt.alloc(), text) == Ok(true));
 }
 
-// Whether an input says twice that the next answer may need a read, and ends.
+// Whether an input says twice that the next call may need a read, and then ends.
 fn ends_twice(input: &mut Input<MemStream>) -> bool {
     let first = !input.is_ready() && ends(input);
     first && !input.is_ready() && ends(input)
 }
 
-// Whether the next answer of an input needs no read.
+// Whether the next call of an input needs no read.
 #[test]
 fn readiness_of_an_input(rt: HostRuntime) {
     let found = input_of(rt.alloc(), b"\n\n\n\n").map(|mut input| ends_twice(&mut input));
     assert!(rt; found == Ok(true));
 }
 
-// The fault of the first answer of an input of one delete, and that of the second.
+// The faults of the first and the second call, for an input of one delete.
 fn faults_of_delete(alloc: Global) -> Result<(Option<InputFault>, Option<InputFault>), AllocError> {
     let text = b"{\"delete\":{\"_id\":\"1\",\"_index\":\"b\"}}\n";
     let stream = MemStream::new(alloc, text.to_vec(alloc)?, 0, 1000, 0)?;
@@ -244,7 +244,7 @@ fn faults_of_delete(alloc: Global) -> Result<(Option<InputFault>, Option<InputFa
     Ok((first, input.next().err()))
 }
 
-// Out of memory is a fault of its own, and afterwards nothing is tried again.
+// A failed allocation has its own fault, and nothing is tried again afterwards.
 #[test]
 fn refusals(rt: HostRuntime) {
     if let Ok((Some(fault), second)) = faults_of_delete(rt.alloc()) {

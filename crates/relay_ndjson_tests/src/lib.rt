@@ -1,5 +1,5 @@
-//! Tests of `relay_ndjson`, over its public items: bodies of bulk requests, the text of writes, the producer
-//! grammar by rows, and streams that fail.
+//! Tests of `relay_ndjson`, over its public items: bodies of bulk requests, the text of writes, a
+//! table of the producer grammar, and failing streams.
 #![tactic(auto)]
 
 #[cfg(test)]

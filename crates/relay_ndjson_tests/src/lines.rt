@@ -12,13 +12,13 @@ const TEXTS: &[(&[u8], LineEnd)] = &[
     (b"\re\r", LineEnd::Open),
 ];
 
-/// Whether the line that was taken last has this text, this end and this number.
+/// Whether the last line taken has this text, this end and this number.
 fn is_line(lines: &LineReader, text: &[u8], end: LineEnd, number: u64) -> bool {
     lines.text() == text && lines.end() == end && lines.count() == number
 }
 
-/// Whether the next lines of the stream are those of the input, with their numbers, and no more; and where
-/// the first read gave all of it, whether the first two leave a line ready.
+/// Whether the next lines of the stream are exactly those of the input, with their numbers; and if
+/// the first read returned all of it, whether the first two leave a line ready.
 fn takes_lines(
     lines: &mut LineReader,
     stream: &mut MemStream,
@@ -35,7 +35,7 @@ fn takes_lines(
     Ok(good && !lines.next(stream)? && lines.count() == 4)
 }
 
-/// Whether the lines of the input are taken so from pieces of so many bytes.
+/// Whether the lines of the input are taken like this from pieces of this many bytes.
 fn has_lines(alloc: Global, piece: usize) -> Result<bool, AllocError> {
     let mut stream = MemStream::new(alloc, INPUT.to_vec(alloc)?, 0, piece.max(1), 0)?;
     let mut lines = LineReader::new(alloc);
@@ -50,7 +50,7 @@ fn lines_one_after_another(rt: HostRuntime) {
     }
 }
 
-/// The lines that are counted, and that of the fault, where the second read fails after two lines.
+/// The number of lines, and that of the fault, if the second read fails after two lines.
 fn counted_after_a_fault(alloc: Global) -> Result<Option<(u64, u64)>, AllocError> {
     let mut stream = MemStream::new(alloc, INPUT.to_vec(alloc)?, 0, 6, 2)?;
     let mut lines = LineReader::new(alloc);

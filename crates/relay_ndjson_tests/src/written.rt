@@ -1,4 +1,4 @@
-//! Bulk text and its length, and a write that fails in mid-stream.
+//! Bulk text and its length, and a write that fails in the middle.
 use relay_action::{Action, ActionFault, DocKey, MemStream, Write};
 use relay_ndjson::{
     TextFault, append_action_line, append_bulk, append_write, bulk_len, bulk_text, has_escapes,
@@ -57,7 +57,7 @@ fn no_write_has_no_text(rt: HostRuntime) {
     assert!(rt; has_text(rt.alloc(), &[], b""));
 }
 
-// Whether the text of a write stands after what was there before.
+// Whether the text of a write was added to what was there before.
 fn is_appended(alloc: Global, write: &Write) -> Result<bool, AllocError> {
     let mut text = b"x".to_vec(alloc)?;
     append_write(alloc, &mut text, write)?;
@@ -71,8 +71,8 @@ fn a_write_is_appended(rt: HostRuntime) -> Result<(), Fail> {
     Ok(())
 }
 
-// Whether the action line of a write is appended to what was there before, without its source, and then
-// the lines of both writes.
+// Whether the action line of a write is added to what was there before, without its source, and
+// then the lines of both writes.
 fn is_appended_apart(alloc: Global, write: &Write, writes: &[Write]) -> Result<bool, AllocError> {
     let mut text = b"x".to_vec(alloc)?;
     append_action_line(alloc, &mut text, write)?;
@@ -97,7 +97,7 @@ fn is_written(alloc: Global, write: &Write, wanted: &[u8]) -> Result<bool, Alloc
     Ok(answer == Ok(()) && out.written() == wanted && write_len(write) == wanted.len() as u64)
 }
 
-// A delete whose texts hold what is escaped in a JSON string, and what is not.
+// A delete with texts of which some characters are escaped in JSON strings and others are not.
 fn deletion_of_signs(alloc: Global) -> Result<Write, ActionFault> {
     Ok(Write {
         key: DocKey::new(alloc, "é\u{7f}", "\u{8}\t\n\u{c}\r\"\\/\u{1f}")?,
@@ -116,8 +116,8 @@ fn texts_are_escaped(rt: HostRuntime) -> Result<(), Fail> {
     Ok(())
 }
 
-// What is answered where this call of the stream fails that a write goes to in pieces of seven bytes, and
-// how many bytes went out.
+// The result if this call of the stream fails while a write is written in pieces of seven bytes,
+// and how many bytes were written.
 fn written_until(
     alloc: Global,
     write: &Write,
@@ -128,7 +128,8 @@ fn written_until(
     Ok((answer, out.written().len() as u64))
 }
 
-// Of a write in pieces of seven bytes, each call fails in turn: exactly the bytes before it went out.
+// Each call of writing in pieces of seven bytes fails in turn: exactly the bytes before it were
+// written.
 #[test]
 fn each_write_fails_in_turn(rt: HostRuntime) -> Result<(), Fail> {
     let write = deletion(rt.alloc())?;

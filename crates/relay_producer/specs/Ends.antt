@@ -1,4 +1,4 @@
--- What the ends of one sender are after a message and after the close.
+-- A sender's ends after a message and after the close.
 use Rattle.std.specs.Prelude.{◌≡◌, ℕ, zero, suc, ◌+◌, ◌<◌, ◌^◌, Bool, true, false, List, [], ◌∷◌, ◌++◌, length, map, ◌⊎◌, slice_index_or}
 use Rattle.std.specs.List.{sum_by, AllZip}
 use Rattle.relay_action.specs.declared.mail.Mail.{Mail}
@@ -20,7 +20,7 @@ opened put = record { put = put; gone = false }
 abbrev pub marked : OpenEnd → OpenEnd
 marked e = record { put = e.put; gone = true }
 
--- the end whose sender sent one more message
+-- the end after its sender sent one more message
 abbrev pub one_more : Body → SenderEnd → SenderEnd
 one_more body put = record { queue = put.queue; sender = put.sender; sent = put.sent ++ message put.sender (length put.sent + 1) body ∷ [] }
 
@@ -33,7 +33,7 @@ pub record Takes (body : Body) (old new : OpenEnd) : Type 0 where
   pub reached : old.gone ≡ false
   pub sent : new ≡ with_sent body old
 
--- the lane took the message; or it is found gone, now or before; or its queue takes no more of this sender
+-- the lane took the message; or it is found gone, now or before; or its queue takes no more from this sender
 abbrev pub IsSent : Body → OpenEnd → OpenEnd → Type 0
 IsSent body old new = Takes body old new ⊎ ((new ≡ marked old) ⊎ ((length old.put.sent ≡ 2 ^ 40) × (new ≡ old)))
 
@@ -47,12 +47,12 @@ abbrev pub is_gone : ClosedEnd → Bool
 is_gone (Closed put) = false
 is_gone (Gone put) = true
 
--- a lane that was not found gone was sent Done; the end of one that was, before or now, is as before
+-- a lane that was not found gone was sent Done; the end of one that was, before or now, is unchanged
 abbrev pub Closes : OpenEnd → ClosedEnd → Type 0
 Closes old (Closed put) = (old.gone ≡ false) × (put ≡ one_more Done old.put)
 Closes old (Gone put) = put ≡ old.put
 
--- the end is this sender's; where the lane was not found gone, Done is its last message
+-- the end is this sender's, and if the lane was not found gone, Done is its last message
 abbrev pub IsClosedBy : ℕ → ClosedEnd → Type 0
 IsClosedBy sender (Closed put) = (put.sender ≡ sender) × ((front : List Mail) × (put.sent ≡ front ++ message sender (length front + 1) Done ∷ []))
 IsClosedBy sender (Gone put) = put.sender ≡ sender
@@ -66,7 +66,7 @@ open_puts ends = map (λ e. e.put) ends
 abbrev pub closed_puts : List ClosedEnd → List SenderEnd
 closed_puts ends = map end_of ends
 
--- which queue an end is of, and under which sender's number
+-- the queue of an end, and the number of its sender
 abbrev pub identity : SenderEnd → Queue × ℕ
 identity put = (put.queue, put.sender)
 
@@ -79,13 +79,13 @@ is_gone_at [] lane = false
 is_gone_at (e ∷ es) zero = e.gone
 is_gone_at (e ∷ es) (suc lane) = is_gone_at es lane
 
--- the ends with the one of this lane changed so
+-- the ends, with a change to that of this lane
 abbrev pub change_at : ℕ → (OpenEnd → OpenEnd) → List OpenEnd → List OpenEnd
 change_at lane change [] = []
 change_at zero change (e ∷ es) = change e ∷ es
 change_at (suc lane) change (e ∷ es) = e ∷ change_at lane change es
 
--- how many messages the queues took
+-- the number of queues that took the message
 abbrev pub count_sent : List OpenEnd → ℕ
 count_sent ends = sum_by (λ e. length e.put.sent) ends
 
@@ -94,6 +94,6 @@ pub record IsSentToAll (body : Body) (old new : List OpenEnd) : Type 0 where
   pub lanes : length new ≡ length old
   pub each : (lane : ℕ) (d : OpenEnd) → lane < length old → IsSent body (slice_index_or old lane d) (slice_index_or new lane d)
 
--- each lane's end was closed
+-- the end of each lane was closed
 abbrev pub ClosesAll : List OpenEnd → List ClosedEnd → Type 0
 ClosesAll old new = AllZip Closes old new

@@ -1,4 +1,4 @@
--- What contracts see of a producer and of the control.
+-- A producer and the control, as contracts see them.
 use Rattle.std.specs.Prelude.{◌≡◌, ℕ, ◌+◌, ◌<◌, ◌≤◌, ◌^◌, Bool, List, length}
 use Rattle.std.specs.List.{All}
 use Rattle.relay_action.specs.declared.key.DocKey.{DocKey}
@@ -12,7 +12,7 @@ use Rattle.relay_producer.specs.declared.ends.ClosedEnd.{ClosedEnd}
 use Rattle.relay_producer.specs.Ends.{with_sent, marked, is_gone_at, change_at, open_puts, closed_puts, IsClosedBy}
 use Rattle.relay_producer.specs.Puts.{HasPut, HaveNoPuts}
 
--- a producer: the epoch in which it puts, its number, how many operations it put, and its end of each lane's queue, by lane
+-- a producer: the epoch in which it puts, its number, how many operations it put, and its ends of the queues, by lane
 pub record ProducerState : Type 0 where
   pub epoch : ℕ
   pub producer : ℕ
@@ -25,23 +25,23 @@ pub record ClosedProducerState : Type 0 where
   pub put : ℕ
   pub ends : List ClosedEnd
 
--- the control: its number as a sender, and its end of each lane's queue, by lane
+-- the control: its number as a sender, and its ends of the queues, by lane
 pub record ControlState : Type 0 where
   pub sender : ℕ
   pub ends : List OpenEnd
 
--- the control that has closed
+-- the control after its close
 pub record ClosedControlState : Type 0 where
   pub sender : ℕ
   pub ends : List ClosedEnd
 
--- these ends are of one sender, and sent nothing
+-- these ends are of one sender, and nothing was sent by them
 abbrev pub AreFresh : ℕ → List SenderEnd → Type 0
 AreFresh sender puts = All (λ p. p ≡ fresh p.queue sender) puts
 
 -- ---- a put
 
--- the lane of a document among the producer's lanes
+-- the lane of a document
 abbrev pub lane_for : DocKey → ProducerState → ℕ
 lane_for key s = lane_of_document key (length s.ends)
 
@@ -63,11 +63,11 @@ after_gone key s = record { epoch = s.epoch; producer = s.producer; put = s.put;
 
 -- ---- what holds of each
 
--- the lanes of a relay
+-- the number of lanes is valid
 abbrev pub HasLanes : {A : Type 0} → List A → Type 0
 HasLanes ends = (0 < length ends) × (length ends ≤ 8)
 
--- of each lane: its end is this sender's, and sent at most so many messages
+-- the end of each lane is this sender's, and it sent at most this many messages
 abbrev pub AreEndsOf : ℕ → ℕ → List OpenEnd → Type 0
 AreEndsOf sender most ends = All (λ e. (e.put.sender ≡ sender) × (length e.put.sent ≤ most)) ends
 
@@ -90,7 +90,7 @@ pub record IsControl (s : ControlState) : Type 0 where
   pub own : All (λ e. e.put.sender ≡ s.sender) s.ends
   pub no_puts : HaveNoPuts (open_puts s.ends)
 
--- a closed one
+-- the same after its close
 pub record IsClosedControl (s : ClosedControlState) : Type 0 where
   pub lanes : HasLanes s.ends
   pub own : All (IsClosedBy s.sender) s.ends

@@ -1,4 +1,4 @@
-//! The control's handle: it sends ticks and flushes to all lanes.
+//! The control's handle, which sends ticks and flushes to all lanes.
 ghost use Rattle.std.specs.Prelude.{◌≡◌, ◌+◌, ◌↔◌, false, map, IfOk};
 ghost use Rattle.std.specs.List.{All, count_by};
 ghost use Rattle.relay_action.specs.declared.mail.Body.TheVariants.{Tick, Flush};
@@ -13,10 +13,11 @@ use std::alloc::{AllocError, Global};
 use std::marker::Model;
 use std::sync::Wait;
 
-/// The control's handle, a sender beside the producers, numbered one past the last of them. It sends no
-/// operation. Contracts see its number and its end of each lane's queue.
+/// The control's handle. The control is a sender like the producers, numbered one above the last of
+/// them, which sends no operations. Contracts see its number and its end of each lane's queue.
 ///
-/// A lane is marked once its queue answers that the lane is gone: nothing more is sent to it.
+/// Once a lane's queue reports that the lane is gone, the lane is marked, and nothing more is sent
+/// to it.
 #[derive(Drop)]
 pub struct Control {
     sender: u32,
@@ -38,9 +39,9 @@ impl Model for Control {
 }
 
 impl Control {
-    /// The handle of the control over its ends of the queues of 1 to 8 lanes, in lane order, by which
-    /// nothing was sent yet. No lane is marked. It reserves what its close needs: no later call takes
-    /// memory. `AllocError`: there was no memory for it; the ends are dropped.
+    /// The handle of the control over its ends of the queues of 1 to 8 lanes, in lane order, to
+    /// which nothing was sent yet. No lane is marked. It reserves what its close needs, so no later
+    /// call allocates. `AllocError`: allocation failed; the ends are dropped.
     pub fn new(alloc: Global, sender: u32, puts: Vec<LanePut>) -> Result<Control, AllocError>
         requires lanes { HasLanes puts.items }
         requires fresh { AreFresh sender puts.items }
@@ -57,9 +58,9 @@ impl Control {
         })
     }
 
-    /// Sends a tick to each lane that is not marked, and marks those that it finds gone; how many lanes'
-    /// queues took it. A queue to which the control has sent 2^40 messages takes no more. It waits while
-    /// a queue is full, and takes no memory.
+    /// Sends a tick to each lane that is not marked, marks those that are found gone, and returns
+    /// the number of queues that took it. A queue takes at most 2^40 messages from the control. It
+    /// waits while a queue is full, and does not allocate.
     pub fn tick<R: Wait>(&mut self, rt: &R) -> u32
         ensures sent { IsSentToAll Tick self.old.ends self.new.ends }
         ensures count { count_sent self.old.ends + result ≡ count_sent self.new.ends }
@@ -81,8 +82,8 @@ impl Control {
         send_to_all(rt, &mut self.ends, Signal::Flush)
     }
 
-    /// Sends Done to each lane that is not marked, in lane order, and marks those that it finds gone. It
-    /// waits while a queue is full, and takes no memory.
+    /// Sends Done to each lane that is not marked, in lane order, and marks those that are found
+    /// gone. It waits while a queue is full, and does not allocate.
     pub fn close<R: Wait>(self, rt: &R) -> ClosedControl
         ensures closed { ClosesAll self.ends result.ends }
         ensures sender { result.sender ≡ self.sender }
@@ -98,7 +99,7 @@ impl Control {
         ClosedControl { sender, ends }
     }
 
-    /// How many lanes are marked.
+    /// The number of marked lanes.
     pub fn gone(&self) -> u32
         ensures { result ≡ count_by (λ e. e.gone) self.now.ends }
     {
@@ -106,8 +107,8 @@ impl Control {
     }
 }
 
-/// The handle of the control that has closed. Contracts see its number and its end of each lane's queue, by
-/// which no operation was sent.
+/// The handle of the control after its close. Contracts see its number and its end of each lane's
+/// queue, to which no operation was sent.
 #[derive(Drop)]
 pub struct ClosedControl {
     sender: u32,
@@ -125,8 +126,8 @@ impl Model for ClosedControl {
 }
 
 impl ClosedControl {
-    /// How many lanes are marked: those that were found gone, before or at the close, and were sent no
-    /// Done.
+    /// The number of marked lanes: those that were found gone, before or at the close, and were
+    /// sent no Done.
     pub fn gone(&self) -> u32
         ensures count { result ≡ count_by is_gone self.now.ends }
         ensures none { result ≡ 0 ↔ All (λ e. is_gone e ≡ false) self.now.ends }
@@ -134,8 +135,8 @@ impl ClosedControl {
         count_closed_gone(&self.ends)
     }
 
-    /// The ends of the lanes' queues, in lane order, each closed or of a lane that is marked: what the
-    /// lanes took is met with them.
+    /// The ends of the lanes' queues, in lane order, each closed or of a marked lane. Whoever joins
+    /// the lanes compares them with what the lanes took.
     pub fn into_ends(self) -> Vec<ClosedEnd>
         ensures ends { result.items ≡ self.ends }
         ensures lanes { HasLanes self.ends }

@@ -1,4 +1,4 @@
-//! A sender's end of one lane's queue, before and after its close.
+//! A sender's end of one lane's queue, before and after the close.
 ghost use Rattle.std.specs.Prelude.{◌≡◌, ◌≢◌, ◌+◌, ◌^◌, length, if◌then◌else◌, IfErr, OnOk};
 
 use relay_action::Body;
@@ -10,11 +10,11 @@ use std::sync::Wait;
 pub struct OpenEnd {
     /// The end of the queue.
     pub put: LanePut,
-    /// Whether the lane was found gone. Nothing more is sent to it then.
+    /// Whether the lane was found gone. If so, nothing more is sent to it.
     pub gone: bool,
 }
 
-/// The end of one lane's queue of a sender that has closed.
+/// A sender's end of one lane's queue, after the close.
 #[derive(Drop)]
 pub enum ClosedEnd {
     /// The lane was sent Done.
@@ -26,8 +26,8 @@ pub enum ClosedEnd {
 impl OpenEnd {
     ghost use Rattle.relay_producer.specs.Ends.{Takes, IsSent, marked, Closes};
 
-    // Sends a message other than Done where the lane was not found gone, and marks it where it is now. It
-    // waits while the queue is full. An error hands the body back.
+    // Sends a message other than Done, unless the lane was found gone before, and marks it if it is
+    // found gone now. It waits while the queue is full. An error returns the body.
     pub(crate) fn send<R: Wait>(&mut self, rt: &R, body: Body) -> Result<(), (PutRefusal, Body)>
         requires { body ≢ Body.Done }
         ensures sent { OnOk result (Takes body self.old self.new) }
@@ -49,7 +49,7 @@ impl OpenEnd {
         }
     }
 
-    // Sends a message other than Done as `send` does, and tells whether the queue took it.
+    // Sends a message other than Done as `send` does, and returns whether the queue took it.
     pub(crate) fn signal<R: Wait>(&mut self, rt: &R, body: Body) -> bool
         requires { body ≢ Body.Done }
         ensures sent { IsSent body self.old self.new }
@@ -63,7 +63,7 @@ impl OpenEnd {
         }
     }
 
-    // Sends Done where the lane was not found gone. It waits while the queue is full.
+    // Sends Done, unless the lane was found gone. It waits while the queue is full.
     pub(crate) fn close<R: Wait>(self, rt: &R) -> ClosedEnd
         ensures { Closes self result }
     {

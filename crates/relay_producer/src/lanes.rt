@@ -1,4 +1,4 @@
-//! The ends of all lanes' queues that one sender has.
+//! A sender's ends of all lanes' queues.
 ghost use Rattle.std.specs.Prelude.{◌≡◌, ◌≢◌, ◌+◌, ◌<◌, ◌≤◌, ◌^◌, [], false, length, map, Some, IfOk, IfErr, OnOk, OnErr, vec_len, vec_capacity};
 ghost use Rattle.std.specs.List.{All, count_by, slice_get};
 ghost use Rattle.relay_producer.specs.Ends.{opened, marked, with_sent, change_at, open_puts, identities, is_gone, count_sent, IsSentToAll, ClosesAll};
@@ -15,11 +15,10 @@ use std::sync::Wait;
 pub(crate) enum Signal {
     /// A tick of the clock has passed.
     Tick,
-    /// What is held is to be sent, full batch or not.
+    /// What is held is to be sent, whether or not the batch is full.
     Flush,
 }
 
-// The message of a signal.
 fn signal_body(signal: Signal) -> Body
     ensures value { result ≡ body_of signal }
     ensures not_done { result ≢ Body.Done }
@@ -30,7 +29,7 @@ fn signal_body(signal: Signal) -> Body
     }
 }
 
-// The ends of lanes none of which was found gone.
+// The ends of lanes, none of which was found gone.
 pub(crate) fn open_all(alloc: Global, puts: Vec<LanePut>) -> Result<Vec<OpenEnd>, AllocError>
     ensures { IfOk result (λ ends. ends.items ≡ map opened puts.items) }
 {
@@ -41,8 +40,8 @@ pub(crate) fn open_all(alloc: Global, puts: Vec<LanePut>) -> Result<Vec<OpenEnd>
     Ok(ends)
 }
 
-// Sends an operation to a lane that was not found gone, and marks the lane where it is now. It waits
-// while the queue is full. An error hands the operation back.
+// Sends an operation to a lane that was not found gone, and marks the lane if it is found gone now.
+// It waits while the queue is full. An error returns the operation.
 pub(crate) fn send_op<R: Wait>(
     rt: &R,
     ends: &mut Vec<OpenEnd>,
@@ -65,7 +64,8 @@ pub(crate) fn send_op<R: Wait>(
     }
 }
 
-// Sends a signal to each lane that was not found gone; how many queues took it.
+// Sends a signal to each lane that was not found gone, and returns the number of queues that took
+// it.
 pub(crate) fn send_to_all<R: Wait>(rt: &R, ends: &mut Vec<OpenEnd>, signal: Signal) -> u32
     requires { vec_len ends.old ≤ 8 }
     ensures sent { IsSentToAll (body_of signal) ends.old.items ends.new.items }
@@ -81,7 +81,7 @@ pub(crate) fn send_to_all<R: Wait>(rt: &R, ends: &mut Vec<OpenEnd>, signal: Sign
     taken
 }
 
-// Sends Done to each lane that was not found gone, in order. There is a place for each closed end.
+// Sends Done to each lane that was not found gone, in order. There is room for all closed ends.
 pub(crate) fn close_all<R: Wait>(
     rt: &R,
     ends: Vec<OpenEnd>,
@@ -97,7 +97,6 @@ pub(crate) fn close_all<R: Wait>(
     closed
 }
 
-// How many lanes were found gone.
 pub(crate) fn count_gone(ends: &[OpenEnd]) -> u32
     requires { length ends.now ≤ 8 }
     ensures { result ≡ count_by (λ e. e.gone) ends.now }
@@ -111,7 +110,6 @@ pub(crate) fn count_gone(ends: &[OpenEnd]) -> u32
     gone
 }
 
-// How many lanes were found gone by a sender that has closed.
 pub(crate) fn count_closed_gone(ends: &[ClosedEnd]) -> u32
     requires { length ends.now ≤ 8 }
     ensures { result ≡ count_by is_gone ends.now }

@@ -1,12 +1,12 @@
-//! The producers' side of the running relay: the handle by which a producer puts its operations, each
-//! to the lane of its document, and the handle by which the control sends ticks and flushes to all
-//! lanes. It stands on `relay_queue`, which hands the messages over between threads, and starts no
-//! thread.
+//! The producers' side of the running relay: the handle with which a producer puts its operations,
+//! each to the lane of its document, and the handle with which the control sends ticks and flushes
+//! to all lanes. It depends on `relay_queue`, which carries the messages between threads, and
+//! starts no thread.
 //!
-//! It carries this promise: a put that is not refused adds exactly its operation to what the producer
-//! put, under the receipt's name, as one message to the lane of its document; a refusal hands key and
-//! action back and uses no number. What a producer put can be read from its ends of all lanes' queues,
-//! also once it has closed, and nothing is put after the close.
+//! What is proved: a put that is not refused adds exactly its operation to what the producer put,
+//! under the name in the receipt, as one message to the lane of its document; a refusal returns the
+//! key and the action, and uses no number. What a producer put can be read from its ends of all
+//! lanes' queues, even after its close, and nothing is put after the close.
 #![tactic(auto)]
 
 pub mod control;

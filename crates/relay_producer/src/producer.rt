@@ -1,4 +1,4 @@
-//! A producer's handle: it puts operations, each to the lane of its document.
+//! A producer's handle, which puts operations, each to the lane of its document.
 ghost use Rattle.std.specs.Prelude.{◌≡◌, ◌+◌, ◌<◌, ◌^◌, ◌↔◌, List, [], ◌∷◌, ◌++◌, true, false, map, Some, IfOk, IfErr, OnOk, OnErr, IsErrAnd};
 ghost use Rattle.std.specs.List.{All, count_by};
 ghost use Rattle.relay_action.specs.declared.operation.Op.{Op};
@@ -15,7 +15,7 @@ use std::alloc::{AllocError, Global};
 use std::marker::Model;
 use std::sync::Wait;
 
-/// What a put gives: under which name the operation was put, and to which lane.
+/// The receipt of a put: the name of the operation, and its lane.
 #[derive(Clone, Copy, Debug, PartialEq, Eq)]
 pub struct Receipt {
     /// The operation's name.
@@ -24,10 +24,11 @@ pub struct Receipt {
     pub lane: u32,
 }
 
-/// A producer's handle. Contracts see its epoch and its number, how many operations it put, and its end of each
-/// lane's queue.
+/// A producer's handle. Contracts see its epoch and its number, how many operations it put, and its
+/// end of each lane's queue.
 ///
-/// A lane is marked once its queue answers that the lane is gone: nothing more is sent to it.
+/// Once a lane's queue reports that the lane is gone, the lane is marked, and nothing more is sent
+/// to it.
 #[derive(Drop)]
 pub struct Producer {
     epoch: u32,
@@ -50,7 +51,6 @@ impl Model for Producer {
         × (length a.ends.items ≤ vec_capacity a.closed) };
 }
 
-// An operation that is not put, for this reason.
 fn refused(kind: PutFaultKind, key: DocKey, action: Action) -> PutFault
     ensures { result ≡ record { kind = kind; key = key; action = action } }
 {
@@ -58,10 +58,10 @@ fn refused(kind: PutFaultKind, key: DocKey, action: Action) -> PutFault
 }
 
 impl Producer {
-    /// The handle of a producer of an epoch, counted from 0, over its ends of the queues of 1 to 8 lanes, in lane
-    /// order, by which nothing was sent yet. It has put nothing, and no lane is marked. It reserves what
-    /// its close needs: no later call takes memory. `AllocError`: there was no memory for it; the ends are
-    /// dropped.
+    /// The handle of producer `producer` in an epoch, over its ends of the queues of 1 to 8 lanes,
+    /// in lane order, to which nothing was sent yet. It has put nothing, and no lane is marked. It
+    /// reserves what its close needs, so no later call allocates. `AllocError`: allocation failed;
+    /// the ends are dropped.
     pub fn new(
         alloc: Global,
         epoch: u32,
@@ -86,12 +86,13 @@ impl Producer {
         })
     }
 
-    /// Puts an operation: sends it, under the next number, to the lane of its document, and answers its
-    /// name and the lane. It waits while that lane's queue is full, and takes no memory.
+    /// Puts an operation: sends it to the lane of its document under the next number, and returns
+    /// its name and the lane. It waits while that lane's queue is full, and does not allocate.
     ///
-    /// Both refusals hand key and action back, use no number and send nothing. In this order: `LaneGone` if
-    /// the lane is marked; `NumbersSpent` if this producer has put 2^40 operations; `LaneGone` if the queue
-    /// says that the lane is gone, which marks it; when that comes is not promised.
+    /// A refusal returns the key and the action, uses no number and sends nothing. The first of
+    /// these that applies: `LaneGone` if the lane is marked; `NumbersSpent` if this producer has
+    /// put 2^40 operations; `LaneGone` if the queue reports that the lane is gone, which marks it.
+    /// No contract says when a lane is gone.
     pub fn put<R: Wait>(&mut self, rt: &R, key: DocKey, action: Action) -> Result<Receipt, PutFault>
         ensures name { IfOk result
             (λ r. r.name ≡ record { epoch = self.old.epoch; producer = self.old.producer; number = self.old.put + 1 }) }
@@ -150,8 +151,8 @@ impl Producer {
         }
     }
 
-    /// Sends Done to each lane that is not marked, in lane order, and marks those that it finds gone. It
-    /// waits while a queue is full, and takes no memory. Nothing is put after it.
+    /// Sends Done to each lane that is not marked, in lane order, and marks those that are found
+    /// gone. It waits while a queue is full, and does not allocate. Nothing can be put afterwards.
     pub fn close<R: Wait>(self, rt: &R) -> ClosedProducer
         ensures closed { ClosesAll self.ends result.ends }
         ensures same { (result.producer ≡ self.producer) × (result.put ≡ self.put) }
@@ -175,7 +176,7 @@ impl Producer {
         }
     }
 
-    /// How many lanes are marked.
+    /// The number of marked lanes.
     pub fn gone(&self) -> u32
         ensures count { result ≡ count_by (λ e. e.gone) self.now.ends }
         ensures shown { (ops : List Op) × HasPut self.now.producer self.now.put (open_puts self.now.ends) ops }
@@ -184,8 +185,8 @@ impl Producer {
     }
 }
 
-/// The handle of a producer that has closed. Contracts see its number, how many operations it put, and
-/// its end of each lane's queue, which show what it put.
+/// The handle of a producer after its close. Contracts see its number, how many operations it put,
+/// and its end of each lane's queue, which show what it put.
 #[derive(Drop)]
 pub struct ClosedProducer {
     producer: u32,
@@ -204,8 +205,8 @@ impl Model for ClosedProducer {
 }
 
 impl ClosedProducer {
-    /// How many lanes are marked: those that were found gone, at a put or at the close, and were sent no
-    /// Done.
+    /// The number of marked lanes: those that were found gone, at a put or at the close, and were
+    /// sent no Done.
     pub fn gone(&self) -> u32
         ensures count { result ≡ count_by is_gone self.now.ends }
         ensures none { result ≡ 0 ↔ All (λ e. is_gone e ≡ false) self.now.ends }
@@ -214,8 +215,8 @@ impl ClosedProducer {
         count_closed_gone(&self.ends)
     }
 
-    /// The ends of the lanes' queues, in lane order, each closed or of a lane that is marked: what the
-    /// lanes took is met with them.
+    /// The ends of the lanes' queues, in lane order, each closed or of a marked lane. Whoever joins
+    /// the lanes compares them with what the lanes took.
     pub fn into_ends(self) -> Vec<ClosedEnd>
         ensures ends { result.items ≡ self.ends }
         ensures lanes { HasLanes self.ends }

@@ -8,7 +8,8 @@ use relay_queue::{LanePut, LaneTake, lane_queue};
 use std::alloc::{AllocError, Global};
 use std::sync::Wait;
 
-/// The ends of some lanes' queues, by lane: those of the takers, of two producers and of the control.
+/// The ends of some lanes' queues, by lane: those of the takers, of two producers and of the
+/// control.
 #[derive(Drop)]
 pub struct Lanes {
     pub takes: Vec<LaneTake>,
@@ -51,7 +52,7 @@ fn add_lane(alloc: Global, capacity: u32, lanes: &mut Lanes) -> Result<(), Alloc
     Ok(())
 }
 
-/// So many lanes, each with a queue of so many places.
+/// This many lanes, each with a queue of this many places.
 pub fn make(alloc: Global, count: u32, capacity: u32) -> Result<Lanes, AllocError>
     requires { (0 < capacity) × (capacity ≤ 65536) }
     ensures first { IfOk result
@@ -73,7 +74,7 @@ pub fn make(alloc: Global, count: u32, capacity: u32) -> Result<Lanes, AllocErro
     Ok(lanes)
 }
 
-/// The document of an id, which is tried once more where an allocation was refused.
+/// The document of an id; it tries once more if an allocation fails.
 pub fn document(alloc: Global, id: &str) -> Option<DocKey> {
     match DocKey::new(alloc, "books", id) {
         Ok(key) => Some(key),
@@ -81,10 +82,10 @@ pub fn document(alloc: Global, id: &str) -> Option<DocKey> {
     }
 }
 
-/// What a message is to say.
+/// What a message should say.
 #[derive(Clone, Copy)]
 pub enum Said {
-    /// A deletion, as the operation of this number of the sender.
+    /// A delete, as the operation of the sender with this number.
     Put(u64),
     Tick,
     Flush,
@@ -105,7 +106,7 @@ fn says(mail: &Mail, said: Said) -> bool {
     }
 }
 
-/// Whether the next message is this sender's of this number, and says so.
+/// Whether the next message is this one of this sender, and says this.
 pub fn takes<R: Wait>(rt: &R, take: &mut LaneTake, sender: u32, number: u64, said: Said) -> bool {
     match take.take(rt) {
         Ok(mail) => mail.sender == sender && mail.number == number && says(&mail, said),

@@ -1,5 +1,5 @@
-//! The tests of `relay_producer`: producers and the control over several lanes, lanes that are gone, and
-//! a producer that waits.
+//! The tests of `relay_producer`: producers and the control over several lanes, lanes that are
+//! gone, and a producer that waits.
 #![tactic(auto)]
 
 #[cfg(test)]

@@ -1,5 +1,5 @@
-//! What producers and the control send, and what they find gone. Each run is tried once more where an
-//! allocation was refused.
+//! What producers and the control send, and what they find gone. Each run is tried once more if an
+//! allocation fails.
 ghost use Rattle.std.specs.Prelude.{◌<◌, ◌≤◌};
 
 use crate::lanes::{Lanes, Said, document, make, takes};
@@ -13,8 +13,8 @@ use std::thread;
 use std::thread::Threads;
 use std::time::{Clock, Duration};
 
-// The ids of 8 documents of the index books, each with its lane among 8, computed apart from this code
-// by FNV-1a. Among two lanes the even ids belong to lane 0.
+// The ids of 8 documents of the index `books`, each with its lane among 8, computed independently
+// with FNV-1a. With two lanes the even ids belong to lane 0.
 const DOCUMENTS: [(&str, u32); 8] = [
     ("0", 6),
     ("1", 1),
@@ -26,7 +26,7 @@ const DOCUMENTS: [(&str, u32); 8] = [
     ("7", 7),
 ];
 
-// Whether a deletion of the document is put under this name, to this lane.
+// Whether a delete of the document is put under this name, to this lane.
 fn puts<R: Wait>(
     rt: &R,
     alloc: Global,
@@ -44,7 +44,7 @@ fn puts<R: Wait>(
     }
 }
 
-// Whether the lane of the document is found gone, and key and action come back.
+// Whether the lane of the document is found gone, and the key and the action are returned.
 fn finds_gone<R: Wait>(rt: &R, alloc: Global, producer: &mut Producer, id: &str) -> bool {
     let Some(key) = document(alloc, id) else {
         return false;
@@ -60,7 +60,7 @@ fn finds_gone<R: Wait>(rt: &R, alloc: Global, producer: &mut Producer, id: &str)
     }
 }
 
-// Whether a producer puts a deletion of each document, the last one first where it goes `back`.
+// Whether a producer puts a delete of each document, in reverse order if `back`.
 fn puts_all<R: Wait>(
     rt: &R,
     alloc: Global,
@@ -81,7 +81,7 @@ fn puts_all<R: Wait>(
     good
 }
 
-// Whether the taker finds these messages.
+// Whether the taker takes these messages.
 fn takes_rows<R: Wait>(rt: &R, take: &mut LaneTake, rows: &[(u32, u64, Said)]) -> bool {
     let mut good = true;
     for (sender, number, said) in rows {
@@ -90,8 +90,8 @@ fn takes_rows<R: Wait>(rt: &R, take: &mut LaneTake, rows: &[(u32, u64, Said)]) -
     good
 }
 
-// Whether the taker of a document's lane finds the operation of each producer, the control's tick and
-// flush, and each Done.
+// Whether the taker of a document's lane takes the operation of each producer, the control's tick
+// and flush, and each Done.
 fn takes_lane<R: Wait>(rt: &R, take: &mut LaneTake, document: u64) -> bool {
     let rows = [
         (0u32, 1u64, Said::Put(document.wrapping_add(1))),
@@ -108,7 +108,7 @@ fn takes_lane<R: Wait>(rt: &R, take: &mut LaneTake, document: u64) -> bool {
 // The document of each of the 8 lanes.
 const BY_LANE: [u64; 8] = [2, 1, 4, 3, 6, 5, 0, 7];
 
-// Whether each taker does, of 8.
+// Whether the taker of each of 8 lanes does.
 fn takes_all<R: Wait>(rt: &R, all: &mut Vec<LaneTake>) -> bool {
     let mut good = all.len() == 8;
     for (take, document) in all.iter_mut().zip(BY_LANE) {
@@ -125,7 +125,7 @@ struct Senders {
     control: Control,
 }
 
-// So many lanes of 16 places, and their senders.
+// Lanes of 16 places each, and their senders.
 fn start(alloc: Global, lanes: u32) -> Result<(Vec<LaneTake>, Senders), AllocError>
     requires { (0 < lanes) × (lanes ≤ 8) }
 {
@@ -148,8 +148,8 @@ fn start(alloc: Global, lanes: u32) -> Result<(Vec<LaneTake>, Senders), AllocErr
     ))
 }
 
-// Whether two producers put to each of 8 lanes, in turn from both ends, the control sends to all, and each
-// of the three closes without a lane that is gone.
+// Whether two producers put to each of 8 lanes, one in order and one in reverse, the control sends
+// to all, and each of the three closes with no lane gone.
 fn send_to_all<R: Wait>(rt: &R, alloc: Global, senders: Senders) -> bool {
     let Senders {
         mut first,
@@ -166,7 +166,7 @@ fn send_to_all<R: Wait>(rt: &R, alloc: Global, senders: Senders) -> bool {
     put && told && open == (0, 0, 0) && (first, second, control) == (0, 0, 0)
 }
 
-// Whether all do, and each taker finds its part.
+// Whether all do, and each taker takes its part.
 fn send_to_eight<R: Wait>(rt: &R, alloc: Global) -> Result<bool, AllocError> {
     let (mut takes, senders) = start(alloc, 8)?;
     let sent = send_to_all(rt, alloc, senders);
@@ -183,7 +183,7 @@ fn two_producers_and_the_control(rt: HostRuntime) -> Result<(), Fail> {
     Ok(())
 }
 
-// Whether a producer finds the second of two lanes gone, and puts to the first one all the same.
+// Whether a producer finds the second of two lanes gone, and still puts to the first one.
 fn goes_round<R: Wait>(rt: &R, alloc: Global, producer: &mut Producer) -> bool {
     let name = |number: u64| OpName {
         epoch: 0,
@@ -199,8 +199,8 @@ fn goes_round<R: Wait>(rt: &R, alloc: Global, producer: &mut Producer) -> bool {
         && producer.gone() == 1
 }
 
-// Whether the second of two lanes is found gone: by one producer at a put, by the control at a tick, and by
-// the other producer at its close.
+// Whether the second of two lanes is found gone: by one producer at a put, by the control at a
+// tick, and by the other producer at its close.
 fn find_gone<R: Wait>(rt: &R, alloc: Global, senders: Senders) -> bool {
     let Senders {
         mut first,
@@ -216,7 +216,7 @@ fn find_gone<R: Wait>(rt: &R, alloc: Global, senders: Senders) -> bool {
     found && told && unknown && (first, second, control) == (1, 1, 1)
 }
 
-// What the first lane's taker finds.
+// What the first lane's taker takes.
 const FIRST_LANE: [(u32, u64, Said); 7] = [
     (0, 1, Said::Put(1)),
     (0, 2, Said::Put(2)),
@@ -227,7 +227,8 @@ const FIRST_LANE: [(u32, u64, Said); 7] = [
     (1, 1, Said::Done),
 ];
 
-// Whether they do where the taker of the second lane is dropped, and the other one finds what was sent.
+// Whether they do if the taker of the second lane is dropped, and the other one takes what was
+// sent.
 fn send_to_one_of_two<R: Wait>(rt: &R, alloc: Global) -> Result<bool, AllocError> {
     let (mut takes, senders) = start(alloc, 2)?;
     let dropped = takes.pop().is_some();
@@ -248,10 +249,10 @@ fn a_lane_whose_taker_is_dropped(rt: HostRuntime) -> Result<(), Fail> {
     Ok(())
 }
 
-// How many operations the producer puts that waits.
+// How many operations the waiting producer puts.
 const COUNT: u64 = 20;
 
-// Waits longer by far than an end looks before it sleeps, and takes until the producer closes.
+// Waits much longer than an end tries before it sleeps, and takes until the producer closes.
 fn take_late<R: Wait + Clock>(rt: &R, take: &mut LaneTake) -> bool {
     thread::sleep(rt, Duration::from_millis(50));
     let mut good = true;
@@ -275,7 +276,7 @@ fn put_and_close<R: Wait>(rt: &R, alloc: Global, mut producer: Producer) -> bool
     good && producer.close(rt).gone() == 0
 }
 
-// Whether a thread takes what a producer put that waited at a queue of one place.
+// Whether a thread takes what a producer put that had to wait at a queue of one place.
 fn waits<R: Threads + Wait + Clock + Copy + Send + 'static>(
     rt: R,
     alloc: Global,

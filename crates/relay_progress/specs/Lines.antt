@@ -1,28 +1,28 @@
--- What is said of a run while it works.
+-- The lines that show the progress of a run.
 use Rattle.std.specs.Prelude.{ℕ, ◌*◌, ◌/◌, ◌==◌, min, List, [], ◌∷◌, ◌++◌, Bool, true, false, Option, None, Some, codes, decimal, if◌then◌else◌}
 use Rattle.relay_progress.specs.declared.counts.Trouble.{Trouble}
 use Rattle.relay_progress.specs.declared.counts.Trouble.TheVariants as trouble
 use Rattle.relay_progress.specs.declared.line.Progress.{Progress}
 
--- how many of a hundred parts of the files were read, all of them of empty ones
+-- the percentage that was read; 100 if there is nothing to read
 abbrev pub share : ℕ → ℕ → ℕ
 share read size = if size == 0 then 100 else min read size * 100 / size
 
--- what was read, `R bytes`, or `R of S bytes (P %)` where the sizes of the files are known
+-- what was read, `R bytes`, or `R of S bytes (P %)` if the sizes of the files are known
 abbrev pub read_text : ℕ → Option ℕ → List ℕ
 read_text read None = decimal read ++ codes " bytes"
 read_text read (Some size) = decimal read ++ codes " of " ++ decimal size ++ codes " bytes (" ++ decimal (share read size) ++ codes " %)"
 
--- how long ago the last answer came
+-- how long ago the last answer arrived
 abbrev pub ago_text : ℕ → List ℕ
 ago_text seconds = codes "last answer " ++ decimal seconds ++ codes " s ago"
 
--- when it came
+-- when it arrived
 abbrev pub answer_text : Option ℕ → List ℕ
 answer_text None = codes "no answer yet"
 answer_text (Some seconds) = ago_text seconds
 
--- what was sent and what became of it
+-- the part about requests and operations
 abbrev pub counts_text : Progress → List ℕ
 counts_text p =
     codes ", sent " ++ decimal p.operations ++ codes " operations in " ++ decimal p.requests ++ codes " requests, settled " ++ decimal p.settled
@@ -32,7 +32,8 @@ counts_text p =
 abbrev pub progress_text : Progress → List ℕ
 progress_text p = codes "read " ++ read_text p.read p.size ++ counts_text p ++ codes ", " ++ answer_text p.idle
 
--- how it is written: on a terminal over the line before it, of which nothing stays, and else as a line
+-- the line as it is written: on a terminal over the previous one, of which nothing is left, otherwise as a line of
+-- its own
 abbrev pub erase_rest : List ℕ
 erase_rest = 27 ∷ codes "[K"
 
@@ -48,6 +49,6 @@ trouble_name trouble.Refused = codes "connection refused, trying again"
 trouble_name trouble.TimedOut = codes "connection timed out, trying again"
 trouble_name trouble.Other = codes "no connection, trying again"
 
--- what is said of the connections to an address; on a terminal the line that stood there is gone
+-- the line about connections to an address; on a terminal it replaces the previous line
 abbrev pub trouble_text : Bool → List ℕ → Trouble → List ℕ
 trouble_text over address t = (if over then codes "\r" ++ erase_rest else []) ++ address ++ codes ": " ++ trouble_name t ++ codes "\n"

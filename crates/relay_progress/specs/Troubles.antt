@@ -1,4 +1,4 @@
--- What a failed call of a dial says.
+-- What a failed call of a dial shows.
 use Rattle.std.specs.Prelude.{Option, None, Some}
 use Rattle.std.specs.declared.io.ErrorKind.{ErrorKind}
 use Rattle.std.specs.declared.io.ErrorKind.TheVariants as kind

@@ -1,4 +1,4 @@
-//! What the threads of a run have counted.
+//! The counts of a run, shared between its threads.
 use std::alloc::{AllocError, Global};
 use std::sync::Arc;
 use std::sync::atomic::{AtomicU64, Ordering};
@@ -17,12 +17,10 @@ pub enum Trouble {
 }
 
 impl Trouble {
-    // As a number that is shared.
     fn code(self) -> u64 {
         self as u64
     }
 
-    // What such a number stands for.
     fn of_code(code: u64) -> Trouble {
         match code {
             0 => Trouble::None,
@@ -33,7 +31,7 @@ impl Trouble {
     }
 }
 
-/// The counts of a run. Each stands for itself: they are not read at one moment.
+/// The counts of a run. Each is read by itself, so together they need not be of the same moment.
 #[derive(Drop)]
 pub struct Counts {
     read: AtomicU64,
@@ -50,12 +48,11 @@ pub struct Counts {
 pub type Shared = Arc<Counts, Global>;
 
 impl Counts {
-    /// Counts of nothing. `AllocError`: there was no memory for them.
+    /// Counts that are all 0. `AllocError`: allocation failed.
     pub fn shared(alloc: Global) -> Result<Shared, AllocError> {
         Ok(Arc::new(alloc, Counts::new())?)
     }
 
-    // All of them at 0.
     fn new() -> Counts {
         Counts {
             read: AtomicU64::new(0),
@@ -69,31 +66,31 @@ impl Counts {
         }
     }
 
-    /// So many bytes of a file were read.
+    /// Counts bytes that were read from a file.
     pub fn add_read(&self, bytes: u64) {
         self.read.fetch_add(bytes, Ordering::SeqCst);
     }
 
-    /// A request goes out with so many operations.
+    /// Counts a request with this many operations.
     pub fn add_request(&self, operations: u64) {
         self.requests.fetch_add(1, Ordering::SeqCst);
         self.operations.fetch_add(operations, Ordering::SeqCst);
     }
 
-    /// A request was answered: so many of its operations are settled, and so many are not.
+    /// Counts an answer that settled these many operations, and did not settle the others.
     pub fn add_answer(&self, settled: u64, others: u64) {
         self.answers.fetch_add(1, Ordering::SeqCst);
         self.settled.fetch_add(settled, Ordering::SeqCst);
         self.add_loss(others);
     }
 
-    /// A request ended, and so many of its operations are not settled by it.
+    /// Counts a request that was lost, and did not settle these many operations.
     pub fn add_loss(&self, others: u64) {
         self.ended.fetch_add(1, Ordering::SeqCst);
         self.repeats.fetch_add(others, Ordering::SeqCst);
     }
 
-    /// How the last try to make a connection ended.
+    /// Sets how the last try to make a connection ended.
     pub fn set_trouble(&self, trouble: Trouble) {
         self.trouble.store(trouble.code(), Ordering::SeqCst);
     }
@@ -103,37 +100,37 @@ impl Counts {
         Trouble::of_code(self.trouble.load(Ordering::SeqCst))
     }
 
-    /// How many bytes were read.
+    /// The number of bytes that were read.
     pub fn read(&self) -> u64 {
         self.read.load(Ordering::SeqCst)
     }
 
-    /// How many requests went out.
+    /// The number of requests that were sent.
     pub fn requests(&self) -> u64 {
         self.requests.load(Ordering::SeqCst)
     }
 
-    /// How many operations the requests had.
+    /// The number of operations in the requests.
     pub fn operations(&self) -> u64 {
         self.operations.load(Ordering::SeqCst)
     }
 
-    /// How many requests were answered.
+    /// The number of requests that were answered.
     pub fn answers(&self) -> u64 {
         self.answers.load(Ordering::SeqCst)
     }
 
-    /// How many requests were answered or lost.
+    /// The number of requests that were answered or lost.
     pub fn ended(&self) -> u64 {
         self.ended.load(Ordering::SeqCst)
     }
 
-    /// How many operations an answer settled.
+    /// The number of operations that answers settled.
     pub fn settled(&self) -> u64 {
         self.settled.load(Ordering::SeqCst)
     }
 
-    /// How many operations a request carried that did not settle them, each time it did.
+    /// The number of times that a request did not settle one of its operations.
     pub fn repeats(&self) -> u64 {
         self.repeats.load(Ordering::SeqCst)
     }

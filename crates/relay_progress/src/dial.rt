@@ -1,4 +1,4 @@
-//! A dial that is watched.
+//! A watched dial.
 ghost use Rattle.std.specs.Prelude.{◌≡◌};
 ghost use Rattle.relay_progress.specs.Troubles.{trouble_of};
 
@@ -10,8 +10,8 @@ use std::io::ErrorKind;
 use std::marker::Model;
 use std::net::Net;
 
-/// A dial over TCP, of which it is known to others how its last call ended where there are counts to say it
-/// by. It keeps the promises of the dial, and contracts see the dial.
+/// A dial over TCP that records how its last call ended, if it has counts. It keeps the promises of
+/// the dial inside, which is what contracts see.
 #[derive(Drop)]
 pub struct CountedDial<R: Net> {
     dial: TcpDial<R>,
@@ -28,7 +28,7 @@ impl<R: Net> Model for CountedDial<R> {
 }
 
 impl<R: Net> CountedDial<R> {
-    /// What dials by this dial, and says by these counts how it ended.
+    /// A dial that records in these counts how each call ended.
     pub fn new(dial: TcpDial<R>, counts: Option<Shared>) -> CountedDial<R>
         ensures { result ≡ dial }
     {
@@ -50,7 +50,7 @@ impl<R: Net> Dial<StdStream<R::Stream>> for CountedDial<R> {
     }
 }
 
-// What a call of the dial says of the connections.
+// What a call of the dial shows about connections.
 fn trouble_of(fault: Option<ErrorKind>) -> Trouble
     ensures { result ≡ trouble_of fault }
 {

@@ -1,9 +1,11 @@
-//! How far a run is, counted while it works: a reader, a wire and a dial that stand around others, pass
-//! everything on and count what goes through them, and the line that says it. It stands on `relay_action` for
-//! readers, on `relay_lane` for wires, on `relay_net` for dials and on `relay_text` for numbers.
+//! The progress of a run, counted while it works: a reader, a wire and a dial that wrap others,
+//! pass everything on and count what goes through them, and the line that shows the counts. It
+//! depends on `relay_action` for readers, on `relay_lane` for wires, on `relay_net` for dials and
+//! on `relay_text` for numbers.
 //!
-//! What is promised is that reader, wire and dial keep the promises of those that they stand around, and what
-//! the line says of the counts. What the counts are no contract can say, since other threads change them.
+//! What is proved is that the reader, the wire and the dial keep the promises of what they wrap,
+//! and what the line says of the counts. No contract can say what the counts are, since other
+//! threads change them.
 #![tactic(auto)]
 
 pub mod counts;

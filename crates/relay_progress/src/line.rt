@@ -1,4 +1,4 @@
-//! The line that says how far a run is.
+//! The progress line.
 ghost use Rattle.std.specs.Prelude.{◌≡◌, ◌++◌, IfOk, OnOk};
 ghost use Rattle.relay_progress.specs.Lines.{ago_text, answer_text, counts_text, progress_text, read_text, share, trouble_name, trouble_text, written_text};
 
@@ -6,28 +6,28 @@ use crate::counts::Trouble;
 use relay_text::add_number;
 use std::alloc::{AllocError, Global};
 
-/// How far a run is.
+/// The progress of a run.
 #[derive(Clone, Copy, Debug, PartialEq, Eq)]
 pub struct Progress {
-    /// How many bytes of the files were read.
+    /// The number of bytes of the files that were read.
     pub read: u64,
-    /// How many the files have, where that is known of all.
+    /// The size of the files, if that of each is known.
     pub size: Option<u64>,
-    /// How many requests were sent.
+    /// The number of requests that were sent.
     pub requests: u64,
-    /// How many operations they had.
+    /// The number of operations in them.
     pub operations: u64,
-    /// How many operations an answer settled.
+    /// The number of operations that answers settled.
     pub settled: u64,
-    /// How many operations a request carried that did not settle them, each time it did.
+    /// The number of times that a request did not settle one of its operations.
     pub repeats: u64,
-    /// How many requests are out.
+    /// The number of requests outstanding.
     pub out: u64,
-    /// How many seconds ago the last answer came, if one did.
+    /// How many seconds ago the last answer arrived, if one did.
     pub idle: Option<u64>,
 }
 
-/// What is said of it, with no line end. `AllocError`: there was no memory for the text.
+/// The progress line without a line end. `AllocError`: allocation failed.
 pub fn progress_text(alloc: Global, progress: &Progress) -> Result<Vec<u8>, AllocError>
     ensures { IfOk result (λ text. text.items ≡ progress_text progress.now) }
 {
@@ -40,8 +40,8 @@ pub fn progress_text(alloc: Global, progress: &Progress) -> Result<Vec<u8>, Allo
     Ok(text)
 }
 
-/// The same as it is written: with `over`, on a terminal, over the line that stands there, and else as a line
-/// of its own. `AllocError`: there was no memory for the text.
+/// The progress line: with `over`, on a terminal, it overwrites the previous line, otherwise it is
+/// a line of its own. `AllocError`: allocation failed.
 pub fn written_text(alloc: Global, progress: &Progress, over: bool) -> Result<Vec<u8>, AllocError>
     ensures { IfOk result (λ text. text.items ≡ written_text over (progress_text progress.now)) }
 {
@@ -58,9 +58,9 @@ pub fn written_text(alloc: Global, progress: &Progress, over: bool) -> Result<Ve
     Ok(text)
 }
 
-/// What is said of the connections to an address, once it changes: `ADDR: connection refused, trying again`,
-/// or `ADDR: connected`. With `over`, on a terminal, it takes the place of the line that stands there.
-/// `AllocError`: there was no memory for the text.
+/// The line about connections to an address, for when that changes: `ADDR: connection refused,
+/// trying again`, or `ADDR: connected`. With `over`, on a terminal, it overwrites the previous
+/// line. `AllocError`: allocation failed.
 pub fn trouble_text(
     alloc: Global,
     address: &str,
@@ -80,7 +80,6 @@ pub fn trouble_text(
     Ok(text)
 }
 
-// What is said of it.
 fn trouble_name(trouble: Trouble) -> &'static [u8]
     ensures { result.now ≡ trouble_name trouble }
 {
@@ -92,7 +91,7 @@ fn trouble_name(trouble: Trouble) -> &'static [u8]
     }
 }
 
-// How many of a hundred parts were read.
+// The percentage that was read.
 fn share(read: u64, size: u64) -> u64
     ensures { result ≡ share read size }
 {
@@ -103,7 +102,7 @@ fn share(read: u64, size: u64) -> u64
     (parts / size as u128) as u64
 }
 
-// Adds what was read.
+// Adds the part about what was read.
 fn add_read(text: &mut Vec<u8>, read: u64, size: Option<u64>) -> Result<(), AllocError>
     ensures { OnOk result (text.new.items ≡ text.old.items ++ read_text read size) }
 {
@@ -120,7 +119,7 @@ fn add_read(text: &mut Vec<u8>, read: u64, size: Option<u64>) -> Result<(), Allo
     }
 }
 
-// Adds what was sent and what became of it.
+// Adds the part about requests and operations.
 fn add_counts(text: &mut Vec<u8>, progress: &Progress) -> Result<(), AllocError>
     ensures { OnOk result (text.new.items ≡ text.old.items ++ counts_text progress.now) }
 {
@@ -136,7 +135,7 @@ fn add_counts(text: &mut Vec<u8>, progress: &Progress) -> Result<(), AllocError>
     add_number(text, progress.out)
 }
 
-// Adds how long ago the last answer came.
+// Adds how long ago the last answer arrived.
 fn add_ago(text: &mut Vec<u8>, seconds: u64) -> Result<(), AllocError>
     ensures { OnOk result (text.new.items ≡ text.old.items ++ ago_text seconds) }
 {
@@ -145,7 +144,7 @@ fn add_ago(text: &mut Vec<u8>, seconds: u64) -> Result<(), AllocError>
     text.extend_from_slice(b" s ago")
 }
 
-// Adds when the last answer came.
+// Adds the part about the last answer.
 fn add_answer(text: &mut Vec<u8>, idle: Option<u64>) -> Result<(), AllocError>
     ensures { OnOk result (text.new.items ≡ text.old.items ++ answer_text idle) }
 {

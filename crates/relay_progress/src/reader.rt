@@ -1,12 +1,12 @@
-//! A reader that is counted.
+//! A counted reader.
 ghost use Rattle.std.specs.Prelude.{◌≡◌};
 
 use crate::counts::Shared;
 use relay_action::{ByteIn, ByteStream, StreamFailed};
 use std::marker::Model;
 
-/// A reader that stands around another, passes on all that it gives, and counts how many bytes that is where
-/// there is something to count by. It keeps the promises of the other, and contracts see the other.
+/// A reader that wraps another, and counts the bytes that it reads, if it has counts. It keeps the
+/// promises of the reader inside, which is what contracts see.
 #[derive(Drop)]
 pub struct CountedReader<S> {
     reader: S,
@@ -20,7 +20,7 @@ impl<S> Model for CountedReader<S> {
 }
 
 impl<S> CountedReader<S> {
-    /// What reads by this reader, and counts by these counts.
+    /// A reader that counts in these counts.
     pub fn new(reader: S, counts: Option<Shared>) -> CountedReader<S>
         ensures { result ≡ reader }
     {

@@ -1,4 +1,4 @@
-//! What is said of a run while it works.
+//! Writing the progress of a run while it works.
 use crate::counts::{Counts, Trouble};
 use crate::line::{Progress, trouble_text, written_text};
 use crossbeam_channel::{Receiver, RecvTimeoutError};
@@ -7,25 +7,25 @@ use std::alloc::{AllocError, Global};
 use std::sync::Wait;
 use std::time::{Clock, Duration, Instant};
 
-/// What is to be said of a run, and how.
+/// What to write, and how.
 #[derive(Drop)]
 pub struct Show {
-    /// Whether a line a second says how far it is.
+    /// Whether to write a progress line every second.
     pub lines: bool,
-    /// Whether it is written on a terminal, one line over the other.
+    /// Whether it is written to a terminal, each line over the previous one.
     pub over: bool,
     /// The address that is dialled.
     pub address: String,
-    /// How many bytes there are to read, where that is known.
+    /// The number of bytes to read, if it is known.
     pub size: Option<u64>,
 }
 
-// After how many milliseconds it is looked again, and after how many looks a line is written.
+// How often the counts are read, in milliseconds, and after how many times a line is written.
 const LOOK: u64 = 100;
 
 const LOOKS_A_LINE: u32 = 10;
 
-// What was seen when it was looked last.
+// What was seen at the last look.
 #[derive(Clone, Copy)]
 struct Seen {
     looks: u32,
@@ -34,9 +34,9 @@ struct Seen {
     trouble: Trouble,
 }
 
-/// Says how far a run is, until every sender of `ended` is gone, and once more then: a line a second, if that
-/// is asked for, and at once that no connection can be made, and when one is made again. What cannot be
-/// written, or finds no memory, is left out.
+/// Writes the progress of a run until every sender of `ended` is gone, and once more then: a line
+/// every second, if asked for, and immediately that no connection can be made, or when one is made
+/// again. What cannot be written, or not be allocated, is left out.
 pub fn show_progress<R: Wait + Clock, E: ByteOut>(
     rt: &R,
     alloc: Global,
@@ -63,7 +63,7 @@ pub fn show_progress<R: Wait + Clock, E: ByteOut>(
     let _ = say_last(rt, alloc, show, counts, &mut seen, err);
 }
 
-// Looks at the counts, and says what there is to say.
+// Looks at the counts, and writes what is new.
 fn look<R: Clock, E: ByteOut>(
     rt: &R,
     alloc: Global,
@@ -82,7 +82,7 @@ fn look<R: Clock, E: ByteOut>(
     say_line(rt, alloc, show, counts, seen, err)
 }
 
-// Keeps when an answer was there that was not there before.
+// Remembers when an answer was first seen.
 fn see_answers<R: Clock>(rt: &R, counts: &Counts, seen: &mut Seen) {
     let answers = counts.answers();
     if answers != seen.answers {
@@ -91,7 +91,7 @@ fn see_answers<R: Clock>(rt: &R, counts: &Counts, seen: &mut Seen) {
     }
 }
 
-// Says that no connection can be made, or that one was made again, where that is new.
+// Writes that no connection can be made, or that one was made again, if that is new.
 fn say_trouble<E: ByteOut>(
     alloc: Global,
     show: &Show,
@@ -109,7 +109,7 @@ fn say_trouble<E: ByteOut>(
     Ok(())
 }
 
-// Writes how far the run is.
+// Writes the progress line.
 fn say_line<R: Clock, E: ByteOut>(
     rt: &R,
     alloc: Global,
@@ -124,7 +124,7 @@ fn say_line<R: Clock, E: ByteOut>(
     Ok(())
 }
 
-// Says what is new of the connections, and writes the last line, which stays.
+// Writes what is new about connections, and the last line, which is not overwritten.
 fn say_last<R: Clock, E: ByteOut>(
     rt: &R,
     alloc: Global,
@@ -151,7 +151,6 @@ fn idle<R: Clock>(rt: &R, seen: &Seen) -> Option<u64> {
     Some(spent.as_secs())
 }
 
-// What the counts are now.
 fn progress_of(counts: &Counts, size: Option<u64>, idle: Option<u64>) -> Progress {
     let ended = counts.ended();
     let requests = counts.requests();

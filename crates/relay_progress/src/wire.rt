@@ -1,4 +1,4 @@
-//! A wire that is counted.
+//! A counted wire.
 ghost use Rattle.std.specs.Prelude.{◌≡◌};
 
 use crate::counts::{Counts, Shared};
@@ -7,14 +7,14 @@ use relay_lane::{Wire, WireFault, WireReply};
 use std::alloc::Global;
 use std::marker::Model;
 
-/// A wire that stands around another, passes on all that goes through it, and counts requests and operations
-/// where there is something to count by. It keeps the promises of the other, and contracts see the other.
+/// A wire that wraps another, and counts requests and operations, if it has counts. It keeps the
+/// promises of the wire inside, which is what contracts see.
 #[derive(Drop)]
 pub struct CountedWire<W> {
     wire: W,
     counts: Option<Shared>,
-    // The requests that are out and how many operations each has. Where there was no memory for one it is
-    // missing, and counts as of none.
+    // The outstanding requests, and the number of operations in each. If allocating an entry
+    // failed, it is missing, and the request counts as having none.
     sizes: Vec<(u64, u64)>,
 }
 
@@ -25,7 +25,7 @@ impl<W> Model for CountedWire<W> {
 }
 
 impl<W> CountedWire<W> {
-    /// What sends by this wire, and counts by these counts. It takes no memory.
+    /// A wire that counts in these counts. It does not allocate.
     pub fn new(alloc: Global, wire: W, counts: Option<Shared>) -> CountedWire<W>
         ensures { result ≡ wire }
     {
@@ -83,7 +83,7 @@ fn count_sent(
     }
 }
 
-// How many operations the request has that is out with this number.
+// The number of operations in the outstanding request with this number.
 fn take_size(sizes: &mut Vec<(u64, u64)>, number: u64) -> u64 {
     match sizes.iter().position(|size| size.0 == number) {
         Some(place) => sizes.swap_remove(place).1,
@@ -91,7 +91,7 @@ fn take_size(sizes: &mut Vec<(u64, u64)>, number: u64) -> u64 {
     }
 }
 
-// Counts what came for a request of so many operations.
+// Counts the answer to a request with this many operations.
 fn count_received(counts: &Counts, operations: u64, came: &Result<WireReply, WireFault>) {
     match came {
         Ok(WireReply::Items(outcomes)) => {

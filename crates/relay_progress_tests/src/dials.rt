@@ -1,4 +1,4 @@
-//! Dials that are watched.
+//! Watched dials.
 use relay_net::{TcpDial, TcpListen};
 use relay_progress::{CountedDial, Counts, Trouble};
 use relay_wires::Dial;
@@ -17,7 +17,7 @@ fn dials<R: Net>(alloc: Global, net: &R, address: String) -> Option<(bool, Troub
     Some((made, counts.trouble()))
 }
 
-// The address of a listener, and the same of it.
+// The address of a listener, and the result for it.
 fn dials_listener<R: Net>(alloc: Global, net: &R) -> Option<(String, (bool, Trouble))> {
     let listener = TcpListen::bind(net, "127.0.0.1:0").ok()?;
     let address = listener.local_addr().ok()?;

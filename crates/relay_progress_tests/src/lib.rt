@@ -1,5 +1,5 @@
-//! Tests of `relay_progress`: what a reader, a wire and a dial count that stand around others, the lines that
-//! say it, and when they are written.
+//! Tests of `relay_progress`: what a reader, a wire and a dial count, the lines that show the
+//! counts, and when they are written.
 #![tactic(auto)]
 
 #[cfg(test)]

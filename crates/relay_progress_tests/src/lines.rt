@@ -1,8 +1,8 @@
-//! What is said of the counts.
+//! The lines for given counts.
 use relay_progress::{Progress, Trouble, trouble_text, written_text};
 use std::alloc::Global;
 
-// One and a half of 64 KiB, of which two thirds were read.
+// One and a half times 64 KiB, of which two thirds were read.
 const SOME: Progress = Progress {
     read: 65_536,
     size: Some(98_304),
@@ -30,14 +30,14 @@ const EMPTY: Progress = Progress {
     ..NONE
 };
 
-// A file that has grown since its size was asked for.
+// A file that has grown since its size was read.
 const MORE: Progress = Progress {
     read: 18_446_744_073_709_551_615,
     size: Some(9_223_372_036_854_775_807),
     ..NONE
 };
 
-// The counts, whether they are written over what stands there, and the text.
+// The counts, whether the line overwrites the previous one, and the text.
 const ROWS: &[(&Progress, bool, &[u8])] = &[
     (
         &SOME,
@@ -75,7 +75,7 @@ fn says_how_far_it_is(rt: HostRuntime) {
     }
 }
 
-// What is known of the connections, whether it is written over what stands there, and the text.
+// What is known about connections, whether the line overwrites the previous one, and the text.
 const TROUBLES: &[(Trouble, bool, &[u8])] = &[
     (
         Trouble::Refused,

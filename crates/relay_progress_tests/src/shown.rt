@@ -1,4 +1,4 @@
-//! When something is said.
+//! When something is written.
 use crossbeam_channel::{Receiver, Sender, bounded};
 use relay_action::MemStream;
 use relay_progress::{Counts, Show, Trouble, show_progress};
@@ -8,7 +8,7 @@ use std::thread;
 use std::thread::Threads;
 use std::time::{Clock, Duration};
 
-// Lets go of a sender after so many milliseconds.
+// Drops a sender after this many milliseconds.
 fn lets_go<R: Clock>(rt: &R, ended: Sender<(), Global>, millis: u64) {
     thread::sleep(rt, Duration::from_millis(millis));
     drop(ended);
@@ -27,7 +27,7 @@ fn written<R: Wait + Clock>(
     Some(err)
 }
 
-// What is written in so many milliseconds.
+// What is written in this many milliseconds.
 fn shows<R>(rt: R, alloc: Global, show: &Show, trouble: Trouble, millis: u64) -> Option<MemStream>
 where
     R: Threads + Wait + Clock + Copy + Send + 'static,
@@ -41,7 +41,7 @@ where
     err
 }
 
-// What is to be shown: lines or none, on a terminal or not.
+// What to show: lines or none, on a terminal or not.
 fn show_of(alloc: Global, lines: bool, over: bool) -> Option<Show> {
     Some(Show {
         lines,

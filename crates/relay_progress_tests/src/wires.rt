@@ -1,4 +1,4 @@
-//! Wires that are counted.
+//! Counted wires.
 ghost use Rattle.std.specs.Prelude.{◌≡◌, ◌∷◌, ◌≤◌, [], length, OnOk, None};
 ghost use Rattle.relay_lane.specs.Wires.{IsReply};
 ghost use Rattle.relay_ndjson.specs.Bodies.{AreDealt};
@@ -15,17 +15,17 @@ use std::sync::Arc;
 // What a wire does with a request.
 #[derive(Clone, Copy, Debug, PartialEq, Eq)]
 enum Plan {
-    // It answers with an entry of this status.
+    // It returns an entry with this status.
     Entry(u16),
-    // It answers with this status of the request as a whole.
+    // It returns this status for the request as a whole.
     Refused(u16),
     // It loses the reply.
     Loses,
-    // It does not send.
+    // It cannot send it.
     Keeps,
 }
 
-// A wire that does so.
+// A wire that does this.
 #[derive(Drop)]
 struct Planned {
     alloc: Global,
@@ -78,7 +78,7 @@ impl Wire for Planned {
     }
 }
 
-// Sends a request where none is out.
+// Sends a request if none is outstanding.
 fn send<W: Wire>(wire: &mut W, writes: &[Write]) -> Result<(), WireFault>
     requires out { W.out wire.old ≡ [] }
     requires few { length writes.now ≤ 10000 }
@@ -89,7 +89,7 @@ fn send<W: Wire>(wire: &mut W, writes: &[Write]) -> Result<(), WireFault>
     wire.send(1, writes)
 }
 
-// Sends a delete and takes what is answered.
+// Sends a delete and receives the result.
 fn asks<W: Wire>(alloc: Global, wire: &mut W) -> Option<bool>
     requires { W.out wire.old ≡ [] }
 {
@@ -105,7 +105,7 @@ fn asks<W: Wire>(alloc: Global, wire: &mut W) -> Option<bool>
     Some(wire.receive(1).is_ok())
 }
 
-// Whether a wire that is counted so answers.
+// Whether a counted wire has a result.
 fn asks_counted(alloc: Global, plan: Plan, counts: Option<Shared>) -> Option<bool> {
     let planned = Planned {
         alloc,
@@ -115,8 +115,8 @@ fn asks_counted(alloc: Global, plan: Plan, counts: Option<Shared>) -> Option<boo
     asks(alloc, &mut CountedWire::new(alloc, planned, counts))
 }
 
-// Whether it answers, and how many operations, answers and ends are counted, and how many operations are
-// settled and are not.
+// Whether it has, and how many operations, answers and ends are counted, and how many operations
+// are settled and are not.
 fn counted(alloc: Global, plan: Plan) -> Option<(bool, [u64; 6])> {
     let counts = Counts::shared(alloc).ok()?;
     let answers = asks_counted(alloc, plan, Some(Arc::try_clone(&counts).ok()?))?;
@@ -131,8 +131,8 @@ fn counted(alloc: Global, plan: Plan) -> Option<(bool, [u64; 6])> {
     Some((answers, found))
 }
 
-// What a wire does, whether it answers, and the counts: requests, operations, answers, ends, operations that
-// are settled, and others.
+// What a wire does, whether it has a result, and the counts: requests, operations, answers, ends,
+// operations settled, and others.
 const ROWS: &[(Plan, bool, [u64; 6])] = &[
     (Plan::Entry(200), true, [1, 1, 1, 1, 1, 0]),
     (Plan::Entry(404), true, [1, 1, 1, 1, 1, 0]),

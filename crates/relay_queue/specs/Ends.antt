@@ -1,4 +1,4 @@
--- What contracts see of the ends of a queue.
+-- The ends of a queue, as contracts see them.
 use Rattle.std.specs.Prelude.{ℕ, zero, suc, List, [], ◌∷◌, ◌++◌}
 use Rattle.crossbeam_channel.specs.Claims.{Pass, view}
 use Rattle.crossbeam_channel.specs.declared.flavors.array.Key.{Key}
@@ -8,7 +8,7 @@ use Rattle.relay_action.specs.declared.mail.Mail.{Mail}
 use Rattle.relay_queue.specs.declared.rule.Knowledge.{Knowledge}
 use Rattle.relay_queue.specs.Steps.{capacity_of}
 
--- a queue: which one it is, told by the first two fields, and how many places it has
+-- a queue: its identity, in the first two fields, and its number of places
 pub record Queue : Type 0 where
   pub table : TableId
   pub keys : Badge (Key Mail)
@@ -20,13 +20,13 @@ pub record SenderEnd : Type 0 where
   pub sender : ℕ
   pub sent : List Mail
 
--- the taker's end: its queue, how many senders that has, and what was taken
+-- the taker's end: its queue, its number of senders, and what was taken
 pub record TakerEnd : Type 0 where
   pub queue : Queue
   pub senders : ℕ
   pub taken : List Mail
 
--- the queue of a pass, with so many places
+-- the queue of a pass, with this number of places
 abbrev pub queue_with : Pass Mail Knowledge → ℕ → Queue
 queue_with pass places = record { table = pass.table_id; keys = pass.me.0.of; capacity = places }
 

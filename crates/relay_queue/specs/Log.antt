@@ -8,16 +8,16 @@ use Rattle.relay_queue.specs.declared.rule.Knowledge.{Knowledge}
 use Rattle.relay_queue.specs.declared.rule.Knowledge.TheVariants.{Sender, Taker}
 use Rattle.relay_queue.specs.Sent.{mail_of, ClosedAs, IsWellSent}
 
--- the log holds of this sender exactly the list that it sent, numbered from 1 and with nothing after
--- a Done, and Done is in it where the sender closed, and only there
+-- the log contains exactly the list that this sender sent, numbered from 1 and with nothing after a Done; it contains
+-- a Done exactly if the sender closed
 pub record IsAllOf (log : List Mail) (sender : ℕ) (sent : List Mail) (closed : Bool) : Type 0 where
   pub all : sent ≡ mail_of sender log
   pub well_sent : IsWellSent sent
   pub done : ClosedAs closed sent
 
--- there is a log: each sender's end, and what the taker's end knows of those that it met, is all that
--- the log holds of that sender, a sender that was not made has nothing in it, the taker's end knows what
--- was taken, and no more is queued than there are places
+-- there is a log: what each sender's end, and the taker's end for those it met, knows to be sent is all that the log
+-- has of that sender; the log has nothing of a sender that was not made; the taker's end knows what was taken; and no
+-- more is queued than there are places
 pub record HasLog (queued : List Mail) (passes : List Knowledge) : Type 0 where
   pub capacity : ℕ
   pub taken : List Mail

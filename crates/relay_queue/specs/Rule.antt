@@ -1,5 +1,4 @@
--- The rule of a queue: what holds at every moment of the messages that are queued and of what the
--- passes know.
+-- The rule of a queue: what holds at every moment of the queued messages and of what the passes know.
 use Rattle.std.specs.Prelude.{◌≡◌, ℕ, ◌<◌, ◌≤◌, Bool, List, [], ◌++◌, length, ⊤}
 use mathlib.Core.Option.{Option, some, none}
 use lib.ListN.{get_elem?}
@@ -9,8 +8,8 @@ use Rattle.relay_queue.specs.declared.rule.Knowledge.{Knowledge}
 use Rattle.relay_queue.specs.declared.rule.Knowledge.TheVariants.{Sender, Taker, Met}
 use Rattle.relay_queue.specs.Sent.{mail_of, HasDone, ClosedAs, IsWellSent}
 
--- what stands behind the passes: how many places the queue has, the number of the taker's pass, that
--- of the pass of each sender that was not met, the messages taken, and the log
+-- what the passes are about: the number of places, the number of the taker's pass, that of the pass of each sender
+-- that was not met, the messages taken, and the log
 pub record History : Type 0 where
   pub capacity : ℕ
   pub taker : ℕ
@@ -18,24 +17,23 @@ pub record History : Type 0 where
   pub taken : List Mail
   pub log : List Mail
 
--- what a sender's pass knows: how many places the queue has, the sender's number, what it sent, and
--- whether it closed
+-- what a sender's pass knows: the number of places, the sender's number, what it sent, and whether it closed
 pub record OfSender : Type 0 where
   pub capacity : ℕ
   pub sender : ℕ
   pub sent : List Mail
   pub closed : Bool
 
--- what the taker's pass knows: how many places the queue has, how many senders were made, what was
--- taken, and what the senders sent that were met
+-- what the taker's pass knows: the number of places, the number of senders that were made, what was taken, and what
+-- the senders sent that were met
 pub record OfTaker : Type 0 where
   pub capacity : ℕ
   pub senders : ℕ
   pub taken : List Mail
   pub met : List SentList
 
--- a sender's pass is the only one of that sender; what it knows to be sent is what the log holds of
--- the sender, and Done is among it where the sender closed, and only there
+-- a sender's pass is the only one of that sender; what it knows to be sent is what the log has of the sender, with a
+-- Done exactly if the sender closed
 pub record FitsSender (history : History) (pass : ℕ) (known : OfSender) : Type 0 where
   pub places : known.capacity ≡ history.capacity
   pub own : history.pass_of known.sender ≡ some pass
@@ -47,15 +45,15 @@ pub record IsUnmade (history : History) (sender : ℕ) : Type 0 where
   pub no_pass : history.pass_of sender ≡ none
   pub nothing : mail_of sender history.log ≡ []
 
--- a sender that was met has no pass any more, closed, and sent what the log holds of it
+-- a sender that was met has no pass any more, is closed, and sent what the log has of it
 pub record WasMet (history : History) (senders : ℕ) (met : SentList) : Type 0 where
   pub made : met.sender < senders
   pub no_pass : history.pass_of met.sender ≡ none
   pub all : met.sent ≡ mail_of met.sender history.log
   pub done : HasDone met.sent
 
--- the taker's pass is the only one of its kind; it knows what was taken, that later senders are not
--- made, and what the senders sent that it met
+-- the taker's pass is the only one of its kind; it knows what was taken, that later senders are not made, and what
+-- the senders sent that it met
 pub record FitsTaker (history : History) (pass : ℕ) (known : OfTaker) : Type 0 where
   pub places : known.capacity ≡ history.capacity
   pub own : pass ≡ history.taker
@@ -71,8 +69,8 @@ Fits history pass (Taker capacity senders taken met) =
     FitsTaker history pass (record { capacity = capacity; senders = senders; taken = taken; met = met })
 Fits history pass Met = ⊤
 
--- the rule: there is a log, what was taken and then what is queued; what it holds of each sender is
--- well sent; no more is queued than there are places; and what each pass knows is true
+-- the rule: there is a log, of what was taken and then what is queued; what it has of each sender is well sent; no
+-- more is queued than there are places; and what each pass knows is true
 pub record Delivers (queued : List Mail) (passes : List Knowledge) : Type 0 where
   pub history : History
   pub in_log : history.log ≡ history.taken ++ queued

@@ -1,4 +1,4 @@
--- What each kind of step does to what a pass knows, and what it tells.
+-- What each kind of step does to what a pass knows, and what it shows.
 use Rattle.std.specs.Prelude.{◌≡◌, ℕ, ◌+◌, ◌<◌, ◌≤◌, Bool, true, false, List, [], ◌∷◌, ◌++◌, length}
 use mathlib.Core.Option.{some}
 use lib.ListN.{get_elem?}
@@ -11,7 +11,7 @@ use Rattle.relay_queue.specs.Log.{IsAllOf}
 
 -- ---- the parts of what a pass knows
 
--- the pass is a sender's, which has closed or not
+-- the pass is a sender's, closed or not
 abbrev pub IsSender : Bool → Knowledge → Type 0
 IsSender state (Sender capacity sender sent closed) = closed ≡ state
 IsSender state (Taker capacity senders taken met) = ⊥
@@ -23,7 +23,7 @@ IsTaker (Sender capacity sender sent closed) = ⊥
 IsTaker (Taker capacity senders taken met) = Unit {0}
 IsTaker Met = ⊥
 
--- how many places the queue has
+-- the number of places in the queue
 abbrev pub capacity_of : Knowledge → ℕ
 capacity_of (Sender capacity sender sent closed) = capacity
 capacity_of (Taker capacity senders taken met) = capacity
@@ -40,7 +40,7 @@ sent_of (Sender capacity sender sent closed) = sent
 sent_of (Taker capacity senders taken met) = []
 sent_of Met = []
 
--- how many senders the taker's pass made, what it took, and what the senders sent that it met
+-- the number of senders that the taker's pass made, what it took, and what the senders sent that it met
 abbrev pub senders_of : Knowledge → ℕ
 senders_of (Sender capacity sender sent closed) = 0
 senders_of (Taker capacity senders taken met) = senders
@@ -58,7 +58,7 @@ met_of Met = []
 
 -- ---- the steps
 
--- one more message was sent, after which the sender has closed or not
+-- one more message was sent, and the sender has closed with it or not
 abbrev pub with_sent : Bool → Knowledge → Mail → Knowledge
 with_sent state (Sender capacity sender sent closed) m = Sender capacity sender (sent ++ m ∷ []) state
 with_sent state (Taker capacity senders taken met) m = Taker capacity senders taken met
@@ -70,7 +70,7 @@ with_taken (Sender capacity sender sent closed) m = Sender capacity sender sent 
 with_taken (Taker capacity senders taken met) m = Taker capacity senders (taken ++ m ∷ []) met
 with_taken Met m = Met
 
--- one more sender was made; the first one tells how many places there are
+-- one more sender was made; the first one fixes the number of places
 abbrev pub with_sender : ℕ → Knowledge → Knowledge
 with_sender places (Sender capacity sender sent closed) = Sender capacity sender sent closed
 with_sender places (Taker capacity senders taken met) = Taker places (senders + 1) taken met
@@ -90,18 +90,18 @@ with_met Met w = Met
 
 -- ---- what the steps tell
 
--- a send: the message joined the sender's list, which is well sent, with a Done where the sender has
--- closed and only there
+-- a send: the message was added to the sender's list, which is well sent, with a Done exactly if the sender has
+-- closed
 abbrev pub Sends : Bool → Knowledge → Mail → Knowledge → Type 0
 Sends state v m w = (w ≡ with_sent state v m) × IsWellSent (sent_of w) × ClosedAs state (sent_of w)
 
--- a take: the message joined what was taken; its sender is one of those that were made, and what was
--- taken is well taken of the senders
+-- a take: the message was added to what was taken; its sender is one of those that were made, and what was taken is
+-- well taken
 abbrev pub Receives : Knowledge → Mail → Knowledge → Type 0
 Receives v m w = (w ≡ with_taken v m) × (m.sender < senders_of v) × IsWellTaken (senders_of w) (taken_of w)
 
--- a reading: no more is queued than there are places, and what each sender sent that was met is all that
--- the log, what was taken and then what is queued, holds of it, with a Done
+-- a reading: no more is queued than there are places, and what each sender that was met sent is all that the log,
+-- what was taken and then what is queued, has of it, with a Done
 abbrev pub Learns : Knowledge → List Mail → Type 0
 Learns v queued =
     (length queued ≤ capacity_of v)

@@ -14,9 +14,9 @@ use relay_action::Mail;
 use std::alloc::{AllocError, Global};
 use std::marker::Brand;
 
-/// A queue of `capacity` places for messages, from 1 to 65,536, and its ends: the taker's, and one for
-/// each of 1 to 17 senders, which are numbered from 0. `AllocError`: there was no memory for the places
-/// or the ends. No later call of an end takes any.
+/// A queue with `capacity` places, from 1 to 65,536, and its ends: the taker's, and one for each of
+/// 1 to 17 senders, numbered from 0. `AllocError`: allocating the places or the ends failed. No
+/// later call of an end allocates.
 pub fn lane_queue(
     alloc: Global,
     capacity: u32,
@@ -44,8 +44,8 @@ pub fn lane_queue(
     Ok((take, puts))
 }
 
-// One more sender, with a pass that is split off the taker's. The first one fixes how many places the
-// passes know of.
+// Makes one more sender, with a pass that is split off the taker's. The first one fixes the number
+// of places that the passes know.
 fn add_sender<K: Places>(
     sends: &MailSender,
     pass: &mut MailPass,

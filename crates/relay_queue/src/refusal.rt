@@ -1,7 +1,7 @@
-//! Why a message is not handed over.
+//! Why a message is not passed.
 use thiserror::Error;
 
-/// The other end of the queue is dropped. When this comes is not promised.
+/// The other end of the queue is dropped. No contract says when this is returned.
 #[derive(Clone, Copy, Debug, PartialEq, Eq, Error)]
 #[error("Gone")]
 pub struct Gone;
@@ -9,10 +9,10 @@ pub struct Gone;
 /// Why a put sent nothing.
 #[derive(Clone, Copy, Debug, PartialEq, Eq, Error)]
 pub enum PutRefusal {
-    /// The taker is dropped. When this comes is not promised.
+    /// The taker is dropped. No contract says when this is returned.
     #[error("Gone")]
     Gone,
-    /// This sender has put 2^40 messages, the most that one sender puts.
+    /// This sender has put 2^40 messages, the maximum.
     #[error("Spent")]
     Spent,
 }

@@ -1,4 +1,4 @@
-//! The rule of a queue, which its channel keeps at every moment, and the kinds of step that keep it.
+//! The rule that a queue's channel keeps at every moment, and the kinds of steps that keep it.
 ghost use Rattle.std.specs.Prelude.{ℕ, List};
 ghost use Rattle.relay_action.specs.declared.mail.Mail.{Mail};
 ghost use Rattle.relay_queue.specs.declared.rule.Knowledge.{Knowledge};
@@ -11,19 +11,19 @@ use relay_action::Mail;
 use std::collections::LinkedList;
 use std::marker::{Brand, PhantomData};
 
-/// What a sender had sent when its closed end was met. No value of it is made.
+/// What a sender had sent when its closed end was met. It exists in proofs only.
 pub struct SentList {
     /// The sender's number.
     pub sender: u64,
-    /// Its messages, in their order.
+    /// Its messages, in order.
     pub sent: LinkedList<Mail>,
 }
 
-/// What the pass of an end knows. No value of it is made: it stands in proofs alone.
+/// What the pass of an end knows. It exists in proofs only.
 pub enum Knowledge {
     /// What a sender's end knows.
     Sender {
-        /// How many places the queue has.
+        /// The number of places in the queue.
         capacity: u64,
         /// The sender's number.
         sender: u64,
@@ -34,26 +34,26 @@ pub enum Knowledge {
     },
     /// What the taker's end knows.
     Taker {
-        /// How many places the queue has.
+        /// The number of places in the queue.
         capacity: u64,
-        /// How many senders were made.
+        /// The number of senders that were made.
         senders: u64,
         /// What it took.
         taken: LinkedList<Mail>,
-        /// What the senders sent whose closed ends it met.
+        /// What those senders sent whose closed ends it met.
         met: LinkedList<SentList>,
     },
     /// The pass of a closed end that was met knows nothing any more.
     Met,
 }
 
-/// A token of no bytes that an end holds for each of its steps.
+/// A zero-sized token that an end needs for each of its steps.
 pub type MailPass = Pass<Mail, Knowledge>;
 
-/// The channel's end for sending.
+/// The sending end of the channel.
 pub type MailSender = RuledSender<Mail, Knowledge, Delivery>;
 
-/// The channel's end for taking.
+/// The taking end of the channel.
 pub type MailReceiver = RuledReceiver<Mail, Knowledge, Delivery>;
 
 /// The rule.
@@ -69,16 +69,16 @@ impl Protocol<Mail, Knowledge> for Delivery {
     ghost first = { Taker 0 0 [] [] };
 }
 
-/// The law of the log: at every moment what was taken and then what is queued holds of each sender
-/// exactly the list that it sent, numbered from 1, with Done last and only where it closed, and no more
-/// is queued than the queue has places. The contract reads the rule, which the channel keeps at every
-/// step, in these plain terms; the body does nothing.
+/// The law of the log: at every moment, what was taken followed by what is queued contains exactly
+/// the list that each sender sent, numbered from 1, with Done last and only if it closed, and no
+/// more is queued than the queue has places. The contract states the channel's rule in these plain
+/// terms; the body does nothing.
 pub fn law_of_the_log()
     ensures { (queued : List Mail) (passes : List Knowledge)
         → Delivers queued passes → HasLog queued passes }
 {}
 
-/// How many places a queue has, picked where its senders are made.
+/// The number of places in a queue, chosen when its senders are made.
 pub trait Places {
     ghost places: { ℕ };
 }
@@ -159,7 +159,7 @@ impl Lesson<Mail, Knowledge> for Takes {
     ghost fact = { λ v queued. ⊤ };
 }
 
-/// What the taker's pass reads of the queue.
+/// The step that reads the queue with the taker's pass.
 pub struct Reads;
 
 impl Lesson<Mail, Knowledge> for Reads {

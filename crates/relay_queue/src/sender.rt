@@ -1,4 +1,4 @@
-//! The ends of the senders.
+//! The senders' ends.
 ghost use Rattle.std.specs.Prelude.{◌≡◌, ◌≢◌, ◌+◌, ◌<◌, ◌≤◌, ◌^◌, ◌↔◌, [], ◌∷◌, ◌++◌, length, IfOk, IfErr, OnOk, IsErrAnd};
 ghost use Rattle.relay_queue.specs.Sent.{message, IsWellSent, HasDone};
 
@@ -10,16 +10,17 @@ use std::marker::Model;
 use std::sync::Wait;
 use std::{hint, thread};
 
-/// The most messages that one sender puts: 2^40, its Done not counted.
+/// The maximum number of messages that one sender puts, without its Done: 2^40.
 pub const PUT_LIMIT: u64 = 1 << 40;
 
-/// How often an end looks before it sleeps in the channel. A sleeper costs the other side a system call
-/// to wake it, so a busy queue is quicker where its ends wait a little.
+/// The number of tries before an end sleeps in the channel. Waking a sleeper takes a system call,
+/// so a busy queue is faster if its ends wait a little first.
 pub(crate) const TRIES: u32 = 100;
 
-/// Gives the other side time: for the first turns in place, longer each turn, and then by leaving the
-/// processor. The first turn is long enough for the other side to move on by several messages, so that
-/// the two do not take turns at the same cache lines, and short beside a hand-over at one place.
+/// Gives the other side time: in the first turns by spinning, longer each turn, and then by
+/// yielding the processor. The first turn is long enough for the other side to move several
+/// messages, so that the two do not contend for the same cache lines, and short compared with one
+/// hand-over.
 pub(crate) fn pause(turn: u32) {
     if turn > 2 {
         thread::yield_now();
@@ -32,7 +33,7 @@ pub(crate) fn pause(turn: u32) {
 
 /// A sender's end of a queue. Contracts see its queue, its number and the list of what it sent.
 ///
-/// While one is not dropped, the taker learns of no disconnect.
+/// Until it is dropped, the taker learns of no disconnect.
 #[derive(Drop)]
 pub struct LanePut {
     pub(crate) channel: MailSender,
@@ -65,12 +66,12 @@ impl Model for LanePut {
 }
 
 impl LanePut {
-    /// Sends a message other than Done, and answers its number: this sender's messages are numbered
-    /// from 1. It waits while the queue is full, and takes no memory.
+    /// Sends a message other than Done, and returns its number among this sender's messages, from
+    /// 1. It waits while the queue is full, and does not allocate.
     ///
-    /// Both refusals send nothing and hand the body back. `Spent` comes exactly where this sender has
-    /// put 2^40 messages, before anything is sent. `Gone` says that the taker is dropped; when it comes
-    /// is not promised.
+    /// A refusal sends nothing and returns the body. `Spent` is returned exactly if this sender has
+    /// put 2^40 messages. `Gone` says that the taker is dropped; no contract says when it is
+    /// returned.
     pub fn put<R: Wait>(&mut self, rt: &R, body: Body) -> Result<u64, (PutRefusal, Body)>
         requires { body ≢ Body.Done }
         ensures same { (self.new.queue ≡ self.old.queue) × (self.new.sender ≡ self.old.sender) }
@@ -99,7 +100,7 @@ impl LanePut {
         self.put_waiting(rt, body)
     }
 
-    // Sends a message where there is room at once. An error hands the body back.
+    // Sends a message if there is room right now. An error returns the body.
     fn try_put<R: Wait>(&mut self, rt: &R, body: Body) -> Result<u64, (Missed, Body)>
         requires body { body ≢ Body.Done }
         requires limit { length self.old.sent < 2 ^ 40 }
@@ -161,9 +162,9 @@ impl LanePut {
         }
     }
 
-    /// Sends Done, the sender's last message, also where a put would be `Spent`. It waits while the
-    /// queue is full, and takes no memory. `Gone` says that the taker is dropped: nothing was sent, and
-    /// the end comes back; when it comes is not promised.
+    /// Sends Done, the sender's last message, even if a put would be `Spent`. It waits while the
+    /// queue is full, and does not allocate. `Gone` says that the taker is dropped: nothing was
+    /// sent, and the end is returned; no contract says when.
     pub fn close<R: Wait>(mut self, rt: &R) -> Result<ClosedPut, (Gone, LanePut)>
         ensures closed { IfOk result (λ p. p ≡ record self {
           sent = self.sent ++ message self.sender (length self.sent + 1) Body.Done ∷ [];
@@ -192,11 +193,10 @@ impl LanePut {
     }
 }
 
-/// The end of a sender that has closed, which is met by what the taker took. Contracts see it as they
-/// see a [`LanePut`].
+/// A sender's end after the close, to be met with what the taker took. Contracts see it as a
+/// [`LanePut`].
 ///
-/// It keeps its end of the channel, by which it is met: while one is not dropped, the taker learns of
-/// no disconnect.
+/// It keeps its end of the channel: until it is dropped, the taker learns of no disconnect.
 #[derive(Drop)]
 pub struct ClosedPut {
     pub(crate) channel: MailSender,

@@ -1,4 +1,4 @@
-//! The end of the taker.
+//! The taker's end.
 ghost use Rattle.std.specs.Prelude.{◌≡◌, ◌<◌, ◌≤◌, List, [], ◌∷◌, ◌++◌, length, IfOk, IfErr, IfSome, IfNone};
 ghost use Rattle.relay_action.specs.declared.mail.Mail.{Mail};
 ghost use Rattle.relay_queue.specs.Sent.{mail_of, HasDone, IsWellSent, IsWellTaken};
@@ -11,8 +11,8 @@ use relay_action::Mail;
 use std::marker::Model;
 use std::sync::Wait;
 
-/// The taker's end of a queue. Contracts see its queue, how many senders that has, and the list of
-/// what was taken.
+/// The taker's end of a queue. Contracts see its queue, its number of senders, and the list of what
+/// was taken.
 #[derive(Drop)]
 pub struct LaneTake {
     pub(crate) channel: MailReceiver,
@@ -39,12 +39,13 @@ impl Model for LaneTake {
 }
 
 impl LaneTake {
-    /// Takes the message at the front. It waits while nothing is queued, and takes no memory. What was
-    /// taken so far, also where it answers `Gone`, is of each sender in that sender's order, numbered
-    /// from 1, with nothing after its Done, and of nobody else; between senders no order is promised.
+    /// Takes the first message. It waits while nothing is queued, and does not allocate. What was
+    /// taken so far, also after `Gone`, has each sender's messages in that sender's order, numbered
+    /// from 1, with nothing after its Done, and no others; there is no promise about the order
+    /// between senders.
     ///
-    /// `Gone` says that all ends of senders are dropped, the closed ones too, and nothing is queued; it
-    /// takes nothing, and when it comes is not promised.
+    /// `Gone` says that all senders' ends are dropped, including the closed ones, and nothing is
+    /// queued; nothing is taken then, and no contract says when it is returned.
     pub fn take<R: Wait>(&mut self, rt: &R) -> Result<Mail, Gone>
         ensures same { (self.new.queue ≡ self.old.queue) × (self.new.senders ≡ self.old.senders) }
         ensures taken { IfOk result (λ m. self.new.taken ≡ self.old.taken ++ m ∷ []) }
@@ -79,7 +80,7 @@ impl LaneTake {
         }
     }
 
-    // Takes the message at the front, and sleeps while nothing is queued.
+    // Takes the first message, and sleeps while nothing is queued.
     fn take_waiting<R: Wait>(&mut self, rt: &R) -> Result<Mail, Gone>
         ensures same { (self.new.queue ≡ self.old.queue) × (self.new.senders ≡ self.old.senders) }
         ensures taken { IfOk result (λ m. self.new.taken ≡ self.old.taken ++ m ∷ []) }
@@ -93,8 +94,8 @@ impl LaneTake {
         }
     }
 
-    /// Takes no more. What is queued is dropped with the last end of the queue. What was taken is of
-    /// each sender a front of what it may send, and of nobody else.
+    /// Takes no more. What is queued is dropped with the last end of the queue. What was taken from
+    /// each sender is a prefix of what it may send, and nothing else was taken.
     pub fn end(self) -> Taken
         ensures same { result ≡ self }
         ensures well_taken { IsWellTaken result.senders result.taken }
@@ -105,7 +106,7 @@ impl LaneTake {
     }
 }
 
-/// What a taker took that has ended. Contracts see it as they see a [`LaneTake`].
+/// What was taken, after the end. Contracts see it as a [`LaneTake`].
 #[derive(Drop)]
 pub struct Taken {
     pass: MailPass,
@@ -131,9 +132,9 @@ impl Model for Taken {
 }
 
 impl Taken {
-    /// Compares what was taken with what a closed sender of the same queue sent. This tells, for
-    /// proofs alone, that the taker took a front of what that sender sent, that the rest is no longer
-    /// than the queue has places, and that there is none where Done was taken. It takes no memory.
+    /// Compares what was taken with what a closed sender of the same queue sent. For proofs alone,
+    /// this shows that the taker took a prefix of what that sender sent, that the rest is no longer
+    /// than the queue has places, and that it is empty if Done was taken. It does not allocate.
     pub fn meet(mut self, closed: ClosedPut) -> Taken
         requires { self.queue ≡ closed.queue }
         ensures same { result ≡ self }

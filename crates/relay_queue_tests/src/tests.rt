@@ -12,7 +12,7 @@ use std::thread;
 use std::thread::{Promise, PromisedHandle, Threads};
 use std::time::{Clock, Duration};
 
-// A sender's thread promises that the closed end which it gives back is of the queue of its end.
+// A sender's thread promises that the closed end which it returns is of the queue of its end.
 #[derive(Drop)]
 struct SendPromise {
     put: Snapshot<LanePut>,
@@ -24,7 +24,7 @@ impl Promise<Option<ClosedPut>> for SendPromise {
 
 type SendThread = PromisedHandle<Option<ClosedPut>, SendPromise>;
 
-// A document, which is tried once more where an allocation was refused.
+// A document; it tries once more if an allocation fails.
 fn document(alloc: Global) -> Result<DocKey, ActionFault> {
     match DocKey::new(alloc, "books", "1") {
         Ok(key) => Ok(key),
@@ -32,7 +32,7 @@ fn document(alloc: Global) -> Result<DocKey, ActionFault> {
     }
 }
 
-// What a sender puts as its message of this number: an operation, and each third time a tick.
+// What a sender puts as its message with this number: an operation, and every third time a tick.
 fn body_of(alloc: Global, sender: u32, number: u64) -> Result<Body, ActionFault>
     ensures { IfOk result (λ b. b ≢ Body.Done) }
 {
@@ -65,7 +65,7 @@ fn is_message(mail: &Mail, number: u64, count: u64) -> bool {
         }
 }
 
-// Waits, puts so many messages, of which each answers its number, and closes.
+// Waits, puts `count` messages, each of which must return its number, and closes.
 fn send_all<R: Wait + Clock>(
     rt: &R,
     alloc: Global,
@@ -96,7 +96,7 @@ fn send_all<R: Wait + Clock>(
     }
 }
 
-// A thread for each sender.
+// Starts a thread for each sender.
 fn start_all<R: Threads + Wait + Clock + Copy + Send + 'static>(
     rt: R,
     alloc: Global,
@@ -121,7 +121,7 @@ fn start_all<R: Threads + Wait + Clock + Copy + Send + 'static>(
     Ok(threads)
 }
 
-// Whether a message, which is to be the next one of its sender, is its Done; none where it is not the next.
+// Whether a message is its sender's Done; `None` if it is not the next one of its sender.
 fn is_done(mail: &Mail, next: &mut Vec<u64>, count: u64) -> Option<bool> {
     let number = next.get_mut(mail.sender as usize)?;
     if !is_message(mail, *number, count) {
@@ -131,7 +131,7 @@ fn is_done(mail: &Mail, next: &mut Vec<u64>, count: u64) -> Option<bool> {
     Some(mail.number > count)
 }
 
-// Takes a message, and answers the same of it.
+// Takes a message, and returns the same for it.
 fn take_one<R: Wait>(rt: &R, take: &mut LaneTake, next: &mut Vec<u64>, count: u64) -> Option<bool>
     ensures { take.new.queue ≡ take.old.queue }
 {
@@ -141,7 +141,8 @@ fn take_one<R: Wait>(rt: &R, take: &mut LaneTake, next: &mut Vec<u64>, count: u6
     }
 }
 
-// Takes until each sender has closed, and tells whether each message was the next one of its sender.
+// Takes until each sender has closed, and returns whether each message was the next one of its
+// sender.
 fn take_all<R: Wait>(rt: &R, take: &mut LaneTake, next: &mut Vec<u64>, count: u64) -> bool
     ensures { take.new.queue ≡ take.old.queue }
 {
@@ -159,7 +160,7 @@ fn take_all<R: Wait>(rt: &R, take: &mut LaneTake, next: &mut Vec<u64>, count: u6
     unreachable!()
 }
 
-// Joins each thread, and meets its closed end; how many were met, where all were.
+// Joins each thread and meets its closed end; the number of them, if all were met.
 fn meet_all<R: Threads>(rt: &R, mut taken: Taken, mut threads: Vec<SendThread>) -> Option<usize>
     requires { All (λ t. t.promise.put.value.queue ≡ taken.queue) threads.items }
 {
@@ -181,7 +182,8 @@ struct Delays {
     take: u64,
 }
 
-// A whole run over a queue of one place; how many senders were met, where each message came in order.
+// A whole run over a queue of one place; the number of senders that were met, if each message was
+// in order.
 fn run<R: Threads + Wait + Clock + Copy + Send + 'static>(
     rt: R,
     alloc: Global,
@@ -200,7 +202,7 @@ fn run<R: Threads + Wait + Clock + Copy + Send + 'static>(
     Ok(if is_in_order { met } else { None })
 }
 
-// Whether a run, which is tried once more where an allocation was refused, met all senders.
+// Whether a run, which is tried once more if an allocation fails, met all senders.
 fn meets_all<R: Threads + Wait + Clock + Copy + Send + 'static>(
     rt: R,
     alloc: Global,
@@ -219,7 +221,7 @@ fn meets_all<R: Threads + Wait + Clock + Copy + Send + 'static>(
 
 const AT_ONCE: u64 = 0;
 
-// Longer by far than an end looks before it sleeps.
+// Much longer than an end tries before it sleeps.
 const LATE: u64 = 50;
 
 #[test]
@@ -251,7 +253,7 @@ fn a_put_to_a_full_queue_waits(rt: HostRuntime) {
     assert!(rt; meets_all(rt, rt.alloc(), 2, 2, delays));
 }
 
-// A queue, which is tried once more where an allocation was refused.
+// A queue; it tries once more if an allocation fails.
 fn made(alloc: Global, capacity: u32, senders: u32) -> Result<(LaneTake, Vec<LanePut>), AllocError>
     requires capacity { (0 < capacity) × (capacity ≤ 65536) }
     requires senders { (0 < senders) × (senders ≤ 17) }
@@ -280,7 +282,7 @@ fn said_of(body: &Body) -> Said {
     }
 }
 
-// The sender and the number of the next message, and what it says; none where all senders are gone.
+// The sender and the number of the next message, and its content; `None` if all senders are gone.
 fn next_of<R: Wait>(rt: &R, take: &mut LaneTake) -> Option<(u32, u64, Said)> {
     match take.take(rt) {
         Ok(mail) => Some((mail.sender, mail.number, said_of(&mail.body))),
@@ -322,7 +324,7 @@ fn in_one_thread(rt: HostRuntime) -> Result<(), Fail> {
     Ok(())
 }
 
-// What a put gives back that finds the taker gone.
+// What a put returns that finds the taker gone.
 fn given_back<R: Wait>(rt: &R, put: &mut LanePut, body: Body) -> Option<Said>
     requires { body ≢ Body.Done }
 {
@@ -343,7 +345,7 @@ fn finds_gone<R: Wait>(rt: &R, mut put: LanePut) -> bool {
     }
 }
 
-// How many senders find the taker gone, where all do.
+// How many senders find the taker gone, if all do.
 fn count_gone<R: Wait>(rt: &R, puts: Vec<LanePut>) -> Option<usize> {
     let count = puts.len();
     for put in puts {
@@ -362,7 +364,7 @@ fn after_the_taker(rt: HostRuntime) -> Result<(), Fail> {
     Ok(())
 }
 
-// Whether each sender puts a tick as its first message, and is dropped then.
+// Whether each sender puts a tick as its first message, and is then dropped.
 fn put_one_each<R: Wait>(rt: &R, puts: Vec<LanePut>) -> bool {
     let mut good = true;
     for mut put in puts {
@@ -371,7 +373,7 @@ fn put_one_each<R: Wait>(rt: &R, puts: Vec<LanePut>) -> bool {
     good
 }
 
-// The end of the senders is found again and again.
+// That the senders are gone is reported again and again.
 #[test]
 fn after_the_senders(rt: HostRuntime) -> Result<(), Fail> {
     let (mut take, puts) = made(rt.alloc(), 4, 2)?;

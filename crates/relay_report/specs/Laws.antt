@@ -1,4 +1,4 @@
--- What is written for a report names its operation.
+-- The line written for a report names its operation.
 use Rattle.std.specs.Prelude.{◌≡◌, ◌^◌, nat_lt, true, Some}
 use Rattle.relay_results.specs.declared.cause.Cause.{Cause}
 use Rattle.relay_results.specs.declared.cause.Cause.TheVariants as cause
@@ -6,7 +6,7 @@ use Rattle.relay_core.specs.declared.report.Report.{Report}
 use Rattle.relay_report.specs.Reports.{report_data}
 use Rattle.relay_report.specs.Naming.{name_of}
 
--- the numbers of a cause and of a report have the sizes of their types
+-- the numbers in a cause and in a report are within their types
 abbrev pub CauseFits : Cause → Type 0
 CauseFits (cause.Refused status kind) = nat_lt status (2 ^ 16) ≡ true
 CauseFits (cause.Request status) = nat_lt status (2 ^ 16) ≡ true

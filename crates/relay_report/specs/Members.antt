@@ -1,4 +1,4 @@
--- For the steps that make the object of a report: members are put into it one after another.
+-- For the steps that make the object of a report: members are added one after another.
 use Rattle.std.specs.Prelude.{ℕ, ◌==◌, if◌then◌else◌, codes}
 use Rattle.serde_json.specs.Data.{string, number, unsigned, Members, put}
 use Rattle.relay_action.specs.declared.key.DocKey.{DocKey}

@@ -1,12 +1,12 @@
--- Names of a report that no input has.
+-- The operations in a report that no input has.
 use Rattle.std.specs.Prelude.{ℕ, ◌&&◌, nat_lt, nat_le, List, [], ◌∷◌, Bool, if◌then◌else◌, Option, None, Some, slice_index}
 use Rattle.relay_report.specs.declared.names.Named.{Named}
 
--- so many operations were read of each input, and this is one of them; past the last input there is none
+-- these many operations were read from each input, and this is one of them; there is none after the last input
 abbrev pub is_found : List ℕ → Named → Bool
 is_found counts name = nat_lt 0 name.number && nat_le name.number (slice_index counts name.producer)
 
--- the line of the first that is not
+-- the line of the first that is not there
 abbrev pub first_missing : List ℕ → List Named → Option ℕ
 first_missing counts [] = None
 first_missing counts (name ∷ more) = if is_found counts name then first_missing counts more else Some name.line

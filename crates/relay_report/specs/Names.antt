@@ -13,7 +13,7 @@ use Rattle.relay_report.specs.declared.names.Named.{Named}
 use Rattle.relay_report.specs.declared.names.ReportFault.{ReportFault}
 use Rattle.relay_report.specs.declared.names.ReportFault.TheVariants as fault
 
--- a line was taken that names an operation; it has this number
+-- a line was taken that names an operation, with the line's number
 pub record TakesName (old new : Option (List ℕ)) (line : ℕ) (named : Named) : Type 0 where
   pub text : List ℕ
   pub name : OpName
@@ -21,17 +21,16 @@ pub record TakesName (old new : Option (List ℕ)) (line : ℕ) (named : Named) 
   pub says : IsNamedBy text (Some name)
   pub is : named ≡ record { producer = name.producer; number = name.number; line = line }
 
--- lines were taken one after another, from the one after so many, and each names one of these
+-- lines were taken one after another, each naming one of these
 abbrev pub TakesNames : Option (List ℕ) → Option (List ℕ) → ℕ → List Named → Type 0
 TakesNames old new line [] = new ≡ old
 TakesNames old new line (n ∷ ns) = (mid : Option (List ℕ)) × TakesName old mid (counted (line + 1)) n × TakesNames mid new (line + 1) ns
 
--- the line at the front is longer than a line may be, or not one of a report
+-- the first line is too long, or not a line of a report
 abbrev pub IsBad : Option (List ℕ) → Type 0
 IsBad old = IsLong old ⊎ ((text : List ℕ) × (rest : Option (List ℕ)) × TakesText old rest text × IsNamedBy text None)
 
--- why there were no more names after so many lines: the report has ended, or the next line is bad, or a read failed, or
--- memory ran out
+-- why there are no more names: the report has ended, or the next line is bad, or a read or an allocation failed
 abbrev pub EndsNames : {U : Type 0} → Option (List ℕ) → ℕ → Result U ReportFault → Type 0
 EndsNames rest count (Ok _) = IsAtEnd rest
 EndsNames rest count (Err (fault.BadLine line)) = IsBad rest × (line ≡ counted (count + 1))
@@ -43,14 +42,14 @@ pub record ReadsNames {U : Type 0} (old : Option (List ℕ)) (names : List Named
   pub taken : TakesNames old rest 0 names
   pub ends : EndsNames rest (length names) result
 
--- how many calls of the stream have failed after an answer
+-- the number of failed calls of the stream after this result
 abbrev pub ends_failed : {U : Type 0} → Result U ReportFault → ℕ → ℕ
 ends_failed (Err fault.Read) n = one_more n
 ends_failed other n = n
 
 -- ---- for the steps
 
--- the fault that a line's is
+-- the fault for that of a line
 abbrev pub fault_by : LineKind → ℕ → ReportFault
 fault_by kind.Read line = fault.Read
 fault_by kind.Memory line = fault.Memory

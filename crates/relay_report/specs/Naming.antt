@@ -1,11 +1,11 @@
--- Which operation the line of a report names.
+-- The operation that a line of a report names.
 use Rattle.std.specs.Prelude.{◌≡◌, ℕ, ◌+◌, ◌^◌, ◌==◌, ◌&&◌, nat_lt, List, Bool, false, if◌then◌else◌, Option, None, Some, is_some, option_map, option_and_then, bytes_eq, codes, IsUtf8}
 use Rattle.serde_json.specs.Data.{Data, Members, member, no_members}
 use Rattle.serde_json.specs.Find.{as_number, as_object, as_str, as_u64, get}
 use Rattle.serde_json.specs.Read.{read}
 use Rattle.relay_action.specs.declared.operation.OpName.{OpName}
 
--- the number and the text of a member
+-- the number and the string of a member
 abbrev pub number_at : List ℕ → Data → Option ℕ
 number_at name d = option_and_then as_u64 (option_and_then as_number (get name d))
 
@@ -16,14 +16,14 @@ text_at name d = option_and_then as_str (get name d)
 abbrev pub below : ℕ → Option ℕ → Option ℕ
 below limit o = option_and_then (λ n. if nat_lt n limit then Some n else None) o
 
--- the status, of 16 bits, and how many requests carried the operation, of 32 bits
+-- the status, of 16 bits, and the number of requests that carried the operation, of 32 bits
 abbrev pub status_of : Data → Option ℕ
 status_of d = below (2 ^ 16) (number_at (codes "status") d)
 
 abbrev pub sends_of : Data → Option ℕ
 sends_of d = below (2 ^ 32) (number_at (codes "sends") d)
 
--- how many members tell of the cause of this name, if they are all there
+-- how many members describe the cause with this name, if they are all there
 abbrev pub details_of : Data → List ℕ → Option ℕ
 details_of d cause =
     if bytes_eq cause (codes "Refused") then option_and_then (λ kind. option_map (λ status. 2) (status_of d)) (text_at (codes "kind") d)
@@ -33,7 +33,7 @@ details_of d cause =
     else if bytes_eq cause (codes "Spent") then Some 0
     else None
 
--- the epoch, which is 0 where it is left out, and how many members there are of it
+-- the epoch, 0 if it is absent, and how many members there are for it
 abbrev pub epoch_by : Data → Option Data → Option ℕ
 epoch_by d None = Some 0
 epoch_by d (Some e) = below (2 ^ 32) (number_at (codes "epoch") d)
@@ -48,7 +48,7 @@ one_if (Some e) = 1
 abbrev pub epoch_count : Data → ℕ
 epoch_count d = one_if (get (codes "epoch") d)
 
--- how many members there are
+-- the number of members
 abbrev pub member_count : Members → ℕ
 member_count no_members = 0
 member_count (member name d ms) = member_count ms + 1
@@ -60,7 +60,7 @@ count_by (Some ms) = member_count ms
 abbrev pub count_of : Data → ℕ
 count_of d = count_by (as_object d)
 
--- the document is there, and with the name, the cause and what tells of it there are no other members
+-- the document is there, and there are no members other than those of the name, the cause and its details
 abbrev pub whole_with : Data → Option ℕ → Bool
 whole_with d None = false
 whole_with d (Some details) =
@@ -69,7 +69,7 @@ whole_with d (Some details) =
 abbrev pub is_whole : Data → Bool
 is_whole d = whole_with d (option_and_then (details_of d) (text_at (codes "cause") d))
 
--- the name of the operation, where the value is what the line of a report says
+-- the name of the operation, if the value is that of a line of a report
 abbrev pub name_with : Option ℕ → Option ℕ → Option ℕ → Option OpName
 name_with (Some epoch) (Some producer) (Some n) = Some (record { epoch = epoch; producer = producer; number = n })
 name_with epoch producer n = None
@@ -77,7 +77,7 @@ name_with epoch producer n = None
 abbrev pub name_of : Data → Option OpName
 name_of d = if is_whole d then name_with (epoch_of d) (below (2 ^ 32) (number_at (codes "producer") d)) (number_at (codes "number") d) else None
 
--- the name that a line gives, if it is one of a report
+-- the name in a line, if it is a line of a report
 abbrev pub name_read : Option Data → Option OpName
 name_read None = None
 name_read (Some d) = name_of d

@@ -11,13 +11,13 @@ use Rattle.relay_ndjson.specs.Operations.{Operation, TakesOperation, blank_limit
 use Rattle.relay_ndjson.specs.declared.lines.LineEnd.{LineEnd}
 use Rattle.relay_ndjson.specs.declared.lines.LineEnd.TheVariants as end
 
--- a line as it was, byte for byte, with a line feed after a last line that has none
+-- a line byte for byte, with a line feed after a last line that has none
 abbrev pub closed : List ℕ → LineEnd → List ℕ
 closed text end.Open = text ++ 10 ∷ []
 closed text end.Feed = text ++ end_bytes end.Feed
 closed text end.ReturnFeed = text ++ end_bytes end.ReturnFeed
 
--- the lines of an operation stand at the front, and these are they: an action line, and for an index action its source
+-- the lines of an operation at the front: an action line, and for an index action its source
 abbrev pub HasLines : Option (List ℕ) → Option (List ℕ) → Option (List ℕ) → DocKey → Action → List ℕ → Type 0
 HasLines default old new key (Index source) lines =
     (text : List ℕ) × (rest : Option (List ℕ)) × (first : LineEnd) × (last : LineEnd) × TakesBytes old rest text first
@@ -27,7 +27,7 @@ HasLines default old new key Delete lines =
     (text : List ℕ) × (first : LineEnd) × TakesBytes old new text first
     × Says default text action.Delete key.index key.id × (lines ≡ closed text first)
 
--- so many lines were taken: blank lines, and then those of an operation, which are these
+-- these many lines were taken: blank lines, and then those of an operation
 pub record TakesLines (default old new : Option (List ℕ)) (count : ℕ) (lines : List ℕ) : Type 0 where
   pub blank : ℕ
   pub front : Option (List ℕ)
@@ -37,7 +37,7 @@ pub record TakesLines (default old new : Option (List ℕ)) (count : ℕ) (lines
   pub own : HasLines default front new op.0 op.1 lines
   pub count_is : count ≡ blank + line_count op.1
 
--- what stands there with its lines is an operation of the producer grammar
+-- what is at the front with its lines is an operation of the producer grammar
 abbrev pub LinesAreOperations : Type 0
 LinesAreOperations = (default old new : Option (List ℕ)) (count : ℕ) (lines : List ℕ) (t : TakesLines default old new count lines) →
     TakesOperation default old new t.blank t.op

@@ -11,7 +11,7 @@ use Rattle.relay_report.specs.Picks.{TakesAll, WritesFront, picked}
 use Rattle.relay_report.specs.declared.picking.PickFault.{PickFault}
 use Rattle.relay_report.specs.declared.picking.PickFault.TheVariants as fault
 
--- out of memory is a fault of its own
+-- a failed allocation has its own fault
 abbrev pub pick_fault_by : InputFault → LineKind → PickFault
 pick_fault_by e kind.Memory = fault.Memory
 pick_fault_by e other = fault.Input e
@@ -30,7 +30,7 @@ PicksNext wanted k default old new before after (Err (fault.Input e)) =
 PicksNext wanted k default old new before after (Err fault.Write) = ⊥
 PicksNext wanted k default old new before after (Err fault.Memory) = Unit {0}
 
--- some of a text was written, and the rest is still to be
+-- part of a text was written, and the rest is still to be written
 pub record Moves (text rest : List ℕ) (before after : Option (List ℕ)) : Type 0 where
   pub moved : List ℕ
   pub whole : text ≡ moved ++ rest
@@ -43,8 +43,8 @@ StopsAt last default rest count items (Err (fault.Input e)) = IsFault default re
 StopsAt last default rest count items (Err fault.Write) = Unit {0}
 StopsAt last default rest count items (Err fault.Memory) = Unit {0}
 
--- what was written of all that there is to write, where this text is still to be written; after a failed write and where
--- memory ran out nothing is
+-- how much was written of everything, when this text is still to be written; after a failed write or allocation
+-- nothing more is
 abbrev pub Leaves : Option (List ℕ) → Option (List ℕ) → List ℕ → List ℕ → Result ℕ PickFault → Type 0
 Leaves before now all text (Err fault.Write) = WritesFront before now all
 Leaves before now all text (Err fault.Memory) = WritesFront before now all
@@ -58,13 +58,13 @@ pub record PicksTo (wanted : ℕ → Bool) (last : ℕ) (default old before now 
   pub stops : StopsAt last default rest count items result
   pub written : Leaves before now (picked wanted 1 items) text result
 
--- nothing is written any more
+-- nothing more is written
 abbrev pub is_over : Result ℕ PickFault → Bool
 is_over (Err fault.Write) = true
 is_over (Err fault.Memory) = true
 is_over other = false
 
--- the text was written, and the result stays; or a write failed
+-- the text was written, and the result is unchanged; or a write failed
 abbrev pub ClosesOrFails : Result ℕ PickFault → List ℕ → Option (List ℕ) → ℕ → Option (List ℕ) → ℕ → Result ℕ PickFault → Type 0
 ClosesOrFails so_far text before failed after count result =
     ((result ≡ so_far) × (after ≡ append_known before text) × (count ≡ failed))

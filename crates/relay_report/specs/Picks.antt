@@ -11,37 +11,38 @@ use Rattle.relay_report.specs.declared.names.Named.{Named}
 use Rattle.relay_report.specs.declared.picking.PickFault.{PickFault}
 use Rattle.relay_report.specs.declared.picking.PickFault.TheVariants as fault
 
--- the operation of this number of the producer is named
+-- the operation of the producer with this number is named
 abbrev pub is_named : List Named → ℕ → ℕ → Bool
 is_named names producer k = list_any (λ n. (n.producer == producer) && (n.number == k)) names
 
--- operations were taken one after another, so many lines in all; these are the lines of each
+-- operations were taken one after another, from this many lines in all; these are the lines of each
 abbrev pub TakesAll : Option (List ℕ) → Option (List ℕ) → Option (List ℕ) → ℕ → List (List ℕ) → Type 0
 TakesAll default old new count [] = (new ≡ old) × (count ≡ 0)
 TakesAll default old new count (lines ∷ more) =
     (mid : Option (List ℕ)) × (n : ℕ) × (m : ℕ) × TakesLines default old mid n lines × TakesAll default mid new m more × (count ≡ n + m)
 
--- the lines of those operations that are wanted, where the first has this number
+-- the lines of the operations that are wanted, where the first has this number
 abbrev pub picked : (ℕ → Bool) → ℕ → List (List ℕ) → List ℕ
 picked wanted k [] = []
 picked wanted k (lines ∷ more) = (if wanted k then lines else []) ++ picked wanted (suc k) more
 
--- no operation past so many is wanted
+-- no operation above this number is wanted
 abbrev pub NoneAfter : (ℕ → Bool) → ℕ → Type 0
 NoneAfter wanted n = (k : ℕ) → IsTrue (wanted k) → k ≤ n
 
--- why no more operations were taken: no later one is wanted, or blank lines alone are left; or what follows is at fault
+-- why no more operations were taken: no later one is wanted, or only blank lines are left; or what follows has a
+-- fault
 abbrev pub Stops : (ℕ → Bool) → Option (List ℕ) → Option (List ℕ) → ℕ → List (List ℕ) → Result ℕ PickFault → Type 0
 Stops wanted default rest count items (Ok n) = (n ≡ length items) × (NoneAfter wanted n ⊎ HoldsNoMore rest)
 Stops wanted default rest count items (Err (fault.Input e)) = IsFault default rest (counted count) e × (e.kind ≢ kind.Memory)
 Stops wanted default rest count items (Err fault.Write) = Unit {0}
 Stops wanted default rest count items (Err fault.Memory) = Unit {0}
 
--- what was written of a text: some front of it
+-- what was written of a text: some prefix of it
 abbrev pub WritesFront : Option (List ℕ) → Option (List ℕ) → List ℕ → Type 0
 WritesFront before after text = (gone : List ℕ) × (more : List ℕ) × (text ≡ gone ++ more) × (after ≡ append_known before gone)
 
--- all of it; after a failed write, and where memory ran out, a front of it
+-- all of it; or after a failed write or allocation, a prefix of it
 abbrev pub Writes : Option (List ℕ) → Option (List ℕ) → List ℕ → Result ℕ PickFault → Type 0
 Writes before after text (Err fault.Write) = WritesFront before after text
 Writes before after text (Err fault.Memory) = WritesFront before after text
@@ -56,14 +57,14 @@ pub record Picks (names : List Named) (producer : ℕ) (default old before after
   pub stops : Stops (is_named names producer) default rest count items result
   pub written : Writes before after (picked (is_named names producer) 1 items) result
 
--- how many calls of the input have failed; after a failed write and where memory ran out this is left open
+-- the number of failed calls of the input; it is left open after a failed write or allocation
 abbrev pub ReadsFail : {U : Type 0} → ℕ → ℕ → Result U PickFault → Type 0
 ReadsFail old new (Ok _) = new ≡ old
 ReadsFail old new (Err (fault.Input e)) = new ≡ (if is_read e.kind then one_more old else old)
 ReadsFail old new (Err fault.Write) = Unit {0}
 ReadsFail old new (Err fault.Memory) = Unit {0}
 
--- a write fault comes only where a call of the writer failed, and no such call is passed over
+-- a write fault is returned exactly if a call of the writer failed
 abbrev pub WritesFail : {U : Type 0} → ℕ → ℕ → Result U PickFault → Type 0
 WritesFail old new (Err fault.Write) = FailedSince old new
 WritesFail old new other = new ≡ old

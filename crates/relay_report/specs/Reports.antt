@@ -1,4 +1,4 @@
--- Reports as NDJSON: an object a line, with its keys in byte order and no space.
+-- Reports as NDJSON: one object per line, with its keys in byte order and without spaces.
 use Rattle.std.specs.Prelude.{ℕ, List, [], ◌∷◌, ◌++◌, ◌==◌, if◌then◌else◌, codes}
 use Rattle.serde_json.specs.Data.{Data, string, number, unsigned, object, Members, member, no_members}
 use Rattle.serde_json.specs.Written.{compact_text}
@@ -14,27 +14,27 @@ cause_name cause.Conflict = codes "Conflict"
 cause_name (cause.GaveUp sends) = codes "GaveUp"
 cause_name cause.Spent = codes "Spent"
 
--- `epoch` is left out in epoch 0
+-- `epoch` is omitted in epoch 0
 abbrev pub epoch_member : ℕ → Members → Members
 epoch_member epoch more = if epoch == 0 then more else member (codes "epoch") (number (unsigned epoch)) more
 
--- `kind`, the type of the item's error, is a member where the item was refused
+-- `kind`, the type of the item's error, is present if the item was refused
 abbrev pub kind_member : Cause → Members → Members
 kind_member (cause.Refused status kind) more = member (codes "kind") (string kind) more
 kind_member other more = more
 
--- `sends` is a member where the tries were used up
+-- `sends` is present if the tries were used up
 abbrev pub sends_member : Cause → Members → Members
 sends_member (cause.GaveUp sends) more = member (codes "sends") (number (unsigned sends)) more
 sends_member other more = more
 
--- `status` is a member where an item or a whole request was refused
+-- `status` is present if an item or a whole request was refused
 abbrev pub status_member : Cause → Members → Members
 status_member (cause.Refused status kind) more = member (codes "status") (number (unsigned status)) more
 status_member (cause.Request status) more = member (codes "status") (number (unsigned status)) more
 status_member other more = more
 
--- what the line of a report says
+-- the JSON value of a report
 abbrev pub report_data : Report → Data
 report_data r =
     object (member (codes "cause") (string (cause_name r.cause))

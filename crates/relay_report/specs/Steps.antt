@@ -18,7 +18,7 @@ use Rattle.relay_report.specs.Operations.{TakesLines, closed}
 abbrev pub Asks : Option (List ℕ) → List ℕ → ActionKind → Type 0
 Asks default text kind = (key : DocKey) × Says default text kind key.index key.id
 
--- the text is that of a source
+-- the text is valid as a source
 abbrev pub IsSource : List ℕ → Type 0
 IsSource text = (source : Source) × (source.text ≡ text)
 
@@ -40,7 +40,7 @@ KeepsSource old new line before after (Err e) =
     ⊎ (IsAtEnd old.ahead × (e.kind ≡ kind.SourceMissing) × (e.line ≡ line))
     ⊎ (BreaksSource old.ahead e.kind × (e.line ≡ one_more old.count))
 
--- an operation was taken, with its lines; or blank lines alone were left; or what follows is at fault
+-- an operation was taken, with its lines; or only blank lines were left; or what follows has a fault
 abbrev pub Reads : Option (List ℕ) → Position → Position → List ℕ → Result Bool InputFault → Type 0
 Reads default old new lines (Ok true) =
     (count : ℕ) × TakesLines default old.ahead new.ahead count lines × (new.count ≡ counted (old.count + count))

@@ -1,9 +1,9 @@
-//! Reports on operations as NDJSON, an object a line, and the operations that a report names picked out of the files that they
-//! came from, each with its lines. It stands on `relay_core` for reports, on `relay_ndjson` for lines and the producer grammar,
-//! and on `serde_json` for JSON.
+//! Reports on operations as NDJSON, one object per line, and extracting the operations that a
+//! report names from the files that they came from. It depends on `relay_core` for reports, on
+//! `relay_ndjson` for lines and the producer grammar, and on `serde_json` for JSON.
 //!
-//! It carries these promises: the text of reports is the JSON of each, with its keys in byte order; and exactly the operations
-//! that are named are written, byte for byte and in their order.
+//! What is proved: the text of reports is the JSON of each, with its keys in byte order; and
+//! exactly the named operations are written, byte for byte and in order.
 #![tactic(auto)]
 
 pub mod laws;

@@ -1,4 +1,4 @@
-//! A line of a report, read.
+//! Reading a line of a report.
 ghost use Rattle.std.specs.Prelude.{◌≡◌, ◌^◌, ℕ, Option, Some, Err, IfOk, codes, is_some, option_map, option_and_then, bytes_eq};
 ghost use Rattle.serde_json.specs.Find.{as_number, as_str, as_u64, get};
 ghost use Rattle.serde_json.specs.View.{view};
@@ -8,9 +8,9 @@ use relay_action::OpName;
 use serde_json::Value;
 use std::alloc::{AllocError, Global};
 
-/// The operation that a line of a report names: the members of the line are those that
-/// [`report_text`](crate::report_text) writes, in any order and any form of JSON. `None`: the line is not one of a
-/// report. `AllocError`: out of memory.
+/// The operation that a line of a report names. The line must have the members that
+/// [`report_text`](crate::report_text) writes, in any order and with any JSON formatting. `None`:
+/// it is not a line of a report. `AllocError`: allocation failed.
 pub fn read_name(alloc: Global, line: &[u8]) -> Result<Option<OpName>, AllocError>
     ensures { IfOk result (IsNamedBy line.now) }
 {
@@ -25,7 +25,6 @@ pub fn read_name(alloc: Global, line: &[u8]) -> Result<Option<OpName>, AllocErro
     Ok(name_in(&value))
 }
 
-// The operation that a value names.
 fn name_in(value: &Value) -> Option<OpName>
     ensures { result ≡ name_of (view value.now) }
 {
@@ -39,7 +38,7 @@ fn name_in(value: &Value) -> Option<OpName>
     })
 }
 
-// Whether a value has the members of a report's line, and no others.
+// Whether the value has the members of a line of a report, and no others.
 fn is_whole(value: &Value) -> bool
     ensures { result ≡ is_whole (view value.now) }
 {
@@ -56,7 +55,7 @@ fn is_whole(value: &Value) -> bool
     }
 }
 
-// How many members tell of the cause, beside its name, if they are all there.
+// How many members describe the cause, besides its name, if they are all there.
 fn details_in(value: &Value, cause: &str) -> Option<u64>
     ensures { result ≡ details_of (view value.now) cause.now }
 {
@@ -70,7 +69,6 @@ fn details_in(value: &Value, cause: &str) -> Option<u64>
     }
 }
 
-// How many members there are of an epoch.
 fn epoch_count(value: &Value) -> u64
     ensures { result ≡ epoch_count (view value.now) }
 {
@@ -80,7 +78,7 @@ fn epoch_count(value: &Value) -> u64
     }
 }
 
-// The epoch, 0 where it is left out.
+// The epoch, 0 if it is absent.
 fn epoch_in(value: &Value) -> Option<u32>
     ensures { result ≡ epoch_of (view value.now) }
 {
@@ -90,7 +88,6 @@ fn epoch_in(value: &Value) -> Option<u32>
     }
 }
 
-// How many members an object has.
 fn count_in(value: &Value) -> u64
     ensures { result ≡ count_of (view value.now) }
 {
@@ -100,21 +97,19 @@ fn count_in(value: &Value) -> u64
     }
 }
 
-// The text of a member.
 fn text_at<'v>(value: &'v Value, name: &str) -> Option<&'v str>
     ensures { option_map (λ t. t.now) result ≡ text_at name.now (view value.now) }
 {
     value.get(name).and_then(Value::as_str)
 }
 
-// The number of a member.
 fn number_at(value: &Value, name: &str) -> Option<u64>
     ensures { result ≡ number_at name.now (view value.now) }
 {
     value.get(name).and_then(Value::as_u64)
 }
 
-// The same, where it has 32 bits.
+// The 32-bit number of a member.
 fn small_at(value: &Value, name: &str) -> Option<u32>
     ensures { result ≡ below (2 ^ 32) (number_at name.now (view value.now)) }
 {
@@ -124,7 +119,7 @@ fn small_at(value: &Value, name: &str) -> Option<u32>
     }
 }
 
-// The status, which has 16 bits.
+// The status, a 16-bit number.
 fn status_at(value: &Value) -> Option<u16>
     ensures { result ≡ below (2 ^ 16) (number_at (codes "status") (view value.now)) }
 {

@@ -1,11 +1,12 @@
-//! Names of a report that no input has.
+//! The operations in a report that no input has.
 ghost use Rattle.std.specs.Prelude.{◌≡◌};
 ghost use Rattle.relay_report.specs.Missing.{first_missing, is_found};
 
 use crate::names::Named;
 
-/// The line of the first name that none of the inputs has, by how many operations were read of each: its producer is
-/// none of theirs, or its number is 0 or past those. `None`: each is there.
+/// The line of the first name that no input has, given how many operations were read from each
+/// input: there is no input for its producer, or its number is 0 or too high. `None`: each name was
+/// found.
 pub fn first_missing(names: &[Named], counts: &[u64]) -> Option<u64>
     ensures { result ≡ first_missing counts.now names.now }
 {
@@ -17,7 +18,6 @@ pub fn first_missing(names: &[Named], counts: &[u64]) -> Option<u64>
     None
 }
 
-// Whether an input has a name.
 fn is_found(counts: &[u64], name: Named) -> bool
     ensures { result ≡ is_found counts.now name }
 {

@@ -15,7 +15,7 @@ use thiserror::Error;
 pub struct Named {
     /// The producer, from 0.
     pub producer: u32,
-    /// Which of its operations this is, from 1.
+    /// The number of the operation, from 1.
     pub number: u64,
     /// The line of the report, from 1.
     pub line: u64,
@@ -24,22 +24,22 @@ pub struct Named {
 /// Why a report was not read to its end.
 #[derive(Clone, Copy, Debug, PartialEq, Eq, Error)]
 pub enum ReportFault {
-    /// The line of this number is not one of a report, or is longer than a line may be.
+    /// This line is not a line of a report, or is too long.
     #[error("line {line}: BadLine")]
     BadLine {
         /// The line, from 1.
         line: u64,
     },
-    /// A read failed. It is not repeated.
+    /// A read failed. It is not retried.
     #[error("read failed")]
     Read,
-    /// Out of memory.
+    /// An allocation failed.
     #[error("out of memory")]
     Memory,
 }
 
-/// Adds the operations that a report names to an empty vector, in the order of its lines. After a fault those of
-/// the lines before it were added.
+/// Adds the operations that a report names to an empty vector, in the order of the lines. After a
+/// fault those of the preceding lines were added.
 pub fn read_names<R: ByteIn>(
     alloc: Global,
     report: &mut R,
@@ -61,7 +61,7 @@ pub fn read_names<R: ByteIn>(
     }
 }
 
-// The operation that the next line of a report names, or `None` at its end.
+// The operation that the next line of a report names, or `None` at the end.
 fn next_name<R: ByteIn>(
     alloc: Global,
     report: &mut R,
@@ -90,7 +90,6 @@ fn next_name<R: ByteIn>(
     }
 }
 
-// The fault that a line's is.
 fn line_fault(fault: InputFault) -> ReportFault
     ensures { result ≡ line_fault fault }
 {

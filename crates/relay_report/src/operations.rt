@@ -1,4 +1,4 @@
-//! The operations of an input, each with its lines.
+//! The operations of an input, with their lines.
 ghost use Rattle.std.specs.Prelude.{◌≡◌, ◌⊎◌, ◌++◌, ℕ, List, [], Some, IfOk, IfErr, OnOk};
 ghost use Rattle.relay_ndjson.specs.Metadata.{shown, line_fault, source_line_fault};
 ghost use Rattle.relay_ndjson.specs.Operations.{failed_after, position};
@@ -12,8 +12,8 @@ use relay_ndjson::{
 };
 use std::alloc::{AllocError, Global};
 
-/// The operations of a stream that the caller holds, and the lines of the one that was taken last. Each call is
-/// given the stream, always the same one. It does not allocate before the first call.
+/// Reads the operations of a stream, and keeps the lines of the last one. The caller holds the
+/// stream and passes the same one to each call. It does not allocate before the first call.
 #[derive(Drop)]
 pub(crate) struct OperationReader {
     pub(crate) lines: LineReader,
@@ -22,7 +22,6 @@ pub(crate) struct OperationReader {
 }
 
 impl OperationReader {
-    /// A reader that has read nothing.
     pub(crate) fn new(alloc: Global) -> OperationReader
         ensures held { result.lines.held ≡ [] }
         ensures count { result.lines.count ≡ 0 }
@@ -58,7 +57,8 @@ impl OperationReader {
         })
     }
 
-    // Adds the line that was taken last to those of the operation, with a line feed if the input ends after it.
+    // Adds the last line taken to those of the operation, with a line feed if the input ends after
+    // it.
     fn keep(&mut self) -> Result<(), InputFault>
         ensures ok { OnOk result (self.new.taken.items
             ≡ self.old.taken.items ++ closed self.old.lines.text self.old.lines.end) }
@@ -74,7 +74,7 @@ impl OperationReader {
         }
     }
 
-    // The same, by its allocation.
+    // The allocation in `keep`.
     fn add_line(&mut self) -> Result<(), AllocError>
         ensures ok { OnOk result (self.new.taken.items
             ≡ self.old.taken.items ++ closed self.old.lines.text self.old.lines.end) }
@@ -112,7 +112,8 @@ impl OperationReader {
         self.keep()
     }
 
-    /// Takes blank lines and the lines of the operation after them, and tells whether there was one.
+    /// Takes blank lines and the lines of the operation after them, and returns whether there was
+    /// one.
     pub(crate) fn next<R: ByteIn>(
         &mut self,
         alloc: Global,
@@ -146,7 +147,7 @@ impl OperationReader {
     }
 }
 
-// The kind of the action that a line asks for.
+// The kind of action that a line asks for.
 fn kind_on(
     alloc: Global,
     default_index: Option<&str>,
@@ -163,7 +164,7 @@ fn kind_on(
     Ok(kind)
 }
 
-// Whether a line is a source.
+// Checks that a line is a source.
 fn check_source(alloc: Global, line: &[u8]) -> Result<(), LineKind>
     ensures ok { OnOk result (IsSource line.now) }
     ensures err { IfErr result (λ e. (e ≡ LineKind.Memory) ⊎ (source_line_fault line.now ≡ Some e)) }
@@ -175,7 +176,8 @@ fn check_source(alloc: Global, line: &[u8]) -> Result<(), LineKind>
     Ok(())
 }
 
-// What ends a line that is written: what ended it when it was read, or a line feed if the input ended after it.
+// What ends a line when it is written: what ended it when it was read, or a line feed if the input
+// ended after it.
 fn closing(end: LineEnd) -> &'static [u8]
     ensures { (text : List ℕ) → text ++ result.now ≡ closed text end }
 {

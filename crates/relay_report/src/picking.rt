@@ -1,4 +1,4 @@
-//! The operations of an input that a report names, with their lines.
+//! Extracting the operations of an input that a report names.
 ghost use Rattle.std.specs.Prelude.{◌≡◌, ◌≤◌, ℕ, [], IsTrue, IfOk, IfErr, OnOk, OnErr};
 ghost use Rattle.std.specs.BTreeSet.{contains};
 ghost use Rattle.std.specs.Ordering.{nat_cmp};
@@ -16,27 +16,28 @@ use std::alloc::{AllocError, Global};
 use std::collections::BTreeSet;
 use thiserror::Error;
 
-/// From how many bytes on what was gathered is written.
+/// What was gathered is written once it has this many bytes.
 const FULL: usize = 262_144;
 
-/// Why not all operations were picked.
+/// Why not all operations were extracted.
 #[derive(Clone, Copy, Debug, PartialEq, Eq, Error)]
 pub enum PickFault {
-    /// A line breaks the producer grammar, or a read failed. What was picked before it was written. The kind is
-    /// neither `Memory` nor `Failed`.
+    /// A line breaks the producer grammar, or a read failed. The operations before it were written.
+    /// The kind is neither `Memory` nor `Failed`.
     #[error("{0}")]
     Input(InputFault),
-    /// A write failed. What went out is a front of what was picked.
+    /// A write failed. A prefix of the text was written.
     #[error("write failed")]
     Write,
-    /// Out of memory. What went out is a front of what was picked.
+    /// An allocation failed. A prefix of the text was written.
     #[error("out of memory")]
     Memory,
 }
 
-/// Writes the operations of a producer's input that are named, each with its lines, in their order, and returns how
-/// many operations of the input were read: up to the last that is named, or all of them. A line that has no end gets a
-/// line feed. An operation that names no index has the default index, if one is given.
+/// Writes the named operations of a producer's input, each with its lines, in order, and returns
+/// how many operations of the input were read: up to the last one named, or all. A last line
+/// without an end gets a line feed. Operations without an index name get the default index, if one
+/// is given.
 pub fn pick<R: ByteIn, W: ByteOut>(
     alloc: Global,
     names: &[Named],
@@ -63,7 +64,7 @@ pub fn pick<R: ByteIn, W: ByteOut>(
     close(writer, picking.text.as_slice(), result)
 }
 
-// The numbers that are named of a producer.
+// The numbers of a producer's operations that are named.
 fn numbers_of(alloc: Global, names: &[Named], producer: u32) -> Result<BTreeSet<u64>, AllocError>
     ensures { IfOk result (λ s. (k : ℕ) → contains nat_cmp s k ≡ is_named names.now producer k) }
 {
@@ -76,7 +77,7 @@ fn numbers_of(alloc: Global, names: &[Named], producer: u32) -> Result<BTreeSet<
     Ok(numbers)
 }
 
-// The last number that is named of a producer, 0 where none is.
+// The highest number of a producer's operations that is named, 0 if none is.
 fn last_of(names: &[Named], producer: u32) -> u64
     ensures { (k : ℕ) → IsTrue (is_named names.now producer k) → k ≤ result }
 {
@@ -89,7 +90,7 @@ fn last_of(names: &[Named], producer: u32) -> u64
     last
 }
 
-// What is read of an input, and the lines that are still to be written.
+// What was read of an input, and the lines that are still to be written.
 #[derive(Drop)]
 struct Picking {
     operations: OperationReader,
@@ -97,7 +98,8 @@ struct Picking {
 }
 
 impl Picking {
-    // Takes the next operation, and adds its lines if its number is there. Whether there was one.
+    // Takes the next operation, and adds its lines if its number is named. Returns whether there
+    // was one.
     fn pick_next<R: ByteIn>(
         &mut self,
         alloc: Global,
@@ -129,7 +131,7 @@ impl Picking {
         Ok(true)
     }
 
-    // Writes what was gathered, if it is much.
+    // Writes what was gathered, if it is enough.
     fn make_way<W: ByteOut>(&mut self, writer: &mut W) -> Result<(), PickFault>
         ensures ok { OnOk result (Moves self.old.text.items self.new.text.items (W.written writer.old) (W.written writer.new)) }
         ensures err { IfErr result (λ e. e ≡ PickFault.Write) }
@@ -149,8 +151,8 @@ impl Picking {
         Ok(())
     }
 
-    // Takes operations up to the last number, or all. But for what was gathered last those whose number is there were
-    // written. How many there were.
+    // Takes operations up to the last number, or to the end, and returns how many there were. Those
+    // that are named were written, except for what was gathered last.
     fn pick_to<R: ByteIn, W: ByteOut>(
         &mut self,
         alloc: Global,
@@ -183,7 +185,7 @@ impl Picking {
     }
 }
 
-// Whether nothing is written any more.
+// Whether nothing more is to be written.
 fn is_over(result_so_far: Result<u64, PickFault>) -> bool
     ensures { result ≡ is_over result_so_far }
 {
@@ -193,7 +195,7 @@ fn is_over(result_so_far: Result<u64, PickFault>) -> bool
     }
 }
 
-// Writes the text, unless a write failed before or memory ran out, and then gives the result.
+// Writes the text, unless a write or an allocation failed before, and returns the result.
 fn close<W: ByteOut>(
     writer: &mut W,
     text: &[u8],
@@ -211,7 +213,6 @@ fn close<W: ByteOut>(
     }
 }
 
-// The fault that an input's is.
 fn fault_of(fault: InputFault) -> PickFault
     ensures { result ≡ fault_of fault }
 {

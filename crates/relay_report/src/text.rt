@@ -11,8 +11,8 @@ use relay_results::Cause;
 use serde_json::{Map, Value, put};
 use std::alloc::{AllocError, Global};
 
-/// Appends the line of a report to a text: its object as compact JSON with its keys in byte order, and a line
-/// feed. `AllocError`: out of memory, and the text is unchanged.
+/// Appends the line of a report to a text: its object as compact JSON with its keys in byte order,
+/// and a line feed. `AllocError`: allocation failed, and the text is unchanged.
 pub fn append_report(alloc: Global, text: &mut Vec<u8>, report: &Report) -> Result<(), AllocError>
     ensures ok { OnOk result (text.new.items ≡ text.old.items ++ report_line report.now) }
     ensures err { OnErr result (text.new.items ≡ text.old.items) }
@@ -21,7 +21,7 @@ pub fn append_report(alloc: Global, text: &mut Vec<u8>, report: &Report) -> Resu
     text.extend_from_slice(line.as_slice())
 }
 
-/// The lines of reports, in the order of the slice. `AllocError`: out of memory.
+/// The lines of reports, in the order of the slice. `AllocError`: allocation failed.
 pub fn report_text(alloc: Global, reports: &[Report]) -> Result<Vec<u8>, AllocError>
     ensures { IfOk result (λ text. text.items ≡ flat_map report_line reports.now) }
 {
@@ -30,7 +30,6 @@ pub fn report_text(alloc: Global, reports: &[Report]) -> Result<Vec<u8>, AllocEr
     Ok(text)
 }
 
-// Appends the lines of reports.
 fn append_reports(alloc: Global, text: &mut Vec<u8>, reports: &[Report]) -> Result<(), AllocError>
     ensures { OnOk result (text.new.items ≡ text.old.items ++ flat_map report_line reports.now) }
 {
@@ -40,7 +39,6 @@ fn append_reports(alloc: Global, text: &mut Vec<u8>, reports: &[Report]) -> Resu
     Ok(())
 }
 
-// The line of a report.
 #[tactic(auto, using(crate::proofs::Lines::line_text))]
 fn line_of(alloc: Global, report: &Report) -> Result<Vec<u8>, AllocError>
     ensures { IfOk result (λ line. line.items ≡ report_line report.now) }
@@ -51,7 +49,7 @@ fn line_of(alloc: Global, report: &Report) -> Result<Vec<u8>, AllocError>
     Ok(line)
 }
 
-/// What the line of a report says.
+/// The JSON value of a report.
 pub(crate) fn report_value(alloc: Global, report: &Report) -> Result<Value, AllocError>
     ensures { IfOk result (λ v. view v ≡ report_data report.now) }
 {
@@ -62,7 +60,7 @@ pub(crate) fn report_value(alloc: Global, report: &Report) -> Result<Value, Allo
     Ok(Value::Object(members))
 }
 
-// Adds a member whose value is a text.
+// Adds a member whose value is a string.
 fn add_text(
     alloc: Global,
     members: &mut Map<String, Value>,
@@ -76,7 +74,6 @@ fn add_text(
     put(members, alloc, name, value)
 }
 
-// Adds a member whose value is a number.
 fn add_number(
     alloc: Global,
     members: &mut Map<String, Value>,
@@ -89,7 +86,7 @@ fn add_number(
     put(members, alloc, name, Value::from(value))
 }
 
-// Adds the members of a name. Epoch 0 has none.
+// Adds the members for the name of the operation. In epoch 0 there is none for the epoch.
 fn add_name(alloc: Global, members: &mut Map<String, Value>, name: OpName) -> Result<(), AllocError>
     ensures { OnOk result (members_view members.new.entries ≡ and_name name (members_view members.old.entries)) }
 {
@@ -101,7 +98,7 @@ fn add_name(alloc: Global, members: &mut Map<String, Value>, name: OpName) -> Re
     add_number(alloc, members, "epoch", name.epoch as u64)
 }
 
-// Adds the members of a document.
+// Adds the members for the document.
 fn add_document(
     alloc: Global,
     members: &mut Map<String, Value>,
@@ -113,7 +110,7 @@ fn add_document(
     add_text(alloc, members, "index", key.index())
 }
 
-/// The name of a cause.
+/// The name of a cause, as it is written in a report.
 pub(crate) fn cause_name(cause: &Cause) -> &'static str
     ensures { result.now ≡ cause_name cause.now }
 {
@@ -126,7 +123,7 @@ pub(crate) fn cause_name(cause: &Cause) -> &'static str
     }
 }
 
-// Adds the name of a cause and what it tells.
+// Adds the members for the cause.
 fn add_cause(
     alloc: Global,
     members: &mut Map<String, Value>,

@@ -1,4 +1,4 @@
-//! The tests of `relay_report`: the lines of reports, and operations that are picked.
+//! The tests of `relay_report`: the lines of reports, and extracting operations.
 #![tactic(auto)]
 
 #[cfg(test)]

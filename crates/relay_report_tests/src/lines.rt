@@ -5,7 +5,7 @@ use relay_report::report_text;
 use relay_results::Cause;
 use std::alloc::Global;
 
-// A report to be made: its name as epoch, producer and number, its document, and the cause by its name, with its
+// A report: its name as epoch, producer and number, its document, and the cause by name, with its
 // number and its text.
 type Row = (
     (u32, u32, u64),
@@ -13,7 +13,7 @@ type Row = (
     (&'static str, u32, &'static str),
 );
 
-// The cause of a name. `None`: it has none, or allocation failed.
+// The cause with a name. `None`: there is none, or allocation failed.
 fn cause_of(alloc: Global, cause: (&str, u32, &str)) -> Option<Cause> {
     let (name, number, text) = cause;
     match name {

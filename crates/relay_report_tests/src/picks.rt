@@ -1,4 +1,4 @@
-//! Operations that are picked: the lines of a report, their names, and the lines of an input.
+//! Extracting operations: the lines of a report, their names, and the lines of an input.
 use relay_action::MemStream;
 use relay_ndjson::{InputFault, LineKind};
 use relay_report::{Named, PickFault, ReportFault, first_missing, pick, read_name, read_names};
@@ -6,7 +6,7 @@ use std::alloc::{AllocError, Global};
 
 type Name = Option<(u32, u32, u64)>;
 
-// What a line of a report names, by its epoch, its producer and its number. `None`: allocation failed.
+// The name in a line of a report, as epoch, producer and number. `None`: allocation failed.
 fn name_on(alloc: Global, line: &[u8]) -> Option<Name> {
     let name = read_name(alloc, line).ok()?;
     Some(name.map(|name| (name.epoch, name.producer, name.number)))
@@ -89,8 +89,8 @@ const TWO_NAMES: &[Named] = &[
     },
 ];
 
-// What `read_names` returns for a report in pieces, where one of the reads fails (0: none), if the names that it adds
-// are the first of those two.
+// The result of `read_names` for a report in pieces, if one of the reads fails (0: none) and the
+// names that it adds are the first of those two.
 fn reads(
     alloc: Global,
     piece: usize,
@@ -133,7 +133,7 @@ struct Streams {
 }
 
 impl Streams {
-    // What `pick` returns for these numbers of producer 3, and a number of another.
+    // The result of `pick` for these numbers of producer 3, and a number of another one.
     fn pick(
         &mut self,
         alloc: Global,
@@ -158,7 +158,7 @@ impl Streams {
     }
 }
 
-// Streams of the input in pieces, where a read fails and a write (0: none).
+// Streams of the input in pieces, of which one read and one write fail (0: none).
 fn streams_of(alloc: Global, piece: usize, fails: (u64, u64)) -> Result<Streams, AllocError> {
     Ok(Streams {
         input: MemStream::new(alloc, INPUT.to_vec(alloc)?, 0, piece.max(1), fails.0)?,
@@ -166,7 +166,7 @@ fn streams_of(alloc: Global, piece: usize, fails: (u64, u64)) -> Result<Streams,
     })
 }
 
-// Whether `pick` returns this for these numbers, and writes this.
+// Whether `pick` has this result for these numbers, and writes this.
 fn picks(alloc: Global, piece: usize, row: &Row) -> Result<bool, AllocError> {
     let (numbers, index, result, written) = *row;
     let mut streams = streams_of(alloc, piece, (0, 0))?;
@@ -209,7 +209,7 @@ fn operations_of_an_input(rt: HostRuntime) {
     }
 }
 
-// Whether `pick` ends by a failed call, and what it wrote is a front of what it would write.
+// Whether `pick` ends with a failed call, and what it wrote is a prefix of what it would write.
 fn fails(alloc: Global, fails: (u64, u64)) -> Result<bool, AllocError> {
     let mut streams = streams_of(alloc, 20, fails)?;
     let found = streams.pick(alloc, &[2, 3], Some("b"))?;

@@ -18,15 +18,15 @@ pub record Document : Type 0 where
 abbrev pub document_of : DocKey → Document
 document_of key = record { index = key.index; id = key.id }
 
--- the lane that a document belongs to, among so many
+-- the lane of a document, given the number of lanes
 abbrev pub lane_of : ℕ → Document → ℕ
 lane_of lanes k = fnv1a (k.index ++ 255 ∷ k.id) % lanes
 
--- the two documents are one
+-- the two documents are the same
 abbrev pub same_document : Document → Document → Bool
 same_document a b = bytes_eq a.index b.index && bytes_eq a.id b.id
 
--- what an action stores: the text of its source, or nothing where it deletes
+-- what an action stores: the text of its source, or nothing if it deletes
 abbrev pub source_of : Action → Option (List ℕ)
 source_of (Index source) = Some source.text
 source_of Delete = None
@@ -42,14 +42,14 @@ abbrev pub is_delete : ActionKind → Bool
 is_delete kind.Index = false
 is_delete kind.Delete = true
 
--- the two kinds are one
+-- the two kinds are the same
 abbrev pub same_kind : ActionKind → ActionKind → Bool
 same_kind kind.Index kind.Index = true
 same_kind kind.Index kind.Delete = false
 same_kind kind.Delete kind.Index = false
 same_kind kind.Delete kind.Delete = true
 
--- the two writes have one version, one document and one action
+-- the two writes have the same version, document and action
 abbrev pub same_write : Write → Write → Bool
 same_write x y =
     (x.version == y.version)
@@ -59,16 +59,16 @@ same_write x y =
 abbrev pub name_of : Op → OpName
 name_of o = record { epoch = o.epoch; producer = o.producer; number = o.number }
 
--- the two names are one
+-- the two names are the same
 abbrev pub same_name : OpName → OpName → Bool
 same_name a b = (a.epoch == b.epoch) && ((a.producer == b.producer) && (a.number == b.number))
 
--- the two operations have one name, one document and one action
+-- the two operations have the same name, document and action
 abbrev pub same_op : Op → Op → Bool
 same_op a b =
     same_name (name_of a) (name_of b)
     && (same_document (document_of a.key) (document_of b.key) && same_source (source_of a.action) (source_of b.action))
 
--- the write that an operation asks for, under a version
+-- the write for an operation, under a version
 abbrev pub write_for : Op → ℕ → Write
 write_for o version = record { key = o.key; version = version; action = o.action }

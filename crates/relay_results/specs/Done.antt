@@ -1,4 +1,4 @@
--- What the index did with an item, and the text of a reply.
+-- The result of an item, and the text of a reply.
 use Rattle.std.specs.Prelude.{ℕ, ◌≤◌, List, [], ◌∷◌, codes, Option, None, Some, is_some, Bool}
 use Rattle.std.specs.List.{list_any}
 use Rattle.serde_json.specs.Data.{Data, boolean, number, string, array, object, unsigned, Items, no_items, item, Members, member, no_members}
@@ -9,7 +9,7 @@ use Rattle.relay_results.specs.declared.done.DoneResult.{DoneResult}
 use Rattle.relay_results.specs.declared.done.DoneResult.TheVariants as done
 use Rattle.relay_results.specs.declared.done.ItemDone.{ItemDone}
 
--- the type of the error of a result, where nothing was done
+-- the type of the error of a result, if nothing was done
 abbrev pub failure : DoneResult → Option (List ℕ)
 failure done.Created = None
 failure done.Updated = None
@@ -18,7 +18,7 @@ failure done.NotFound = None
 failure done.Conflict = Some (codes "version_conflict_engine_exception")
 failure done.Refused = Some (codes "scripted_refusal")
 
--- the name of a result where the write was applied (OpenSearch, bulk API, response)
+-- the name of a result, if the write was applied (OpenSearch, bulk API, response)
 abbrev pub result_name : DoneResult → List ℕ
 result_name done.Created = codes "created"
 result_name done.Updated = codes "updated"
@@ -37,7 +37,7 @@ outcomes_of (d ∷ ds) = outcome_of d ∷ outcomes_of ds
 
 -- ---- the text of a reply, with its keys in byte order
 
--- what stands in an entry: of an item that was applied, and of one that was not
+-- the members of an entry: of an item that was applied, and of any other
 abbrev pub applied_fields : ItemDone → Members
 applied_fields d =
     member (codes "_id") (string d.key.id)
@@ -79,7 +79,7 @@ reply_data took ds =
 unfoldable pub reply_text : ℕ → List ItemDone → List ℕ
 reply_text took ds = compact_text (reply_data took ds)
 
--- each status is one that an entry may have
+-- each status is one that a reply may have
 abbrev pub HaveStatuses : List ItemDone → Type 0
 HaveStatuses [] = Unit {0}
 HaveStatuses (d ∷ ds) = (100 ≤ d.status) × (d.status ≤ 599) × HaveStatuses ds

@@ -1,4 +1,4 @@
--- What the answer of a request makes of the operations that it carried.
+-- What the answer to a request means for the operations that it carried.
 use Rattle.std.specs.Prelude.{◌≡◌, ℕ, List, [], Option, Some, None, is_some, unwrap_or, slice_get, length, ◌/◌, Bool, true, false, if◌then◌else◌, nat_lt}
 use Rattle.relay_action.specs.declared.action.ActionKind.{ActionKind}
 use Rattle.relay_action.specs.declared.write.Write.{Write}
@@ -11,9 +11,9 @@ use Rattle.relay_results.specs.Verdicts.{verdict_of, is_retried_item, is_retried
 use Rattle.relay_results.specs.Matching.{matches}
 use Rattle.relay_results.specs.Outside.{Answer, Unanswered, Items, Whole, Lost}
 
--- What becomes of an operation: it still flies; it ends as applied, now or by an earlier request; it waits to be sent
--- again; it waits to be sent in requests of at most so many items, and this one does not count as a try; or it ends with a
--- report.
+-- The fate of an operation: it is still in flight; it ends as applied, by this request or an earlier one; it waits to
+-- be sent again; it waits to be sent in requests of at most this many items, and this request does not count as a
+-- try; or it ends with a report.
 pub data Fate : Type 0 where
   Flies : Fate
   Applied : Fate
@@ -22,18 +22,18 @@ pub data Fate : Type 0 where
   Halved : ℕ → Fate
   Reported : Cause → Fate
 
--- where an operation stands when its answer comes: how many requests carried it, how many of them count as tries, and
--- how many tries it may have
+-- an operation when its answer arrives: how many requests carried it, how many of them count as tries, and how many
+-- tries it may have
 pub record Tries : Type 0 where
   pub sends : ℕ
   pub attempts : ℕ
   pub max : ℕ
 
--- it is sent again while tries are left
+-- it is sent again if tries are left
 abbrev pub tried_again : Tries → Fate
 tried_again t = if nat_lt t.attempts t.max then Retried else Reported (cause.GaveUp t.sends)
 
--- item by item: what the verdict says, and a refusal is reported with its status and its error's type
+-- by the verdict on its item; a refusal is reported with its status and the type of its error
 abbrev pub fate_of_verdict : Tries → Outcome → ItemVerdict → Fate
 fate_of_verdict t o verdict.Applied = Applied
 fate_of_verdict t o verdict.Already = Already
@@ -50,8 +50,8 @@ abbrev pub fate_of_entry : Tries → ActionKind → Option Outcome → Fate
 fate_of_entry t kind None = tried_again t
 fate_of_entry t kind (Some o) = fate_of_item t kind o
 
--- of a whole request: a lost reply and one that does not match are the same, 413 halves two items or more, and 429, 502, 503
--- and 504 are tried again
+-- by the whole request: a lost reply and one that does not match are treated alike, 413 halves two or more items, and
+-- 429, 502, 503 and 504 are retried
 abbrev pub fate : Tries → List Write → ℕ → ActionKind → Answer → Fate
 fate t ws place kind Unanswered = Flies
 fate t ws place kind (Items os) = if matches os ws then fate_of_entry t kind (slice_get os place) else tried_again t
@@ -63,14 +63,14 @@ fate t ws place kind Lost = tried_again t
 
 -- ---- what an answer says
 
--- its entries match the writes, and this is the one for the item at a place
+-- the entries match the writes, and this is the one for the item at a place
 pub record HasEntry (ws : List Write) (place : ℕ) (a : Answer) (o : Outcome) : Type 0 where
   pub entries : List Outcome
   pub answer : a ≡ Items entries
   pub matching : matches entries ws ≡ true
   pub entry : slice_get entries place ≡ Some o
 
--- it is of a kind that is tried again for the item at a place, whether tries are left or not
+-- the entry is of a kind that is retried, whether or not tries are left
 abbrev pub is_retried_entry : Option Outcome → Bool
 is_retried_entry None = true
 is_retried_entry (Some o) = is_retried_item o.status
@@ -81,7 +81,7 @@ IsRetried ws place (Items os) = matches os ws ≡ true → is_retried_entry (sli
 IsRetried ws place (Whole status) = is_sent_again (length ws) status ≡ true
 IsRetried ws place Lost = Unit {0}
 
--- the request was too large, so that it does not count as a try
+-- the request was too large, so it does not count as a try
 abbrev pub says_too_large : Answer → Bool
 says_too_large Unanswered = false
 says_too_large (Items os) = false

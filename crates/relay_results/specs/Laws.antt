@@ -21,13 +21,13 @@ use Rattle.relay_results.specs.Fates.{Fate, Flies, Applied, Already, Retried, Ha
 
 -- ---- answers
 
--- a matching entry has a status that no run had
+-- a matching entry whose status no run had
 abbrev pub NotHonestWithoutRun : Type 0
 NotHonestWithoutRun =
     (runs : List Ran) (request : ℕ) (w : Write) (o : Outcome) → matches (o ∷ []) (w ∷ []) ≡ true →
     ((r : Ran) → Mem r runs → r.outcome.status ≢ o.status) → IsHonest runs request (w ∷ []) (Items (o ∷ [])) → ⊥
 
--- each entry of an honest answer is what a run of the item at its place gave
+-- each matching entry of an honest answer comes from a run of the item at its place
 abbrev pub HonestEntryWasRun : Type 0
 HonestEntryWasRun =
     (runs : List Ran) (request place : ℕ) (ws : List Write) (a : Answer) (o : Outcome) →
@@ -58,35 +58,35 @@ FateSays =
     (t : Tries) (ws : List Write) (place : ℕ) (kind : ActionKind) (a : Answer) →
     Says t ws place kind a (fate t ws place kind a)
 
--- what is answered flies no longer
+-- an operation whose request is answered is no longer in flight
 abbrev pub AnswersEndFlight : Type 0
 AnswersEndFlight =
     (t : Tries) (ws : List Write) (place : ℕ) (kind : ActionKind) (a : Answer) → a ≢ Unanswered →
     fate t ws place kind a ≢ Flies
 
--- what is tried again as it is has tries left
+-- what is retried without halving has tries left
 abbrev pub RetriedHasTries : Type 0
 RetriedHasTries =
     (t : Tries) (ws : List Write) (place : ℕ) (kind : ActionKind) (a : Answer) →
     fate t ws place kind a ≡ Retried → t.attempts < t.max
 
--- the table's word Refused does not depend on what was sent before
+-- whether the verdict is Refused does not depend on what was sent before
 abbrev pub RefusedWhateverSent : Type 0
 RefusedWhateverSent = (kind : ActionKind) (status : ℕ) (has_error : Bool) (sends attempts max : ℕ) →
     verdict_of kind status has_error sends attempts max ≡ verdict.Refused → IsRefused kind status has_error
 
 -- ---- replies
 
--- a text says one list of outcomes at most
+-- a text has at most one list of outcomes
 abbrev pub OneReply : Type 0
 OneReply = (text : List ℕ) (os ps : List Outcome) → IsReply text os → IsReply text ps → os ≡ ps
 
--- a reply has no fault but that memory ran out
+-- a reply has no fault other than a failed allocation
 abbrev pub NoFaultOfReply : Type 0
 NoFaultOfReply =
     (text : List ℕ) (os : List Outcome) (e : ReplyFault) → IsReply text os → IsFaultOf text e → e ≡ fault.Memory
 
--- a text has one fault at most, beside that memory ran out
+-- a text has at most one fault, apart from a failed allocation
 abbrev pub OneFault : Type 0
 OneFault =
     (text : List ℕ) (e f : ReplyFault) → e ≢ fault.Memory → f ≢ fault.Memory →
@@ -94,18 +94,18 @@ OneFault =
 
 -- ---- runs
 
--- any item of any sent request may be run, at any time, and need not be refused
+-- any item of any sent request may be run at any time, and need not be refused
 abbrev pub MayAlwaysRun : Type 0
 MayAlwaysRun = (s : Outside) (number place : ℕ) (w : Write) → write_at s.requests number place ≡ Some w →
     (o : RunOutcome) × MayRun s (record { request = number; place = place; outcome = o }) × (IsRefusal o → ⊥)
 
--- while the stored version is not below that of a write, as from its application on, no run applies it
+-- while the stored version is not below that of a write, as it is once the write was applied, no run applies it
 abbrev pub NotAppliedAgain : Type 0
 NotAppliedAgain =
     (w : Write) (stored : ℕ) (o : RunOutcome) → w.version ≤ stored → IsOutcomeOf (Some stored) w o →
     is_applied w o ≡ false
 
--- one write of the document was added at the end of its list, whose version was above the one stored and is stored now
+-- one write of the document was added at the end of its list; its version was above the stored one, and is now stored
 pub record GrowsBy (old new : Outside) (k : Document) (w : Write) : Type 0 where
   pub applied : new.applied k ≡ old.applied k ++ w ∷ []
   pub of_document : document_of w.key ≡ k
@@ -116,8 +116,8 @@ pub record StaysAt (old new : Outside) (k : Document) : Type 0 where
   pub applied : new.applied k ≡ old.applied k
   pub stored : new.stored k ≡ old.stored k
 
--- A step of the outside runs one item: it sends and answers nothing, its run is noted, and the item's write alone may
--- be added, to its own document, where the outcome says that it was applied.
+-- A step of the outside runs one item: nothing is sent or answered, the run is recorded, and only the item's own
+-- write may be added, to its own document, if the outcome says that it was applied.
 pub record RunsItem (old new : Outside) (run : Ran) (w : Write) : Type 0 where
   pub item : write_at old.requests run.request run.place ≡ Some w
   pub requests : new.requests ≡ old.requests
@@ -146,11 +146,11 @@ EventContinues = (e : Event) (s : Outside) → MayHappen e s → Continues s (af
 abbrev pub LaneOfKey : Type 0
 LaneOfKey = (key : DocKey) (lanes : ℕ) → lane_of_document key lanes ≡ lane_of lanes (document_of key)
 
--- two names that the test calls one are equal, and a name is itself
+-- names are equal exactly if the test says so
 abbrev pub NamesEqual : Type 0
 NamesEqual = (a b : OpName) → (same_name a b ≡ true → a ≡ b) × (a ≡ b → same_name a b ≡ true)
 
--- numbers from 1 and counts from 0 say the same
+-- numbers from 1 and counts from 0 correspond
 abbrev pub NumbersFromOne : Type 0
 NumbersFromOne =
     ((count : ℕ) → (1 ≤ from_one count) × (from_zero (from_one count) ≡ count))

@@ -1,4 +1,4 @@
--- Lanes and wires number requests from 1; what stands outside counts them from 0.
+-- Lanes and wires number requests from 1; the outside counts them from 0.
 use Rattle.std.specs.Prelude.{ℕ, ◌+◌, ◌-◌}
 
 -- the number from 1 of a request that is counted from 0

@@ -1,5 +1,4 @@
--- What stands outside a lane: the requests that were sent, what the index did with them and has, and what was
--- answered.
+-- What is outside a lane: the requests that were sent, what the index has and does with them, and the answers.
 use Rattle.std.specs.Prelude.{◌≡◌, ◌≢◌, ◌⊎◌, ℕ, suc, ◌≤◌, List, [], ◌∷◌, ◌++◌, slice_get, Option, Some, None, is_some, option_and_then, IsSome, IsTrue, Bool, true, false, nat_lt, if◌then◌else◌}
 use Rattle.relay_action.specs.Actions.{kind_of}
 use Rattle.relay_action.specs.declared.write.Write.{Write}
@@ -11,20 +10,20 @@ use Rattle.relay_results.specs.Matching.{matches}
 
 -- ---- the sent requests
 
--- What was given for a request: nothing yet; the entries of a readable reply of status 200; another status for the
--- request as a whole; or word that no reply came.
+-- The answer to a request: none yet; the entries of a readable reply of status 200; another status for the request as
+-- a whole; or notice that no reply came.
 pub data Answer : Type 0 where
   Unanswered : Answer
   Items : List Outcome → Answer
   Whole : ℕ → Answer
   Lost : Answer
 
--- A sent request: its writes, and what was answered. A send that failed counts as sent.
+-- A sent request: its writes, and its answer. A send that failed counts as sent.
 pub record Request : Type 0 where
   pub writes : List Write
   pub answer : Answer
 
--- the writes of a request, where it was sent; requests and places are counted from 0
+-- the writes of a request, if it was sent; requests and places are counted from 0
 abbrev pub writes_of : Request → List Write
 writes_of q = q.writes
 
@@ -33,7 +32,7 @@ write_at requests request place = option_and_then (λ q. slice_get (writes_of q)
 
 -- ---- a versioned run
 
--- the outcome of a run: its status, and the type of its error where it had one, cut as a reader of replies cuts it
+-- the outcome of a run: its status, and the type of its error if it had one, cut as when reading a reply
 pub record RunOutcome : Type 0 where
   pub status : ℕ
   pub error : Option (List ℕ)
@@ -47,21 +46,21 @@ is_above (Some stored) version = nat_lt stored version
 abbrev pub is_applied : Write → RunOutcome → Bool
 is_applied w o = is_success (kind_of w.action) o.status (is_some o.error)
 
--- the index refused to run the write, by its free choice: a status from 400 to 599 other than 409, and an error
+-- the index refused to run the write, at its own discretion: a status from 400 to 599 other than 409, and an error
 pub record IsRefusal (o : RunOutcome) : Type 0 where
   pub least : 400 ≤ o.status
   pub most : o.status ≤ 599
   pub no_conflict : o.status ≢ 409
   pub has_error : IsSome o.error
 
--- the version is not above the one stored: 409, and an error
+-- the version is not above the stored one: 409, and an error
 pub record IsConflict (o : RunOutcome) : Type 0 where
   pub status : o.status ≡ 409
   pub has_error : IsSome o.error
 
--- The outcomes that a run of a write may have, where this version of its document is stored (OpenSearch, index
--- document API, version_type external: a write is applied where its version is strictly greater than the stored one
--- or nothing is stored, else it is a conflict). A deleted document keeps its version.
+-- The possible outcomes of running a write, given the stored version of its document (OpenSearch, index document API,
+-- version_type external: a write is applied if its version is strictly greater than the stored one or nothing is
+-- stored; otherwise it is a conflict). A deleted document keeps its version.
 abbrev pub IsOutcomeOf : Option ℕ → Write → RunOutcome → Type 0
 IsOutcomeOf stored w o =
     IsRefusal o
@@ -76,8 +75,8 @@ pub record Ran : Type 0 where
   pub place : ℕ
   pub outcome : RunOutcome
 
--- The requests in the order in which they were sent, all runs in their order, and of each document the version that is
--- stored, the writes that stood in its list at the start, and those applied since, in order.
+-- The requests in the order in which they were sent, all runs in their order, and for each document the stored
+-- version, the writes in its list at the start, and those applied since, in order.
 pub record Outside : Type 0 where
   pub requests : List Request
   pub runs : List Ran
@@ -89,14 +88,14 @@ pub record Outside : Type 0 where
 abbrev pub list_of : Outside → Document → List Write
 list_of s k = s.before k ++ s.applied k
 
--- the write was applied: it stands at the end of its document's list, and its version is stored
+-- the write was applied: it is at the end of its document's list, and its version is stored
 abbrev pub with_applied : Outside → Write → Outside
 with_applied s w = record s {
   stored = λ k. if same_document k (document_of w.key) then Some w.version else s.stored k;
   applied = λ k. s.applied k ++ (if same_document k (document_of w.key) then w ∷ [] else []);
 }
 
--- a run is noted; an outcome that says so applied the write, and nothing else changes
+-- a run is recorded; if its outcome says so, the write was applied; nothing else changes
 abbrev pub with_run : Outside → Ran → Outside
 with_run s r = record s { runs = s.runs ++ r ∷ [] }
 
@@ -115,13 +114,13 @@ pub record WasRun (runs : List Ran) (request place : ℕ) (o : Outcome) : Type 0
   pub status : run.outcome.status ≡ o.status
   pub error : run.outcome.error ≡ o.error
 
--- so it is of each entry, from this place on
+-- this holds for each entry from this place on
 abbrev pub EachWasRun : List Ran → ℕ → ℕ → List Outcome → Type 0
 EachWasRun runs request place [] = Unit {0}
 EachWasRun runs request place (o ∷ os) = WasRun runs request place o × EachWasRun runs request (suc place) os
 
--- Entries that match the request have, item by item, the status and the error of a run of that item. Entries that do not
--- match, a status of the whole request other than 200, and the loss of the reply may come whatever was run.
+-- Entries that match the request have, item by item, the status and the error of a run of that item. Entries that do
+-- not match, a status of the whole request other than 200, and the loss of the reply are possible whatever was run.
 abbrev pub IsHonest : List Ran → ℕ → List Write → Answer → Type 0
 IsHonest runs request ws Unanswered = ⊥
 IsHonest runs request ws (Items os) = IsTrue (matches os ws) → EachWasRun runs request 0 os
@@ -136,7 +135,7 @@ pub data Event : Type 0 where
   Runs : Ran → Event
   Answers : ℕ → Answer → Event
 
--- what stands outside afterwards
+-- the outside after an event
 abbrev pub after : Event → Outside → Outside
 after (Sends ws) s = record s { requests = s.requests ++ record { writes = ws; answer = Unanswered } ∷ [] }
 after (Runs r) s = ran_of s r (write_at s.requests r.request r.place)
@@ -144,14 +143,14 @@ after (Answers request a) s = record s {
   requests = update request (λ q. record { writes = writes_of q; answer = a }) s.requests;
 }
 
--- Any item of any sent request may be run, at any time and any number of times, with an outcome that the stored
--- version leaves it.
+-- Any item of any sent request may be run, at any time and any number of times, with an outcome that is possible for
+-- the stored version.
 pub record MayRun (s : Outside) (r : Ran) : Type 0 where
   pub write : Write
   pub sent : write_at s.requests r.request r.place ≡ Some write
   pub outcome : IsOutcomeOf (s.stored (document_of write.key)) write r.outcome
 
--- A request that was sent and not answered may be given an honest answer.
+-- A request that was sent and not answered may get an honest answer.
 pub record MayAnswer (s : Outside) (number : ℕ) (a : Answer) : Type 0 where
   pub request : Request
   pub sent : slice_get s.requests number ≡ Some request
@@ -169,7 +168,7 @@ pub record IsStep (old new : Outside) : Type 0 where
   pub may : MayRun old run
   pub reached : new ≡ after (Runs run) old
 
--- events one after another
+-- after a sequence of events
 abbrev pub after_all : List Event → Outside → Outside
 after_all [] s = s
 after_all (e ∷ es) s = after_all es (after e s)
@@ -178,7 +177,7 @@ abbrev pub AllMayHappen : List Event → Outside → Type 0
 AllMayHappen [] s = Unit {0}
 AllMayHappen (e ∷ es) s = MayHappen e s × AllMayHappen es (after e s)
 
--- what stands outside came of this by events that may happen
+-- the outside came about from this one by events that may happen
 pub record Continues (old new : Outside) : Type 0 where
   pub events : List Event
   pub may : AllMayHappen events old

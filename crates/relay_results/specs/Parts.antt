@@ -1,4 +1,4 @@
--- For private clauses: what was found of the members and the items of a reply that were read so far.
+-- For private clauses: what was found in the members and the items of a reply that were read so far.
 use Rattle.std.specs.Prelude.{◌≡◌, ℕ, Bool, true, false, List, length, codes, nat_le, ◌&&◌, is_some, Option, None, Some, MatchOption, option_map, option_and_then, if◌then◌else◌}
 use Rattle.serde_json.specs.Data.{Data, Items, Members}
 use Rattle.serde_json.specs.Find.{get_member, as_array, as_null, as_number, as_str, as_u64}
@@ -11,18 +11,18 @@ use Rattle.relay_results.specs.Replies.{IsCut, error_limit, error_type, AreEntri
 
 -- ---- an error
 
--- the text under a name
+-- the string under a name
 abbrev pub text_at : List ℕ → Members → Option (List ℕ)
 text_at name ms = option_and_then as_str (get_member name ms)
 
 abbrev pub HoldsType : ErrorType → Members → Type 0
 HoldsType e ms = option_map (λ t. t.now) e.text ≡ text_at (codes "type") ms
 
--- the type that an error tells, the empty text where it tells none; nothing where it is null
+-- the type of an error, empty if it has none; nothing if the error is null
 abbrev pub told_error : Data → Option (List ℕ)
 told_error d = if is_some (as_null d) then None else Some (error_type d)
 
--- an outcome keeps the front of it
+-- an outcome keeps a prefix of it
 abbrev pub KeepsError : Option (List ℕ) → Option (List ℕ) → Type 0
 KeepsError None kept = kept ≡ None
 KeepsError (Some text) kept = (front : List ℕ) × IsCut error_limit text front × (kept ≡ Some front)
@@ -42,7 +42,7 @@ pub record HoldsFields (fields : EntryFields) (ms : Members) : Type 0 where
 
 -- ---- entries
 
--- all of them say an outcome, or the first that says none follows these outcomes
+-- all of them are valid, or the first invalid one follows these outcomes
 abbrev pub SayUpTo : Items → List Outcome → Bool → Type 0
 SayUpTo ds os false = AreEntries ds os
 SayUpTo ds os true = IsBadAt ds (length os)
@@ -55,7 +55,7 @@ HoldsEntries entries ds = SayUpTo ds entries.outcomes.items entries.has_bad
 abbrev pub items_in : Members → Option Items
 items_in ms = option_and_then as_array (get_member (codes "items") ms)
 
--- what was collected of the items, where there are any
+-- what was collected from the items, if there are any
 abbrev pub HoldsItems : Option Entries → Option Items → Type 0
 HoldsItems found items = MatchOption found (items ≡ None) (λ e. (ds : Items) × (items ≡ Some ds) × HoldsEntries e ds)
 

@@ -1,4 +1,4 @@
--- The reply grammar: which outcomes the text of a reply says, and what is wrong with a text that is no reply.
+-- The grammar of replies: the outcomes of a reply, and what is wrong with a text that is not one.
 use Rattle.std.specs.Prelude.{◌≡◌, ℕ, zero, suc, ◌<◌, ◌≤◌, List, [], ◌∷◌, codes, take, Option, None, Some, is_some, option_and_then, unwrap_or, if◌then◌else◌, IsUtf8}
 use Rattle.std.specs.Str.{IsCharBoundary}
 use Rattle.serde_json.specs.Data.{Data, number, string, array, object, unsigned, Items, no_items, item, Members, member, no_members}
@@ -10,18 +10,18 @@ use Rattle.relay_results.specs.declared.reading.ReplyFault.{ReplyFault}
 use Rattle.relay_results.specs.declared.reading.ReplyFault.TheVariants as fault
 
 -- the bytes are UTF-8, and JSON for this value (RFC 8259, as `serde_json` reads it: nested at most 127 deep, and of
--- members of one name the last)
+-- members with the same name the last)
 pub record ReadsAs (text : List ℕ) (d : Data) : Type 0 where
   pub utf8 : IsUtf8 text
   pub value : read text ≡ Some d
 
 -- ---- entries
 
--- the most bytes of an error's type
+-- the maximum length of an error's type, in bytes
 abbrev pub error_limit : ℕ
 error_limit = 64
 
--- the longest front of a text that has at most so many bytes and ends where a character does
+-- the longest prefix of a text that is within the limit and ends at a character boundary
 pub record IsCut (limit : ℕ) (text front : List ℕ) : Type 0 where
   pub count : ℕ
   pub within : count ≤ limit
@@ -29,22 +29,22 @@ pub record IsCut (limit : ℕ) (text front : List ℕ) : Type 0 where
   pub longest : (more : ℕ) → count < more → more ≤ limit → IsCharBoundary text more → ⊥
   pub front_is : front ≡ take count text
 
--- the member `error` of an entry, unless there is none or it is null
+-- the member `error` of an entry, unless it is absent or null
 abbrev pub error_member : Data → Option Data
 error_member d = option_and_then (λ e. if is_some (as_null e) then None else Some e) (get (codes "error") d)
 
--- the type that an error tells; the empty text where it is no object, or tells no text
+-- the type of an error; empty if the error is not an object or its type is not a string
 abbrev pub error_type : Data → List ℕ
 error_type d = unwrap_or (option_and_then as_str (get (codes "type") d)) []
 
--- what an entry says of an error: the front of its type
+-- what an outcome keeps of an error: a prefix of its type
 abbrev pub SaysError : Option Data → Option (List ℕ) → Type 0
 SaysError None error = error ≡ None
 SaysError (Some d) error = (front : List ℕ) × IsCut error_limit (error_type d) front × (error ≡ Some front)
 
--- An entry says an outcome: it is an object of one member, named by the kind of the action, whose value is an object with
--- a text `_id` and an integer `status` from 100 to 599 (OpenSearch, bulk API, response). All other members but `error`
--- are not looked at.
+-- An entry is valid if it is an object with one member, named by the kind of the action, whose value is an object
+-- with a string `_id` and an integer `status` from 100 to 599 (OpenSearch, bulk API, response). Members other than
+-- `error` are ignored.
 pub record IsEntry (d : Data) (o : Outcome) : Type 0 where
   pub fields : Members
   pub action : d ≡ object (member (kind_name o.kind) (object fields) no_members)
@@ -54,7 +54,7 @@ pub record IsEntry (d : Data) (o : Outcome) : Type 0 where
   pub most : o.status ≤ 599
   pub error : SaysError (error_member (object fields)) o.error
 
--- entries and outcomes, one for one
+-- entries and their outcomes, one for one
 abbrev pub AreEntries : Items → List Outcome → Type 0
 AreEntries no_items [] = Unit {0}
 AreEntries no_items (o ∷ os) = ⊥
@@ -67,7 +67,7 @@ AreEntries (item d ds) (o ∷ os) = IsEntry d o × AreEntries ds os
 abbrev pub HasItems : Data → Items → Type 0
 HasItems d ds = get (codes "items") d ≡ Some (array ds)
 
--- the text is a reply that says these outcomes
+-- the text is a reply with these outcomes
 pub record IsReply (text : List ℕ) (os : List Outcome) : Type 0 where
   pub value : Data
   pub reads : ReadsAs text value
@@ -77,18 +77,18 @@ pub record IsReply (text : List ℕ) (os : List Outcome) : Type 0 where
 
 -- ---- what is no reply
 
--- the value says no outcome
+-- the value is not a valid entry
 abbrev pub IsNoEntry : Data → Type 0
 IsNoEntry d = (o : Outcome) → IsEntry d o → ⊥
 
--- the entry at this place, counted from 0, is the first that says no outcome
+-- the entry at this place, from 0, is the first invalid one
 abbrev pub IsBadAt : Items → ℕ → Type 0
 IsBadAt no_items place = ⊥
 IsBadAt (item d ds) zero = IsNoEntry d
 IsBadAt (item d ds) (suc place) = ((o : Outcome) × IsEntry d o) × IsBadAt ds place
 
--- The fault of a text. NotJson: it is no value. NoItems: it is a value without an array `items`. BadItem: the entry at this
--- place is the first that says no outcome. Memory says nothing of the text.
+-- The fault of a text. NotJson: it has no value. NoItems: its value has no array `items`. BadItem: the entry at this
+-- place is the first invalid one. Memory says nothing about the text.
 abbrev pub IsFaultOf : List ℕ → ReplyFault → Type 0
 IsFaultOf text fault.NotJson = (d : Data) → ReadsAs text d → ⊥
 IsFaultOf text fault.NoItems = (d : Data) × ReadsAs text d × ((ds : Items) → HasItems d ds → ⊥)

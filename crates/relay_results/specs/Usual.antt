@@ -1,5 +1,5 @@
--- Replies in the usual form: what OpenSearch answers where it has applied every action of a request. No blanks, no escapes,
--- the members in the order in which it writes them.
+-- Replies in the usual form: what OpenSearch returns if it has applied every action of a request, without blanks and
+-- escapes, and with the members in its order.
 use Rattle.std.specs.Prelude.{◌≡◌, ℕ, ◌<◌, ◌≤◌, ◌^◌, List, [], ◌∷◌, ◌++◌, codes, decimal, map, Option, None, Some}
 use denote.Ref.{Bor}
 use Rattle.relay_action.specs.declared.action.ActionKind.{ActionKind}
@@ -85,7 +85,7 @@ outcome_of e = record { kind = e.document.kind; id = e.document.id.now; status =
 abbrev pub head_text : ℕ → List ℕ → List ℕ
 head_text took rest = codes "{\"took\":" ++ (decimal took ++ (codes ",\"errors\":false,\"items\":[" ++ rest))
 
--- the bytes begin with the head of a reply and at least one entry, which say these outcomes, and this follows
+-- the bytes begin with the head of a reply and at least one entry, with these outcomes, and this follows
 pub record HasRead (bytes : List ℕ) (os : List Outcome) (rest : List ℕ) : Type 0 where
   pub took : ℕ
   pub took_fits : took < 2 ^ 64

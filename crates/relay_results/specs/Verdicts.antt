@@ -1,11 +1,11 @@
--- What the status of an item says, and of a request as a whole.
+-- The meaning of an item's status, and of a request's.
 use Rattle.std.specs.Prelude.{◌≡◌, ℕ, List, [], ◌∷◌, Bool, not, ◌==◌, ◌&&◌, ◌||◌, nat_le, nat_lt, if◌then◌else◌}
 use Rattle.relay_action.specs.declared.action.ActionKind.{ActionKind}
 use Rattle.relay_results.specs.declared.decide.ItemVerdict.{ItemVerdict}
 use Rattle.relay_results.specs.declared.decide.ItemVerdict.TheVariants as verdict
 use Rattle.relay_results.specs.Documents.{is_delete}
 
--- 200 to 299: the class of statuses that say success (RFC 9110, section 15.3)
+-- 200 to 299: success (RFC 9110, section 15.3)
 abbrev pub is_2xx : ℕ → Bool
 is_2xx status = nat_le 200 status && nat_lt status 300
 
@@ -34,20 +34,20 @@ is_retried_whole status = ((status == 429) || (status == 502)) || ((status == 50
 abbrev pub is_too_large : ℕ → Bool
 is_too_large status = status == 413
 
--- a request of so many items is too large, and is halved: it has two or more
+-- a request with this many items is too large, and is halved: it has at least two
 abbrev pub is_halved : ℕ → ℕ → Bool
 is_halved items status = is_too_large status && nat_le 2 items
 
--- what a request of so many items carries is sent again, in halves or as it is
+-- the operations of a request with this many items are sent again, in halves or as they are
 abbrev pub is_sent_again : ℕ → ℕ → Bool
 is_sent_again items status = is_halved items status || is_retried_whole status
 
--- a line of a table: its condition, and what stands beside it
+-- a line of a table: its condition, and its value
 pub record Line (A : Type 0) : Type 0 where
   pub holds : Bool
   pub says : A
 
--- what the first line that holds says, else the last word of the table
+-- the value of the first line whose condition holds, else the last entry of the table
 abbrev pub first_line : {A : Type 0} → List (Line A) → A → A
 first_line [] otherwise = otherwise
 first_line (line ∷ lines) otherwise = if line.holds then line.says else first_line lines otherwise
@@ -55,8 +55,8 @@ first_line (line ∷ lines) otherwise = if line.holds then line.says else first_
 abbrev when : Bool → ItemVerdict → Line ItemVerdict
 when holds says = record { holds = holds; says = says }
 
--- The verdict on an item: `sends` requests carried its operation, `attempts` of them count as tries, of which there
--- may be `max`.
+-- The verdict on an item: `sends` requests carried its operation, and `attempts` of them count as tries, of which
+-- `max` are allowed.
 abbrev pub verdict_of : ActionKind → ℕ → Bool → ℕ → ℕ → ℕ → ItemVerdict
 verdict_of kind status has_error sends attempts max = first_line
     (when (not has_error && is_2xx status) verdict.Applied
@@ -68,7 +68,7 @@ verdict_of kind status has_error sends attempts max = first_line
     ∷ [])
     verdict.Refused
 
--- the table says Refused, whatever was sent before
+-- the verdict is Refused, whatever was sent before
 abbrev pub IsRefused : ActionKind → ℕ → Bool → Type 0
 IsRefused kind status has_error =
     (sends attempts max : ℕ) → verdict_of kind status has_error sends attempts max ≡ verdict.Refused

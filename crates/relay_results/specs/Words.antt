@@ -1,7 +1,7 @@
--- Words on lists.
+-- Definitions on lists.
 use Rattle.std.specs.Prelude.{◌≡◌, ◌⊎◌, ℕ, zero, suc, ◌+◌, List, [], ◌∷◌, Bool, true, false}
 
--- it is one of them
+-- it is an element
 abbrev pub Mem : {A : Type 0} → A → List A → Type 0
 Mem x [] = ⊥
 Mem x (y ∷ ys) = (x ≡ y) ⊎ Mem x ys
@@ -12,13 +12,13 @@ update n f [] = []
 update zero f (x ∷ xs) = f x ∷ xs
 update (suc n) f (x ∷ xs) = x ∷ update n f xs
 
--- the first list stands in the second, in its order, maybe with others between
+-- the first list is part of the second, in the same order, maybe with others in between
 abbrev pub IsSubsequence : {A : Type 0} → List A → List A → Type 0
 IsSubsequence [] ys = Unit {0}
 IsSubsequence (x ∷ xs) [] = ⊥
 IsSubsequence (x ∷ xs) (y ∷ ys) = ((x ≡ y) × IsSubsequence xs ys) ⊎ IsSubsequence (x ∷ xs) ys
 
--- no element stands in it twice
+-- no element occurs twice
 abbrev pub AllDistinct : {A : Type 0} → List A → Type 0
 AllDistinct [] = Unit {0}
 AllDistinct (x ∷ xs) = (Mem x xs → ⊥) × AllDistinct xs
@@ -27,7 +27,7 @@ abbrev pub one_if : Bool → ℕ
 one_if true = 1
 one_if false = 0
 
--- how many pass the test
+-- the number of elements that pass the test
 abbrev pub count : {A : Type 0} → (A → Bool) → List A → ℕ
 count p [] = 0
 count p (x ∷ xs) = one_if (p x) + count p xs

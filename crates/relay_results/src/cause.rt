@@ -1,30 +1,29 @@
 //! Why an operation is reported.
 use relay_action::Text;
 
-/// Why an operation is reported. The definitions of `specs/` speak of these causes themselves: a text
-/// is seen there as its bytes.
+/// Why an operation is reported. Contracts use this type itself, with each text seen as its bytes.
 #[derive(Debug, PartialEq, Eq, Drop)]
 pub enum Cause {
-    /// The index refused its write.
+    /// The index refused the write.
     Refused {
         /// The status of the item.
         status: u16,
-        /// The type of the item's error; no text where it tells none.
+        /// The type of the item's error, or the empty text if it has none.
         kind: Text,
     },
-    /// Its request as a whole was answered by a status that is not tried again; 413 is one where the
-    /// request had no other item.
+    /// The request as a whole got a status that is not retried; 413 is one of these if the request
+    /// had no other item.
     Request {
-        /// That status.
+        /// The status.
         status: u16,
     },
-    /// Its first send met a version that is not below its own.
+    /// The first send met a stored version that is not below the operation's own.
     Conflict,
-    /// All its tries are used up, and no answer settled it.
+    /// All attempts are used up, and no answer settled the operation.
     GaveUp {
-        /// How many requests carried it.
+        /// The number of requests that carried the operation.
         sends: u32,
     },
-    /// Its lane had no version left for it, and it was never sent.
+    /// The lane had no version left, and the operation was never sent.
     Spent,
 }

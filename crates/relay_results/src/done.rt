@@ -1,28 +1,28 @@
-//! What the index did with one item of a request.
+//! The result of one item of a request.
 ghost use Rattle.std.specs.Prelude.{◌≡◌, IfOk, option_map};
 
 use crate::outcome::Outcome;
 use relay_action::{ActionKind, DocKey, Text};
 use std::alloc::{AllocError, Global};
 
-/// What became of a write, as a reply tells it.
+/// The result of a write, as a reply states it.
 #[derive(Clone, Copy, Debug, PartialEq, Eq)]
 pub enum DoneResult {
-    /// The source became a document where there was none.
+    /// The source became a document that did not exist.
     Created,
-    /// The source took the place of a document.
+    /// The source replaced that of a document.
     Updated,
     /// The document was removed.
     Deleted,
-    /// There was no document to remove. The version is stored all the same.
+    /// There was no document to remove. The version is stored nevertheless.
     NotFound,
-    /// The version was not above the one stored: nothing was done.
+    /// The version was not above the stored one; nothing was done.
     Conflict,
-    /// The write was refused: nothing was done.
+    /// The write was refused; nothing was done.
     Refused,
 }
 
-/// What the index did with one item of a request.
+/// The result of one item of a request.
 #[derive(Debug, Drop)]
 pub struct ItemDone {
     /// The document.
@@ -31,19 +31,19 @@ pub struct ItemDone {
     pub kind: ActionKind,
     /// The status of the item.
     pub status: u16,
-    /// What became of the write.
+    /// The result of the write.
     pub result: DoneResult,
-    /// The version that was stored, or 0 where nothing was done.
+    /// The version that was stored, or 0 if nothing was done.
     pub version: u64,
-    /// How many writes the index had applied before this one, over all documents, or 0 where
-    /// nothing was done.
+    /// The number of writes that the index had applied before, over all documents, or 0 if nothing
+    /// was done.
     pub seq: u64,
 }
 
 impl DoneResult {
     ghost use Rattle.relay_results.specs.Done.{failure};
 
-    // The type of the error, where nothing was done.
+    // The type of the error, if nothing was done.
     pub(crate) fn failure(self) -> Option<&'static str>
         ensures { option_map (λ t. t.now) result ≡ failure self }
     {
@@ -58,8 +58,8 @@ impl DoneResult {
 impl ItemDone {
     ghost use Rattle.relay_results.specs.Done.{outcome_of};
 
-    /// What a reply says of this item: its kind, id and status, and the type of its error where the
-    /// result is `Conflict` or `Refused`. `AllocError`: there was no memory for its texts.
+    /// What a reply says of this item: its kind, id and status, and the type of its error if the
+    /// result is `Conflict` or `Refused`. `AllocError`: allocation failed.
     pub fn outcome(&self, alloc: Global) -> Result<Outcome, AllocError>
         ensures { IfOk result (λ o. o ≡ outcome_of self.now) }
     {

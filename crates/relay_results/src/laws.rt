@@ -1,39 +1,40 @@
-//! What the definitions of `specs/` rule out, and what follows from them. These functions do nothing;
-//! their contracts are the laws.
+//! What the definitions of `specs/` rule out, and what follows from them. These functions do
+//! nothing; their contracts are the laws.
 ghost use Rattle.relay_results.specs.Laws.{NotHonestWithoutRun, HonestEntryWasRun, FateSays, AnswersEndFlight, RetriedHasTries, RefusedWhateverSent, OneReply, NoFaultOfReply, OneFault, MayAlwaysRun, NotAppliedAgain, StepRunsItem, ContinuesItself, ContinuesOn, EventContinues, LaneOfKey, NamesEqual, NumbersFromOne};
 
-/// Any item of any sent request may be run at any time, a write that was applied is not applied again,
-/// and a step of the outside notes its run and adds at most the item's own write.
+/// Any item of any sent request may be run at any time; a write that was applied is not applied
+/// again; and a step of the outside records its run and applies at most the item's own write.
 pub fn runs_apply_once()
     ensures always { MayAlwaysRun }
     ensures once { NotAppliedAgain }
     ensures item { StepRunsItem }
 {}
 
-/// What stands outside continues itself, each event that may happen continues it, and so do events
-/// after events.
+/// The outside continues itself; each event that may happen continues it; and so does a sequence of
+/// events.
 pub fn events_continue()
     ensures itself { ContinuesItself }
     ensures event { EventContinues }
     ensures on { ContinuesOn }
 {}
 
-/// No answer is honest whose matching entries no run gave, and each such entry is a run's.
+/// No answer is honest if it has a matching entry that no run gave, and each matching entry of an
+/// honest answer comes from a run.
 pub fn answers_exclude()
     ensures without_run { NotHonestWithoutRun }
     ensures entry { HonestEntryWasRun }
 {}
 
-/// What becomes of an operation says which answer it had; an answer ends its flight, and what is tried
-/// again has tries left, but where its request was too large and is halved.
+/// The fate of an operation says which answer it got. An answer ends its flight, and an operation
+/// that is retried has attempts left, unless its request was too large and is halved.
 pub fn fates_say()
     ensures answer { FateSays }
     ensures ends { AnswersEndFlight }
     ensures tries { RetriedHasTries }
 {}
 
-/// A text says one list of outcomes or has one fault, and not both: so what [`crate::read_reply`]
-/// answers is settled, unless memory runs out.
+/// A text has one list of outcomes or one fault, and not both. So the result of
+/// [`crate::read_reply`] is determined, unless an allocation fails.
 pub fn replies_exclude()
     ensures one { OneReply }
     ensures no_fault { NoFaultOfReply }
@@ -45,7 +46,7 @@ pub fn refusals_stay()
     ensures { RefusedWhateverSent }
 {}
 
-/// The lane of a document is that of its key, the test of names decides whether they are equal, and
+/// The lane of a document is that of its key; the test of names decides whether they are equal; and
 /// numbers from 1 are places from 0.
 pub fn words_agree()
     ensures lane { LaneOfKey }

@@ -1,9 +1,9 @@
-//! What comes back for a bulk request, and what it says of the operations that the request carried:
-//! replies read and written, whether a reply is one to a request, and the verdict on each item. It
-//! stands on `relay_action` and `relay_json`.
+//! The reply to a bulk request, and what it means for the operations that the request carried:
+//! reading and writing replies, whether a reply matches a request, and the verdict on each item. It
+//! depends on `relay_action` and `relay_json`.
 //!
-//! Its `specs/` hold what stands outside a lane, of which all promises on delivery speak: the sent
-//! requests, what the index does with them, the answers, and what an answer makes of an operation.
+//! Its `specs/` define what is outside a lane, to which all promises of delivery refer: the sent
+//! requests, what the index does with them, the answers, and what an answer means for an operation.
 #![tactic(auto)]
 
 pub mod cause;

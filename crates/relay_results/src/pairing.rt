@@ -1,4 +1,4 @@
-//! Whether a reply is one to a request.
+//! Whether a reply matches a request.
 ghost use Rattle.std.specs.Prelude.{◌≡◌, ◌↔◌, IsTrue};
 ghost use Rattle.std.specs.List.{list_all, zip};
 ghost use Rattle.relay_results.specs.Matching.{matches, is_entry_for, Matches};
@@ -23,8 +23,8 @@ fn are_entries_for(outcomes: &[Outcome], writes: &[Write]) -> bool
         .all(|(outcome, write)| is_entry_for(outcome, write))
 }
 
-/// Whether the entries of a reply are those of the writes of a request: as many, and at each place
-/// the same action kind and the same id. Statuses are not looked at. It takes no memory.
+/// Whether the entries of a reply match the writes of a request: there are as many, and at each
+/// position the kind of action and the id are the same. Statuses are ignored. It does not allocate.
 pub fn matches(outcomes: &[Outcome], writes: &[Write]) -> bool
     ensures value { result ≡ matches outcomes.now writes.now }
     ensures places { IsTrue result ↔ Matches outcomes.now writes.now }

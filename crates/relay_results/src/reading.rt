@@ -1,4 +1,4 @@
-//! Replies read.
+//! Reading replies.
 ghost use Rattle.std.specs.Prelude.{◌≡◌, false, Option, Some, None, Err, IfOk, IfErr, OnOk, MatchOption, option_map};
 ghost use Rattle.serde_json.specs.Data.{Data, object, Items, no_items, Members, member, no_members, put};
 ghost use Rattle.relay_json.specs.Items.{and_item};
@@ -14,28 +14,28 @@ use relay_json::{Collect, Fields, Gather, Leaf, ReadFault, Scratch, Walk, read_o
 use std::alloc::{AllocError, Global};
 use thiserror::Error;
 
-/// The most bytes of an error's type that an outcome keeps.
+/// The maximum length of the type of an error that an outcome keeps, in bytes.
 pub const ERROR_LIMIT: usize = 64;
 
-/// Why a text is no reply, in the order in which the causes are looked for. The text of a variant
-/// is its name.
+/// Why a text is not a reply, in the order in which the causes are checked. A fault is printed as
+/// the name of its variant.
 #[derive(Clone, Copy, Debug, PartialEq, Eq, Error)]
 pub enum ReplyFault {
-    /// The bytes are not UTF-8, or not JSON (RFC 8259), or nest more than 127 deep.
+    /// The bytes are not UTF-8, not JSON (RFC 8259), or nested more than 127 deep.
     #[error("NotJson")]
     NotJson,
-    /// The value is no object, or has no array `items`.
+    /// The value is not an object, or has no array `items`.
     #[error("NoItems")]
     NoItems,
-    /// The entry at this place, counted from 0, is the first that is not of the form of an entry.
+    /// The entry at this place, from 0, is the first one that is not valid.
     #[error("BadItem({0})")]
     BadItem(u64),
-    /// There was no memory for the value or for the outcomes. Nothing is said of the text.
+    /// An allocation for the value or for the outcomes failed. It says nothing about the text.
     #[error("Memory")]
     Memory,
 }
 
-// The type that an error tells, where it tells one.
+// The type of an error, if it has one.
 #[derive(Drop)]
 struct ErrorType<'t> {
     text: Option<&'t str>,
@@ -55,7 +55,7 @@ impl<'t> Gather<'t> for ErrorType<'t> {
     }
 }
 
-// The type of an error; the empty text where it tells none, and nothing where it is null.
+// The type of an error, empty if it has none; or `None` if the error is null.
 fn read_error<'t>(walk: &mut Walk<'t>) -> Result<Option<&'t str>, ReadFault>
     ensures ok { IfOk result (λ e. (d : Data) × IsRead walk.old d walk.new
         × (option_map (λ t. t.now) e ≡ told_error d)) }
@@ -68,7 +68,6 @@ fn read_error<'t>(walk: &mut Walk<'t>) -> Result<Option<&'t str>, ReadFault>
     }
 }
 
-// The status that a value is, where it is one.
 fn status_of(leaf: Leaf<'_>) -> Option<u16>
     ensures { (d : Data) → IsLeaf leaf.entry d → result ≡ status_of d }
 {
@@ -80,8 +79,8 @@ fn status_of(leaf: Leaf<'_>) -> Option<u16>
     }
 }
 
-// What counts of the value of an entry's member: its id and its status, where they are of the form,
-// and the type of its error, unless it has none.
+// What is kept of the value of an entry's member: its id and its status, if they are valid, and the
+// type of its error, if it has one.
 #[derive(Drop)]
 struct EntryFields<'t> {
     id: Option<&'t str>,
@@ -117,7 +116,7 @@ impl<'t> Fields<'t> for EntryFields<'t> {
     }
 }
 
-// The longest front of a text that has at most the limit's bytes and ends where a character does.
+// The longest prefix that is within the limit and ends at a character boundary.
 fn cut(text: &str) -> &str
     ensures { IsCut error_limit text.now result.now }
 {
@@ -134,7 +133,7 @@ fn error_text(alloc: Global, error: Option<&str>) -> Result<Option<Text>, AllocE
     }
 }
 
-// The outcome that an entry says whose one member has this name, if it says one.
+// The outcome of an entry whose only member has this name, if the entry is valid.
 fn outcome_of(
     alloc: Global,
     name: &str,
@@ -161,7 +160,7 @@ fn outcome_of(
     }))
 }
 
-// The outcome that the next value says, if it is an entry that says one.
+// The outcome of the next value, if it is a valid entry.
 fn read_entry(alloc: Global, walk: &mut Walk<'_>) -> Result<Option<Outcome>, ReadFault>
     ensures ok { IfOk result (λ r. (d : Data) × IsRead walk.old d walk.new
         × MatchOption r (IsNoEntry d) (IsEntry d)) }
@@ -173,12 +172,12 @@ fn read_entry(alloc: Global, walk: &mut Walk<'_>) -> Result<Option<Outcome>, Rea
     Ok(outcome_of(alloc, name, &fields).map_err(|_| ReadFault::Memory)?)
 }
 
-// What entries say, up to the first that says no outcome.
+// What entries say, up to the first invalid one.
 #[derive(Drop)]
 struct Entries {
     alloc: Global,
     outcomes: Vec<Outcome>,
-    // Whether the entry after these outcomes says none.
+    // Whether the entry after these outcomes is invalid.
     has_bad: bool,
 }
 
@@ -212,7 +211,7 @@ impl<'t> Collect<'t> for Entries {
     }
 }
 
-// What counts of a reply.
+// What is kept of a reply.
 #[derive(Drop)]
 struct Reply {
     alloc: Global,
@@ -234,17 +233,17 @@ impl<'t> Gather<'t> for Reply {
     }
 }
 
-/// The outcomes that the body of a reply of status 200 says, one for each entry, in their order.
+/// The outcomes in the body of a reply of status 200, one for each entry, in order.
 ///
 /// A reply is a JSON object with a member `items`, an array (OpenSearch, bulk API). An entry is an
-/// object of one member named `index` or `delete`, whose value is an object with `_id`, a text, and
-/// `status`, an integer from 100 to 599. `error`, where it is there and not null, gives its member
-/// `type`, cut to the longest front of at most 64 bytes that ends at a character; where it tells no
-/// text it gives the empty text. All other members are not looked at. The faults are those of
-/// [`ReplyFault`], the first that holds; an error keeps nothing.
+/// object with one member named `index` or `delete`, whose value is an object with `_id`, a string,
+/// and `status`, an integer from 100 to 599. If `error` is present and not null, the outcome has
+/// its member `type`, cut to the longest prefix of at most 64 bytes that ends at a character
+/// boundary, or the empty text if `type` is not a string. All other members are ignored. The fault
+/// is the first of [`ReplyFault`] that applies, and then no outcomes are returned.
 ///
-/// The room for reading is made here, and no contract sees that memory is refused, so no clause says
-/// that `Memory` comes only then.
+/// Contracts do not see whether an allocation fails, so no clause says that `Memory` is returned
+/// only then.
 pub fn read_reply(alloc: Global, bytes: &[u8]) -> Result<Vec<Outcome>, ReplyFault>
     ensures ok { IfOk result (λ v. IsReply bytes.now v.items) }
     ensures err { IfErr result (λ e. IsFaultOf bytes.now e) }
@@ -255,7 +254,7 @@ pub fn read_reply(alloc: Global, bytes: &[u8]) -> Result<Vec<Outcome>, ReplyFaul
     }
 }
 
-// The outcomes that a reply of any form says.
+// The same for replies that are not in the usual form.
 fn parse_reply(alloc: Global, bytes: &[u8]) -> Result<Vec<Outcome>, ReplyFault>
     ensures ok { IfOk result (λ v. IsReply bytes.now v.items) }
     ensures err { IfErr result (λ e. IsFaultOf bytes.now e) }

@@ -10,7 +10,7 @@ use relay_action::{ActionKind, Text};
 use relay_json::{after, take_decimal, take_plain};
 use std::alloc::Global;
 
-// What an entry says of the document.
+// The part of an entry that names the document.
 #[derive(Clone, Copy)]
 struct Document<'t> {
     kind: ActionKind,
@@ -19,14 +19,14 @@ struct Document<'t> {
     id: &'t str,
 }
 
-// What it says was done.
+// The part that says what was done.
 #[derive(Clone, Copy)]
 struct Applied<'t> {
     version: u64,
     result: &'t str,
 }
 
-// On how many copies of the shard.
+// The number of copies of the shard.
 #[derive(Clone, Copy)]
 struct Shards {
     total: u64,
@@ -34,7 +34,7 @@ struct Shards {
     failed: u64,
 }
 
-// Its place among all writes of the shard, and its status.
+// The place of the write in the shard, and its status.
 #[derive(Clone, Copy)]
 struct Place {
     seq_no: u64,
@@ -50,10 +50,9 @@ struct Entry<'t> {
     place: Place,
 }
 
-/// The outcomes that a reply in the usual form says: what OpenSearch answers where every action of a
-/// request was applied, in the order in which it writes the members, with no blank, and with texts of
-/// ASCII characters that stand for themselves. `None`: the reply has another form, or there was no
-/// memory.
+/// The outcomes of a reply in the usual form: what OpenSearch returns if every action of a request
+/// was applied, with the members in its order, without blanks, and with texts of ASCII characters
+/// that stand for themselves. `None`: the reply has another form, or an allocation failed.
 pub fn read_usual(alloc: Global, bytes: &[u8]) -> Option<Vec<Outcome>>
     ensures { IfSome result (λ v. IsReply bytes.now v.items) }
 {
@@ -65,14 +64,14 @@ pub fn read_usual(alloc: Global, bytes: &[u8]) -> Option<Vec<Outcome>>
     if is_end(rest) { Some(outcomes) } else { None }
 }
 
-// Whether nothing stands there but the end of a reply.
+// Whether only the end of a reply is left.
 fn is_end(bytes: &[u8]) -> bool
     ensures { IsTrue result → bytes.now ≡ codes "]}" }
 {
     matches!(bytes, [b']', b'}'])
 }
 
-// The head of a reply and its first entry, whose outcome is added; what follows it.
+// Takes the head of a reply and its first entry, adds its outcome, and returns what follows.
 fn take_first<'t>(alloc: Global, bytes: &'t [u8], outcomes: &mut Vec<Outcome>) -> Option<&'t [u8]>
     requires { outcomes.old.items ≡ [] }
     ensures { IfSome result (λ rest. HasRead bytes.now outcomes.new.items rest.now) }
@@ -81,7 +80,7 @@ fn take_first<'t>(alloc: Global, bytes: &'t [u8], outcomes: &mut Vec<Outcome>) -
     take_outcome(alloc, rest, outcomes)
 }
 
-// The time that a reply says was taken, in milliseconds, and its entries and what follows them.
+// The time in milliseconds that the reply gives, and its entries with what follows them.
 fn take_head(bytes: &[u8]) -> Option<(u64, &[u8])>
     ensures { IfSome result (λ h. bytes.now ≡ head_text h.0 h.1.now) }
 {
@@ -89,7 +88,7 @@ fn take_head(bytes: &[u8]) -> Option<(u64, &[u8])>
     Some((took, after(rest, b",\"errors\":false,\"items\":[")?))
 }
 
-// The entry in front, whose outcome is added; what follows it.
+// Takes the next entry, adds its outcome, and returns what follows.
 fn take_outcome<'t>(alloc: Global, bytes: &'t [u8], outcomes: &mut Vec<Outcome>) -> Option<&'t [u8]>
     ensures entry { IfSome result (λ rest. (e : EntryModel) × IsUsual e × (bytes.now ≡ entry_text e rest.now)
         × (outcomes.new.items ≡ outcomes.old.items ++ outcome_of e ∷ [])) }
@@ -100,7 +99,7 @@ fn take_outcome<'t>(alloc: Global, bytes: &'t [u8], outcomes: &mut Vec<Outcome>)
     Some(rest)
 }
 
-// The outcome that an entry says, where its status is one.
+// The outcome of an entry, if its status is valid.
 fn outcome(alloc: Global, entry: &Entry<'_>) -> Option<Outcome>
     ensures outcome { IfSome result (λ o. o ≡ outcome_of entry.now) }
     ensures status { IfSome result (λ o. (100 ≤ entry.now.place.status) × (entry.now.place.status ≤ 599)) }
@@ -117,7 +116,7 @@ fn outcome(alloc: Global, entry: &Entry<'_>) -> Option<Outcome>
     })
 }
 
-// The entry in front, and what follows it.
+// The next entry, and what follows it.
 fn take_entry(bytes: &[u8]) -> Option<(Entry<'_>, &[u8])>
     ensures text { IfSome result (λ e. bytes.now ≡ entry_text e.0 e.1.now) }
     ensures parts { IfSome result (λ e. IsDocument e.0.document × IsApplied e.0.applied × AreShards e.0.shards × IsPlace e.0.place) }
@@ -162,7 +161,7 @@ fn take_start(bytes: &[u8]) -> Option<(ActionKind, &[u8])>
     Some((ActionKind::Delete, rest))
 }
 
-// A plain text that stands in quotes, of which the first was taken, and what follows the comma after it.
+// A plain text up to its closing quote, and what follows the comma after it.
 fn take_text(bytes: &[u8]) -> Option<(&str, &[u8])>
     ensures text { IfSome result (λ t. bytes.now ≡ t.0.now ++ (codes "\"," ++ t.1.now)) }
     ensures plain { IfSome result (λ t. IsPlain t.0.now) }

@@ -1,4 +1,4 @@
-//! Replies written.
+//! Writing replies.
 ghost use Rattle.std.specs.Prelude.{◌≡◌, IfOk, string_bytes};
 ghost use Rattle.serde_json.specs.Data.{object, array};
 ghost use Rattle.serde_json.specs.View.{view, items_view};
@@ -11,7 +11,7 @@ use relay_action::ActionKind;
 use serde_json::{Value, json};
 use std::alloc::{AllocError, Global};
 
-// The name of a result where the write was applied.
+// The name of a result, if the write was applied.
 fn result_name(result_of: DoneResult) -> &'static str
     ensures { result.now ≡ result_name result_of }
 {
@@ -24,7 +24,7 @@ fn result_name(result_of: DoneResult) -> &'static str
     }
 }
 
-// What stands in the entry of an item.
+// The members of an item's entry.
 fn fields_value(alloc: Global, done: &ItemDone) -> Result<Value, AllocError>
     ensures { IfOk result (λ v. view v ≡ object (fields_by done.now (failure done.now.result))) }
 {
@@ -43,7 +43,6 @@ fn fields_value(alloc: Global, done: &ItemDone) -> Result<Value, AllocError>
     }
 }
 
-// The entry of an item.
 fn entry_value(alloc: Global, done: &ItemDone) -> Result<Value, AllocError>
     ensures { IfOk result (λ v. view v ≡ entry_data done.now) }
 {
@@ -54,7 +53,6 @@ fn entry_value(alloc: Global, done: &ItemDone) -> Result<Value, AllocError>
     }
 }
 
-// The entries of items.
 fn entries_value(alloc: Global, items: &[ItemDone]) -> Result<Value, AllocError>
     ensures { IfOk result (λ v. view v ≡ array (entries_data items.now)) }
 {
@@ -65,14 +63,13 @@ fn entries_value(alloc: Global, items: &[ItemDone]) -> Result<Value, AllocError>
     Ok(Value::Array(entries))
 }
 
-// Whether nothing was done for one of the items.
+// Whether one of the items is a conflict or was refused.
 fn has_failure(items: &[ItemDone]) -> bool
     ensures { result ≡ list_any is_failure items.now }
 {
     items.iter().any(|done| done.result.failure().is_some())
 }
 
-// What a reply says.
 fn reply_value(alloc: Global, took: u64, items: &[ItemDone]) -> Result<Value, AllocError>
     ensures { IfOk result (λ v. view v ≡ reply_data took items.now) }
 {
@@ -81,12 +78,12 @@ fn reply_value(alloc: Global, took: u64, items: &[ItemDone]) -> Result<Value, Al
     json!(in alloc; {"errors": errors, "items": entries, "took": took})
 }
 
-/// The reply to a request whose items these are, in their order: one line of JSON with no space and
-/// its keys in byte order, `{"errors":B,"items":[..],"took":N}` (OpenSearch, bulk API, response).
-/// `took` is a number of milliseconds, and `errors` is true where an item is `Conflict` or
-/// `Refused`. An item that was applied has `_id`, `_index`, `_seq_no`, `_version`, `result` and
-/// `status`, any other `_id`, `_index`, `error` and `status`. Where each status is from 100 to 599,
-/// reading it gives the outcome of each item. `AllocError`: there was no memory for it.
+/// The reply to a request with these items, in order: one line of JSON without spaces and with its
+/// keys in byte order, `{"errors":B,"items":[..],"took":N}` (OpenSearch, bulk API, response).
+/// `took` is in milliseconds, and `errors` is true if an item is `Conflict` or `Refused`. An item
+/// that was applied has `_id`, `_index`, `_seq_no`, `_version`, `result` and `status`, any other
+/// `_id`, `_index`, `error` and `status`. If each status is from 100 to 599, reading the reply
+/// gives the outcome of each item. `AllocError`: allocation failed.
 #[tactic(auto, unfolding(crate::specs::Done::reply_text))]
 pub fn write_reply(alloc: Global, took: u64, items: &[ItemDone]) -> Result<String, AllocError>
     ensures text { IfOk result (λ s. string_bytes s ≡ reply_text took items.now) }

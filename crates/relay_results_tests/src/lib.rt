@@ -1,4 +1,5 @@
-//! The tests of `relay_results`: replies read and written, matching, verdicts, and refused allocations.
+//! The tests of `relay_results`: reading and writing replies, matching, verdicts, and failed
+//! allocations.
 #![tactic(auto)]
 
 #[cfg(test)]

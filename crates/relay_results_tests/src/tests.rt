@@ -1,4 +1,4 @@
-//! Replies read and written, matching, verdicts, and refused allocations.
+//! Reading and writing replies, matching, verdicts, and failed allocations.
 use relay_action::{Action, ActionFault, ActionKind, DocKey, Text, Write};
 use relay_results::{
     DoneResult, ItemDone, ItemVerdict, Outcome, ReplyFault, matches, read_reply, verdict,
@@ -23,7 +23,7 @@ fn one_index(alloc: Global) -> Result<Vec<Write>, Fail> {
     Ok(writes)
 }
 
-// So many arrays, one in the other, between a front and a back.
+// Nested arrays, this many, between a front and a back.
 fn nested(alloc: Global, front: &str, count: usize, back: &str) -> Result<String, AllocError> {
     let mut text = String::from_str(alloc, front)?;
     for _ in 0..count {
@@ -75,7 +75,7 @@ fn says_one(
     Ok(outcomes.len() == 1 && outcomes[0].status == status && has_error(&outcomes[0], error))
 }
 
-// Whether a reply is one to a request.
+// Whether a reply matches a request.
 fn fits(alloc: Global, text: &str, request: &[Write]) -> Result<bool, ReplyFault> {
     let outcomes = read_reply(alloc, text.as_bytes())?;
     Ok(matches(outcomes.as_slice(), request))
@@ -148,7 +148,7 @@ fn faults(rt: HostRuntime) {
     }
 }
 
-// JSON nests at most 127 deep, also in a member that nobody looks at.
+// JSON is nested at most 127 deep, even in a member that is not looked at.
 #[test]
 fn depth(rt: HostRuntime) -> Result<(), Fail> {
     let alloc = rt.alloc();
@@ -230,7 +230,7 @@ const ENTRIES: [(&str, u16, Option<&str>, bool); 10] = [
     ),
 ];
 
-// Whether a reply has one entry with this status and error, and whether it is one to a request.
+// Whether a reply has one entry with this status and error, and whether it matches a request.
 fn says_one_that_fits(
     alloc: Global,
     text: &str,
@@ -244,7 +244,7 @@ fn says_one_that_fits(
     ))
 }
 
-// What one entry says, and whether the reply is one to an index write of id `1`.
+// The content of a single entry, and whether the reply matches an index write of id `1`.
 #[test]
 fn entries(rt: HostRuntime) -> Result<(), Fail> {
     let request = one_index(rt.alloc())?;
@@ -255,7 +255,7 @@ fn entries(rt: HostRuntime) -> Result<(), Fail> {
     Ok(())
 }
 
-// A reply without entries is one to no request that has items.
+// A reply without entries matches no request that has items.
 #[test]
 fn no_entries(rt: HostRuntime) -> Result<(), Fail> {
     let request = one_index(rt.alloc())?;
@@ -273,7 +273,7 @@ const USUAL: [&str; 5] = [
     "]}",
 ];
 
-// The place of a part, what stands there in its stead, and the fault of that reply.
+// The position of a part, its replacement, and the fault of that reply.
 const FORMS: [(usize, &str, Option<ReplyFault>); 16] = [
     (4, "]}", None),
     (
@@ -317,7 +317,7 @@ const FORMS: [(usize, &str, Option<ReplyFault>); 16] = [
     (4, ",]}", Some(ReplyFault::NotJson)),
 ];
 
-// The reply with a part in the place of the usual one.
+// The reply with a part in place of the usual one.
 fn with_part(alloc: Global, place: usize, part: &str) -> Result<String, AllocError> {
     let mut text = String::new(alloc);
     for (at, usual) in USUAL.iter().enumerate() {
@@ -326,7 +326,7 @@ fn with_part(alloc: Global, place: usize, part: &str) -> Result<String, AllocErr
     Ok(text)
 }
 
-// Whether a reply with that part says of one delete of the document 1 that its status is 200, with no
+// Whether a reply with that part has one entry, a delete of the document 1 with status 200 and no
 // error.
 fn says_one_delete(alloc: Global, place: usize, part: &str) -> Result<bool, ReplyFault> {
     let text = with_part(alloc, place, part).map_err(|_| ReplyFault::Memory)?;
@@ -334,7 +334,7 @@ fn says_one_delete(alloc: Global, place: usize, part: &str) -> Result<bool, Repl
     Ok(outcomes.len() == 1 && is_entry(&outcomes[0], ActionKind::Delete, "1", 200, None))
 }
 
-// The outcome of a delete is said by a reply in the usual form, and the same by one in another form; a
+// The outcome of a delete in a reply in the usual form, and the same in one in another form; a
 // fault is found in both.
 #[test]
 fn forms_of_replies(rt: HostRuntime) {
@@ -344,7 +344,7 @@ fn forms_of_replies(rt: HostRuntime) {
     }
 }
 
-// All entries of a reply in the usual form, in their order.
+// All entries of a reply in the usual form, in order.
 #[test]
 fn entries_in_the_usual_form(rt: HostRuntime) -> Result<(), Fail> {
     let text = b"{\"took\":7,\"errors\":false,\"items\":[\
@@ -441,7 +441,8 @@ fn matching(rt: HostRuntime) -> Result<(), Fail> {
     Ok(())
 }
 
-// A kind, a status, whether there is an error, the sends, the attempts and the most of them, and the verdict.
+// A kind, a status, whether there is an error, the sends, the attempts and their maximum, and the
+// verdict.
 const VERDICTS: &[(ActionKind, u16, bool, u32, u32, u32, ItemVerdict)] = &[
     (ActionKind::Index, 200, false, 1, 1, 3, ItemVerdict::Applied),
     (ActionKind::Index, 299, false, 5, 5, 3, ItemVerdict::Applied),
@@ -486,7 +487,7 @@ fn verdicts(rt: HostRuntime) {
     }
 }
 
-// What the index did with an item of `b/2`.
+// The result of an item of `b/2`.
 fn done_of(
     alloc: Global,
     kind: ActionKind,
@@ -505,7 +506,7 @@ fn done_of(
     })
 }
 
-// The first so many of six items of `b/2`, one for each result.
+// The first `count` of six items of `b/2`, one for each result.
 fn first_items(alloc: Global, count: usize) -> Result<Vec<ItemDone>, Fail> {
     let rows = [
         (ActionKind::Delete, 404u16, DoneResult::NotFound, 5u64, 0u64),
@@ -522,7 +523,7 @@ fn first_items(alloc: Global, count: usize) -> Result<Vec<ItemDone>, Fail> {
     Ok(items)
 }
 
-// Whether a reply has the outcomes of these items, in their order.
+// Whether a reply has the outcomes of these items, in order.
 fn reads_back(alloc: Global, text: &str, items: &[ItemDone]) -> Result<bool, Fail> {
     let outcomes = read_reply(alloc, text.as_bytes())?;
     let mut same = outcomes.len() == items.len();
@@ -532,7 +533,7 @@ fn reads_back(alloc: Global, text: &str, items: &[ItemDone]) -> Result<bool, Fai
     Ok(same)
 }
 
-// Whether the reply to the first so many items is this text, and reads back.
+// Whether the reply to the first `count` items is this text, and reads back.
 fn is_written(alloc: Global, took: u64, count: usize, wanted: &str) -> Result<bool, Fail> {
     let items = first_items(alloc, count)?;
     let text = write_reply(alloc, took, items.as_slice())?;
@@ -575,7 +576,7 @@ fn is_same(a: &Outcome, b: &Outcome) -> bool {
     a.kind == b.kind && a.id == b.id && a.status == b.status && a.error == b.error
 }
 
-// How many outcomes a reply has, by a second call where the first was refused memory.
+// How many outcomes a reply has, by a second call if the first one's allocation failed.
 fn read_again(alloc: Global, text: &[u8]) -> Result<usize, ReplyFault> {
     match read_reply(alloc, text) {
         Err(ReplyFault::Memory) => Ok(read_reply(alloc, text)?.len()),
@@ -583,7 +584,7 @@ fn read_again(alloc: Global, text: &[u8]) -> Result<usize, ReplyFault> {
     }
 }
 
-// An item at a conflict, by a second call where the first was refused memory.
+// An item with a conflict, by a second call if the first one's allocation failed.
 fn conflict_again(alloc: Global) -> Result<ItemDone, ActionFault> {
     match done_of(alloc, ActionKind::Index, 409, DoneResult::Conflict, 0, 0) {
         Err(ActionFault::Memory) => {
@@ -593,7 +594,7 @@ fn conflict_again(alloc: Global) -> Result<ItemDone, ActionFault> {
     }
 }
 
-// An item's outcome, by a second call where the first was refused memory.
+// The outcome of an item, by a second call if the first one's allocation failed.
 fn outcome_again(alloc: Global, item: &ItemDone) -> Result<Outcome, AllocError> {
     match item.outcome(alloc) {
         Ok(outcome) => Ok(outcome),
@@ -601,7 +602,7 @@ fn outcome_again(alloc: Global, item: &ItemDone) -> Result<Outcome, AllocError> 
     }
 }
 
-// The reply to items, by a second call where the first was refused memory.
+// The reply to items, by a second call if the first one's allocation failed.
 fn write_again(alloc: Global, items: &[ItemDone]) -> Result<String, AllocError> {
     match write_reply(alloc, 1, items) {
         Ok(reply) => Ok(reply),
@@ -609,7 +610,7 @@ fn write_again(alloc: Global, items: &[ItemDone]) -> Result<String, AllocError> 
     }
 }
 
-// Each refused allocation is answered as out of memory, and a second call finds the memory.
+// A failed allocation is reported as out of memory, and a second call succeeds.
 #[test]
 fn refusals(rt: HostRuntime) -> Result<(), Fail> {
     let text =
@@ -625,7 +626,7 @@ fn refusals(rt: HostRuntime) -> Result<(), Fail> {
     Ok(())
 }
 
-// Whether the outcome of an item of `b/2` with this result says the same with this error.
+// Whether the outcome of an item of `b/2` with this result has the same error.
 fn has_outcome(
     alloc: Global,
     became: DoneResult,

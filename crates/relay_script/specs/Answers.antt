@@ -26,7 +26,7 @@ refusal_name no.NoSuch = codes "NoSuch"
 refusal_name no.NumbersSpent = codes "NumbersSpent"
 refusal_name no.NotAbove = codes "NotAbove"
 
--- how the operations of a request ended: applied by it, applied already, reported, to be sent again
+-- how the operations of a request ended: applied by it, already applied, reported, to be sent again
 abbrev pub counts_text : Settled → List ℕ
 counts_text counts = spaced counts.applied ++ spaced counts.already ++ spaced counts.reported ++ spaced counts.retried
 
@@ -34,12 +34,12 @@ counts_text counts = spaced counts.applied ++ spaced counts.already ++ spaced co
 abbrev pub item_text : DocKey × ℕ → List ℕ
 item_text i = codes " " ++ document_text i.0 ++ codes "@" ++ decimal i.1
 
--- these are the documents and versions of the items of a request from a number on, and after them there is none
+-- these are the documents and versions of the items of a request from this one on, and there are no others
 abbrev pub AreItems : World → ℕ → ℕ → List (DocKey × ℕ) → Type 0
 AreItems w request item [] = write_at w request item ≡ None
 AreItems w request item (i ∷ is) = IsWriteAt w request item i.0 i.1 × AreItems w request (item + 1) is
 
--- what answers an event, where the world after it is this
+-- the answer to an event, given the world after it
 abbrev pub IsAnswer : World → StepAnswer → List ℕ → Type 0
 IsAnswer w (answer.Refused refusal) text = text ≡ codes "no " ++ refusal_name refusal
 IsAnswer w (answer.Put name) text = text ≡ codes "ok " ++ name_text name
@@ -49,7 +49,7 @@ IsAnswer w (answer.Ran status) text = text ≡ codes "ok" ++ spaced status
 IsAnswer w (answer.Settled counts) text = text ≡ codes "ok" ++ counts_text counts
 IsAnswer w answer.Done text = text ≡ codes "ok"
 
--- the same with the end of its line
+-- the same with the line end
 abbrev pub IsAnswerLine : World → StepAnswer → List ℕ → Type 0
 IsAnswerLine w x line = (text : List ℕ) × IsAnswer w x text × (line ≡ text ++ line_end)
 

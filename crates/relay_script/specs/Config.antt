@@ -12,7 +12,7 @@ abbrev pub all_fit : List ℕ → Bool
 all_fit [] = true
 all_fit (n ∷ ns) = nat_lt n (2 ^ 32) && all_fit ns
 
--- eleven numbers are a config, in this order; all but the bytes and how many versions are dealt have 32 bits
+-- the config with these eleven numbers, in this order; all but the bytes and the number of versions have 32 bits
 abbrev pub config_of : List ℕ → Option RelayConfig
 config_of (lanes ∷ producers ∷ capacity ∷ held ∷ count ∷ bytes ∷ linger ∷ attempts ∷ flying ∷ epoch ∷ deal ∷ []) =
     if all_fit (lanes ∷ producers ∷ capacity ∷ held ∷ count ∷ linger ∷ attempts ∷ flying ∷ epoch ∷ []) then Some (record {
@@ -28,7 +28,7 @@ config_of (lanes ∷ producers ∷ capacity ∷ held ∷ count ∷ bytes ∷ lin
     }) else None
 config_of other = None
 
--- the word `world` and the eleven numbers of a config that is valid
+-- the word `world` and the eleven numbers of a valid config
 pub record IsConfigLine (line : List ℕ) (config : RelayConfig) : Type 0 where
   pub utf8 : IsUtf8 line
   pub rest : List ℕ
@@ -38,7 +38,7 @@ pub record IsConfigLine (line : List ℕ) (config : RelayConfig) : Type 0 where
   pub of_numbers : config_of numbers ≡ Some config
   pub valid : is_valid config ≡ true
 
--- why a line gives no config: it is that of none, or memory ran out
+-- why a line has no config: it is not the line of one, or an allocation failed
 abbrev pub IsConfigFault : List ℕ → LineFault → Type 0
 IsConfigFault line fault.Bad = (config : RelayConfig) → IsConfigLine line config → ⊥
 IsConfigFault line fault.Memory = Unit {0}

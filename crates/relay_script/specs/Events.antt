@@ -47,7 +47,7 @@ abbrev pub restart_of : List ℕ → Option Event
 restart_of (epoch ∷ []) = if fits 32 epoch then Some (event.Restart epoch) else None
 restart_of other = None
 
--- a request and its picks, if there are any
+-- a request, and its picks if there are any
 abbrev pub reply_of : List ℕ → Option Event
 reply_of [] = None
 reply_of (request ∷ picks) = Some (event.Reply request picks)
@@ -73,13 +73,13 @@ abbrev pub AsksFor : List ℕ → Action → Type 0
 AsksFor text (Index source) = Begins text (codes "index") source.text
 AsksFor text Delete = text ≡ codes "delete"
 
--- the index name and the id of a document, and what stands after them
+-- the index name and the id of a document, and what follows them
 pub record IsKey (text : List ℕ) (key : DocKey) (rest : List ℕ) : Type 0 where
   pub middle : List ℕ
   pub index : Begins text key.index middle
   pub id : Begins middle key.id rest
 
--- a producer, a document, and what is done to it
+-- a producer, a document, and the action on it
 pub record IsPut (text : List ℕ) (producer : ℕ) (key : DocKey) (action : Action) : Type 0 where
   pub word : List ℕ
   pub after_word : List ℕ
@@ -96,7 +96,7 @@ Puts text other = ⊥
 
 -- ---- all events
 
--- what stands after the word of an event
+-- what follows the word of an event
 abbrev pub Follows : List ℕ → List ℕ → Event → Type 0
 Follows word rest e =
     ((word ≡ codes "put") × Puts rest e)
@@ -109,14 +109,14 @@ pub record IsEventLine (line : List ℕ) (e : Event) : Type 0 where
   pub begins : Begins line word rest
   pub follows : Follows word rest e
 
--- why a line gives no event: no event has this line, or memory ran out
+-- why a line has no event: no event has this line, or an allocation failed
 abbrev pub IsLineFault : List ℕ → LineFault → Type 0
 IsLineFault line fault.Bad = (e : Event) → IsEventLine line e → ⊥
 IsLineFault line fault.Memory = Unit {0}
 
--- ---- why a part of a line is none: it has another form, or memory ran out
+-- ---- why a part of a line is invalid: it has another form, or an allocation failed
 
--- out of memory is a fault of its own
+-- a failed allocation has its own fault
 abbrev pub fault_of : ActionFault → LineFault
 fault_of action.Memory = fault.Memory
 fault_of other = fault.Bad

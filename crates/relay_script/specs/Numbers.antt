@@ -1,29 +1,29 @@
--- Numbers of a line.
+-- The numbers in a line.
 use Rattle.std.specs.Prelude.{◌≡◌, ℕ, ◌<◌, ◌^◌, List, [], ◌∷◌}
 use Rattle.std.specs.Str.Parse.{IsNumeral, digits_value}
 use Rattle.relay_script.specs.Words.{Begins}
 use Rattle.relay_script.specs.declared.event_line.LineFault.{LineFault}
 use Rattle.relay_script.specs.declared.event_line.LineFault.TheVariants as fault
 
--- decimal digits, one or more, for a number of 64 bits; there is no sign, and leading zeros mean nothing
+-- one or more decimal digits of a number of 64 bits, without a sign; leading zeros have no meaning
 pub record IsNumber (word : List ℕ) (n : ℕ) : Type 0 where
   pub digits : IsNumeral 10 word
   pub value : digits_value 10 word ≡ n
   pub within : n < 2 ^ 64
 
--- numbers, one or more, with a space between each two
+-- one or more numbers, separated by single spaces
 abbrev pub AreNumbers : List ℕ → List ℕ → Type 0
 AreNumbers text [] = ⊥
 AreNumbers text (n ∷ []) = IsNumber text n
 AreNumbers text (n ∷ m ∷ ns) =
     (word : List ℕ) × (rest : List ℕ) × Begins text word rest × IsNumber word n × AreNumbers rest (m ∷ ns)
 
--- why a word gives no number: it is none, or memory ran out
+-- why a word has no number: it is not one, or an allocation failed
 abbrev pub IsWordFault : List ℕ → LineFault → Type 0
 IsWordFault word fault.Bad = (n : ℕ) → IsNumber word n → ⊥
 IsWordFault word fault.Memory = Unit {0}
 
--- why a text gives no numbers: it is none, or memory ran out
+-- why a text has no numbers: it has another form, or an allocation failed
 abbrev pub IsNumbersFault : List ℕ → LineFault → Type 0
 IsNumbersFault text fault.Bad = (ns : List ℕ) → AreNumbers text ns → ⊥
 IsNumbersFault text fault.Memory = Unit {0}

@@ -1,4 +1,4 @@
--- A script: what is taken of its lines, what is played, and what is written.
+-- A script: the lines that are taken, the events that are played, and what is written.
 use Rattle.std.specs.Prelude.{◌≡◌, ◌⊎◌, ℕ, ◌+◌, ◌≤◌, List, [], ◌∷◌, ◌++◌, length, Bool, true, false, Option, None, Some, Result, Ok, Err}
 use Rattle.std.specs.Io.KnownBytes.{append_known, prepend_known, IsAtEnd}
 use Rattle.relay_action.specs.Streams.{one_more}
@@ -24,19 +24,19 @@ use Rattle.relay_script.specs.declared.playing.Next.TheVariants.{Played, Ended}
 use Rattle.relay_script.specs.declared.script.ScriptFault.{ScriptFault}
 use Rattle.relay_script.specs.declared.script.ScriptFault.TheVariants as fault
 
--- the most lines of a script
+-- the maximum number of lines of a script
 abbrev pub line_count : ℕ
 line_count = 1000000
 
 -- ---- lines
 
--- events were taken from the front of a stream, each from the line at the front
+-- events were taken from the front of a stream, one line each
 abbrev pub TakesEvents : Option (List ℕ) → Option (List ℕ) → List Event → Type 0
 TakesEvents old new [] = new ≡ old
 TakesEvents old new (e ∷ es) =
     (mid : Option (List ℕ)) × (text : List ℕ) × TakesText old mid text × IsEventLine text e × TakesEvents mid new es
 
--- the line at the front, after so many lines, is longer than a line may be, or one more than a script may have
+-- the next line is too long, or one more than a script may have
 abbrev pub IsNoLine : ℕ → Option (List ℕ) → Type 0
 IsNoLine count front =
     IsLong front ⊎ ((text : List ℕ) × (rest : Option (List ℕ)) × TakesText front rest text × (line_count ≤ count))
@@ -47,20 +47,20 @@ IsNoEvent count front =
     IsNoLine count front
     ⊎ ((text : List ℕ) × (rest : Option (List ℕ)) × TakesText front rest text × ((e : Event) → IsEventLine text e → ⊥))
 
--- there is no first line, or it is longer than a line may be, or no config has it
+-- there is no first line, or it is too long, or no config has it
 abbrev pub IsNoConfig : Option (List ℕ) → Type 0
 IsNoConfig front =
     IsAtEnd front ⊎ IsNoLine 0 front
     ⊎ ((text : List ℕ) × (rest : Option (List ℕ)) × TakesText front rest text × ((c : RelayConfig) → IsConfigLine text c → ⊥))
 
--- no more than one line was used of what stands in front
+-- at most one line was used of what was at the front
 pub record UsesOneLine (old new : Option (List ℕ)) : Type 0 where
   pub used : List ℕ
   pub rest : old ≡ prepend_known used new
   pub part : IsOfOneLine used
   pub short : length used ≤ line_limit + 2
 
--- The same, where the reader has this left: besides, one piece at most was read of what stands behind.
+-- The same, given what the reader has left: besides, at most one piece was read beyond the line.
 pub record ReadsOn (front left : Option (List ℕ)) : Type 0 where
   pub held : List ℕ
   pub one_piece : length held ≤ piece_limit
@@ -77,19 +77,20 @@ Answers w (e ∷ es) new out =
 
 -- ---- the whole
 
--- Why no more events were played after so many, where this is in front of the stream. Of a failed read or write, and of
--- out of memory, the counts of the failed calls tell.
+-- Why no more events were played, given how many were and what is at the front of the stream. For a failed read or
+-- write and a failed allocation, the counts of failed calls say more.
 abbrev pub Stops : ℕ → Option (List ℕ) → Result Unit ScriptFault → Type 0
 Stops events front (Ok x) = IsAtEnd front
 Stops events front (Err (fault.BadLine line)) = (line ≡ events + 2) × IsNoEvent (events + 1) front
 Stops events front (Err other) = Unit {0}
 
--- the lines of an ending come where no line is left, and else there are none
+-- there are lines at the end if no line of the script is left, otherwise none
 abbrev pub MayEnd : Option (List ℕ) → List ℕ → Type 0
 MayEnd rest ending = IsAtEnd rest ⊎ (ending ≡ [])
 
--- What was written, where these lines answer the events and this is in front of the stream: all of them; at the end the lines of how it ended too; after a
--- failed write exactly so many first bytes of these and not all, after out of memory some.
+-- What was written, given the lines that answer the events and what is at the front of the stream: all of them, and
+-- at the end the lines that say how it ended; after a failed write exactly the first `sent` bytes of these, fewer
+-- than all; after a failed allocation some prefix.
 abbrev pub Writes : Option (List ℕ) → Option (List ℕ) → Option (List ℕ) → List ℕ → Result Unit ScriptFault → Type 0
 Writes rest before after out (Ok x) = (ending : List ℕ) × (after ≡ append_known before (out ++ ending))
 Writes rest before after out (Err (fault.BadLine line)) = after ≡ append_known before out
@@ -98,8 +99,8 @@ Writes rest before after out (Err (fault.Write sent)) =
     (ending : List ℕ) × MayEnd rest ending × IsCut (opened before) (record { shown = after; sent = sent }) (out ++ ending)
 Writes rest before after out (Err fault.Memory) = (ending : List ℕ) × MayEnd rest ending × IsFront before after (out ++ ending)
 
--- The first line is that of a config, and events follow it, each on a line of its own. They are played on a fresh world, and
--- these lines answer them; that is why there were no more, and that was written.
+-- The first line is that of a config, and events follow, one line each. They are played on a fresh world, and these
+-- lines answer them; this is why there were no more, and this was written.
 pub record Runs (front left before after : Option (List ℕ)) (result : Result Unit ScriptFault) : Type 0 where
   pub text : List ℕ
   pub first : Option (List ℕ)
@@ -116,7 +117,7 @@ pub record Runs (front left before after : Option (List ℕ)) (result : Result U
   pub reads : ReadsOn rest left
   pub writes : Writes rest before after out result
 
--- No world was made, and nothing was written: the first line is at fault, or it could not be read, or memory ran out.
+-- No world was made, and nothing was written: the first line is bad, or could not be read, or an allocation failed.
 abbrev pub HasNoWorld : Option (List ℕ) → Option (List ℕ) → Option (List ℕ) → Result Unit ScriptFault → Type 0
 HasNoWorld front before after (Err (fault.BadLine line)) = (line ≡ 1) × IsNoConfig front × (after ≡ before)
 HasNoWorld front before after (Err fault.Read) = after ≡ before
@@ -127,8 +128,8 @@ abbrev pub IsScript : Option (List ℕ) → Option (List ℕ) → Option (List �
 IsScript front left before after result =
     Runs front left before after result ⊎ (HasNoWorld front before after result × ReadsOn front left)
 
--- Which calls failed: of the reader one where the answer is a failed read, of the writer one where it is a failed write;
--- a failed write may follow a failed read or lack of memory.
+-- Which calls failed: one of the reader if the result is a failed read, one of the writer if it is a failed write; a
+-- failed write may follow a failed read or allocation.
 abbrev pub FailsOnce : ℕ → ℕ → ℕ → ℕ → Result Unit ScriptFault → Type 0
 FailsOnce old new before after (Err fault.Read) = OneFails old new × NoneFails before after
 FailsOnce old new before after (Err (fault.Write sent)) = OneAtMost old new × OneFails before after
@@ -137,7 +138,7 @@ FailsOnce old new before after other = NoneFails old new × NoneFails before aft
 
 -- ---- for the steps
 
--- how many calls of a reader have failed after an answer
+-- the number of failed calls of a reader after this result
 abbrev pub failed_by : {T : Type 0} → Result T ScriptFault → ℕ → ℕ
 failed_by (Err fault.Read) n = one_more n
 failed_by other n = n
@@ -151,7 +152,7 @@ line_fault_by e other = fault.BadLine e.line
 abbrev pub line_fault : InputFault → ScriptFault
 line_fault e = line_fault_by e e.kind
 
--- the next line was taken, after so many; or there is none; or why not
+-- the next line was taken; or there is none; or why not
 abbrev pub TakesLine : Option (List ℕ) → Option (List ℕ) → ℕ → ℕ → List ℕ → Result Bool ScriptFault → Type 0
 TakesLine old new count after text (Ok true) = TakesText old new text × (after ≡ count + 1) × (after ≤ line_count)
 TakesLine old new count after text (Ok false) = IsAtEnd old × (new ≡ old) × (after ≡ count)
@@ -186,7 +187,7 @@ pub record PlaysOne (w : World) (e : Event) (new : World) (line : List ℕ) : Ty
   pub steps : Steps w e answer new
   pub says : IsAnswerLine new answer line
 
--- an event was played, and its answer was added to a text; or memory ran out
+-- an event was played, and its answer was added to a text; or an allocation failed
 abbrev pub PlaysEvent : World → Event → World → List ℕ → List ℕ → Result Unit ScriptFault → Type 0
 PlaysEvent w e next text longer (Ok x) = (line : List ℕ) × PlaysOne w e next line × (longer ≡ text ++ line)
 PlaysEvent w e next text longer (Err f) = (f ≡ fault.Memory) × (longer ≡ text)
@@ -204,7 +205,7 @@ PlaysNext old new count after w next text longer (Ok Ended) =
     TakesEvent old new count after (Ok None) × (next ≡ w) × (longer ≡ text)
 PlaysNext old new count after w next text longer (Err e) = HasNoEvent old count e × (longer ≡ text)
 
--- what has become of the lines that were taken, of the world, and of what was to be written
+-- the lines that were taken, the world, and what was to be written, so far
 pub record Underway (first now : Option (List ℕ)) (start world : World) (count : ℕ) (before : Sink) (text : List ℕ) (written : Sink) : Type 0 where
   pub events : List Event
   pub out : List ℕ
@@ -220,20 +221,20 @@ Leaves rest before text written out (Err (fault.Write sent)) = (ending : List �
 Leaves rest before text written out (Err fault.Memory) = (ending : List ℕ) × MayEnd rest ending × Flows (out ++ ending) [] before text written
 Leaves rest before text written out (Err other) = Flows out [] before text written
 
--- how many calls of a writer have failed after an answer
+-- the number of failed calls of a writer after this result
 abbrev pub unwritten_by : {T : Type 0} → Result T ScriptFault → ℕ → ℕ
 unwritten_by (Err (fault.Write sent)) n = one_more n
 unwritten_by other n = n
 
--- what became of a text, and of more that came to it, by how it ended
+-- what was done with a text, and with more that was added, by how it ended
 abbrev pub Passes : List ℕ → Sink → List ℕ → Sink → Result Unit ScriptFault → Type 0
 Passes text written rest after (Ok x) = (more : List ℕ) × Flows more text written rest after
 Passes text written rest after (Err (fault.Write sent)) = Breaks text written (record after { sent = sent })
 Passes text written rest after (Err fault.Memory) = (more : List ℕ) × Flows more text written rest after
 Passes text written rest after (Err other) = ⊥
 
--- events were taken and played until this answer: what is left of their answers is still to be written, but after a failed
--- write nothing is
+-- events were taken and played up to this result: what is left of their answers is still to be written, unless a
+-- write failed
 pub record Halts (first last : Option (List ℕ)) (start : World) (before : Sink) (text : List ℕ) (written : Sink) (result : Result Unit ScriptFault) : Type 0 where
   pub events : List Event
   pub rest : Option (List ℕ)
@@ -252,7 +253,7 @@ HasNoConfig front (Err fault.Read) = Unit {0}
 HasNoConfig front (Err fault.Memory) = Unit {0}
 HasNoConfig front other = ⊥
 
--- a config was taken, and then events were played on a fresh world of it
+-- a config was taken, and then events were played on its fresh world
 pub record Begins (front last : Option (List ℕ)) (before : Sink) (text : List ℕ) (written : Sink) (result : Result Unit ScriptFault) : Type 0 where
   pub line : List ℕ
   pub first : Option (List ℕ)
@@ -267,21 +268,21 @@ PlaysScript front last before text written result =
     Begins front last before text written result
     ⊎ (HasNoConfig front result × UsesOneLine front last × (text ≡ []) × (written ≡ before))
 
--- The text that was left was written, and the answer stays; or a write failed, with so many bytes out in all, and that is
--- the answer then.
+-- The text that was left was written, and the result is unchanged; or a write failed, with this many bytes written in
+-- all, and that is the result.
 abbrev pub ClosesOr : Result Unit ScriptFault → (ℕ → Result Unit ScriptFault) → List ℕ → Sink → ℕ → Option (List ℕ) → ℕ → Result Unit ScriptFault → Type 0
 ClosesOr answer broken text written failed after count result =
     ((result ≡ answer) × (after ≡ append_known written.shown text) × NoneFails failed count)
     ⊎ ((sent : ℕ) × (result ≡ broken sent) × IsCut written (record { shown = after; sent = sent }) text × OneFails failed count)
 
--- a failed write, and lack of memory, which stays the answer after one
+-- a failed write, and a failed allocation, which takes precedence
 abbrev pub failed_write : ℕ → Result Unit ScriptFault
 failed_write sent = Err (fault.Write sent)
 
 abbrev pub no_memory : ℕ → Result Unit ScriptFault
 no_memory sent = Err fault.Memory
 
--- whether an answer is a failed write, and what an answer becomes where a write fails after it
+-- whether a result is a failed write, and the result if a write fails after it
 abbrev pub is_failed_write : Result Unit ScriptFault → Bool
 is_failed_write (Err (fault.Write sent)) = true
 is_failed_write other = false
@@ -290,8 +291,8 @@ abbrev pub cut_short : Result Unit ScriptFault → ℕ → Result Unit ScriptFau
 cut_short (Err fault.Memory) sent = Err fault.Memory
 cut_short other sent = Err (fault.Write sent)
 
--- What becomes of an answer where text is still to be written: after a failed write nothing more is written; out of memory
--- stays the answer, also where a write fails.
+-- The result if text is still to be written: after a failed write nothing more is written; a failed allocation
+-- remains the result even if a write fails.
 abbrev pub Closes : Result Unit ScriptFault → List ℕ → Sink → ℕ → Option (List ℕ) → ℕ → Result Unit ScriptFault → Type 0
 Closes (Err (fault.Write sent)) text written failed after count result =
     (result ≡ Err (fault.Write sent)) × (after ≡ written.shown) × NoneFails failed count

@@ -1,8 +1,8 @@
--- The words of a line: one space (the byte 32) stands between each two, and none inside a word.
+-- The words of a line: they are separated by one space (the byte 32), and contain none.
 use Rattle.std.specs.Prelude.{◌≡◌, ℕ, List, ◌∷◌, ◌++◌, ◌==◌, false}
 use Rattle.std.specs.List.{list_any}
 
--- no space stands in the text
+-- the text contains no space
 abbrev pub IsWord : List ℕ → Type 0
 IsWord text = list_any (λ b. b == 32) text ≡ false
 

@@ -1,4 +1,4 @@
-//! What an event answers, as a line.
+//! The lines that answer events.
 ghost use Rattle.std.specs.Prelude.{◌≡◌, [], ◌++◌, codes, OnOk};
 ghost use Rattle.relay_script.specs.Answers.{AddsItems, IsAnswer, IsAnswerLine, counts_text, item_text, refusal_name};
 ghost use Rattle.relay_text.specs.Texts.{name_text, spaced};
@@ -9,8 +9,8 @@ use relay_text::{add_document, add_name, add_number, add_spaced};
 use relay_world::{Refusal, StepAnswer, World};
 use std::alloc::AllocError;
 
-/// Puts the line that answers an event in place of what the text has. The world is that after the event.
-/// `AllocError`: there was no memory for the line.
+/// Replaces the text by the line that answers an event. The world is the one after the event.
+/// `AllocError`: allocation failed.
 pub fn write_answer(world: &World, answer: StepAnswer, line: &mut Vec<u8>) -> Result<(), AllocError>
     ensures { OnOk result (IsAnswerLine world.now answer line.new.items) }
 {
@@ -20,7 +20,7 @@ pub fn write_answer(world: &World, answer: StepAnswer, line: &mut Vec<u8>) -> Re
     Ok(())
 }
 
-// Adds what answers an event to an empty line.
+// Adds the answer to an event to an empty line.
 fn add_answer(line: &mut Vec<u8>, world: &World, answer: StepAnswer) -> Result<(), AllocError>
     requires { line.old.items ≡ [] }
     ensures { OnOk result (IsAnswer world.now answer line.new.items) }
@@ -35,7 +35,6 @@ fn add_answer(line: &mut Vec<u8>, world: &World, answer: StepAnswer) -> Result<(
     }
 }
 
-// The name of a refusal.
 fn refusal_name(refusal: Refusal) -> &'static str
     ensures { result.now ≡ refusal_name refusal }
 {
@@ -55,7 +54,6 @@ fn refusal_name(refusal: Refusal) -> &'static str
     }
 }
 
-// Adds that an event is refused.
 fn add_refusal(line: &mut Vec<u8>, refusal: Refusal) -> Result<(), AllocError>
     ensures { OnOk result (line.new.items ≡ line.old.items ++ codes "no " ++ refusal_name refusal) }
 {
@@ -63,7 +61,6 @@ fn add_refusal(line: &mut Vec<u8>, refusal: Refusal) -> Result<(), AllocError>
     line.extend_from_slice(refusal_name(refusal).as_bytes())
 }
 
-// Adds that an operation is accepted.
 fn add_accepted(line: &mut Vec<u8>, name: OpName) -> Result<(), AllocError>
     ensures { OnOk result (line.new.items ≡ line.old.items ++ codes "ok " ++ name_text name) }
 {
@@ -71,7 +68,6 @@ fn add_accepted(line: &mut Vec<u8>, name: OpName) -> Result<(), AllocError>
     add_name(line, name)
 }
 
-// Adds that an item was run.
 fn add_ran(line: &mut Vec<u8>, status: u16) -> Result<(), AllocError>
     ensures { OnOk result (line.new.items ≡ line.old.items ++ codes "ok" ++ spaced status) }
 {
@@ -90,7 +86,7 @@ fn add_settled(line: &mut Vec<u8>, settled: Settled) -> Result<(), AllocError>
     add_spaced(line, settled.retried as u64)
 }
 
-// Adds that a request was sent, and its items.
+// Adds the request that was sent, and its items.
 fn add_sent(line: &mut Vec<u8>, world: &World, request: u64) -> Result<(), AllocError>
     ensures { OnOk result (AddsItems world.now request (line.old.items ++ codes "ok" ++ spaced request) line.new.items) }
 {
@@ -99,7 +95,6 @@ fn add_sent(line: &mut Vec<u8>, world: &World, request: u64) -> Result<(), Alloc
     add_items(line, world, request)
 }
 
-// Adds the items of a request.
 fn add_items(line: &mut Vec<u8>, world: &World, request: u64) -> Result<(), AllocError>
     ensures { OnOk result (AddsItems world.now request line.old.items line.new.items) }
 {

@@ -1,4 +1,4 @@
-//! The first line of a script, which says how the relay works.
+//! The first line of a script, which is the config.
 ghost use Rattle.std.specs.Prelude.{◌≡◌, ℕ, List, [], ◌∷◌, ◌<◌, ◌^◌, IfOk, IfErr, IfSome, IfNone, Some, true};
 ghost use Rattle.relay_core.specs.Limits.{is_valid};
 ghost use Rattle.relay_script.specs.Config.{IsConfigFault, IsConfigLine, config_of};
@@ -10,9 +10,9 @@ use relay_batch::Limits;
 use relay_core::RelayConfig;
 use std::alloc::Global;
 
-/// The config of a line `world LANES PRODUCERS CAPACITY HELD COUNT BYTES LINGER ATTEMPTS FLYING EPOCH
-/// DEAL`, eleven decimal numbers. `Bad`: the line has another form, or the config is not valid. `Memory`: there was no memory
-/// for the numbers.
+/// The config in a line `world LANES PRODUCERS CAPACITY HELD COUNT BYTES LINGER ATTEMPTS FLYING
+/// EPOCH DEAL`, with eleven decimal numbers. `Bad`: the line has another form, or the config is not
+/// valid. `Memory`: allocation failed.
 pub fn read_config(alloc: Global, line: &[u8]) -> Result<RelayConfig, LineFault>
     ensures ok { IfOk result (IsConfigLine line.now) }
     ensures err { IfErr result (IsConfigFault line.now) }
@@ -36,7 +36,7 @@ pub fn read_config(alloc: Global, line: &[u8]) -> Result<RelayConfig, LineFault>
     }
 }
 
-// The config that eleven numbers are, if it is valid.
+// The config with these eleven numbers, if it is valid.
 fn valid_config(numbers: &[u64]) -> Option<RelayConfig>
     ensures some { IfSome result (λ c. (config_of numbers.now ≡ Some c) × (is_valid c ≡ true)) }
     ensures none { IfNone result ((c : RelayConfig) → config_of numbers.now ≡ Some c → is_valid c ≡ true → ⊥) }
@@ -47,7 +47,7 @@ fn valid_config(numbers: &[u64]) -> Option<RelayConfig>
     }
 }
 
-// The config that eleven numbers are, where each fits.
+// The config with these eleven numbers, if each fits its type.
 fn config_of(numbers: &[u64]) -> Option<RelayConfig>
     ensures { result ≡ config_of numbers.now }
 {

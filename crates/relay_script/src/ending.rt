@@ -1,4 +1,4 @@
-//! How a script ended, as lines.
+//! The lines at the end of a script.
 ghost use Rattle.std.specs.Prelude.{◌≡◌};
 ghost use Rattle.relay_script.specs.Flows.{sink};
 ghost use Rattle.relay_script.specs.Scripts.{Passes, unwritten_by};
@@ -11,8 +11,9 @@ use relay_text::{add_cause, add_document, add_name, add_number, add_spaced};
 use relay_world::World;
 use std::alloc::AllocError;
 
-/// Gathers the lines that say how a script ended, and writes them where much was gathered: what was accepted
-/// from each producer, the writes that were applied, the reports, and whether all is finished.
+/// Gathers the lines at the end of a script, and writes what was gathered whenever it is enough:
+/// what was accepted from each producer, the writes that were applied, the reports, and whether
+/// everything is finished.
 pub fn write_ending<W: ByteOut>(
     world: &World,
     config: RelayConfig,
@@ -37,7 +38,7 @@ pub fn write_ending<W: ByteOut>(
     pass_on(made, line, outgoing, writer)
 }
 
-// Passes a line on, if there was memory for it.
+// Passes a line on, unless an allocation for it failed.
 fn pass_on<W: ByteOut>(
     made: Result<(), AllocError>,
     line: &Vec<u8>,
@@ -60,7 +61,6 @@ fn pass_on<W: ByteOut>(
     }
 }
 
-// The lines of what was accepted.
 fn write_all_accepted<W: ByteOut>(
     world: &World,
     producers: u32,
@@ -81,7 +81,6 @@ fn write_all_accepted<W: ByteOut>(
     Ok(())
 }
 
-// The lines of the writes that were applied.
 fn write_all_applied<W: ByteOut>(
     world: &World,
     line: &mut Vec<u8>,
@@ -142,7 +141,6 @@ fn write_applied<W: ByteOut>(
     Ok(())
 }
 
-// The lines of all reports.
 fn write_all_reports<W: ByteOut>(
     world: &World,
     lanes: u32,
@@ -163,7 +161,7 @@ fn write_all_reports<W: ByteOut>(
     Ok(())
 }
 
-// The lines of what a lane reported.
+// The lines of a lane's reports.
 fn write_reports<W: ByteOut>(
     lane: u32,
     reports: &[Report],
@@ -184,7 +182,7 @@ fn write_reports<W: ByteOut>(
     Ok(())
 }
 
-// Makes the line that says how many operations of a producer were accepted.
+// Makes the line with the number of operations accepted from a producer.
 fn make_accepted(line: &mut Vec<u8>, producer: u32, count: u64) -> Result<(), AllocError> {
     line.clear();
     line.extend_from_slice(b"accepted")?;
@@ -193,7 +191,7 @@ fn make_accepted(line: &mut Vec<u8>, producer: u32, count: u64) -> Result<(), Al
     line.extend_from_slice(b"\n")
 }
 
-// Makes the line of a write that was applied, with the name of its operation.
+// Makes the line of an applied write, with the name of its operation.
 fn make_applied(line: &mut Vec<u8>, write: &Write, name: OpName) -> Result<(), AllocError> {
     line.clear();
     line.extend_from_slice(b"applied ")?;
@@ -204,7 +202,7 @@ fn make_applied(line: &mut Vec<u8>, write: &Write, name: OpName) -> Result<(), A
     line.extend_from_slice(b"\n")
 }
 
-// Makes the line of a report of a lane.
+// Makes the line of a lane's report.
 fn make_report(line: &mut Vec<u8>, lane: u32, report: &Report) -> Result<(), AllocError> {
     line.clear();
     line.extend_from_slice(b"report ")?;
@@ -218,7 +216,7 @@ fn make_report(line: &mut Vec<u8>, lane: u32, report: &Report) -> Result<(), All
     line.extend_from_slice(b"\n")
 }
 
-// Makes the line that says whether all is finished.
+// Makes the line that says whether everything is finished.
 fn make_finished(line: &mut Vec<u8>, finished: bool) -> Result<(), AllocError> {
     line.clear();
     if finished {

@@ -1,4 +1,4 @@
-//! Lines that say what happens.
+//! The lines of events.
 ghost use Rattle.std.specs.Prelude.{◌≡◌, ℕ, List, Some, IfOk, IfErr};
 ghost use Rattle.relay_script.specs.Numbers.{AreNumbers};
 ghost use Rattle.relay_script.specs.Events.{IsEventLine, IsLineFault, IsNumberedFault, event_of};
@@ -10,17 +10,17 @@ use crate::words::cut;
 use relay_world::Event;
 use std::alloc::Global;
 
-/// Why a line is not read.
+/// Why a line has no event.
 #[derive(Clone, Copy, Debug, PartialEq, Eq)]
 pub enum LineFault {
-    /// It is no line of a script.
+    /// It is not a line of a script.
     Bad,
-    /// There was no memory for what it says.
+    /// An allocation for its contents failed.
     Memory,
 }
 
-/// The event of a line, as `docs/FORMATS.md` has them. `Bad`: no event has this line. `Memory`: there was no
-/// memory for the event.
+/// The event of a line, by the format in `docs/FORMATS.md`. `Bad`: no event has this line.
+/// `Memory`: allocation failed.
 pub fn read_event(alloc: Global, line: &[u8]) -> Result<Event, LineFault>
     ensures ok { IfOk result (IsEventLine line.now) }
     ensures err { IfErr result (IsLineFault line.now) }
@@ -38,7 +38,7 @@ pub fn read_event(alloc: Global, line: &[u8]) -> Result<Event, LineFault>
     }
 }
 
-// The event of a word and the numbers after it.
+// The event with a word and numbers.
 fn read_numbered(alloc: Global, word: &str, rest: &str) -> Result<Event, LineFault>
     ensures ok { IfOk result (λ e. (numbers : List ℕ) × AreNumbers rest.now numbers × (event_of word.now numbers ≡ Some e)) }
     ensures err { IfErr result (IsNumberedFault word.now rest.now) }

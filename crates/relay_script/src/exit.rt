@@ -1,11 +1,11 @@
-//! How the program ends after a script.
+//! The exit status after a script.
 ghost use Rattle.std.specs.Prelude.{◌≡◌};
 ghost use Rattle.relay_script.specs.Exits.{exit_of_script};
 
 use crate::script::ScriptFault;
 use relay_commands::exit::Exit;
 
-/// How `relay world` ends after a fault.
+/// The exit status of `relay world` after a fault.
 pub fn exit_of_script(fault: ScriptFault) -> Exit
     ensures { result ≡ exit_of_script fault }
 {

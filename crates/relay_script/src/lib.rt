@@ -1,8 +1,8 @@
-//! The script of the world: lines of text that say what happens among producers, lanes and an index, played on
-//! `relay_world` one after another, each answered by a line, and a report of how it ended. It is the function
-//! behind `relay world`, over any reader and writer.
+//! The script of the world: lines of text that are played, one after another, as events among
+//! producers, lanes and an index of `relay_world`; each is answered by a line, and at the end lines
+//! say how the world ended. This is the function behind `relay world`, over any reader and writer.
 //!
-//! It stands on `relay_ndjson` for the lines of a stream and on `relay_world` for what happens.
+//! It depends on `relay_ndjson` for the lines of a stream and on `relay_world` for the events.
 #![tactic(auto)]
 
 mod answer;

@@ -1,4 +1,4 @@
-//! Events of a word and the numbers after it.
+//! Events with a word and numbers.
 ghost use Rattle.std.specs.Prelude.{◌≡◌};
 ghost use Rattle.relay_world.specs.declared.event.Event.TheVariants as event;
 ghost use Rattle.relay_script.specs.Events.{close_of, event_of, lost_of, of_lane, only_lane, reply_of, restart_of, run_of, whole_of};
@@ -7,7 +7,7 @@ use relay_action::List;
 use relay_index::Choice;
 use relay_world::Event;
 
-/// The event of a word with these numbers after it, if it is one.
+/// The event with this word and these numbers, if there is one.
 pub fn event_of(word: &str, numbers: Vec<u64>) -> Option<Event>
     ensures { result ≡ event_of word.now numbers.items }
 {
@@ -38,7 +38,7 @@ fn close_of(numbers: &[u64]) -> Option<Event>
     }
 }
 
-// The lane that the only number is.
+// The lane, if there is just one number, of 32 bits.
 fn lane_of(numbers: &[u64]) -> Option<u32>
     ensures { result ≡ only_lane numbers.now }
 {

@@ -1,4 +1,4 @@
-//! Numbers of a line.
+//! The numbers in a line.
 ghost use Rattle.std.specs.Prelude.{◌≡◌, ℕ, List, [], ◌∷◌, ◌++◌, IfSome, IfNone, IfOk, IfErr, OnOk};
 ghost use Rattle.relay_script.specs.Numbers.{AreNumbers, IsNumber, IsNumbersFault, IsWordFault};
 
@@ -6,7 +6,7 @@ use crate::event_line::LineFault;
 use crate::words::cut;
 use std::alloc::Global;
 
-/// The number that decimal digits are, without a sign. `None`: the word is no such number of 64 bits.
+/// The value of decimal digits without a sign. `None`: the word is not a number of 64 bits.
 pub fn number_of(word: &str) -> Option<u64>
     ensures some { IfSome result (IsNumber word.now) }
     ensures none { IfNone result ((n : ℕ) → IsNumber word.now n → ⊥) }
@@ -17,7 +17,7 @@ pub fn number_of(word: &str) -> Option<u64>
     word.parse::<u64>().ok()
 }
 
-// Puts the number that a word is at the end of a list.
+// Adds the number of a word to a list.
 fn push_number(numbers: &mut Vec<u64>, word: &str) -> Result<(), LineFault>
     ensures ok { OnOk result ((n : ℕ) × IsNumber word.now n × (numbers.new.items ≡ numbers.old.items ++ n ∷ [])) }
     ensures err { IfErr result (IsWordFault word.now) }
@@ -31,8 +31,8 @@ fn push_number(numbers: &mut Vec<u64>, word: &str) -> Result<(), LineFault>
     }
 }
 
-/// The numbers of a text, one or more, with a space between each two. `Bad`: it has another form. `Memory`:
-/// there was no memory for them.
+/// The numbers of a text: one or more, separated by single spaces. `Bad`: it has another form.
+/// `Memory`: allocation failed.
 pub fn numbers_of(alloc: Global, text: &str) -> Result<Vec<u64>, LineFault>
     ensures ok { IfOk result (λ v. AreNumbers text.now v.items) }
     ensures err { IfErr result (IsNumbersFault text.now) }
@@ -44,7 +44,7 @@ pub fn numbers_of(alloc: Global, text: &str) -> Result<Vec<u64>, LineFault>
     }
 }
 
-// Puts the numbers of a text into an empty list.
+// Adds the numbers of a text to an empty list.
 fn push_numbers(numbers: &mut Vec<u64>, text: &str) -> Result<(), LineFault>
     requires { numbers.old.items ≡ [] }
     ensures ok { OnOk result (AreNumbers text.now numbers.new.items) }

@@ -1,4 +1,4 @@
-//! The lines of a script, taken and played one after another.
+//! Taking the lines of a script and playing them.
 ghost use Rattle.std.specs.Prelude.{◌≡◌, ◌≤◌, [], length, Err, IfErr, OnOk};
 ghost use Rattle.std.specs.Io.KnownBytes.{prepend_known, IsAtEnd};
 ghost use Rattle.relay_ndjson.specs.Lines.{piece_limit};
@@ -16,7 +16,6 @@ use relay_ndjson::{InputFault, LineKind, LineReader};
 use relay_world::{Event, World};
 use std::alloc::Global;
 
-// What a fault of a line is.
 fn line_fault(fault: InputFault) -> ScriptFault
     ensures { result ≡ line_fault fault }
 {
@@ -27,7 +26,7 @@ fn line_fault(fault: InputFault) -> ScriptFault
     }
 }
 
-// Takes the next line of a script, and tells whether there was one.
+// Takes the next line of a script, and returns whether there was one.
 fn take_line<R: ByteIn>(reader: &mut R, lines: &mut LineReader) -> Result<bool, ScriptFault>
     requires { lines.old.count ≤ line_count }
     ensures line { TakesLine (prepend_known lines.old.held (R.left reader.old)) (prepend_known lines.new.held (R.left reader.new))
@@ -50,7 +49,7 @@ fn take_line<R: ByteIn>(reader: &mut R, lines: &mut LineReader) -> Result<bool, 
     }
 }
 
-// The fault of the line of this number.
+// The fault of the line with this number.
 fn fault_at(fault: LineFault, line: u64) -> ScriptFault
     ensures { result ≡ fault_at fault line }
 {
@@ -60,7 +59,7 @@ fn fault_at(fault: LineFault, line: u64) -> ScriptFault
     }
 }
 
-/// The config of the first line.
+/// The config in the first line.
 pub fn take_config<R: ByteIn>(
     alloc: Global,
     reader: &mut R,
@@ -131,7 +130,7 @@ fn play_event(
     }
 }
 
-// What came next.
+// What the next line was.
 #[derive(Clone, Copy, Debug, PartialEq, Eq)]
 enum Next {
     // An event, which was played.
@@ -167,7 +166,8 @@ fn play_next<R: ByteIn>(
     }
 }
 
-/// Plays the events of all lines that are left. What is gathered goes out before a read that may wait.
+/// Plays the events of all remaining lines. What is gathered is written before a read that may
+/// wait.
 pub fn play_events<R: ByteIn, W: ByteOut>(
     alloc: Global,
     reader: &mut R,

@@ -1,4 +1,4 @@
-//! Lines of operations that a producer puts.
+//! The lines of puts.
 ghost use Rattle.std.specs.Prelude.{◌≡◌, ℕ, ◌<◌, ◌^◌, IfOk, IfErr, IfSome, IfNone};
 ghost use Rattle.relay_script.specs.Words.{IsWord};
 ghost use Rattle.relay_script.specs.Numbers.{IsNumber};
@@ -11,7 +11,7 @@ use relay_action::{Action, ActionFault, DocKey};
 use relay_world::Event;
 use std::alloc::Global;
 
-/// The event of what stands after `put`. `Bad`: it is none. `Memory`: there was no memory for it.
+/// The event of the text after `put`. `Bad`: there is none. `Memory`: allocation failed.
 pub fn read_put(alloc: Global, text: &str) -> Result<Event, LineFault>
     ensures ok { IfOk result (Puts text.now) }
     ensures err { IfErr result (IsPutFault text.now) }
@@ -32,7 +32,6 @@ pub fn read_put(alloc: Global, text: &str) -> Result<Event, LineFault>
     }
 }
 
-// The producer of a word.
 fn producer_of(word: &str) -> Option<u32>
     ensures some { IfSome result (IsNumber word.now) }
     ensures none { IfNone result ((n : ℕ) → IsNumber word.now n → n < 2 ^ 32 → ⊥) }
@@ -43,7 +42,6 @@ fn producer_of(word: &str) -> Option<u32>
     }
 }
 
-// A fault of a document or a source.
 fn fault_of(fault: ActionFault) -> LineFault
     ensures { result ≡ fault_of fault }
 {
@@ -53,7 +51,7 @@ fn fault_of(fault: ActionFault) -> LineFault
     }
 }
 
-// The document of two words, and what stands after them.
+// The document in the first two words, and what follows them.
 fn read_key(alloc: Global, text: &str) -> Result<(DocKey, &str), LineFault>
     ensures ok { IfOk result (λ r. IsKey text.now r.0 r.1.now) }
     ensures err { IfErr result (IsKeyFault text.now) }
@@ -70,7 +68,7 @@ fn read_key(alloc: Global, text: &str) -> Result<(DocKey, &str), LineFault>
     }
 }
 
-// The action of what stands after the document.
+// The action in the text after the document.
 fn read_action(alloc: Global, text: &str) -> Result<Action, LineFault>
     ensures ok { IfOk result (AsksFor text.now) }
     ensures err { IfErr result (IsActionFault text.now) }
@@ -87,7 +85,7 @@ fn read_action(alloc: Global, text: &str) -> Result<Action, LineFault>
     }
 }
 
-// The deletion that a word is.
+// The delete, if the word asks for one.
 fn read_deletion(word: &str) -> Result<Action, LineFault>
     requires { IsWord word.now }
     ensures ok { IfOk result (AsksFor word.now) }

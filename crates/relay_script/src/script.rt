@@ -16,40 +16,41 @@ use relay_world::World;
 use std::alloc::Global;
 use thiserror::Error;
 
-/// The most lines of a script.
+/// The maximum number of lines of a script.
 pub const LINE_COUNT: u64 = 1_000_000;
 
 /// Why a script was not played to its end. The text is what the program prints.
 #[derive(Clone, Copy, Debug, PartialEq, Eq, Error)]
 pub enum ScriptFault {
-    /// This line, counted from 1, is no line of a script, or the script has none. The answers to all lines
-    /// before it were written.
+    /// This line, from 1, is not a line of a script, or the script has no line. The answers to all
+    /// lines before it were written.
     #[error("line {line}: BadLine")]
     BadLine {
-        /// The line, counted from 1.
+        /// The line, from 1.
         line: u64,
     },
-    /// A read failed. It is not repeated. The answers to all lines before it were written.
+    /// A read failed. It is not retried. The answers to all lines before it were written.
     #[error("read failed")]
     Read,
-    /// A write failed. It is not repeated, and exactly the first `sent` bytes of what there was to write went
-    /// out.
+    /// A write failed. It is not retried; exactly the first `sent` bytes of the output were
+    /// written.
     #[error("write failed")]
     Write {
-        /// How many bytes went out in all. At 2^64 - 1 the count stays.
+        /// The number of bytes written in all; it saturates at 2^64 - 1.
         sent: u64,
     },
-    /// There was no memory. What went out is a front of what there was to write.
+    /// An allocation failed. A prefix of the output was written.
     #[error("out of memory")]
     Memory,
 }
 
-/// Plays a script on a fresh world: the first line is its config, each further line an event. Each event is
-/// answered by a line, and at the end stand the lines that say how the world ended. The faults say what went
-/// out; of several only the first is answered, but out of memory before a failed write, and a failed write
-/// before a bad line or a failed read. A call of a stream that failed is not repeated.
+/// Plays a script on a fresh world: the first line is its config, each further line an event. Each
+/// event is answered by a line, and the lines at the end say how the world ended. A fault says how
+/// much was written. If there are several, the first is returned, except that a failed allocation
+/// takes precedence over a failed write, and a failed write over a bad line or a failed read. A
+/// failed call of a stream is not retried.
 ///
-/// What is ready goes out before a read that may wait, and from 256 KiB on.
+/// What is ready is written before a read that may wait, and whenever it has 256 KiB.
 pub fn world_script<R: ByteIn, W: ByteOut>(
     alloc: Global,
     reader: &mut R,
@@ -64,7 +65,7 @@ pub fn world_script<R: ByteIn, W: ByteOut>(
     close(&mut outgoing, writer, answer)
 }
 
-// Plays a script. But for what was gathered last, what there is to write was written.
+// Plays a script. Everything but what was gathered last was written.
 fn play<R: ByteIn, W: ByteOut>(
     alloc: Global,
     reader: &mut R,
@@ -92,7 +93,7 @@ fn play<R: ByteIn, W: ByteOut>(
     play_world(alloc, reader, lines, &mut world, config, outgoing, writer)
 }
 
-// Plays the events of a script on a world, and says how it ended.
+// Plays the events of a script on a world, and writes how it ended.
 fn play_world<R: ByteIn, W: ByteOut>(
     alloc: Global,
     reader: &mut R,
@@ -119,8 +120,8 @@ fn play_world<R: ByteIn, W: ByteOut>(
     write_ending(world, config, &mut line, outgoing, writer)
 }
 
-// Writes what was gathered, and then gives the answer. After a failed write nothing is written any more. A
-// write that fails here is the answer, but out of memory before it stays that.
+// Writes what was gathered, and returns the result. After a failed write nothing more is written.
+// If this write fails, that is the result, unless an allocation failed before.
 fn close<W: ByteOut>(
     outgoing: &mut Outgoing,
     writer: &mut W,
@@ -138,7 +139,6 @@ fn close<W: ByteOut>(
     }
 }
 
-// Whether an answer is a failed write.
 fn is_failed_write(answer: Result<(), ScriptFault>) -> bool
     ensures { result ≡ is_failed_write answer }
 {
@@ -148,7 +148,7 @@ fn is_failed_write(answer: Result<(), ScriptFault>) -> bool
     }
 }
 
-// What an answer becomes where a write fails after it, with so many bytes out in all.
+// The result if a write fails after this one, with this many bytes written in all.
 fn cut_short(answer: Result<(), ScriptFault>, sent: u64) -> Result<(), ScriptFault>
     ensures { result ≡ cut_short answer sent }
 {

@@ -1,4 +1,4 @@
-//! Tests of relay_script.
+//! The tests of `relay_script`.
 #![tactic(auto)]
 
 #[cfg(test)]

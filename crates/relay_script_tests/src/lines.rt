@@ -31,7 +31,8 @@ fn configs(rt: HostRuntime) {
     assert!(rt; read_config(rt.alloc(), b"world 2 3 4 5 6 7 8 9 1 10 11") == Err(LineFault::Bad));
 }
 
-/// The numbers of an event, with that of its kind in front; of a put the producer and the lengths of its texts.
+/// The numbers of an event, preceded by that of its kind; for a put the producer and the lengths of
+/// its texts.
 fn parts(event: &Event) -> [u64; 4] {
     match event {
         Event::Put(producer, key, _) => {

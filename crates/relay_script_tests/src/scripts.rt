@@ -1,4 +1,5 @@
-//! `world_script` over streams in memory: a worked script, bad ones, faults in mid-stream, and what goes out before them.
+//! `world_script` over streams in memory: a worked script, bad ones, failures in the middle, and
+//! what is written before them.
 use relay_action::MemStream;
 use relay_commands::exit::Exit;
 use relay_script::exit::exit_of_script;
@@ -12,7 +13,7 @@ pub const THREE_THEN_ONE: &[u8] =
 pub const ITS_ANSWERS: &[u8] =
     b"ok 0:1\nok 0:2\nok 0:3\nok\nok\nok\nok 1 b/1@1 b/2@2 b/3@3\nok 201\nok 429\nok 404\nok 2 0 0 1\nno NoRequest\nok\nok\nok 2 b/2@2\nok 201\nok 1 0 0 0\nok\nok\nok\nok\naccepted 0 3\napplied b/1 1 0:1\napplied b/2 2 0:2\napplied b/3 3 0:3\nfinished yes\n";
 
-/// Whether a script in pieces of so many bytes is answered so, and this is written.
+/// Whether a script in pieces of this many bytes has this result, and this is written.
 fn gives(
     alloc: Global,
     input: &[u8],
@@ -54,8 +55,8 @@ fn bad_scripts(rt: HostRuntime) -> Result<(), Fail> {
     Ok(())
 }
 
-/// What a script answers whose reader, or whose writer, fails at a call, and how many bytes were written, or none where they
-/// are no front of the answers.
+/// The result of a script whose reader or writer fails at a call, and how many bytes were written,
+/// or none if they are not a prefix of the answers.
 fn failing(
     alloc: Global,
     read_at: u64,

@@ -1,4 +1,4 @@
--- What each accepted event changes, and what it returns. What a record does not name stays as it was.
+-- What each accepted event changes, and what it returns. Fields that are not named are unchanged.
 use Rattle.std.specs.Prelude.{◌≡◌, ℕ, ◌+◌, ◌-◌, List, [], ◌∷◌, ◌++◌, Option, Some, None, slice_get, unwrap_or, option_map, Bool, true, false, ◌&&◌, ◌||◌, length, map, replicate, if◌then◌else◌}
 use Rattle.relay_action.specs.Streams.{one_more}
 use Rattle.relay_action.specs.declared.key.DocKey.{DocKey}
@@ -41,18 +41,18 @@ is_done_mail body.Tick = false
 is_done_mail body.Flush = false
 is_done_mail body.Done = true
 
--- one message more of a sender; a Done closes it there
+-- after one more message of the sender; a Done closes it there
 abbrev pub after_mail : Body → Sender → Sender
 after_mail b s = record { count = one_more s.count; closed = s.closed || is_done_mail b }
 
--- its message numbers count from 1 at each lane
+-- a sender's message, under its next number at this lane, from 1
 abbrev pub mail_of : Desk → ℕ → Body → Mail
 mail_of d sender b = record { sender = sender; number = one_more (unwrap_or (option_map (λ (s : Sender). s.count) (slice_get d.senders sender)) 0); body = b }
 
 abbrev pub posted : ℕ → Body → Desk → Desk
 posted sender b d = record d { queue = d.queue ++ mail_of d sender b ∷ []; senders = update sender (after_mail b) d.senders }
 
--- the operation that a put makes: it has the next number of its producer
+-- the operation of a put: it has the next number of its producer
 abbrev pub op_of_put : World → ℕ → DocKey → Action → Op
 op_of_put w p key action = record { epoch = w.config.epoch; producer = p; number = length (accepted_from w p) + 1; key = key; action = action }
 
@@ -112,8 +112,8 @@ after_run w request item o i kept = record w {
   kept = kept;
 }
 
--- An item of a sent request was run, and its status is returned: the index did with the write of its operation what it
--- does with any write, and if that was applied, the operation's name is added to the names of its document.
+-- An item of a sent request was run, and its status is returned: the index did with the write of its operation what
+-- it does with any write, and if the write was applied, the operation's name was added to the names of its document.
 pub record RunsItem (w : World) (request item : ℕ) (c : Choice) (x : StepAnswer) (new : World) : Type 0 where
   pub sent : Sent
   pub was_sent : request_at w request ≡ Some sent
@@ -139,14 +139,14 @@ answered_desk number a d = record d { lane = lane.answered d.lane number a }
 abbrev pub after_answer : World → ℕ → Sent → Answer → World
 after_answer w request s a = record (at_lane s.lane (answered_desk s.number a) w) { sent = update (request - 1) (with_answer a) w.sent }
 
--- entries may fail to match; another answer has nothing to match
+-- entries may fail to match; any other answer has nothing to match
 abbrev pub matched_by : Answer → List Write → Bool
 matched_by Unanswered ws = true
 matched_by (Items os) ws = matches os ws
 matched_by (Whole status) ws = true
 matched_by Lost ws = true
 
--- a request in flight was answered, and what became of its operations is returned as counts
+-- a request in flight was answered, and the counts of how its operations ended are returned
 pub record Answers (w : World) (request : ℕ) (s : Sent) (a : Answer) (x : StepAnswer) (new : World) : Type 0 where
   pub desk : Desk
   pub there : desk_at w s.lane ≡ Some desk
@@ -170,8 +170,9 @@ RepliesBy w request picks x new =
 abbrev pub in_new_epoch : RelayConfig → ℕ → RelayConfig
 in_new_epoch c epoch = record c { epoch = epoch }
 
--- Queues, lanes, reports and producers are new; requests with their runs and answers, the index and the kept names stay; and
--- what was accepted and taken since the last restart is kept beside that of earlier incarnations.
+-- Queues, lanes, reports and producers start afresh; requests with their runs and answers, the index and the kept
+-- names are unchanged; and what was accepted and taken since the last restart is kept with that of earlier
+-- incarnations.
 abbrev pub restarted : World → ℕ → World
 restarted w epoch = record {
   config = in_new_epoch w.config epoch;
@@ -185,7 +186,7 @@ restarted w epoch = record {
 
 -- ---- all events
 
--- an accepted event makes this of the world, and returns this
+-- the world after an accepted event, and what the event returns
 abbrev pub Changes : World → Event → StepAnswer → World → Type 0
 Changes w (event.Put p key action) x new =
     (x ≡ answer.Put (name_of (op_of_put w p key action))) × (new ≡ after_put w (op_of_put w p key action))

@@ -31,7 +31,7 @@ runs_of (Some i) = i.runs
 abbrev pub runs_at : World → ℕ → ℕ → List RunOutcome
 runs_at w request place = runs_of (option_and_then (λ (s : Sent). slice_get s.items place) (slice_get w.sent request))
 
--- all runs, one after another: for each item they are those that it has
+-- all runs, one after another: for each item exactly its own
 abbrev pub IsLog : World → List Ran → Type 0
 IsLog w log = (request place : ℕ) → outcomes_at request place log ≡ runs_at w request place
 
@@ -49,8 +49,8 @@ outside_of w log = record {
 abbrev pub terms_at : World → ℕ → Terms
 terms_at w l = record { max = w.config.attempts; deals = w.config.deal; taken = length (taken w l) }
 
--- The version of the operation at a place of what a lane took: the versions of the epoch are assigned in order, `deal` of
--- them, and then none.
+-- The version of the operation at a place of what a lane took: `deal` versions of the epoch are assigned in order,
+-- and then none.
 abbrev pub version_at : World → ℕ → Option ℕ
 version_at w place = if nat_lt place w.config.deal then Some (first_in w.config.epoch + place) else None
 
@@ -98,7 +98,8 @@ pub record Delivered (w : World) : Type 0 where
   pub complete : is_finished w ≡ true → (p : ℕ) (o : Op) → Mem o (accepted_from w p)
       → Mem o (ops (document_of o.key)) ⊎ Mem (name_of o) (names_of (reports w (lane_of w (document_of o.key))))
 
--- The epoch did not fall. If it is the same, nothing more was accepted from a producer that had closed, and it stays closed.
+-- The epoch did not fall. If it is the same, nothing more was accepted from a producer that had closed, and it stays
+-- closed.
 pub record StaysClosed (old new : World) : Type 0 where
   pub epoch : old.config.epoch ≤ new.config.epoch
   pub closed : old.config.epoch ≡ new.config.epoch → (p : ℕ) → is_closed old p ≡ true

@@ -70,7 +70,7 @@ IsOpenAt sender d = option_map (λ (s : Sender). s.closed) (slice_get d.senders 
 
 -- ---- the world
 
--- the desk works as the world does
+-- the desk has the world's config
 pub record WorksAs (c : RelayConfig) (d : Desk) : Type 0 where
   pub config : d.lane.config ≡ c
   pub senders : length d.senders ≡ c.producers + 1

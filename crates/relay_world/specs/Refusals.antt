@@ -1,4 +1,4 @@
--- Why an event is refused: for each kind of event the causes in their order, of which the first that holds is given.
+-- Why an event is refused: for each kind of event the causes in order, of which the first that applies is returned.
 use Rattle.std.specs.Prelude.{ℕ, ◌+◌, ◌^◌, ◌-◌, ◌==◌, List, [], ◌∷◌, Option, Some, None, option_map, option_and_then, is_some, slice_get, Bool, true, false, not, ◌&&◌, ◌||◌, nat_lt, nat_le, length, if◌then◌else◌}
 use Rattle.relay_action.specs.Actions.{kind_of}
 use Rattle.relay_action.specs.declared.mail.Mail.{Mail}
@@ -15,7 +15,7 @@ use Rattle.relay_world.specs.declared.event.Refusal.{Refusal}
 use Rattle.relay_world.specs.declared.event.Refusal.TheVariants as no
 use Rattle.relay_world.specs.State.{Desk, Item, Sent, World, desk_at, lane_of, accepted_from, request_at, op_with, write_at, has_closed, is_closed}
 
--- a cause if the test holds, and else the next
+-- a cause if the test holds, otherwise the next one
 abbrev pub cause_if : Bool → Refusal → Option Refusal → Option Refusal
 cause_if b r next = if b then Some r else next
 
@@ -26,11 +26,11 @@ at_desk (Some d) f = f d
 
 -- ---- puts, closes, ticks and flushes
 
--- as many messages are queued as may be
+-- the queue is at its capacity
 abbrev pub is_full : World → Desk → Bool
 is_full w d = nat_le w.config.capacity (length d.queue)
 
--- as many operations of a producer as may be were accepted
+-- the producer has put its maximum number of operations
 abbrev pub is_spent : World → ℕ → Bool
 is_spent w p = nat_le (2 ^ 40) (length (accepted_from w p))
 
@@ -41,7 +41,7 @@ put_refusal w p l =
     (cause_if (is_spent w p) no.NumbersSpent
     (at_desk (desk_at w l) (λ d. cause_if (is_full w d) no.QueueFull None))))
 
--- the senders are the producers and the control, numbered one past the last of them
+-- the senders are the producers and the control, whose number is one above that of the last producer
 abbrev pub close_refusal : World → ℕ → ℕ → Option Refusal
 close_refusal w p l =
     at_desk (desk_at w l) (λ d.
@@ -70,7 +70,7 @@ send_refusal w l = at_desk (desk_at w l) (λ d. cause_if (not (is_some (lane.nex
 
 -- ---- runs
 
--- the statuses that an index may be told to refuse with
+-- the statuses with which an index may be told to refuse
 abbrev pub may_refuse : ℕ → Bool
 may_refuse status = (nat_le 400 status && nat_le status 599) && (not (status == 404) && not (status == 409))
 
@@ -101,11 +101,11 @@ abbrev pub run_by : List RunOutcome → Option ℕ → Option RunOutcome
 run_by os None = last_run os
 run_by os (Some number) = if number == 0 then None else slice_get os (number - 1)
 
--- what a reply says of an item that had this outcome
+-- what a reply says of an item with this outcome
 abbrev pub entry_for : Write → RunOutcome → Outcome
 entry_for w o = record { kind = kind_of w.action; id = w.key.id; status = o.status; error = o.error }
 
--- the entry of an item: of its last run, or of the one that is picked
+-- the entry of an item: from its last run, or from the one that is picked
 abbrev pub entry_at : World → ℕ → Option ℕ → Item → Option Outcome
 entry_at w l pick i = option_and_then (λ o. option_map (entry_for (write_for o i.version)) (run_by i.runs pick)) (op_with w l i.version)
 
@@ -123,7 +123,7 @@ entries_from w l picks place (i ∷ is) = and_more (entry_at w l (slice_get pick
 abbrev pub are_picks : List ℕ → Sent → Bool
 are_picks picks s = (length picks == 0) || (length picks == length s.items)
 
--- the entries of a reply to a request, if the picks are right and each item has the run
+-- the entries of a reply to a request, if the picks are valid and each item has its run
 abbrev pub entries : World → Sent → List ℕ → Option (List Outcome)
 entries w s picks = if are_picks picks s then entries_from w s.lane picks 0 s.items else None
 
@@ -138,7 +138,7 @@ reply_refusal w request picks =
     cause_if (not (is_flying w s)) no.NotFlying
     (cause_if (not (is_some (entries w s picks))) no.NotRun None))
 
--- the statuses that a request as a whole may be answered with
+-- the statuses with which a request as a whole may be answered
 abbrev pub is_whole : ℕ → Bool
 is_whole status = nat_lt 200 status && nat_le status 599
 

@@ -35,8 +35,8 @@ pub record Item : Type 0 where
   pub version : ℕ
   pub runs : List RunOutcome
 
--- a sent request: the epoch in which it was sent, its lane, its number there in that epoch, from 1, its items, and what was
--- answered
+-- a sent request: the epoch in which it was sent, its lane, its number there in that epoch, from 1, its items, and
+-- its answer
 pub record Sent : Type 0 where
   pub epoch : ℕ
   pub lane : ℕ
@@ -51,15 +51,15 @@ pub record Named : Type 0 where
   pub names : List OpName
 
 -- What is kept of an incarnation: its epoch, what was accepted in it from each producer, what each lane took, and how
--- many requests had been sent by its end, those of earlier incarnations included.
+-- many requests had been sent by its end, including those of earlier incarnations.
 pub record Past : Type 0 where
   pub epoch : ℕ
   pub accepted : List (List Op)
   pub taken : List (List Op)
   pub sent : ℕ
 
--- The config; each lane with its queue; what was accepted from each producer since the last restart; the incarnations that
--- ended, the oldest first; all requests ever sent, in order; the index; and what is kept of the documents.
+-- The config; each lane with its queue; what was accepted from each producer since the last restart; the incarnations
+-- that have ended, the oldest first; all requests ever sent, in order; the index; and what is kept of the documents.
 pub record World : Type 0 where
   pub config : RelayConfig
   pub desks : List Desk
@@ -115,7 +115,7 @@ taken w l = taken_of (desk_at w l)
 abbrev pub accepted_from : World → ℕ → List Op
 accepted_from w p = unwrap_or (slice_get w.accepted p) []
 
--- what is kept of a document, if something is
+-- what is kept of a document, if anything
 abbrev pub kept_among : List (DocKey × Named) → Document → Option Named
 kept_among es k = lookup (λ key. same_document k (document_of key)) es
 
@@ -143,13 +143,13 @@ applied w k = drop (before_at w k) (index.applied w.index k)
 abbrev pub is_written : World → Document → Bool
 is_written w k = not (length (applied w k) == 0)
 
--- The keys are those of the documents that a write was applied to since the start, deleted ones too: each of these, no
--- other, none twice, and in order.
+-- The keys are exactly those of the documents to which a write was applied since the start, including deleted ones:
+-- no other, none twice, and in order.
 pub record AreKeysOf (w : World) (keys : List DocKey) : Type 0 where
   pub rising : IsStrictlySortedBy key_order keys
   pub written : (k : Document) → is_among k keys ≡ is_written w k
 
--- what a lane has reported
+-- the reports of a lane
 abbrev pub reports_of : Option Desk → List Report
 reports_of None = []
 reports_of (Some d) = d.lane.core.reports
@@ -161,11 +161,11 @@ reports w l = reports_of (desk_at w l)
 abbrev pub numbered : {A : Type 0} → List A → ℕ → Option A
 numbered xs number = if number == 0 then None else slice_get xs (number - 1)
 
--- a sent request, by its number
+-- a sent request, by number
 abbrev pub request_at : World → ℕ → Option Sent
 request_at w number = numbered w.sent number
 
--- an item of a sent request, both by their numbers
+-- an item of a sent request, both by number
 abbrev pub item_at : World → ℕ → ℕ → Option Item
 item_at w request item = option_and_then (λ (s : Sent). numbered s.items item) (request_at w request)
 
@@ -192,7 +192,7 @@ op_among deal (p ∷ ps) l v = if is_version_in deal p.epoch v then slice_get (u
 abbrev pub op_with : World → ℕ → ℕ → Option Op
 op_with w l version = op_among w.config.deal (incarnations w) l version
 
--- an incarnation as delivery sees it; all but the epoch of the config is the same in each
+-- an incarnation as delivery sees it; the config is the same in each, except for the epoch
 abbrev pub incarnation : RelayConfig → Past → Incarnation
 incarnation c p = record {
   config = in_epoch p.epoch c.deal c.attempts c.limits.count;
@@ -211,7 +211,7 @@ incarnations_of w = map (incarnation w.config) (incarnations w)
 abbrev pub write_of : World → Sent → Item → Option Write
 write_of w s i = option_map (λ o. write_for o i.version) (op_with w s.lane i.version)
 
--- the write of an item of a request, both by their numbers
+-- the write of an item of a request, both by number
 abbrev pub write_at : World → ℕ → ℕ → Option Write
 write_at w request item = option_and_then (λ s. option_and_then (write_of w s) (numbered s.items item)) (request_at w request)
 

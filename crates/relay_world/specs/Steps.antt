@@ -18,7 +18,7 @@ StepsBy None w e x new = Changes w e x new
 abbrev pub Steps : World → Event → StepAnswer → World → Type 0
 Steps w e x new = StepsBy (refusal w e) w e x new
 
--- the answer to a request as a whole, and the loss of one, need no memory
+-- answering a request as a whole, and losing its reply, does not allocate
 abbrev pub may_allocate : Event → Bool
 may_allocate (event.Whole request status) = false
 may_allocate (event.Lost request) = false
@@ -29,7 +29,7 @@ may_allocate _ = true
 abbrev pub none_yet : RunEnd
 none_yet = record { done = 0; refused = 0 }
 
--- one event more was accepted, or refused
+-- the counts after one more event
 abbrev pub counted : StepAnswer → RunEnd → RunEnd
 counted (answer.Refused r) n = record n { refused = n.refused + 1 }
 counted (answer.Put name) n = record n { done = n.done + 1 }
@@ -38,8 +38,8 @@ counted (answer.Ran status) n = record n { done = n.done + 1 }
 counted (answer.Settled counts) n = record n { done = n.done + 1 }
 counted answer.Done n = record n { done = n.done + 1 }
 
--- The events came one after another, also after a refused one; these are the numbers of accepted and of refused ones, added
--- to those before, and this is the world after them.
+-- The events were played one after another, going on after refused ones; these are the counts of accepted and refused
+-- events, added to those before, and this is the world after them.
 abbrev pub Plays : World → RunEnd → List Event → RunEnd → World → Type 0
 Plays w n [] end new = (end ≡ n) × (new ≡ w)
 Plays w n (e ∷ es) end new = (x : StepAnswer) × (next : World) × Steps w e x next × Plays next (counted x n) es end new

@@ -1,5 +1,5 @@
--- How a world is tied to the machines of its lanes, which share one outside: by this what `relay_delivery` promises of its
--- machines becomes a promise on the world.
+-- How a world is tied to the machines of its lanes, which share one outside: through this, what `relay_delivery`
+-- promises of its machines becomes a promise about the world.
 use Rattle.std.specs.Prelude.{◌≡◌, true, ℕ, ◌+◌, ◌^◌, ◌<◌, ◌≤◌, List, [], ◌∷◌, ◌++◌, Option, Some, None, slice_get, take, length, map}
 use Rattle.relay_action.specs.declared.operation.Op.{Op}
 use Rattle.relay_action.specs.declared.mail.Mail.{Mail}
@@ -34,7 +34,7 @@ abbrev pub queue_of : Option Desk → List Op
 queue_of None = []
 queue_of (Some d) = puts_of d.queue
 
--- the lane as delivery sees it; one that is not there is fresh for good
+-- the lane as delivery sees it; one that does not exist is always fresh
 abbrev pub core_of : Config → Option Desk → delivery.State
 core_of g None = delivery.fresh_state g
 core_of g (Some d) = d.lane.core
@@ -43,7 +43,7 @@ core_of g (Some d) = d.lane.core
 abbrev pub versions_of : Sent → List ℕ
 versions_of s = map (λ (i : Item). i.version) s.items
 
--- a lane works as the world does, has all its senders, and numbers its requests from 1, one after another
+-- a lane has the world's config and all of its senders, and numbers its requests from 1, consecutively
 pub record IsLaneOf (c : RelayConfig) (d : Desk) : Type 0 where
   pub config : d.lane.core.config ≡ config_of c
   pub senders : length d.senders ≡ c.producers + 1
@@ -69,8 +69,8 @@ pub record IsOriginOf (w : World) (t : Together) (n : ℕ → ℕ) (k : ℕ) (s 
   pub not_later : s.epoch ≤ w.config.epoch
   pub of_now : s.epoch ≡ w.config.epoch → (number ≡ from_zero (n s.lane + s.number)) × ((p : Incarnation) → Mem p (ended_of w) → p.sent ≤ k)
 
--- the requests are theirs, in the order in which they were sent, and so are the runs; each item has the operation to which
--- its version was assigned
+-- the requests are theirs, in the order in which they were sent, and so are the runs; the version of each item was
+-- assigned to its operation
 pub record AreRequests (w : World) (t : Together) (n : ℕ → ℕ) : Type 0 where
   pub sent : t.sent ≡ map (request_of w) w.sent
   pub origins : (k : ℕ) (s : Sent) → slice_get w.sent k ≡ Some s → IsOriginOf w t n k s
@@ -78,7 +78,7 @@ pub record AreRequests (w : World) (t : Together) (n : ℕ → ℕ) : Type 0 whe
   pub runs : IsLog w t.runs
   pub found : (s : Sent) → Mem s w.sent → (v : ℕ) → Mem v (versions_of s) → (o : Op) × (op_with w s.lane v ≡ Some o)
 
--- the index is what their outside shows, and the kept names are those of the operations that its writes are of
+-- the index is what their outside shows, and the kept names are those of the operations whose writes it applied
 pub record IsIndexOf (w : World) (t : Together) : Type 0 where
   pub applied : (k : Document) → (together.outside_of (lane_of w) t).applied k ≡ applied w k
   pub before : (k : Document) → (together.outside_of (lane_of w) t).before k ≡ take (before_at w k) (index.applied w.index k)

@@ -24,7 +24,6 @@ impl Model for Accepted {
     ghost view = { λ a. a.ops.items };
 }
 
-// An empty list for each producer.
 pub(crate) fn none_accepted(alloc: Global, producers: u32) -> Result<Vec<Accepted>, AllocError>
     ensures { IfOk result (λ v. v.items ≡ replicate producers []) }
 {
@@ -36,7 +35,6 @@ pub(crate) fn none_accepted(alloc: Global, producers: u32) -> Result<Vec<Accepte
 }
 
 impl Accepted {
-    // Nothing was accepted. It does not allocate.
     pub(crate) fn new(alloc: Global) -> Accepted
         ensures { result ≡ [] }
     {
@@ -45,36 +43,32 @@ impl Accepted {
         }
     }
 
-    // These operations.
     pub(crate) fn of(ops: Vec<Op>) -> Accepted
         ensures { result ≡ ops.items }
     {
         Accepted { ops }
     }
 
-    // The operations.
     pub(crate) fn as_slice(&self) -> &[Op]
         ensures { result.now ≡ self.now }
     {
         self.ops.as_slice()
     }
 
-    // The operation at a place.
     pub(crate) fn op_at(&self, place: u64) -> Option<&Op>
         ensures { option_map (λ o. o.now) result ≡ slice_get self.now place }
     {
         self.ops.get(place as usize)
     }
 
-    // How many there are.
     pub(crate) fn len(&self) -> u64
         ensures { result ≡ length self.now }
     {
         self.ops.len() as u64
     }
 
-    // Accepts an operation and puts it into the queue of its lane. `AllocError`: out of memory; nothing
-    // changed.
+    // Accepts an operation and puts it into the queue of its lane. `AllocError`: allocation failed;
+    // nothing changed.
     pub(crate) fn accept(&mut self, op: Op, desk: &mut Desk) -> Result<(), AllocError>
         requires { IsOpenAt op.producer desk.old }
         ensures list { OnOk result (self.new ≡ self.old ++ op ∷ []) }

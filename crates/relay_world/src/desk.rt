@@ -22,7 +22,8 @@ use std::alloc::{AllocError, Global};
 use std::collections::VecDeque;
 use std::marker::Model;
 
-// A lane, its queue, what its senders have done there, and what it took. Contracts see a record of these.
+// A lane, its queue, what each sender has done there, and what it took. Contracts see a record of
+// these.
 #[derive(Drop)]
 pub(crate) struct Desk {
     queue: VecDeque<Mail>,
@@ -42,7 +43,6 @@ impl Model for Desk {
     ghost invariant = { λ d. IsDesk (record { queue = d.queue.items; senders = d.senders.items; taken = d.taken.items; lane = d.lane.state }) };
 }
 
-// A fresh desk for each lane.
 pub(crate) fn fresh_desks(alloc: Global, config: RelayConfig) -> Result<Vec<Desk>, AllocError>
     requires { is_valid config ≡ true }
     ensures { IfOk result (λ v. v.items ≡ replicate config.lanes (fresh_desk config)) }
@@ -61,7 +61,7 @@ pub(crate) struct Formed {
     pub(crate) items: Vec<SentItem>,
 }
 
-// A copy of the body of a message. `AllocError`: out of memory.
+// A copy of the body of a message. `AllocError`: allocation failed.
 fn copy_of(body: &Body) -> Result<Body, AllocError>
     ensures { IfOk result (λ b. b ≡ body.now) }
 {
@@ -84,7 +84,7 @@ fn add_items(alloc: Global, batch: &[BatchItem], items: &mut Vec<SentItem>)
     }
 }
 
-// A lane forms its next request, if there is one. `AllocError`: out of memory; nothing changed.
+// Forms the lane's next request, if there is one. `AllocError`: allocation failed; nothing changed.
 fn form(lane: &mut Lane, alloc: Global) -> Result<Option<Formed>, AllocError>
     requires { AllBelow lane.old.state.flights.next lane.old.state.flights.batches }
     ensures when { IfOk result (λ o. is_some o ≡ is_some (next_batch lane.old.state)) }
@@ -103,8 +103,8 @@ fn form(lane: &mut Lane, alloc: Global) -> Result<Option<Formed>, AllocError>
     Ok(Some(Formed { number, items }))
 }
 
-// A lane forms its next request, if there is one, and it is added to those that were sent. `AllocError`:
-// out of memory; nothing changed.
+// Forms the lane's next request, if there is one, and adds it to the sent ones. `AllocError`:
+// allocation failed; nothing changed.
 pub(crate) fn send_from(
     desk: &mut Desk,
     sent: &mut Vec<SentRequest>,
@@ -136,7 +136,7 @@ fn are_closed(senders: &[Sender]) -> bool
     senders.iter().all(|sender| sender.closed)
 }
 
-// What a sender has done at a lane with one message more.
+// What a sender has done at a lane after one more message.
 fn next_of(sender: Sender, body: &Body) -> Sender
     ensures { result ≡ after_mail body.now sender }
 {
@@ -147,7 +147,6 @@ fn next_of(sender: Sender, body: &Body) -> Sender
 }
 
 impl Desk {
-    // What the lane took.
     pub(crate) fn into_taken(self) -> Vec<Op>
         ensures { result.items ≡ self.taken }
     {
@@ -172,7 +171,6 @@ impl Desk {
         })
     }
 
-    // Whether a sender has closed here.
     pub(crate) fn has_closed(&self, sender: u32) -> bool
         ensures { result ≡ has_closed sender self.now }
     {
@@ -189,21 +187,20 @@ impl Desk {
         are_closed(&self.senders) && (self.queue.len() == 0 && self.lane.held() == 0)
     }
 
-    // The operation at a place of what the lane took.
     pub(crate) fn op_at(&self, place: u64) -> Option<&Op>
         ensures { option_map (λ o. o.now) result ≡ slice_get self.now.taken place }
     {
         self.taken.get(place as usize)
     }
 
-    // What the lane has reported.
     pub(crate) fn reports(&self) -> &[Report]
         ensures { map report_of result.now ≡ self.now.lane.core.reports }
     {
         self.lane.reports()
     }
 
-    // Puts a message of a sender at the back of the queue. `AllocError`: out of memory; nothing changed.
+    // Puts a message of a sender at the back of the queue. `AllocError`: allocation failed; nothing
+    // changed.
     pub(crate) fn post(&mut self, sender: u32, body: Body) -> Result<(), AllocError>
         requires { IsOpenAt sender self.old }
         ensures ok { OnOk result (self.new ≡ posted sender body self.old) }
@@ -266,7 +263,7 @@ impl Desk {
         }
     }
 
-    // The lane takes the front of its queue. `AllocError`: out of memory; nothing changed.
+    // Takes the front of the lane's queue. `AllocError`: allocation failed; nothing changed.
     pub(crate) fn take(&mut self) -> Result<(), AllocError>
         requires { front_refusal self.old.lane self.old.queue ≡ None }
         ensures ok { OnOk result (self.new ≡ took_front self.old) }
@@ -296,7 +293,8 @@ impl Desk {
         Ok(())
     }
 
-    // The lane forms its next request, if there is one. `AllocError`: out of memory; nothing changed.
+    // Forms the lane's next request, if there is one. `AllocError`: allocation failed; nothing
+    // changed.
     pub(crate) fn request(&mut self, alloc: Global) -> Result<Option<Formed>, AllocError>
         ensures when { IfOk result (λ o. is_some o ≡ is_some (next_batch self.old.lane)) }
         ensures number { IfOk result (λ o. IfSome o (λ f. f.number ≡ self.old.lane.flights.next)) }
@@ -307,14 +305,13 @@ impl Desk {
         form(&mut self.lane, alloc)
     }
 
-    // Whether a request is in flight.
     pub(crate) fn is_flying(&self, number: u64) -> bool
         ensures { result ≡ is_flying number self.now.lane }
     {
         self.lane.writes(number).is_some()
     }
 
-    // The reply to a request was lost.
+    // Settles a request whose reply was lost.
     pub(crate) fn lost(&mut self, number: u64) -> Result<Settled, NotFlying>
         ensures flies { is_ok result ≡ is_flying number self.old.lane }
         ensures ok { OnOk result (self.new ≡ answered_desk number Lost self.old) }
@@ -325,7 +322,7 @@ impl Desk {
         self.lane.lost(number)
     }
 
-    // A request as a whole was answered with this status.
+    // Settles a request that was answered as a whole with this status.
     pub(crate) fn whole(&mut self, number: u64, status: u16) -> Result<Settled, NotFlying>
         requires { status ≢ 200 }
         ensures flies { is_ok result ≡ is_flying number self.old.lane }
@@ -337,7 +334,7 @@ impl Desk {
         self.lane.whole(number, status)
     }
 
-    // A request was answered with these entries.
+    // Settles a request that was answered with these entries.
     pub(crate) fn reply(
         &mut self,
         number: u64,

@@ -1,4 +1,4 @@
-//! Incarnations that ended.
+//! Incarnations that have ended.
 ghost use Rattle.std.specs.Prelude.{◌≡◌, ◌≤◌, unwrap_or, [], map, option_map, slice_get, vec_len, vec_capacity};
 
 use crate::accepted::Accepted;
@@ -6,8 +6,8 @@ use crate::desk::Desk;
 use relay_action::Op;
 use std::marker::Model;
 
-// What is known of an incarnation that ended: its epoch, what was accepted in it, what its lanes took, and how
-// many requests there were by its end. Contracts see a record of these.
+// What is kept of an incarnation that has ended: its epoch, what was accepted in it, what its lanes
+// took, and how many requests there were at its end. Contracts see a record of these.
 #[derive(Drop)]
 pub(crate) struct Ended {
     pub(crate) epoch: u32,
@@ -24,7 +24,7 @@ impl Model for Ended {
     ghost view = { λ e. record { epoch = e.epoch; accepted = e.accepted.items; taken = e.taken.items; sent = e.sent } };
 }
 
-// What the lane of each desk took; there is room for these lists.
+// What the lane of each desk took. There is room for these lists.
 pub(crate) fn take_all(desks: Vec<Desk>, mut lists: Vec<Accepted>) -> Vec<Accepted>
     requires none { lists.items ≡ [] }
     requires room { vec_len desks ≤ vec_capacity lists }
@@ -47,7 +47,6 @@ impl Ended {
         }
     }
 
-    // The operation at a place of what a lane took.
     pub(crate) fn op_at(&self, lane: u32, place: u64) -> Option<&Op>
         ensures { option_map (λ o. o.now) result
             ≡ slice_get (unwrap_or (slice_get self.now.taken lane) []) place }

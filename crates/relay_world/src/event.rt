@@ -4,15 +4,16 @@ use relay_core::Settled;
 use relay_index::Choice;
 use thiserror::Error;
 
-/// What may happen in the world. Lanes and producers are counted from 0; the control is a sender
-/// numbered one past the last producer. Requests are numbered from 1 over all lanes, in the order in which
-/// they were sent; the items of a request and the runs of an item are counted from 1.
+/// An event of the world. Lanes and producers are counted from 0; the control is the sender whose
+/// number is one above that of the last producer. Requests are numbered from 1 over all lanes, in
+/// the order in which they were sent; the items of a request and the runs of an item are counted
+/// from 1.
 #[derive(Debug, Drop)]
 pub enum Event {
     /// A producer puts an operation on a document into the queue of the document's lane.
     Put(u32, DocKey, Action),
-    /// A sender closes at a lane: Done goes into that lane's queue. The first Close of a sender closes
-    /// it, so that nothing is put by it any more.
+    /// A sender closes at a lane: its Done goes into that lane's queue. Its first Close closes the
+    /// sender, which puts nothing more.
     Close(u32, u32),
     /// The control puts a tick of the clock into the queue of a lane.
     Tick(u32),
@@ -22,22 +23,22 @@ pub enum Event {
     Take(u32),
     /// A lane forms its next request, and it is sent.
     Send(u32),
-    /// The index runs an item of a sent request, as often as this comes, or refuses it.
+    /// The index runs an item of a sent request, any number of times, or refuses it.
     Run(u64, u64, Choice),
-    /// A request is answered with the outcomes of its items' runs: for each the last, or the one that is
-    /// picked for it, one pick for each item.
+    /// A request is answered with the outcomes of its items' runs: for each item the last one, or
+    /// the one picked for it, with one pick per item.
     Reply(u64, List<u64>),
     /// A request as a whole is answered with a status from 201 to 599.
     Whole(u64, u16),
     /// The reply to a request is lost.
     Lost(u64),
-    /// The relay ends and starts again in this epoch, above the current one: queues, lanes, reports and
-    /// producers are new, and so are operation numbers and closes. Sent requests keep their numbers; an old
-    /// one may still be run, and is never answered.
+    /// The relay ends and starts again in this epoch, which is above the current one: queues,
+    /// lanes, reports and producers start afresh, including operation numbers and closes. Sent
+    /// requests keep their numbers; an old one may still be run, but is never answered.
     Restart(u32),
 }
 
-/// Why an event is refused. Of each event the first cause that holds is given, in the order below.
+/// Why an event is refused: for each event the first cause that applies, in this order.
 ///
 /// - Put: `NoSuch`, `Closed`, `NumbersSpent`, `QueueFull`.
 /// - Close: `NoSuch`, `Closed` (at this lane), `QueueFull`.
@@ -54,25 +55,25 @@ pub enum Refusal {
     /// The sender has closed.
     #[error("Closed")]
     Closed,
-    /// The lane's queue holds as many messages as it may.
+    /// The lane's queue is at its capacity.
     #[error("QueueFull")]
     QueueFull,
     /// Nothing is queued.
     #[error("NothingQueued")]
     NothingQueued,
-    /// An operation is at the front, and the lane holds as many as it may.
+    /// An operation is at the front, and the lane holds its maximum number of operations.
     #[error("HeldFull")]
     HeldFull,
-    /// There is no batch to send, or as many requests are in flight as may be.
+    /// There is no batch to send, or the maximum number of requests is in flight.
     #[error("NoRequest")]
     NoRequest,
     /// There is no such request, or no such item.
     #[error("NotSent")]
     NotSent,
-    /// The request was answered before, or it was sent before the last restart.
+    /// The request was answered already, or it was sent before the last restart.
     #[error("NotFlying")]
     NotFlying,
-    /// An item has no such run, or there are picks and not one for each item.
+    /// An item has no such run, or the number of picks is not that of the items.
     #[error("NotRun")]
     NotRun,
     /// The index may not refuse an item with this status, or a whole request may not be answered with it.
@@ -84,7 +85,7 @@ pub enum Refusal {
     /// The producer has put 2^40 operations.
     #[error("NumbersSpent")]
     NumbersSpent,
-    /// The epoch is not above the current one, or it is over 4,194,303.
+    /// The epoch is not above the current one, or it is above 4,194,303.
     #[error("NotAbove")]
     NotAbove,
 }
@@ -100,17 +101,17 @@ pub enum StepAnswer {
     Sent(u64),
     /// An item was run, with this status.
     Ran(u16),
-    /// A request was answered, and this is what became of its operations.
+    /// A request was answered, with these counts of how its operations ended.
     Settled(Settled),
-    /// All other events.
+    /// Any other event was accepted.
     Done,
 }
 
 /// How a list of events ended.
 #[derive(Clone, Copy, Debug, PartialEq, Eq)]
 pub struct RunEnd {
-    /// How many events were accepted.
+    /// The number of events that were accepted.
     pub done: u64,
-    /// How many were refused.
+    /// The number of events that were refused.
     pub refused: u64,
 }

@@ -1,17 +1,18 @@
-//! What is promised of worlds that are tied to the machines of delivery. These functions do nothing;
-//! their contracts are the laws.
+//! What is promised of worlds that are tied to the machines of delivery. These functions do
+//! nothing; their contracts are the laws.
 ghost use Rattle.relay_world.specs.Ties.{FreshIsWorld, StepsKeepTied, WorldsDeliver, FreshIsBelow, HighestIsBelow};
 
-/// A fresh world is tied to machines of delivery which share one outside, if every version that the index
-/// has is below the first one to be assigned; each event keeps a world tied; and a tied world delivers.
+/// A fresh world is tied to machines of delivery which share one outside, if every version that the
+/// index has is below the first one to be assigned; each event keeps a world tied; and a tied world
+/// delivers.
 pub fn tied_worlds_deliver()
     ensures fresh { FreshIsWorld }
     ensures steps { StepsKeepTied }
     ensures deliver { WorldsDeliver }
 {}
 
-/// An index to which nothing was applied is below every version, and so is one whose highest version is:
-/// what `World::new` asks of its index.
+/// The condition that `World::new` has for its index: an index to which nothing was applied is
+/// below every version, and any other is if its highest version is.
 pub fn indexes_are_below()
     ensures fresh { FreshIsBelow }
     ensures highest { HighestIsBelow }

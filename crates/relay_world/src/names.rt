@@ -1,4 +1,4 @@
-//! The names of the operations whose writes were applied, document by document.
+//! The names of the operations whose writes were applied, by document.
 ghost use Rattle.std.specs.Prelude.{◌≡◌, ℕ, [], ◌∷◌, ◌++◌, ◌&&◌, OnOk, OnErr, IfOk, length, if◌then◌else◌};
 ghost use Rattle.relay_results.specs.Documents.{Document, document_of, same_document};
 ghost use Rattle.relay_index.specs.Choices.{MayChoose};
@@ -14,8 +14,8 @@ use relay_index::{Choice, Index};
 use std::alloc::{AllocError, Global};
 use std::marker::Model;
 
-// What is kept of a document: how many writes the index had of it at the start, and the names of the
-// operations whose writes were applied since.
+// What is kept of a document: how many writes the index had of it at the start, and the names of
+// the operations whose writes were applied since.
 #[derive(Drop)]
 pub(crate) struct Named {
     before: usize,
@@ -31,7 +31,6 @@ impl Model for Named {
 }
 
 impl Named {
-    // A document to which nothing was applied since the start. It does not allocate.
     fn new(alloc: Global, before: usize) -> Named
         ensures { result ≡ record { before = before; names = [] } }
     {
@@ -41,22 +40,20 @@ impl Named {
         }
     }
 
-    // How many writes there were at the start.
     fn before(&self) -> usize
         ensures { result ≡ self.now.before }
     {
         self.before
     }
 
-    // The names.
     fn as_slice(&self) -> &[OpName]
         ensures { result.now ≡ self.now.names }
     {
         self.names.as_slice()
     }
 
-    // The index runs the write of an item, and the name is noted if it was applied. `AllocError`: out of
-    // memory; nothing changed.
+    // Runs the write of an item on the index, and records the name if it was applied. `AllocError`:
+    // allocation failed; nothing changed.
     fn run(
         &mut self,
         index: &mut Index,
@@ -82,7 +79,7 @@ impl Named {
     }
 }
 
-// What is kept of the documents that were run. Contracts see it as the entries.
+// What is kept of the documents for which something was run. Contracts see it as the entries.
 #[derive(Drop)]
 pub(crate) struct Names {
     documents: IndexMap<DocKey, Named>,
@@ -99,7 +96,6 @@ impl Model for Names {
 }
 
 impl Names {
-    // Nothing was applied. It does not allocate.
     pub(crate) fn new(alloc: Global) -> Names
         ensures { result ≡ [] }
     {
@@ -108,7 +104,6 @@ impl Names {
         }
     }
 
-    // The names of a document.
     pub(crate) fn names(&self, key: &DocKey) -> &[OpName]
         ensures { result.now ≡ names_of (kept_among self.now (document_of key.now)) }
     {
@@ -128,8 +123,8 @@ impl Names {
         }
     }
 
-    // The index runs the write of an item, and the name is noted if it was applied. `AllocError`: out of
-    // memory; nothing changed.
+    // Runs the write of an item on the index, and records the name if it was applied. `AllocError`:
+    // allocation failed; nothing changed.
     pub(crate) fn run(
         &mut self,
         index: &mut Index,

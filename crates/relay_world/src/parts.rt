@@ -1,4 +1,4 @@
-//! What the world is made of, and each event of it.
+//! The parts of a world, and each event on them.
 ghost use Rattle.std.specs.Prelude.{◌≡◌, ◌≢◌, slice_get, is_ok, ◌-◌, ◌^◌, ◌<◌, [], ◌∷◌, None, Some, true, OnOk, OnErr, IfOk, IfSome, map, option_map, is_some, length};
 ghost use Rattle.relay_results.specs.Words.{update};
 ghost use Rattle.relay_results.specs.Outside.{Items, Whole, Lost};
@@ -29,10 +29,11 @@ use std::alloc::{AllocError, Global};
 use std::marker::Model;
 use std::mem;
 
-// The most operations of a producer, 2^40.
+// The maximum number of operations of a producer, 2^40.
 const NUMBER_LIMIT: u64 = 1_099_511_627_776;
 
-// Lanes with their queues, what was accepted and sent, the index, and the names of what it applied.
+// The lanes with their queues, what was accepted and sent, the index, and the names of what it
+// applied.
 #[derive(Drop)]
 pub(crate) struct Parts {
     alloc: Global,
@@ -56,7 +57,6 @@ impl Model for Parts {
     ghost invariant = { IsSound };
 }
 
-// The pick at a place, if there is one.
 fn pick_at(picks: &[u64], place: usize) -> Option<u64>
     ensures { result ≡ slice_get picks.now place }
 {
@@ -74,7 +74,6 @@ fn may_choose(choice: Choice) -> bool
 }
 
 impl Parts {
-    // Nothing has happened yet. `AllocError`: out of memory.
     pub(crate) fn new(alloc: Global, config: RelayConfig, index: Index) -> Result<Parts, AllocError>
         requires { is_valid config ≡ true }
         ensures { IfOk result (λ w. w ≡ fresh config index) }
@@ -94,7 +93,7 @@ impl Parts {
 
 // Look-ups.
 impl Parts {
-    // The config, and that what is in memory fits it.
+    // The config. What is in memory is within its limits.
     fn config(&self) -> RelayConfig
         ensures config { result ≡ self.now.config }
         ensures kept { ArePartsOf self.now }
@@ -102,7 +101,6 @@ impl Parts {
         self.config
     }
 
-    // A lane with its queue.
     fn desk(&self, lane: u32) -> Option<&Desk>
         ensures { option_map (λ d. d.now) result ≡ desk_at self.now lane }
     {
@@ -138,7 +136,6 @@ impl Parts {
         self.names.names(key)
     }
 
-    // What a lane has reported.
     pub(crate) fn reports(&self, lane: u32) -> &[Report]
         ensures { map report_of result.now ≡ reports self.now lane }
     {
@@ -189,7 +186,7 @@ impl Parts {
         place_dealt(self.config().deal, epoch, version)
     }
 
-    // The operation to which a lane assigned a version, in the incarnation that did.
+    // The operation to which a lane assigned a version, in the incarnation that assigned it.
     fn op_with(&self, lane: u32, version: u64) -> Option<&Op>
         ensures { option_map (λ o. o.now) result ≡ op_with self.now lane version }
     {
@@ -201,7 +198,7 @@ impl Parts {
         self.op_running(lane, version)
     }
 
-    // The same, of the current incarnation alone.
+    // The same for the current incarnation only.
     fn op_running(&self, lane: u32, version: u64) -> Option<&Op>
         ensures { option_map (λ o. o.now) result
             ≡ op_among self.now.config.deal (running self.now ∷ []) lane version }
@@ -246,8 +243,8 @@ impl Parts {
         }
     }
 
-    // Starts again in an epoch above the current one. All that can fail comes first. `AllocError`: out of
-    // memory; nothing changed.
+    // Starts again in an epoch above the current one. All that can fail comes first. `AllocError`:
+    // allocation failed; nothing changed.
     fn begin(&mut self, epoch: u32) -> Result<(), AllocError>
         requires { is_above self.old epoch ≡ true }
         ensures ok { OnOk result (self.new ≡ restarted self.old epoch) }
@@ -306,7 +303,7 @@ impl Parts {
         }
     }
 
-    // Accepts an operation, which is not refused.
+    // Accepts an operation that is not refused.
     fn accept(&mut self, op: Op, lane: u32) -> Result<(), AllocError>
         requires lane { lane ≡ lane_of self.old (document_of op.key) }
         requires fits { put_refusal self.old op.producer lane ≡ None }
@@ -316,7 +313,6 @@ impl Parts {
         self.accepted[op.producer as usize].accept(op, &mut self.desks[lane as usize])
     }
 
-    // A producer puts an operation.
     pub(crate) fn put(
         &mut self,
         producer: u32,
@@ -343,7 +339,6 @@ impl Parts {
         Ok(StepAnswer::Put(name))
     }
 
-    // The lane of a document.
     fn lane_of(&self, key: &DocKey) -> u32
         ensures { result ≡ lane_of self.now (document_of key.now) }
     {
@@ -384,7 +379,6 @@ impl Parts {
         self.desks[lane as usize].post(sender, body)
     }
 
-    // A sender closes at a lane.
     pub(crate) fn close(&mut self, sender: u32, lane: u32) -> Result<StepAnswer, AllocError>
         ensures ok { IfOk result (λ x. Steps self.old (event.Close sender lane) x self.new) }
         ensures unchanged { OnErr result (self.new ≡ self.old) }
@@ -396,7 +390,6 @@ impl Parts {
         Ok(StepAnswer::Done)
     }
 
-    // The control puts a tick into the queue of a lane.
     pub(crate) fn tick(&mut self, lane: u32) -> Result<StepAnswer, AllocError>
         ensures ok { IfOk result (λ x. Steps self.old (event.Tick lane) x self.new) }
         ensures unchanged { OnErr result (self.new ≡ self.old) }
@@ -409,7 +402,6 @@ impl Parts {
         Ok(StepAnswer::Done)
     }
 
-    // The control puts a flush into the queue of a lane.
     pub(crate) fn flush(&mut self, lane: u32) -> Result<StepAnswer, AllocError>
         ensures ok { IfOk result (λ x. Steps self.old (event.Flush lane) x self.new) }
         ensures unchanged { OnErr result (self.new ≡ self.old) }
@@ -435,7 +427,7 @@ impl Parts {
         }
     }
 
-    // A lane takes the front of its queue, which is not refused.
+    // Takes the front of a lane's queue, which is not refused.
     fn take_front(&mut self, lane: u32) -> Result<(), AllocError>
         requires { take_refusal self.old lane ≡ None }
         ensures ok { OnOk result (self.new ≡ at_lane lane took_front self.old) }
@@ -444,7 +436,6 @@ impl Parts {
         self.desks[lane as usize].take()
     }
 
-    // A lane takes the front of its queue.
     pub(crate) fn take(&mut self, lane: u32) -> Result<StepAnswer, AllocError>
         ensures ok { IfOk result (λ x. Steps self.old (event.Take lane) x self.new) }
         ensures unchanged { OnErr result (self.new ≡ self.old) }
@@ -456,7 +447,7 @@ impl Parts {
         Ok(StepAnswer::Done)
     }
 
-    // A lane forms its next request, if there is one, and it is sent.
+    // Forms the lane's next request, if there is one, and sends it.
     fn form(&mut self, lane: u32) -> Result<bool, AllocError>
         requires { IsThere self.old lane }
         ensures ok { IfOk result (λ b. Forms self.old lane b self.new) }
@@ -471,7 +462,6 @@ impl Parts {
         )
     }
 
-    // How many requests were sent.
     fn requests(&self) -> u64
         ensures requests { result ≡ length self.now.sent }
         ensures few { result < 2 ^ 63 }
@@ -479,7 +469,6 @@ impl Parts {
         self.sent.len() as u64
     }
 
-    // A lane forms its next request, and it is sent.
     pub(crate) fn send(&mut self, lane: u32) -> Result<StepAnswer, AllocError>
         ensures ok { IfOk result (λ x. Steps self.old (event.Send lane) x self.new) }
         ensures unchanged { OnErr result (self.new ≡ self.old) }
@@ -498,7 +487,7 @@ impl Parts {
 
 // Items are run.
 impl Parts {
-    // The item of a request, both by their numbers.
+    // The item of a request, both by number.
     fn item(&self, request: u64, item: u64) -> Option<&SentItem>
         ensures { option_map (λ i. i.now) result ≡ item_at self.now request item }
     {
@@ -532,7 +521,6 @@ impl Parts {
         Ok(Some((op.name(), write)))
     }
 
-    // The index runs an item of a sent request.
     pub(crate) fn run(
         &mut self,
         request: u64,
@@ -553,7 +541,7 @@ impl Parts {
         Ok(StepAnswer::Ran(status))
     }
 
-    // The index runs the write of an item.
+    // Runs the write of an item.
     fn run_write(
         &mut self,
         request: u64,
@@ -594,7 +582,8 @@ impl Parts {
         }
     }
 
-    // The entry of an item of a request that a lane sent, for the run that is picked, if it has that run.
+    // The entry for an item of a request that a lane sent, from the run that is picked, if there is
+    // that run.
     fn entry(
         &self,
         lane: u32,
@@ -620,7 +609,7 @@ impl Parts {
         Ok(Some(done.outcome(self.alloc)?))
     }
 
-    // The entries of a reply to a request, if the picks are right and each item has the run.
+    // The entries of a reply to a request, if the picks are valid and each item has its run.
     fn entries(&self, sent: &SentRequest, picks: &[u64]) -> Result<Option<Vec<Outcome>>, AllocError>
         ensures { IfOk result
             (λ o. option_map (λ v. v.items) o ≡ entries self.now sent.now picks.now) }
@@ -632,7 +621,7 @@ impl Parts {
         }
     }
 
-    // The entries of these items, if each has the run.
+    // The entries for these items, if each has its run.
     fn entries_for(
         &self,
         lane: u32,
@@ -652,7 +641,7 @@ impl Parts {
         Ok(Some(outcomes))
     }
 
-    // Notes the answer to a request.
+    // Records the answer to a request.
     fn note(&mut self, request: u64, given: Given)
         requires { IsSent self.old request }
         ensures { self.new ≡ record self.old {
@@ -662,7 +651,7 @@ impl Parts {
         self.sent[request.saturating_sub(1) as usize].note(given);
     }
 
-    // The reply to a request of a lane was lost.
+    // Settles a lane's request whose reply was lost.
     fn lose(&mut self, lane: u32, number: u64) -> Result<Settled, NotFlying>
         requires { IsThere self.old lane }
         ensures flies { is_ok result ≡ flies_at number (desk_at self.old lane) }
@@ -673,7 +662,7 @@ impl Parts {
         self.desks[lane as usize].lost(number)
     }
 
-    // A request of a lane was answered as a whole.
+    // Settles a lane's request that was answered as a whole.
     fn reject(&mut self, lane: u32, number: u64, status: u16) -> Result<Settled, NotFlying>
         requires there { IsThere self.old lane }
         requires status { status ≢ 200 }
@@ -686,7 +675,7 @@ impl Parts {
         self.desks[lane as usize].whole(number, status)
     }
 
-    // A request of a lane was answered with entries.
+    // Settles a lane's request that was answered with entries.
     fn settle(
         &mut self,
         lane: u32,
@@ -704,7 +693,6 @@ impl Parts {
         self.desks[lane as usize].reply(number, entries)
     }
 
-    // A request is answered with the outcomes of its items' runs.
     pub(crate) fn reply(&mut self, request: u64, picks: &[u64]) -> Result<StepAnswer, AllocError>
         ensures ok { IfOk result
             (λ x. Steps self.old (event.Reply request picks.now) x self.new) }
@@ -733,7 +721,6 @@ impl Parts {
         }
     }
 
-    // A request as a whole is answered with a status.
     pub(crate) fn whole(&mut self, request: u64, status: u16) -> StepAnswer
         ensures { Steps self.old (event.Whole request status) result self.new }
     {
@@ -757,7 +744,6 @@ impl Parts {
         }
     }
 
-    // The reply to a request is lost.
     pub(crate) fn lost(&mut self, request: u64) -> StepAnswer
         ensures { Steps self.old (event.Lost request) result self.new }
     {

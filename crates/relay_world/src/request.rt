@@ -17,23 +17,23 @@ use relay_results::{DoneResult, Outcome};
 use std::alloc::{AllocError, Global};
 use std::marker::Model;
 
-/// What a run of an item came to.
+/// The result of running an item.
 #[derive(Clone, Copy, Debug, PartialEq, Eq)]
 pub struct RunDone {
     /// The status of the item.
     pub status: u16,
-    /// What became of the write.
+    /// The result of the write.
     pub result: DoneResult,
 }
 
 /// The answer to a request.
 #[derive(Drop)]
 pub enum Given {
-    /// Nothing yet.
+    /// None yet.
     Nothing,
     /// The entries of a reply.
     Entries(Vec<Outcome>),
-    /// A status of the whole request.
+    /// A status for the request as a whole.
     Status(u16),
     /// The reply was lost.
     Loss,
@@ -51,7 +51,8 @@ fn applies(index: &Index, write: &Write, choice: Choice) -> bool
     }
 }
 
-// An item of a sent request. Contracts see it as the version of its operation and the outcomes of its runs.
+// An item of a sent request. Contracts see it as the version of its operation and the outcomes of
+// its runs.
 #[derive(Drop)]
 pub(crate) struct SentItem {
     version: u64,
@@ -69,7 +70,6 @@ impl Model for SentItem {
 }
 
 impl SentItem {
-    // An item that was not run yet. It does not allocate.
     pub(crate) fn new(alloc: Global, version: u64) -> SentItem
         ensures { result ≡ record { version = version; runs = [] } }
     {
@@ -79,14 +79,13 @@ impl SentItem {
         }
     }
 
-    // The version that was assigned to its operation.
     pub(crate) fn version(&self) -> u64
         ensures { result ≡ self.now.version }
     {
         self.version
     }
 
-    // Its last run, or the one with a number, from 1.
+    // Its last run, or the one with this number, from 1.
     pub(crate) fn run_by(&self, pick: Option<u64>) -> Option<RunDone>
         ensures { option_map run_outcome result ≡ run_by self.now.runs pick }
     {
@@ -98,8 +97,8 @@ impl SentItem {
         run.copied()
     }
 
-    // The index runs the write of this item, and its name is noted if it was applied. `AllocError`: out of
-    // memory; nothing changed.
+    // Runs the write of this item on the index, and records its name if it was applied.
+    // `AllocError`: allocation failed; nothing changed.
     pub(crate) fn run(
         &mut self,
         index: &mut Index,
@@ -153,7 +152,6 @@ impl Model for SentRequest {
 }
 
 impl SentRequest {
-    // A request that was not answered yet.
     pub(crate) fn new(epoch: u32, lane: u32, number: u64, items: Vec<SentItem>) -> SentRequest
         ensures { result ≡ record {
           epoch = epoch;
@@ -172,43 +170,38 @@ impl SentRequest {
         }
     }
 
-    // The epoch in which it was sent.
     pub(crate) fn epoch(&self) -> u32
         ensures { result ≡ self.now.epoch }
     {
         self.epoch
     }
 
-    // The lane that sent it.
     pub(crate) fn lane(&self) -> u32
         ensures { result ≡ self.now.lane }
     {
         self.lane
     }
 
-    // Its number there.
     pub(crate) fn number(&self) -> u64
         ensures { result ≡ self.now.number }
     {
         self.number
     }
 
-    // Its items.
     pub(crate) fn items(&self) -> &[SentItem]
         ensures { result.now ≡ self.now.items }
     {
         self.items.as_slice()
     }
 
-    // Notes the answer.
     pub(crate) fn note(&mut self, given: Given)
         ensures { self.new ≡ sent_answer (answer_of given) self.old }
     {
         self.given = given;
     }
 
-    // The index runs an item, and its name is noted if the write was applied. `AllocError`: out of memory;
-    // nothing changed.
+    // Runs an item on the index, and records its name if the write was applied. `AllocError`:
+    // allocation failed; nothing changed.
     pub(crate) fn run(
         &mut self,
         item: u64,

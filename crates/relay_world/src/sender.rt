@@ -3,7 +3,7 @@
 /// What a sender has done at a lane.
 #[derive(Clone, Copy, Debug, PartialEq, Eq)]
 pub struct Sender {
-    /// How many messages it put there; at 2^64 - 1 the count stays.
+    /// The number of messages that it put there; it saturates at 2^64 - 1.
     pub count: u64,
     /// Whether it has closed there.
     pub closed: bool,

@@ -18,9 +18,9 @@ use relay_index::Index;
 use std::alloc::{AllocError, Global};
 use std::marker::Model;
 
-/// Lanes with their queues over one index, on which events are played. Contracts see it as a `World`
-/// of `specs/State.antt`: what is queued, taken and held at each lane, what was accepted, sent, run and
-/// answered, and whose writes the index applied.
+/// Lanes with their queues over one index, on which events are played. Contracts see it as a
+/// `World` of `specs/State.antt`: what is queued, taken and held at each lane, what was accepted,
+/// sent, run and answered, and whose writes the index applied.
 #[derive(Drop)]
 pub struct World {
     parts: Parts,
@@ -37,7 +37,7 @@ impl Model for World {
     ghost invariant = { λ w. IsWorld w.parts };
 }
 
-// One event more was accepted, or refused.
+// The counts after one more event.
 fn counted(answer: StepAnswer, end: RunEnd) -> RunEnd
     requires { end.done + end.refused < 2 ^ 63 }
     ensures { result ≡ counted answer end }
@@ -50,7 +50,7 @@ fn counted(answer: StepAnswer, end: RunEnd) -> RunEnd
     now
 }
 
-// One event, on the parts of a world.
+// Plays one event on the parts of a world.
 fn play(parts: &mut Parts, event: &Event) -> Result<StepAnswer, AllocError>
     ensures ok { IfOk result (λ x. Steps parts.old event.now x parts.new) }
     ensures unchanged { OnErr result (parts.new ≡ parts.old) }
@@ -71,7 +71,7 @@ fn play(parts: &mut Parts, event: &Event) -> Result<StepAnswer, AllocError>
     }
 }
 
-// Events one after another, on the parts of a world.
+// Plays events on the parts of a world.
 fn play_all(parts: &mut Parts, events: &[Event]) -> Result<RunEnd, (u64, AllocError)>
     ensures ok { IfOk result (λ end. Plays parts.old none_yet events.now end parts.new) }
     ensures err { IfErr result (λ e. (end : RunEnd) × (end.done + end.refused ≡ e.0)
@@ -95,9 +95,9 @@ fn play_all(parts: &mut Parts, events: &[Event]) -> Result<RunEnd, (u64, AllocEr
 
 // Events are played.
 impl World {
-    /// A world in which nothing has happened, over an index that may have versions from before: each has to
-    /// be below the first one of the config's epoch, which `Index::highest` tells. The config has to be valid.
-    /// `AllocError`: out of memory.
+    /// A world in which nothing has happened, over an index that may have versions from before:
+    /// each must be below the first one of the config's epoch, which can be checked with
+    /// `Index::highest`. The config must be valid. `AllocError`: allocation failed.
     pub fn new(alloc: Global, config: RelayConfig, index: Index) -> Result<World, AllocError>
         requires valid { is_valid config ≡ true }
         requires below { IsBelow (first_in config.epoch) index }
@@ -108,10 +108,11 @@ impl World {
         })
     }
 
-    /// One event. It is refused exactly if one of its causes holds, with the first that does, and changes
-    /// nothing then; else it changes what its rule says, and nothing else. Afterwards, as before, all that
-    /// was accepted is exactly accounted for. `AllocError`: out of memory; nothing changed. The answer to a
-    /// request as a whole, and the loss of one, do not allocate.
+    /// Plays one event. It is refused exactly if one of its causes applies, with the first that
+    /// does, and changes nothing then; otherwise it changes what its rule says, and nothing else.
+    /// Before and afterwards, all that was accepted is exactly accounted for. `AllocError`:
+    /// allocation failed; nothing changed. Answering a request as a whole, and losing its reply,
+    /// does not allocate.
     pub fn step(&mut self, event: &Event) -> Result<StepAnswer, AllocError>
         ensures ok { IfOk result (λ x. Steps self.old event.now x self.new) }
         ensures unchanged { OnErr result (self.new ≡ self.old) }
@@ -122,11 +123,11 @@ impl World {
         play(&mut self.parts, event)
     }
 
-    /// Events one after another, also after a refused one; how many were accepted, and how many refused.
-    /// An error has the number of events that were finished before the one for which memory ran out; that
-    /// one changed nothing. Whatever the events and their order, restarts among them, all that was accepted
-    /// is exactly accounted for afterwards; and if the epoch is still the same, nothing more was accepted
-    /// from a producer that had closed.
+    /// Plays events, going on after refused ones, and returns how many were accepted and how many
+    /// refused. An error has the number of events before the one for which an allocation failed;
+    /// that one changed nothing. Whatever the events and their order, including restarts, all that
+    /// was accepted is exactly accounted for afterwards; and if the epoch is still the same,
+    /// nothing more was accepted from a producer that had closed.
     pub fn run(&mut self, events: &[Event]) -> Result<RunEnd, (u64, AllocError)>
         ensures ok { IfOk result (λ end. Plays self.old none_yet events.now end self.new) }
         ensures err { IfErr result (λ e. (end : RunEnd) × (end.done + end.refused ≡ e.0)
@@ -143,16 +144,16 @@ impl World {
 
 // Look-ups.
 impl World {
-    /// What was accepted from a producer since the last restart, in the order in which it was put; nothing if
-    /// there is no such producer.
+    /// What was accepted from a producer since the last restart, in the order in which it was put;
+    /// empty if there is no such producer.
     pub fn accepted(&self, producer: u32) -> &[Op]
         ensures { result.now ≡ accepted_from self.now producer }
     {
         self.parts.accepted(producer)
     }
 
-    /// What was accepted from a producer in the incarnation of an epoch, in the order in which it was put;
-    /// nothing if that epoch or producer did not run.
+    /// What was accepted from a producer in the incarnation with this epoch, in the order in which
+    /// it was put; empty if there was no such epoch or producer.
     pub fn accepted_in(&self, epoch: u32, producer: u32) -> &[Op]
         ensures { result.now ≡ accepted_in (incarnations_of self.now) epoch producer }
     {
@@ -183,24 +184,24 @@ impl World {
         self.parts.sent(request, item)
     }
 
-    /// What a lane has reported since the last restart, in order; nothing if there is no such lane.
+    /// The reports of a lane since the last restart, in order; empty if there is no such lane.
     pub fn reports(&self, lane: u32) -> &[Report]
         ensures { map report_of result.now ≡ reports self.now lane }
     {
         self.parts.reports(lane)
     }
 
-    /// The documents that the index applied a write to since the start, deleted ones too, in byte order of
-    /// their index names and then of their ids. `AllocError`: out of memory.
+    /// The documents to which the index applied a write since the start, including deleted ones, in
+    /// byte order of their index names and then of their ids. `AllocError`: allocation failed.
     pub fn keys(&self) -> Result<Vec<DocKey>, AllocError>
         ensures { IfOk result (λ keys. AreKeysOf self.now keys.items) }
     {
         self.parts.keys()
     }
 
-    /// Whether each sender has closed at each lane, nothing is queued, and no lane holds an operation.
-    /// If so, each operation accepted since the last restart was applied or is reported (`complete` of
-    /// `Delivered`).
+    /// Whether each sender has closed at each lane, nothing is queued, and no lane holds an
+    /// operation. If so, each operation accepted since the last restart was applied or is reported
+    /// (`complete` of `Delivered`).
     pub fn finished(&self) -> bool
         ensures answer { result ≡ is_finished self.now }
         ensures delivered { Delivered self.now }

@@ -1,4 +1,4 @@
-//! Over an index that has versions from before.
+//! Worlds over an index that has versions from before.
 ghost use Rattle.std.specs.Prelude.{◌≡◌, ◌+◌, ◌*◌, ◌^◌, true};
 ghost use Rattle.relay_world.specs.State.{IsBelow};
 
@@ -15,7 +15,7 @@ fn key_of(alloc: Global, id: &str) -> Result<DocKey, Fail> {
     Ok(DocKey::new(alloc, "b", id)?)
 }
 
-/// An index deletes a document under version 5.
+/// Deletes a document from an index under version 5.
 fn delete_at_five(alloc: Global, index: &mut Index, id: &str) -> Result<(), Fail> {
     let write = Write {
         key: key_of(alloc, id)?,
@@ -38,7 +38,7 @@ fn index_at_five(alloc: Global) -> Result<Index, Fail> {
 /// An epoch whose versions are above those of that index.
 const NEXT_EPOCH: RelayConfig = RelayConfig { epoch: 1, ..THREE };
 
-/// Whether the versions of an index are below the first one that is dealt.
+/// Whether the versions of an index are below the first one to be assigned.
 fn is_below(config: RelayConfig, index: &Index) -> bool
     ensures { result ≡ true → IsBelow (config.epoch * 2 ^ 40 + 1) index.now }
 {
@@ -48,7 +48,7 @@ fn is_below(config: RelayConfig, index: &Index) -> bool
     }
 }
 
-/// A world over an index, where the config is valid and the index below its first version.
+/// A world over an index, if the config is valid and the index below its first version.
 fn world_over(alloc: Global, config: RelayConfig, index: Index) -> Result<Option<World>, Fail> {
     if !config.valid() || !is_below(config, &index) {
         return Ok(None);
@@ -70,19 +70,19 @@ fn status_of_run(world: &mut World) -> u16 {
     }
 }
 
-/// Whether a world has written document 1 alone, once.
+/// Whether a world has written only document 1, once.
 fn has_one(alloc: Global, world: &World) -> Result<bool, Fail> {
     let keys = world.keys()?;
     let one = key_of(alloc, "1")?;
     Ok(keys.len() == 1 && keys.first() == Some(&one) && world.applied(&one).len() == 1)
 }
 
-/// Whether nothing of a document was applied.
+/// Whether no write was applied to a document.
 fn has_none(alloc: Global, world: &World, id: &str) -> Result<bool, Fail> {
     Ok(world.applied(&key_of(alloc, id)?).is_empty())
 }
 
-/// Whether a world has no documents of its own, and nothing of document 1 was applied.
+/// Whether a world has no documents of its own, and no write was applied to document 1.
 fn is_fresh(alloc: Global, world: &World) -> Result<bool, Fail> {
     Ok(has_none(alloc, world, "1")? && world.keys()?.is_empty())
 }
@@ -97,7 +97,7 @@ fn creates_one(alloc: Global, world: &mut World) -> Result<bool, Fail> {
     )
 }
 
-/// Whether a fresh world writes document 1, and has that alone then.
+/// Whether a fresh world writes document 1, and then has only that.
 fn has_only_its_own(alloc: Global, world: &mut World) -> Result<bool, Fail> {
     Ok(
         is_fresh(alloc, world)?
@@ -107,7 +107,7 @@ fn has_only_its_own(alloc: Global, world: &mut World) -> Result<bool, Fail> {
     )
 }
 
-/// Whether a world over that index does, of a first version above those stored.
+/// Whether a world over that index does, with a first version above the stored ones.
 fn goes_above(alloc: Global) -> Result<bool, Fail> {
     let index = index_at_five(alloc)?;
     match world_over(alloc, NEXT_EPOCH, index)? {
@@ -116,20 +116,20 @@ fn goes_above(alloc: Global) -> Result<bool, Fail> {
     }
 }
 
-// What stood there before is neither applied by it nor among its documents.
+// What was in the index before is not applied by the world, nor is it among its documents.
 #[test]
 fn only_its_own(rt: HostRuntime) -> Result<(), Fail> {
     assert!(rt; goes_above(rt.alloc())?);
     Ok(())
 }
 
-/// Whether there is a world over that index whose first version is stored already.
+/// Whether there is a world over that index whose first version is already stored.
 fn goes_below(alloc: Global) -> Result<bool, Fail> {
     let index = index_at_five(alloc)?;
     Ok(world_over(alloc, THREE, index)?.is_some())
 }
 
-// A first version that is stored already is refused before there is a world.
+// A first version that is already stored is refused before there is a world.
 #[test]
 fn stored_at_the_first(rt: HostRuntime) -> Result<(), Fail> {
     assert!(rt; !goes_below(rt.alloc())?);
@@ -169,7 +169,7 @@ fn next_of(lane: &mut Lane) -> u64 {
     }
 }
 
-/// The index runs the first write of a request.
+/// Runs the first write of a request on the index.
 fn run_first(alloc: Global, lane: &Lane, number: u64, index: &mut Index) -> Result<Outcome, Fail> {
     let write = lane
         .writes(number)
@@ -179,7 +179,8 @@ fn run_first(alloc: Global, lane: &Lane, number: u64, index: &mut Index) -> Resu
     Ok(done.outcome(alloc)?)
 }
 
-/// How many operations a reply of one outcome settled as applied before, and how many it reported.
+/// How many operations a reply with one outcome settled as already applied, and how many it
+/// reported.
 fn already_by(
     alloc: Global,
     lane: &mut Lane,
@@ -194,7 +195,8 @@ fn already_by(
     }
 }
 
-/// Its request is lost before it ran, sent once more, run, and answered by what that run gave.
+/// Its request is lost before it ran, sent once more, run, and answered with the result of that
+/// run.
 fn lost_and_run(alloc: Global, lane: &mut Lane, index: &mut Index) -> Result<(u32, u32), Fail> {
     let first = next_of(lane);
     if lane.lost(first).is_err() {
@@ -206,13 +208,13 @@ fn lost_and_run(alloc: Global, lane: &mut Lane, index: &mut Index) -> Result<(u3
     already_by(alloc, lane, second, outcome)
 }
 
-/// How many writes of document 1 an index applied.
+/// How many writes an index applied to document 1.
 fn count_one(alloc: Global, index: &Index) -> Result<usize, Fail> {
     Ok(index.applied(&key_of(alloc, "1")?).len())
 }
 
-/// Whether the operation is settled as applied before, with nothing held or reported, and document 1 has one
-/// write all the same.
+/// Whether the operation is settled as already applied, with nothing held or reported, though
+/// document 1 has only one write.
 fn is_taken_for_applied(alloc: Global, lane: &mut Lane, index: &mut Index) -> Result<bool, Fail> {
     Ok(
         takes_one(alloc, lane)?
@@ -223,16 +225,16 @@ fn is_taken_for_applied(alloc: Global, lane: &mut Lane, index: &mut Index) -> Re
     )
 }
 
-/// Whether it is so over an index that has a version above the first one dealt.
+/// Whether this happens over an index that has a version above the first one assigned.
 fn goes_without_the_condition(alloc: Global) -> Result<bool, Fail> {
     let mut index = index_at_five(alloc)?;
     let mut lane = Lane::new(alloc, THREE)?;
     is_taken_for_applied(alloc, &mut lane, &mut index)
 }
 
-// Why the versions of an index have to be below the first one dealt: here 5 is stored and 1 is dealt. The repeat
-// meets a conflict with the foreign version, which a lane takes for its own: the operation counts as applied, and
-// the index never applied it.
+// Why the versions of an index must be below the first one assigned: here 5 is stored and 1 is
+// assigned. The repeat conflicts with the foreign version, which the lane takes for its own: the
+// operation counts as applied, and the index never applied it.
 #[test]
 fn lost_without_the_condition(rt: HostRuntime) -> Result<(), Fail> {
     assert!(rt; goes_without_the_condition(rt.alloc())?);

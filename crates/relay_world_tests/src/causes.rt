@@ -1,4 +1,4 @@
-//! Each refusal of each event, in its order.
+//! Each refusal of each event, in order.
 use crate::script::{Row, Says, THREE, lasts};
 use relay_core::RelayConfig;
 use relay_world::Refusal;
@@ -11,7 +11,7 @@ const SMALL: RelayConfig = RelayConfig {
     ..THREE
 };
 
-/// Events of senders and lanes that there are not, without a place, and after a close.
+/// Events of senders and lanes that do not exist, without room, and after a close.
 const OF_SENDERS: [(Row<'static>, Says); 22] = [
     (Row::Put(2, "0", ""), Says::No(Refusal::NoSuch)),
     (Row::Close(0, 2), Says::No(Refusal::NoSuch)),
@@ -43,7 +43,7 @@ fn of_senders(rt: HostRuntime) -> Result<(), Fail> {
     Ok(())
 }
 
-/// Events of requests that were not sent, do not fly any more, or have no such item.
+/// Events of requests that were not sent, are no longer in flight, or have no such item.
 const OF_REQUESTS: [(Row<'static>, Says); 21] = [
     (Row::Run(1, 1), Says::No(Refusal::NotSent)),
     (Row::Reply(1, &[]), Says::No(Refusal::NotSent)),

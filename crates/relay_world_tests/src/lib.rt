@@ -1,4 +1,4 @@
-//! Tests of relay_world.
+//! The tests of `relay_world`.
 #![tactic(auto)]
 
 #[cfg(test)]

@@ -14,7 +14,7 @@ const LANES: u32 = 8;
 
 const IDS: [&str; 8] = ["0", "1", "2", "3", "4", "5", "6", "7"];
 
-/// As many lanes and producers as may be, and batches that close by their count.
+/// The maximum number of lanes and producers, and batches that close by their count.
 const MOST: RelayConfig = RelayConfig {
     lanes: LANES,
     producers: PRODUCERS,
@@ -28,7 +28,7 @@ const MOST: RelayConfig = RelayConfig {
     ..THREE
 };
 
-/// A producer puts a delete of a document. Whether it was accepted.
+/// Puts a delete of a document, and returns whether it was accepted.
 fn puts(alloc: Global, world: &mut World, producer: u32, id: &str) -> Result<bool, Fail> {
     let key = DocKey::new(alloc, "books", id)?;
     Ok(accepts(world, &Event::Put(producer, key, Action::delete())))
@@ -45,7 +45,7 @@ fn puts_all(alloc: Global, world: &mut World) -> Result<bool, Fail> {
     Ok(good)
 }
 
-/// Each sender closes at each lane.
+/// Closes each sender at each lane.
 fn closes_all(world: &mut World) -> bool {
     let mut good = true;
     for lane in 0..LANES {
@@ -65,7 +65,7 @@ fn takes_all(world: &mut World) {
     }
 }
 
-/// The items of a request are run, the first one's reply is lost, and each other one's comes.
+/// Runs the items of a request; the reply of the first request is lost, and each other one arrives.
 fn answer(alloc: Global, world: &mut World, number: u64) -> bool {
     for item in 1..3u64 {
         let _ = accepts(world, &Event::Run(number, item, Choice::Run));
@@ -78,7 +78,8 @@ fn answer(alloc: Global, world: &mut World, number: u64) -> bool {
     accepts(world, &event)
 }
 
-/// Each lane sends what it may, until none has anything to send; how many requests there were by then.
+/// Sends what each lane may send, until none has anything to send, and returns the number of
+/// requests by then.
 fn works(alloc: Global, world: &mut World, before: u64) -> u64 {
     let mut number = before;
     for _ in 0..200u32 {
@@ -92,7 +93,8 @@ fn works(alloc: Global, world: &mut World, before: u64) -> u64 {
     number
 }
 
-/// How many operations were accepted from all producers, and how many writes of all documents were applied.
+/// How many operations were accepted from all producers, and how many writes were applied to all
+/// documents.
 fn counted(alloc: Global, world: &World) -> Result<(usize, usize), Fail> {
     let mut accepted: usize = 0;
     for producer in 0..PRODUCERS {
@@ -106,7 +108,7 @@ fn counted(alloc: Global, world: &World) -> Result<(usize, usize), Fail> {
     Ok((accepted, applied))
 }
 
-/// A world of a config, which has to be valid, over a fresh index.
+/// A world with a config, which must be valid, over a fresh index.
 fn world_of(alloc: Global, config: RelayConfig) -> Result<World, Fail> {
     if !config.valid() {
         return Err("not valid")?;
@@ -123,8 +125,8 @@ fn ticks_all(world: &mut World) -> bool {
     good
 }
 
-/// All is put, taken and sent; the reply of request 1 is lost, so its operations are sent once more, a tick
-/// later. Whether all went so.
+/// Puts, takes and sends everything; the reply of request 1 is lost, so its operations are sent
+/// once more, a tick later. Returns whether all went like this.
 fn works_off(alloc: Global, world: &mut World) -> Result<bool, Fail> {
     let put = puts_all(alloc, world)?;
     takes_all(world);
@@ -134,15 +136,15 @@ fn works_off(alloc: Global, world: &mut World) -> Result<bool, Fail> {
     Ok(put && ticked && works(alloc, world, requests) > requests)
 }
 
-/// Whether all is worked off, all senders close, the world is finished once that is taken, and not before, and
-/// each operation was accepted and applied once.
+/// Whether everything is done, all senders close, the world is finished once that is taken and not
+/// before, and each operation was accepted and applied once.
 fn finishes(alloc: Global, world: &mut World) -> Result<bool, Fail> {
     let open = works_off(alloc, world)? && closes_all(world) && !world.finished();
     takes_all(world);
     Ok(open && world.finished() && counted(alloc, world)? == (128, 128))
 }
 
-/// Whether a fresh world does.
+/// Whether a fresh world does this.
 fn works_in_eight_lanes(alloc: Global) -> Result<bool, Fail> {
     let mut world = world_of(alloc, MOST)?;
     finishes(alloc, &mut world)

@@ -6,11 +6,11 @@ use relay_world::{Refusal, World};
 use std::alloc::Global;
 use std::test::Fail;
 
-/// A write that was applied: its version, and the name of its operation.
+/// An applied write: its version, and the name of its operation.
 type Applied = (u64, Name);
 
-/// How a world ends: how many operations of each producer were accepted in the last epoch, the writes applied to
-/// documents, what lane 0 has reported, and whether it is finished.
+/// How a world ends: how many operations of each producer were accepted in the last epoch, the
+/// writes applied to documents, the reports of lane 0, and whether it is finished.
 #[derive(Clone, Copy)]
 struct End<'a> {
     accepted: &'a [usize],
@@ -44,7 +44,7 @@ fn has_applied(alloc: Global, world: &World, rows: &[(&str, &[Applied])]) -> Res
     Ok(good)
 }
 
-/// Whether so many operations of each producer were accepted in the last epoch.
+/// Whether this many operations of each producer were accepted in the last epoch.
 fn has_accepted(world: &World, counts: &[usize]) -> bool {
     let mut producer = 0u32;
     let mut good = true;
@@ -63,7 +63,7 @@ fn has_reported(world: &World, rows: &[(Name, Given)]) -> bool {
     same && reports.len() == rows.len()
 }
 
-/// Whether a world ends so.
+/// Whether a world ends like this.
 fn ends_so(alloc: Global, world: &World, end: &End<'_>) -> Result<bool, Fail> {
     Ok(
         has_accepted(world, end.accepted)
@@ -73,7 +73,7 @@ fn ends_so(alloc: Global, world: &World, end: &End<'_>) -> Result<bool, Fail> {
     )
 }
 
-/// Whether a world answers rows as they say, and then ends so.
+/// Whether a world answers rows as they say, and then ends like this.
 fn goes_so(
     alloc: Global,
     world: &mut World,
@@ -83,7 +83,7 @@ fn goes_so(
     Ok(played(alloc, world, rows)? && ends_so(alloc, world, end)?)
 }
 
-/// Whether a fresh world of a config does.
+/// Whether a fresh world with a config does.
 fn goes(
     alloc: Global,
     config: RelayConfig,
@@ -96,7 +96,7 @@ fn goes(
 
 const FIRST_OF_ONE: u64 = 1_099_511_627_777;
 
-/// A restart while a request flies: it may still run, and settles nothing.
+/// A restart while a request is in flight: it may still run, and settles nothing.
 const RESTARTED: [(Row<'static>, Says); 13] = [
     (Row::Put(0, "1", "{\"a\":1}"), Says::Name(0, 0, 1)),
     (Row::Take(0), Says::Ok),
@@ -149,7 +149,7 @@ fn not_above(rt: HostRuntime) -> Result<(), Fail> {
     Ok(())
 }
 
-/// One version a lane, in epoch 8.
+/// One version per lane, in epoch 8.
 const LAST: RelayConfig = RelayConfig {
     capacity: 1,
     max_held: 1,
@@ -183,14 +183,15 @@ fn the_last_version(rt: HostRuntime) -> Result<(), Fail> {
     Ok(())
 }
 
-/// Two lanes, of which documents with an even id have the first, and two producers.
+/// Two lanes, the first of which has the documents with an even id, and two producers.
 const TWO_LANES: RelayConfig = RelayConfig {
     lanes: 2,
     producers: 2,
     ..THREE
 };
 
-/// One operation flies and waits to be sent again, one is queued, one is reported, and a producer has closed.
+/// One operation is in flight and waits to be sent again, one is queued, one is reported, and a
+/// producer has closed.
 const BEFORE: [(Row<'static>, Says); 12] = [
     (Row::Put(0, "2", "{}"), Says::Name(0, 0, 1)),
     (Row::Put(1, "1", "{}"), Says::Name(0, 1, 1)),
@@ -206,8 +207,9 @@ const BEFORE: [(Row<'static>, Says); 12] = [
     (Row::Put(1, "3", ""), Says::No(Refusal::Closed)),
 ];
 
-/// A restart leaves nothing queued, held, in flight, reported or closed, and numbers begin anew. The requests of
-/// the new lanes have the numbers there that the old ones had, and no answer to an old one settles them.
+/// A restart leaves nothing queued, held, in flight, reported or closed, and numbers start at 1
+/// again. The requests of the new lanes have the same numbers there as the old ones, and no answer
+/// to an old one settles them.
 const AFTER: [(Row<'static>, Says); 30] = [
     (Row::Restart(7), Says::Ok),
     (Row::Take(0), Says::No(Refusal::NothingQueued)),
@@ -258,7 +260,8 @@ fn are_named(ops: &[Op], names: &[Name]) -> bool {
     same && ops.len() == names.len()
 }
 
-/// Whether these were accepted in each epoch from each producer, and nothing of another epoch or producer.
+/// Whether these were accepted in each epoch from each producer, and nothing in another epoch or
+/// from another producer.
 fn keeps_what_was_accepted(world: &World) -> bool {
     let rows: [(u32, u32, &[Name]); 7] = [
         (0, 0, &[(0, 0, 1), (0, 0, 2)]),
@@ -275,7 +278,8 @@ fn keeps_what_was_accepted(world: &World) -> bool {
     ))
 }
 
-/// Whether two lanes are restarted, finish in the new epoch, and what was accepted in each is still known.
+/// Whether two lanes are restarted and finish in the new epoch, and what was accepted in each is
+/// still known.
 fn restarts_two_lanes(alloc: Global) -> Result<bool, Fail> {
     let mut world = world_of(alloc, TWO_LANES)?;
     let before = End {
@@ -311,7 +315,8 @@ fn two_lanes_and_producers(rt: HostRuntime) -> Result<(), Fail> {
     Ok(())
 }
 
-/// Three incarnations write one document. The second one's request runs in the third, before that one's own.
+/// Three incarnations write one document. The second one's request runs in the third, before that
+/// one's own.
 const THREE_LIVES: [(Row<'static>, Says); 20] = [
     (Row::Put(0, "1", "{}"), Says::Name(0, 0, 1)),
     (Row::Take(0), Says::Ok),
@@ -352,10 +357,11 @@ fn a_second_restart(rt: HostRuntime) -> Result<(), Fail> {
     Ok(())
 }
 
-/// One version a lane, in epoch 0.
+/// One version per lane, in epoch 0.
 const ONE_VERSION: RelayConfig = RelayConfig { deal: 1, ..THREE };
 
-// The operation that got no version in epoch 0 is not the one that has the second of epoch 1.
+// The operation that got no version in epoch 0 is not the one that has the second version of epoch
+// 1.
 #[test]
 fn spent_before_a_restart(rt: HostRuntime) -> Result<(), Fail> {
     let rows = [
@@ -380,7 +386,8 @@ fn spent_before_a_restart(rt: HostRuntime) -> Result<(), Fail> {
     Ok(())
 }
 
-/// Three deletes in one request, which is too large as a whole: each is sent by itself, the second after it ran.
+/// Three deletes in one request, which is too large as a whole: each is sent by itself, the second
+/// one after it ran.
 const HALVED: [(Row<'static>, Says); 15] = [
     (Row::Put(0, "1", ""), Says::Named(1)),
     (Row::Put(0, "2", ""), Says::Named(2)),
@@ -408,7 +415,7 @@ fn has_item(alloc: Global, world: &World, request: u64, item: u64, id: &str) -> 
     })
 }
 
-/// Whether the requests have these documents and no more, each under the version of its number.
+/// Whether these are exactly the documents of the requests, each under the version of its number.
 fn has_requests(alloc: Global, world: &World) -> Result<bool, Fail> {
     let items: [(u64, u64, &str, u64); 6] = [
         (1, 1, "1", 1),
@@ -433,7 +440,7 @@ fn has_requests(alloc: Global, world: &World) -> Result<bool, Fail> {
     )
 }
 
-/// Whether the rows of a halved request go so.
+/// Whether the rows of a halved request are answered like this.
 fn halves(alloc: Global) -> Result<bool, Fail> {
     let mut world = world_of(alloc, THREE)?;
     let end = End {

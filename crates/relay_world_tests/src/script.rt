@@ -1,4 +1,4 @@
-//! Event lists with what each event answers, as rows, and the world that they are played on.
+//! Tables of events and their answers, and the world on which they are played.
 use relay_action::{Action, ActionFault, DocKey, List, OpName};
 use relay_batch::Limits;
 use relay_core::{Cause, RelayConfig, Report, Settled};
@@ -7,8 +7,8 @@ use relay_world::{Event, Refusal, StepAnswer, World};
 use std::alloc::{AllocError, Global};
 use std::test::Fail;
 
-/// One lane and producer, queues of ten, batches of ten documents and 4,096 bytes that go at once, and three
-/// attempts.
+/// One lane and one producer, queues of ten, batches of ten documents and 4,096 bytes that are sent
+/// at once, and three attempts.
 pub const THREE: RelayConfig = RelayConfig {
     lanes: 1,
     producers: 1,
@@ -25,7 +25,7 @@ pub const THREE: RelayConfig = RelayConfig {
     deal: 1_000,
 };
 
-/// An event; documents are of the index `b`, and no source deletes.
+/// An event; documents are of the index `b`, and without a source it deletes.
 #[derive(Clone, Copy)]
 pub enum Row<'a> {
     Put(u32, &'a str, &'a str),
@@ -45,8 +45,8 @@ pub enum Row<'a> {
 /// The name of an operation: epoch, producer and number.
 pub type Name = (u32, u32, u64);
 
-/// What an event answers. A put answers a name, or a number of producer 0 in epoch 0; a settled request applied,
-/// already, reported and retried.
+/// The answer to an event. For a put it is a name, or a number of producer 0 in epoch 0; for a
+/// settled request the counts applied, already, reported and retried.
 #[derive(Clone, Copy)]
 pub enum Says {
     No(Refusal),
@@ -103,7 +103,7 @@ fn counts_of(settled: Settled) -> [u32; 4] {
     ]
 }
 
-/// Whether an answer is the one that a row says.
+/// Whether an answer is the one in a row.
 pub fn is_said(answer: StepAnswer, says: Says) -> bool {
     match (answer, says) {
         (StepAnswer::Refused(refusal), Says::No(wanted)) => refusal == wanted,
@@ -121,7 +121,7 @@ pub fn is_said(answer: StepAnswer, says: Says) -> bool {
     }
 }
 
-/// A world of a config, which has to be valid, over a fresh index.
+/// A world with a config, which must be valid, over a fresh index.
 pub fn world_of(alloc: Global, config: RelayConfig) -> Result<World, Fail> {
     if !config.valid() {
         return Err("not valid")?;
@@ -129,13 +129,13 @@ pub fn world_of(alloc: Global, config: RelayConfig) -> Result<World, Fail> {
     Ok(World::new(alloc, config, Index::new(alloc))?)
 }
 
-/// Whether the event of a row is answered so.
+/// Whether the event of a row is answered as the row says.
 fn answers(alloc: Global, world: &mut World, row: &Row<'_>, says: Says) -> Result<bool, Fail> {
     let event = event_of(alloc, row)?;
     Ok(is_said(world.step(&event)?, says))
 }
 
-/// Plays rows. Whether each is answered as it says.
+/// Plays rows, and returns whether each is answered as it says.
 pub fn played(alloc: Global, world: &mut World, rows: &[(Row<'_>, Says)]) -> Result<bool, Fail> {
     for (row, says) in rows {
         if !answers(alloc, world, row, *says)? {
@@ -192,8 +192,8 @@ fn has_applied(
     Ok(same && world.applied(&key).len() == numbers.len())
 }
 
-/// Whether a world has these documents with these operations applied, these reports of lane 0, and is finished
-/// or not.
+/// Whether a world has these documents with these operations applied, these reports of lane 0, and
+/// is finished or not.
 pub fn ends_with(
     alloc: Global,
     world: &World,
@@ -211,7 +211,7 @@ pub fn ends_with(
     Ok(good)
 }
 
-/// Whether a world answers these rows as they say, and then ends so.
+/// Whether a world answers these rows as they say, and then ends like this.
 fn plays_to(
     alloc: Global,
     world: &mut World,
@@ -223,7 +223,7 @@ fn plays_to(
     Ok(played(alloc, world, rows)? && ends_with(alloc, world, applied, reports, finished)?)
 }
 
-/// Whether a fresh world of a config does.
+/// Whether a fresh world with a config does.
 pub fn lasts(
     alloc: Global,
     config: RelayConfig,
@@ -236,7 +236,7 @@ pub fn lasts(
     plays_to(alloc, &mut world, rows, applied, reports, finished)
 }
 
-/// The same, with one row more at the end, after which it is not finished.
+/// The same, with one more row at the end, after which it is not finished.
 pub fn lasts_with<'a>(
     alloc: Global,
     config: RelayConfig,
@@ -268,7 +268,8 @@ fn counts_of_run(world: &mut World, events: &[Event]) -> Result<(u64, u64), Fail
     }
 }
 
-/// How many events of these rows a fresh world of a config accepts in one run, and how many it refuses.
+/// How many events of these rows a fresh world with a config accepts in one run, and how many it
+/// refuses.
 pub fn run_of(
     alloc: Global,
     config: RelayConfig,

@@ -9,7 +9,7 @@ pub const TWO: RelayConfig = RelayConfig {
     ..THREE
 };
 
-/// Three operations in one request, of which the second is refused, and sent once more.
+/// Three operations in one request; the second one is refused, and sent once more.
 pub const THREE_THEN_ONE: [(Row<'static>, Says); 21] = [
     (Row::Put(0, "1", "{\"a\":1}"), Says::Named(1)),
     (Row::Put(0, "2", "{\"a\":2}"), Says::Named(2)),
@@ -142,7 +142,7 @@ fn picks(rt: HostRuntime) -> Result<(), Fail> {
     Ok(())
 }
 
-/// An operation that was given up is applied all the same, before the next one of its document.
+/// An operation that was given up is nevertheless applied, before the next one of its document.
 pub const GIVEN_UP: [(Row<'static>, Says); 15] = [
     (Row::Put(0, "1", "{\"a\":1}"), Says::Named(1)),
     (Row::Take(0), Says::Ok),

@@ -11,17 +11,17 @@ const ABOUT: &str = "Serves one bulk request with a fresh stand-in index";
 
 const LONG_ABOUT: &str = "Serves one bulk request with a fresh stand-in index
 
-Standard input has the body of a request POST /_bulk, as `relay lines` writes it: action lines with
-_index, _id, version and version_type external, and after each index action the document on a line
-of its own. It has at most 16777216 bytes. Standard output gets the HTTP status of the answer and its
-text, each on a line: 200 and the reply, or 400 and the first line that is at fault.
+Standard input is the body of a request POST /_bulk, as `relay lines` writes it: action lines with
+_index, _id, version and version_type external, each index action followed by its document on the next
+line. It may have at most 16777216 bytes. Standard output gets the HTTP status of the answer and its
+text, one line each: 200 and the reply, or 400 and the first invalid line.
 
-The index applies a write where its version is above the one stored of the document, and keeps the
-version of a deleted document. Nothing is written before the whole request was served. A body that
-is too long ends with status 2, a read or write that fails with 3, out of memory with 4.";
+The index applies a write if its version is above the stored version of the document, and keeps the
+version of a deleted document. Nothing is written before the whole request has been served. The exit
+status is 2 if the body is too long, 3 if a read or write fails, and 4 if memory runs out.";
 
 const REFUSE_HELP: &str =
-    "Items that the index refuses, as 2:429,5:400: the place of an item from 1, and a status from 400 to 599 other than 404 and 409 [default: none]";
+    "Items that the index refuses, such as 2:429,5:400: positions from 1, and statuses from 400 to 599 except 404 and 409 [default: none]";
 
 /// Its help and its options.
 pub fn command<'a>(alloc: Global, name: &'static str) -> Result<Command<'a>, AllocError> {
@@ -50,7 +50,7 @@ pub fn run<R: Input + Print + Eprint + AllocGlobal>(rt: &R, matches: &ArgMatches
     }
 }
 
-// Says what stopped it. That the text may not be printed changes nothing.
+// Prints the fault. If that fails, the exit status is the same.
 fn report<R: Eprint>(rt: &R, fault: ApplyFault) -> Exit {
     let _ = rt.eprintln(fault);
     exit_of_apply(fault)

@@ -13,36 +13,35 @@ const ABOUT: &str = "Turns a producer's NDJSON into bulk lines with external ver
 
 const LONG_ABOUT: &str = "Turns a producer's NDJSON into bulk lines with external versions.
 
-Standard input has the operations as the OpenSearch bulk API writes them: an action line
-{\"index\":{\"_index\":NAME,\"_id\":ID}} with the document on the line after it, or
-{\"delete\":{\"_index\":NAME,\"_id\":ID}} alone. Blank lines between them are skipped. A document is passed
-on as it is, byte for byte, and is not read as JSON. Standard output gets the lines of a bulk request,
-with the versions N, N+1 and so on; each line goes out as soon as the input would have to be waited
-for.
+Standard input has operations in the form of the OpenSearch bulk API: an action line
+{\"index\":{\"_index\":NAME,\"_id\":ID}} followed by the document on the next line, or
+{\"delete\":{\"_index\":NAME,\"_id\":ID}} by itself. Blank lines between operations are skipped. A document
+is passed on byte for byte, and not read as JSON. Standard output gets the lines of a bulk request, with
+the versions N, N+1 and so on; each line is written as soon as reading on would have to wait.
 
     relay lines --index books < ops.ndjson > bulk.ndjson
 
-At the first fault the command stops, says `line N: KIND` on standard error and ends with status 2.
-The lines of all operations before it were written. A read or write that fails ends with status 3,
-out of memory with 4. The kinds of faults, of an action line in this order:
+At the first fault the command writes `line N: KIND` to standard error and ends with status 2; the lines
+of all operations before it have been written. The exit status is 3 if a read or write fails, and 4 if
+memory runs out. The kinds of faults, for an action line in this order:
 
-    LineLong           more than 1114112 bytes, or 65537 blank lines in a row
-    NotJson            not UTF-8, or not JSON on one line, or nested more than 127 deep
-    NotOneAction       no object of one member whose value is an object
+    LineLong           more than 1114112 bytes, or 65537 consecutive blank lines
+    NotJson            not UTF-8, not JSON on one line, or nested more than 127 deep
+    NotOneAction       not an object with one member whose value is an object
     UnsupportedAction  the member is named neither index nor delete
-    UnsupportedField   a member beside _index, _id, version and version_type
-    VersionGiven       version or version_type is there, which this command gives
-    MissingIndex       no _index and no --index, or _index is no text
-    MissingId          no _id, or it is neither a text nor an integer
+    UnsupportedField   a member other than _index, _id, version and version_type
+    VersionGiven       version or version_type, which this command assigns
+    MissingIndex       no _index and no --index, or _index is not a string
+    MissingId          no _id, or it is neither a string nor an integer
     IndexEmpty, IndexLong (over 255 bytes), IdEmpty, IdLong (over 512 bytes)
-    VersionsSpent      the versions have passed 9000000000000000000
+    VersionsSpent      the version would be above 9000000000000000000
 
-and of the line of a document: SourceMissing (the input has ended; the line is the action's), LineLong,
-NotJson (not UTF-8), SourceEmpty, SourceLong (over 1048576 bytes), SourceNewline (a carriage return
-inside).";
+and for the line of a document: SourceMissing (the input has ended; the line is that of the action),
+LineLong, NotJson (not UTF-8), SourceEmpty, SourceLong (over 1048576 bytes), SourceNewline (a carriage
+return inside).";
 
 const INDEX_HELP: &str =
-    "The index of operations that name none, of 1 to 255 bytes [default: none, so that each operation has to name its index]";
+    "The index of operations that do not name one, 1 to 255 bytes [default: none, so each operation must name its index]";
 
 const FIRST_HELP: &str = "The version of the first operation, from 1 to 9000000000000000000";
 
@@ -82,7 +81,7 @@ pub fn run<R: Input + Print + Eprint + AllocGlobal>(rt: &R, matches: &ArgMatches
     }
 }
 
-// Says what stopped it. That the text may not be printed changes nothing.
+// Prints the fault. If that fails, the exit status is the same.
 fn report<R: Eprint>(rt: &R, fault: LinesFault) -> Exit {
     let _ = match fault {
         LinesFault::Input(fault) if fault.kind == LineKind::Read => rt.eprintln("read failed"),

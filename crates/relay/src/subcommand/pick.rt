@@ -9,33 +9,33 @@ use std::alloc::{AllocError, Global};
 use std::fs::File;
 use std::io;
 
-const ABOUT: &str = "Picks the operations that a report of `relay run` names out of its files";
+const ABOUT: &str = "Extracts the operations that a report of `relay run` names from its files";
 
-const LONG_ABOUT: &str = "Picks the operations that a report of `relay run` names out of its files.
+const LONG_ABOUT: &str = "Extracts the operations that a report of `relay run` names from its files.
 
-Give the report that `relay run --report` wrote and the files of that run, all of them and in the same order:
-an operation is named by the place of its file, from 0, and its number there, from 1. Standard output gets the
-lines of the operations that are named, byte for byte, in the order of the files and of the lines in them, each
-operation once. A last line with no end gets a line feed. Blank lines are left out.
+Give the report that `relay run --report` wrote and all files of that run in the same order: an operation is
+named by the position of its file, from 0, and its number there, from 1. Standard output gets the lines of the
+named operations, byte for byte, in the order of the files and of the lines in them, each operation once. A
+last line without an end gets a line feed. Blank lines are left out.
 
     relay run --to 127.0.0.1:9200 --report report.ndjson a.ndjson b.ndjson
     relay pick --report report.ndjson a.ndjson b.ndjson > again.ndjson
 
-Mend what was refused in again.ndjson, and write it by a run in the next epoch. A document that a later
-operation has written since is written over by it: look at the report before you run it again.
+Fix what was refused in again.ndjson, and submit it with a run in the next epoch. It overwrites what later
+operations have written to the same documents since: look at the report before you run it again.
 
-A line of the report has the members that `relay run --report` writes, in any order; the epoch is not looked
-at. An operation of the files that names no index needs --index, as in the run. A file is read up to the last
-operation that is named.
+A line of the report has the members that `relay run --report` writes, in any order; the epoch has no effect.
+If the files have operations that do not name an index, give --index as in the run. Each file is read up to
+the last operation that is named.
 
-The first fault ends the command with status 2, and what was picked before it was written:
+The first fault ends the command with status 2; what was extracted before it has been written:
 
-    REPORT: line N: BadLine    the line is not one of a report, or longer than 1114112 bytes; the operations
-                               that the lines before it name were written
+    REPORT: line N: BadLine    the line is not a line of a report, or is longer than 1114112 bytes; the
+                               operations of the lines before it were written
     FILE: line N: KIND         the line breaks the producer grammar (see `relay help lines`)
-    REPORT: line N: NoSuch     no file has the operation that the line names; all others were written
+    REPORT: line N: NoSuch     no file has the operation of that line; all others were written
 
-A file that cannot be opened, and a read or write that fails, end it with status 3, out of memory with 4.";
+The exit status is 3 if a file cannot be opened or a read or write fails, and 4 if memory runs out.";
 
 /// Its help and its options.
 pub fn command<'a>(alloc: Global, name: &'static str) -> Result<Command<'a>, AllocError> {
@@ -49,13 +49,13 @@ pub fn command<'a>(alloc: Global, name: &'static str) -> Result<Command<'a>, All
         .long("index")
         .value_name("NAME")
         .action(ArgAction::Set)
-        .help("The index of operations that name none, as in the run");
+        .help("The index of operations that do not name one, as in the run");
     let files = Arg::new(alloc, "file")
         .value_name("FILE")
         .action(ArgAction::Append)
         .num_args(1..=16)
         .required(true)
-        .help("The files of the run, all of them, in the same order");
+        .help("All files of the run, in the same order");
     Command::new(alloc, name)
         .about(ABOUT)
         .long_about(LONG_ABOUT)
@@ -86,7 +86,7 @@ pub fn run<R: Print + Eprint + AllocGlobal>(
     }
 }
 
-// Reads the names of a report, up to its first fault.
+// Reads the names in a report, up to its first fault.
 fn names_of<R: Eprint + AllocGlobal>(
     rt: &R,
     host: HostRuntime,
@@ -101,7 +101,7 @@ fn names_of<R: Eprint + AllocGlobal>(
     Ok(read_names(rt.alloc(), &mut report, names))
 }
 
-// Picks from the files, one after another, and says which name none of them has.
+// Extracts the operations from the files, one file after another, and prints which one no file has.
 fn pick_all<R: Print + Eprint + AllocGlobal>(
     rt: &R,
     host: HostRuntime,
@@ -137,7 +137,7 @@ fn pick_all<R: Print + Eprint + AllocGlobal>(
     }
 }
 
-// Says what stopped a file. That the text may not be printed changes nothing.
+// Prints the fault of a file. If that fails, the exit status is the same.
 fn file_fault<R: Eprint>(rt: &R, path: &str, fault: PickFault) -> Exit {
     match fault {
         PickFault::Input(fault) if fault.kind == LineKind::Read => {
@@ -155,7 +155,7 @@ fn file_fault<R: Eprint>(rt: &R, path: &str, fault: PickFault) -> Exit {
     }
 }
 
-// Says what is wrong with the report.
+// Prints what is wrong with the report.
 fn report_fault<R: Eprint>(rt: &R, path: &str, fault: ReportFault) -> Exit {
     match fault {
         ReportFault::BadLine { line } => {
@@ -167,7 +167,6 @@ fn report_fault<R: Eprint>(rt: &R, path: &str, fault: ReportFault) -> Exit {
     }
 }
 
-// Says this of a file.
 fn said<R: Eprint>(rt: &R, path: &str, text: &str, exit: Exit) -> Exit {
     let _ = eprintln!(rt; "{path}: {text}");
     exit

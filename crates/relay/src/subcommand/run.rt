@@ -17,67 +17,67 @@ const ABOUT: &str = "Writes files of operations to an index, each operation once
 
 const LONG_ABOUT: &str = "Writes files of operations to an index, each operation once and in order.
 
-Each FILE has operations as the OpenSearch bulk API writes them (see `relay help lines`), and is read by a
-producer of its own. An operation is routed by its document to one of the lanes, given the lane's next
-external version, and sent in bulk requests POST /_bulk over HTTP/1.1 to ADDR. A write that is refused with
-429 or 503, or whose request or reply is lost, is sent again with the same version, so that the index
-applies it once; the operations of a document are sent one after another. A request that is answered 413 is
-sent again in halves.
+Each FILE has operations in the form of the OpenSearch bulk API (see `relay help lines`), and is read by its
+own producer. An operation goes to the lane of its document, is assigned the lane's next external version, and
+is sent in bulk requests POST /_bulk over HTTP/1.1 to ADDR. A write that is refused with 429 or 503, or whose
+request or reply is lost, is sent again with the same version, so the index applies it once; the operations of
+a document are sent one after another. A request that gets a 413 is sent again in halves.
 
     relay run --to 127.0.0.1:9200 --index books ops.ndjson
     zcat dump.gz | relay run --to 127.0.0.1:9200 -
 
-An operation that comes slowly, through a pipe, is sent after --linger ticks at the latest, while the pipe
-stays open.
+An operation that arrives slowly through a pipe is sent after --linger ticks at the latest, even while the
+pipe stays open.
 
 At the end standard output gets a line for each operation that could not be settled, by producer (the
-place of its file, from 0) and number, and then the counts. In an epoch E above 0 a name is E.P:N.
+position of its file, from 0) and number, and then the counts. In an epoch E above 0 a name is E.P:N.
 
     report P:N INDEX/ID Refused STATUS KIND    the index refused the write
-    report P:N INDEX/ID Request STATUS         its request was refused as a whole; with 413, alone
-    report P:N INDEX/ID Conflict               a version that is not below its own stood there before it
-    report P:N INDEX/ID GaveUp SENDS           no answer settled it after so many sends
+    report P:N INDEX/ID Request STATUS         the request as a whole was refused; with 413, it was alone in it
+    report P:N INDEX/ID Conflict               the stored version was not below its own at the first send
+    report P:N INDEX/ID GaveUp SENDS           no answer settled it after this many sends
     report P:N INDEX/ID Spent                  its lane had no version left for it
     applied A already B reported C
 
-A is what the answered request applied, B what an earlier one had applied whose answer was lost. What is
-reported may still have been applied, once and in order. Standard error gets a line for each file that was
-not put whole, when all have ended: `FILE: open failed`, `FILE: read failed`, `FILE: out of memory`,
-`FILE: line N: KIND` or `FILE: NumbersSpent`; its operations before that were put. `lane N: KIND` tells of
-a lane that did not finish, and `start: KIND` that nothing was started.
+A counts the operations that an answered request applied, B those that an earlier request had applied whose
+answer was lost. An operation that is reported may still have been applied, once and in order. Standard error
+gets a line for each file that could not be put in full, once all have ended: `FILE: open failed`,
+`FILE: read failed`, `FILE: out of memory`, `FILE: line N: KIND` or `FILE: NumbersSpent`; its operations before
+that were put. `lane N: KIND` means that a lane did not finish, and `start: KIND` that nothing was started.
 
-With --report FILE the reports are saved too, as JSON, an object a line: cause, id, index, number and
-producer, kind, status and sends where the cause has them, and epoch where it is above 0. Unlike the printed
-lines they have no raw blanks or line ends of an id. `FILE: create failed` says that the file could not be
-made, and then nothing was put; `FILE: write failed` that it could not be written, after all was printed.
+With --report FILE the reports are also saved, one JSON object per line: cause, id, index, number and
+producer; kind, status and sends if the cause has them; and epoch if it is above 0. Unlike in the printed
+lines, blanks and line ends in an id are escaped. `FILE: create failed` means that the file could not be
+created, and then nothing was put; `FILE: write failed` that it could not be written, after everything was
+printed.
 
-It ends with status 0, with 1 where the command line is at fault, with 2 for a fault of a file's lines,
-with 3 for a file, an output or a lane's thread that failed, with 4 where it ran out of memory, and with 5
-where operations were reported; of several with the first of 4, 3, 2 and 5.
+The exit status is 0 on success, 1 if the command line is invalid, 2 if a line of a file is, 3 if a file, an
+output or a lane's thread failed, 4 if memory ran out, and 5 if operations were reported; if several apply,
+the first of 4, 3, 2 and 5.
 
-While the index is away, each request that cannot be sent is an attempt, and so is each that is not answered
-for --timeout seconds. Between the attempts of an operation its lane pauses 1, 2, 4, 8, 16, 32 and 64 ticks of
-100 ms: 12.7 s in all with the default of 8 attempts, and with 32, at most 64 ticks each, 166 s, and beside
-that what the attempts to connect take. Then it is reported. With --patience each attempt tries to connect for
-so many seconds before it fails, and an index that is back by then costs only the attempt of what was under
-way when it went.
+While the index is down, each request that cannot be sent is an attempt, and so is each that is not answered
+within --timeout seconds. Between the attempts of an operation its lane pauses for 1, 2, 4, 8, 16, 32 and 64
+ticks of 100 ms: 12.7 s in all with the default of 8 attempts, and 166 s with 32, at most 64 ticks each, plus
+the time that connecting takes. Then it is reported. With --patience each attempt keeps trying to connect for
+that many seconds before it fails, so an index that is back by then costs only the attempt of what was in
+flight when it went down.
 
-A lane holds at most --held operations, and --capacity wait in front of it, each with its document, of up to
-1048576 bytes, and less than 2 KB more: at most 1.4 GB a lane with the defaults, and 4 MB where documents
-have 1 KB. A --capacity below twice --count costs speed, since the next request is then not there when one is
+A lane holds at most --held operations, and --capacity more wait in front of it, each with its document of up
+to 1048576 bytes and less than 2 KB more: at most 1.4 GB per lane with the defaults, and 4 MB if documents
+have 1 KB. A --capacity below twice --count is slower, since the next request is then not ready when one is
 answered. Reports are kept in memory until the end: a run that is killed prints and saves none.
 
-Versions are --epoch times 2^40 and a count from 1 in each lane: every version that the index has stored for
-these documents has to be at most --epoch times 2^40, and nobody else may write them meanwhile. Give each run
-over the same documents an epoch above those of all earlier runs; with another, each write is a conflict and
-reported.
+Versions are --epoch times 2^40 plus a count from 1 in each lane. Every version that the index has stored for
+these documents must be at most --epoch times 2^40, and nobody else may write them during the run. Give each
+run over the same documents an epoch above those of all earlier runs; otherwise each write is a conflict and
+is reported.
 
-After a crash, be sure that the old process is gone, and run the same files again with the next epoch. A
+After a crash, make sure that the old process is gone, and run the same files again with the next epoch. A
 request of the old run that still arrives is applied before the new writes of its document, or not at all. If
-the old process still sends, the order of the writes holds all the same, but what it counts as applied already
-may be wrong.";
+the old process is still sending, the order of the writes is kept nevertheless, but its count of operations
+already applied may be wrong.";
 
-// An option that is a number from `least` to `most`.
+// An option whose value is a number from `least` to `most`.
 struct NumberOption {
     name: &'static str,
     least: u64,
@@ -86,7 +86,7 @@ struct NumberOption {
     help: &'static str,
 }
 
-// Those of `relay run`, in the order of its help.
+// The numeric options, in the order of the help.
 const NUMBERS: &[NumberOption] = &[
     NumberOption {
         name: "epoch",
@@ -100,35 +100,35 @@ const NUMBERS: &[NumberOption] = &[
         least: 1,
         most: 8,
         default: "1",
-        help: "How many lanes, 1 to 8, each with connections of its own",
+        help: "Number of lanes, 1 to 8, each with its own connections",
     },
     NumberOption {
         name: "capacity",
         least: 1,
         most: 65_536,
         default: "256",
-        help: "How many operations wait in front of a lane at most, 1 to 65536; while a lane waits for an answer, files are read on until so many wait",
+        help: "Maximum number of operations waiting in front of a lane, 1 to 65536; while a lane waits for an answer, the files are read further until that many wait",
     },
     NumberOption {
         name: "held",
         least: 1,
         most: 65_536,
         default: "1024",
-        help: "How many operations a lane holds at most, sent or to be sent, 1 to 65536",
+        help: "Maximum number of operations that a lane holds, sent or still to be sent, 1 to 65536",
     },
     NumberOption {
         name: "count",
         least: 1,
         most: 10_000,
         default: "500",
-        help: "How many operations a request has at most, 1 to 10000",
+        help: "Maximum number of operations in a request, 1 to 10000",
     },
     NumberOption {
         name: "bytes",
         least: 1_024,
         most: 16_777_216,
         default: "1048576",
-        help: "How many bytes the body of a request has at most, 1024 to 16777216; one operation alone may have more",
+        help: "Maximum size of a request's body in bytes, 1024 to 16777216; a single operation may have more",
     },
     NumberOption {
         name: "linger",
@@ -142,32 +142,32 @@ const NUMBERS: &[NumberOption] = &[
         least: 1,
         most: 32,
         default: "8",
-        help: "How many requests carry an operation at most, beside those halved after a 413, 1 to 32",
+        help: "Maximum number of requests that carry an operation, not counting those halved after a 413, 1 to 32",
     },
     NumberOption {
         name: "flying",
         least: 1,
         most: 8,
         default: "1",
-        help: "How many requests of a lane are in flight at a time, each on a connection of its own, 1 to 8; more keep a slow index busy, and the order of a document's writes stays",
+        help: "Maximum number of requests of a lane in flight, each on its own connection, 1 to 8; more keep a slow index busy, and the order of a document's writes is kept",
     },
 ];
 
-// Those that are seconds, up to a week, in the order of the help.
+// The options in seconds, up to a week, in the order of the help.
 const SECONDS: &[NumberOption] = &[
     NumberOption {
         name: "timeout",
         least: 0,
         most: 604_800,
         default: "300",
-        help: "How long a connection may take to be made, and a read or a write of it may wait, until the request counts as lost and is sent again, 0 to 604800; 0 for no limit",
+        help: "How long connecting may take, and a read or a write on a connection may wait, before the request counts as lost and is sent again, 0 to 604800; 0 means no limit",
     },
     NumberOption {
         name: "patience",
         least: 0,
         most: 604_800,
         default: "0",
-        help: "For how long it is tried again each second to make a connection, until that costs an attempt, 0 to 604800",
+        help: "How long to keep trying to connect, once a second, before it counts as an attempt, 0 to 604800",
     },
 ];
 
@@ -181,7 +181,7 @@ fn number<'a>(alloc: Global, option: &NumberOption, value: &'static str) -> Arg<
         .help(option.help)
 }
 
-// The command with these options.
+// Adds these options to the command.
 fn with_numbers<'a>(alloc: Global, command: Command<'a>) -> Result<Command<'a>, AllocError> {
     let mut command = command;
     for option in NUMBERS {
@@ -200,13 +200,13 @@ pub fn command<'a>(alloc: Global, name: &'static str) -> Result<Command<'a>, All
         .value_name("ADDR")
         .action(ArgAction::Set)
         .required(true)
-        .help("Where the index is, as HOST:PORT, of 1 to 255 visible ASCII characters");
+        .help("The address of the index, HOST:PORT, 1 to 255 visible ASCII characters");
     let index = Arg::new(alloc, "index")
         .long("index")
         .value_name("NAME")
         .action(ArgAction::Set)
         .help(
-            "The index of operations that name none, of 1 to 255 bytes [default: none, so that each operation has to name its index]",
+            "The index of operations that do not name one, 1 to 255 bytes [default: none, so each operation must name its index]",
         );
     let files = Arg::new(alloc, "file")
         .value_name("FILE")
@@ -214,7 +214,7 @@ pub fn command<'a>(alloc: Global, name: &'static str) -> Result<Command<'a>, All
         .num_args(1..=16)
         .required(true)
         .help(
-            "Files of operations, 1 to 16, each read by a producer of its own; `-`, once, is standard input",
+            "Files of operations, 1 to 16, each read by its own producer; `-`, at most once, is standard input",
         );
     let command = Command::new(alloc, name)
         .about(ABOUT)
@@ -226,13 +226,13 @@ pub fn command<'a>(alloc: Global, name: &'static str) -> Result<Command<'a>, All
         .value_name("FILE")
         .action(ArgAction::Set)
         .help(
-            "Where what could not be settled is saved as NDJSON, an object a line; the file is made before anything is put, and written at the end",
+            "Save what could not be settled to this file as NDJSON, one object per line; it is created before anything is put, and written at the end",
         );
     let progress = Arg::new(alloc, "progress")
         .long("progress")
         .action(ArgAction::SetTrue)
         .help(
-            "Says on standard error each second how far the run is, and at once that no connection can be made, which a terminal is told without it",
+            "Show on standard error every second how far the run is, and at once if no connection can be made; a terminal gets the latter without this option too",
         );
     with_numbers(alloc, command)?
         .arg(report)?
@@ -240,12 +240,12 @@ pub fn command<'a>(alloc: Global, name: &'static str) -> Result<Command<'a>, All
         .arg(files)
 }
 
-// The number of an option, whose default and range the command line has.
+// The value of a numeric option, which has a default and a range.
 fn number_of(matches: &ArgMatches<'_>, name: &str) -> u32 {
     matches.get_one::<u32>(name).unwrap_or(0)
 }
 
-// The text of an option, if it was given.
+// The value of a text option, if it was given.
 fn own_text(
     alloc: Global,
     matches: &ArgMatches<'_>,

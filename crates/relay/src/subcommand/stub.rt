@@ -15,12 +15,11 @@ const ABOUT: &str = "Serves bulk requests over HTTP with a fresh stand-in index"
 const LONG_ABOUT: &str = "Serves bulk requests over HTTP with a fresh stand-in index.
 
 It listens at ADDR and serves N connections, one after the other, with one request on each. A request
-POST /_bulk with a body of at most 16777216 bytes is answered as `relay apply` answers that body: 200 and
-the reply, or 400 and the first line that is at fault. The index is the same for all of them: what one
-request wrote is there for the next. Any other request is answered 400 and
-{\"error\":{\"type\":\"NotBulk\"},\"status\":400}. Each answer says `Connection: close`. A connection that
-ends early or carries no request of HTTP/1 is dropped, and counts as one of the N. It waits for each
-connection and its request as long as that takes.
+POST /_bulk with a body of at most 16777216 bytes gets the answer that `relay apply` gives for that body: 200
+and the reply, or 400 and the first invalid line. All requests go to the same index: what one request wrote is
+there for the next. Any other request gets 400 and {\"error\":{\"type\":\"NotBulk\"},\"status\":400}. Each answer
+has `Connection: close`. A connection that ends early or carries no HTTP/1 request is dropped, and counts as
+one of the N. There is no time limit for a connection or its request.
 
     relay stub --listen 127.0.0.1:9200 --requests 2 &
     relay lines --index books < ops.ndjson > bulk.ndjson
@@ -33,20 +32,19 @@ At the end standard output gets a line for each write that the index applied,
 in byte order of INDEX and then of ID, and for each document in the order in which they were applied.
 With `--requests 0` it listens, accepts nothing and prints nothing.
 
-It ends with status 0, with 1 where the command line is at fault, with 3 where it cannot listen
-(`listen failed`), accept (`accept failed`) or print (`write failed`), and with 4 and nothing printed
-where it runs out of memory.";
+The exit status is 0 on success, 1 if the command line is invalid, 3 if it cannot listen (`listen failed`),
+accept (`accept failed`) or print (`write failed`), and 4, with nothing printed, if memory runs out.";
 
 const LISTEN_HELP: &str =
-    "Where to listen, as HOST:PORT: an address of this machine or its name, as 127.0.0.1:9200 or [::1]:9200, and a port";
+    "Where to listen, HOST:PORT: an address or a name of this machine, and a port, such as 127.0.0.1:9200 or [::1]:9200";
 
-const REQUESTS_HELP: &str = "How many connections to serve, from 0 to 18446744073709551615";
+const REQUESTS_HELP: &str = "Number of connections to serve, 0 to 18446744073709551615";
 
 const REFUSE_HELP: &str =
-    "Items that the index refuses, as 2:429,5:400: the place of an item from 1, counted over all requests, and a status from 400 to 599 other than 404 and 409 [default: none]";
+    "Items that the index refuses, such as 2:429,5:400: positions from 1, counted over all requests, and statuses from 400 to 599 except 404 and 409 [default: none]";
 
 const MAX_HELP: &str =
-    "The most bytes of a request's body, from 0 to 18446744073709551615; a longer one is answered 413, and nothing of it is run [default: no limit but 16777216, past which the connection is dropped]";
+    "Maximum size of a request's body in bytes, 0 to 18446744073709551615; a longer one gets 413, and nothing of it is run [default: no limit below 16777216, above which the connection is dropped]";
 
 /// Its help and its options.
 pub fn command<'a>(alloc: Global, name: &'static str) -> Result<Command<'a>, AllocError> {
@@ -105,7 +103,7 @@ pub fn run<R: Print + Eprint + Net + AllocGlobal>(rt: &R, matches: &ArgMatches<'
     }
 }
 
-// Says what stopped it. That the text may not be printed changes nothing.
+// Prints the fault. If that fails, the exit status is the same.
 fn report<R: Eprint>(rt: &R, fault: StubFault) -> Exit {
     let _ = rt.eprintln(fault);
     exit_of_stub(fault)
