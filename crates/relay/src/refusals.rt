@@ -1,9 +1,9 @@
 //! The refusals that a command line asks for.
 use crate::report::out_of_memory;
 use clap::ArgMatches;
-use relay_commands::exit::Exit;
 use relay_commands::refuse_list::{ListFault, refuse_list};
 use relay_index::Script;
+use relay_words::Exit;
 
 /// The script of the option `--refuse`, or the exit status if its value is not a valid list; then a
 /// message was printed.

@@ -1,5 +1,5 @@
 //! Messages if a command fails.
-use relay_commands::exit::Exit;
+use relay_words::Exit;
 
 /// Prints that an allocation failed.
 pub fn out_of_memory<R: Eprint>(rt: &R) -> Exit {

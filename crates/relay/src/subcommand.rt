@@ -7,8 +7,8 @@ pub mod stub;
 pub mod world;
 
 use clap::{ArgMatches, Command};
-use relay_commands::exit::Exit;
 use relay_commands::subcommand::Subcommand;
+use relay_words::Exit;
 use std::alloc::{AllocError, Global};
 use std::net::Net;
 use std::sync::Wait;

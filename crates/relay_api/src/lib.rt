@@ -30,8 +30,9 @@ pub use relay_lane::{
     WireReply, collect, drain, make_room, pump,
 };
 // HTTP/1.1, and the wires.
-pub use relay_http::{Conn, HttpFault, HttpReply, HttpRequest, Peek};
-pub use relay_wires::{Dial, DialFault, HttpWire, LoopWire};
+pub use relay_http::{Conn, Dial, DialFault, HttpFault, HttpReply, HttpRequest, Listen, Peek};
+pub use relay_loop::LoopWire;
+pub use relay_wires::HttpWire;
 // The world and its scripts.
 pub use relay_script::script::{ScriptFault, world_script};
 pub use relay_world::{Event, Refusal, RunEnd, StepAnswer, World};
@@ -46,7 +47,6 @@ pub use relay_threads::{
 };
 // The commands as functions.
 pub use relay_commands::apply::{ApplyFault, apply};
-pub use relay_commands::exit::Exit;
 pub use relay_commands::lines::{LinesFault, lines};
 pub use relay_commands::refuse_list::{ListFault, refuse_list};
 pub use relay_net::{TcpDial, TcpListen};
@@ -54,4 +54,5 @@ pub use relay_report::{
     Named, PickFault, ReportFault, first_missing, pick, read_names, report_text,
 };
 pub use relay_run::files::{RunOptions, run_files};
-pub use relay_stub::{Listen, ServeError, stub_serve};
+pub use relay_stub::{ServeError, stub_serve};
+pub use relay_words::Exit;

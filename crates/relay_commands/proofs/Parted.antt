@@ -14,7 +14,8 @@ use Rattle.relay_index.specs.Plans.{Plan, refusal_at, unscripted}
 use Rattle.relay_commands.specs.declared.refuse_list.ListFault.{ListFault}
 use Rattle.relay_commands.specs.declared.refuse_list.ListFault.TheVariants as fault
 use Rattle.relay_commands.specs.Cuts.{Adds, IsCut, IsPartFault, IsUncut}
-use Rattle.relay_commands.specs.Refusals.{IsBadAfter, IsList, IsListFault, IsNoRefusal, IsNumber, IsRefusal, Refuses, last_status}
+use Rattle.relay_words.specs.Numbers.{IsNumber}
+use Rattle.relay_commands.specs.Refusals.{IsBadAfter, IsList, IsListFault, IsNoRefusal, IsRefusal, Refuses, last_status}
 
 -- ---- where a list is cut
 
@@ -62,10 +63,6 @@ colon_is_none = omega arith
 
 comma_is_none : 10 ≤ digit_value 44
 comma_is_none = omega arith
-
--- a text has one number
-pub one_number : (text : List ℕ) (n m : ℕ) → IsNumber text n → IsNumber text m → n ≡ m
-one_number text n m h k = sym h.value ∙ k.value
 
 -- where the byte stands, the text is cut
 is_there : (c : ℕ) (front back : List ℕ) → Without c front → IsUncut c (front ++ c ∷ back) → ⊥

@@ -15,7 +15,8 @@ use Rattle.relay_commands.specs.Passing.{IsNoWrite, IsNumbered, IsWrite, Leaves,
 use Rattle.relay_commands.specs.Sending.{Moves, MovesPart, Wrote}
 use Rattle.relay_commands.specs.declared.lines.LinesFault.{LinesFault}
 use Rattle.relay_commands.specs.declared.lines.LinesFault.TheVariants as fault
-use Rattle.relay_commands.proofs.Taken.{takes_more, lines_of-push, version_more}
+use Rattle.relay_words.proofs.Taken.{takes_more}
+use Rattle.relay_commands.proofs.Taken.{lines_of-push, version_more}
 use Rattle.relay_commands.proofs.Written.{wrote_nothing, wrote_moved, wrote_more, wrote_part}
 
 -- the operations so far, which lead from the start to here, and what was written of their text

@@ -1,14 +1,9 @@
 -- One more operation.
-use Rattle.std.proofs.Common.{◌≡◌, ℕ, ◌+◌, List, [], ◌∷◌, ◌++◌, length, refl, ap, ◌∙◌, sym, subst, arith, append-nil, length-append}
+use Rattle.std.proofs.Common.{◌≡◌, ℕ, ◌+◌, List, [], ◌∷◌, ◌++◌, length, ap, ◌∙◌, sym, arith, append-nil, length-append}
 use Rattle.std.proofs.lemmas.Grind.{flat_map-append}
 use Rattle.relay_ndjson.specs.Bulk.{write_text, text_of}
 use Rattle.relay_ndjson.specs.Operations.{Operation}
-use Rattle.relay_ndjson.specs.Reading.{Reading, Takes}
-use Rattle.relay_commands.specs.Lines.{TakesAll, numbered, lines_of, write_of}
-
-pub takes_more : (old mid new : Reading) (ops : List Operation) (n : ℕ) (op : Operation) → TakesAll old mid ops → Takes mid new n op → TakesAll old new (ops ++ op ∷ [])
-takes_more old mid new [] n op t s = (n, new, subst (λ (o : Reading). Takes o new n op) t s, refl)
-takes_more old mid new (first ∷ ops) n op t s = (t.0, t.1, t.2, takes_more t.1 mid new ops n op t.3 s)
+use Rattle.relay_commands.specs.Lines.{numbered, lines_of, write_of}
 
 numbered-push : (first : ℕ) (ops : List Operation) (op : Operation) → numbered first (ops ++ op ∷ []) ≡ numbered first ops ++ write_of op (first + length ops) ∷ []
 numbered-push first [] op = ap (λ v. write_of op v ∷ []) (omega arith)

@@ -1,28 +1,11 @@
--- How the program ends, and with which status.
-use Rattle.std.specs.Prelude.{ℕ}
-use Rattle.relay_ndjson.specs.declared.kind.LineKind.{LineKind}
-use Rattle.relay_ndjson.specs.declared.kind.LineKind.TheVariants as kind
+-- How the program ends after a fault.
 use Rattle.relay_commands.specs.declared.lines.LinesFault.{LinesFault}
 use Rattle.relay_commands.specs.declared.lines.LinesFault.TheVariants as fault
 use Rattle.relay_commands.specs.declared.apply.ApplyFault.{ApplyFault}
 use Rattle.relay_commands.specs.declared.apply.ApplyFault.TheVariants as apply
-use Rattle.relay_commands.specs.declared.exit.Exit.{Exit}
-use Rattle.relay_commands.specs.declared.exit.Exit.TheVariants as exit
-
--- 0 done, 1 usage, 2 input fault, 3 device fault, 4 out of memory, 5 operations reported
-abbrev pub status_of : Exit → ℕ
-status_of exit.Done = 0
-status_of exit.Usage = 1
-status_of exit.Input = 2
-status_of exit.Device = 3
-status_of exit.Memory = 4
-status_of exit.Reported = 5
-
--- a failed read is a device fault, and out of memory is a status of its own; all other kinds are faults of the input
-abbrev pub exit_of_kind : LineKind → Exit
-exit_of_kind kind.Read = exit.Device
-exit_of_kind kind.Memory = exit.Memory
-exit_of_kind other = exit.Input
+use Rattle.relay_words.specs.declared.exit.Exit.{Exit}
+use Rattle.relay_words.specs.declared.exit.Exit.TheVariants as exit
+use Rattle.relay_words.specs.Exits.{exit_of_kind}
 
 abbrev pub exit_of : LinesFault → Exit
 exit_of (fault.Input e) = exit_of_kind e.kind

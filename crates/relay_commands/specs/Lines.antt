@@ -10,13 +10,9 @@ use Rattle.relay_ndjson.specs.Operations.{Operation}
 use Rattle.relay_ndjson.specs.Reading.{Reading, Parsing, Takes, Ends, Fails, reading}
 use Rattle.relay_ndjson.specs.declared.kind.InputFault.{InputFault}
 use Rattle.relay_ndjson.specs.declared.kind.LineKind.TheVariants as kind
+use Rattle.relay_words.specs.Taken.{TakesAll}
 use Rattle.relay_commands.specs.declared.lines.LinesFault.{LinesFault}
 use Rattle.relay_commands.specs.declared.lines.LinesFault.TheVariants as fault
-
--- operations were taken, one after another
-abbrev pub TakesAll : Reading → Reading → List Operation → Type 0
-TakesAll old new [] = new ≡ old
-TakesAll old new (op ∷ ops) = (n : ℕ) × (mid : Reading) × Takes old mid n op × TakesAll mid new ops
 
 -- the write of an operation
 abbrev pub write_of : Operation → ℕ → Write

@@ -1,18 +1,12 @@
 -- The refusals that a command line asks for, as `2:429,5:400`.
-use Rattle.std.specs.Prelude.{◌≡◌, ℕ, zero, suc, ◌<◌, ◌^◌, List, [], ◌∷◌, ◌++◌, Option, None, Some, ◌==◌, if◌then◌else◌}
+use Rattle.std.specs.Prelude.{◌≡◌, ℕ, zero, suc, ◌<◌, List, [], ◌∷◌, ◌++◌, Option, None, Some, ◌==◌, if◌then◌else◌}
 use Rattle.std.specs.Option.{option_or}
 use Rattle.std.specs.List.{before_first}
-use Rattle.std.specs.Str.Parse.{IsNumeral, digits_value}
 use Rattle.relay_index.specs.Choices.{MayRefuse}
 use Rattle.relay_index.specs.Plans.{Plan, refusal_at}
+use Rattle.relay_words.specs.Numbers.{IsNumber}
 use Rattle.relay_commands.specs.declared.refuse_list.ListFault.{ListFault}
 use Rattle.relay_commands.specs.declared.refuse_list.ListFault.TheVariants as fault
-
--- decimal digits, one or more, for a number of 64 bits; there is no sign, and leading zeros mean nothing
-pub record IsNumber (text : List ℕ) (n : ℕ) : Type 0 where
-  pub digits : IsNumeral 10 text
-  pub value : digits_value 10 text ≡ n
-  pub within : n < 2 ^ 64
 
 -- a refusal: the place of an item, counted from 1, a colon, and the status that the item is refused with
 pub record IsRefusal (text : List ℕ) (place status : ℕ) : Type 0 where

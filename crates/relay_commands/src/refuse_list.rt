@@ -2,9 +2,10 @@
 ghost use Rattle.std.specs.Prelude.{◌≡◌, ◌↔◌, ℕ, List, IsTrue, IfSome, IfNone, IfOk, IfErr, OnOk, MatchOption};
 ghost use Rattle.relay_index.specs.Choices.{MayRefuse};
 ghost use Rattle.relay_commands.specs.Cuts.{Adds, IsCut, IsPartFault, IsUncut};
-ghost use Rattle.relay_commands.specs.Refusals.{IsList, IsListFault, IsNoRefusal, IsNumber, IsRefusal, Refuses};
+ghost use Rattle.relay_commands.specs.Refusals.{IsList, IsListFault, IsNoRefusal, IsRefusal, Refuses};
 
 use relay_index::{Script, may_refuse};
+use relay_words::number_of;
 use std::alloc::Global;
 use thiserror::Error;
 
@@ -57,17 +58,6 @@ fn cut_at_comma(text: &str) -> Option<(&str, &str)>
     ensures { MatchOption result (IsUncut 44 text.now) (λ x. IsCut 44 text.now x.0.now x.1.now) }
 {
     text.split_once(',')
-}
-
-// The number that decimal digits are, without a sign.
-fn number_of(text: &str) -> Option<u64>
-    ensures some { IfSome result (IsNumber text.now) }
-    ensures none { IfNone result ((n : ℕ) → IsNumber text.now n → ⊥) }
-{
-    if text.as_bytes().first() == Some(&b'+') {
-        return None;
-    }
-    text.parse::<u64>().ok()
 }
 
 // Whether a number is a status that an index may refuse an item with.

@@ -1,8 +1,9 @@
 //! With which status each command ends.
 use relay_commands::apply::ApplyFault;
-use relay_commands::exit::{Exit, exit_of, exit_of_apply};
+use relay_commands::exit::{exit_of, exit_of_apply};
 use relay_commands::lines::LinesFault;
 use relay_ndjson::{InputFault, LineKind};
+use relay_words::Exit;
 
 #[test]
 fn statuses(rt: HostRuntime) {

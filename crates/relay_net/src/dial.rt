@@ -4,7 +4,7 @@ ghost use Rattle.relay_action.specs.Streams.{one_more};
 ghost use Rattle.relay_net.specs.Waiting.{limit_nanos};
 
 use relay_action::StdStream;
-use relay_wires::{Dial, DialFault};
+use relay_http::{Dial, DialFault};
 use std::io;
 use std::io::ErrorKind;
 use std::marker::Model;

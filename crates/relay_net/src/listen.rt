@@ -2,7 +2,7 @@
 ghost use Rattle.std.specs.Prelude.{◌≡◌, IfOk};
 
 use relay_action::StdStream;
-use relay_stub::{AcceptFailed, Listen};
+use relay_http::{AcceptFailed, Listen};
 use std::io;
 use std::marker::Model;
 use std::net::{Net, OpenListener, OpenStream, SocketAddr, TcpListener};
@@ -48,7 +48,7 @@ impl<R: Net> TcpListen<R> {
 }
 
 impl<R: Net> Listen<StdStream<R::Stream>> for TcpListen<R> {
-    ghost use Rattle.relay_stub.specs.Listening.{unseen};
+    ghost use Rattle.relay_http.specs.Listening.{unseen};
 
     ghost shows = { λ l. unseen l.0 l.1 };
 

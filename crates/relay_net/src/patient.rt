@@ -2,7 +2,7 @@
 ghost use Rattle.std.specs.Prelude.{◌≡◌, ◌+◌, ◌≤◌, is_ok, if◌then◌else◌, OnErr, IfOk};
 ghost use Rattle.relay_action.specs.Streams.{one_more, FailedSince};
 
-use relay_wires::{Dial, DialFault};
+use relay_http::{Dial, DialFault};
 use std::marker::Model;
 use std::thread;
 use std::time::{Clock, Duration, Instant};

@@ -4,8 +4,8 @@ ghost use Rattle.relay_progress.specs.Troubles.{trouble_of};
 
 use crate::counts::{Shared, Trouble};
 use relay_action::StdStream;
+use relay_http::{Dial, DialFault};
 use relay_net::TcpDial;
-use relay_wires::{Dial, DialFault};
 use std::io::ErrorKind;
 use std::marker::Model;
 use std::net::Net;

@@ -3,7 +3,7 @@ ghost use Rattle.std.specs.Prelude.{◌≡◌, ◌++◌, IfOk, OnOk};
 ghost use Rattle.relay_progress.specs.Lines.{ago_text, answer_text, counts_text, progress_text, read_text, share, trouble_name, trouble_text, written_text};
 
 use crate::counts::Trouble;
-use relay_text::add_number;
+use relay_words::add_number;
 use std::alloc::{AllocError, Global};
 
 /// The progress of a run.

@@ -3,8 +3,8 @@ use Rattle.std.proofs.Common.{◌≡◌, ℕ, List, [], ◌∷◌, ◌++◌, Res
 use Rattle.relay_ndjson.specs.declared.parser.Phase.TheVariants as phase
 use Rattle.relay_ndjson.specs.Operations.{Operation}
 use Rattle.relay_ndjson.specs.Reading.{Reading, Takes}
-use Rattle.relay_commands.specs.Lines.{TakesAll}
-use Rattle.relay_commands.proofs.Taken.{takes_more}
+use Rattle.relay_words.specs.Taken.{TakesAll}
+use Rattle.relay_words.proofs.Taken.{takes_more}
 use Rattle.relay_producer.specs.States.{ProducerState, after_put}
 use Rattle.relay_run.specs.declared.feed.FeedFault.{FeedFault}
 use Rattle.relay_run.specs.declared.feed.FeedFault.TheVariants as fault

@@ -5,7 +5,7 @@ use Rattle.std.specs.declared.alloc.AllocError.{AllocError}
 use Rattle.std.proofs.lemmas.List.{drop_more}
 use Rattle.relay_core.specs.declared.report.Report.{Report}
 use Rattle.relay_ndjson.specs.Operations.{counted}
-use Rattle.relay_commands.specs.declared.exit.Exit.{Exit}
+use Rattle.relay_words.specs.declared.exit.Exit.{Exit}
 use Rattle.relay_threads.specs.declared.summary.LaneSummary.{LaneSummary}
 use Rattle.relay_run.specs.declared.feed.FeedFault.{FeedFault}
 use Rattle.relay_run.specs.Faults.{file_fault, said_of, worse_by, faults_text, exit_of_files}

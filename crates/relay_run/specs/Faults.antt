@@ -3,9 +3,9 @@ use Rattle.std.specs.Prelude.{ℕ, Bool, true, false, List, [], ◌∷◌, ◌++
 use Rattle.relay_ndjson.specs.declared.kind.LineKind.TheVariants as kind
 use Rattle.relay_ndjson.specs.declared.kind.LineKind.{LineKind}
 use Rattle.relay_ndjson.specs.Kinds.{name_of}
-use Rattle.relay_commands.specs.declared.exit.Exit.{Exit}
-use Rattle.relay_commands.specs.declared.exit.Exit.TheVariants as exit
-use Rattle.relay_commands.specs.Exits.{exit_of_kind}
+use Rattle.relay_words.specs.declared.exit.Exit.{Exit}
+use Rattle.relay_words.specs.declared.exit.Exit.TheVariants as exit
+use Rattle.relay_words.specs.Exits.{exit_of_kind}
 use Rattle.relay_run.specs.declared.feed.FeedFault.{FeedFault}
 use Rattle.relay_run.specs.declared.feed.FeedFault.TheVariants as feed
 use Rattle.relay_run.specs.declared.faults.FileFault.{FileFault}

@@ -4,7 +4,7 @@ use Rattle.relay_action.specs.declared.action.Action.{Action}
 use Rattle.relay_action.specs.declared.key.DocKey.{DocKey}
 use Rattle.relay_ndjson.specs.Operations.{Operation, failed_after}
 use Rattle.relay_ndjson.specs.Reading.{Reading, Takes, Ends, Fails}
-use Rattle.relay_commands.specs.Lines.{TakesAll}
+use Rattle.relay_words.specs.Taken.{TakesAll}
 use Rattle.relay_producer.specs.declared.fault.PutFaultKind.{PutFaultKind}
 use Rattle.relay_producer.specs.declared.fault.PutFaultKind.TheVariants as refusal
 use Rattle.relay_producer.specs.States.{ProducerState, after_put, after_gone}

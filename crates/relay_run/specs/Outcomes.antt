@@ -4,15 +4,15 @@ use Rattle.std.specs.List.Sorted.{IsNonDecreasingBy}
 use Rattle.relay_action.specs.declared.operation.OpName.{OpName}
 use Rattle.relay_core.specs.declared.report.Report.{Report}
 use Rattle.relay_ndjson.specs.Operations.{counted}
-use Rattle.relay_commands.specs.declared.exit.Exit.{Exit}
-use Rattle.relay_commands.specs.declared.exit.Exit.TheVariants as exit
+use Rattle.relay_words.specs.declared.exit.Exit.{Exit}
+use Rattle.relay_words.specs.declared.exit.Exit.TheVariants as exit
 use Rattle.relay_threads.specs.declared.fault.StartFault.{StartFault}
 use Rattle.relay_threads.specs.declared.fault.StartFault.TheVariants as start
 use Rattle.relay_threads.specs.declared.fault.FinishFault.{FinishFault}
 use Rattle.relay_threads.specs.declared.fault.FinishFaultKind.{FinishFaultKind}
 use Rattle.relay_threads.specs.declared.fault.FinishFaultKind.TheVariants as kind
 use Rattle.relay_threads.specs.declared.summary.LaneSummary.{LaneSummary}
-use Rattle.relay_text.specs.Texts.{spaced, name_text, document_text, cause_text}
+use Rattle.relay_words.specs.Texts.{spaced, name_text, document_text, cause_text}
 
 -- `report P:N INDEX/ID CAUSE` and a line end
 abbrev pub report_line : Report → List ℕ

@@ -2,8 +2,8 @@
 use Rattle.std.specs.Prelude.{◌≡◌, ◌⊎◌, ℕ, List, [], ◌++◌, Option, Result, Ok, Err, codes, flat_map}
 use Rattle.std.specs.Io.KnownBytes.{append_known}
 use Rattle.relay_action.specs.Streams.{FailedSince}
-use Rattle.relay_commands.specs.declared.exit.Exit.{Exit}
-use Rattle.relay_commands.specs.declared.exit.Exit.TheVariants as exit
+use Rattle.relay_words.specs.declared.exit.Exit.{Exit}
+use Rattle.relay_words.specs.declared.exit.Exit.TheVariants as exit
 use Rattle.relay_threads.specs.declared.fault.FinishFault.{FinishFault}
 use Rattle.relay_threads.specs.declared.fault.FinishFaultKind.{FinishFaultKind}
 use Rattle.relay_threads.specs.declared.fault.FinishFaultKind.TheVariants as kind

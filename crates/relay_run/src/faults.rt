@@ -3,9 +3,8 @@ ghost use Rattle.std.specs.Prelude.{◌≡◌, ◌++◌, OnOk};
 ghost use Rattle.relay_run.specs.Faults.{exit_of_file, file_fault_line, line_fault_text, rank, worse};
 
 use crate::feed::FeedFault;
-use relay_commands::exit::{Exit, exit_of_kind};
 use relay_ndjson::LineKind;
-use relay_text::add_number;
+use relay_words::{Exit, add_number, exit_of_kind};
 use std::alloc::AllocError;
 
 /// Why not all operations of a file were put.

@@ -4,7 +4,7 @@ ghost use Rattle.relay_run.specs.Outcomes.{report_line, counts_line, outcome_tex
 
 use relay_action::OpName;
 use relay_core::Report;
-use relay_text::{add_cause, add_document, add_name, add_spaced};
+use relay_words::{add_cause, add_document, add_name, add_spaced};
 use std::alloc::{AllocError, Global};
 
 /// A line `report P:N INDEX/ID CAUSE` for each report, by producer and then by number, and after them the

@@ -5,9 +5,9 @@ ghost use Rattle.relay_run.specs.Saying.{SavesReports, file_failed_text};
 use crate::faults::worse;
 use crate::files::say;
 use relay_action::ByteOut;
-use relay_commands::exit::Exit;
 use relay_core::Report;
 use relay_report::report_text;
+use relay_words::Exit;
 use std::alloc::{AllocError, Global};
 
 /// Saves reports in the file of this name, as an object a line, or says that a write of it failed. How the

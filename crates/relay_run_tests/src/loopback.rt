@@ -1,11 +1,11 @@
 //! Two files to the stand-in server in a thread of its own.
 use relay_action::{Action, DocKey, MemStream, Write};
-use relay_commands::exit::Exit;
 use relay_index::{Index, Script};
 use relay_net::TcpListen;
 use relay_run::files::{RunOptions, run_files};
 use relay_run::run::{Limits, RelayConfig};
 use relay_stub::stub_serve;
+use relay_words::Exit;
 use std::alloc::Global;
 use std::net::{Net, TcpListener, TcpStream};
 use std::rt::Files;

@@ -5,7 +5,9 @@ use Rattle.std.proofs.lemmas.Bool.{eqb-true}
 use Rattle.std.specs.Char.{digit_value}
 use Rattle.std.specs.Str.Parse.{AllDigits}
 use Rattle.relay_script.specs.Words.{Begins, IsWord}
-use Rattle.relay_script.specs.Numbers.{AreNumbers, IsNumber, IsNumbersFault, IsWordFault}
+use Rattle.relay_words.specs.Numbers.{IsNumber}
+use Rattle.relay_words.proofs.Numbers.{one_number}
+use Rattle.relay_script.specs.Numbers.{AreNumbers, IsNumbersFault, IsWordFault}
 use Rattle.relay_script.specs.declared.event_line.LineFault.{LineFault}
 use Rattle.relay_script.specs.declared.event_line.LineFault.TheVariants as fault
 use Rattle.relay_script.proofs.Cutting.{same_cut, uncut}
@@ -28,9 +30,6 @@ digits_word (x ∷ xs) all =
 
 pub number_word : (text : List ℕ) (n : ℕ) → IsNumber text n → IsWord text
 number_word text n h = digits_word text h.digits.1
-
-pub one_number : (text : List ℕ) (n m : ℕ) → IsNumber text n → IsNumber text m → n ≡ m
-one_number text n m h k = sym h.value ∙ k.value
 
 -- ---- a text of numbers
 

@@ -14,7 +14,8 @@ use Rattle.relay_core.specs.declared.config.RelayConfig.{RelayConfig}
 use Rattle.relay_ndjson.proofs.Deciding.{key_none}
 use Rattle.relay_results.proofs.Same.{bytes_eq-self}
 use Rattle.relay_script.specs.Words.{Begins, IsWord}
-use Rattle.relay_script.specs.Numbers.{AreNumbers, IsNumber}
+use Rattle.relay_words.specs.Numbers.{IsNumber}
+use Rattle.relay_script.specs.Numbers.{AreNumbers}
 use Rattle.relay_script.specs.Config.{IsConfigLine, config_of}
 use Rattle.relay_script.specs.Events.{AsksFor, IsActionFault, IsKey, IsKeyFault, IsLineFault, IsNumberedFault, IsPut, IsPutFault, Puts, event_of, fault_of}
 use Rattle.relay_script.specs.declared.event_line.LineFault.{LineFault}

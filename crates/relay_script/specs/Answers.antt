@@ -4,7 +4,7 @@ use Rattle.std.specs.List.{flat_map}
 use Rattle.relay_action.specs.declared.key.DocKey.{DocKey}
 use Rattle.relay_ndjson.specs.Bulk.{line_end}
 use Rattle.relay_core.specs.declared.settled.Settled.{Settled}
-use Rattle.relay_text.specs.Texts.{spaced, name_text, document_text}
+use Rattle.relay_words.specs.Texts.{spaced, name_text, document_text}
 use Rattle.relay_world.specs.declared.event.Refusal.{Refusal}
 use Rattle.relay_world.specs.declared.event.Refusal.TheVariants as no
 use Rattle.relay_world.specs.declared.event.StepAnswer.{StepAnswer}

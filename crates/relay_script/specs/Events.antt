@@ -9,7 +9,8 @@ use Rattle.relay_index.specs.declared.choice.Choice.TheVariants as choice
 use Rattle.relay_world.specs.declared.event.Event.{Event}
 use Rattle.relay_world.specs.declared.event.Event.TheVariants as event
 use Rattle.relay_script.specs.Words.{Begins}
-use Rattle.relay_script.specs.Numbers.{AreNumbers, IsNumber}
+use Rattle.relay_words.specs.Numbers.{IsNumber}
+use Rattle.relay_script.specs.Numbers.{AreNumbers}
 use Rattle.relay_script.specs.declared.event_line.LineFault.{LineFault}
 use Rattle.relay_script.specs.declared.event_line.LineFault.TheVariants as fault
 

@@ -1,6 +1,6 @@
 -- The exit status after a script.
-use Rattle.relay_commands.specs.declared.exit.Exit.{Exit}
-use Rattle.relay_commands.specs.declared.exit.Exit.TheVariants as exit
+use Rattle.relay_words.specs.declared.exit.Exit.{Exit}
+use Rattle.relay_words.specs.declared.exit.Exit.TheVariants as exit
 use Rattle.relay_script.specs.declared.script.ScriptFault.{ScriptFault}
 use Rattle.relay_script.specs.declared.script.ScriptFault.TheVariants as fault
 

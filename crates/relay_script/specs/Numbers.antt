@@ -1,15 +1,9 @@
 -- The numbers in a line.
-use Rattle.std.specs.Prelude.{◌≡◌, ℕ, ◌<◌, ◌^◌, List, [], ◌∷◌}
-use Rattle.std.specs.Str.Parse.{IsNumeral, digits_value}
+use Rattle.std.specs.Prelude.{ℕ, List, [], ◌∷◌}
+use Rattle.relay_words.specs.Numbers.{IsNumber}
 use Rattle.relay_script.specs.Words.{Begins}
 use Rattle.relay_script.specs.declared.event_line.LineFault.{LineFault}
 use Rattle.relay_script.specs.declared.event_line.LineFault.TheVariants as fault
-
--- one or more decimal digits of a number of 64 bits, without a sign; leading zeros have no meaning
-pub record IsNumber (word : List ℕ) (n : ℕ) : Type 0 where
-  pub digits : IsNumeral 10 word
-  pub value : digits_value 10 word ≡ n
-  pub within : n < 2 ^ 64
 
 -- one or more numbers, separated by single spaces
 abbrev pub AreNumbers : List ℕ → List ℕ → Type 0

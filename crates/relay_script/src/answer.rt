@@ -1,11 +1,11 @@
 //! The lines that answer events.
 ghost use Rattle.std.specs.Prelude.{◌≡◌, [], ◌++◌, codes, OnOk};
 ghost use Rattle.relay_script.specs.Answers.{AddsItems, IsAnswer, IsAnswerLine, counts_text, item_text, refusal_name};
-ghost use Rattle.relay_text.specs.Texts.{name_text, spaced};
+ghost use Rattle.relay_words.specs.Texts.{name_text, spaced};
 
 use relay_action::{DocKey, OpName};
 use relay_core::Settled;
-use relay_text::{add_document, add_name, add_number, add_spaced};
+use relay_words::{add_document, add_name, add_number, add_spaced};
 use relay_world::{Refusal, StepAnswer, World};
 use std::alloc::AllocError;
 

@@ -7,7 +7,7 @@ use crate::script::ScriptFault;
 use relay_action::{ByteOut, DocKey, OpName, Write};
 use relay_commands::outgoing::Outgoing;
 use relay_core::{RelayConfig, Report};
-use relay_text::{add_cause, add_document, add_name, add_number, add_spaced};
+use relay_words::{add_cause, add_document, add_name, add_number, add_spaced};
 use relay_world::World;
 use std::alloc::AllocError;
 

@@ -3,7 +3,7 @@ ghost use Rattle.std.specs.Prelude.{◌≡◌};
 ghost use Rattle.relay_script.specs.Exits.{exit_of_script};
 
 use crate::script::ScriptFault;
-use relay_commands::exit::Exit;
+use relay_words::Exit;
 
 /// The exit status of `relay world` after a fault.
 pub fn exit_of_script(fault: ScriptFault) -> Exit

@@ -1,21 +1,12 @@
 //! The numbers in a line.
-ghost use Rattle.std.specs.Prelude.{◌≡◌, ℕ, List, [], ◌∷◌, ◌++◌, IfSome, IfNone, IfOk, IfErr, OnOk};
-ghost use Rattle.relay_script.specs.Numbers.{AreNumbers, IsNumber, IsNumbersFault, IsWordFault};
+ghost use Rattle.std.specs.Prelude.{◌≡◌, ℕ, List, [], ◌∷◌, ◌++◌, IfOk, IfErr, OnOk};
+ghost use Rattle.relay_words.specs.Numbers.{IsNumber};
+ghost use Rattle.relay_script.specs.Numbers.{AreNumbers, IsNumbersFault, IsWordFault};
 
 use crate::event_line::LineFault;
 use crate::words::cut;
+use relay_words::number_of;
 use std::alloc::Global;
-
-/// The value of decimal digits without a sign. `None`: the word is not a number of 64 bits.
-pub fn number_of(word: &str) -> Option<u64>
-    ensures some { IfSome result (IsNumber word.now) }
-    ensures none { IfNone result ((n : ℕ) → IsNumber word.now n → ⊥) }
-{
-    if word.as_bytes().first() == Some(&b'+') {
-        return None;
-    }
-    word.parse::<u64>().ok()
-}
 
 // Adds the number of a word to a list.
 fn push_number(numbers: &mut Vec<u64>, word: &str) -> Result<(), LineFault>

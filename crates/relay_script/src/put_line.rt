@@ -1,13 +1,13 @@
 //! The lines of puts.
 ghost use Rattle.std.specs.Prelude.{◌≡◌, ℕ, ◌<◌, ◌^◌, IfOk, IfErr, IfSome, IfNone};
 ghost use Rattle.relay_script.specs.Words.{IsWord};
-ghost use Rattle.relay_script.specs.Numbers.{IsNumber};
+ghost use Rattle.relay_words.specs.Numbers.{IsNumber};
 ghost use Rattle.relay_script.specs.Events.{AsksFor, IsActionFault, IsKey, IsKeyFault, IsPutFault, Puts, fault_of};
 
 use crate::event_line::LineFault;
-use crate::numbers::number_of;
 use crate::words::cut;
 use relay_action::{Action, ActionFault, DocKey};
+use relay_words::number_of;
 use relay_world::Event;
 use std::alloc::Global;
 

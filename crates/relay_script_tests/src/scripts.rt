@@ -1,9 +1,9 @@
 //! `world_script` over streams in memory: a worked script, bad ones, failures in the middle, and
 //! what is written before them.
 use relay_action::MemStream;
-use relay_commands::exit::Exit;
 use relay_script::exit::exit_of_script;
 use relay_script::script::{ScriptFault, world_script};
+use relay_words::Exit;
 use std::alloc::Global;
 use std::test::Fail;
 

@@ -2,7 +2,7 @@
 use Rattle.std.proofs.Common.{◌≡◌, ℕ, suc, zero, ◌+◌, ◌≤◌, min, sym, ap, ◌∙◌, arith, refl}
 use Rattle.relay_action.specs.Streams.{most, one_more}
 use Rattle.relay_index.specs.Serving.{Server}
-use Rattle.relay_stub.specs.Listening.{Listening}
+use Rattle.relay_http.specs.Listening.{Listening}
 use Rattle.relay_stub.specs.Visits.{Visits, VisitsAll}
 
 one_further : (a n b : ℕ) → a + suc n ≤ most → b ≡ a + n → one_more b ≡ a + suc n

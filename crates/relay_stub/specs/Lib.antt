@@ -1,4 +1,3 @@
-pub mod Listening
 pub mod Visits
 pub mod Listing
 pub mod Stub

@@ -5,9 +5,9 @@ use Rattle.relay_action.specs.Streams.{one_more}
 use Rattle.relay_index.specs.States.{State, fresh}
 use Rattle.relay_index.specs.Plans.{Plan}
 use Rattle.relay_index.specs.Serving.{under}
-use Rattle.relay_commands.specs.declared.exit.Exit.{Exit}
-use Rattle.relay_commands.specs.declared.exit.Exit.TheVariants as exit
-use Rattle.relay_stub.specs.Listening.{Listening}
+use Rattle.relay_words.specs.declared.exit.Exit.{Exit}
+use Rattle.relay_words.specs.declared.exit.Exit.TheVariants as exit
+use Rattle.relay_http.specs.Listening.{Listening}
 use Rattle.relay_stub.specs.Listing.{IsListing}
 use Rattle.relay_stub.specs.Visits.{Serves}
 use Rattle.relay_stub.specs.declared.stub.ServeError.TheVariants as error

@@ -12,7 +12,7 @@ use Rattle.relay_http.specs.WrittenRequest.{Sends}
 use Rattle.relay_http.specs.declared.fault.HttpFault.{HttpFault}
 use Rattle.relay_http.specs.declared.fault.HttpFault.TheVariants as fault
 use Rattle.relay_http.specs.declared.request.HttpRequest.{HttpRequest}
-use Rattle.relay_stub.specs.Listening.{Shown, shown, Listening, HandsOut, refused, with_done}
+use Rattle.relay_http.specs.Listening.{Shown, shown, Listening, HandsOut, refused, with_done}
 use Rattle.relay_stub.specs.declared.stub.ServeError.{ServeError}
 use Rattle.relay_stub.specs.declared.stub.ServeError.TheVariants as error
 

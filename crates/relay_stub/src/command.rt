@@ -2,12 +2,12 @@
 ghost use Rattle.std.specs.Prelude.{◌≡◌, MatchResult};
 ghost use Rattle.relay_stub.specs.Stub.{Stubs, IsOutput, NoOutput, Sends, failed_by, exit_of_stub};
 
-use crate::listen::Listen;
 use crate::listing::listing;
 use crate::stub::{ServeError, stub_serve};
 use relay_action::{ByteIn, ByteOut, write_all};
-use relay_commands::exit::Exit;
+use relay_http::Listen;
 use relay_index::{Index, Script};
+use relay_words::Exit;
 use std::alloc::Global;
 use thiserror::Error;
 

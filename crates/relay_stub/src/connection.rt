@@ -3,7 +3,7 @@ ghost use Rattle.std.specs.Prelude.{◌≡◌, ◌≤◌, length, IsTrue, IsFals
 ghost use Rattle.relay_index.specs.Serving.{under};
 ghost use Rattle.relay_http.specs.Connection.{is_broken, is_open};
 ghost use Rattle.relay_http.specs.WrittenAnswer.{IsAnswerStatus};
-ghost use Rattle.relay_stub.specs.Listening.{shown};
+ghost use Rattle.relay_http.specs.Listening.{shown};
 ghost use Rattle.relay_stub.specs.Visits.{not_bulk, IsAnswered, MeetsBulk, Meets, Exchanges, IsServed};
 
 use relay_action::{ByteIn, ByteOut};

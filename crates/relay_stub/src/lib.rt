@@ -10,10 +10,9 @@
 
 pub mod command;
 pub mod connection;
-pub mod listen;
 pub mod listing;
 pub mod stub;
 
 pub use connection::serve_connection;
-pub use listen::{AcceptFailed, Listen};
+pub use relay_http::{AcceptFailed, Listen};
 pub use stub::{ServeError, stub_serve};

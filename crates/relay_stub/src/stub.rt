@@ -5,8 +5,8 @@ ghost use Rattle.relay_index.specs.Serving.{under};
 ghost use Rattle.relay_stub.specs.Visits.{Serves, ServesNext};
 
 use crate::connection::serve_connection;
-use crate::listen::Listen;
 use relay_action::{ByteIn, ByteOut};
+use relay_http::Listen;
 use relay_index::{Index, Script};
 use std::alloc::Global;
 use thiserror::Error;

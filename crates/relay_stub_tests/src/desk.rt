@@ -1,6 +1,6 @@
 //! A listener in memory, which compares what was written on each connection.
 ghost use Rattle.std.specs.Prelude.{◌≡◌};
-ghost use Rattle.relay_stub.specs.Listening.{unseen};
+ghost use Rattle.relay_http.specs.Listening.{unseen};
 
 use relay_action::MemStream;
 use relay_index::{Index, Script, may_refuse};

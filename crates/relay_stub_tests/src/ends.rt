@@ -1,8 +1,8 @@
 //! What the command writes, and how it ends.
 use crate::desk::{Desk, Visit, script_of};
 use relay_action::MemStream;
-use relay_commands::exit::Exit;
 use relay_stub::command::{StubFault, exit_of_stub, stub};
+use relay_words::Exit;
 use std::alloc::Global;
 
 const DELETES: &[u8] =

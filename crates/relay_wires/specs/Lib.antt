@@ -1,4 +1,3 @@
 pub mod Numbered
 pub mod Told
-pub mod Loops
 pub mod Carriers

@@ -7,10 +7,9 @@ ghost use Rattle.relay_http.specs.WrittenRequest.{is_host, request};
 ghost use Rattle.relay_lane.specs.Wires.{IsReply};
 ghost use Rattle.relay_wires.specs.Carriers.{AllFree, IsFree, FindsFree, PicksOne, IsWritten, BringsFrom, fault_received};
 
-use crate::dial::Dial;
 use crate::told::tell;
 use relay_action::{ByteIn, ByteOut, ByteStream, Write};
-use relay_http::{Conn, HttpFault, Peek};
+use relay_http::{Conn, Dial, HttpFault, Peek};
 use relay_lane::{WireFault, WireReply};
 use std::alloc::Global;
 

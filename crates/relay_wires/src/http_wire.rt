@@ -4,10 +4,9 @@ ghost use Rattle.relay_http.specs.WrittenRequest.{is_host};
 ghost use Rattle.relay_wires.specs.Carriers.{idle};
 
 use crate::carrying::{bring, carry, pick};
-use crate::dial::Dial;
 use crate::numbered::take;
 use relay_action::{ByteIn, ByteOut, ByteStream, Write};
-use relay_http::{Conn, Peek};
+use relay_http::{Conn, Dial, Peek};
 use relay_lane::{Wire, WireFault, WireReply};
 use std::alloc::{AllocError, Global};
 use std::collections::VecDeque;

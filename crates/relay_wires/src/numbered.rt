@@ -13,8 +13,8 @@ fn place_of<T>(out: &VecDeque<(u64, T)>, number: u64) -> Option<usize>
     out.iter().position(|entry| entry.0 == number)
 }
 
-// Takes what is out under this number, where something is.
-pub(crate) fn take<T>(out: &mut VecDeque<(u64, T)>, number: u64) -> Option<T>
+/// Takes what is out under this number, where something is. `None`: nothing is, and all stays as it was.
+pub fn take<T>(out: &mut VecDeque<(u64, T)>, number: u64) -> Option<T>
     ensures found { result ≡ found number out.old.items }
     ensures besides { out.new.items ≡ besides number out.old.items }
     ensures capacity { deque_capacity out.new ≡ deque_capacity out.old }

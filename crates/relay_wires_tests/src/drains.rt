@@ -7,7 +7,7 @@ use crate::desk::{Desk, NO_PAUSES, filled};
 use crate::streams::wired;
 use relay_index::{Index, Script};
 use relay_lane::{Wire, drain};
-use relay_wires::LoopWire;
+use relay_loop::LoopWire;
 use std::alloc::{AllocError, Global};
 
 /// What a drain came to.

@@ -6,7 +6,7 @@ use crate::asking::{Told, asks};
 use relay_action::DocKey;
 use relay_index::{Index, Script};
 use relay_lane::WireFault;
-use relay_wires::LoopWire;
+use relay_loop::LoopWire;
 use std::alloc::Global;
 
 // A wire round an empty index that refuses item 1, of which the second reply is lost.

@@ -6,7 +6,7 @@ ghost use Rattle.relay_wires.specs.Numbered.{numbers};
 use crate::streams::{Wired, wired};
 use relay_index::{Index, Script};
 use relay_lane::{Wire, WireFault};
-use relay_wires::LoopWire;
+use relay_loop::LoopWire;
 use std::alloc::Global;
 
 const BUSY: &[u8] = b"HTTP/1.1 503 Busy\r\nContent-Length: 0\r\n\r\n";

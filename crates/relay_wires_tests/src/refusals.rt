@@ -9,10 +9,12 @@ ghost use Rattle.relay_wires.specs.Numbered.{numbers};
 use crate::desk::{CONFIG, Desk, NO_PAUSES, closes, with_deletes};
 use crate::streams::{Wired, wired};
 use relay_action::{Action, DocKey, Write};
+use relay_http::HttpReply;
 use relay_index::{Index, Script};
 use relay_lane::{Wire, WireFault, WireReply, drain};
+use relay_loop::LoopWire;
 use relay_ndjson::bulk_len;
-use relay_wires::LoopWire;
+use relay_wires::told::tell;
 use std::alloc::{AllocError, Global};
 
 // A wire round an empty index that loses the reply to one number; 0: none.
@@ -132,6 +134,28 @@ fn is_told_over_http(alloc: Global) -> Option<bool> {
 #[test]
 fn refused_request_over_http(rt: HostRuntime) {
     assert!(rt; is_told_over_http(rt.alloc()) == Some(true));
+}
+
+const BODY: &[u8] =
+    b"{\"items\":[{\"delete\":{\"_id\":\"a document of more than thirty-eight bytes\",\"status\":404}}]}";
+
+// Whether a reply of one entry tells it, by a second call if the first was refused.
+fn tells_one_entry(alloc: Global) -> Option<bool> {
+    let body = BODY.to_vec(alloc).or_else(|_| BODY.to_vec(alloc)).ok()?;
+    let reply = HttpReply {
+        status: 200,
+        body,
+        keep: true,
+    };
+    match counted(tell(alloc, &reply)) {
+        Err(WireFault::Memory) => Some(counted(tell(alloc, &reply)) == Ok(1)),
+        told => Some(told == Ok(1)),
+    }
+}
+
+#[test]
+fn refused_reply(rt: HostRuntime) {
+    assert!(rt; tells_one_entry(rt.alloc()) == Some(true));
 }
 
 const SIX: [&str; 6] = ["1", "2", "1", "3", "2", "1"];

@@ -8,7 +8,7 @@ use relay_action::Write;
 use relay_batch::Limits;
 use relay_index::{Index, Script};
 use relay_lane::{RelayConfig, Wire, WireFault, WireReply, collect, drain, pump};
-use relay_wires::LoopWire;
+use relay_loop::LoopWire;
 use std::alloc::Global;
 
 // A wire in memory that notes what it does: a request's number where it is sent, and less than 0

@@ -4,7 +4,7 @@ ghost use Rattle.std.specs.Prelude.{◌≡◌, [], IfSome};
 use crate::desk::filled;
 use crate::drains::{Came, came_to};
 use relay_index::{Index, Script};
-use relay_wires::LoopWire;
+use relay_loop::LoopWire;
 use std::alloc::Global;
 
 // A wire round an empty index that takes bodies of at most so many bytes.

@@ -3,7 +3,8 @@ use crate::refusals::script_of;
 use clap::{Arg, ArgAction, ArgMatches, Command};
 use relay_action::StdStream;
 use relay_commands::apply::{ApplyFault, apply};
-use relay_commands::exit::{Exit, exit_of_apply};
+use relay_commands::exit::exit_of_apply;
+use relay_words::Exit;
 use std::alloc::{AllocError, Global};
 use std::io;
 

@@ -3,9 +3,10 @@ use crate::report::usage;
 use clap::builder::ValueParser;
 use clap::{Arg, ArgAction, ArgMatches, Command};
 use relay_action::StdStream;
-use relay_commands::exit::{Exit, exit_of};
+use relay_commands::exit::exit_of;
 use relay_commands::lines::{LinesFault, lines};
 use relay_ndjson::{LAST_VERSION, LineKind};
+use relay_words::Exit;
 use std::alloc::{AllocError, Global};
 use std::io;
 

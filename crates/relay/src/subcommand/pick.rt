@@ -2,9 +2,9 @@
 use crate::report::out_of_memory;
 use clap::{Arg, ArgAction, ArgMatches, Command};
 use relay_action::StdStream;
-use relay_commands::exit::{Exit, exit_of_kind};
 use relay_ndjson::LineKind;
 use relay_report::{Named, PickFault, ReportFault, first_missing, pick, read_names};
+use relay_words::{Exit, exit_of_kind};
 use std::alloc::{AllocError, Global};
 use std::fs::File;
 use std::io;

@@ -1,9 +1,9 @@
 //! `relay world`.
 use clap::{ArgMatches, Command};
 use relay_action::StdStream;
-use relay_commands::exit::Exit;
 use relay_script::exit::exit_of_script;
 use relay_script::script::{ScriptFault, world_script};
+use relay_words::Exit;
 use std::alloc::{AllocError, Global};
 use std::io;
 

@@ -1,6 +1,6 @@
 use Rattle.std.proofs.Common.{List, ℕ, map, refl, subst, ap, ◌∙◌}
 use Rattle.std.specs.Prelude.{string_bytes}
-use Rattle.relay_commands.specs.declared.exit.Exit.TheVariants as exit
+use Rattle.relay_words.specs.declared.exit.Exit.TheVariants as exit
 use Rattle.relay_run.specs.Faults.{faults_text, exit_of_files}
 use Rattle.relay_run.specs.Saying.{Written, IsSaid}
 use Rattle.relay_run.proofs.Said.{is_said, concludes_fault}

@@ -1,6 +1,6 @@
 use Rattle.std.proofs.Common.{◌≡◌, ◌++◌, drop, map}
 use Rattle.std.specs.Prelude.{string_bytes}
-use Rattle.relay_commands.specs.declared.exit.Exit.TheVariants as exit
+use Rattle.relay_words.specs.declared.exit.Exit.TheVariants as exit
 use Rattle.relay_run.specs.Faults.{faults_text, exit_of_files}
 use Rattle.relay_run.proofs.files.faults_text.Given as goal
 

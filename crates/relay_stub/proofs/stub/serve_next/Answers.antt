@@ -1,6 +1,6 @@
 use Rattle.std.proofs.Common.{subst}
 use Rattle.relay_index.specs.Serving.{under}
-use Rattle.relay_stub.specs.Listening.{shown}
+use Rattle.relay_http.specs.Listening.{shown}
 use Rattle.relay_stub.specs.Visits.{IsServed}
 use Rattle.relay_stub.proofs.stub.serve_next.Goals as goal
 

@@ -1,0 +1,91 @@
+//! The two ends of a connection over streams in memory.
+ghost use Rattle.std.specs.Prelude.{◌≡◌, ◌≤◌, ℕ, List, [], Some, true, length, IfOk};
+ghost use Rattle.relay_ndjson.specs.Bulk.{text_of};
+ghost use Rattle.relay_http.specs.Connection.{fresh};
+ghost use Rattle.relay_http.specs.Framing.{reply_limit, request_limit};
+ghost use Rattle.relay_http.specs.WrittenAnswer.{IsAnswerStatus, answer};
+ghost use Rattle.relay_http.specs.WrittenRequest.{request};
+ghost use Rattle.relay_loop.specs.Loops.{loop_host, bytes_of, IsAnswered};
+
+use relay_action::{MemStream, Write};
+use relay_http::{Conn, HttpReply};
+use relay_ndjson::bulk_len;
+use std::alloc::{AllocError, Global};
+
+// The host that the requests name.
+const HOST: &str = "loop";
+
+// More bytes than a head has that is written here.
+const HEAD_ROOM: usize = 1024;
+
+// How many bytes a call of a stream moves at most.
+const PIECE: usize = 4096;
+
+// A connection over these bytes, whose stream takes so many.
+fn connect(alloc: Global, input: Vec<u8>, room: usize) -> Result<Conn<MemStream>, AllocError>
+    ensures { IfOk result (λ c. c ≡ fresh (Some input.items) (Some []) 0) }
+{
+    let stream = MemStream::new(alloc, input, room, PIECE, 0)?;
+    match Conn::new(alloc, stream) {
+        Ok(conn) => Ok(conn),
+        Err((failed, _)) => Err(failed),
+    }
+}
+
+// What was written on a connection.
+fn written(alloc: Global, conn: Conn<MemStream>) -> Result<Vec<u8>, AllocError>
+    ensures { (bytes : List ℕ) → conn.written ≡ Some bytes → IfOk result (λ v. v.items ≡ bytes) }
+{
+    conn.into_stream().written().to_vec(alloc)
+}
+
+// The bytes of the request that carries these writes.
+pub(crate) fn request_bytes(alloc: Global, writes: &[Write]) -> Result<Vec<u8>, AllocError>
+    requires few { length writes.now ≤ 10000 }
+    requires size { length (text_of writes.now) ≤ request_limit }
+    ensures { IfOk result (λ bytes. bytes.items ≡ bytes_of writes.now) }
+{
+    let room = bulk_len(writes) as usize + HEAD_ROOM;
+    let mut conn = connect(alloc, Vec::new(alloc), room)?;
+    match conn.write_request(alloc, HOST, writes) {
+        Ok(()) => written(alloc, conn),
+        Err(_) => Err(AllocError),
+    }
+}
+
+// The body of the request that stands in these bytes.
+pub(crate) fn request_body(alloc: Global, bytes: Vec<u8>) -> Result<Vec<u8>, AllocError>
+    ensures { (body : List ℕ) → length body ≤ request_limit → bytes.items ≡ request loop_host body
+        → IfOk result (λ v. v.items ≡ body) }
+{
+    let mut conn = connect(alloc, bytes, 0)?;
+    match conn.read_request(alloc) {
+        Ok(Some(request)) => Ok(request.body),
+        Ok(None) => Err(AllocError),
+        Err(_) => Err(AllocError),
+    }
+}
+
+// The bytes of the answer with this status and this body.
+pub(crate) fn answer_bytes(alloc: Global, status: u16, body: &str) -> Result<Vec<u8>, AllocError>
+    requires status { IsAnswerStatus status }
+    requires size { length body.now ≤ reply_limit }
+    ensures { IfOk result (λ bytes. bytes.items ≡ answer status body.now true) }
+{
+    let mut conn = connect(alloc, Vec::new(alloc), body.len() + HEAD_ROOM)?;
+    match conn.write_answer(alloc, status, body, true) {
+        Ok(()) => written(alloc, conn),
+        Err(_) => Err(AllocError),
+    }
+}
+
+// The reply that stands in these bytes.
+pub(crate) fn reply_of(alloc: Global, bytes: Vec<u8>) -> Result<HttpReply, AllocError>
+    ensures { IfOk result (IsAnswered bytes.items) }
+{
+    let mut conn = connect(alloc, bytes, 0)?;
+    match conn.read_reply(alloc) {
+        Ok(reply) => Ok(reply),
+        Err(_) => Err(AllocError),
+    }
+}

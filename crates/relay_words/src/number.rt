@@ -1,0 +1,14 @@
+//! The number that a word is.
+ghost use Rattle.std.specs.Prelude.{ℕ, IfSome, IfNone};
+ghost use Rattle.relay_words.specs.Numbers.{IsNumber};
+
+/// The number that decimal digits are, without a sign. `None`: the word is no such number of 64 bits.
+pub fn number_of(word: &str) -> Option<u64>
+    ensures some { IfSome result (IsNumber word.now) }
+    ensures none { IfNone result ((n : ℕ) → IsNumber word.now n → ⊥) }
+{
+    if word.as_bytes().first() == Some(&b'+') {
+        return None;
+    }
+    word.parse::<u64>().ok()
+}
