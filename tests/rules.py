@@ -27,7 +27,7 @@ HOMES = {
         "what `relay apply` reads": APPLY,
         "the body, read piece by piece": APPLY,
         "which refusals a list asks for": (APPLY, STUB),
-        "exit statuses": (LINES, APPLY),
+        "how `relay lines` and `relay apply` end": (LINES, APPLY),
         "which word is which subcommand": CODE,
     }),
     "relay_core": (LANE, {
@@ -108,7 +108,11 @@ HOMES = {
     "relay_run": (RUN, {}),
     "relay_script": (SCRIPT, {"which lines are taken": WORLD, "which calls failed": WORLD, "exit statuses": WORLD}),
     "relay_stub": (STUB, {}),
-    "relay_text": ((SCRIPT, RUN), {}),
+    "relay_words": ((SCRIPT, RUN), {
+        "the number that a word is": (APPLY, SCRIPT),
+        "exit statuses": (LINES, RUN),
+        "operations were taken": (LINES, RUN),
+    }),
     "relay_threads": (RUN, {}),
     "relay_wires": (LANE, {}),
     "relay_world": (SCRIPT, {}),
