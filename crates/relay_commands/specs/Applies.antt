@@ -8,35 +8,35 @@ use Rattle.relay_index.specs.Serving.{under, answer_of, Answers}
 use Rattle.relay_commands.specs.declared.apply.ApplyFault.{ApplyFault}
 use Rattle.relay_commands.specs.declared.apply.ApplyFault.TheVariants as fault
 
--- the most bytes of the body of a bulk request
+-- the maximum size of the body of a bulk request, in bytes
 abbrev pub body_limit : ℕ
 body_limit = 16777216
 
--- the reader gave these bytes and then its end, and they are no more than a body may have
+-- the reader returned these bytes and then its end, and they are within the limit of a body
 pub record GivesBody (old new : Option (List ℕ)) (body : List ℕ) : Type 0 where
   pub within : length body ≤ body_limit
   pub taken : old ≡ prepend_known body new
   pub ended : IsAtEnd new
 
--- no more was taken from the reader than shows that a body is too long
+-- no more was taken from the reader than it takes to see that a body is too long
 pub record TakesSome (old new : Option (List ℕ)) : Type 0 where
   pub bytes : List ℕ
   pub within : length bytes ≤ body_limit + 1
   pub taken : old ≡ prepend_known bytes new
 
--- one byte more than a body may have was taken from the reader, and no more
+-- exactly one byte more than a body may have was taken from the reader
 pub record PassesLimit (old new : Option (List ℕ)) : Type 0 where
   pub bytes : List ℕ
   pub past : length bytes ≡ body_limit + 1
   pub taken : old ≡ prepend_known bytes new
 
--- a fresh index answers the body so, under the script
+-- the answer of a fresh index to the body, under the script
 pub record IsAnswer (plan : Plan) (body : List ℕ) (status : ℕ) (text : List ℕ) : Type 0 where
   pub index : State
   pub end : Plan
   pub answers : Answers body (under fresh plan) (answer_of status text) (under index end)
 
--- what is written for an answer: its status and its text, each on a line of its own
+-- the lines of an answer: its status and its text
 abbrev pub answer_lines : ℕ → List ℕ → List ℕ
 answer_lines status text = decimal status ++ line_end ++ text ++ line_end
 
@@ -47,8 +47,8 @@ pub record IsOutput (plan : Plan) (body out : List ℕ) : Type 0 where
   pub answer : IsAnswer plan body status text
   pub lines : out ≡ answer_lines status text
 
--- What was written, by how it ended: the lines of the answer to the body that was read; after a failed write exactly the
--- first of their bytes; else nothing.
+-- What was written, by how it ended: the lines of the answer to the body that was read; after a failed write exactly
+-- the first of their bytes; otherwise nothing.
 abbrev pub Applies : {T : Type 0} → Plan → Option (List ℕ) → Option (List ℕ) → Option (List ℕ) → Option (List ℕ) → Result T ApplyFault → Type 0
 Applies plan old new before after (Ok x) =
     (body : List ℕ) × (out : List ℕ) × GivesBody old new body × IsOutput plan body out × (after ≡ append_known before out)

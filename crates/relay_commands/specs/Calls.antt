@@ -1,4 +1,4 @@
--- Which calls of the streams failed. A call that failed is not repeated, so of each stream one at most did.
+-- Which calls of the streams failed. A failed call is not retried, so at most one of each stream did.
 use Rattle.std.specs.Prelude.{◌≡◌, ◌⊎◌, ℕ, Result, Ok, Err, if◌then◌else◌}
 use Rattle.relay_action.specs.Streams.{one_more}
 use Rattle.relay_ndjson.specs.Lines.{is_read}
@@ -11,14 +11,14 @@ use Rattle.relay_commands.specs.declared.apply.ApplyFault.TheVariants as apply
 abbrev pub NoneFails : ℕ → ℕ → Type 0
 NoneFails old new = new ≡ old
 
--- one failed. At 2^64 - 1 a count stays
+-- one failed; counts saturate at 2^64 - 1
 abbrev pub OneFails : ℕ → ℕ → Type 0
 OneFails old new = new ≡ one_more old
 
 abbrev pub OneAtMost : ℕ → ℕ → Type 0
 OneAtMost old new = NoneFails old new ⊎ OneFails old new
 
--- how many calls of the reader and of the writer failed, by what `lines` answers
+-- the number of failed calls of the reader and of the writer, by the result of `lines`
 abbrev pub FailsOnce : ℕ → ℕ → ℕ → ℕ → Result ℕ LinesFault → Type 0
 FailsOnce old new before after (Ok n) = NoneFails old new × NoneFails before after
 FailsOnce old new before after (Err (lines.Input e)) = (new ≡ (if is_read e.kind then one_more old else old)) × NoneFails before after
@@ -26,7 +26,7 @@ FailsOnce old new before after (Err (lines.VersionsSpent line)) = NoneFails old 
 FailsOnce old new before after (Err (lines.Write sent)) = OneAtMost old new × OneFails before after
 FailsOnce old new before after (Err lines.Memory) = NoneFails old new × OneAtMost before after
 
--- the same, by what `apply` answers
+-- the same, by the result of `apply`
 abbrev pub FailsOnceInApply : {T : Type 0} → ℕ → ℕ → ℕ → ℕ → Result T ApplyFault → Type 0
 FailsOnceInApply old new before after (Ok x) = NoneFails old new × NoneFails before after
 FailsOnceInApply old new before after (Err apply.Read) = OneFails old new × NoneFails before after

@@ -1,4 +1,4 @@
--- For one pair of a list of refusals, and for the texts that it is cut from.
+-- For one pair of a list of refusals, and for the texts from which it is cut.
 use Rattle.std.specs.Prelude.{◌≡◌, ℕ, ◌<◌, List, length, Some, ◌==◌, if◌then◌else◌}
 use Rattle.std.specs.List.{before_first, after_first, position_or_len}
 use Rattle.relay_index.specs.Plans.{Plan, refusal_at}
@@ -6,11 +6,11 @@ use Rattle.relay_commands.specs.Refusals.{IsNoRefusal}
 use Rattle.relay_commands.specs.declared.refuse_list.ListFault.{ListFault}
 use Rattle.relay_commands.specs.declared.refuse_list.ListFault.TheVariants as fault
 
--- the byte does not stand in the text
+-- the byte does not occur in the text
 abbrev pub IsUncut : ℕ → List ℕ → Type 0
 IsUncut c text = position_or_len (λ b. b == c) text ≡ length text
 
--- the parts are what stands before the first such byte, and what stands after it
+-- the parts are what precedes the first such byte, and what follows it
 pub record IsCut (c : ℕ) (text front back : List ℕ) : Type 0 where
   pub there : position_or_len (λ b. b == c) text < length text
   pub front_is : front ≡ before_first (λ b. b == c) text

@@ -27,12 +27,12 @@ numbered version (op ∷ ops) = write_of op version ∷ numbered (version + 1) o
 abbrev pub lines_of : ℕ → List Operation → List ℕ
 lines_of first ops = text_of (numbered first ops)
 
--- operations were taken, and each has a version: that of the last is at most the last version
+-- operations were taken, and there is a version for each: that of the last one is at most the last version
 pub record Deals (first : ℕ) (old rest : Reading) (ops : List Operation) : Type 0 where
   pub taken : TakesAll old rest ops
   pub within : first + length ops ≤ last_version + 1
 
--- one more operation stands there, on the action line of this number, and no version is left for it
+-- there is one more operation, on the action line with this number, and no version is left for it
 pub record IsSpent (first : ℕ) (rest new : Reading) (ops : List Operation) (line : ℕ) : Type 0 where
   pub blank : ℕ
   pub op : Operation
@@ -40,13 +40,14 @@ pub record IsSpent (first : ℕ) (rest new : Reading) (ops : List Operation) (li
   pub line_is : line ≡ new.line
   pub spent : first + length ops ≡ last_version + 1
 
--- What follows is at fault, or a read failed: then what is left begins no whole operation with what was read of it. Out of
--- memory is a fault of its own.
+-- What follows has a fault, or a read failed: then what is left does not begin with a whole operation in the bytes
+-- that were read. A failed allocation has its own fault.
 pub record IsAtFault (rest new : Reading) (e : InputFault) : Type 0 where
   pub fault : Fails rest new e
   pub not_memory : e.kind ≢ kind.Memory
 
--- why there were no more operations: blank lines alone were left; or what follows is at fault; or the versions were spent
+-- why there were no more operations: only blank lines were left; or what follows has a fault; or the versions were
+-- used up
 abbrev pub Concludes : ℕ → Reading → Reading → List Operation → Result ℕ LinesFault → Type 0
 Concludes first rest new ops (Ok n) = Ends rest new × (n ≡ length ops)
 Concludes first rest new ops (Err (fault.Input e)) = IsAtFault rest new e
@@ -54,41 +55,41 @@ Concludes first rest new ops (Err (fault.VersionsSpent line)) = IsSpent first re
 Concludes first rest new ops (Err (fault.Write sent)) = ⊥
 Concludes first rest new ops (Err fault.Memory) = ⊥
 
--- how many calls of the reader have failed after an answer
+-- the number of failed calls of the reader after this result
 abbrev pub failed_by : {T : Type 0} → Result T LinesFault → ℕ → ℕ
 failed_by (Err (fault.Input e)) n = if is_read e.kind then one_more n else n
 failed_by other n = n
 
--- A write failed: of the lines that go out before a read, and then nothing more was read; or of the last lines, and then
--- this would have been the answer.
+-- A write failed: of the lines that are written before a read, and then nothing more was read; or of the last lines,
+-- and then this would have been the result.
 abbrev pub IsCutOff : ℕ → ℕ → Reading → Reading → List Operation → Type 0
 IsCutOff first failed rest new ops =
     ((new ≡ rest) × (new.failed ≡ failed))
     ⊎ ((answer : Result ℕ LinesFault) × Concludes first rest new ops answer × (new.failed ≡ failed_by answer failed))
 
--- there was no memory for what stands there: for the operation itself, or for its lines
+-- an allocation failed: for the operation itself, or for its lines
 abbrev pub LacksMemory : Reading → Reading → Type 0
 LacksMemory rest new =
     ((e : InputFault) × Fails rest new e × (e.kind ≡ kind.Memory))
     ⊎ ((blank : ℕ) × (op : Operation) × Takes rest new blank op)
 
--- Why no more operations were passed on, where so many calls of the reader had failed before the first.
+-- Why no more operations were passed on, given how many calls of the reader had failed before the first one.
 abbrev pub Stops : ℕ → ℕ → Reading → Reading → List Operation → Result ℕ LinesFault → Type 0
 Stops first failed rest new ops (Err (fault.Write sent)) = IsCutOff first failed rest new ops
 Stops first failed rest new ops (Err fault.Memory) = LacksMemory rest new
 Stops first failed rest new ops other = Concludes first rest new ops other
 
--- What was written of a text: all of it; after a failed write exactly its first bytes, fewer than all; where
--- memory ran out some first bytes.
+-- How much of a text was written: all of it; after a failed write exactly its first bytes, fewer than all; after a
+-- failed allocation some prefix.
 abbrev pub Writes : Option (List ℕ) → Option (List ℕ) → List ℕ → Result ℕ LinesFault → Type 0
 Writes before after text (Err (fault.Write sent)) =
     (cut : ℕ) × (cut < length text) × (sent ≡ min cut most) × (after ≡ append_known before (take cut text))
 Writes before after text (Err fault.Memory) = (cut : ℕ) × (after ≡ append_known before (take cut text))
 Writes before after text other = after ≡ append_known before text
 
--- There are operations that were taken from the front, with a version for each; that is why there were no more, where
--- the reader has this left and so many of its calls failed, and one piece at most was read of what stands after it; and
--- that was written of their bulk text.
+-- There are operations that were taken from the front, with a version for each; this is why there were no more, given
+-- what the reader has left and how many of its calls failed, and at most one piece was read of what follows; and this
+-- was written of their bulk text.
 pub record Streams (first : ℕ) (old : Reading) (left : Option (List ℕ)) (failed : ℕ) (before after : Option (List ℕ)) (result : Result ℕ LinesFault) : Type 0 where
   pub ops : List Operation
   pub rest : Reading

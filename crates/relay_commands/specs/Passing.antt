@@ -17,7 +17,7 @@ use Rattle.relay_commands.specs.declared.lines.LinesFault.TheVariants as fault
 use Rattle.relay_commands.specs.declared.lines.Next.{Next}
 use Rattle.relay_commands.specs.declared.lines.Next.TheVariants.{Added, Ended}
 
--- out of memory is a fault of its own
+-- a failed allocation has its own fault
 abbrev pub fault_of_kind : InputFault → LineKind → LinesFault
 fault_of_kind e kind.Memory = fault.Memory
 fault_of_kind e other = fault.Input e
@@ -25,12 +25,12 @@ fault_of_kind e other = fault.Input e
 abbrev pub fault_of : InputFault → LinesFault
 fault_of e = fault_of_kind e e.kind
 
--- the write of an operation, or that its version would be past the last
+-- the write of an operation, or that its version would be above the last one
 abbrev pub IsNumbered : Operation → ℕ → ℕ → Result Write LinesFault → Type 0
 IsNumbered op version line (Ok w) = (w ≡ write_of op version) × (version ≤ last_version)
 IsNumbered op version line (Err e) = (e ≡ fault.VersionsSpent line) × (last_version < version)
 
--- an operation was taken that has a version, and this is its write
+-- an operation with a version was taken, and this is its write
 pub record IsWrite (version : ℕ) (old new : Reading) (w : Write) : Type 0 where
   pub blank : ℕ
   pub op : Operation
@@ -38,7 +38,7 @@ pub record IsWrite (version : ℕ) (old new : Reading) (w : Write) : Type 0 wher
   pub write : w ≡ write_of op version
   pub within : version ≤ last_version
 
--- an operation was taken, and its version would be past the last
+-- an operation was taken, and its version would be above the last one
 pub record IsPast (version : ℕ) (old new : Reading) (line : ℕ) : Type 0 where
   pub blank : ℕ
   pub op : Operation
@@ -59,18 +59,18 @@ IsNext version old new (Ok (Some w)) = IsWrite version old new w
 IsNext version old new (Ok None) = Ends old new
 IsNext version old new (Err e) = IsNoWrite version old new e
 
--- the next write was added to a text, or the end came, or there is a fault
+-- the next write was added to a text, or the end was reached, or there is a fault
 abbrev pub AddsNext : ℕ → Reading → Reading → List ℕ → List ℕ → Result Next LinesFault → Type 0
 AddsNext version old new before after (Ok Added) = (w : Write) × IsWrite version old new w × (after ≡ before ++ write_text w)
 AddsNext version old new before after (Ok Ended) = Ends old new × (after ≡ before)
 AddsNext version old new before after (Err e) = IsNoWrite version old new e × (after ≡ before)
 
--- what was written of a text, where some of it is still to be; after a failed write nothing is
+-- how much of a text was written, if part of it is still to be written; after a failed write nothing more is
 abbrev pub Leaves : Option (List ℕ) → Option (List ℕ) → List ℕ → List ℕ → ℕ → Result ℕ LinesFault → Type 0
 Leaves before now all text sent (Err (fault.Write n)) = Writes before now all (Err (fault.Write n))
 Leaves before now all text sent other = Wrote before now all text sent
 
--- operations were taken, and their text was written but for what is left of it
+-- operations were taken, and their text was written except for what is left of it
 pub record Passes (first : ℕ) (old : Reading) (left : Option (List ℕ)) (failed : ℕ) (before now : Option (List ℕ)) (text : List ℕ) (sent : ℕ) (result : Result ℕ LinesFault) : Type 0 where
   pub ops : List Operation
   pub rest : Reading
@@ -80,7 +80,7 @@ pub record Passes (first : ℕ) (old : Reading) (left : Option (List ℕ)) (fail
   pub held : length parser.held ≤ piece_limit
   pub written : Leaves before now (lines_of first ops) text sent result
 
--- which calls of the reader and of the writer failed in between: where a write did, nothing was read after it
+-- which calls of the reader and of the writer failed in between: after a failed write nothing was read
 abbrev pub FailsInPass : ℕ → ℕ → ℕ → ℕ → Result ℕ LinesFault → Type 0
 FailsInPass old new before now (Err (fault.Write n)) = NoneFails old new × OneFails before now
 FailsInPass old new before now other = (new ≡ failed_by other old) × NoneFails before now

@@ -23,7 +23,7 @@ IsBodyFault old new fault.Read = TakesSome old new
 IsBodyFault old new (fault.Write sent) = ⊥
 IsBodyFault old new fault.Memory = TakesSome old new
 
--- why a piece was not added: a read failed, and nothing was taken; or there was no memory for the bytes that were taken
+-- why a piece was not added: a read failed, and nothing was taken; or an allocation for the bytes that were taken did
 abbrev pub IsPieceFault : Option (List ℕ) → Option (List ℕ) → List ℕ → ApplyFault → Type 0
 IsPieceFault old new before fault.BodyLong = ⊥
 IsPieceFault old new before fault.Read = new ≡ old
@@ -31,13 +31,13 @@ IsPieceFault old new before (fault.Write sent) = ⊥
 IsPieceFault old new before fault.Memory =
     (bytes : List ℕ) × (length before + length bytes ≤ body_limit + 1) × (old ≡ prepend_known bytes new)
 
--- how many calls of the reader have failed after an answer
+-- the number of failed calls of the reader after this result
 abbrev pub failed_by : {T : Type 0} → Result T ApplyFault → ℕ → ℕ
 failed_by (Ok x) n = n
 failed_by (Err fault.Read) n = one_more n
 failed_by (Err other) n = n
 
--- the lines of the answer to the body that the reader gave
+-- the lines of the answer to the body that the reader returned
 pub record IsAnswered (plan : Plan) (old new : Option (List ℕ)) (out : List ℕ) : Type 0 where
   pub body : List ℕ
   pub gives : GivesBody old new body

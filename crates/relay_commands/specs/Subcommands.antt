@@ -1,9 +1,9 @@
--- The subcommands, and the word of each on the command line.
+-- The subcommands, and the name of each on the command line.
 use Rattle.std.specs.Prelude.{ℕ, List, bytes_eq, codes, Option, None, Some, if◌then◌else◌}
 use Rattle.relay_commands.specs.declared.subcommand.Subcommand.{Subcommand}
 use Rattle.relay_commands.specs.declared.subcommand.Subcommand.TheVariants.{Lines, Apply, Run, Pick, Stub, World}
 
--- the word of a subcommand
+-- the name of a subcommand
 abbrev pub word_of : Subcommand → List ℕ
 word_of Lines = codes "lines"
 word_of Apply = codes "apply"
@@ -12,7 +12,7 @@ word_of Pick = codes "pick"
 word_of Stub = codes "stub"
 word_of World = codes "world"
 
--- the subcommand of a word
+-- the subcommand with this name
 abbrev pub subcommand_of : List ℕ → Option Subcommand
 subcommand_of word =
     if bytes_eq word (word_of Lines) then Some Lines

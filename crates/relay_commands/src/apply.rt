@@ -11,34 +11,34 @@ use relay_index::{Index, Script};
 use std::alloc::{AllocError, Global};
 use thiserror::Error;
 
-/// The most bytes of the body of a bulk request.
+/// The maximum size of the body of a bulk request, in bytes.
 pub const BODY_LIMIT: usize = 16_777_216;
 
 /// Why a request was not answered. The text of a variant is what the program prints.
 #[derive(Clone, Copy, Debug, PartialEq, Eq, Error)]
 pub enum ApplyFault {
-    /// The body has more than 16,777,216 bytes. Nothing is asked for after the first byte that is too
-    /// many, and nothing was written.
+    /// The body has more than 16,777,216 bytes. Nothing is read beyond the first byte over the
+    /// limit, and nothing was written.
     #[error("body too long")]
     BodyLong,
-    /// A read failed. It is not repeated, and nothing was written.
+    /// A read failed. It is not retried, and nothing was written.
     #[error("read failed")]
     Read,
-    /// A write failed. Exactly the first `sent` bytes of the answer went out.
+    /// A write failed after exactly the first `sent` bytes of the answer.
     #[error("write failed")]
     Write {
-        /// How many bytes went out.
+        /// The number of bytes that were written.
         sent: u64,
     },
-    /// There was no memory. Nothing was written.
+    /// An allocation failed. Nothing was written.
     #[error("out of memory")]
     Memory,
 }
 
 /// Reads the body of a bulk request to its end, serves it with a fresh index under the script, and
-/// writes the status of the answer and its text, each with a line end. Nothing is written before the
-/// whole body was served. The faults say what went out; where memory was refused while the request was
-/// served, nothing did. A call of a stream that failed is not repeated.
+/// writes the status and the text of the answer, each with a line end. Nothing is written before
+/// the whole body was served. A fault says how much was written; if an allocation failed while the
+/// request was served, nothing was. A failed call of a stream is not retried.
 pub fn apply<R: ByteIn, W: ByteOut>(
     alloc: Global,
     reader: &mut R,
@@ -53,8 +53,8 @@ pub fn apply<R: ByteIn, W: ByteOut>(
     send(writer, out.as_slice())
 }
 
-// Reads a body to its end, and gives the lines of a fresh index's answer to it. The fault is `BodyLong`,
-// `Read` or `Memory`.
+// Reads a body to its end, and returns the lines of a fresh index's answer to it. The fault is
+// `BodyLong`, `Read` or `Memory`.
 fn answer<R: ByteIn>(alloc: Global, reader: &mut R, script: Script) -> Result<Vec<u8>, ApplyFault>
     ensures ok { IfOk result (λ out. IsAnswered script (R.left reader.old) (R.left reader.new) out.items) }
     ensures err { IfErr result (IsBodyFault (R.left reader.old) (R.left reader.new)) }
@@ -64,7 +64,6 @@ fn answer<R: ByteIn>(alloc: Global, reader: &mut R, script: Script) -> Result<Ve
     output(alloc, body.as_slice(), script).map_err(|_| ApplyFault::Memory)
 }
 
-// Writes the lines of an answer.
 fn send<W: ByteOut>(writer: &mut W, out: &[u8]) -> Result<(), ApplyFault>
     ensures { Sends (W.written writer.old) (W.written writer.new) (W.failed writer.old) (W.failed writer.new) out.now result }
 {
@@ -74,7 +73,7 @@ fn send<W: ByteOut>(writer: &mut W, out: &[u8]) -> Result<(), ApplyFault>
     }
 }
 
-// What is written for a body: the lines of a fresh index's answer to it.
+// The lines of a fresh index's answer to a body.
 fn output(alloc: Global, body: &[u8], mut script: Script) -> Result<Vec<u8>, AllocError>
     ensures { IfOk result (λ out. IsOutput script body.now out.items) }
 {
@@ -85,7 +84,7 @@ fn output(alloc: Global, body: &[u8], mut script: Script) -> Result<Vec<u8>, All
     }
 }
 
-// What is written for an answer: its status and its text, each on a line of its own.
+// The lines of an answer: its status and its text.
 fn answer_lines(alloc: Global, status: u16, text: &[u8]) -> Result<Vec<u8>, AllocError>
     ensures { IfOk result (λ out. out.items ≡ answer_lines status text.now) }
 {

@@ -1,4 +1,4 @@
-//! The body of a bulk request, read to its end.
+//! Reading the body of a bulk request to its end.
 ghost use Rattle.std.specs.Prelude.{◌≡◌, ◌<◌, ◌≤◌, [], vec_len, IfOk, IfErr, OnOk};
 ghost use Rattle.relay_commands.specs.Applies.{GivesBody, body_limit};
 ghost use Rattle.relay_commands.specs.Pieces.{IsBodyFault, IsPieceFault, TakesPiece, failed_by};
@@ -7,10 +7,10 @@ use crate::apply::{ApplyFault, BODY_LIMIT};
 use relay_action::ByteIn;
 use std::alloc::Global;
 
-// How many bytes are asked for at a time.
+// The number of bytes to read at a time.
 const PIECE: usize = 65_536;
 
-// What a read gave.
+// The result of a read.
 #[derive(Clone, Copy, Debug, PartialEq, Eq)]
 enum Part {
     // Some bytes.
@@ -57,8 +57,8 @@ fn read_pieces<R: ByteIn>(
     }
 }
 
-// Reads some bytes of a body after those that were read before, if there are any. No more are asked for
-// than show that the body is too long.
+// Reads more bytes of a body, if there are any, and no more than it takes to see that the body is
+// too long.
 fn read_piece<R: ByteIn>(
     reader: &mut R,
     piece: &mut Vec<u8>,

@@ -6,7 +6,7 @@ use crate::apply::ApplyFault;
 use crate::lines::LinesFault;
 use relay_words::{Exit, exit_of_kind};
 
-/// How `relay lines` ends after a fault.
+/// The exit status of `relay lines` after a fault.
 pub fn exit_of(fault: LinesFault) -> Exit
     ensures { result ≡ exit_of fault }
 {
@@ -18,7 +18,7 @@ pub fn exit_of(fault: LinesFault) -> Exit
     }
 }
 
-/// How `relay apply` ends after a fault.
+/// The exit status of `relay apply` after a fault.
 pub fn exit_of_apply(fault: ApplyFault) -> Exit
     ensures { result ≡ exit_of_apply fault }
 {

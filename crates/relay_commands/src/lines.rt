@@ -16,38 +16,39 @@ use relay_ndjson::{InputFault, LAST_VERSION, LineKind, Parser};
 use std::alloc::Global;
 use thiserror::Error;
 
-/// Why not all of a producer's lines were written. The text is what the program prints, but that it
-/// prints `read failed` where the kind is `Read`.
+/// Why not all of a producer's lines were written. The text is what the program prints, except that
+/// it prints `read failed` if the kind is `Read`.
 #[derive(Clone, Copy, Debug, PartialEq, Eq, Error)]
 pub enum LinesFault {
     /// A line breaks the producer grammar, or a read failed. The lines of all operations before it were
     /// written. The kind is neither `Memory` nor `Failed`.
     #[error("{0}")]
     Input(InputFault),
-    /// The action line of this number finds no version: 9,000,000,000,000,000,000 was the last. The lines
-    /// of all operations before it were written.
+    /// There is no version left for the action line with this number: 9,000,000,000,000,000,000 was
+    /// the last. The lines of all operations before it were written.
     #[error("line {line}: VersionsSpent")]
     VersionsSpent {
-        /// The line, counted from 1.
+        /// The line, from 1.
         line: u64,
     },
-    /// A write failed. Exactly the first `sent` bytes of the bulk text went out.
+    /// A write failed after exactly the first `sent` bytes of the bulk text.
     #[error("write failed")]
     Write {
-        /// How many bytes went out in all. At 2^64 - 1 the count stays.
+        /// The number of bytes written in all; it saturates at 2^64 - 1.
         sent: u64,
     },
-    /// There was no memory. What went out is a prefix of the bulk text.
+    /// An allocation failed. A prefix of the bulk text was written.
     #[error("out of memory")]
     Memory,
 }
 
-/// Writes the bulk text of the reader's operations, with the versions `first`, `first + 1` and so on, and
-/// answers how many they were. An operation that names no index has the default index, if one is given.
-/// The faults say what went out; of several only the first is answered, but out of memory before a failed
-/// write, and a failed write before a fault of the input. A call of a stream that failed is not repeated.
+/// Writes the bulk text of the reader's operations, with the versions `first`, `first + 1` and so
+/// on, and returns their number. Operations without an index name get the default index, if one is
+/// given. A fault says how much was written. If there are several, the first is returned, except
+/// that a failed allocation takes precedence over a failed write, and a failed write over a fault
+/// of the input. A failed call of a stream is not retried.
 ///
-/// What is ready goes out before a read that may wait, and from 256 KiB on. The memory that is held does
+/// What is ready is written before a read that may wait, and whenever it has 256 KiB. Memory does
 /// not grow with the input.
 pub fn lines<R: ByteIn, W: ByteOut>(
     alloc: Global,
@@ -68,8 +69,8 @@ pub fn lines<R: ByteIn, W: ByteOut>(
     close(&mut outgoing, writer, answer)
 }
 
-// Passes the operations on, until there are no more or something is at fault. But for what was gathered last
-// their lines were written.
+// Passes the operations on until there are no more or there is a fault. Everything but what was
+// gathered last was written.
 fn pass_on<R: ByteIn, W: ByteOut>(
     alloc: Global,
     reader: &mut R,
@@ -101,7 +102,7 @@ fn pass_on<R: ByteIn, W: ByteOut>(
     }
 }
 
-// What came next.
+// What the next line was.
 #[derive(Clone, Copy, Debug, PartialEq, Eq)]
 enum Next {
     // An operation, whose lines were added.
@@ -157,7 +158,8 @@ fn next_write<R: ByteIn>(
     }
 }
 
-// The write of an operation whose action line has this number, unless its version would be past the last.
+// The write of an operation whose action line has this number, unless its version would be above
+// the last one.
 fn numbered(key: DocKey, action: Action, version: u64, line: u64) -> Result<Write, LinesFault>
     ensures { IsNumbered (key, action) version line result }
 {
@@ -171,7 +173,6 @@ fn numbered(key: DocKey, action: Action, version: u64, line: u64) -> Result<Writ
     })
 }
 
-// The fault that an input's fault is.
 fn fault_of(fault: InputFault) -> LinesFault
     ensures { result ≡ fault_of fault }
 {
@@ -181,8 +182,8 @@ fn fault_of(fault: InputFault) -> LinesFault
     }
 }
 
-// Writes what was gathered, and then gives the answer. After a failed write nothing is written any more. A
-// write that fails here is the answer, but out of memory before it stays that.
+// Writes what was gathered, and returns the result. After a failed write nothing more is written.
+// If this write fails, that is the result, unless an allocation failed before.
 fn close<W: ByteOut>(
     outgoing: &mut Outgoing,
     writer: &mut W,

@@ -9,11 +9,11 @@ use relay_action::{ByteOut, Write, write_all};
 use relay_ndjson::append_write;
 use std::alloc::{AllocError, Global};
 
-/// From how many bytes on what was gathered is written, also where no read has to be waited for. What one
-/// read of 64 KiB brings is seldom as much, so that one write goes out for each read.
+/// What was gathered is written once it has this many bytes, even before a read that does not wait.
+/// A read of 64 KiB seldom yields as much, so there is about one write per read.
 const FULL: usize = 262_144;
 
-/// Text that is still to be written, and how many bytes went out before it.
+/// Text that is still to be written, and the number of bytes that were written before it.
 #[derive(Drop)]
 pub struct Outgoing {
     pub text: Vec<u8>,
@@ -22,7 +22,7 @@ pub struct Outgoing {
 }
 
 impl Outgoing {
-    /// Nothing is to be written, and nothing was.
+    /// Nothing to write, and nothing written.
     pub fn new(alloc: Global) -> Outgoing
         ensures text { result.text.items ≡ [] }
         ensures sent { result.sent ≡ 0 }
@@ -33,7 +33,7 @@ impl Outgoing {
         }
     }
 
-    /// Adds the lines of a write. `AllocError`: there was no memory for them, and the text is as before.
+    /// Adds the lines of a write. `AllocError`: allocation failed, and the text is unchanged.
     pub fn add(&mut self, alloc: Global, write: &Write) -> Result<(), AllocError>
         ensures ok { OnOk result (self.new.text.items ≡ self.old.text.items ++ write_text write.now) }
         ensures err { OnErr result (self.new.text.items ≡ self.old.text.items) }
@@ -42,7 +42,7 @@ impl Outgoing {
         append_write(alloc, &mut self.text, write)
     }
 
-    /// Adds a line. `AllocError`: there was no memory for it, and the text is as before.
+    /// Adds a line. `AllocError`: allocation failed, and the text is unchanged.
     pub fn add_line(&mut self, line: &[u8]) -> Result<(), AllocError>
         ensures ok { OnOk result (self.new.text.items ≡ self.old.text.items ++ line.now) }
         ensures err { OnErr result (self.new.text.items ≡ self.old.text.items) }
@@ -51,8 +51,8 @@ impl Outgoing {
         self.text.extend_from_slice(line)
     }
 
-    /// Writes the text. `Err(sent)`: a write failed when so many bytes had gone out in all; at 2^64 - 1
-    /// the count stays.
+    /// Writes the text. `Err(sent)`: a write failed after `sent` bytes in all; the count saturates
+    /// at 2^64 - 1.
     pub fn flush<W: ByteOut>(&mut self, writer: &mut W) -> Result<(), u64>
         ensures ok { OnOk result (Moves self.old.text.items self.old.sent (W.written writer.old)
             self.new.text.items self.new.sent (W.written writer.new)) }
@@ -69,8 +69,8 @@ impl Outgoing {
         Ok(())
     }
 
-    /// Writes the text where much was gathered, or before a read that may wait. `Err(sent)`: a write
-    /// failed when so many bytes had gone out in all.
+    /// Writes the text if it has many bytes, or before a read that may wait. `Err(sent)`: a write
+    /// failed after `sent` bytes in all.
     pub fn make_way<W: ByteOut>(&mut self, writer: &mut W, waits: bool) -> Result<(), u64>
         ensures ok { OnOk result (Moves self.old.text.items self.old.sent (W.written writer.old)
             self.new.text.items self.new.sent (W.written writer.new)) }

@@ -9,27 +9,27 @@ use relay_words::number_of;
 use std::alloc::Global;
 use thiserror::Error;
 
-/// Why a text gives no script.
+/// Why a text has no script.
 #[derive(Clone, Copy, Debug, PartialEq, Eq, Error)]
 pub enum ListFault {
-    /// The text is no list of refusals: after so many pairs the next one is no refusal.
+    /// The text is not a list of refusals: after `before` valid pairs there is an invalid one.
     #[error("BadList")]
     BadList {
-        /// How many pairs stand before it.
+        /// The number of valid pairs before it.
         before: u64,
     },
-    /// There was no memory for the script.
+    /// An allocation for the script failed.
     #[error("Memory")]
     Memory,
 }
 
-/// The script of a list of refusals, as `2:429,5:400`: pairs of a place and a status, both decimal
-/// digits, with a colon inside and commas between them. Places count the items from 1, up to
-/// 2^64 - 1; a status is from 400 to 599, and neither 404 nor 409. Leading zeros are allowed, a sign
-/// or a space is not. A place that is given twice keeps its last status.
+/// The script of a list of refusals, such as `2:429,5:400`: pairs of a position and a status, in
+/// decimal digits, with a colon inside and commas between them. Positions count the items from 1,
+/// up to 2^64 - 1; a status is from 400 to 599, except 404 and 409. Leading zeros are allowed,
+/// signs and spaces are not. If a position is given twice, its last status counts.
 ///
-/// `BadList`: the text is no such list, and the pair at fault is the first that is no refusal. `Memory`:
-/// there was no memory for the script.
+/// `BadList`: the text is not such a list; it names the first invalid pair. `Memory`: an allocation
+/// for the script failed.
 pub fn refuse_list(alloc: Global, list: &str) -> Result<Script, ListFault>
     ensures ok { IfOk result (λ script. (refusals : List (ℕ × ℕ)) × IsList list.now refusals × Refuses refusals script) }
     ensures err { IfErr result (IsListFault list.now) }
@@ -60,14 +60,14 @@ fn cut_at_comma(text: &str) -> Option<(&str, &str)>
     text.split_once(',')
 }
 
-// Whether a number is a status that an index may refuse an item with.
+// Whether a number is a status with which an index may refuse an item.
 fn is_refusal(status: u64) -> bool
     ensures { IsTrue result ↔ MayRefuse status }
 {
     u16::try_from(status).is_ok_and(may_refuse)
 }
 
-// The place and the status of a refusal.
+// The position and the status of a refusal.
 fn refusal_of(part: &str) -> Option<(u64, u16)>
     ensures some { IfSome result (λ r. IsRefusal part.now r.0 r.1) }
     ensures none { IfNone result (IsNoRefusal part.now) }
@@ -81,7 +81,7 @@ fn refusal_of(part: &str) -> Option<(u64, u16)>
     Some((place, status as u16))
 }
 
-// Adds the refusal that a part of a list is. So many stand before it.
+// Adds the refusal of a part of a list, which is preceded by `before` others.
 fn add(script: &mut Script, part: &str, before: u64) -> Result<(), ListFault>
     ensures ok { OnOk result ((place : ℕ) × (status : ℕ) × IsRefusal part.now place status
         × Adds script.old script.new place status) }

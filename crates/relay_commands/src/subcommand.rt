@@ -1,8 +1,8 @@
-//! The subcommands of the program, and their words on the command line.
+//! The subcommands of the program, and their names on the command line.
 ghost use Rattle.std.specs.Prelude.{◌≡◌};
 ghost use Rattle.relay_commands.specs.Subcommands.{subcommand_of, word_of};
 
-/// What the program can be told to do.
+/// The subcommands of the program.
 #[derive(Clone, Copy, Debug, PartialEq, Eq)]
 pub enum Subcommand {
     /// `relay lines`.
@@ -30,7 +30,7 @@ impl Subcommand {
         Subcommand::World,
     ];
 
-    /// Its word on the command line.
+    /// The name of the subcommand on the command line.
     pub fn name(self) -> &'static str
         ensures { result.now ≡ word_of self }
     {
@@ -44,7 +44,7 @@ impl Subcommand {
         }
     }
 
-    /// The subcommand of this word. `None`: no subcommand has it.
+    /// The subcommand with this name. `None`: there is none.
     pub fn named(name: &str) -> Option<Subcommand>
         ensures { result ≡ subcommand_of name.now }
     {

@@ -1,4 +1,5 @@
-//! `apply` over streams in memory: the worked rows, bodies round their limit, and each call that fails.
+//! `apply` over streams in memory: the worked rows, bodies around their limit, and each failing
+//! call.
 use relay_action::MemStream;
 use relay_commands::apply::{ApplyFault, BODY_LIMIT, apply};
 use relay_commands::refuse_list::{ListFault, refuse_list};
@@ -24,7 +25,8 @@ struct Streams {
     writer: MemStream,
 }
 
-// The streams of a body in pieces, where a call of the reader and one of the writer fail (0: none).
+// The streams of a body in pieces, with one failing call of the reader and one of the writer (0:
+// none).
 fn streams_of(alloc: Global, body: &[u8], calls: (usize, u64, u64)) -> Result<Streams, AllocError> {
     let (piece, read_fails, write_fails) = calls;
     let piece = piece.max(1);
@@ -34,7 +36,7 @@ fn streams_of(alloc: Global, body: &[u8], calls: (usize, u64, u64)) -> Result<St
     })
 }
 
-// Whether `apply` answers so under a script, and writes this.
+// Whether `apply` has this result under a script, and writes this.
 fn answers(
     alloc: Global,
     streams: &mut Streams,
@@ -46,7 +48,7 @@ fn answers(
     found == answer && streams.writer.written() == written
 }
 
-// Whether `apply` answers so for a body in pieces, where these calls fail, and writes this.
+// Whether `apply` has this result for a body in pieces, with these failing calls, and writes this.
 fn gives(
     alloc: Global,
     body: &[u8],
@@ -65,7 +67,7 @@ fn a_request_of_two(rt: HostRuntime) {
     }
 }
 
-// Whether `apply` answers two deletes under the script of a list, and writes this.
+// Whether `apply` has this result for two deletes under the script of a list, and writes this.
 fn gives_under(
     alloc: Global,
     streams: &mut Streams,
@@ -94,7 +96,7 @@ fn no_bulk_request(rt: HostRuntime) {
     assert!(rt; gives(rt.alloc(), body, (100, 0, 0), Ok(()), NO_LAST_LINE_END) == Ok(true));
 }
 
-// What `apply` answers for a body, and whether it wrote nothing.
+// The result of `apply` for a body, and whether it wrote nothing.
 fn of_body(
     alloc: Global,
     reader: &mut MemStream,
@@ -104,7 +106,7 @@ fn of_body(
     Ok((found.err(), writer.written().is_empty()))
 }
 
-// What `apply` answers for as many spaces, and whether it wrote nothing.
+// The result of `apply` for this many spaces, and whether it wrote nothing.
 fn of_spaces(alloc: Global, size: usize) -> Result<(Option<ApplyFault>, bool), AllocError> {
     let body = Vec::from_elem(alloc, b' ', size)?;
     let mut reader = MemStream::new(alloc, body, 0, 1_000_000, 0)?;
@@ -142,7 +144,7 @@ fn each_read_fails_in_turn(rt: HostRuntime) {
     }
 }
 
-// Whether exactly the bytes before a failed write of one byte went out.
+// Whether exactly the bytes before a failed write of one byte were written.
 fn is_right_at_write(alloc: Global, sent: usize) -> Result<bool, AllocError> {
     let fault = ApplyFault::Write { sent: sent as u64 };
     let calls = (1, 0, (sent as u64).saturating_add(1));

@@ -1,4 +1,4 @@
-//! Tests of relay_commands.
+//! The tests of `relay_commands`.
 #![tactic(auto)]
 
 #[cfg(test)]

@@ -1,4 +1,5 @@
-//! `lines` over streams in memory: the worked rows, faults in mid-stream, and what goes out before them.
+//! `lines` over streams in memory: the worked rows, failures in the middle, and what is written
+//! before them.
 use relay_action::{ActionFault, MemStream};
 use relay_commands::lines::{LinesFault, lines};
 use relay_ndjson::{InputFault, LineKind};
@@ -22,7 +23,7 @@ struct Streams {
 }
 
 impl Streams {
-    // What `lines` answers from a first version on.
+    // The result of `lines` from a first version on.
     fn run(
         &mut self,
         alloc: Global,
@@ -34,7 +35,7 @@ impl Streams {
         lines(alloc, reader, writer, default_index, first)
     }
 
-    // How long what was written is, where it is a front of TWO_LINES.
+    // The length of what was written, if it is a prefix of TWO_LINES.
     fn length(&self) -> Option<u64> {
         let written = self.writer.written();
         TWO_LINES
@@ -43,8 +44,8 @@ impl Streams {
     }
 }
 
-// The streams of an input in pieces of so many bytes, and of so much room, which is written in pieces too,
-// where a call of the reader and one of the writer fail (0: none).
+// The streams of an input in pieces, with this much room for output, which is written in pieces
+// too, and with one failing call of the reader and one of the writer (0: none).
 fn streams_of(
     alloc: Global,
     input: (&[u8], u64, u64),
@@ -65,7 +66,7 @@ fn streams_of(
     })
 }
 
-// Whether `lines` answers so for an input in pieces, and writes this.
+// Whether `lines` has this result for an input in pieces, and writes this.
 fn gives(
     alloc: Global,
     input: &[u8],
@@ -149,8 +150,8 @@ fn versions_end(rt: HostRuntime) {
     assert!(rt; gives(rt.alloc(), input, (None, last, 9), spent, written) == Ok(true));
 }
 
-// The line that is being read once so many bytes of TWO were, and how long the text of the operations is that
-// are whole by then.
+// The line that is being read after this many bytes of TWO, and the length of the text of the
+// operations that are complete by then.
 fn reached(read: u64) -> (u64, u64) {
     match read {
         0..39 => (1, 0),
@@ -160,8 +161,8 @@ fn reached(read: u64) -> (u64, u64) {
     }
 }
 
-// What `lines` answers for TWO, and how long what it writes is, where that is a front of TWO_LINES. Both are
-// in pieces of so many bytes, and a call of each fails (0: none).
+// The result of `lines` for TWO, and the length of what it writes, if that is a prefix of
+// TWO_LINES. Both are in pieces, with one failing call each (0: none).
 fn of_two(
     alloc: Global,
     reads: (u64, u64),
@@ -172,9 +173,9 @@ fn of_two(
     Ok((answer, streams.length()))
 }
 
-// Whether `lines` answers right for TWO in pieces, where the reader's call of this number fails: with the line
-// that was being read, once the text of the operations that were whole by then went out; or, where the call is
-// not made, with both.
+// Whether `lines` is right for TWO in pieces, if this call of the reader fails: it names the line
+// that was being read, after the text of the operations that were complete by then was written; or,
+// if the call is not made, both are written.
 fn is_right_at_read(alloc: Global, piece: u64, fail_at: u64) -> bool {
     let piece = piece.max(1);
     let reads = 97u64.div_ceil(piece);
@@ -187,7 +188,7 @@ fn is_right_at_read(alloc: Global, piece: u64, fail_at: u64) -> bool {
     of_two(alloc, (piece, fail_at), (50, 0)) == Ok((answer, Some(length)))
 }
 
-// Each call of the reader fails in turn, also in one-byte pieces.
+// Each call of the reader fails in turn, also byte by byte.
 #[test]
 fn each_read_fails_in_turn(rt: HostRuntime) {
     assert!(rt; TWO.len() == 97);
@@ -199,8 +200,8 @@ fn each_read_fails_in_turn(rt: HostRuntime) {
     }
 }
 
-// How many bytes go out in so many calls of a writer in pieces: the first text alone, since a delete at the end
-// of what was read may have to wait, and then the second.
+// How many bytes are written in this many calls of a writer in pieces: the first text alone, since
+// a delete at the end of what was read may have to wait, and then the second.
 fn sent_in(calls: u64, piece: u64) -> u64 {
     let first = 95u64.div_ceil(piece.max(1));
     if calls < first {
@@ -210,8 +211,8 @@ fn sent_in(calls: u64, piece: u64) -> u64 {
     }
 }
 
-// Whether `lines` answers right for TWO, where the writer's call of this number fails: exactly the bytes before
-// it went out; or, where the call is not made, all.
+// Whether `lines` is right for TWO, if this call of the writer fails: exactly the bytes before it
+// were written; or, if the call is not made, all.
 fn is_right_at_write(alloc: Global, piece: u64, fail_at: u64) -> bool {
     let piece = piece.max(1);
     let sent = sent_in(fail_at.saturating_sub(1), piece);
@@ -223,7 +224,7 @@ fn is_right_at_write(alloc: Global, piece: u64, fail_at: u64) -> bool {
     of_two(alloc, (1000, 0), (piece, fail_at)) == Ok((answer, Some(sent)))
 }
 
-// Each call of the writer fails in turn, also in one-byte pieces.
+// Each call of the writer fails in turn, also byte by byte.
 #[test]
 fn each_write_fails_in_turn(rt: HostRuntime) {
     for (piece, fail_at) in (1..180u64).flat_map(|fail_at| [(1u64, fail_at), (20, fail_at)]) {

@@ -1,4 +1,4 @@
-//! Lists of refusals, and what a script that one gives refuses.
+//! Lists of refusals, and what their scripts refuse.
 use relay_action::{ActionFault, DocKey};
 use relay_commands::refuse_list::{ListFault, refuse_list};
 use relay_index::{Index, Script};
@@ -7,7 +7,7 @@ use std::alloc::Global;
 const TWO: &[u8] =
     b"{\"delete\":{\"_id\":\"1\",\"_index\":\"b\",\"version\":1,\"version_type\":\"external\"}}\n{\"delete\":{\"_id\":\"2\",\"_index\":\"b\",\"version\":2,\"version_type\":\"external\"}}\n";
 
-// After how many pairs the first stands that makes a text no list of refusals.
+// The number of valid pairs before the first invalid one.
 fn blamed(alloc: Global, list: &str) -> Option<u64> {
     match refuse_list(alloc, list) {
         Err(ListFault::BadList { before }) => Some(before),

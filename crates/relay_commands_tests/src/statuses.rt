@@ -1,4 +1,4 @@
-//! With which status each command ends.
+//! The exit status of each command.
 use relay_commands::apply::ApplyFault;
 use relay_commands::exit::{exit_of, exit_of_apply};
 use relay_commands::lines::LinesFault;

@@ -1,4 +1,4 @@
--- What stands in a lane's memory: how it is read, and what always holds of it.
+-- A lane in memory: how contracts see it, and what always holds of it.
 pub use Rattle.relay_held.specs.Queues.{AllAbove, Rises, AllUnder}
 use Rattle.std.specs.Prelude.{◌≡◌, ℕ, ◌+◌, ◌-◌, ◌/◌, ◌<◌, ◌≤◌, List, [], ◌∷◌, Option, Some, None, option_map, Bool, true, false, ◌==◌, ◌||◌, map, length, slice_get, if◌then◌else◌}
 use Rattle.relay_action.specs.Actions.{kind_of}
@@ -23,7 +23,7 @@ use Rattle.relay_core.specs.Walk.{flies_here, fate_or}
 
 -- ---- read
 
--- delivery counts requests from 0, and the lane from 1
+-- delivery counts requests from 0, the lane from 1
 abbrev pub place_at : Spot → Place
 place_at s = record { request = s.request - 1; place = s.place }
 
@@ -87,24 +87,24 @@ pub record IsMet (number place : ℕ) (h : Kept) (ws : List Write) : Type 0 wher
   pub spot : h.flies ≡ Some (record { request = number; place = place })
   pub matches : IsWriteOf h write
 
--- those that fly in a request have its writes, in their order
+-- those in flight in a request have its writes, in order
 abbrev pub Carries : ℕ → ℕ → List Kept → List Write → Type 0
 Carries number place [] ws = ws ≡ []
 Carries number place (h ∷ hs) ws =
     Given (flies_here number h.flies) (IsMet number place h ws)
     × Carries number (further (flies_here number h.flies) place) hs (rest_if (flies_here number h.flies) ws)
 
--- those that fly in a request of so many keep its size within their caps
+-- those in flight in a request of this many keep its size within their caps
 abbrev pub HasRoom : ℕ → ℕ → List Kept → Type 0
 HasRoom number len [] = Unit {0}
 HasRoom number len (h ∷ hs) = Given (flies_here number h.flies) (1 < len → len ≤ h.cap) × HasRoom number len hs
 
--- no request in flight has more writes than a cap can say
+-- no request in flight has more writes than fit a cap
 abbrev pub AreFew : List Request → Type 0
 AreFew [] = Unit {0}
 AreFew (x ∷ xs) = (length x.writes.items ≤ 4294967295) × AreFew xs
 
--- what waits has its write, and tries left; what flies has it in its request, whose number was given
+-- what waits has its write, and tries left; what is in flight has its write in its request, whose number was used
 abbrev pub IsHome : ℕ → ℕ → Kept → Option Write → Option Spot → Type 0
 IsHome max next h (Some w) None = IsWriteOf h w × (h.attempts < max)
 IsHome max next h (Some w) (Some s) = ⊥
@@ -134,17 +134,17 @@ tries_left max (h ∷ hs) = (max - h.attempts) + halvings h.cap + tries_left max
 
 -- ---- one by one
 
--- by the status of the whole or the entries, an answer makes the same of each operation
+-- by the status of the whole request or the entries, an answer means the same for each operation
 abbrev pub SaysAs : Answer → List Write → Way → List Outcome → Type 0
 SaysAs a ws whole os = (t : Tries) (p : ℕ) (kind : ActionKind) → fate t ws p kind a ≡ fate_or whole (fate_of_entry t kind (slice_get os p))
 
--- what is halved were two or more, and the cap is half as many
+-- what is halved were two or more, and the cap is half their number
 abbrev pub IsHalf : Way → ℕ → Type 0
 IsHalf way.ByEntry len = Unit {0}
 IsHalf (way.Reported status) len = Unit {0}
 IsHalf (way.Halved cap) len = (2 ≤ len) × (cap ≡ len / 2)
 
--- an operation as it is held when it is taken
+-- an operation as it is held when it was taken
 abbrev pub kept_new : Op → ℕ → ℕ → ℕ → ℕ → Kept
 kept_new o version bytes clock cap = record {
   name = record { epoch = o.epoch; producer = o.producer; number = o.number };

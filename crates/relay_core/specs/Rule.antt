@@ -1,4 +1,4 @@
--- The sending rule: what is gathered of the candidates, and when it is sent.
+-- The sending rule: what is gathered from the candidates, and when it is sent.
 use Rattle.std.specs.Prelude.{ℕ, List, [], ◌∷◌, ◌++◌, Option, Some, None, Bool, true, false, ◌&&◌, ◌||◌, nat_lt, nat_le, length}
 use Rattle.relay_batch.specs.declared.item.Limits.{Limits}
 use Rattle.relay_batch.specs.declared.item.BatchItem.{BatchItem}
@@ -27,7 +27,7 @@ abbrev pub closes : List BatchItem → Gathering → Bool
 closes [] g = false
 closes (i ∷ is) g = by_answer (answer_to i g) (closes is g) true (closes is (with_item i g))
 
--- its version numbers the document: nothing that is held of it is older
+-- its version numbers the document, since nothing older is held of it
 abbrev pub item_of : Entry → BatchItem
 item_of e = record { name = name_of e.held.op; doc = e.held.version; version = e.held.version; bytes = e.bytes; cap = e.held.cap; taken_at = e.taken_at }
 
@@ -40,7 +40,8 @@ abbrev pub is_marked : ℕ → List BatchItem → Bool
 is_marked mark [] = false
 is_marked mark (i ∷ is) = nat_le i.version mark
 
--- what is gathered is sent: something is, and it is ready, or an offer was Closed, or it was flushed, or the lane is closed
+-- what is gathered is sent if it is not empty and it is ready, an offer was Closed, it was flushed, or the lane is
+-- closed
 abbrev pub goes : ℕ → ℕ → Bool → Gathering → Bool → Bool
 goes clock mark all_closed g closed = nat_lt 0 (length g.items) && (is_ready clock g || (closed || (is_marked mark g.items || all_closed)))
 

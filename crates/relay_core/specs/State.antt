@@ -1,4 +1,4 @@
--- A lane as its callers see it, and what each call makes of it.
+-- A lane as its callers see it, and the effect of each call.
 use Rattle.std.specs.Prelude.{◌≡◌, ℕ, ◌+◌, ◌-◌, ◌^◌, ◌<◌, ◌≤◌, List, [], ◌∷◌, Option, Some, None, option_map, unwrap_or, Bool, not, true, false, ◌==◌, ◌&&◌, nat_lt, min, map, filter, length, replicate, slice_set, slice_index_or, if◌then◌else◌}
 use Rattle.std.specs.List.{list_all, list_any}
 use Rattle.relay_action.specs.declared.write.Write.{Write}
@@ -25,8 +25,9 @@ use Rattle.relay_core.specs.declared.settled.Settled.{Settled}
 use Rattle.relay_core.specs.Limits.{is_valid}
 use Rattle.relay_core.specs.Rule.{item_of, chosen, batch_of}
 
--- How it works; its clock, what it took, holds, sent and reported, in the words of delivery; the flush mark, the highest
--- version that is to be sent, full batch or not; which senders have closed; and the batches in flight.
+-- The config; the clock, what it took, holds, sent and reported, in the words of delivery; the flush mark, which is
+-- the highest version to be sent whether or not the batch is full; which senders have closed; and the batches in
+-- flight.
 pub record State : Type 0 where
   pub config : RelayConfig
   pub core : delivery.State
@@ -34,8 +35,8 @@ pub record State : Type 0 where
   pub closed : List Bool
   pub flights : flight.Flying
 
--- A lane as contracts see it, in two parts: its state, and how many held operations its requests looked at. What a call
--- says of the state says nothing of the looks.
+-- A lane as contracts see it, in two parts: its state, and how many held operations its requests looked at. What a
+-- contract says of the state does not include the looks.
 pub record Seen : Type 0 where
   pub state : State
   pub looks : ℕ
@@ -43,7 +44,7 @@ pub record Seen : Type 0 where
 abbrev pub config_of : RelayConfig → Config
 config_of c = in_epoch c.epoch c.deal c.attempts c.limits.count
 
--- so many senders, none of which has closed
+-- this many senders, none of which has closed
 abbrev pub none_closed : ℕ → List Bool
 none_closed n = replicate n false
 
@@ -66,21 +67,21 @@ all_closed s = list_all (λ (b : Bool). b) s.closed
 abbrev pub last_tick : ℕ
 last_tick = 18446744073709551615
 
--- the clock stays at its end
+-- the clock saturates
 abbrev pub later : ℕ → ℕ
 later clock = if nat_lt clock last_tick then clock + 1 else clock
 
 abbrev pub ticked : State → State
 ticked s = record s { core = record s.core { clock = later s.core.clock } }
 
--- the last version dealt; the mark stays where none was dealt
+-- the last version assigned; the mark is unchanged if none was
 abbrev pub mark_of : State → ℕ
 mark_of s = if s.core.taken == 0 then s.mark else s.core.config.first + min s.core.taken s.core.config.deals - 1
 
 abbrev pub flushed : State → State
 flushed s = record s { mark = mark_of s }
 
--- how many bytes the lines of an operation have, under the version that it is dealt
+-- the length of an operation's lines, with the version that it is assigned
 abbrev pub bytes_of : State → Op → ℕ
 bytes_of s o = length (write_text (write_for o (version_at s.core.config s.core.taken)))
 
@@ -99,14 +100,14 @@ is_full s body.Tick = false
 is_full s body.Flush = false
 is_full s body.Done = false
 
--- only an operation needs memory, and may be refused where there is none
+-- only an operation is allocated for, and may be refused because of it
 abbrev pub is_put : Body → Bool
 is_put (body.Put o) = true
 is_put body.Tick = false
 is_put body.Flush = false
 is_put body.Done = false
 
--- why a message is not taken, the first that holds
+-- why a message is not taken: the first cause that applies
 abbrev pub take_fault : State → ℕ → Body → Option TakeFault
 take_fault s sender b =
     if slice_index_or s.closed sender false then Some AfterClose
@@ -122,7 +123,7 @@ gathering s = record { limits = s.config.limits; items = [] }
 abbrev pub next_entries : State → List delivery.Entry
 next_entries s = chosen (delivery.candidates s.core) (gathering s)
 
--- the batch that is sent now, if one is
+-- the batch to send now, if there is one
 abbrev pub next_batch : State → Option (List BatchItem)
 next_batch s =
     if nat_lt (length s.flights.batches) s.config.in_flight
@@ -133,7 +134,7 @@ abbrev pub after_request : State → Option (List BatchItem) → State
 after_request s None = s
 after_request s (Some items) = record s { core = delivery.sent s.core (next_entries s); flights = flight.entered items s.flights }
 
--- how many documents the held operations are of
+-- the number of documents with held operations
 abbrev pub documents_of : State → ℕ
 documents_of s = distinct (map (λ (h : Held). document_of h.op.key) (delivery.held_of s.core.held))
 
@@ -141,7 +142,7 @@ documents_of s = distinct (map (λ (h : Held). document_of h.op.key) (delivery.h
 abbrev pub looked : Seen → ℕ
 looked v = v.looks + documents_of v.state
 
--- the looks, after one at each operation of the next request; they stay at 2^64 - 1
+-- the looks, after one at each operation of the next request; they saturate at 2^64 - 1
 abbrev pub looked_at_least : Seen → ℕ
 looked_at_least v = min (v.looks + length (unwrap_or (next_batch v.state) [])) 18446744073709551615
 
@@ -182,11 +183,11 @@ is_retried_fate fates.Retried = true
 is_retried_fate (fates.Halved cap) = true
 is_retried_fate (fates.Reported cause) = false
 
--- how many operations an answer makes this of
+-- the number of operations for which an answer has this fate
 abbrev pub counted : (fates.Fate → Bool) → State → ℕ → Answer → ℕ
 counted test s number a = how_many test s.core.config (from_zero number) (writes_of number s) a (delivery.held_of s.core.held)
 
--- the counts are those of the operations that so ended
+-- the counts are those of the operations with these fates
 pub record AreCounts (s : State) (number : ℕ) (a : Answer) (c : Settled) : Type 0 where
   pub applied : c.applied ≡ counted is_applied_fate s number a
   pub already : c.already ≡ counted is_already_fate s number a
@@ -199,7 +200,7 @@ pub record AreCounts (s : State) (number : ℕ) (a : Answer) (c : Settled) : Typ
 abbrev pub is_eligible : State → delivery.Entry → Bool
 is_eligible s e = delivery.waits e.held.flies && not (delivery.is_later (delivery.held_of s.core.held) e.held)
 
--- the least due tick of these
+-- the lowest due tick
 abbrev pub sooner : ℕ → Option ℕ → Option ℕ
 sooner due None = Some due
 sooner due (Some other) = Some (min due other)
@@ -221,13 +222,14 @@ is_finished s = all_closed s && (length s.core.held == 0)
 abbrev pub AreWeighed : List delivery.Entry → Type 0
 AreWeighed es = (e : delivery.Entry) → Mem e es → e.held.flies ≡ None → e.bytes ≡ length (write_text (write_of e.held))
 
--- a place in a request that is in flight, which has no more writes than this cap, or carries one operation
+-- a place in a request in flight, which has at most as many writes as this cap, or a single one
 pub record IsPlaceIn (fs : List delivery.Flying) (cap : ℕ) (p : Place) : Type 0 where
   pub flies : list_any (λ (f : delivery.Flying). f.request == p.request) fs ≡ true
   pub room : 1 < length (delivery.writes_at p.request fs) → length (delivery.writes_at p.request fs) ≤ cap
 
--- A held operation has a version that was assigned, and is due at a tick that comes. While it waits it has attempts left,
--- and while it flies its request is in flight. The sends that do not count as attempts are those that halved its cap.
+-- A held operation has a version that was assigned, and a due tick that is reached. While it waits it has attempts
+-- left, and while it is in flight its request is. The sends that do not count as attempts are those that halved its
+-- cap.
 pub record IsInOrder (s : State) (e : delivery.Entry) : Type 0 where
   pub assigned : e.held.version < s.core.config.first + min s.core.taken s.core.config.deals
   pub due : e.due ≤ last_tick
@@ -241,13 +243,13 @@ abbrev pub VersionsRise : List Held → Type 0
 VersionsRise [] = Unit {0}
 VersionsRise (h ∷ hs) = ((j : Held) → Mem j hs → h.version < j.version) × VersionsRise hs
 
--- the requests in flight have rising numbers, from the least on and below the next
+-- the requests in flight have rising numbers, from the lowest on and below the next
 abbrev pub AreNumbered : ℕ → ℕ → List delivery.Flying → Type 0
 AreNumbered least next [] = Unit {0}
 AreNumbered least next (f ∷ fs) = (least ≤ f.request) × (f.request < next) × AreNumbered (f.request + 1) next fs
 
--- It works within its limits, has all its senders, and holds and sends no more than it may; what it holds is in order;
--- requests are numbered one after another, below 2^63, and each in flight has its batch.
+-- Its config is valid, it has all its senders, and what it holds and sends is within its limits; what it holds is in
+-- order; requests are numbered consecutively, below 2^63, and each in flight has its batch.
 pub record IsLane (s : State) : Type 0 where
   pub valid : is_valid s.config ≡ true
   pub config : s.core.config ≡ config_of s.config

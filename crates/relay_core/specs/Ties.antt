@@ -1,4 +1,4 @@
--- Each call of a lane is a step of delivery, or none: what a lane fits, each call keeps.
+-- Each call of a lane is a step of delivery, or none: if a lane fits an outside, each call keeps that.
 use Rattle.std.specs.Prelude.{◌≡◌, ℕ, List, [], ◌∷◌, ◌++◌, Some, true, ◌<◌}
 use Rattle.relay_action.specs.declared.operation.Op.{Op}
 use Rattle.relay_action.specs.declared.mail.Body.{Body}
@@ -24,7 +24,7 @@ ops_of body.Tick = []
 ops_of body.Flush = []
 ops_of body.Done = []
 
--- a fresh lane fits an outside in which nothing was sent and every stored version is below the first one dealt
+-- a fresh lane fits an outside in which nothing was sent and every stored version is below the first one assigned
 abbrev pub FreshFits : Type 0
 FreshFits =
     (c : RelayConfig) (out : Outside) → IsOpening out →
@@ -42,7 +42,7 @@ RequestFits =
     (s : State) (items : List BatchItem) (taken : List Op) (out : Outside) → next_batch s ≡ Some items → Fits s taken out →
     Fits (after_request s (next_batch s)) taken (after (Sends (writes_of_all (next_entries s))) out)
 
--- an item is run meanwhile, and the lane does not change
+-- an item is run meanwhile, and the lane is unchanged
 abbrev pub RunFits : Type 0
 RunFits = (s : State) (r : Ran) (taken : List Op) (out : Outside) → MayRun out r → Fits s taken out → Fits s taken (after (Runs r) out)
 

@@ -1,4 +1,4 @@
--- How the fields of a lane are read, and what always holds of them.
+-- How contracts see the fields of a lane, and what always holds of them.
 use Rattle.std.specs.Prelude.{◌≡◌, ◌+◌, ◌-◌, ◌*◌, ◌^◌, ◌≤◌, Bool, true, length, map, min, vec_len, vec_capacity}
 use Rattle.std.specs.List.{list_all}
 use Rattle.relay_flight.specs.InFlight.{IsInFlight, batches_of}

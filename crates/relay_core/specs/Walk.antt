@@ -1,4 +1,4 @@
--- The held list as it stands in memory, and the walks over it.
+-- The held list in memory, and the walks over it.
 pub use Rattle.relay_held.specs.Kept.{waits_here, more, launch_one, back_at, halved_at}
 pub use Rattle.relay_held.specs.Queues.{with_first, without_first, first_of, OnlyFirstsFly, is_of, is_later_kept, is_candidate_kept, is_eligible_kept, first_due_kept}
 use Rattle.std.specs.Prelude.{ℕ, ◌+◌, List, [], ◌∷◌, ◌++◌, Option, Some, None, Bool, true, false, ◌&&◌, ◌==◌, drop, filter, map, slice_get, option_to_list, if◌then◌else◌}
@@ -50,13 +50,13 @@ freight (h ∷ hs) is = if is_next is h then option_to_list h.write ++ freight h
 
 -- ---- an answer comes
 
--- by what the status of the whole says, else by its entry
+-- by the status of the whole request, otherwise by its entry
 abbrev pub fate_or : Way → of.Fate → of.Fate
 fate_or way.ByEntry f = f
 fate_or (way.Reported status) f = of.Reported (cause.Request status)
 fate_or (way.Halved cap) f = of.Halved cap
 
--- what the code's words say
+-- the definition's value for the code's
 abbrev pub said : Fate → of.Fate
 said code.Applied = of.Applied
 said code.Already = of.Already
@@ -109,7 +109,7 @@ abbrev pub tally : Bool → ℕ
 tally true = 1
 tally false = 0
 
--- what one that flies leaves of itself, where its write is there
+-- what is left of one in flight, if its write is there
 abbrev pub met_maybe : ℕ → of.Fate → Option Write → List Kept → List Kept
 met_maybe clock f None hs = []
 met_maybe clock f (Some w) hs = met_list clock f w hs
@@ -122,7 +122,7 @@ abbrev pub tally_maybe : (of.Fate → Bool) → of.Fate → Option Write → ℕ
 tally_maybe p f None = 0
 tally_maybe p f (Some w) = tally (p f)
 
--- those that fly in a request meet its writes and the entries of its reply, one after another
+-- those in flight in a request get its writes and the entries of its reply, one after another
 abbrev pub kept_walk : List Kept → ℕ → ℕ → ℕ → Way → List Write → List Outcome → List Kept
 kept_walk [] max clock number whole ws os = []
 kept_walk (h ∷ hs) max clock number whole ws os =
@@ -146,7 +146,7 @@ tally_walk p (h ∷ hs) max number whole ws os =
 
 -- ---- one by one
 
--- what an answer makes of the operation that is the first of its document
+-- what an answer means for the operation that is the first of its document
 abbrev pub fate_one : ℕ → Way → Kept → Option Outcome → of.Fate
 fate_one max whole h entry = fate_or whole (fate_of_entry (record { sends = h.sends; attempts = h.attempts; max = max }) h.kind entry)
 

@@ -1,4 +1,4 @@
-//! What an answer makes of one operation.
+//! What an answer means for one operation.
 ghost use Rattle.std.specs.Prelude.{◌≡◌, [], unwrap_or};
 ghost use Rattle.relay_results.specs.Fates.{fate_of_item, fate_of_entry};
 ghost use Rattle.relay_core.specs.Walk.{said, fate_or};
@@ -7,10 +7,10 @@ use relay_action::{ActionKind, Text};
 use relay_held::Kept;
 use relay_results::{Cause, ItemVerdict, Outcome, verdict};
 
-/// What the answer of a whole request makes of its operations.
+/// What the answer to a request as a whole means for its operations.
 #[derive(Clone, Copy, Debug)]
 pub enum Way {
-    /// Each goes by its entry; one without an entry is tried again.
+    /// Each is settled by its entry; one without an entry is retried.
     ByEntry,
     /// Each is reported with this status.
     Reported(u16),
@@ -18,7 +18,7 @@ pub enum Way {
     Halved(u32),
 }
 
-/// What becomes of an operation when the answer of its request comes.
+/// The fate of an operation when its request is answered.
 #[derive(Debug, Drop)]
 pub enum Fate {
     /// It ends as applied.
@@ -33,7 +33,7 @@ pub enum Fate {
     Reported(Cause),
 }
 
-// What an entry makes of the operation that it is for.
+// What an entry means for its operation.
 fn fate_by(kind: ActionKind, outcome: Outcome, sends: u32, attempts: u32, max: u32) -> Fate
     ensures { said result
         ≡ fate_of_item (record { sends = sends; attempts = attempts; max = max }) kind outcome }
@@ -58,7 +58,7 @@ fn fate_by(kind: ActionKind, outcome: Outcome, sends: u32, attempts: u32, max: u
     }
 }
 
-// What the entry at its place makes of it, if there is one.
+// What the entry at its place means for it, if there is one.
 fn fate_next(kind: ActionKind, entry: Option<Outcome>, sends: u32, attempts: u32, max: u32) -> Fate
     ensures { said result
         ≡ fate_of_entry (record { sends = sends; attempts = attempts; max = max }) kind entry }
@@ -75,8 +75,8 @@ fn fate_next(kind: ActionKind, entry: Option<Outcome>, sends: u32, attempts: u32
     }
 }
 
-/// What an answer makes of a held operation: what the status of the whole request says, or else its
-/// entry; without an entry it is tried again. It does not allocate.
+/// What an answer means for a held operation: what the status of the whole request says, otherwise
+/// its entry; without an entry it is retried. It does not allocate.
 pub(crate) fn fate_in(one: &Kept, whole: Way, entry: Option<Outcome>, max: u32) -> Fate
     ensures { said result
         ≡ fate_or whole

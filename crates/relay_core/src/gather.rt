@@ -33,7 +33,7 @@ pub struct Gathered {
     pub closed: bool,
 }
 
-// One look more, at most `u64::MAX`.
+// Counts one more look; the count saturates.
 fn look(looks: &mut u64)
     ensures most { looks.new ≤ looks.old + 1 }
     ensures rise { looks.old ≤ looks.new }
@@ -42,8 +42,8 @@ fn look(looks: &mut u64)
     *looks = looks.saturating_add(1);
 }
 
-/// The candidates are offered in rising version until one is closed or none is left. Each of them is
-/// a look.
+/// Offers the candidates in ascending order of version until one is Closed or none is left. Each
+/// offer is a look.
 pub(crate) fn gather(
     alloc: Global,
     held: &mut Held,
@@ -80,7 +80,6 @@ pub(crate) fn gather(
     })
 }
 
-// Whether the first item was flushed.
 fn is_flushed(items: &[BatchItem], mark: u64) -> bool
     ensures { result ≡ is_marked mark items.now }
 {
@@ -90,41 +89,41 @@ fn is_flushed(items: &[BatchItem], mark: u64) -> bool
     }
 }
 
-// Whether what was gathered is asked for.
+// Whether what was gathered is to be sent.
 fn is_asked(is_ready: bool, closed: bool, is_flushed: bool, all_closed: bool) -> bool
     ensures { result ≡ (is_ready || (closed || (is_flushed || all_closed))) }
 {
     is_ready || closed || is_flushed || all_closed
 }
 
-/// What the sending rule says.
+/// The result of the sending rule.
 #[derive(Debug, Drop)]
 pub struct Due {
-    /// The batch that is to be sent now, if one is.
+    /// The batch to send now, if there is one.
     pub batch: Option<Batch>,
-    /// Nothing is to be sent before more than this was taken, unless a tick passes, a flush or an
-    /// answer comes, or a sender closes.
+    /// Nothing is to be sent until more than this was taken, unless a tick passes, a flush or an
+    /// answer arrives, or a sender closes.
     pub room: Room,
     /// How much may be taken beside the batch while it is in flight: as much as one request carries,
     /// or nothing if some operation that may be sent is left.
     pub ahead: Room,
 }
 
-/// Room for nothing.
+/// No room.
 pub(crate) fn no_room() -> Room
     ensures { result ≡ no_room }
 {
     Room { items: 0, bytes: 0 }
 }
 
-/// Whether it is room for an item at least, and for a byte.
+/// Whether there is room for at least one item and one byte.
 pub(crate) fn is_roomy(room: Room) -> bool
     ensures { result ≡ is_roomy room }
 {
     room.items > 0 && room.bytes > 0
 }
 
-/// What is left of it after an operation of this many bytes.
+/// The room that is left after an operation with this many bytes.
 pub(crate) fn less(room: Room, bytes: u64) -> Room
     ensures { result ≡ less bytes room }
 {
@@ -149,7 +148,8 @@ fn ahead_of(limits: Limits, closed: bool) -> Room {
     }
 }
 
-/// The batch that is to be sent now, if one is; if not, how long the rule need not be asked.
+/// The batch to send now, if there is one; otherwise, until when the rule need not be checked
+/// again.
 pub(crate) fn due_batch(
     alloc: Global,
     held: &mut Held,

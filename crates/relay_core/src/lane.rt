@@ -29,7 +29,7 @@ use std::alloc::{AllocError, Global};
 use std::marker::Model;
 
 /// A lane: what it holds, what is in flight, and what it reports. Contracts see its `State`, and
-/// apart from that its looks.
+/// separately its looks.
 #[derive(Debug, Drop)]
 pub struct Lane {
     alloc: Global,
@@ -41,7 +41,7 @@ pub struct Lane {
     applied: u64,
     already: u64,
     closed: Vec<bool>,
-    // While this is not used up, no batch is due.
+    // As long as this is not used up, no batch is due.
     room: Room,
     // While this is not used up and all places in flight are taken, more may be taken before an
     // answer is waited for.
@@ -49,7 +49,7 @@ pub struct Lane {
     held: Held,
     flight: Flight,
     reports: Vec<Report>,
-    // How many held operations `request` looked at, to see whether they may be sent.
+    // How many held operations `request` has looked at, to see whether they may be sent.
     looks: u64,
 }
 
@@ -70,7 +70,7 @@ fn are_closed(closed: &[bool]) -> bool
     closed.iter().all(|x| *x)
 }
 
-// What the status of a whole request makes of each of its items.
+// What the status of a request as a whole means for each of its items.
 fn way_of(status: u16, items: usize) -> Way
     requires { items ≤ 4294967295 }
     ensures { result ≡ (if is_halved items status then Way.Halved (items / 2)
@@ -84,9 +84,9 @@ fn way_of(status: u16, items: usize) -> Way
 }
 
 impl Lane {
-    /// A lane that holds nothing, of a valid config. Its senders are the producers, numbered from
-    /// 0, and the control, numbered one past the last of them. `AllocError`: the allocation of the
-    /// places in flight or of the senders failed.
+    /// A lane that holds nothing, with a valid config. Its senders are the producers, numbered from
+    /// 0, and the control, whose number is one above that of the last producer. `AllocError`:
+    /// allocating the places in flight or the senders failed.
     pub fn new(alloc: Global, config: RelayConfig) -> Result<Lane, AllocError>
         requires { is_valid config ≡ true }
         ensures { IfOk result (λ l. l ≡ record { state = fresh config; looks = 0 }) }
@@ -118,8 +118,8 @@ impl Lane {
         self.held.tick();
     }
 
-    /// Sets the flush mark to the last version assigned: what was taken until now is to be sent,
-    /// full batch or not. It does nothing if no version was assigned yet.
+    /// Sets the flush mark to the last version assigned: what was taken so far is to be sent,
+    /// whether or not the batch is full. It has no effect if no version was assigned yet.
     pub fn flush(&mut self)
         ensures flushed { self.new.state ≡ flushed self.old.state }
         ensures looks { self.new.looks ≡ self.old.looks }
@@ -137,28 +137,28 @@ impl Lane {
         are_closed(&self.closed)
     }
 
-    /// How many senders it has: the producers and the control.
+    /// The number of senders: the producers and the control.
     pub fn senders(&self) -> u32
         ensures { result ≡ length self.now.state.closed }
     {
         self.closed.len() as u32
     }
 
-    /// The most operations that it holds.
+    /// The maximum number of operations that it holds.
     pub fn max_held(&self) -> u32
         ensures { result ≡ self.now.state.config.max_held }
     {
         self.config.max_held
     }
 
-    /// The most requests that it has in flight.
+    /// The maximum number of requests that it has in flight.
     pub fn in_flight(&self) -> u32
         ensures { result ≡ self.now.state.config.in_flight }
     {
         self.config.in_flight
     }
 
-    /// How many operations are held.
+    /// The number of operations held.
     pub fn held(&self) -> u32
         ensures { result ≡ length self.now.state.core.held }
     {
@@ -180,7 +180,7 @@ impl Lane {
         reports
     }
 
-    /// What was taken, applied and sent since the lane was made.
+    /// The totals of what was taken, applied and sent since the lane was made.
     pub fn totals(&self) -> Totals
         ensures lane { IsLane self.now.state }
         ensures totals { result ≡ record {
@@ -200,17 +200,17 @@ impl Lane {
         }
     }
 
-    /// The ticks until the first eligible operation is due: one that waits, and of whose document
-    /// nothing older is held. 0 if one is due already, `None` if none is eligible.
+    /// The number of ticks until the first eligible operation is due, that is, one that waits while
+    /// nothing older of its document is held. 0 if one is due already, `None` if none is eligible.
     pub fn due_in(&self) -> Option<u64>
         ensures { result ≡ due_in self.now.state }
     {
         self.held.due_in()
     }
 
-    /// How many held operations [`Lane::request`] looked at since the lane was made. A call looks at
-    /// each operation that it sends, and at one at most of each document that is held, whatever it
-    /// returns. The count saturates at `u64::MAX`. What a call says of the lane says nothing of it.
+    /// How many held operations [`Lane::request`] has looked at since the lane was made. A call
+    /// looks at each operation that it sends, and at no more than one per document held, whatever
+    /// it returns. The count saturates at `u64::MAX`. It is not part of the state in the contracts.
     pub fn looks(&self) -> u64
         ensures { result ≡ self.now.looks }
     {
@@ -227,7 +227,7 @@ impl Lane {
 
 // Messages are taken.
 impl Lane {
-    // Takes an operation into a lane that has a place for it.
+    // Takes an operation into a lane that has room for it.
     fn take_put(&mut self, op: Op) -> Result<(), NoRoom>
         requires { length self.old.state.core.held < self.old.state.config.max_held }
         ensures ok { OnOk result (self.new.state ≡ taken self.old.state op) }
@@ -275,8 +275,8 @@ impl Lane {
     /// Takes a message of a known sender. An operation is assigned the next version and held, or
     /// reported as Spent if none is left; a Tick is a [`Lane::tick`], a Flush a [`Lane::flush`],
     /// and a Done closes its sender. Room for the operation's later report is allocated here. The
-    /// faults are those of [`TakeFault`], the first that holds; `Memory` only for an operation. The
-    /// message comes back then, and the lane is unchanged.
+    /// fault is the first of [`TakeFault`] that applies; `Memory` only for an operation. The
+    /// message is returned with it, and the lane is unchanged.
     pub fn take(&mut self, mail: Mail) -> Result<(), (TakeFault, Mail)>
         requires { mail.sender < length self.old.state.closed }
         ensures ok { OnOk result (self.new.state ≡ after_take self.old.state mail.sender mail.body) }
@@ -330,16 +330,16 @@ impl Lane {
 
 // Requests are formed.
 impl Lane {
-    /// Forms the next request and returns its number, 1 for the first and one more each time. The
+    /// Forms the next request and returns its number: 1 for the first, then 2 and so on. The
     /// operations that wait, are due, and have nothing older of their document held are gathered in
-    /// rising version until the batch is closed. They go if the batch is full, ready or flushed, or
-    /// if the lane is closed; each of them then has one send and one attempt more. `None` if no
-    /// place in flight is free, or if no batch is to be sent. `AllocError`: the allocation of the
-    /// batch or of its writes failed, and the state is unchanged; a place was free then, and some
+    /// ascending order of version until the batch is closed. They are sent if the batch is full,
+    /// ready or flushed, or if the lane is closed; each of them then has one more send and attempt.
+    /// `None` if no place in flight is free, or if no batch is to be sent. `AllocError`: allocating
+    /// the batch or its writes failed, and the state is unchanged; a place was free then, and some
     /// operation may be sent.
     ///
-    /// It looks at each operation that it sends, and at one at most of each document that is held:
-    /// see [`Lane::looks`].
+    /// It looks at each operation that it sends, and at no more than one per document held: see
+    /// [`Lane::looks`].
     pub fn request(&mut self) -> Result<Option<u64>, AllocError>
         ensures when { IfOk result (λ o. is_some o ≡ is_some (next_batch self.old.state)) }
         ensures number { IfOk result (λ o. IfSome o (λ n. n ≡ self.old.state.flights.next)) }
@@ -399,21 +399,21 @@ impl Lane {
         self.flight.writes(number)
     }
 
-    /// The number of the oldest request in flight, `None` if none is.
+    /// The number of the oldest request in flight, or `None` if there is none.
     pub fn oldest(&self) -> Option<u64>
         ensures { result ≡ oldest self.now.state }
     {
         self.flight.oldest()
     }
 
-    /// How many requests are in flight.
+    /// The number of requests in flight.
     pub fn flying(&self) -> u32
         ensures { result ≡ length self.now.state.core.flying }
     {
         self.flight.flying()
     }
 
-    /// The batch of the request of this number, if it is in flight.
+    /// The batch of the request with this number, if it is in flight.
     pub fn items(&self, number: u64) -> Option<&[BatchItem]>
         ensures { option_map (λ b. b.now) result ≡ batch_at number self.now.state.flights }
     {
@@ -462,7 +462,7 @@ impl Lane {
 
     /// The reply to a request was lost or could not be read, or the request could not be sent: each
     /// of its operations waits to be sent again, or is given up if its attempts are used up.
-    /// [`NotFlying`]: no request of this number is in flight, and the lane is unchanged. It does
+    /// [`NotFlying`]: no request with this number is in flight, and the lane is unchanged. It does
     /// not allocate.
     pub fn lost(&mut self, number: u64) -> Result<Settled, NotFlying>
         ensures flies { is_ok result ≡ is_flying number self.old.state }
@@ -478,11 +478,11 @@ impl Lane {
         }
     }
 
-    /// A request as a whole was answered by a status other than 200. After 413 to two operations or
-    /// more, each waits to be sent again at once, in requests of at most half as many, and the
-    /// attempt does not count. After 429, 502, 503 and 504 the request counts as lost, as in
-    /// [`Lane::lost`]. After any other status, and after 413 to a single operation, each is
-    /// reported with the status. [`NotFlying`]: no request of this number is in flight, and the
+    /// A request as a whole got a status other than 200. After 413 for two or more operations, each
+    /// waits to be sent again immediately, in requests of at most half as many, and the attempt
+    /// does not count. After 429, 502, 503 and 504 the request counts as lost, as in
+    /// [`Lane::lost`]. After any other status, and after 413 for a single operation, each is
+    /// reported with the status. [`NotFlying`]: no request with this number is in flight, and the
     /// lane is unchanged. It does not allocate.
     pub fn whole(&mut self, number: u64, status: u16) -> Result<Settled, NotFlying>
         requires { status ≢ 200 }
@@ -504,10 +504,10 @@ impl Lane {
         }
     }
 
-    /// A request was answered by status 200 and these outcomes. If they match it, each operation
-    /// ends by the verdict on its outcome; if not, the request counts as lost, as in
-    /// [`Lane::lost`]. [`NotFlying`]: no request of this number is in flight, and the lane is
-    /// unchanged. It does not allocate.
+    /// A request got status 200 and these outcomes. If they match it, each operation is settled by
+    /// the verdict on its outcome; otherwise the request counts as lost, as in [`Lane::lost`].
+    /// [`NotFlying`]: no request with this number is in flight, and the lane is unchanged. It does
+    /// not allocate.
     pub fn reply(&mut self, number: u64, outcomes: Vec<Outcome>) -> Result<Settled, NotFlying>
         ensures flies { is_ok result ≡ is_flying number self.old.state }
         ensures ok { OnOk result (self.new.state ≡ answered self.old.state number (Items outcomes.items)) }

@@ -1,4 +1,4 @@
-//! A batch is sent.
+//! Sending a batch.
 ghost use Rattle.std.specs.Prelude.{◌≡◌, ◌+◌, ◌<◌, ◌≤◌, ◌++◌, length, map, option_to_list, take, vec_len, vec_capacity};
 ghost use Rattle.relay_held.specs.Queues.{candidates_kept, Rises};
 ghost use Rattle.relay_core.specs.Walk.{item_of_kept, launched_kept, freight};
@@ -6,7 +6,7 @@ ghost use Rattle.relay_core.specs.Walk.{item_of_kept, launched_kept, freight};
 use relay_action::Write;
 use relay_held::Held;
 
-// A write goes into the request, if there is one.
+// Moves a write, if there is one, into the request.
 fn load(writes: &mut Vec<Write>, write: Option<Write>)
     requires room { vec_len writes.old < vec_capacity writes.old }
     ensures items { writes.new.items ≡ writes.old.items ++ option_to_list write }
@@ -18,7 +18,7 @@ fn load(writes: &mut Vec<Write>, write: Option<Write>)
     }
 }
 
-/// Sends the first `count` of the operations that may go: their writes move into the request.
+/// Sends the first `count` of the operations that may be sent: their writes move into the request.
 pub(crate) fn launch(held: &mut Held, number: u64, count: usize, writes: &mut Vec<Write>)
     requires rises { Rises held.old.list }
     requires count { count ≤ length (candidates_kept held.old.list held.old.clock) }

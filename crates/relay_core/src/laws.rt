@@ -3,8 +3,8 @@
 ghost use Rattle.relay_core.specs.Ties.{FreshFits, TakeFits, RequestFits, RunFits, AnswerFits};
 ghost use Rattle.relay_core.specs.Flights.{EarlierOnesSettled, ItemsAreOfOperations, RequestsKeepLimits};
 
-/// A new lane fits an opening, and each call takes a lane that fits an outside to one that fits the
-/// outside after it.
+/// A new lane fits an opening, and if a lane fits an outside before a call, it fits the outside
+/// after it.
 pub fn calls_keep_fitting()
     ensures fresh { FreshFits }
     ensures take { TakeFits }

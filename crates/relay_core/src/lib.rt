@@ -1,11 +1,10 @@
 //! The core of a lane: without a clock, a thread or a socket it decides which of the operations
-//! that it holds go into the next request, and what becomes of each when the answer comes.
-//! `relay_held` keeps what is held, `relay_batch` gathers batches, `relay_flight` keeps those in
-//! flight; what is promised of delivery is in `relay_delivery`.
+//! that it holds go into the next request, and settles each when the answer arrives. `relay_held`
+//! keeps what is held, `relay_batch` gathers batches, `relay_flight` keeps the requests in flight;
+//! what is promised of delivery is in `relay_delivery`.
 //!
-//! It carries this promise: each call changes the lane exactly as its rule says and is a step of
-//! delivery, so that a lane and an outside which came about by the same sends and answers are sound
-//! and complete.
+//! What is proved: each call changes the lane exactly as its rule says and is a step of delivery,
+//! so a lane and an outside that came about by the same sends and answers are sound and complete.
 #![tactic(auto)]
 
 pub mod config;

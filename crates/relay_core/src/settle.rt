@@ -1,4 +1,4 @@
-//! An answer settles the operations of a request.
+//! Settling the operations of a request by its answer.
 ghost use Rattle.std.specs.Prelude.{◌≡◌, Some, true, false, ◌-◌, ◌^◌, min, ◌+◌, ◌≤◌, ◌<◌, ◌++◌, ◌∷◌, [], map, length, drop, slice_get, vec_len, vec_capacity};
 ghost use Rattle.std.specs.Vec.Iter.{into_iter_items};
 ghost use Rattle.relay_delivery.specs.Machine.{is_applied_fate, is_already_fate};
@@ -17,7 +17,7 @@ use relay_held::Held;
 use relay_results::{Cause, Outcome};
 use std::vec::IntoIter;
 
-// The ticks of the pause after this many attempts.
+// The pause after this many attempts, in ticks.
 fn pause(attempts: u32) -> u64
     ensures { result ≡ min (2 ^ (attempts - 1)) 64 }
 {
@@ -32,7 +32,6 @@ fn pause(attempts: u32) -> u64
     }
 }
 
-// The tick after the pause.
 fn due_after(clock: u64, attempts: u32) -> u64
     ensures { result ≡ backoff clock attempts }
 {
@@ -44,7 +43,7 @@ fn due_after(clock: u64, attempts: u32) -> u64
     }
 }
 
-// The next of a list that is used up.
+// The next element of a list that is used up.
 fn next_of<T: Drop>(items: &mut IntoIter<T>) -> Option<T>
     ensures value { result ≡ slice_get (into_iter_items items.old) 0 }
     ensures rest { into_iter_items items.new ≡ drop 1 (into_iter_items items.old) }
@@ -52,7 +51,7 @@ fn next_of<T: Drop>(items: &mut IntoIter<T>) -> Option<T>
     items.next()
 }
 
-// The first operation of a document ends with a report.
+// Ends the first operation of a document with a report.
 fn report(held: &mut Held, write: Write, cause: Cause, reports: &mut Vec<Report>)
     requires room { vec_len reports.old < vec_capacity reports.old }
     requires flies { (h : Kept) → first_of write.key held.old.list ≡ Some h → waits_here h.flies ≡ false }
@@ -72,7 +71,7 @@ fn report(held: &mut Held, write: Write, cause: Cause, reports: &mut Vec<Report>
     }
 }
 
-// The first operation of a document waits again.
+// Lets the first operation of a document wait again.
 fn land(held: &mut Held, write: Write, clock: u64, attempts: u32)
     requires flies { (h : Kept) → first_of write.key held.old.list ≡ Some h → waits_here h.flies ≡ false }
     ensures held { (h : Kept) → h.attempts ≡ attempts → first_of write.key held.old.list ≡ Some h
@@ -82,7 +81,7 @@ fn land(held: &mut Held, write: Write, clock: u64, attempts: u32)
     held.land(due_after(clock, attempts), write);
 }
 
-// The first operation of a document meets its fate.
+// Settles the first operation of a document by its fate.
 fn meet(
     held: &mut Held,
     fate: Fate,
@@ -133,7 +132,7 @@ fn meet(
     }
 }
 
-// The operation of a write meets the fate that its entry makes of it.
+// Settles the operation of a write by its entry.
 fn settle_one(
     held: &mut Held,
     max: u32,
@@ -172,7 +171,7 @@ fn settle_one(
     }
 }
 
-/// Settles the operations of a request by its answer, write by write; there is room for the
+/// Settles the operations of a request by its answer, write by write. There is room for the
 /// reports.
 pub(crate) fn settle_walk(
     held: &mut Held,

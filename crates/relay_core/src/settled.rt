@@ -4,33 +4,33 @@ use thiserror::Error;
 /// How the operations of a request ended.
 #[derive(Clone, Copy, Debug, PartialEq, Eq)]
 pub struct Settled {
-    /// How many the request applied.
+    /// The number that the request applied.
     pub applied: u32,
-    /// How many an earlier request had applied.
+    /// The number that an earlier request had applied.
     pub already: u32,
-    /// How many are reported.
+    /// The number that are reported.
     pub reported: u32,
-    /// How many wait to be sent again.
+    /// The number that wait to be sent again.
     pub retried: u32,
-    /// False if outcomes were given that did not match the request.
+    /// False if outcomes were given that do not match the request.
     pub matched: bool,
 }
 
-/// Why a message is not taken: the first of these that holds.
+/// Why a message is not taken: the first of these that applies.
 #[derive(Clone, Copy, Debug, PartialEq, Eq, Error)]
 pub enum TakeFault {
     /// Its sender's Done was taken.
     #[error("AfterClose")]
     AfterClose,
-    /// It is a Put, and the lane holds as many operations as it may.
+    /// It is a Put, and the lane holds its maximum number of operations.
     #[error("HeldFull")]
     HeldFull,
-    /// An allocation failed, for the operation or for its later report.
+    /// An allocation for the operation or for its later report failed.
     #[error("Memory")]
     Memory,
 }
 
-/// No request of this number is in flight.
+/// No request with this number is in flight.
 #[derive(Clone, Copy, Debug, PartialEq, Eq, Error)]
 #[error("NotFlying")]
 pub struct NotFlying;
@@ -38,11 +38,11 @@ pub struct NotFlying;
 /// Counts since the lane was made.
 #[derive(Clone, Copy, Debug, PartialEq, Eq)]
 pub struct Totals {
-    /// The operations that were taken, also those for which no version was left.
+    /// The operations that were taken, including those for which no version was left.
     pub taken: u64,
-    /// Those that ended as applied by the request that was answered.
+    /// The operations that ended as applied by the answered request.
     pub applied: u64,
-    /// Those that ended as applied by an earlier request.
+    /// The operations that ended as applied by an earlier request.
     pub already: u64,
     /// The requests that were formed.
     pub requests: u64,

@@ -1,4 +1,4 @@
-//! An operation is taken.
+//! Taking an operation.
 ghost use Rattle.std.specs.Prelude.{◌≡◌, true, ◌+◌, ◌^◌, ◌≤◌, ◌<◌, is_some, IfSome, OnOk, length, vec_len, vec_capacity};
 ghost use Rattle.relay_ndjson.specs.Bulk.{write_text};
 ghost use Rattle.relay_results.specs.Documents.{write_for};
@@ -18,7 +18,7 @@ pub struct NoRoom {
     pub op: Op,
 }
 
-/// Room for the later reports of what is held and of one more operation.
+/// Makes room for the later reports of what is held and of one more operation.
 pub(crate) fn make_room(held: &Held, reports: &mut Vec<Report>) -> Result<(), AllocError>
     requires { length held.now.list + 1 < 2 ^ 32 }
     ensures reports { reports.new.items ≡ reports.old.items }
@@ -30,7 +30,7 @@ pub(crate) fn make_room(held: &Held, reports: &mut Vec<Report>) -> Result<(), Al
     Ok(())
 }
 
-/// An operation as it is held, beside a copy of its document.
+/// An operation as it is held, and a copy of its document.
 pub(crate) fn kept_of(op: Op, key: DocKey, version: u64, clock: u64, cap: u32) -> Kept
     requires { key ≡ op.key }
     ensures { result ≡ kept_new op version (length (write_text (write_for op version))) clock cap }
@@ -58,7 +58,7 @@ pub(crate) fn kept_of(op: Op, key: DocKey, version: u64, clock: u64, cap: u32) -
     }
 }
 
-/// The operation back, if it was not held.
+/// The operation again, if it was not held.
 pub(crate) fn op_of(one: Kept) -> Op
     requires { is_some one.write ≡ true }
     ensures { IfSome one.write (λ w. result ≡ record {

@@ -1,4 +1,4 @@
-//! A lane that a schedule is played on, step by step.
+//! A lane on which a schedule is played, step by step.
 use relay_action::{Action, ActionKind, Body, DocKey, Mail, Op, Text};
 use relay_batch::Limits;
 use relay_core::{Cause, Lane, NotFlying, RelayConfig, Settled, TakeFault, Totals};
@@ -6,14 +6,14 @@ use relay_results::Outcome;
 use std::alloc::{AllocError, Global};
 use std::test::Fail;
 
-/// Batches of ten documents and 4,096 bytes that go at once.
+/// Batches of ten documents and 4,096 bytes that are sent at once.
 pub const LIMITS: Limits = Limits {
     count: 10,
     bytes: 4_096,
     linger: 0,
 };
 
-/// One lane and producer, and those batches.
+/// One lane and one producer, with those batches.
 pub const CONFIG: RelayConfig = RelayConfig {
     lanes: 1,
     producers: 1,
@@ -35,34 +35,34 @@ pub enum Entry<'a> {
     Delete(&'a str, u16),
 }
 
-/// A step of a schedule, and what comes of it. Counts are applied, already, reported and retried.
+/// A step of a schedule, and its result. Counts are applied, already, reported and retried.
 #[derive(Clone, Copy)]
 pub enum Step<'a> {
-    /// The next operation, of this id; no source deletes.
+    /// Takes the next operation, with this id; without a source it deletes.
     Put(&'a str, &'a str),
     /// The same, and it is not taken.
     NotTaken(TakeFault),
-    /// So many ticks.
+    /// This many ticks pass.
     Ticks(u32),
     /// A tick that comes as a message.
     Tick,
     Flush,
     /// A sender closes.
     Close(u32),
-    /// The next request, by ids and versions.
+    /// Forms the next request, with these ids and versions.
     Sends(&'a [(&'a str, u64)]),
     SendsNone,
     /// Whether the next request is still being gathered.
     Gathers(bool),
-    /// The request last sent is answered by these entries, which match.
+    /// Answers the last request with these entries, which match.
     Items(&'a [Entry<'a>], [u32; 4]),
     /// They do not match.
     NoMatch(&'a [Entry<'a>], [u32; 4]),
     Whole(u16, [u32; 4]),
     Lost([u32; 4]),
-    /// No request of the last number flies.
+    /// No request with the last number is in flight.
     NotFlying,
-    /// How many ticks until one is due; 99 where none is eligible.
+    /// How many ticks until one is due; 99 if none is eligible.
     DueIn(u64),
     /// How many are held.
     Held(u32),
@@ -70,7 +70,7 @@ pub enum Step<'a> {
     Totals(Totals),
 }
 
-// A lane, how many operations were put, and the request last sent.
+// A lane, how many operations were put, and the last request.
 #[derive(Drop)]
 struct Desk {
     lane: Lane,
@@ -78,7 +78,7 @@ struct Desk {
     last: u64,
 }
 
-/// A lane of a config, which has to be valid.
+/// A lane with a config, which must be valid.
 pub fn lane_of(alloc: Global, config: RelayConfig) -> Result<Lane, Fail> {
     if !config.valid() {
         return Err("not valid")?;
@@ -102,7 +102,7 @@ fn op_of(alloc: Global, number: u64, id: &str, source: &str) -> Result<Op, Fail>
     })
 }
 
-// Takes a message of a sender. The fault, if it is not taken.
+// Takes a message of a sender. Returns the fault, if it is not taken.
 fn take(lane: &mut Lane, sender: u32, number: u64, body: Body) -> Result<Option<TakeFault>, Fail> {
     if sender >= lane.senders() {
         return Err("no such sender")?;
@@ -189,7 +189,7 @@ fn are_counts(answer: Result<Settled, NotFlying>, counts: &[u32; 4], matched: bo
     }
 }
 
-// The next request goes as it should.
+// Whether the next request is as expected.
 fn sends(desk: &mut Desk, wanted: &[(&str, u64)]) -> Result<bool, Fail> {
     match desk.lane.request()? {
         Some(number) => {
@@ -214,7 +214,7 @@ fn looks(desk: &mut Desk, step: &Step<'_>) -> Result<bool, Fail> {
     }
 }
 
-// What a reply of these entries to the request last sent makes of it.
+// The result of replying to the last request with these entries.
 fn reply(
     alloc: Global,
     desk: &mut Desk,
@@ -224,7 +224,7 @@ fn reply(
     Ok(desk.lane.reply(desk.last, outcomes))
 }
 
-// Whether no request of this number flies.
+// Whether no request with this number is in flight.
 fn is_not_flying(alloc: Global, lane: &mut Lane, number: u64) -> bool {
     lane.lost(number).is_err()
         && lane.whole(number, 503).is_err()
@@ -273,7 +273,7 @@ fn plays(alloc: Global, desk: &mut Desk, step: &Step<'_>) -> Result<bool, Fail> 
     }
 }
 
-// Whether all steps go as they say, one after another.
+// Whether all steps have their results, one after another.
 fn played(alloc: Global, desk: &mut Desk, steps: &[Step<'_>]) -> Result<bool, Fail> {
     for step in steps {
         if !plays(alloc, desk, step)? {
@@ -292,8 +292,8 @@ fn desk_of(alloc: Global, config: RelayConfig) -> Result<Desk, Fail> {
     })
 }
 
-// A report as numbers: its operation, the place of its cause in the list of causes, and the status or
-// the sends that it tells.
+// A report as numbers: its operation, the position of its cause in the list of causes, and the
+// status or the sends in it.
 fn reported(lane: &Lane, place: usize) -> (u64, u8, u32) {
     match lane.reports().get(place) {
         Some(report) => match &report.cause {
@@ -307,7 +307,7 @@ fn reported(lane: &Lane, place: usize) -> (u64, u8, u32) {
     }
 }
 
-// Whether a lane has these reports, in their order, and no others, and gives up as many.
+// Whether a lane has exactly these reports, in order, and gives as many away.
 fn ends_with(lane: Lane, reports: &[(u64, u8, u32)]) -> bool {
     for i in 0..reports.len() {
         if reported(&lane, i) != reports[i] {
@@ -317,7 +317,7 @@ fn ends_with(lane: Lane, reports: &[(u64, u8, u32)]) -> bool {
     lane.reports().len() == reports.len() && lane.into_reports().len() == reports.len()
 }
 
-/// Whether a fresh lane goes through these steps as they say, and has these reports then.
+/// Whether the steps have their results on a fresh lane, which then has these reports.
 pub fn goes(
     alloc: Global,
     config: RelayConfig,

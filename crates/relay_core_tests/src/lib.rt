@@ -1,4 +1,4 @@
-//! Tests of relay_core.
+//! The tests of `relay_core`.
 #![tactic(auto)]
 
 #[cfg(test)]

@@ -167,7 +167,7 @@ const ONE_HELD: RelayConfig = RelayConfig {
     ..CONFIG
 };
 
-// One operation held, and one version to deal: HeldFull comes before Spent.
+// One operation held, and one version to assign: HeldFull comes before Spent.
 const HELD_FULL: [Step<'static>; 10] = [
     Step::Put("1", ""),
     Step::NotTaken(TakeFault::HeldFull),
@@ -195,7 +195,7 @@ const LINGERING: RelayConfig = RelayConfig {
     ..CONFIG
 };
 
-// A batch that is not full goes after its linger time.
+// A batch that is not full is sent after its linger time.
 const BY_TIME: [Step<'static>; 8] = [
     Step::Flush,
     Step::Put("1", "{}"),
@@ -207,7 +207,8 @@ const BY_TIME: [Step<'static>; 8] = [
     Step::Sends(&[("1", 1)]),
 ];
 
-// It goes after a flush, with what was put since; lost, it goes again after its pause, with one more.
+// It is sent after a flush, with what was put since; lost, it is sent again after its pause, with
+// one more.
 const BY_FLUSH: [Step<'static>; 9] = [
     Step::Put("1", "{}"),
     Step::Flush,
@@ -220,7 +221,7 @@ const BY_FLUSH: [Step<'static>; 9] = [
     Step::Sends(&[("1", 1), ("2", 2), ("3", 3)]),
 ];
 
-// It goes where all have closed.
+// It is sent once all have closed.
 const BY_CLOSE: [Step<'static>; 5] = [
     Step::Put("1", "{}"),
     Step::Close(0),

@@ -1,4 +1,4 @@
-//! As many operations as a lane may hold.
+//! The maximum number of operations in a lane.
 use crate::desk::{CONFIG, Entry, lane_of, outcomes_of, put};
 use relay_action::{Action, Body, DocKey, Mail, Op};
 use relay_batch::Limits;
@@ -16,13 +16,13 @@ const FULL: RelayConfig = RelayConfig {
     ..CONFIG
 };
 
-// Puts a delete of a document. Whether it was taken.
+// Puts a delete of a document, and returns whether it was taken.
 fn is_put(alloc: Global, lane: &mut Lane, number: u64, document: u64) -> Result<bool, Fail> {
     let id = format!(in alloc; "{document}")?;
     Ok(put(alloc, lane, number, id.as_str(), "")?.is_none())
 }
 
-// How many writes the next request carries; 0 where there is none.
+// How many writes the next request carries; 0 if there is none.
 fn carried(lane: &mut Lane) -> Result<usize, AllocError> {
     match lane.request()? {
         Some(number) => Ok(lane.writes(number).map_or(0, |writes| writes.len())),
@@ -30,7 +30,7 @@ fn carried(lane: &mut Lane) -> Result<usize, AllocError> {
     }
 }
 
-// A lane takes 65,536 operations, of one document or of as many, and one more. What became of that
+// A lane takes 65,536 operations, of one document or of as many, and one more: the result for that
 // one, how many are held, and how many the next request carries.
 fn filled(
     alloc: Global,
@@ -64,7 +64,7 @@ fn of_as_many_documents(rt: HostRuntime) -> Result<(), Fail> {
     Ok(())
 }
 
-// Sends one operation of document 0, and settles it as applied. Whether it was applied.
+// Sends one operation of document 0, settles it as applied, and returns whether it was.
 fn applies_one(alloc: Global, lane: &mut Lane) -> Result<bool, Fail> {
     let Some(number) = lane.request()? else {
         return Ok(false);
@@ -77,8 +77,8 @@ fn applies_one(alloc: Global, lane: &mut Lane) -> Result<bool, Fail> {
     )
 }
 
-// Deletes of one document, each sent and settled as applied in a request of its own. How many are
-// held then, and how many were looked at.
+// Deletes of one document, each sent and settled as applied in its own request: how many are held
+// then, and how many were looked at.
 fn one_by_one(alloc: Global, lane: &mut Lane, count: u64) -> Result<(u32, u64), Fail> {
     for number in 0..count {
         if !is_put(alloc, lane, number, 0)? {
@@ -102,7 +102,7 @@ fn one_look_for_each_request(rt: HostRuntime) -> Result<(), Fail> {
     Ok(())
 }
 
-// The looks after a request, each of as many documents as are held.
+// The looks after a request, for as many documents as are held.
 #[test]
 fn looks_at_each_document(rt: HostRuntime) -> Result<(), Fail> {
     let mut lane = lane_of(rt.alloc(), CONFIG)?;
@@ -113,7 +113,7 @@ fn looks_at_each_document(rt: HostRuntime) -> Result<(), Fail> {
     Ok(())
 }
 
-// A lane, and an operation for it; a refused allocation is made again.
+// A lane, and an operation for it; a failed allocation is tried again.
 fn begun(alloc: Global) -> Result<(Lane, Mail), Fail> {
     if !CONFIG.valid() {
         return Err("not valid")?;
@@ -141,7 +141,7 @@ fn begun(alloc: Global) -> Result<(Lane, Mail), Fail> {
     Ok((lane, mail))
 }
 
-// Takes a message, once more where memory was refused the first time, which is to have changed
+// Takes a message, once more if an allocation failed the first time, which must have changed
 // nothing.
 fn takes(lane: &mut Lane, mail: Mail) -> bool {
     if mail.sender >= lane.senders() {
@@ -159,8 +159,8 @@ fn takes(lane: &mut Lane, mail: Mail) -> bool {
     }
 }
 
-// Whether the first request goes, by a second call where the first was refused memory and changed
-// nothing.
+// Whether the first request is formed, by a second call if the first one's allocation failed and
+// changed nothing.
 fn sends(lane: &mut Lane) -> bool {
     match lane.request() {
         Ok(number) => number == Some(1),
@@ -170,8 +170,7 @@ fn sends(lane: &mut Lane) -> bool {
     }
 }
 
-// Whichever allocation is refused, a call that answers so has changed nothing, and goes the next
-// time.
+// Whichever allocation fails, the call has changed nothing, and succeeds the next time.
 #[test]
 fn refusals(rt: HostRuntime) -> Result<(), Fail> {
     let (mut lane, mail) = begun(rt.alloc())?;

@@ -8,7 +8,7 @@ use std::test::Fail;
 // The first document is created.
 const CREATED: [Entry<'static>; 1] = [Entry::Index("1", 201)];
 
-// The first document is at a conflict.
+// The first document has a conflict.
 const CONFLICT: [Entry<'static>; 1] = [Entry::Failed("1", 409)];
 
 // Three documents in one request; the busy one is sent again, under its version, a tick later.
@@ -125,14 +125,14 @@ const NINE_ATTEMPTS: RelayConfig = RelayConfig {
     ..CONFIG
 };
 
-// The one operation is sent, and lost.
+// The single operation is sent, and lost.
 const LOST: [Step<'static>; 3] = [
     Step::Put("1", "{}"),
     Step::Sends(&[("1", 1)]),
     Step::Lost([0, 0, 0, 1]),
 ];
 
-// It is sent once more after so many ticks, not before, and lost again.
+// It is sent once more after this many ticks, not before, and lost again.
 fn lost_after(pause: u32) -> [Step<'static>; 6] {
     [
         Step::DueIn(pause as u64),
@@ -164,7 +164,7 @@ fn nine_steps(alloc: Global, pauses: &[u32]) -> Result<Vec<Step<'static>>, Alloc
     Ok(steps)
 }
 
-// Nine attempts, each lost at once: the pauses are 1, 2, 4 and so on, 64 at most.
+// Nine attempts, each lost at once: the pauses are 1, 2, 4 and so on, at most 64.
 #[test]
 fn nine_attempts(rt: HostRuntime) -> Result<(), Fail> {
     let steps = nine_steps(rt.alloc(), &[1, 2, 4, 8, 16, 32, 64])?;
@@ -172,7 +172,7 @@ fn nine_attempts(rt: HostRuntime) -> Result<(), Fail> {
     Ok(())
 }
 
-// Replies that do not match are as good as lost: too few entries, another id, another kind, too many.
+// Replies that do not match count as lost: too few entries, another id, another kind, too many.
 const NO_MATCHES: [&'static [Entry<'static>]; 4] = [
     &[],
     &[Entry::Index("2", 201)],
@@ -200,7 +200,7 @@ const RETRIED: [u32; 4] = [0, 0, 0, 1];
 
 const OVER: [u32; 4] = [0, 0, 1, 0];
 
-// What the status of a whole request makes of its one operation.
+// What the status of a request as a whole means for its single operation.
 const WHOLE: [(u16, [u32; 4], &'static [(u64, u8, u32)]); 8] = [
     (401, OVER, &[(1, 2, 401)]),
     (429, RETRIED, &[]),
@@ -250,7 +250,8 @@ const ONE_ATTEMPT: RelayConfig = RelayConfig {
     ..CONFIG
 };
 
-// Five deletes of 78 bytes meet an index that takes 160: the request is halved, at no attempt's cost.
+// Five deletes of 78 bytes and an index that accepts 160: the request is halved, which costs no
+// attempt.
 const HALVED: [Step<'static>; 16] = [
     Step::Put("1", ""),
     Step::Put("2", ""),
@@ -281,7 +282,7 @@ const HALVED: [Step<'static>; 16] = [
     }),
 ];
 
-// They meet one that takes 77: each is reported once it stands alone.
+// And with one that accepts 77: each is reported once it is alone.
 const HALVED_AWAY: [Step<'static>; 23] = [
     Step::Put("1", ""),
     Step::Put("2", ""),

@@ -1,4 +1,4 @@
--- What becomes of a held operation.
+-- What happens to a held operation.
 use Rattle.std.specs.Prelude.{ℕ, ◌+◌, ◌-◌, Option, Some, None, Bool, true, false, nat_lt, if◌then◌else◌}
 use Rattle.relay_action.specs.declared.write.Write.{Write}
 use Rattle.relay_held.specs.declared.kept.Kept.{Kept}
@@ -24,6 +24,6 @@ back_at due w h = record h { flies = None; due = due; write = Some w }
 abbrev pub halved_at : ℕ → ℕ → Write → Kept → Kept
 halved_at due cap w h = record h { flies = None; attempts = h.attempts - 1; cap = cap; due = due; write = Some w }
 
--- what its batch reads of it
+-- what a batch needs to know of it
 abbrev pub candidate_of : Kept → Candidate
 candidate_of h = record { name = h.name; version = h.version; bytes = h.bytes; cap = h.cap; taken_at = h.taken_at }

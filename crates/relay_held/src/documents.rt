@@ -22,7 +22,7 @@ use slab::Slab;
 use std::alloc::{AllocError, Global};
 use std::marker::Model;
 
-/// The queues of all documents. Each document keeps its slot while something is held of it.
+/// The queues of all documents. Each document keeps its slot as long as something is held of it.
 #[derive(Debug, Drop)]
 pub struct Documents {
     slots: IndexMap<DocKey, usize>,
@@ -39,12 +39,12 @@ impl Model for Documents {
     ghost invariant = { λ d. IsShelf d.slots.entries d.queues };
 }
 
-/// The first operation of a document came out.
+/// The first operation of a document, taken out.
 #[derive(Debug, Drop)]
 pub struct Taken {
     /// The operation.
     pub one: Kept,
-    /// The entry of the next, which is now the first, if there is one.
+    /// The entry of the next operation, which is now the first, if there is one.
     pub next: Option<Entry>,
 }
 
@@ -58,7 +58,7 @@ fn head_in(queues: &Slab<Queue>, slot: usize) -> Option<&Kept>
     }
 }
 
-// The first operation of the queue in a slot is sent, and its write is taken out.
+// Sends the first operation of the queue in a slot, and takes its write out.
 fn launch_in(queues: &mut Slab<Queue>, slot: usize, number: u64, place: u64) -> Option<Write>
     ensures sent { Sets queues.old queues.new slot
         (on_first (launch_one number place) (queue_in queues.old slot)) }
@@ -70,7 +70,7 @@ fn launch_in(queues: &mut Slab<Queue>, slot: usize, number: u64, place: u64) -> 
     }
 }
 
-// The first operation of the queue in a slot waits again.
+// Lets the first operation of the queue in a slot wait again.
 fn land_in(queues: &mut Slab<Queue>, slot: usize, due: u64, write: Write) -> Option<Entry>
     ensures landed { Sets queues.old queues.new slot
         (on_first (back_at due write) (queue_in queues.old slot)) }
@@ -85,7 +85,7 @@ fn land_in(queues: &mut Slab<Queue>, slot: usize, due: u64, write: Write) -> Opt
     }
 }
 
-// The first operation of the queue in a slot waits again under this cap.
+// Lets the first operation of the queue in a slot wait again under this cap.
 fn halve_in(
     queues: &mut Slab<Queue>,
     slot: usize,
@@ -106,7 +106,7 @@ fn halve_in(
     }
 }
 
-// One more operation at the end of the queue in a slot.
+// Adds an operation at the end of the queue in a slot.
 fn push_in(queues: &mut Slab<Queue>, slot: usize, one: Kept) -> Result<(), NotHeld>
     requires held { 0 < length (queue_in queues.old slot) }
     ensures ok { OnOk result (Sets queues.old queues.new slot
@@ -168,7 +168,7 @@ fn add(
     entry
 }
 
-// Room for one more document.
+// Makes room for one more document.
 fn reserve_one(
     slots: &mut IndexMap<DocKey, usize>,
     queues: &mut Slab<Queue>,
@@ -182,7 +182,7 @@ fn reserve_one(
     queues.reserve(1)
 }
 
-// Adds the document of an operation, of which nothing is held, with this one.
+// Adds the document of an operation, of which nothing is held yet.
 fn push_new(
     slots: &mut IndexMap<DocKey, usize>,
     queues: &mut Slab<Queue>,
@@ -211,7 +211,7 @@ fn push_new(
     Ok(add(slots, queues, key, one))
 }
 
-// Removes a document, of which one operation is held.
+// Removes a document with a single held operation.
 fn remove(
     slots: &mut IndexMap<DocKey, usize>,
     queues: &mut Slab<Queue>,
@@ -270,7 +270,7 @@ fn take_in(
 }
 
 impl Documents {
-    /// Nothing is held. It does not allocate.
+    /// Empty. It does not allocate.
     pub(crate) fn new(alloc: Global) -> Documents
         ensures { result ≡ record { queues = []; slots = [] } }
     {
@@ -280,7 +280,7 @@ impl Documents {
         }
     }
 
-    /// How many documents there are.
+    /// The number of documents.
     pub(crate) fn len(&self) -> usize
         ensures len { result ≡ length (keys_of self.now.queues) }
         ensures small { result < 2 ^ 63 }
@@ -297,7 +297,7 @@ impl Documents {
         self.slots.get(key).copied()
     }
 
-    /// What a batch reads of the first operation of the document in a slot.
+    /// What a batch needs to know of the first operation of the document in a slot.
     pub(crate) fn candidate(&self, slot: usize) -> Option<Candidate>
         ensures { (k : DocKey) (h : Kept) → slice_get (queue_of self.now.queues k) 0 ≡ Some h
             → slot_of self.now.slots k ≡ slot
@@ -319,8 +319,8 @@ impl Documents {
         }
     }
 
-    /// One more operation of its document, after those that are there, and its entry if it is the
-    /// first. Every allocation comes first.
+    /// Adds an operation of its document after those that are there, and returns its entry if it is
+    /// the first. All allocations come first.
     pub(crate) fn push(&mut self, one: Kept) -> Result<Option<Entry>, NotHeld>
         ensures ok { OnOk result (Changes self.old.queues self.new.queues one.key
             (queue_of self.old.queues one.key ++ one ∷ [])) }
@@ -344,7 +344,7 @@ impl Documents {
         }
     }
 
-    /// The first operation of the document in a slot is sent, and its write is taken out.
+    /// Sends the first operation of the document in a slot, and takes its write out.
     pub(crate) fn launch(&mut self, slot: usize, number: u64, place: u64) -> Option<Write>
         ensures sent { (k : DocKey) (h : Kept) → slice_get (queue_of self.old.queues k) 0 ≡ Some h
             → slot_of self.old.slots k ≡ slot
@@ -359,7 +359,8 @@ impl Documents {
         launch_in(&mut self.queues, slot, number, place)
     }
 
-    /// The first operation of a write's document waits again. Its entry, if there is one.
+    /// Lets the first operation of a write's document wait again, and returns its entry, if there
+    /// is one.
     pub(crate) fn land(&mut self, due: u64, write: Write) -> Option<Entry>
         ensures landed { Changes self.old.queues self.new.queues write.key
             (on_first (back_at due write) (queue_of self.old.queues write.key)) }
@@ -375,8 +376,8 @@ impl Documents {
         }
     }
 
-    /// The first operation of a write's document waits again under this cap. Its entry, if there is
-    /// one.
+    /// Lets the first operation of a write's document wait again under this cap, and returns its
+    /// entry, if there is one.
     pub(crate) fn halve(&mut self, due: u64, cap: u32, write: Write) -> Option<Entry>
         ensures halved { Changes self.old.queues self.new.queues write.key
             (on_first (halved_at due cap write) (queue_of self.old.queues write.key)) }

@@ -15,14 +15,14 @@ use relay_delay::{DelayQueue, Entry};
 use std::alloc::{AllocError, Global};
 use std::marker::Model;
 
-/// The operation comes back: an allocation failed.
+/// An allocation failed; the operation is returned.
 #[derive(Debug, Drop)]
 pub struct NotHeld {
     /// The operation.
     pub one: Kept,
 }
 
-/// What is held, and the clock. Contracts see what is held as a list in rising version.
+/// What is held, and the clock. Contracts see what is held as a list in ascending order of version.
 #[derive(Debug, Drop)]
 pub struct Held {
     documents: Documents,
@@ -42,14 +42,14 @@ impl Model for Held {
     ghost invariant = { λ h. IsHeld h.documents h.count h.waiting };
 }
 
-// A tick later, at most `u64::MAX`.
+// One tick later, at most `u64::MAX`.
 fn one_later(clock: u64) -> u64
     ensures { result ≡ later clock }
 {
     if clock < u64::MAX { clock + 1 } else { clock }
 }
 
-// The first operation of a document waits, if there is one. There is room for it.
+// Lets the first operation of a document wait, if there is one. There is room for it.
 fn wait(waiting: &mut DelayQueue, entry: Option<Entry>)
     requires { IfSome entry (λ e. (length waiting.old.entries < waiting.old.room)
         × (has_version e.version waiting.old.entries ≡ false)) }
@@ -61,7 +61,7 @@ fn wait(waiting: &mut DelayQueue, entry: Option<Entry>)
 }
 
 impl Held {
-    /// Nothing is held, and the clock is 0. It does not allocate.
+    /// Nothing held, with the clock at 0. It does not allocate.
     pub fn new(alloc: Global) -> Held
         ensures { result ≡ record { list = []; clock = 0 } }
     {
@@ -86,7 +86,7 @@ impl Held {
         self.waiting.tick(one_later(self.waiting.clock()));
     }
 
-    /// How many operations are held.
+    /// The number of operations held.
     pub fn len(&self) -> usize
         ensures len { result ≡ length self.now.list }
         ensures behind { OnlyFirstsFly self.now.list }
@@ -94,7 +94,7 @@ impl Held {
         self.count
     }
 
-    /// How many documents the held operations are of.
+    /// The number of documents with held operations.
     pub fn documents(&self) -> usize
         ensures documents { result ≡ distinct (documents self.now.list) }
         ensures few { length (candidates_kept self.now.list self.now.clock) ≤ result }
@@ -111,8 +111,8 @@ impl Held {
         self.documents.first(key)
     }
 
-    /// Holds one more operation, whose version is above all others. If an allocation fails, the
-    /// operation comes back and nothing has changed.
+    /// Holds one more operation, whose version must be above all others. If an allocation fails,
+    /// the operation is returned and nothing has changed.
     pub fn push(&mut self, one: Kept) -> Result<(), NotHeld>
         requires above { AllUnder one.version self.old.list }
         requires waits { one.flies ≡ None }
@@ -135,9 +135,10 @@ impl Held {
         }
     }
 
-    /// The operation at a place of those that may be sent, in rising version: each is the first of
-    /// its document, waits and is due. Nothing that contracts see changes. `AllocError`: an
-    /// allocation failed, and there is an operation at that place. Ask for 0, 1, 2, ..
+    /// The operation at a place of those that may be sent, in ascending order of version: each is
+    /// the first of its document, waits and is due. Nothing that contracts see changes.
+    /// `AllocError`: an allocation failed, and there is an operation at that place. Ask for 0, 1,
+    /// 2, .. in turn.
     pub fn candidate(&mut self, at: usize) -> Result<Option<Candidate>, AllocError>
         ensures found { IfOk result (λ c. c ≡ option_map candidate_of
             (slice_get (candidates_kept self.old.list self.old.clock) at)) }
@@ -150,7 +151,7 @@ impl Held {
         Ok(self.documents.candidate(entry.slot))
     }
 
-    /// The first operation that may be sent is sent, and its write is taken out.
+    /// Sends the first operation that may be sent, and takes its write out.
     pub fn launch(&mut self, number: u64, place: u64) -> Option<Write>
         requires some { 0 < length (candidates_kept self.old.list self.old.clock) }
         ensures list { (h : Kept)
@@ -167,8 +168,8 @@ impl Held {
         }
     }
 
-    /// The first operation of a write's document, which flies if one is held, waits again. It does
-    /// not allocate.
+    /// Lets the first operation of a write's document wait again, which must be in flight if one is
+    /// held. It does not allocate.
     pub fn land(&mut self, due: u64, write: Write)
         requires flies { (h : Kept) → first_of write.key self.old.list ≡ Some h
             → waits_here h.flies ≡ false }
@@ -179,8 +180,8 @@ impl Held {
         wait(&mut self.waiting, entry);
     }
 
-    /// The first operation of a write's document, which flies if one is held, waits again under
-    /// this cap, and its attempt is given back. It does not allocate.
+    /// Lets the first operation of a write's document wait again under this cap, and gives its
+    /// attempt back; it must be in flight if one is held. It does not allocate.
     pub fn halve(&mut self, due: u64, cap: u32, write: Write)
         requires flies { (h : Kept) → first_of write.key self.old.list ≡ Some h
             → waits_here h.flies ≡ false }
@@ -192,8 +193,8 @@ impl Held {
         wait(&mut self.waiting, entry);
     }
 
-    /// Takes out the first operation of a document, which flies if one is held. It does not
-    /// allocate.
+    /// Takes out the first operation of a document, which must be in flight if one is held. It does
+    /// not allocate.
     pub fn take(&mut self, key: &DocKey) -> Option<Kept>
         requires flies { (h : Kept) → first_of key.now self.old.list ≡ Some h
             → waits_here h.flies ≡ false }
@@ -211,8 +212,8 @@ impl Held {
         }
     }
 
-    /// How many ticks pass until the first operation is due, of those that wait and are the first of
-    /// their document; 0 if one is due now.
+    /// The number of ticks until the first operation is due, of those that wait and are the first
+    /// of their document; 0 if one is due now.
     pub fn due_in(&self) -> Option<u64>
         ensures { result ≡ option_map (λ due. due - self.now.clock)
             (first_due_kept (filter (is_eligible_kept self.now.list) self.now.list)) }

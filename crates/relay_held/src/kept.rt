@@ -26,15 +26,15 @@ pub struct Kept {
     pub version: u64,
     /// The length of its lines, in bytes.
     pub bytes: u64,
-    /// The most operations of a request that carries it, unless it is alone there.
+    /// The maximum number of operations in a request that carries it, unless it is alone there.
     pub cap: u32,
     /// The clock when it was taken, in ticks.
     pub taken_at: u64,
     /// The first tick at which it may be sent.
     pub due: u64,
-    /// How many requests carried it.
+    /// The number of requests that carried it.
     pub sends: u32,
-    /// How many of them count as attempts.
+    /// The number of those that count as attempts.
     pub attempts: u32,
     /// Its place in a request, while it is in flight.
     pub flies: Option<Spot>,
@@ -42,7 +42,7 @@ pub struct Kept {
     pub write: Option<Write>,
 }
 
-/// What a batch reads of an operation that may be sent.
+/// What a batch needs to know of an operation that may be sent.
 #[derive(Clone, Copy, Debug, PartialEq, Eq)]
 pub struct Candidate {
     /// Its name.
@@ -51,13 +51,12 @@ pub struct Candidate {
     pub version: u64,
     /// The length of its lines, in bytes.
     pub bytes: u64,
-    /// The most operations of a request that carries it, unless it is alone there.
+    /// The maximum number of operations in a request that carries it, unless it is alone there.
     pub cap: u32,
     /// The clock when it was taken, in ticks.
     pub taken_at: u64,
 }
 
-// What a batch reads of it.
 pub(crate) fn candidate_of(one: &Kept) -> Candidate
     ensures { result ≡ candidate_of one.now }
 {

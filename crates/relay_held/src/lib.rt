@@ -1,9 +1,9 @@
-//! What a lane holds: a queue per document of its held operations, oldest first. Only the first
+//! What a lane holds: its operations in a queue per document, oldest first. Only the first
 //! operation of a queue may be sent. Contracts see one plain list, in the order in which the
-//! operations were taken. It depends on `relay_action` and `relay_results`.
+//! operations were taken. It depends on `relay_action`, `relay_results` and `relay_delay`.
 //!
-//! It carries this promise: each call changes that list exactly as it says, and no call looks at
-//! more than the first operation of a document.
+//! What is proved: each call changes that list exactly as it says, and no call looks at more than
+//! the first operation of a document.
 #![tactic(auto)]
 
 mod documents;

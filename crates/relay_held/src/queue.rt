@@ -13,7 +13,7 @@ use std::collections::VecDeque;
 use std::marker::Model;
 use std::mem::replace;
 
-/// The held operations of one document, at least one, in rising version.
+/// The held operations of one document, at least one, in ascending order of version.
 #[derive(Debug, Drop)]
 pub struct Queue {
     head: Kept,
@@ -67,7 +67,7 @@ fn halve_one(one: &mut Kept, due: u64, cap: u32, write: Write)
 }
 
 impl Queue {
-    /// The queue of one operation. It does not allocate.
+    /// A queue of one operation. It does not allocate.
     pub(crate) fn of(alloc: Global, one: Kept) -> Queue
         ensures { result ≡ one ∷ [] }
     {
@@ -107,7 +107,7 @@ impl Queue {
         }
     }
 
-    /// The first is sent, and its write is taken out.
+    /// Sends the first operation, and takes its write out.
     pub(crate) fn launch(&mut self, number: u64, place: u64) -> Option<Write>
         ensures sent { self.new ≡ on_first (launch_one number place) self.old }
         ensures write { IfSome (slice_get self.old 0) (λ h. result ≡ h.write) }
@@ -115,21 +115,21 @@ impl Queue {
         send_one(&mut self.head, number, place)
     }
 
-    /// The first waits again.
+    /// Lets the first operation wait again.
     pub(crate) fn land(&mut self, due: u64, write: Write)
         ensures { self.new ≡ on_first (back_at due write) self.old }
     {
         land_one(&mut self.head, due, write);
     }
 
-    /// The first waits again under this cap, and its attempt is given back.
+    /// Lets the first operation wait again under this cap, and gives its attempt back.
     pub(crate) fn halve(&mut self, due: u64, cap: u32, write: Write)
         ensures { self.new ≡ on_first (halved_at due cap write) self.old }
     {
         halve_one(&mut self.head, due, cap, write);
     }
 
-    /// Takes the first out, unless it is the last one.
+    /// Takes the first operation out, unless it is the only one.
     pub(crate) fn next(&mut self) -> Option<Kept>
         ensures some { IfSome result (λ h. self.old ≡ h ∷ self.new) }
         ensures left { 0 < length self.new }

@@ -1,4 +1,4 @@
--- What a desk says of its versions is one fact, however it is shown.
+-- What a desk says of its versions is one fact, in whatever way it is shown.
 use Rattle.std.specs.Prelude.{ℕ, List, [], ◌∷◌}
 use Rattle.std.specs.Coded.{le_prop}
 use Rattle.relay_held.specs.declared.kept.Kept.{Kept}

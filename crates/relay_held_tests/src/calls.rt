@@ -4,14 +4,14 @@ use relay_held::Spot;
 use std::alloc::Global;
 use std::test::Fail;
 
-// The versions of the first two operations that may be sent, and 0 if there is none.
+// The versions of the first two operations that may be sent, or 0 if there is none.
 fn offered(desk: &mut Desk) -> [u64; 2] {
     let first = candidate(desk, 0).map_or(0, |one| one.version);
     let second = candidate(desk, 1).map_or(0, |one| one.version);
     [first, second]
 }
 
-// What becomes of an operation once it is sent.
+// What happens to an operation after it is sent.
 #[derive(Clone, Copy)]
 enum After {
     Flies,
@@ -28,7 +28,7 @@ fn ticks_to(desk: &mut Desk, clock: u64) {
     }
 }
 
-// Sends the first operation that may be sent at a tick. The version of its write.
+// Sends the first operation that may be sent at a tick, and returns the version of its write.
 fn sends(desk: &mut Desk, clock: u64, after: After) -> Result<u64, Fail> {
     ticks_to(desk, clock);
     let Some(write) = launch(desk, 7, 2) else {
@@ -46,8 +46,8 @@ fn sends(desk: &mut Desk, clock: u64, after: After) -> Result<u64, Fail> {
     Ok(version)
 }
 
-// Of the first operation of a document: version, due tick, cap, sends, attempts, and where it
-// flies.
+// The first operation of a document: version, due tick, cap, sends, attempts, and its place in
+// flight.
 fn first_of(
     alloc: Global,
     desk: &Desk,
@@ -67,7 +67,7 @@ fn first_of(
     }
 }
 
-// Sends what may be sent, and takes the first operation of a document out.
+// Sends what may be sent, and takes out the first operation of a document.
 fn takes(alloc: Global, desk: &mut Desk, document: u64) -> Result<Option<u64>, Fail> {
     let _ = launch(desk, 0, 0);
     let key = key_of(alloc, document).ok_or("no key")?;

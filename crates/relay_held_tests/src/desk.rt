@@ -9,7 +9,7 @@ use relay_action::{Action, ActionKind, DocKey, OpName, Write};
 use relay_held::{Candidate, Held, Kept, NotHeld};
 use std::alloc::Global;
 
-/// What is held, below the next version.
+/// What is held, all below the next version.
 #[derive(Drop)]
 pub struct Desk {
     pub held: Held,
@@ -25,13 +25,13 @@ pub fn empty_desk(alloc: Global) -> Desk {
     }
 }
 
-/// The key of a document. `None`: out of memory.
+/// The key of a document. `None`: allocation failed.
 pub fn key_of(alloc: Global, document: u64) -> Option<DocKey> {
     let id = format!(in alloc; "{document}").ok()?;
     DocKey::new(alloc, "b", id.as_str()).ok()
 }
 
-// A delete of a document that waits. `None`: out of memory.
+// A delete of a document that waits. `None`: allocation failed.
 fn kept_of(alloc: Global, document: u64, version: u64, due: u64) -> Option<Kept>
     ensures { IfSome result (λ k. (k.version ≡ version) × (k.flies ≡ None)) }
 {
@@ -59,8 +59,8 @@ fn kept_of(alloc: Global, document: u64, version: u64, due: u64) -> Option<Kept>
     })
 }
 
-/// Holds a delete of a document under the next version. It tries once more if memory is refused.
-/// Whether it is held.
+/// Holds a delete of a document with the next version, and returns whether it is held. It tries
+/// once more if an allocation fails.
 pub fn push(alloc: Global, desk: &mut Desk, document: u64, due: u64) -> bool {
     if desk.next == u64::MAX || desk.held.len() > 1_000 {
         return false;
@@ -75,12 +75,12 @@ pub fn push(alloc: Global, desk: &mut Desk, document: u64, due: u64) -> bool {
     }
 }
 
-/// A tick passes.
+/// Lets one tick pass.
 pub fn tick(desk: &mut Desk) {
     desk.held.tick();
 }
 
-/// The operation at a place of those that may be sent. It asks once more if memory is refused.
+/// The operation at a place of those that may be sent. It asks once more if an allocation fails.
 pub fn candidate(desk: &mut Desk, at: usize) -> Option<Candidate> {
     match desk.held.candidate(at) {
         Ok(one) => one,
@@ -106,8 +106,8 @@ fn waits(held: &Held, key: &DocKey) -> bool
     }
 }
 
-/// The first operation of the document of a write, which flies, waits again. `false` if it waits
-/// already.
+/// Lets the first operation of a write's document, which is in flight, wait again. `false` if it
+/// waits already.
 pub fn land(desk: &mut Desk, due: u64, write: Write) -> bool {
     if waits(&desk.held, &write.key) {
         return false;
@@ -125,7 +125,8 @@ pub fn halve(desk: &mut Desk, due: u64, cap: u32, write: Write) -> bool {
     true
 }
 
-/// Takes out the first operation of a document, which flies. `None` if it waits, or none is held.
+/// Takes out the first operation of a document, which is in flight. `None` if it waits, or none is
+/// held.
 pub fn take(desk: &mut Desk, key: &DocKey) -> Option<Kept> {
     if waits(&desk.held, key) {
         return None;

@@ -1,4 +1,4 @@
-//! Tests of relay_held.
+//! The tests of `relay_held`.
 #![tactic(auto)]
 
 #[cfg(test)]

@@ -1,4 +1,4 @@
-//! The same operations as a plain list in the order of their versions.
+//! The same operations as a plain list in ascending order of version.
 ghost use Rattle.std.specs.Prelude.{◌≤◌, ◌<◌, length};
 
 use relay_held::{Candidate, Kept, Spot};
@@ -14,7 +14,7 @@ pub struct Row {
     pub sends: u32,
     pub attempts: u32,
     pub flies: Option<Spot>,
-    /// The version of its write, while the write is here.
+    /// The version of its write, if the write is here.
     pub write: Option<u64>,
 }
 
@@ -76,7 +76,7 @@ impl Row {
             && one.write.as_ref().map(|write| write.version) == self.write
     }
 
-    /// Whether this is what a batch reads of it.
+    /// Whether this is what a batch needs to know of it.
     pub fn offers(self, one: Candidate) -> bool {
         one.version == self.version
             && one.name.number == self.version
@@ -105,7 +105,7 @@ fn is_waiting_first(rows: &[Row], i: usize) -> bool
     rows[i].flies.is_none() && first_at(rows, rows[i].document) == i
 }
 
-/// How many documents they are of.
+/// How many documents they have.
 pub fn count_documents(rows: &[Row]) -> usize {
     let mut count = 0usize;
     for i in 0..rows.len() {
@@ -116,7 +116,7 @@ pub fn count_documents(rows: &[Row]) -> usize {
     count
 }
 
-// The least due tick of the operations that wait and of which nothing older is held.
+// The lowest due tick of the operations that wait and of which nothing older is held.
 fn first_due(rows: &[Row]) -> Option<u64> {
     let mut least = None;
     for i in 0..rows.len() {
@@ -138,8 +138,8 @@ pub fn due_in(rows: &[Row], clock: u64) -> Option<u64> {
     first_due(rows).map(|due| ticks_until(due, clock))
 }
 
-/// The place of the operation at a place of those that may be sent; the length of the list if there
-/// are fewer.
+/// The position of the operation at a place of those that may be sent; the length of the list if
+/// there are fewer.
 pub fn candidate_at(rows: &[Row], at: usize, clock: u64) -> usize
     ensures { result ≤ length rows.now }
 {

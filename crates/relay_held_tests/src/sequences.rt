@@ -1,4 +1,4 @@
-//! Calls drawn by a seed, beside the plain list.
+//! Random calls, compared with the plain list.
 ghost use Rattle.std.specs.Prelude.{◌<◌};
 
 use crate::desk::{Desk, candidate, empty_desk, halve, key_of, land, launch, push, take, tick};
@@ -7,17 +7,17 @@ use relay_action::{DocKey, Write};
 use relay_held::{Held, Spot};
 use std::alloc::Global;
 
-// How many documents there are.
+// The number of documents.
 const DOCUMENTS: u64 = 5;
 
-// A write that flies, and its document.
+// A write in flight, and its document.
 #[derive(Drop)]
 struct Flown {
     document: u64,
     write: Write,
 }
 
-// Both, what flies, and what comes next.
+// Both, what is in flight, and the random number.
 #[derive(Drop)]
 struct Game {
     alloc: Global,
@@ -47,7 +47,7 @@ fn pushes(game: &mut Game) -> bool {
         && game.rows.push(Row::new(document, version, due)).is_ok()
 }
 
-// The first of a document was sent with a write, as the plain list says.
+// Sends the first operation of a document with a write, in the plain list.
 fn is_sent(game: &mut Game, document: u64, spot: Spot, write: Write) -> bool {
     let i = first_at(&game.rows, document);
     if i >= game.rows.len() || game.rows[i].write != Some(write.version) {
@@ -57,13 +57,13 @@ fn is_sent(game: &mut Game, document: u64, spot: Spot, write: Write) -> bool {
     game.flown.push(Flown { document, write }).is_ok()
 }
 
-// A tick passes in both.
+// Lets a tick pass in both.
 fn ticks(game: &mut Game) {
     tick(&mut game.desk);
     game.clock = game.clock.saturating_add(1);
 }
 
-// The first that may be sent is sent, if there is one.
+// Sends the first operation that may be sent, if there is one.
 fn sends(game: &mut Game) -> bool {
     let spot = Spot {
         request: draw(&mut game.seed, 100),
@@ -93,7 +93,7 @@ fn offers(game: &mut Game, count: usize) -> bool {
     true
 }
 
-// Some of those that may be sent are looked at, and the first one or two are sent.
+// Looks at some of those that may be sent, and sends the first one or two.
 fn launches(game: &mut Game) -> bool {
     let looks = draw(&mut game.seed, DOCUMENTS + 2) as usize;
     if !offers(game, looks) || !sends(game) {
@@ -102,7 +102,8 @@ fn launches(game: &mut Game) -> bool {
     draw(&mut game.seed, 2) == 0 || sends(game)
 }
 
-// A write that flew comes back; the first of its document waits again with it, if that flies.
+// Returns a write that was in flight; the first operation of its document waits again with it, if
+// that is in flight.
 fn lands(game: &mut Game, halves: bool) -> bool {
     if game.flown.is_empty() {
         return true;
@@ -130,7 +131,7 @@ fn lands(game: &mut Game, halves: bool) -> bool {
     landed != waits
 }
 
-// The first of a document is taken out of both, if it flies.
+// Takes the first operation of a document out of both, if it is in flight.
 fn takes_of(game: &mut Game, document: u64, key: &DocKey) -> bool {
     let at = first_at(&game.rows, document);
     if at < game.rows.len() && game.rows[at].flies.is_none() {
@@ -190,7 +191,7 @@ fn steps(game: &mut Game) -> bool {
     }
 }
 
-// All that flies is taken out.
+// Takes out everything in flight.
 fn takes_all(game: &mut Game) -> bool {
     for document in 0..DOCUMENTS {
         if !takes(game, document) {
@@ -200,7 +201,7 @@ fn takes_all(game: &mut Game) -> bool {
     true
 }
 
-// All that is held is sent and taken out.
+// Sends and takes out everything that is held.
 fn empties(game: &mut Game) -> bool {
     for _ in 0..100 {
         if game.rows.is_empty() {
@@ -214,7 +215,7 @@ fn empties(game: &mut Game) -> bool {
     false
 }
 
-// Forty calls by a seed, and then what is left.
+// Forty calls from a seed, and then what is left.
 fn plays(alloc: Global, seed: u64) -> bool {
     let mut game = Game {
         alloc,

@@ -1,4 +1,4 @@
--- What is promised of a lane that works on a wire which describes what stands outside.
+-- What is promised of a lane that works on a wire which describes the outside.
 use Rattle.std.specs.Prelude.{◌≡◌, List, [], Bool, IsTrue}
 use Rattle.relay_action.specs.declared.operation.Op.{Op}
 use Rattle.relay_results.specs.Outside.{Outside, Continues}
@@ -7,8 +7,9 @@ use Rattle.relay_delivery.specs.Delivery.{HasDistinctNames, IsSound, IsComplete,
 use Rattle.relay_core.specs.State.{State}
 use Rattle.relay_core.specs.Ties.{Fits}
 
--- Delivery is sound, and if nothing is held it is complete, by the same attribution, if no two operations that the lane took
--- have one name; and what the lane counts as applied, and as applied already, is what the answers to its requests say.
+-- Delivery is sound, and complete by the same attribution if nothing is held, provided that no two operations that
+-- the lane took have the same name; and what the lane counts as applied, and as already applied, is what the answers
+-- to its requests say.
 pub record IsDelivered (s : State) (taken : List Op) (o : Outside) : Type 0 where
   pub sound : HasDistinctNames taken → IsSound s.core.config taken s.core.reports o (attributed s.core.config taken o)
   pub complete : s.core.held ≡ [] → HasDistinctNames taken → IsComplete taken s.core.reports (attributed s.core.config taken o)
@@ -24,7 +25,7 @@ pub record GoesOn {S : Type 0} (fits : S → Outside → Type 0) (wire : S) (s :
   pub lane : Fits s taken outside
   pub delivered : IsDelivered s taken outside
 
--- so it is for each outside that fitted the wire and the lane before, where the wire describes it
+-- this holds for each outside that fitted the wire and the lane before, if the wire describes it
 abbrev pub Delivers : {S : Type 0} → Bool → (S → Outside → Type 0) → S → S → State → State → Type 0
 Delivers describes fits old new s t =
     IsTrue describes → (taken : List Op) (o : Outside) → fits old o → Fits s taken o → GoesOn fits new t taken o

@@ -9,7 +9,7 @@ use Rattle.relay_lane.specs.Turns.{Turn, Worked, Stays, requests, ticks, sends_l
 
 -- ---- what is out
 
--- nothing is out of a fresh lane, and a message that is taken changes nothing of what is out
+-- nothing of a fresh lane is outstanding, and taking a message does not change what is
 abbrev pub NothingIsOut : Type 0
 NothingIsOut = (c : RelayConfig) → out_of (fresh c) ≡ []
 
@@ -27,13 +27,13 @@ pub record Keeps (sent passed : ℕ) (s t : State) : Type 0 where
 abbrev pub TurnsKeep : Type 0
 TurnsKeep = (going : Turn → State → Bool) (s t : State) → (w : Worked going s t) → Keeps (requests w.turns) (ticks w.turns) s t
 
--- a call that is made again goes on from where the first one stopped
+-- a call that is repeated goes on from where the first one stopped
 abbrev pub WorksOn : Type 0
 WorksOn = (going : Turn → State → Bool) (s t u : State) → Worked going s t → Worked going t u → Worked going s u
 
 -- ---- the bound
 
--- it may send at most as many requests as it holds operations, times the attempts and the 14 halvings of a cap
+-- it may send at most `attempts + 14` requests per operation held, 14 for the halvings of a cap
 abbrev pub LeftAtMost : Type 0
 LeftAtMost = (s : State) → IsLane s → sends_left s ≤ length s.core.held * (s.config.attempts + 14)
 

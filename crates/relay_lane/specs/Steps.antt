@@ -1,4 +1,4 @@
--- What the private functions do.
+-- The steps of the private functions.
 use Rattle.std.specs.Prelude.{◌≡◌, ◌≢◌, ◌⊎◌, ◌+◌, ◌≤◌, ◌<◌, ℕ, Bool, true, false, Some}
 use Rattle.relay_results.specs.Words.{Mem}
 use Rattle.relay_results.specs.Outside.{Answer, Unanswered}
@@ -15,11 +15,11 @@ Asked false s t = t ≡ s
 abbrev pub Settled : State → State → Type 0
 Settled s t = (a : Answer) × (a ≢ Unanswered) × (t ≡ after_answer a s)
 
--- whatever is due of it is sent: the lane is closed, or all that it holds was flushed
+-- whatever is due is sent: the lane is closed, or everything that it holds was flushed
 abbrev pub IsPressed : State → Type 0
 IsPressed s = (e : Entry) → Mem e s.core.held → (all_closed s ≡ true) ⊎ (e.held.version ≤ s.mark)
 
--- the first operation that may be sent is due after so many ticks, at least one, and the clock does not end before
+-- the first operation that may be sent is due after this many ticks, at least one, and the clock does not end before
 pub record IsDueLater (s : State) : Type 0 where
   pub ticks : ℕ
   pub due : due_in s ≡ Some ticks

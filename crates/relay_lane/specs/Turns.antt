@@ -1,4 +1,4 @@
--- What a lane does that works on a wire, turn by turn, and how many requests it may send.
+-- What a lane does at work on a wire, turn by turn, and how many requests it may send.
 use Rattle.std.specs.Prelude.{◌≡◌, ◌≢◌, ◌+◌, ◌-◌, ◌<◌, ℕ, List, [], ◌∷◌, Option, Some, None, unwrap_or, is_some, ◌≤◌, Bool, true, false, not, ◌&&◌, nat_lt, nat_le, length, if◌then◌else◌}
 use Rattle.relay_results.specs.Outside.{Answer, Unanswered, Lost}
 use Rattle.relay_delivery.specs.Bound.{halvings}
@@ -8,7 +8,7 @@ use Rattle.relay_core.specs.State.{State, last_tick, next_batch, after_request, 
 
 -- ---- turns
 
--- its next request is sent; or it cannot be sent, and counts as lost; the oldest request in flight is answered; or so many
+-- its next request is sent; or it cannot be sent, and counts as lost; the oldest request in flight is answered; or
 -- ticks pass
 pub data Turn : Type 0 where
   Sends : Turn
@@ -34,8 +34,8 @@ after_turn Fails s = after_fail s
 after_turn (Settles a) s = after_answer a s
 after_turn (Pauses n) s = after_ticks n s
 
--- where a batch is to be sent it is sent, where a request is in flight it is answered, and where neither can be, it pauses
--- until the first operation is due
+-- if a batch is to be sent it is sent, if a request is in flight it is answered, and if neither is possible, it
+-- pauses until the first operation is due
 abbrev pub MayTurn : Turn → State → Type 0
 MayTurn Sends s = is_some (next_batch s) ≡ true
 MayTurn Fails s = is_some (next_batch s) ≡ true
@@ -47,12 +47,12 @@ abbrev pub after_turns : List Turn → State → State
 after_turns [] s = s
 after_turns (t ∷ ts) s = after_turns ts (after_turn t s)
 
--- each of them is taken where this test holds
+-- each of them is taken if this test holds
 abbrev pub AllMayTurn : (Turn → State → Bool) → List Turn → State → Type 0
 AllMayTurn going [] s = Unit {0}
 AllMayTurn going (t ∷ ts) s = (going t s ≡ true) × MayTurn t s × AllMayTurn going ts (after_turn t s)
 
--- the lane has worked so: nothing but these turns changed it
+-- the lane has worked like this: only these turns changed it
 pub record Worked (going : Turn → State → Bool) (old new : State) : Type 0 where
   pub turns : List Turn
   pub may : AllMayTurn going turns old
@@ -64,14 +64,14 @@ pub record Stays (old new : State) : Type 0 where
   pub closed : new.closed ≡ old.closed
   pub taken : new.core.taken ≡ old.core.taken
 
--- how many requests a turn sends, or tries to send
+-- the number of requests that a turn sends, or tries to send
 abbrev pub sends_in : Turn → ℕ
 sends_in Sends = 1
 sends_in Fails = 1
 sends_in (Settles a) = 0
 sends_in (Pauses n) = 0
 
--- how many ticks pass in it
+-- the number of ticks that pass in it
 abbrev pub ticks_in : Turn → ℕ
 ticks_in Sends = 0
 ticks_in Fails = 0
@@ -86,7 +86,7 @@ abbrev pub ticks : List Turn → ℕ
 ticks [] = 0
 ticks (t ∷ ts) = ticks_in t + ticks ts
 
--- what a pace shows went up by so many ticks, where it shows a number and that does not end
+-- what a pace shows rose by this many ticks, if it shows a number and that does not end
 abbrev pub Paused : ℕ → Option ℕ → Option ℕ → Type 0
 Paused n old new = (p : ℕ) → old ≡ Some p → p + n ≤ last_tick → new ≡ Some (p + n)
 
@@ -96,7 +96,7 @@ Paused n old new = (p : ℕ) → old ≡ Some p → p + n ≤ last_tick → new 
 abbrev pub is_crowded : State → Bool
 is_crowded s = nat_le s.config.in_flight (length s.core.flying)
 
--- whatever is ready is sent, an answer is waited for only where no place is free, and no tick passes
+-- whatever is ready is sent, an answer is waited for only if no place is free, and no tick passes
 abbrev pub pumps : Turn → State → Bool
 pumps Sends s = true
 pumps Fails s = true
@@ -117,14 +117,14 @@ collects Fails s = false
 collects (Settles a) s = true
 collects (Pauses n) s = false
 
--- an answer is waited for only where nothing is to be sent
+-- an answer is waited for only if nothing is to be sent
 abbrev pub sends_first : Turn → State → Bool
 sends_first Sends s = true
 sends_first Fails s = true
 sends_first (Settles a) s = not (is_some (next_batch s))
 sends_first (Pauses n) s = true
 
--- as long as it holds so many operations, or more
+-- as long as it holds this many operations, or more
 abbrev pub holds : ℕ → Turn → State → Bool
 holds least t s = nat_le least (length s.core.held) && sends_first t s
 
@@ -136,7 +136,7 @@ is_full t s = holds s.config.max_held t s
 
 -- ---- how many requests it may send
 
--- One operation that waits may go into as many requests as it has attempts left, and into one at least; one that flies,
+-- An operation that waits may go into as many requests as it has attempts left, and into at least one; one in flight,
 -- into as many as it has left.
 abbrev pub sends_of : ℕ → ℕ → Option Place → ℕ
 sends_of most attempts None = if nat_lt attempts most then most - attempts else 1

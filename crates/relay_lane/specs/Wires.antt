@@ -1,4 +1,4 @@
--- What a wire takes and answers, and how it shows what stands outside.
+-- What a wire takes and returns, and how it shows the outside.
 use Rattle.std.specs.Prelude.{◌≡◌, ◌≢◌, ℕ, List, [], ◌∷◌, Bool, IsTrue, Result, Ok, Err, length, ◌==◌, if◌then◌else◌}
 use Rattle.relay_action.specs.declared.write.Write.{Write}
 use Rattle.relay_results.specs.Numbers.{from_one, from_zero}
@@ -9,7 +9,7 @@ use Rattle.relay_lane.specs.declared.wire.WireFault.{WireFault}
 
 -- ---- what is answered
 
--- what the lane is given for a request: each fault is a loss
+-- what the lane is told for a request: each fault is a loss
 abbrev pub answer_of : Result WireReply WireFault → Answer
 answer_of (Ok (reply.Items outcomes)) = Items outcomes.items
 answer_of (Ok (reply.Whole status)) = Whole status
@@ -59,11 +59,12 @@ pub record ExchangesOn (number : ℕ) (ws : List Write) (a : Answer) (o p : Outs
 
 -- ---- how a wire shows it
 
--- so many requests were sent that this is the number of the next
+-- so many requests were sent that this is the number of the next one
 abbrev pub IsNext : ℕ → Outside → Type 0
 IsNext number o = number ≡ from_one (length o.requests)
 
--- where the wire describes the outside: for each outside that fitted before the call one fits after it to which it leads
+-- if the wire describes the outside: for each outside that fitted before the call, one fits after it to which it
+-- leads
 abbrev pub Shows : {S : Type 0} → Bool → (S → Outside → Type 0) → S → S → (Outside → Outside → Type 0) → Type 0
 Shows describes fits old new R = IsTrue describes → (o : Outside) → fits old o → (p : Outside) × fits new p × R o p
 

@@ -13,10 +13,10 @@ use relay_core::Lane;
 use std::alloc::AllocError;
 
 /// Sends every request that is ready, and returns how many. If all places in flight are taken, it
-/// waits for the answer to the oldest request and settles it, so that the next one can go. No tick
-/// passes. What is still in flight at the end is settled by a later call, or by [`collect`].
-/// `AllocError`: the allocation of a request failed; the lane is as the turns before left it, and
-/// the call may be repeated.
+/// waits for the answer to the oldest request and settles it, so that the next one can be sent. No
+/// tick passes. What is still in flight at the end is settled by a later call, or by [`collect`].
+/// `AllocError`: allocating a request failed; the lane is as the turns before left it, and the call
+/// may be repeated.
 pub fn pump<W: Wire>(lane: &mut Lane, wire: &mut W) -> Result<u64, AllocError>
     requires out { W.out wire.old ≡ out_of lane.old.state }
     ensures requests { IfOk result (λ n. lane.new.state.core.requests ≡ lane.old.state.core.requests + n) }
@@ -96,7 +96,7 @@ pub fn settle_next<W: Wire>(lane: &mut Lane, wire: &mut W) -> bool
     true
 }
 
-/// Waits for the answer to each request in flight, the oldest first, and settles it. Returns how
+/// Waits for the answer to each request in flight, the oldest first, settles it, and returns how
 /// many there were. Nothing is sent, no tick passes, and the lane allocates nothing.
 pub fn collect<W: Wire>(lane: &mut Lane, wire: &mut W) -> u64
     requires out { W.out wire.old ≡ out_of lane.old.state }
@@ -156,9 +156,8 @@ fn work<W: Wire, P: Pace>(
 
 /// Flushes, and then sends, repeats and settles until fewer than `max_held` operations are held. If
 /// nothing is ready it settles the oldest request in flight; if none is in flight either, it pauses
-/// and ticks, as [`drain`] does. So a lane that has room is only flushed. `AllocError`: the
-/// allocation of a request failed; the lane is as the turns before left it, and the call may be
-/// repeated.
+/// and ticks, as [`drain`] does. So a lane that has room is only flushed. `AllocError`: allocating
+/// a request failed; the lane is as the turns before left it, and the call may be repeated.
 pub fn make_room<W: Wire, P: Pace>(
     lane: &mut Lane,
     wire: &mut W,
@@ -183,10 +182,10 @@ pub fn make_room<W: Wire, P: Pace>(
 }
 
 /// Sends, repeats and settles until a closed lane holds nothing. It sends at most `attempts + 14`
-/// requests for each operation held: 14 since a request that is too large is halved. If nothing is
-/// ready it settles the oldest request in flight; if none is in flight either, it pauses until the
-/// first operation that may be sent is due, and ticks the clock by as much. `AllocError`: the
-/// allocation of a request failed; the lane is as the turns before left it, and the call may be
+/// requests for each operation held, 14 for the halvings of requests that are too large. If nothing
+/// is ready it settles the oldest request in flight; if none is in flight either, it pauses until
+/// the first operation that may be sent is due, and ticks the clock accordingly. `AllocError`:
+/// allocating a request failed; the lane is as the turns before left it, and the call may be
 /// repeated.
 pub fn drain<W: Wire, P: Pace>(
     lane: &mut Lane,

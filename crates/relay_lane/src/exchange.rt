@@ -6,7 +6,7 @@ ghost use Rattle.relay_lane.specs.Wires.{answer_of, IsReply};
 use crate::wire::{WireFault, WireReply};
 use relay_core::Lane;
 
-/// The answer of a request in flight settles it.
+/// Settles a request in flight by its answer.
 pub(crate) fn settle(lane: &mut Lane, number: u64, answer: Result<WireReply, WireFault>)
     requires flies { is_flying number lane.old.state ≡ true }
     requires reply { IsReply answer }

@@ -3,11 +3,11 @@ ghost use Rattle.relay_core.specs.Ties.{FreshFits, TakeFits};
 ghost use Rattle.relay_lane.specs.Reached.{FreshIsReached, TakeIsReached, TurnIsReached, WorkIsReached, ReachedIsOrderly};
 ghost use Rattle.relay_lane.specs.Laws.{NothingIsOut, TakeKeepsOut, TurnsKeep, WorksOn, LeftAtMost, LeftIsTries};
 
-/// Nothing of a new lane is out, and it fits every opening, in which nothing was sent and every
-/// stored version is below the first one assigned; and whatever it takes, what is out stays, and it
-/// fits. So a lane that only took messages and worked by [`crate::pump`], [`crate::collect`],
-/// [`crate::make_room`] and [`crate::drain`] meets their conditions, and what they promise holds of
-/// it.
+/// Nothing of a new lane is outstanding, and it fits every opening, in which nothing was sent and
+/// every stored version is below the first one assigned; whatever message it takes, what is
+/// outstanding is unchanged, and it still fits. So a lane that only took messages and worked with
+/// [`crate::pump`], [`crate::collect`], [`crate::make_room`] and [`crate::drain`] satisfies their
+/// conditions, and what they promise holds for it.
 pub fn lanes_begin()
     ensures fresh { NothingIsOut }
     ensures opening { FreshFits }
@@ -22,17 +22,17 @@ pub fn turns_add_up()
     ensures on { WorksOn }
 {}
 
-/// How many requests a lane may still send: the tries that are left to what it holds, and so at
-/// most `attempts + 14` for each operation held.
+/// How many requests a lane may still send: the tries that are left to what it holds, so at most
+/// `attempts + 14` for each operation held.
 pub fn requests_are_bounded()
     ensures most { LeftAtMost }
     ensures tries { LeftIsTries }
 {}
 
-/// Whatever the wire answers, also one that describes no outside: a new lane is reached, and each message
-/// and each turn leads on, so a lane that only took messages and worked is reached. What is held and in
-/// flight then is what was taken, under the versions assigned; no document is in flight twice; and the
-/// counts add up.
+/// Whatever the wire returns, even if it describes no outside: a new lane is reachable, and each
+/// message and each turn leads on from there, so a lane that only took messages and worked is
+/// reachable. Then what is held and in flight is what was taken, under the versions assigned; no
+/// document is in flight twice; and the counts add up.
 pub fn lanes_stay_orderly()
     ensures fresh { FreshIsReached }
     ensures take { TakeIsReached }

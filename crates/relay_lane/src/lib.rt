@@ -1,10 +1,10 @@
 //! A lane at work on a wire: what it holds is sent, repeated and settled, within a bound. It
-//! depends on `relay_core`, and takes the way to an index (`Wire`) and the passing of time (`Pace`)
+//! depends on `relay_core`, and gets the way to an index (`Wire`) and the passing of time (`Pace`)
 //! from outside.
 //!
-//! It carries this promise: whatever the wire returns or loses, everything that a closed lane holds
-//! is sent and settled by a bounded number of requests; and beside each outside that the wire
-//! describes, delivery is sound at each moment, and complete once `drain` returns `Ok`.
+//! What is proved: whatever the wire returns or loses, everything that a closed lane holds is sent
+//! and settled by a bounded number of requests; and for each outside that the wire describes,
+//! delivery is sound at every moment, and complete once `drain` returns `Ok`.
 #![tactic(auto)]
 
 pub mod draining;

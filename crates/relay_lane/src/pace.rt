@@ -4,10 +4,10 @@ ghost use Rattle.relay_lane.specs.Turns.{Paused};
 
 /// How a lane's ticks pass while it has nothing to send.
 pub trait Pace {
-    /// How many ticks it has paused for in all, where it shows that; at 2^64 - 1 the number stays.
+    /// How many ticks it has paused for in all, if it shows that; the number saturates at 2^64 - 1.
     ghost paused: { Self → Option ℕ };
 
-    /// Returns when so many ticks have passed.
+    /// Returns when this many ticks have passed.
     fn pause(&mut self, ticks: u64)
         ensures { Paused ticks (paused self.old) (paused self.new) };
 }

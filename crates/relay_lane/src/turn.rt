@@ -12,8 +12,8 @@ use crate::wire::Wire;
 use relay_core::Lane;
 use std::alloc::AllocError;
 
-/// Sends the lane's next request, and settles it as lost if it could not be sent. Whether there was
-/// one.
+/// Sends the lane's next request, settles it as lost if it could not be sent, and returns whether
+/// there was one.
 pub(crate) fn send_next<W: Wire>(lane: &mut Lane, wire: &mut W) -> Result<bool, AllocError>
     requires out { W.out wire.old ≡ out_of lane.old.state }
     ensures lane { IsLane lane.old.state }
@@ -42,7 +42,7 @@ pub(crate) fn send_next<W: Wire>(lane: &mut Lane, wire: &mut W) -> Result<bool, 
     }
 }
 
-/// Waits for the answer to the oldest request in flight, which settles it.
+/// Waits for the answer to the oldest request in flight, and settles it.
 pub(crate) fn settle_oldest<W: Wire>(lane: &mut Lane, wire: &mut W)
     requires some { 0 < length lane.old.state.core.flying }
     requires out { W.out wire.old ≡ out_of lane.old.state }
@@ -59,7 +59,7 @@ pub(crate) fn settle_oldest<W: Wire>(lane: &mut Lane, wire: &mut W)
     }
 }
 
-/// Pauses until the first operation that may be sent is due, and ticks the clock by as much.
+/// Pauses until the first operation that may be sent is due, and ticks the clock accordingly.
 pub(crate) fn wait<P: Pace>(lane: &mut Lane, pace: &mut P)
     requires { IsDueLater lane.old.state }
     ensures lane { IfSome (due_in lane.old.state) (λ n. lane.new.state ≡ after_ticks n lane.old.state) }

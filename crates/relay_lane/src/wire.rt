@@ -10,7 +10,7 @@ use relay_action::Write;
 use relay_results::Outcome;
 use thiserror::Error;
 
-/// What a wire answers to a request.
+/// What a wire returns for a request.
 #[derive(Debug, Drop)]
 pub enum WireReply {
     /// The entries of a readable reply of status 200. They need not match the request.
@@ -19,43 +19,43 @@ pub enum WireReply {
     Whole(u16),
 }
 
-/// Why a request has no reply. For the lane each of them is a lost reply: whether the index had the
-/// request, or ran it, is not known.
+/// Why a request has no reply. For the lane each of them is a lost reply: it is unknown whether the
+/// index received the request or ran it.
 #[derive(Clone, Copy, Debug, PartialEq, Eq, Error)]
 pub enum WireFault {
     /// The request could not be sent, or not all of it.
     #[error("Send")]
     Send,
-    /// It was sent, and no whole reply came.
+    /// It was sent, and no complete reply arrived.
     #[error("Lost")]
     Lost,
-    /// A reply of status 200 came that could not be read.
+    /// A reply of status 200 arrived that could not be read.
     #[error("Unreadable")]
     Unreadable,
-    /// There was no memory for the request or for its reply.
+    /// An allocation for the request or for its reply failed.
     #[error("Memory")]
     Memory,
 }
 
-/// The way from a lane to an index. Requests go by number, from 1; a number is out from a `send`
-/// that answers `Ok` until its `receive`.
+/// The way from a lane to an index. Requests are identified by number, from 1; a number is
+/// outstanding from a `send` that returns `Ok` until its `receive`.
 ///
-/// A wire may describe what stands outside: then, for each outside that fits it before a call, one
-/// fits it after the call to which the call led. A wire that does not says so by `describes`, and
-/// nothing is asked of its `fits`.
+/// A wire may describe the outside: then, for each outside that fits it before a call, one fits it
+/// after the call to which the call led. If it does not, `describes` says so, and `fits` has no
+/// meaning.
 pub trait Wire {
-    /// The numbers that are out.
+    /// The outstanding numbers.
     ghost out: { Self → List ℕ };
 
-    /// Whether it describes what stands outside.
+    /// Whether it describes the outside.
     ghost describes: { Self → Bool };
 
-    /// What may stand outside.
+    /// The outsides that fit it.
     ghost fits: { Self → Outside → Type 0 };
 
-    /// Sends the writes as the request of this number: at most 10,000 of them, whose versions were
-    /// dealt, and whose bulk text has at most 16,777,216 bytes. After a fault the number is not
-    /// out, and the request counts as sent and lost.
+    /// Sends the writes as the request with this number: at most 10,000 of them, with assigned
+    /// versions, and at most 16,777,216 bytes of bulk text. After a fault the number is not
+    /// outstanding, and the request counts as sent and lost.
     fn send(&mut self, number: u64, writes: &[Write]) -> Result<(), WireFault>
         requires fresh { Mem number (out self.old) → ⊥ }
         requires few { length writes.now ≤ 10000 }
@@ -69,7 +69,7 @@ pub trait Wire {
             (λ _. ShowsNext (describes self.old) fits self.old self.new number (SendsOn writes.now))
             (λ _. ShowsNext (describes self.old) fits self.old self.new number (ExchangesOn number writes.now Lost)) };
 
-    /// Waits for what is answered to the request of this number, which is not out any more then.
+    /// Waits for the answer to the request with this number, which is then no longer outstanding.
     fn receive(&mut self, number: u64) -> Result<WireReply, WireFault>
         requires { Mem number (out self.old) }
         ensures out { out self.new ≡ without number (out self.old) }

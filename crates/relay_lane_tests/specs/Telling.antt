@@ -1,4 +1,4 @@
--- What stands outside a wire round an index.
+-- The outside of a wire to an index.
 use Rattle.std.specs.Prelude.{◌≡◌, ℕ, List, [], ◌∷◌, Option, Some, None, Result, Ok, Err, slice_get}
 use Rattle.std.specs.declared.vec.Vec.{Vec}
 use Rattle.relay_action.specs.declared.write.Write.{Write}
@@ -14,7 +14,7 @@ use Rattle.relay_lane.specs.Wires.{RunsOn}
 abbrev pub IsSent : ℕ → List Write → Outside → Type 0
 IsSent number ws o = slice_get o.requests number ≡ Some (record { writes = ws; answer = Unanswered })
 
--- the request that is out was sent, and each entry that waits for it is that of a run of its item
+-- the outstanding request was sent, and each entry that waits for it is that of a run of its item
 pub record Waits (number : ℕ) (reply : List Outcome) (o : Outside) : Type 0 where
   pub writes : List Write
   pub sent : IsSent (from_zero number) writes o
@@ -24,7 +24,7 @@ abbrev pub IsOutWith : Option ℕ → List Outcome → Outside → Type 0
 IsOutWith None reply o = Unit {0}
 IsOutWith (Some number) reply o = Waits number reply o
 
--- one item was run, or none: the outside shows the index then, and nothing that was run is forgotten
+-- one item was run, or none: the outside shows the index then, and no run is forgotten
 pub record RanOne (number place : ℕ) (s : State) (o : Outside) (found : List Outcome) : Type 0 where
   pub after : Outside
   pub runs : RunsOn o after
@@ -33,7 +33,7 @@ pub record RanOne (number place : ℕ) (s : State) (o : Outside) (found : List O
   pub keeps : (r : Ran) → Mem r o.runs → Mem r after.runs
   pub each : EachWasRun after.runs number place found
 
--- the entry, or nothing where memory ran out
+-- the entry, or nothing after a failed allocation
 abbrev pub entry_of : {E : Type 0} → Result Outcome E → List Outcome
 entry_of (Ok o) = o ∷ []
 entry_of (Err e) = []

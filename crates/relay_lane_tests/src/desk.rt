@@ -1,4 +1,4 @@
-//! A lane that messages are put into, and a pace that notes its pauses.
+//! A lane into which messages are put, and a pace that records its pauses.
 ghost use Rattle.std.specs.Prelude.{◌≡◌, ◌<◌, ℕ, [], length, IfSome};
 ghost use Rattle.relay_lane.specs.Out.{out_of};
 
@@ -7,7 +7,7 @@ use relay_batch::Limits;
 use relay_lane::{Lane, Pace, RelayConfig, TakeFault};
 use std::alloc::Global;
 
-/// One lane and producer, batches of ten documents that go at once, and three attempts.
+/// One lane and one producer, batches of ten documents that are sent at once, and three attempts.
 pub const CONFIG: RelayConfig = RelayConfig {
     lanes: 1,
     producers: 1,
@@ -30,7 +30,7 @@ pub struct Desk {
     pub lane: Lane,
 }
 
-// Takes a message of a known sender. The fault, if it is not taken.
+// Takes a message of a known sender. Returns the fault, if it is not taken.
 fn take(lane: &mut Lane, mail: Mail) -> Option<TakeFault>
     requires known { mail.sender < length lane.old.state.closed }
     ensures out { out_of lane.new.state ≡ out_of lane.old.state }
@@ -42,7 +42,7 @@ fn take(lane: &mut Lane, mail: Mail) -> Option<TakeFault>
     None
 }
 
-/// A desk with a fresh lane of a config, which has to be valid. `None`: there was no memory for it.
+/// A desk with a fresh lane and a config, which must be valid. `None`: allocation failed.
 pub fn desk_of(alloc: Global, config: RelayConfig) -> Option<Desk>
     ensures { IfSome result (λ d. out_of d.lane.state ≡ []) }
 {
@@ -55,7 +55,7 @@ pub fn desk_of(alloc: Global, config: RelayConfig) -> Option<Desk>
     }
 }
 
-/// Takes a message of a sender. Whether it was taken.
+/// Takes a message of a sender, and returns whether it was taken.
 pub fn sends(desk: &mut Desk, sender: u32, body: Body) -> bool
     ensures { out_of desk.new.lane.state ≡ out_of desk.old.lane.state }
 {
@@ -80,7 +80,7 @@ fn op_of(alloc: Global, number: u64, id: &str, source: &str) -> Option<Op> {
     })
 }
 
-/// Puts an operation of the first producer that indexes a source. Whether it was taken.
+/// Puts an operation of the first producer that indexes a source, and returns whether it was taken.
 pub fn puts(alloc: Global, desk: &mut Desk, number: u64, id: &str, source: &str) -> bool
     ensures { out_of desk.new.lane.state ≡ out_of desk.old.lane.state }
 {
@@ -90,14 +90,14 @@ pub fn puts(alloc: Global, desk: &mut Desk, number: u64, id: &str, source: &str)
     }
 }
 
-/// The producer and the control close. Whether the lane is closed.
+/// Closes the producer and the control, and returns whether the lane is closed.
 pub fn closes(desk: &mut Desk) -> bool
     ensures { out_of desk.new.lane.state ≡ out_of desk.old.lane.state }
 {
     sends(desk, 0, Body::Done) && sends(desk, 1, Body::Done) && desk.lane.closed()
 }
 
-/// A pace that does not wait, and notes its first pauses and all its ticks.
+/// A pace that does not wait, and records its first pauses and the sum of all ticks.
 #[derive(Clone, Copy, Debug, PartialEq, Eq)]
 pub struct Notes {
     pub pauses: [u64; 8],

@@ -24,7 +24,7 @@ const ALL_AT_ONCE: RelayConfig = RelayConfig {
     ..CONFIG
 };
 
-// Puts each document, then each once more, and so on. Whether all were taken.
+// Puts each document, then each once more, and so on, and returns whether all were taken.
 fn puts_all(alloc: Global, desk: &mut Desk) -> Result<bool, AllocError>
     ensures { out_of desk.new.lane.state ≡ out_of desk.old.lane.state }
 {
@@ -38,7 +38,7 @@ fn puts_all(alloc: Global, desk: &mut Desk) -> Result<bool, AllocError>
     Ok(true)
 }
 
-// Drains the lane. `None`: not all was taken, or an allocation failed.
+// Drains the lane. `None`: not all were taken, or an allocation failed.
 fn drained(alloc: Global, desk: &mut Desk, wire: &mut IndexWire) -> Option<Totals>
     requires { option_to_list wire.old.flying ≡ out_of desk.old.lane.state }
 {

@@ -8,8 +8,9 @@ use crate::wires::{IndexWire, Way, count_applied, wire_of};
 use relay_lane::{Cause, Lane, WireFault, drain, make_room, pump};
 use std::alloc::{AllocError, Global};
 
-// What a drain came to: requests, pauses, reports of GaveUp after three sends and reports of the status of
-// a whole request, how many ended as applied and as applied before, and the writes that the index applied.
+// The outcome of a drain: requests, pauses, reports of GaveUp after three sends and reports of the
+// status of a whole request, how many ended as applied and as already applied, and the writes that
+// the index applied.
 #[derive(Clone, Copy, Debug, PartialEq, Eq)]
 struct Came {
     requests: u64,
@@ -62,7 +63,7 @@ fn filled(alloc: Global, ids: &[&str]) -> Option<Desk>
     Some(desk)
 }
 
-// Drains a lane that is closed. Whether it had memory enough.
+// Drains a closed lane, and returns whether no allocation failed.
 fn drains_once(desk: &mut Desk, wire: &mut IndexWire, pace: &mut Notes) -> bool
     requires { option_to_list wire.old.flying ≡ out_of desk.old.lane.state }
     ensures { option_to_list wire.new.flying ≡ out_of desk.new.lane.state }
@@ -70,7 +71,8 @@ fn drains_once(desk: &mut Desk, wire: &mut IndexWire, pace: &mut Notes) -> bool
     desk.lane.closed() && drain(&mut desk.lane, wire, pace).is_ok()
 }
 
-// What the drain of a lane that closes comes to. `None`: there was no memory, or something was held after it.
+// The outcome of draining a lane that closes. `None`: an allocation failed, or something was held
+// afterwards.
 fn came_to(alloc: Global, desk: &mut Desk, wire: &mut IndexWire) -> Option<Came>
     requires { option_to_list wire.old.flying ≡ out_of desk.old.lane.state }
 {
@@ -83,7 +85,7 @@ fn came_to(alloc: Global, desk: &mut Desk, wire: &mut IndexWire) -> Option<Came>
     }
 }
 
-// That of a lane that took an operation for each of these documents, over a wire of this way.
+// The same for a lane that took an operation for each of these documents, over a wire of this kind.
 fn drained(alloc: Global, ids: &[&str], way: Way) -> Option<Came> {
     came_to(alloc, &mut filled(alloc, ids)?, &mut wire_of(alloc, way))
 }
@@ -102,7 +104,8 @@ const ONE: &[&str] = &["1", "1", "1"];
 
 const THREE: &[&str] = &["1", "2", "3"];
 
-// Three operations of one document go one after another, three of three documents in one request.
+// Three operations of one document are sent one after another, three of three documents in one
+// request.
 const DRAINS: &[(&[&str], Way, Came)] = &[
     (&[], Way::Loses, NOTHING),
     (
@@ -237,7 +240,7 @@ const FAULTS: &[WireFault] = &[
     WireFault::Memory,
 ];
 
-// What three operations of one document come to where one request was not sent.
+// The outcome for three operations of one document if one request was not sent.
 const NOT_SENT: Came = Came {
     requests: 4,
     pauses: [1, 0, 0, 0, 0, 0, 0, 0],
@@ -246,7 +249,7 @@ const NOT_SENT: Came = Came {
     ..NOTHING
 };
 
-// And where one reply was a fault: its operation was applied by then.
+// And if one reply was a fault: its operation was applied by then.
 const NOT_REPLIED: Came = Came {
     applied: 2,
     already: 1,
@@ -268,7 +271,7 @@ fn faults(rt: HostRuntime) {
     }
 }
 
-// What pump answers, the requests that were sent, and how many are held then.
+// The result of `pump`, the requests that were sent, and how many operations are held then.
 fn pumped_over(desk: &mut Desk, wire: &mut IndexWire) -> Option<(u64, u64, u32)>
     requires { option_to_list wire.old.flying ≡ out_of desk.old.lane.state }
 {
@@ -303,7 +306,7 @@ fn pumps(rt: HostRuntime) {
     }
 }
 
-// How many are held after room was made, the requests that were sent, and the ticks that were paused.
+// How many are held after room was made, the requests that were sent, and the ticks of the pauses.
 fn roomed_over(desk: &mut Desk, wire: &mut IndexWire) -> Option<(u32, u64, u64)>
     requires { option_to_list wire.old.flying ≡ out_of desk.old.lane.state }
 {
@@ -312,7 +315,7 @@ fn roomed_over(desk: &mut Desk, wire: &mut IndexWire) -> Option<(u32, u64, u64)>
     Some((desk.lane.held(), wire.sends, pace.ticks))
 }
 
-// The same for a lane that holds ten at most and took these.
+// The same for a lane that holds at most ten and took these.
 fn with_room(alloc: Global, ids: &[&str], way: Way) -> Option<(u32, u64, u64)> {
     roomed_over(&mut filled(alloc, ids)?, &mut wire_of(alloc, way))
 }
@@ -354,7 +357,8 @@ fn filled_at_last(alloc: Global, ids: &[&str]) -> Option<Desk>
     }
 }
 
-// Whether the drain of a lane that closes ends; or it has lost nothing, and the next one ends.
+// Whether draining a lane that closes succeeds; or it has lost nothing, and the next drain
+// succeeds.
 fn drains_at_last(desk: &mut Desk, wire: &mut IndexWire) -> bool
     requires { option_to_list wire.old.flying ≡ out_of desk.old.lane.state }
 {
@@ -371,7 +375,7 @@ fn applied_three(lane: &Lane) -> bool {
         && totals.applied.saturating_add(totals.already) == 3
 }
 
-// Whether three operations are applied, whichever allocation is refused.
+// Whether three operations are applied, whichever allocation fails.
 fn applies_three(alloc: Global) -> bool {
     match filled_at_last(alloc, &["1", "1", "2"]) {
         Some(mut desk) => {
@@ -381,7 +385,7 @@ fn applies_three(alloc: Global) -> bool {
     }
 }
 
-// Whichever allocation is refused, a drain that answers so has lost nothing, and the next one ends.
+// Whichever allocation fails, the drain has lost nothing, and the next one succeeds.
 #[test]
 fn refusals(rt: HostRuntime) {
     assert!(rt; applies_three(rt.alloc()));

@@ -1,4 +1,4 @@
-//! Tests of relay_lane.
+//! The tests of `relay_lane`.
 #![tactic(auto)]
 
 #[cfg(test)]

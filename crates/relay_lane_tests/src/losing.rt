@@ -1,4 +1,4 @@
-//! A wire that loses every request, and describes what stands outside: that it was sent, and lost.
+//! A wire that loses every request, and describes the outside: that it was sent, and lost.
 ghost use Rattle.relay_lane.specs.Out.{out_of};
 ghost use Rattle.std.specs.Option.{option_to_list};
 ghost use Rattle.std.specs.Prelude.{◌≡◌};
@@ -38,7 +38,7 @@ impl Wire for Losing {
     }
 }
 
-// Drains a lane that is closed. Whether it had memory enough.
+// Drains a closed lane, and returns whether no allocation failed.
 fn drains(desk: &mut Desk, wire: &mut Losing) -> bool
     requires { option_to_list wire.old.flying ≡ out_of desk.old.lane.state }
 {
@@ -56,7 +56,7 @@ fn gave_up(lane: &Lane) -> bool {
     true
 }
 
-// It loses each request, and so reports each operation.
+// It loses each request, so each operation is reported.
 #[test]
 fn loses(rt: HostRuntime) -> Result<(), Fail> {
     let mut desk = desk_of(rt.alloc(), CONFIG).ok_or("not valid")?;

@@ -1,4 +1,4 @@
-//! Ten thousand operations of a hundred documents over a wire that fails by a seed.
+//! Ten thousand operations of a hundred documents over a wire that fails at random.
 ghost use Rattle.relay_lane.specs.Out.{out_of};
 ghost use Rattle.std.specs.Option.{option_to_list};
 ghost use Rattle.std.specs.Prelude.{◌≡◌, ◌<◌};
@@ -32,7 +32,7 @@ fn document_of(number: u64) -> u64
     (number.wrapping_mul(2_654_435_761) >> 7) % 100
 }
 
-// Puts an operation whose source is its number. Whether it was taken.
+// Puts an operation whose source is its number, and returns whether it was taken.
 fn puts_number(alloc: Global, desk: &mut Desk, number: u64) -> Result<bool, AllocError>
     ensures { out_of desk.new.lane.state ≡ out_of desk.old.lane.state }
 {
@@ -41,7 +41,7 @@ fn puts_number(alloc: Global, desk: &mut Desk, number: u64) -> Result<bool, Allo
     Ok(puts(alloc, desk, number, id.as_str(), source.as_str()))
 }
 
-// Takes an operation, after room was made for it where there was none, and sends what is ready.
+// Takes an operation, after making room for it if there was none, and sends what is ready.
 fn step(
     alloc: Global,
     desk: &mut Desk,
@@ -78,7 +78,7 @@ fn played(alloc: Global, desk: &mut Desk, wire: &mut IndexWire) -> Result<bool, 
     Ok(desk.lane.finished())
 }
 
-// The key of a document. `None`: there was no memory for it.
+// The key of a document. `None`: allocation failed.
 fn key_of(alloc: Global, document: u64) -> Option<DocKey> {
     let id = format!(in alloc; "{document}").ok()?;
     DocKey::new(alloc, "b", id.as_str()).ok()
@@ -91,8 +91,8 @@ fn has_source(write: &Write, source: &str) -> bool {
     }
 }
 
-// Whether an operation is the one that an index applied to its document at this place. `None`: it applied
-// none there, or there was no memory to look.
+// Whether an operation is the one that an index applied to its document at this place. `None`: it
+// applied none there, or an allocation failed.
 fn is_applied(alloc: Global, index: &Index, number: u64, place: usize) -> Option<bool> {
     let source = format!(in alloc; "{number}").ok()?;
     let key = key_of(alloc, document_of(number))?;
@@ -100,7 +100,7 @@ fn is_applied(alloc: Global, index: &Index, number: u64, place: usize) -> Option
     Some(write.version == number && has_source(write, source.as_str()))
 }
 
-// The index applied to each document its operations, in their order, each once.
+// The index applied to each document its operations, in order, each once.
 fn is_as_put(alloc: Global, index: &Index) -> bool {
     let mut places = [0usize; 100];
     for number in 1..OPERATIONS + 1 {
@@ -114,8 +114,8 @@ fn is_as_put(alloc: Global, index: &Index) -> bool {
     count_applied(alloc, index) == Ok(OPERATIONS as usize)
 }
 
-// What the operations come to. `None`: not all were taken and drained, one is reported, or the index is not as
-// they were put.
+// The outcome of the operations. `None`: not all were taken and drained, one is reported, or the
+// index is not as they were put.
 fn totals_of(alloc: Global, desk: &mut Desk, wire: &mut IndexWire) -> Option<Totals>
     requires { option_to_list wire.old.flying ≡ out_of desk.old.lane.state }
 {
@@ -129,7 +129,7 @@ fn totals_of(alloc: Global, desk: &mut Desk, wire: &mut IndexWire) -> Option<Tot
     }
 }
 
-// The same of a lane of its own, over a wire that fails by a seed.
+// The same for its own lane, over a wire that fails at random.
 fn seeded(alloc: Global) -> Option<Totals> {
     totals_of(
         alloc,

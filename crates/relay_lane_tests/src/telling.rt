@@ -1,5 +1,5 @@
-//! A wire round an index that describes what stands outside: the index runs each request once, and some of
-//! the replies are lost.
+//! A wire to an index that describes the outside: the index runs each request once, and some of the
+//! replies are lost.
 ghost use Rattle.relay_lane.specs.Out.{out_of};
 ghost use Rattle.std.specs.Option.{option_to_list};
 ghost use Rattle.std.specs.Prelude.{◌≡◌, ℕ, Some, None};
@@ -36,7 +36,7 @@ fn run_one(alloc: Global, index: &mut Index, write: &Write) -> Result<Outcome, A
     done.outcome(alloc)
 }
 
-/// Runs the items of a request, in their order. `AllocError`: some of them were run.
+/// Runs the items of a request, in order. `AllocError`: some of them were run.
 pub fn run_all(
     alloc: Global,
     index: &mut Index,
@@ -92,7 +92,7 @@ impl Wire for Telling {
     }
 }
 
-// Drains a lane that is closed. Whether it had memory enough.
+// Drains a closed lane, and returns whether no allocation failed.
 fn drains(desk: &mut Desk, wire: &mut Telling) -> bool
     requires { option_to_list wire.old.flying ≡ out_of desk.old.lane.state }
 {
@@ -116,7 +116,7 @@ fn empty(alloc: Global) -> Telling
     }
 }
 
-// Puts three operations of one document, and closes. Whether the lane is closed.
+// Puts three operations of one document, closes, and returns whether the lane is closed.
 fn closes_with_three(alloc: Global, desk: &mut Desk) -> bool
     ensures { out_of desk.new.lane.state ≡ out_of desk.old.lane.state }
 {
@@ -139,7 +139,7 @@ fn applies_once(alloc: Global, desk: &mut Desk, wire: &mut Telling) -> bool
         && count_applied(alloc, &wire.index) == Ok(3)
 }
 
-// Every other reply is lost, and all is applied once.
+// Every other reply is lost, and everything is applied once.
 #[test]
 fn tells(rt: HostRuntime) -> Result<(), Fail> {
     let mut desk = desk_of(rt.alloc(), CONFIG).ok_or("not valid")?;

@@ -1,4 +1,4 @@
-//! A wire round an index that fails as it is told, and describes nothing.
+//! A wire to an index that fails as configured, and describes nothing.
 ghost use Rattle.std.specs.Prelude.{◌≡◌, None};
 ghost use Rattle.relay_lane.specs.Wires.{IsReply};
 
@@ -10,20 +10,20 @@ use relay_results::Outcome;
 use std::alloc::{AllocError, Global};
 use std::mem;
 
-/// What becomes of requests.
+/// What happens to requests.
 #[derive(Clone, Copy, Debug, PartialEq, Eq)]
 pub enum Way {
     /// Each is run and answered.
     Runs,
-    /// Each is run, and every so-manieth reply is lost.
+    /// Each is run, and every n-th reply is lost.
     LosesEach(u64),
-    /// The one with this count is not sent; the others are run and answered.
+    /// The one with this number is not sent; the others are run and answered.
     FailsSend(u64, WireFault),
-    /// Each is run, and the reply to the one with this count is a fault.
+    /// Each is run, and the reply to the one with this number is a fault.
     FailsReply(u64, WireFault),
-    /// Each is run, and answered by one entry fewer than it has writes.
+    /// Each is run, and answered with one entry fewer than it has writes.
     TooFew,
-    /// Each is run, and answered by one entry more.
+    /// Each is run, and answered with one entry more.
     TooMany,
     /// Each is run, and answered for another document.
     Another,
@@ -31,7 +31,7 @@ pub enum Way {
     Whole(u16),
     /// None is run, and every reply is lost.
     Loses,
-    /// By numbers that a seed gives: not sent, lost after it ran, refused as a whole, answered by too few
+    /// By random numbers: not sent, lost after it ran, refused as a whole, answered with too few
     /// entries, or run and answered.
     Seeded,
 }
@@ -66,7 +66,7 @@ pub fn wire_of(alloc: Global, way: Way) -> IndexWire
     }
 }
 
-// What becomes of the request with this count.
+// What happens to the request with this number.
 fn way_at(way: Way, sends: u64, seed: u64) -> Way {
     match way {
         Way::LosesEach(every) if every > 0 && sends % every == 0 => {
@@ -97,7 +97,7 @@ fn another(alloc: Global) -> Result<Outcome, AllocError> {
     })
 }
 
-// The entries without the last, and with one for another document if so wanted.
+// The entries without the last one, or with one for another document, if wanted.
 fn changed(
     alloc: Global,
     entries: Vec<Outcome>,

@@ -1,4 +1,4 @@
--- A wire round the stand-in index, within one process.
+-- A wire to the stand-in index, within one process.
 use Rattle.std.specs.Prelude.{◌≡◌, ◌⊎◌, ℕ, ◌<◌, ◌≤◌, List, [], ◌∷◌, codes, length, slice_get, Some, Bool, true, false, ◌==◌, Result, Ok, Err}
 use Rattle.std.specs.List.{list_any}
 use Rattle.relay_action.specs.declared.write.Write.{Write}
@@ -25,19 +25,19 @@ use Rattle.relay_wires.specs.Numbered.{numbers, besides}
 
 -- ---- the wire
 
--- The index and the script that it runs items under; the numbers whose replies are dropped; and the requests that are
--- out, as bytes that wait to be read, with the newest first.
+-- The index and the script under which it runs items; the numbers whose replies are dropped; and the outstanding
+-- requests, as bytes that wait to be read, the newest first.
 pub record Loop : Type 0 where
   pub index : State
   pub script : Plan
   pub lost : List ℕ
   pub out : List (ℕ × List ℕ)
 
--- nothing is out, and nothing is to be lost
+-- nothing is outstanding, and nothing is to be lost
 abbrev pub begun : State → Plan → Loop
 begun index script = record { index = index; script = script; lost = []; out = [] }
 
--- the host that its requests name
+-- the host in its requests
 abbrev pub loop_host : List ℕ
 loop_host = codes "loop"
 
@@ -59,13 +59,14 @@ server w = under w.index w.script
 abbrev pub is_lost : ℕ → Loop → Bool
 is_lost number w = list_any (λ n. n == number) w.lost
 
--- the body of these writes is longer than the script takes
+-- the body with these writes is longer than the script accepts
 abbrev pub IsOver : List Write → Server → Type 0
 IsOver ws s = takes s.script (length (text_of ws)) ≡ false
 
--- What becomes of a request with these writes. Its entries, or the loss of its reply: all items were run, once each and in
--- their order; the reply is lost where that was asked for, or where it is too long. Lack of memory: the first items were
--- run so, and no more. A body that is too long: nothing was run, and 413 is answered, or its loss. Nothing else is answered.
+-- The result of a request with these writes. Its entries, or the loss of its reply: all items were run, once each and
+-- in order; the reply is lost if that was asked for, or if it is too long. A failed allocation: exactly the first
+-- items were run. A body that is too long: nothing was run, and the answer is 413, or its loss. There are no other
+-- results.
 abbrev pub Exchanged : Bool → List Write → Server → Server → Result WireReply WireFault → Type 0
 Exchanged lost ws old new (Ok (reply.Items outcomes)) =
     (items : List ItemDone) × RunsAll old ws items new × (outcomes.items ≡ outcomes_of items)
@@ -78,11 +79,11 @@ Exchanged lost ws old new (Err fault.Lost) =
 Exchanged lost ws old new (Err fault.Unreadable) = ⊥
 Exchanged lost ws old new (Err fault.Memory) = (ran : ℕ) × RunsFirst ran old ws new
 
--- so it is of the request that was out under this number
+-- this holds for the request that was outstanding under this number
 abbrev pub Receives : ℕ → List Write → Loop → Loop → Result WireReply WireFault → Type 0
 Receives number ws old new result = Exchanged (is_lost number old) ws (server old) (server new) result
 
--- only these are out now, and the same replies are to be lost
+-- exactly these are outstanding now, and the same replies are to be lost
 pub record TakesIn (number : ℕ) (old new : Loop) : Type 0 where
   pub out : new.out ≡ besides number old.out
   pub lost : new.lost ≡ old.lost
@@ -101,17 +102,18 @@ abbrev pub AllBefore : ℕ → List ℕ → Type 0
 AllBefore place [] = Unit {0}
 AllBefore place (n ∷ ns) = (from_zero n < place) × AllBefore place ns
 
--- each of these is out, the newest first
+-- each of these is outstanding, the newest first
 abbrev pub AreOut : List (ℕ × List ℕ) → Outside → Type 0
 AreOut [] o = Unit {0}
 AreOut (e ∷ es) o = IsOut e.0 e.1 o × AllBefore (from_zero e.0) (numbers es) × AreOut es o
 
--- an outside that fits the wire has the versions and the lists of its index, and what is out was sent there
+-- an outside that fits the wire has the versions and the lists of its index, and what is outstanding was sent there
 pub record Fits (w : Loop) (o : Outside) : Type 0 where
   pub shows : Shows o w.index
   pub out : AreOut w.out o
 
--- there is an outside with nothing sent that fits, and each does that has the versions and the lists of the index
+-- there is an outside with nothing sent that fits, and each such outside fits that has the versions and the lists of
+-- the index
 pub record Opens (w : Loop) : Type 0 where
   pub opening : Outside
   pub opens : IsOpening opening
@@ -120,7 +122,7 @@ pub record Opens (w : Loop) : Type 0 where
 
 -- ---- what private steps answer
 
--- a reply that says these outcomes was read, unless memory ran out
+-- a reply with these outcomes was read, unless an allocation failed
 abbrev pub Reads : List Outcome → Result WireReply WireFault → Type 0
 Reads os (Ok (reply.Items outcomes)) = outcomes.items ≡ os
 Reads os (Ok (reply.Whole status)) = ⊥
@@ -129,7 +131,7 @@ Reads os (Err fault.Lost) = ⊥
 Reads os (Err fault.Unreadable) = ⊥
 Reads os (Err fault.Memory) = Unit {0}
 
--- a reply that says this status of the request as a whole was read, unless memory ran out
+-- a reply with this status for the request as a whole was read, unless an allocation failed
 abbrev pub ReadsWhole : ℕ → Result WireReply WireFault → Type 0
 ReadsWhole status (Ok (reply.Items outcomes)) = ⊥
 ReadsWhole status (Ok (reply.Whole other)) = other ≡ status
@@ -138,7 +140,7 @@ ReadsWhole status (Err fault.Lost) = ⊥
 ReadsWhole status (Err fault.Unreadable) = ⊥
 ReadsWhole status (Err fault.Memory) = Unit {0}
 
--- all writes were run, and this is what is answered
+-- all writes were run, and this is the answer
 pub record Serves (ws : List Write) (old new : Server) (status : ℕ) (text : List ℕ) : Type 0 where
   pub success : status ≡ 200
   pub replies : Replies old ws text new
@@ -153,11 +155,11 @@ pub record IsRefused (ws : List Write) (old new : Server) (status : ℕ) (text :
 abbrev pub Served : List Write → Server → Server → ℕ → List ℕ → Type 0
 Served ws old new status text = Serves ws old new status text ⊎ IsRefused ws old new status text
 
--- the first writes were run, and no more
+-- exactly the first writes were run
 abbrev pub Stops : List Write → Server → Server → Type 0
 Stops ws old new = (ran : ℕ) × RunsFirst ran old ws new
 
--- where the bytes are an answer, this is the reply that it is
+-- if the bytes are an answer, this is its reply
 abbrev pub IsAnswered : List ℕ → HttpReply → Type 0
 IsAnswered bytes r =
     (status : ℕ) (body : List ℕ) → IsAnswerStatus status → length body ≤ reply_limit → bytes ≡ answer status body true

@@ -12,16 +12,16 @@ use relay_http::{Conn, HttpReply};
 use relay_ndjson::bulk_len;
 use std::alloc::{AllocError, Global};
 
-// The host that the requests name.
+// The host in the requests.
 const HOST: &str = "loop";
 
-// More bytes than a head has that is written here.
+// More bytes than any head has that is written here.
 const HEAD_ROOM: usize = 1024;
 
-// How many bytes a call of a stream moves at most.
+// The maximum number of bytes that a call of a stream moves.
 const PIECE: usize = 4096;
 
-// A connection over these bytes, whose stream takes so many.
+// A connection over these bytes, whose stream has this room for writes.
 fn connect(alloc: Global, input: Vec<u8>, room: usize) -> Result<Conn<MemStream>, AllocError>
     ensures { IfOk result (λ c. c ≡ fresh (Some input.items) (Some []) 0) }
 {
@@ -32,14 +32,13 @@ fn connect(alloc: Global, input: Vec<u8>, room: usize) -> Result<Conn<MemStream>
     }
 }
 
-// What was written on a connection.
 fn written(alloc: Global, conn: Conn<MemStream>) -> Result<Vec<u8>, AllocError>
     ensures { (bytes : List ℕ) → conn.written ≡ Some bytes → IfOk result (λ v. v.items ≡ bytes) }
 {
     conn.into_stream().written().to_vec(alloc)
 }
 
-// The bytes of the request that carries these writes.
+// The bytes of the request with these writes.
 pub(crate) fn request_bytes(alloc: Global, writes: &[Write]) -> Result<Vec<u8>, AllocError>
     requires few { length writes.now ≤ 10000 }
     requires size { length (text_of writes.now) ≤ request_limit }
@@ -53,7 +52,7 @@ pub(crate) fn request_bytes(alloc: Global, writes: &[Write]) -> Result<Vec<u8>, 
     }
 }
 
-// The body of the request that stands in these bytes.
+// The body of the request in these bytes.
 pub(crate) fn request_body(alloc: Global, bytes: Vec<u8>) -> Result<Vec<u8>, AllocError>
     ensures { (body : List ℕ) → length body ≤ request_limit → bytes.items ≡ request loop_host body
         → IfOk result (λ v. v.items ≡ body) }
@@ -79,7 +78,7 @@ pub(crate) fn answer_bytes(alloc: Global, status: u16, body: &str) -> Result<Vec
     }
 }
 
-// The reply that stands in these bytes.
+// The reply in these bytes.
 pub(crate) fn reply_of(alloc: Global, bytes: Vec<u8>) -> Result<HttpReply, AllocError>
     ensures { IfOk result (IsAnswered bytes.items) }
 {

@@ -1,4 +1,4 @@
-//! One request at the index's end: read, run and answered.
+//! One request at the index's end: it is read, run and answered.
 ghost use Rattle.std.specs.Prelude.{◌≡◌, ◌≢◌, ◌≤◌, List, length, string_bytes, IfOk, MatchResult};
 ghost use Rattle.relay_action.specs.declared.write.Write.{Write};
 ghost use Rattle.relay_results.specs.declared.outcome.Outcome.{Outcome};
@@ -16,7 +16,7 @@ use relay_lane::{WireFault, WireReply};
 use relay_wires::told::tell;
 use std::alloc::{AllocError, Global};
 
-// Reads the request that stands in these bytes and runs it, and gives the status of its answer and the text.
+// Reads and runs the request in these bytes, and returns the status and the text of its answer.
 fn serve(
     alloc: Global,
     bytes: Vec<u8>,
@@ -53,7 +53,7 @@ fn carry_back(alloc: Global, status: u16, text: &str) -> Result<WireReply, WireF
     }
 }
 
-// Runs the request that stands in these bytes, and carries its reply back unless it is to be lost.
+// Runs the request in these bytes, and carries its reply back unless it is to be lost.
 pub(crate) fn exchange(
     alloc: Global,
     bytes: Vec<u8>,

@@ -1,4 +1,4 @@
-//! A wire round the stand-in index, within one process.
+//! A wire to the stand-in index, within one process.
 ghost use Rattle.std.specs.Prelude.{◌≡◌, ◌++◌, ◌∷◌, [], true, IfOk, OnOk, OnErr};
 ghost use Rattle.relay_loop.specs.Loops.{begun, is_lost, Opens};
 
@@ -12,11 +12,11 @@ use std::alloc::{AllocError, Global};
 use std::collections::VecDeque;
 use std::marker::Model;
 
-/// A wire round an index in memory. A request goes through a connection of HTTP to the index's end, is
-/// read and run there when it is received, and its reply comes back through another.
+/// A wire to an index in memory. A request goes through an HTTP connection to the index's end, is
+/// read and run there when its reply is received, and the reply comes back through another one.
 ///
-/// It describes what stands outside: the requests that were sent over it, the runs of its index, and
-/// what it answered.
+/// It describes the outside: the requests that were sent over it, the runs of its index, and the
+/// answers.
 #[derive(Drop)]
 pub struct LoopWire {
     alloc: Global,
@@ -35,9 +35,10 @@ impl Model for LoopWire {
 }
 
 impl LoopWire {
-    /// A wire round this index, whose items run under this script. Nothing is out, and no reply is to be
-    /// lost. An outside in which nothing was sent fits it where it has the versions and the lists of the
-    /// index. `AllocError` does not come today: the wire takes its memory when requests are sent.
+    /// A wire to this index, whose items run under this script. Nothing is outstanding, and no
+    /// reply is to be lost. An outside in which nothing was sent fits it if it has the versions and
+    /// the lists of the index. `AllocError` is not returned today: the wire allocates when requests
+    /// are sent.
     pub fn new(alloc: Global, index: Index, script: Script) -> Result<LoopWire, AllocError>
         ensures begun { IfOk result (λ w. w ≡ begun index script) }
         ensures opens { IfOk result Opens }
@@ -51,8 +52,8 @@ impl LoopWire {
         })
     }
 
-    /// The reply to the request of this number is to be lost: the request is run, and what the index
-    /// answers is dropped. `AllocError`: there was no memory to note it, and the wire is as before.
+    /// Loses the reply to the request with this number: the request is run, and the answer of the
+    /// index is dropped. `AllocError`: allocation failed, and the wire is unchanged.
     pub fn lose(&mut self, number: u64) -> Result<(), AllocError>
         ensures noted { OnOk result (self.new ≡ record self.old { lost = self.old.lost ++ number ∷ [] }) }
         ensures unchanged { OnErr result (self.new ≡ self.old) }
@@ -68,7 +69,6 @@ impl LoopWire {
         &self.index
     }
 
-    // Whether the reply to this number is to be lost.
     fn is_lost(&self, number: u64) -> bool
         ensures { result ≡ is_lost number self.now }
     {
@@ -93,8 +93,8 @@ impl Wire for LoopWire {
 
     ghost fits = { Fits };
 
-    /// Sends a request: its bytes wait for the index's end. The only fault is `Memory`; then nothing was
-    /// sent, and the wire is as before.
+    /// Sends a request: its bytes wait for the index's end. The only fault is `Memory`; then
+    /// nothing was sent, and the wire is unchanged.
     fn send(&mut self, number: u64, writes: &[Write]) -> Result<(), WireFault>
         requires fresh { Mem number (numbers self.old.out) → ⊥ }
         requires few { length writes.now ≤ 10000 }
@@ -123,15 +123,15 @@ impl Wire for LoopWire {
         }
     }
 
-    /// Runs a request and receives its reply. `Lost`: all items were run, and the reply was to be lost
-    /// or is longer than a connection carries. `Memory`: the first items were run, perhaps none or all
-    /// of them. No other fault comes.
+    /// Runs a request and receives its reply. `Lost`: all items were run, and the reply was to be
+    /// lost or is longer than a connection carries. `Memory`: the first items were run, perhaps
+    /// none or all of them. There are no other faults.
     fn receive(&mut self, number: u64) -> Result<WireReply, WireFault>
         requires { Mem number (numbers self.old.out) }
         ensures out { numbers self.new.out ≡ without number (numbers self.old.out) }
         ensures reply { IsReply result }
         ensures outside { Shows true Fits self.old self.new (AnswersOn number (answer_of result)) }
-        // What was sent is run as the script says, and what the index answers is received.
+        // What was sent is run as the script says, and the answer of the index is received.
         ensures received { (ws : List Write) → MayGo ws → found number self.old.out ≡ Some (bytes_of ws)
             → Receives number ws self.old self.new result }
         ensures taken { TakesIn number self.old self.new }

@@ -1,4 +1,4 @@
-//! Connections that are made.
+//! Making connections.
 ghost use Rattle.std.specs.Prelude.{◌≡◌, ◌*◌, None, Some, string_bytes};
 ghost use Rattle.relay_action.specs.Streams.{one_more};
 ghost use Rattle.relay_net.specs.Waiting.{limit_nanos};
@@ -11,9 +11,9 @@ use std::marker::Model;
 use std::net::{Net, OpenStream, TcpStream, ToSocketAddrs};
 use std::time::Duration;
 
-/// Makes connections to one address over TCP. Contracts see the address, how many calls failed and how many
-/// were made, for how many seconds a call of a connection may wait, 0 for no limit, and why the last call
-/// failed; at 2^64 - 1 a count stays.
+/// Makes connections to one address over TCP. Contracts see the address, how many calls failed and
+/// how many were made, for how many seconds a call of a connection may wait (0 for no limit), and
+/// why the last call failed; the counts saturate at 2^64 - 1.
 #[derive(Drop)]
 pub struct TcpDial<R: Net> {
     net: R,
@@ -34,9 +34,9 @@ impl<R: Net> Model for TcpDial<R> {
 }
 
 impl<R: Net> TcpDial<R> {
-    /// What dials this address, as `HOST:PORT`: an IP address, in brackets where it is of version 6, or a
-    /// host's name, and a port. Nothing is looked up before the first call of `dial`. There is no limit to
-    /// how long a call may wait.
+    /// A dial to this address, `HOST:PORT`: an IP address, in brackets if it is of version 6, or a
+    /// host name, and a port. Nothing is looked up before the first call of `dial`. There is no
+    /// limit to how long a call may wait.
     pub fn new(net: R, address: String) -> TcpDial<R>
         ensures { result ≡ (string_bytes address, 0, 0, 0, None) }
     {
@@ -50,9 +50,9 @@ impl<R: Net> TcpDial<R> {
         }
     }
 
-    /// The same, with a limit in seconds, 0 for none. A connection that takes longer to be made fails, and so
-    /// does a read or a write of a connection that waits longer. Where a name stands for several addresses,
-    /// each of them may take so long.
+    /// The same, with a limit in seconds, or 0 for none. A connection that takes longer to be made
+    /// fails, and so does a read or a write on a connection that waits longer. If a name has
+    /// several addresses, the limit applies to each of them.
     pub fn with_timeout(self, seconds: u32) -> TcpDial<R>
         ensures { result ≡ (self.0, self.1, self.2, seconds, self.4) }
     {
@@ -61,14 +61,14 @@ impl<R: Net> TcpDial<R> {
         dial
     }
 
-    /// Why the last call of `dial` failed; `None` before the first, and where it did not fail.
+    /// Why the last call of `dial` failed; `None` before the first call and after one that did not
+    /// fail.
     pub fn fault(&self) -> Option<ErrorKind>
         ensures { result ≡ self.now.4 }
     {
         self.fault
     }
 
-    // Counts a failed call.
     fn fail(&mut self, fault: ErrorKind) -> DialFault
         ensures { self.new ≡ (self.old.0, one_more self.old.1, self.old.2, self.old.3, Some fault) }
     {
@@ -85,13 +85,13 @@ impl<R: Net> Dial<StdStream<R::Stream>> for TcpDial<R> {
 
     ghost dialled = { λ d. d.2 };
 
-    /// A connection to the address. Where its name stands for several, they are tried in turn, and the
-    /// first that answers is taken. What is written goes out at once and is not held back to be sent with
-    /// what follows (Nagle's algorithm, RFC 896, is off). It may wait for the other end, as long as the
-    /// system does, or as long as the limit says.
+    /// A connection to the address. If its name has several addresses, they are tried in turn, and
+    /// the first that responds is taken. What is written is sent immediately, without waiting for
+    /// more (Nagle's algorithm, RFC 896, is off). It may wait for the other end, as long as the
+    /// system does, or within the limit.
     ///
-    /// `DialFault`: the address is none, its name is not known, none answers, the system has no socket, or
-    /// the limit cannot be set.
+    /// `DialFault`: the address is invalid, its name is unknown, none responds, the system has no
+    /// socket, or the limit cannot be set.
     fn dial(&mut self) -> Result<StdStream<R::Stream>, DialFault>
         ensures count { self.new.1 ≡ (if is_ok result then self.old.1 else one_more self.old.1) }
         ensures dialled { self.new.2 ≡ one_more self.old.2 }
@@ -115,7 +115,7 @@ impl<R: Net> Dial<StdStream<R::Stream>> for TcpDial<R> {
     }
 }
 
-// The limit of so many seconds.
+// The limit for this many seconds.
 fn limit_of(seconds: u32) -> Option<Duration>
     ensures { limit_nanos result ≡ seconds * 1000000000 }
 {
@@ -132,7 +132,7 @@ fn connect<R: Net>(net: &R, address: &str) -> Result<R::Stream, io::Error> {
     Ok(stream)
 }
 
-// The same within this time, and so are the calls of the connection.
+// The same with a time limit, which also applies to the calls of the connection.
 fn connect_within<R: Net>(net: &R, address: &str, limit: Duration) -> Result<R::Stream, io::Error> {
     let stream = reach_within(net, address, limit)?;
     stream.set_read_timeout(Some(limit))?;
@@ -141,7 +141,7 @@ fn connect_within<R: Net>(net: &R, address: &str, limit: Duration) -> Result<R::
     Ok(stream)
 }
 
-// Tries the addresses that the name stands for, each for so long.
+// Tries the addresses of the name, each with this limit.
 fn reach_within<R: Net>(net: &R, address: &str, limit: Duration) -> Result<R::Stream, io::Error> {
     let mut last = io::Error::from(ErrorKind::InvalidInput);
     for address in address.to_socket_addrs(net)? {

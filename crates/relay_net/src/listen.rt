@@ -1,4 +1,4 @@
-//! Connections that are taken.
+//! Accepting connections.
 ghost use Rattle.std.specs.Prelude.{◌≡◌, IfOk};
 
 use relay_action::StdStream;
@@ -7,8 +7,8 @@ use std::io;
 use std::marker::Model;
 use std::net::{Net, OpenListener, OpenStream, SocketAddr, TcpListener};
 
-/// Takes the connections that come to one address over TCP. Contracts see how many it took and how many
-/// calls failed, and of the bytes of a connection nothing; at 2^64 - 1 a count stays.
+/// Accepts the connections to one address over TCP. Contracts see how many it accepted and how many
+/// calls failed, and nothing of the bytes of a connection; the counts saturate at 2^64 - 1.
 #[derive(Drop)]
 pub struct TcpListen<R: Net> {
     listener: R::Listener,
@@ -25,10 +25,10 @@ impl<R: Net> Model for TcpListen<R> {
 }
 
 impl<R: Net> TcpListen<R> {
-    /// Listens at this address, as `HOST:PORT`: an IP address, in brackets where it is of version 6, or a
-    /// host's name, and a port; with port 0 the system chooses one. From here on connections may come, and
-    /// wait to be accepted. Any error is the system's: the address is none or not of this machine, or
-    /// another program listens there.
+    /// Listens at this address, `HOST:PORT`: an IP address, in brackets if it is of version 6, or a
+    /// host name, and a port; with port 0 the system chooses one. From here on connections may
+    /// arrive, and wait to be accepted. Any error is the system's: the address is invalid or not of
+    /// this machine, or another program listens there.
     pub fn bind(net: &R, address: &str) -> Result<TcpListen<R>, io::Error>
         ensures { IfOk result (λ l. l ≡ (0, 0)) }
     {
@@ -40,7 +40,7 @@ impl<R: Net> TcpListen<R> {
         })
     }
 
-    /// Where it listens, with the port that the system chose where none was asked for. An error is the
+    /// Where it listens, with the port that the system chose if none was asked for. An error is the
     /// system's.
     pub fn local_addr(&self) -> Result<SocketAddr, io::Error> {
         self.listener.local_addr()
@@ -52,7 +52,7 @@ impl<R: Net> Listen<StdStream<R::Stream>> for TcpListen<R> {
 
     ghost shows = { λ l. unseen l.0 l.1 };
 
-    /// The next connection. It waits until one comes.
+    /// The next connection. It waits until one arrives.
     fn accept(&mut self) -> Result<StdStream<R::Stream>, AcceptFailed> {
         match self.listener.accept() {
             Ok((stream, _)) => {

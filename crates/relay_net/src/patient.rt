@@ -1,4 +1,4 @@
-//! Dials that wait for an index that is away.
+//! Dials that wait for an index that is down.
 ghost use Rattle.std.specs.Prelude.{◌≡◌, ◌+◌, ◌≤◌, is_ok, if◌then◌else◌, OnErr, IfOk};
 ghost use Rattle.relay_action.specs.Streams.{one_more, FailedSince};
 
@@ -7,9 +7,9 @@ use std::marker::Model;
 use std::thread;
 use std::time::{Clock, Duration, Instant};
 
-/// A dial that tries again, a second after each failure, until so many seconds have gone by. Contracts see the
-/// dial that it makes do with, for how many seconds it tries, how many calls failed and how many were made; at
-/// 2^64 - 1 a count stays. All its tries are one call.
+/// A dial that keeps trying, once a second, until a number of seconds has passed. Contracts see the
+/// dial that it uses, for how many seconds it tries, how many calls failed and how many were made;
+/// the counts saturate at 2^64 - 1. All its tries are one call.
 #[derive(Drop)]
 pub struct PatientDial<D, C: Clock> {
     dial: D,
@@ -28,7 +28,8 @@ impl<D, C: Clock> Model for PatientDial<D, C> {
 }
 
 impl<D, C: Clock> PatientDial<D, C> {
-    /// What tries by this dial for so many seconds, by this clock. With 0 it tries once.
+    /// A dial that tries with this dial for `patience` seconds, by this clock. With 0 it tries
+    /// once.
     pub fn new(dial: D, clock: C, patience: u32) -> PatientDial<D, C>
         ensures { result ≡ (dial, patience, 0, 0) }
     {
@@ -41,7 +42,6 @@ impl<D, C: Clock> PatientDial<D, C> {
         }
     }
 
-    // Counts a failed call.
     fn fail(&mut self) -> DialFault
         ensures { self.new ≡ (self.old.0, self.old.1, one_more self.old.2, self.old.3) }
     {
@@ -71,9 +71,10 @@ impl<S, D: Dial<S>, C: Clock> Dial<S> for PatientDial<D, C> {
 
     ghost dialled = { λ p. p.3 };
 
-    /// The first stream that a try of the dial gives. The first try is made at once, and at most `patience`
-    /// more follow, each a second after the one before it, as long as the seconds since the start of the call
-    /// are below `patience`. Without a clock their number alone ends them.
+    /// The first stream that a try of the dial returns. The first try is made immediately, and at
+    /// most `patience` more follow, each a second after the previous one, as long as the seconds
+    /// since the start of the call are below `patience`. Without a clock only their number ends
+    /// them.
     ///
     /// `DialFault`: each try failed.
     fn dial(&mut self) -> Result<S, DialFault>

@@ -13,7 +13,7 @@ use relay_wires::{HttpWire, Wire, WireFault, WireReply};
 use std::alloc::Global;
 use std::net::Net;
 
-// Sends a request where none is out.
+// Sends a request if none is outstanding.
 fn send<W: Wire>(wire: &mut W, writes: &[Write]) -> Result<(), WireFault>
     requires out { W.out wire.old ≡ [] }
     requires few { length writes.now ≤ 10000 }
@@ -25,7 +25,7 @@ fn send<W: Wire>(wire: &mut W, writes: &[Write]) -> Result<(), WireFault>
     wire.send(1, writes)
 }
 
-/// Sends a delete of document `2` of `books` with this version. Whether it was sent.
+/// Sends a delete of document `2` of `books` with this version, and returns whether it was sent.
 pub fn sends<W: Wire>(alloc: Global, wire: &mut W, version: u64) -> bool
     requires out { W.out wire.old ≡ [] }
     requires version { version ≤ 9000000000000000000 }
@@ -43,7 +43,7 @@ pub fn sends<W: Wire>(alloc: Global, wire: &mut W, version: u64) -> bool
     bulk_len(&writes) <= 16_777_216 && send(wire, &writes).is_ok()
 }
 
-/// The status of the first of the entries that came, if there is one.
+/// The status of the first of the entries, if there is one.
 pub fn status_of(answer: Result<WireReply, WireFault>) -> Option<u16> {
     match answer {
         Ok(WireReply::Items(outcomes)) => Some(outcomes.first()?.status),
@@ -63,7 +63,8 @@ pub fn asks<W: Wire>(alloc: Global, wire: &mut W, version: u64) -> Option<u16>
     status_of(wire.receive(1))
 }
 
-/// Serves so many connections with an index that refuses nothing. Whether they were served.
+/// Serves this many connections with an index that refuses nothing, and returns whether they were
+/// served.
 pub fn serves_with<R: Net>(
     alloc: Global,
     listener: &mut TcpListen<R>,
@@ -80,7 +81,7 @@ pub fn address_of<R: Net>(alloc: Global, listener: &TcpListen<R>) -> Option<Stri
     format!(in alloc; "{address}").ok()
 }
 
-/// A wire to an address, over which one request is out at a time.
+/// A wire to an address, with one outstanding request at a time.
 pub fn wired<R: Net + Copy>(
     alloc: Global,
     net: R,

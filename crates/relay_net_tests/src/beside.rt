@@ -1,4 +1,4 @@
-//! A server in a thread of its own.
+//! A server in its own thread.
 ghost use Rattle.std.specs.Prelude.{◌≡◌, []};
 
 use crate::asking::{address_of, asks, serves_with, wired};
@@ -22,7 +22,7 @@ fn count(alloc: Global, index: &Index) -> usize {
     }
 }
 
-// How many writes an index applied that served so many connections.
+// How many writes an index applied that served this many connections.
 fn serves<R: Net>(alloc: Global, mut listener: TcpListen<R>, requests: u64) -> usize {
     let mut index = Index::new(alloc);
     if serves_with(alloc, &mut listener, requests, &mut index) {

@@ -1,4 +1,4 @@
-//! Sockets of the loopback.
+//! Sockets on the loopback.
 ghost use Rattle.std.specs.Prelude.{◌≡◌, []};
 
 use crate::asking::{address_of, sends, serves_with, status_of, wired};
@@ -8,8 +8,8 @@ use relay_wires::{Dial, Wire};
 use std::alloc::Global;
 use std::net::Net;
 
-// The status of a delete over a wire to a listener. The request is small enough to wait in the socket until
-// the connection is taken.
+// The status of a delete over a wire to a listener. The request is small enough to wait in the
+// socket until the connection is accepted.
 fn exchange<R: Net, W: Wire>(
     alloc: Global,
     listener: &mut TcpListen<R>,
@@ -42,7 +42,7 @@ fn dials<R: Net>(alloc: Global, net: &R, address: &str) -> Option<bool> {
     Some(dial.dial().is_ok())
 }
 
-// Whether an address is dialled, and listened at.
+// Whether an address can be dialled, and listened at.
 fn around<R: Net>(alloc: Global, net: &R, address: &str) -> (Option<bool>, bool) {
     let dialled = dials(alloc, net, address);
     (dialled, TcpListen::bind(net, address).is_ok())
@@ -56,7 +56,8 @@ fn around_listener<R: Net>(alloc: Global, net: &R) -> Option<(String, (Option<bo
     Some((address, found))
 }
 
-// Whether it is dialled while it listens and not listened at, and the other way round when it is gone.
+// Whether it can be dialled while it listens and not listened at, and the other way round when it
+// is gone.
 fn with_and_without<R: Net>(alloc: Global, net: &R) -> bool {
     match around_listener(alloc, net) {
         Some((address, found)) => {

@@ -1,4 +1,4 @@
-//! Dials that try again, by a clock that goes on while they wait.
+//! Dials that try again, by a clock that advances while they wait.
 ghost use Rattle.std.specs.Prelude.{◌≡◌};
 
 use relay_net::PatientDial;
@@ -8,8 +8,8 @@ use std::io::ErrorKind;
 use std::sync::atomic::{AtomicU64, Ordering};
 use std::time::{Clock, Duration};
 
-// A clock that counts the seconds for which it was slept by, and those that are added to it. It can be one
-// that cannot be read.
+// A clock that counts the seconds slept by it, and those that are added to it. It can be one that
+// cannot be read.
 #[derive(Clone, Copy)]
 struct Slept<'a> {
     seconds: &'a AtomicU64,
@@ -34,7 +34,7 @@ impl Clock for Slept<'_> {
     }
 }
 
-// A dial that fails so often, and takes so many seconds each time.
+// A dial that fails this many times, and takes this many seconds each time.
 #[derive(Drop)]
 struct Failing<'a> {
     failures: u32,
@@ -61,7 +61,7 @@ impl Dial<()> for Failing<'_> {
     }
 }
 
-// Whether a dial that fails so often gives a stream at last, and after how many seconds.
+// Whether a dial that fails this many times returns a stream at last, and after how many seconds.
 fn dials(patience: u32, failures: u32, cost: u64, is_read: bool) -> (bool, u64) {
     let seconds = AtomicU64::new(0);
     let clock = Slept {
@@ -79,8 +79,8 @@ fn dials(patience: u32, failures: u32, cost: u64, is_read: bool) -> (bool, u64) 
     (made, seconds.load(Ordering::SeqCst))
 }
 
-// How patient it is, how often the dial fails, the seconds of a try, whether the clock can be read, and
-// whether there is a stream after how many seconds.
+// How patient it is, how often the dial fails, the seconds of a try, whether the clock can be read,
+// and whether there is a stream, after how many seconds.
 const ROWS: &[(u32, u32, u64, bool, (bool, u64))] = &[
     (0, 0, 0, true, (true, 0)),
     (0, 1, 0, true, (false, 0)),

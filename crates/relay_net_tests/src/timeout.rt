@@ -1,4 +1,4 @@
-//! Calls of connections that wait for a limited time.
+//! Calls on connections with a time limit.
 use crate::asking::address_of;
 use relay_action::ByteIn;
 use relay_net::{TcpDial, TcpListen};
@@ -7,19 +7,19 @@ use std::alloc::Global;
 use std::net::Net;
 use std::time::{Clock, Duration, Instant};
 
-// Whether a read of a connection fails on which nothing comes.
+// Whether a read on a connection fails on which nothing arrives.
 fn read_fails<R: Net>(net: &R, address: String) -> Option<bool> {
     let mut stream = TcpDial::new(net, address).with_timeout(1).dial().ok()?;
     Some(stream.read(&mut [0; 1]).is_err())
 }
 
-// The same of one to a listener that takes no connection.
+// The same for one to a listener that accepts no connection.
 fn silent_read_fails<R: Net>(alloc: Global, net: &R) -> Option<bool> {
     let listener = TcpListen::bind(net, "127.0.0.1:0").ok()?;
     read_fails(net, address_of(alloc, &listener)?)
 }
 
-// The time that this takes, if it fails as it is to.
+// The time that this takes, if it fails as expected.
 fn silent_read_takes<R: Net + Clock>(alloc: Global, rt: &R) -> Option<Duration> {
     let start = Instant::now(rt).ok()?;
     match silent_read_fails(alloc, rt) {

@@ -1,4 +1,4 @@
--- What is said of a file that was not put whole, and how the program ends then.
+-- The message for a file that was not put in full, and the exit status after it.
 use Rattle.std.specs.Prelude.{ℕ, Bool, true, false, List, [], ◌∷◌, ◌++◌, Option, None, Some, codes, decimal, if◌then◌else◌, nat_lt}
 use Rattle.relay_ndjson.specs.declared.kind.LineKind.TheVariants as kind
 use Rattle.relay_ndjson.specs.declared.kind.LineKind.{LineKind}
@@ -11,20 +11,20 @@ use Rattle.relay_run.specs.declared.feed.FeedFault.TheVariants as feed
 use Rattle.relay_run.specs.declared.faults.FileFault.{FileFault}
 use Rattle.relay_run.specs.declared.faults.FileFault.TheVariants as fault
 
--- what stands behind the name of the file
+-- what follows the name of the file
 abbrev pub line_fault_text : ℕ → LineKind → List ℕ
 line_fault_text line kind.Read = codes "read failed"
 line_fault_text line kind.Memory = codes "out of memory"
 line_fault_text line other = codes "line " ++ decimal line ++ codes ": " ++ name_of other
 
--- the line of a file; a lane that is gone is said by the run, and not by the file
+-- the line of a file; there is none for a lane that is gone, which has its own message
 abbrev pub file_fault_line : List ℕ → FileFault → List ℕ
 file_fault_line file fault.Open = file ++ codes ": open failed\n"
 file_fault_line file (fault.Feed (feed.Input e)) = file ++ codes ": " ++ line_fault_text e.line e.kind ++ codes "\n"
 file_fault_line file (fault.Feed feed.NumbersSpent) = file ++ codes ": NumbersSpent\n"
 file_fault_line file (fault.Feed feed.LaneGone) = []
 
--- why a file was not put whole: it was not opened, or this stopped its producer
+-- why a file was not put in full: it was not opened, or this stopped its producer
 abbrev pub file_fault : Bool → Option FeedFault → Option FileFault
 file_fault false stop = Some fault.Open
 file_fault true None = None
@@ -37,7 +37,8 @@ exit_of_file (fault.Feed (feed.Input e)) = exit_of_kind e.kind
 exit_of_file (fault.Feed feed.NumbersSpent) = exit.Input
 exit_of_file (fault.Feed feed.LaneGone) = exit.Done
 
--- of several the one with the highest rank is the program's: out of memory, a device, an input, operations reported
+-- of several the one with the highest rank is the exit status: a failed allocation, a device, an input, operations
+-- reported
 abbrev pub rank : Exit → ℕ
 rank exit.Done = 0
 rank exit.Reported = 1
@@ -51,7 +52,7 @@ worse a b = if nat_lt (rank a) (rank b) then b else a
 
 -- ---- all files
 
--- what is said of a file, where something is at fault
+-- the message for a file, if there is a fault
 abbrev pub said_of : List ℕ → Option FileFault → List ℕ
 said_of file None = []
 said_of file (Some f) = file_fault_line file f
@@ -60,14 +61,14 @@ abbrev pub worse_by : Exit → Option FileFault → Exit
 worse_by end None = end
 worse_by end (Some f) = worse end (exit_of_file f)
 
--- of files, each with whether it was opened and what stopped its producer, in their order
+-- for files, in order, each with whether it was opened and what stopped its producer
 abbrev pub faults_text : List (List ℕ) → List Bool → List (Option FeedFault) → List ℕ
 faults_text [] opened stops = []
 faults_text (file ∷ files) [] stops = []
 faults_text (file ∷ files) (was ∷ opened) [] = []
 faults_text (file ∷ files) (was ∷ opened) (stop ∷ stops) = said_of file (file_fault was stop) ++ faults_text files opened stops
 
--- how the program ends by them, where it would have ended so
+-- the exit status after them, if it would have been this one
 abbrev pub exit_of_files : Exit → List Bool → List (Option FeedFault) → Exit
 exit_of_files end [] stops = end
 exit_of_files end (was ∷ opened) [] = end

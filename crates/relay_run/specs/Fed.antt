@@ -11,12 +11,12 @@ use Rattle.relay_run.specs.declared.feed.FeedFault.{FeedFault}
 use Rattle.relay_run.specs.Feeding.{Feeds}
 use Rattle.relay_run.specs.Identities.{identity_of, identity_of_closed}
 
--- operations under the names of this producer of an epoch, with the numbers n, n + 1, and so on
+-- operations under the names of this producer in an epoch, with the numbers n, n + 1 and so on
 abbrev pub named : ℕ → ℕ → ℕ → List Operation → List Op
 named epoch producer n [] = []
 named epoch producer n (op ∷ ops) = record { epoch = epoch; producer = producer; number = n; key = op.0; action = op.1 } ∷ named epoch producer (n + 1) ops
 
--- what `feed` answers, where this is its fault, if it has one
+-- the result of `feed` with this fault, if there is one
 abbrev pub answer_of : Option FeedFault → Result Unit FeedFault
 answer_of None = Ok tt
 answer_of (Some fault) = Err fault
@@ -30,7 +30,7 @@ abbrev pub other_readers : {S : Type 0} → List (Option S) → List (Option S)
 other_readers [] = []
 other_readers (r ∷ rs) = rs
 
--- the readers are streams; operations that name no index have this one, if one is given
+-- the readers are streams; operations that do not name an index have this one, if one is given
 module _ {S : Type 0} (left : S → Option (List ℕ)) (failed : S → ℕ) (index : Option (List ℕ)) where
   -- the producer was fed these operations, from the front of the reader, and put them; without a reader it was fed none
   abbrev pub IsFedFrom : Option S → List Operation → ProducerState → ProducerState → Option FeedFault → Type 0
@@ -47,8 +47,8 @@ module _ {S : Type 0} (left : S → Option (List ℕ)) (failed : S → ℕ) (ind
     pub same : (closed.producer ≡ after.producer) × (closed.put ≡ after.put)
     pub identity : identity_of_closed closed ≡ identity_of before
 
-  -- The producers numbered p, p + 1, and so on, each of which had put nothing, were fed these operations, each from the reader
-  -- at its place, and these are the faults that ended it.
+  -- The producers numbered p, p + 1 and so on, each of which had put nothing, were fed these operations, each from
+  -- the reader at its position, and these are the faults that ended it.
   abbrev pub AreFedFrom : List Queue → ℕ → (ℕ → List Operation) → ℕ → List (Option S) → List (Option FeedFault) → Type 0
   AreFedFrom queues epoch ops p readers [] = Unit {0}
   AreFedFrom queues epoch ops p readers (fault ∷ faults) =

@@ -18,8 +18,8 @@ abbrev pub after_puts : ProducerState → List Operation → ProducerState
 after_puts s [] = s
 after_puts s (op ∷ ops) = after_puts (after_put op.0 op.1 s) ops
 
--- Why no more was put: blank lines alone were left; or what follows is at fault, or a read failed, or there was no memory
--- to read it; or one more operation stands there, for which there is no number, or whose lane is gone.
+-- Why no more was put: only blank lines were left; or what follows has a fault, or a read or an allocation for it
+-- failed; or there is one more operation, for which there is no number, or whose lane is gone.
 abbrev pub Stops : Reading → Reading → ProducerState → ProducerState → Result Unit FeedFault → Type 0
 Stops rest new fed after (Ok u) = Ends rest new × (after ≡ fed)
 Stops rest new fed after (Err (fault.Input e)) = Fails rest new e × (after ≡ fed)
@@ -28,7 +28,7 @@ Stops rest new fed after (Err fault.NumbersSpent) =
 Stops rest new fed after (Err fault.LaneGone) =
     (n : ℕ) × (op : Operation) × Takes rest new n op × (after ≡ after_gone op.0 fed)
 
--- the fault that a refusal of a put is
+-- the fault for the refusal of a put
 abbrev pub fault_of : PutFaultKind → FeedFault
 fault_of refusal.LaneGone = fault.LaneGone
 fault_of refusal.NumbersSpent = fault.NumbersSpent
@@ -47,15 +47,15 @@ FeedsNext old new before after (Ok next.Put) =
 FeedsNext old new before after (Ok next.Ended) = Ends old new × (after ≡ before)
 FeedsNext old new before after (Err e) = Stops old new before after (Err e)
 
--- There are operations that were taken from the front of the input, and that the producer put, one after another and in
--- that order; and that is why there were no more.
+-- There are operations that were taken from the front of the input, and that the producer put, one after another in
+-- that order; and this is why there were no more.
 pub record Feeds (old new : Reading) (before after : ProducerState) (result : Result Unit FeedFault) : Type 0 where
   pub ops : List Operation
   pub rest : Reading
   pub taken : TakesAll old rest ops
   pub stops : Stops rest new (after_puts before ops) after result
 
--- how many calls of the reader have failed after an answer
+-- the number of failed calls of the reader after this result
 abbrev pub failed_by : {T : Type 0} → Result T FeedFault → ℕ → ℕ
 failed_by (Err (fault.Input e)) n = failed_after {T = Unit} (Err e) n
 failed_by other n = n

@@ -1,4 +1,4 @@
--- The threads of producers, and what they ended with.
+-- The threads of producers, and their state at the end.
 use Rattle.std.specs.Prelude.{ℕ, List, [], ◌∷◌, Option, option_map, string_bytes}
 use Rattle.std.specs.declared.thread.PromisedHandle.{PromisedHandle}
 use Rattle.relay_producer.specs.States.{ProducerState, ClosedProducerState}
@@ -7,7 +7,8 @@ use Rattle.relay_run.specs.declared.producing.Fed.{Fed}
 use Rattle.relay_run.specs.declared.producing.FedPromise.{FedPromise}
 use Rattle.relay_run.specs.Fed.{IsFed, first_reader, other_readers}
 
--- what a producer's thread is given: the producer, its reader, if it has one, and the index of operations that name none
+-- what a producer's thread is given: the producer, its reader, if it has one, and the index of operations that do not
+-- name one
 abbrev pub Given : Type 0 → Type 0
 Given S = ProducerState × Option S × Option (List ℕ)
 
@@ -15,16 +16,16 @@ module _ {S : Type 0} where
   abbrev pub given_to : PromisedHandle Fed (FedPromise S) → Given S
   given_to h = (h.promise.producer.value, h.promise.reader.value, option_map string_bytes h.promise.index.value)
 
-  -- each producer with the reader at its place
+  -- each producer with the reader at its position
   abbrev pub all_given : Option (List ℕ) → List (Option S) → List ProducerState → List (Given S)
   all_given index readers [] = []
   all_given index readers (p ∷ ps) = (p, first_reader readers, index) ∷ all_given index (other_readers readers) ps
 
-  -- a thread that was given this has ended so
+  -- a thread that was given this has ended like this
   abbrev pub EndsFed : (S → Option (List ℕ)) → (S → ℕ) → Given S → ClosedProducerState → Option FeedFault → Type 0
   EndsFed left failed g closed fault = IsFed left failed g.2 g.1 g.0 closed fault
 
-  -- so have all of them, in their order
+  -- all of them have, in order
   abbrev pub AllEndFed : (S → Option (List ℕ)) → (S → ℕ) → List (Given S) → List ClosedProducerState → List (Option FeedFault) → Type 0
   AllEndFed left failed [] [] [] = Unit {0}
   AllEndFed left failed [] [] (f ∷ fs) = ⊥

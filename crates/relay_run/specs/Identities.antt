@@ -1,4 +1,4 @@
--- Producers that are handed to threads and come back closed.
+-- Producers that are passed to threads and come back closed.
 use Rattle.std.specs.Prelude.{ℕ, List}
 use Rattle.relay_queue.specs.Ends.{Queue}
 use Rattle.relay_producer.specs.Ends.{identities, open_puts, closed_puts}

@@ -1,4 +1,4 @@
--- What a run says at its end.
+-- The lines at the end of a run.
 use Rattle.std.specs.Prelude.{◌≡◌, ℕ, ◌+◌, ◌*◌, ◌^◌, List, [], ◌∷◌, ◌++◌, length, codes, decimal, flat_map, IsPermutation}
 use Rattle.std.specs.List.Sorted.{IsNonDecreasingBy}
 use Rattle.relay_action.specs.declared.operation.OpName.{OpName}
@@ -27,21 +27,21 @@ counts_line applied already reported =
 abbrev pub outcome_text : List Report → ℕ → ℕ → List ℕ
 outcome_text reports applied already = flat_map report_line reports ++ counts_line applied already (length reports)
 
--- where a name stands among all: by producer, and then by number, which is below 2^64
+-- the position of a name in the order: by producer, and then by number, which is below 2^64
 abbrev pub place_of : OpName → ℕ
 place_of name = name.producer * 2 ^ 64 + name.number
 
--- the reports stand in the order of their names
+-- the reports are in the order of their names
 abbrev pub AreInOrder : List Report → Type 0
 AreInOrder reports = IsNonDecreasingBy (λ r. place_of r.name) reports
 
--- how the program ends where these operations are reported
+-- the exit status if these operations are reported
 abbrev pub exit_of_reports : List Report → Exit
 exit_of_reports [] = exit.Done
 exit_of_reports (r ∷ rs) = exit.Reported
 
 module _ {W : Type 0} where
-  -- the count of all lanes and this one so far; it stays at its greatest value
+  -- the sum of all lanes so far and this one; it saturates
   abbrev pub total : (LaneSummary W → ℕ) → ℕ → List (LaneSummary W) → ℕ
   total count sum [] = sum
   total count sum (s ∷ ss) = total count (counted (sum + count s)) ss
@@ -51,14 +51,15 @@ module _ {W : Type 0} where
   reports_of [] = []
   reports_of (s ∷ ss) = s.reports.items ++ reports_of ss
 
-  -- these are the reports of all lanes, in the order of their names, and the text tells of them and of the counts of all lanes
+  -- these are the reports of all lanes, in the order of their names, and the text has them and the counts of all
+  -- lanes
   pub record TellsOf (lanes : List (LaneSummary W)) (reports : List Report) (text : List ℕ) (end : Exit) : Type 0 where
     pub same : IsPermutation (reports_of lanes) reports
     pub order : AreInOrder reports
     pub lines : text ≡ outcome_text reports (total (λ s. s.applied) 0 lanes) (total (λ s. s.already) 0 lanes)
     pub ends : end ≡ exit_of_reports (reports_of lanes)
 
--- what is said of a relay that was not started
+-- the message for a relay that was not started
 abbrev pub start_fault_text : StartFault → List ℕ
 start_fault_text start.BadConfig = codes "start: BadConfig\n"
 start_fault_text start.WireCount = codes "start: WireCount\n"
@@ -71,6 +72,6 @@ kind_name kind.LaneMemory = codes "LaneMemory"
 kind_name kind.LaneGone = codes "LaneGone"
 kind_name kind.Memory = codes "Memory"
 
--- what is said of a relay that did not finish well
+-- the message for a relay that did not finish well
 abbrev pub finish_fault_text : FinishFault → List ℕ
 finish_fault_text f = codes "lane " ++ decimal f.lane ++ codes ": " ++ kind_name f.kind ++ codes "\n"

@@ -1,4 +1,4 @@
--- What is written at the end of a run, and how the program ends.
+-- What is written at the end of a run, and the exit status.
 use Rattle.std.specs.Prelude.{◌≡◌, ◌⊎◌, ℕ, List, [], ◌++◌, Option, Result, Ok, Err, codes, flat_map}
 use Rattle.std.specs.Io.KnownBytes.{append_known}
 use Rattle.relay_action.specs.Streams.{FailedSince}
@@ -28,19 +28,19 @@ exit_of_finish kind.LaneMemory = exit.Memory
 exit_of_finish kind.LaneGone = exit.Device
 exit_of_finish kind.Memory = exit.Memory
 
--- a failed write of the summary is said, and a device's fault
+-- a failed write of the summary has a message, and is a device's fault
 abbrev pub failed_text : List ℕ
 failed_text = codes "write failed\n"
 
--- The summary with these reports was written, and nothing else was said; or a write of it failed, which was said.
+-- The summary with these reports was written, and there was no message; or a write of it failed, and there was one.
 abbrev pub SaysSummary : {W : Type 0} → List (LaneSummary W) → List Report → Exit → Written → Written → Written → Written → Exit → Type 0
 SaysSummary lanes reports before out out' err err' end =
     (text : List ℕ) × (reported : Exit) × TellsOf lanes reports text reported
     × (((out'.0 ≡ append_known out.0 text) × (out'.1 ≡ out.1) × (err' ≡ err) × (end ≡ worse before reported))
     ⊎ (FailedSince out.1 out'.1 × IsSaid failed_text err err' × (end ≡ worse before exit.Device)))
 
--- The faults of the files were said before, in this text. A relay that did not finish well was said after it, nothing was
--- written to out, and there are no reports; of another the summary was written.
+-- The faults of the files were written before, in this text. If the relay did not finish well, a message followed,
+-- nothing was written to `out`, and there are no reports; otherwise the summary was written.
 abbrev pub Concludes : {W : Type 0} → List ℕ → Exit → Result (Summary W) FinishFault → List Report → Written → Written → Written → Written → Exit → Type 0
 Concludes text before (Ok summary) reports out out' err err' end =
     (mid : Written) × IsSaid text err mid × SaysSummary summary.lanes.items reports before out out' mid err' end
@@ -48,12 +48,12 @@ Concludes text before (Err f) reports out out' err err' end =
     (mid : Written) × IsSaid text err mid × IsSaid (finish_fault_text f) mid err' × (out' ≡ out) × (end ≡ worse before (exit_of_finish f.kind))
     × (reports ≡ [])
 
--- what is said of a file of this name that could not be made or written
+-- the message for a file with this name that could not be created or written
 abbrev pub file_failed_text : List ℕ → List ℕ → List ℕ
 file_failed_text name what = name ++ codes ": " ++ what ++ codes " failed\n"
 
--- The reports were written to the file of this name, as an object a line, and nothing was said; or a write of it failed, which
--- was said, and is a device's fault.
+-- The reports were written to the file with this name, one object per line, and there was no message; or a write of
+-- it failed, which had a message, and is a device's fault.
 abbrev pub SavesReports : List ℕ → List Report → Exit → Written → Written → Written → Written → Exit → Type 0
 SavesReports name reports before file file' err err' end =
     ((file'.0 ≡ append_known file.0 (flat_map saved_line reports)) × (file'.1 ≡ file.1) × (err' ≡ err) × (end ≡ before))

@@ -1,4 +1,4 @@
--- What the operations of a producer are read from.
+-- Where the operations of a producer are read from.
 use Rattle.std.specs.Prelude.{ℕ, ◌==◌, List, Bool, true, false, not, ◌&&◌, Option, None, Some, codes, bytes_eq, count_by}
 use Rattle.relay_run.specs.declared.source.Source.{Source}
 use Rattle.relay_run.specs.declared.source.Source.TheVariants as source
@@ -16,7 +16,7 @@ is_standard (source.Standard s) = true
 abbrev pub named_count : List ℕ → List (List ℕ) → ℕ
 named_count wanted names = count_by (λ name. bytes_eq name wanted) names
 
--- whether a path, if there is one, is none of these and not that of standard input
+-- whether a path, if there is one, is not one of these and not that of standard input
 abbrev pub stands_apart : Option (List ℕ) → List (List ℕ) → Bool
 stands_apart None names = true
 stands_apart (Some path) names = not (bytes_eq path standard_name) && (named_count path names == 0)

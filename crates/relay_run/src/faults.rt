@@ -1,4 +1,4 @@
-//! Files that were not put whole: what is said of them, and how the program ends then.
+//! Files that were not put in full: their messages and exit statuses.
 ghost use Rattle.std.specs.Prelude.{◌≡◌, ◌++◌, OnOk};
 ghost use Rattle.relay_run.specs.Faults.{exit_of_file, file_fault_line, line_fault_text, rank, worse};
 
@@ -16,9 +16,9 @@ pub enum FileFault {
     Feed(FeedFault),
 }
 
-/// Adds the line that says it: `FILE: open failed`, `FILE: read failed`, `FILE: out of memory`,
-/// `FILE: line N: KIND` or `FILE: NumbersSpent`. Of a lane that is gone it says nothing: that is said of the
-/// lane. `AllocError`: there was no memory for it, and a front of it may have been added.
+/// Adds the message: `FILE: open failed`, `FILE: read failed`, `FILE: out of memory`, `FILE: line
+/// N: KIND` or `FILE: NumbersSpent`. A lane that is gone adds nothing: it has its own message.
+/// `AllocError`: allocation failed, and a prefix of the message may have been added.
 pub fn add_file_fault(text: &mut Vec<u8>, file: &str, fault: FileFault) -> Result<(), AllocError>
     ensures { OnOk result (text.new.items ≡ text.old.items ++ file_fault_line file.now fault) }
 {
@@ -41,7 +41,7 @@ pub fn add_file_fault(text: &mut Vec<u8>, file: &str, fault: FileFault) -> Resul
     }
 }
 
-// Adds what stands behind the name of the file.
+// Adds what follows the name of the file.
 fn add_line_fault(text: &mut Vec<u8>, line: u64, kind: LineKind) -> Result<(), AllocError>
     ensures { OnOk result (text.new.items ≡ text.old.items ++ line_fault_text line kind) }
 {
@@ -57,7 +57,7 @@ fn add_line_fault(text: &mut Vec<u8>, line: u64, kind: LineKind) -> Result<(), A
     }
 }
 
-/// How the program ends after it. A lane that is gone ends it by what is said of the lane.
+/// The exit status after it. For a lane that is gone it is that of the lane.
 pub fn exit_of_file(fault: FileFault) -> Exit
     ensures { result ≡ exit_of_file fault }
 {
@@ -69,7 +69,7 @@ pub fn exit_of_file(fault: FileFault) -> Exit
     }
 }
 
-// How far an end goes before others.
+// The precedence of an exit status.
 fn rank(exit: Exit) -> u8
     ensures { result ≡ rank exit }
 {
@@ -83,8 +83,8 @@ fn rank(exit: Exit) -> u8
     }
 }
 
-/// Which of two is the program's end: out of memory before a device's fault, that before an input's, and
-/// that before reports.
+/// The one of two exit statuses that takes precedence: a failed allocation over a device's fault,
+/// that over an input's, and that over reports.
 pub fn worse(one: Exit, other: Exit) -> Exit
     ensures { result ≡ worse one other }
 {

@@ -1,4 +1,4 @@
-//! A producer that is fed the operations of an input.
+//! Putting the operations of an input.
 ghost use Rattle.std.specs.Prelude.{◌≡◌};
 ghost use Rattle.relay_ndjson.specs.declared.parser.Phase.TheVariants as phase;
 ghost use Rattle.relay_producer.specs.Ends.{identities, open_puts};
@@ -12,17 +12,18 @@ use std::sync::Wait;
 /// Why a producer was not fed all of an input.
 #[derive(Clone, Copy, Debug, PartialEq, Eq)]
 pub enum FeedFault {
-    /// A line breaks the producer grammar, a read failed, or there was no memory for a line. All operations
-    /// before it were put.
+    /// A line breaks the producer grammar, a read failed, or an allocation for a line did. All
+    /// operations before it were put.
     Input(InputFault),
-    /// The producer has put 2^40 operations. The next one was read, and is not put.
+    /// The producer has put 2^40 operations. The next one was read, and was not put.
     NumbersSpent,
-    /// The lane of the next operation is gone. It was read, and is not put.
+    /// The lane of the next operation is gone. The operation was read, and was not put.
     LaneGone,
 }
 
-/// Puts the operations of an input, in their order, until there are no more or something is at fault. The
-/// producer is not closed. It waits for the input, and while the lane of an operation takes no more.
+/// Puts the operations of an input, in order, until there are no more or there is a fault. The
+/// producer is not closed. It waits for the input, and while the queue of an operation's lane is
+/// full.
 pub fn feed<R: Wait, S: ByteIn>(
     rt: &R,
     input: &mut Input<'_, S>,
@@ -43,7 +44,7 @@ pub fn feed<R: Wait, S: ByteIn>(
     }
 }
 
-// What came next.
+// What the next line was.
 #[derive(Clone, Copy, Debug, PartialEq, Eq)]
 enum Next {
     // An operation, which was put.
@@ -89,7 +90,6 @@ fn put<R: Wait>(
     }
 }
 
-// The fault that a refusal of a put is.
 fn fault_of(kind: PutFaultKind) -> FeedFault
     ensures { result ≡ fault_of kind }
 {

@@ -1,4 +1,4 @@
-//! Files of operations to an index: the function behind `relay run`.
+//! Sending files of operations to an index: the function behind `relay run`.
 ghost use Rattle.std.specs.Prelude.{◌≡◌, ◌≢◌, ◌⊎◌, ◌++◌, ◌↔◌, ◌≤◌, IfOk, OnOk, IsTrue, false, is_some, length, map, option_map, string_bytes, true, vec_len};
 ghost use Rattle.relay_core.specs.Limits.{is_valid};
 ghost use Rattle.relay_http.specs.WrittenRequest.{is_host};
@@ -36,31 +36,32 @@ use std::sync::Wait;
 use std::thread::Threads;
 use std::time::Clock;
 
-/// What a run is to do.
+/// The options of a run.
 #[derive(Drop)]
 pub struct RunOptions {
     /// The paths of the files, one for each producer; `-` is standard input.
     pub files: Vec<String>,
-    /// Where the index is, as `HOST:PORT`, of 1 to 255 visible ASCII characters; requests name it so.
+    /// The address of the index, `HOST:PORT`, 1 to 255 visible ASCII characters; it is also the
+    /// host of the requests.
     pub to: String,
-    /// The index of operations that name none.
+    /// The index of operations that do not name one.
     pub index: Option<String>,
-    /// How the relay works.
+    /// The config of the relay.
     pub config: RelayConfig,
-    /// For how many seconds a connection may take to be made, and a read or a write of one may wait, before
-    /// it fails; 0 for no limit.
+    /// For how many seconds connecting may take, and a read or a write on a connection may wait,
+    /// before it fails; 0 means no limit.
     pub timeout: u32,
-    /// For how many seconds it is tried each second to make a connection, before that counts as failed.
+    /// For how many seconds to keep trying to connect, once a second, before that counts as failed.
     pub patience: u32,
-    /// The path of the file that the reports are saved in, if they are to be.
+    /// The path of the file in which the reports are saved, if they are.
     pub report: Option<String>,
-    /// Whether standard error is to say how far the run is.
+    /// Whether to show on standard error how far the run is.
     pub progress: bool,
 }
 
 impl RunOptions {
-    /// Whether the config is valid, with a producer for each file, and the address may be named: `false`
-    /// only where one of the three does not hold.
+    /// Whether the config is valid, there is a producer for each file, and the address may be the
+    /// host of a request.
     pub fn is_valid(&self) -> bool
         ensures valid { IsTrue result → is_valid self.now.config ≡ true }
         ensures host { IsTrue result → IsTrue (is_host (string_bytes self.now.to)) }
@@ -74,14 +75,14 @@ impl RunOptions {
             && self.files.len() == self.config.producers as usize
     }
 
-    /// Whether standard input, `-`, is read by one producer at most.
+    /// Whether at most one producer reads standard input, `-`.
     pub fn reads_input_once(&self) -> bool
         ensures { IsTrue result ↔ named_count standard_name (map string_bytes self.now.files.items) ≤ 1 }
     {
         count_named(&self.files, STANDARD_NAME) <= 1
     }
 
-    /// Whether the path for the reports is none of the files that are read, and not `-`.
+    /// Whether the path for the reports is not one of the files that are read, and not `-`.
     pub fn saves_apart(&self) -> bool
         ensures { result ≡ stands_apart (option_map string_bytes self.now.report)
             (map string_bytes self.now.files.items) }
@@ -93,20 +94,20 @@ impl RunOptions {
     }
 }
 
-// Whether a path is that of no other file, and not `-`.
+// Whether a path is not that of another file, and not `-`.
 fn is_apart(path: &str, files: &[String]) -> bool
     ensures { result ≡ stands_apart (Some path.now) (map string_bytes files.now) }
 {
     path != STANDARD_NAME && count_named(files, path) == 0
 }
 
-/// A dial over TCP that waits for an index that is away.
+/// A dial over TCP that waits for an index that is down.
 type RunDial = PatientDial<CountedDial<HostRuntime>, HostRuntime>;
 
 /// A wire over TCP.
 type TcpWire = HttpWire<StdStream<TcpStream>, RunDial>;
 
-// What dials the index.
+// The dial to the index.
 fn make_dial(
     rt: HostRuntime,
     alloc: Global,
@@ -122,7 +123,7 @@ fn make_dial(
     Ok(PatientDial::new(dial, rt, options.patience))
 }
 
-// A wire to the index for each lane, with so many requests in flight at most.
+// A wire to the index for each lane, with this maximum number of requests in flight.
 fn make_wires(
     rt: HostRuntime,
     alloc: Global,
@@ -179,7 +180,7 @@ fn make_paces(
     Ok(paces)
 }
 
-// The files, and standard input where `-` is named; `None` in place of one that could not be opened.
+// The files, or standard input for `-`; `None` for those that could not be opened.
 fn open_files(
     rt: &HostRuntime,
     alloc: Global,
@@ -194,7 +195,7 @@ fn open_files(
     Ok(sources)
 }
 
-// How many bytes they have in all, where that is known of each. One that could not be opened has none.
+// Their total size in bytes, if each is known. A file that could not be opened has none.
 fn whole_size(sources: &[Option<Source>]) -> Option<u64> {
     let mut size = 0u64;
     for source in sources {
@@ -205,10 +206,10 @@ fn whole_size(sources: &[Option<Source>]) -> Option<u64> {
     Some(size)
 }
 
-/// A reader of a file that is counted.
+/// A counted reader of a file.
 type Reader = CountedReader<StdStream<Source>>;
 
-// A reader of each that could be opened.
+// A reader for each that could be opened.
 fn make_readers(
     alloc: Global,
     sources: Vec<Option<Source>>,
@@ -238,7 +239,7 @@ fn are_opened<S>(alloc: Global, readers: &[Option<S>]) -> Result<Vec<bool>, Allo
     Ok(opened)
 }
 
-// Why a file was not put whole.
+// Why a file was not put in full.
 fn file_fault(opened: bool, stop: Option<FeedFault>) -> Option<FileFault>
     ensures { result ≡ file_fault opened stop }
 {
@@ -251,7 +252,7 @@ fn file_fault(opened: bool, stop: Option<FeedFault>) -> Option<FileFault>
     }
 }
 
-// Adds what is said of a file, where something is at fault.
+// Adds the message for a file, if there is a fault.
 fn add_said(text: &mut Vec<u8>, file: &str, fault: Option<FileFault>) -> Result<(), AllocError>
     ensures { OnOk result (text.new.items ≡ text.old.items ++ said_of file.now fault) }
 {
@@ -261,7 +262,7 @@ fn add_said(text: &mut Vec<u8>, file: &str, fault: Option<FileFault>) -> Result<
     }
 }
 
-// How the program ends after it.
+// The exit status after it.
 fn worse_by(exit: Exit, fault: Option<FileFault>) -> Exit
     ensures { result ≡ worse_by exit fault }
 {
@@ -271,7 +272,7 @@ fn worse_by(exit: Exit, fault: Option<FileFault>) -> Exit
     }
 }
 
-// What is said of the files that were not put whole, and how the program ends by them.
+// The messages for the files that were not put in full, and the exit status after them.
 fn faults_text(
     alloc: Global,
     files: &[String],
@@ -294,7 +295,7 @@ fn faults_text(
     Ok((text, exit))
 }
 
-// What is said where the lanes did not finish well.
+// The message if the lanes did not finish well.
 fn finish_fault_text(alloc: Global, fault: FinishFault) -> Result<Vec<u8>, AllocError>
     ensures { IfOk result (λ text. text.items ≡ finish_fault_text fault) }
 {
@@ -307,7 +308,6 @@ fn finish_fault_text(alloc: Global, fault: FinishFault) -> Result<Vec<u8>, Alloc
     Ok(text)
 }
 
-// The name of a fault at the end.
 fn kind_name(kind: FinishFaultKind) -> &'static [u8]
     ensures { result.now ≡ kind_name kind }
 {
@@ -318,7 +318,7 @@ fn kind_name(kind: FinishFaultKind) -> &'static [u8]
     }
 }
 
-// What is said where the relay did not start.
+// The message if the relay did not start.
 fn start_fault_text(fault: StartFault) -> &'static [u8]
     ensures { result.now ≡ start_fault_text fault }
 {
@@ -330,7 +330,7 @@ fn start_fault_text(fault: StartFault) -> &'static [u8]
     }
 }
 
-// What the lanes of a relay report and count.
+// The reports and the counts of all lanes.
 #[derive(Drop)]
 struct Counts {
     reports: Vec<Report>,
@@ -338,7 +338,6 @@ struct Counts {
     already: u64,
 }
 
-// The reports and the counts of all lanes.
 fn count_all<W: Drop>(alloc: Global, lanes: Vec<LaneSummary<W>>) -> Result<Counts, AllocError>
     ensures reports { IfOk result (λ c. c.reports.items ≡ reports_of lanes.items) }
     ensures applied { IfOk result (λ c. c.applied ≡ total (λ s. s.applied) 0 lanes.items) }
@@ -360,7 +359,7 @@ fn count_all<W: Drop>(alloc: Global, lanes: Vec<LaneSummary<W>>) -> Result<Count
     })
 }
 
-// How the program ends by what is reported.
+// The exit status for these reports.
 fn exit_of_reports(reports: &[Report]) -> Exit
     ensures { result ≡ exit_of_reports reports.now }
 {
@@ -370,8 +369,8 @@ fn exit_of_reports(reports: &[Report]) -> Exit
     }
 }
 
-// The reports of all lanes and the counts, as text, how the program ends by them, and the reports in the order
-// of the text.
+// The reports of all lanes and the counts, as text; the exit status after them; and the reports in
+// the order of the text.
 #[derive(Drop)]
 struct Told {
     text: Vec<u8>,
@@ -379,7 +378,7 @@ struct Told {
     reports: Vec<Report>,
 }
 
-// What is told of a run that finished well.
+// The text for a run that finished well.
 fn summary_text<W: Drop>(alloc: Global, summary: Summary<W>) -> Result<Told, AllocError>
     ensures { IfOk result (λ t. TellsOf summary.lanes.items t.reports.items t.text.items t.exit) }
 {
@@ -393,7 +392,7 @@ fn summary_text<W: Drop>(alloc: Global, summary: Summary<W>) -> Result<Told, All
     })
 }
 
-/// Writes a text. Whether all of it was written.
+/// Writes a text, and returns whether all of it was written.
 pub(crate) fn say<W: ByteOut>(out: &mut W, text: &[u8]) -> bool
     ensures all { IsTrue result → (W.written out.new ≡ append_known (W.written out.old) text.now)
         × (W.failed out.new ≡ W.failed out.old) }
@@ -405,7 +404,7 @@ pub(crate) fn say<W: ByteOut>(out: &mut W, text: &[u8]) -> bool
     }
 }
 
-// How the program ends by a relay that did not finish well.
+// The exit status after a relay that did not finish well.
 fn exit_of_finish(kind: FinishFaultKind) -> Exit
     ensures { result ≡ exit_of_finish kind }
 {
@@ -416,7 +415,7 @@ fn exit_of_finish(kind: FinishFaultKind) -> Exit
     }
 }
 
-// Says that a relay did not finish well.
+// Writes that a relay did not finish well.
 fn say_fault<E: ByteOut>(
     alloc: Global,
     exit: Exit,
@@ -432,7 +431,8 @@ fn say_fault<E: ByteOut>(
     Ok(worse(exit, exit_of_finish(fault.kind)))
 }
 
-// Writes the summary of a run, or says that a write of it failed. How the program ends, and the reports.
+// Writes the summary of a run, or that a write of it failed, and returns the exit status and the
+// reports.
 fn say_summary<W: Drop, O: ByteOut, E: ByteOut>(
     alloc: Global,
     exit: Exit,
@@ -452,7 +452,8 @@ fn say_summary<W: Drop, O: ByteOut, E: ByteOut>(
     Ok((worse(exit, Exit::Device), told.reports))
 }
 
-// Says what a run came to. How the program ends, and the reports; none are there where a lane did not finish.
+// Writes the outcome of a run, and returns the exit status and the reports, of which there are none
+// if a lane did not finish.
 fn conclude<W: Drop, O: ByteOut, E: ByteOut>(
     alloc: Global,
     files: &[String],
@@ -480,7 +481,7 @@ fn conclude<W: Drop, O: ByteOut, E: ByteOut>(
     }
 }
 
-// Runs the files over TCP, and says what it came to. How the program ends, and the reports.
+// Runs the files over TCP, writes the outcome, and returns the exit status and the reports.
 fn run_said<R, O, E>(
     rt: R,
     host: HostRuntime,
@@ -521,7 +522,7 @@ where
     }
 }
 
-// Says that nothing was started. How the program ends.
+// Writes that nothing was started, and returns the exit status.
 fn say_start<E: ByteOut>(fault: StartFault, err: &mut E) -> Exit {
     let _ = write_all(err, start_fault_text(fault));
     if fault == StartFault::Memory {
@@ -531,7 +532,7 @@ fn say_start<E: ByteOut>(fault: StartFault, err: &mut E) -> Exit {
     }
 }
 
-// The same, and saves the reports, if that is asked for, in a file that is made before anything is put.
+// The same, and saves the reports, if asked for, in a file that is created before anything is put.
 fn run_all<R, O, E>(
     rt: R,
     host: HostRuntime,
@@ -558,16 +559,17 @@ where
     save_reports(alloc, exit, name, &reports, &mut StdStream::new(file), err)
 }
 
-/// Writes the operations of the files to the index, each file by a producer of its own, where `-` is standard
-/// input, and says what it came to: on `err` a line for each file that was not put whole, in their order, and for a lane that did
-/// not finish; on `out` a line for each operation that could not be settled, by producer and number, and
-/// how many were applied, applied already and reported. The reports are saved too, if that is asked for: the
-/// file for them is made first, and where it cannot be, nothing is put. If progress is asked for, or standard
-/// error is a terminal, it is said there meanwhile how far the run is, or that no connection can be made.
+/// Writes the operations of the files to the index, each file with its own producer (`-` is
+/// standard input), and writes the outcome: on `err` a line for each file that was not put in full,
+/// in order, and for a lane that did not finish; on `out` a line for each operation that could not
+/// be settled, by producer and number, and how many were applied, already applied and reported. If
+/// asked for, the reports are also saved: the file for them is created first, and if it cannot be,
+/// nothing is put. If progress is asked for, or standard error is a terminal, it shows meanwhile
+/// how far the run is, or that no connection can be made.
 ///
-/// The exit: `Usage` where the options are not valid, name standard input twice, or have the reports saved in
-/// a file that is read, and then nothing is done; else out of memory before
-/// a device's fault, that before an input's, and that before operations that were reported.
+/// The exit status is `Usage` if the options are invalid, name standard input twice, or save the
+/// reports in a file that is read; then nothing is done. Otherwise a failed allocation takes
+/// precedence over a device's fault, that over an input's, and that over reported operations.
 pub fn run_files<R, O, E>(
     rt: R,
     host: HostRuntime,

@@ -1,4 +1,4 @@
-//! Files of operations through a relay: the function behind `relay run`.
+//! Sending files of operations through a relay: the function behind `relay run`.
 #![tactic(auto)]
 
 pub mod faults;

@@ -1,4 +1,4 @@
-//! What a run says at its end, as lines.
+//! The lines at the end of a run.
 ghost use Rattle.std.specs.Prelude.{◌≡◌, ◌++◌, ◌*◌, ◌+◌, ◌^◌, flat_map, length, IsPermutation, OnOk, IfOk};
 ghost use Rattle.relay_run.specs.Outcomes.{report_line, counts_line, outcome_text, place_of, AreInOrder};
 
@@ -7,9 +7,9 @@ use relay_core::Report;
 use relay_words::{add_cause, add_document, add_name, add_spaced};
 use std::alloc::{AllocError, Global};
 
-/// A line `report P:N INDEX/ID CAUSE` for each report, by producer and then by number, and after them the
-/// line `applied A already B reported C`. The reports are put in that order. `AllocError`: there was no
-/// memory for the text.
+/// A line `report P:N INDEX/ID CAUSE` for each report, by producer and then by number, followed by
+/// the line `applied A already B reported C`. The reports are sorted in that order. `AllocError`:
+/// allocation failed.
 pub fn outcome_text(
     alloc: Global,
     reports: &mut Vec<Report>,
@@ -27,14 +27,13 @@ pub fn outcome_text(
     Ok(text)
 }
 
-// Where a name stands among all, by producer and then by number.
+// The position of a name in the order, by producer and then by number.
 fn place_of(name: OpName) -> u128
     ensures { result ≡ place_of name }
 {
     name.producer as u128 * 18_446_744_073_709_551_616 + name.number as u128
 }
 
-// Puts reports in the order of their names.
 fn sort_by_name(reports: &mut [Report])
     ensures same { IsPermutation reports.old reports.new }
     ensures order { AreInOrder reports.new }
@@ -42,7 +41,6 @@ fn sort_by_name(reports: &mut [Report])
     reports.sort_unstable_by_key(|report| place_of(report.name));
 }
 
-// Adds the lines of these reports.
 fn add_reports(text: &mut Vec<u8>, reports: &[Report]) -> Result<(), AllocError>
     ensures { OnOk result (text.new.items ≡ text.old.items ++ flat_map report_line reports.now) }
 {
@@ -52,7 +50,6 @@ fn add_reports(text: &mut Vec<u8>, reports: &[Report]) -> Result<(), AllocError>
     Ok(())
 }
 
-// Adds the line of a report.
 fn add_report(text: &mut Vec<u8>, report: &Report) -> Result<(), AllocError>
     ensures { OnOk result (text.new.items ≡ text.old.items ++ report_line report.now) }
 {

@@ -18,24 +18,23 @@ use std::sync::Wait;
 use std::thread;
 use std::thread::{Promise, PromisedHandle, Threads};
 
-/// What a producer's thread ends with.
+/// The state of a producer's thread at its end.
 #[derive(Drop)]
 pub struct Fed {
     /// The producer, which has closed.
     pub closed: ClosedProducer,
-    /// Why it was not fed all of its stream; `None` where it was.
+    /// Why it was not fed all of its stream; `None` if it was.
     pub fault: Option<FeedFault>,
 }
 
-/// What a producer's thread was given, for proofs alone: the producer, its reader and the index, as they
-/// were.
+/// What a producer's thread was given, for proofs only: the producer, its reader and the index.
 #[derive(Drop)]
 pub struct FedPromise<S> {
     /// The producer.
     pub producer: Snapshot<Producer>,
     /// Its reader, if it has one.
     pub reader: Snapshot<Option<S>>,
-    /// The index of operations that name none.
+    /// The index of operations that do not name one.
     pub index: Snapshot<Option<String>>,
 }
 
@@ -49,7 +48,7 @@ impl<S: ByteIn> Promise<Fed> for FedPromise<S> {
 /// A producer in its thread.
 pub type FedThread<S> = PromisedHandle<Fed, FedPromise<S>>;
 
-// Puts the operations of a stream. Why not all were put; `None` where they were.
+// Puts the operations of a stream. Returns why not all were put, or `None` if they were.
 fn feed_from<R: Wait, S: ByteIn + Drop>(
     rt: &R,
     alloc: Global,
@@ -69,7 +68,8 @@ fn feed_from<R: Wait, S: ByteIn + Drop>(
     }
 }
 
-// Puts the operations of a stream, if there is one. Why not all were put; `None` where they were.
+// Puts the operations of a stream, if there is one. Returns why not all were put, or `None` if they
+// were.
 fn feed_some<R: Wait, S: ByteIn + Drop>(
     rt: &R,
     alloc: Global,
@@ -106,7 +106,7 @@ fn run_producer<R: Wait, S: ByteIn + Drop>(
     }
 }
 
-// Starts the thread of a producer, which lets go of `ended` at its end. `AllocError`: it could not be
+// Starts the thread of a producer, which drops `ended` at its end. `AllocError`: it could not be
 // started.
 fn spawn_producer<R, S>(
     rt: R,
@@ -134,7 +134,7 @@ where
     })?)
 }
 
-// A text of its own, where there is one.
+// An owned copy of a text, if there is one.
 fn own_text(alloc: Global, text: Option<&str>) -> Result<Option<String>, AllocError>
     ensures { IfOk result (λ own. option_map string_bytes own ≡ shown text.entry) }
 {
@@ -144,10 +144,10 @@ fn own_text(alloc: Global, text: Option<&str>) -> Result<Option<String>, AllocEr
     }
 }
 
-/// Starts a thread for each producer, which puts the operations of the reader at its place, if there is
-/// one, and closes. An operation that names no index has this index, if one is given. Each thread lets go
-/// of its clone of `ended` at its end. `Memory`: there was no memory for what a thread is given. `Thread`:
-/// one could not be started. Threads that were started go on then.
+/// Starts a thread for each producer, which puts the operations of the reader at its position, if
+/// there is one, and closes. Operations without an index name get this index, if one is given. Each
+/// thread drops its clone of `ended` at its end. `Memory`: an allocation for what a thread is given
+/// failed. `Thread`: one could not be started. Threads that were started then go on.
 pub(crate) fn spawn_producers<R, S>(
     rt: R,
     alloc: Global,
@@ -177,8 +177,8 @@ where
     Ok(threads)
 }
 
-/// Waits until each producer's thread has ended: the producers, which have closed, and why each of them
-/// was not fed all, in their order. `AllocError`: there was no memory for them.
+/// Waits until each producer's thread has ended, and returns the closed producers, and why each of
+/// them was not fed everything, in order. `AllocError`: allocation failed.
 pub(crate) fn join_producers<R: Threads, S: ByteIn + Drop + Send + 'static>(
     rt: &R,
     alloc: Global,

@@ -1,4 +1,4 @@
-//! Readers of operations through a relay.
+//! Sending readers of operations through a relay.
 ghost use Rattle.std.specs.Prelude.{◌≡◌, ◌≢◌, ◌⊎◌, ◌↔◌, ℕ, List, IfOk, IsErrAnd, false, true, vec_len};
 ghost use Rattle.relay_core.specs.Limits.{is_valid};
 ghost use Rattle.relay_ndjson.specs.Metadata.{shown};
@@ -22,27 +22,28 @@ use std::sync::Wait;
 use std::thread::Threads;
 use std::time::Clock;
 
-/// What a run came to.
+/// The outcome of a run.
 #[derive(Drop)]
 pub struct Ran<W> {
-    /// Why each reader was not put whole, in their order; `None` where it was.
+    /// Why each reader was not put in full, in order; `None` if it was.
     pub faults: Vec<Option<FeedFault>>,
     /// What the lanes have done.
     pub end: Result<Summary<W>, FinishFault>,
 }
 
-/// Starts a relay, has each producer put the operations of the reader at its place, if there is one, and
-/// waits until all is done. An operation that names no index has this index, if one is given. Each lane
-/// gets a tick each 100 ms until the producers have ended.
+/// Starts a relay, has each producer put the operations of the reader at its position, if there is
+/// one, and waits until everything is done. Operations without an index name get this index, if one
+/// is given. Each lane gets a tick every 100 ms until the producers have ended.
 ///
-/// Of each producer there are operations that it was fed, those at the front of its reader, and its fault
-/// says why there were no more. Where the relay ends with a summary, each lane took exactly those of them
-/// on its documents, and delivered them: soundly and completely beside each outside that its wire fitted
-/// at the start. Without a summary nothing is said of what was delivered.
+/// For each producer there are operations that it was fed, those at the front of its reader, and
+/// its fault says why there were no more. If the relay ends with a summary, each lane took exactly
+/// those of them on its documents, and delivered them: soundly and completely for each outside that
+/// its wire fitted at the start. Without a summary there is no promise about what was delivered.
 ///
-/// `StartFault`: `BadConfig` where the config is not valid, `WireCount` where there is not a wire and a
-/// pace for each lane; then nothing was started. Else `Thread`: a thread could not be started; `Memory`:
-/// there was no memory for what the threads are given. Threads that were started go on then.
+/// `StartFault`: `BadConfig` if the config is not valid, `WireCount` if there is not one wire and
+/// one pace for each lane; then nothing was started. `Thread`: a thread could not be started;
+/// `Memory`: an allocation for what the threads are given failed. Threads that were started then go
+/// on.
 pub fn run<R, W, P, S>(
     rt: R,
     alloc: Global,

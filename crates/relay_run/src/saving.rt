@@ -1,4 +1,4 @@
-//! The file that the reports of a run are saved in.
+//! The file in which the reports of a run are saved.
 ghost use Rattle.std.specs.Prelude.{◌≡◌, IfOk};
 ghost use Rattle.relay_run.specs.Saying.{SavesReports, file_failed_text};
 
@@ -10,8 +10,9 @@ use relay_report::report_text;
 use relay_words::Exit;
 use std::alloc::{AllocError, Global};
 
-/// Saves reports in the file of this name, as an object a line, or says that a write of it failed. How the
-/// program ends that would have ended with `exit`. `AllocError`: there was no memory for the text.
+/// Saves reports in the file with this name, one object per line, or writes that a write of it
+/// failed, and returns the exit status of a program that would have ended with `exit`.
+/// `AllocError`: allocation failed.
 pub fn save_reports<P: ByteOut, E: ByteOut>(
     alloc: Global,
     exit: Exit,
@@ -33,7 +34,7 @@ pub fn save_reports<P: ByteOut, E: ByteOut>(
     Ok(worse(exit, Exit::Device))
 }
 
-/// Says that the file of this name could not be made. How the program ends.
+/// Writes that the file with this name could not be created, and returns the exit status.
 pub(crate) fn say_not_made<E: ByteOut>(
     alloc: Global,
     name: &str,
@@ -46,7 +47,7 @@ pub(crate) fn say_not_made<E: ByteOut>(
     Ok(Exit::Device)
 }
 
-// What is said of a file on which this failed.
+// The message about a file for which this failed.
 fn failed_text(alloc: Global, name: &str, what: &[u8]) -> Result<Vec<u8>, AllocError>
     ensures { IfOk result (λ text. text.items ≡ file_failed_text name.now what.now) }
 {

@@ -1,4 +1,4 @@
-//! What the operations of a producer are read from.
+//! Where the operations of a producer are read from.
 ghost use Rattle.std.specs.Prelude.{◌≡◌, IfOk, IsOk, IsTrue, bytes_eq, map, string_bytes};
 ghost use Rattle.relay_run.specs.Sources.{is_standard, named_count, standard_name};
 
@@ -10,11 +10,11 @@ use std::rt::Stdin;
 /// The name of standard input. A file of this name is `./-`.
 pub const STANDARD_NAME: &str = "-";
 
-/// A file that was opened, or standard input. A read gives what has come, and does not wait for more once
-/// something came.
+/// A file that was opened, or standard input. A read returns what has arrived, without waiting for
+/// more once there is something.
 #[derive(Drop)]
 pub enum Source {
-    /// A file, or a pipe with a name.
+    /// A file, or a named pipe.
     File(File),
     /// Standard input.
     Standard(Stdin),
@@ -29,8 +29,8 @@ impl Read for Source {
     }
 }
 
-/// Standard input where the name is `-`, and else the file of this name. An error is the system's, and comes
-/// only of a file.
+/// Standard input if the name is `-`, otherwise the file with this name. An error is the system's,
+/// and only for a file.
 pub fn open_source(rt: &HostRuntime, name: &str) -> Result<Source, io::Error>
     ensures standard { IsTrue (bytes_eq name.now standard_name) → IsOk result }
     ensures which { IfOk result (λ s. is_standard s ≡ bytes_eq name.now standard_name) }
@@ -42,7 +42,7 @@ pub fn open_source(rt: &HostRuntime, name: &str) -> Result<Source, io::Error>
 }
 
 impl Source {
-    /// How many bytes it has, where the system tells; of a pipe and of standard input that is not known.
+    /// The size in bytes, if the system knows it; for a pipe and for standard input it does not.
     pub fn size(&self) -> Option<u64> {
         let Source::File(file) = self else {
             return None;

@@ -10,7 +10,7 @@ use std::sync::Wait;
 use std::thread;
 use std::time::{Clock, Duration};
 
-/// How long a tick is, in milliseconds.
+/// The length of a tick in milliseconds.
 pub const TICK: u64 = 100;
 
 /// A pace that sleeps 100 ms for each tick.
@@ -43,7 +43,7 @@ impl<R: Clock> Pace for SleepPace<R> {
     }
 }
 
-/// Sends a tick to each lane each 100 ms, until every producer's thread has let go of its sender.
+/// Sends a tick to each lane every 100 ms, until every producer's thread has dropped its sender.
 pub(crate) fn tick_until_ended<R: Wait + Clock>(
     rt: &R,
     ended: &Receiver<(), Global>,

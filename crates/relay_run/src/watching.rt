@@ -1,4 +1,4 @@
-//! What is said of a run while it works, in a thread of its own.
+//! Showing the progress of a run while it works, in a separate thread.
 use crossbeam_channel::{Receiver, Sender, bounded};
 use relay_action::StdStream;
 use relay_progress::{Counts, Shared, Show, show_progress};
@@ -8,7 +8,7 @@ use std::thread;
 use std::thread::{JoinHandle, Threads};
 use std::time::Clock;
 
-/// By what a run is counted.
+/// The counts of a run.
 #[derive(Drop)]
 pub(crate) struct Counters {
     /// Readers and wires, if they are counted.
@@ -17,8 +17,8 @@ pub(crate) struct Counters {
     pub dials: Option<Shared>,
 }
 
-/// Counts for all of a run where it is to say how far it is, and for its dials also where what is said is seen
-/// at once, on a terminal. `AllocError`: there was no memory for them.
+/// Counts for all of a run if its progress is shown, and for its dials also on a terminal, where
+/// trouble is shown at once. `AllocError`: allocation failed.
 pub(crate) fn counters_of(
     alloc: Global,
     progress: bool,
@@ -35,7 +35,7 @@ pub(crate) fn counters_of(
     Ok(Counters { all, dials })
 }
 
-/// The same counts once more. `AllocError`: too many hold them.
+/// Another handle of the same counts. `AllocError`: there are too many handles.
 pub(crate) fn share(counts: &Option<Shared>) -> Result<Option<Shared>, AllocError> {
     match counts {
         Some(counts) => Ok(Some(Arc::try_clone(counts)?)),
@@ -43,14 +43,14 @@ pub(crate) fn share(counts: &Option<Shared>) -> Result<Option<Shared>, AllocErro
     }
 }
 
-/// A thread that says how far a run is, until it is told that the run has ended.
+/// A thread that shows the progress of a run until the run has ended.
 pub(crate) struct Watch {
     ended: Sender<(), Global>,
     thread: JoinHandle<()>,
 }
 
-/// Starts such a thread, if there are counts. Without a thread nothing is said. `AllocError`: there was no
-/// memory for what it is given.
+/// Starts such a thread, if there are counts; otherwise nothing is shown. `AllocError`: an
+/// allocation for what it is given failed.
 pub(crate) fn start_watch<R>(
     rt: R,
     host: HostRuntime,
@@ -74,7 +74,7 @@ where
     }
 }
 
-// Says on standard error how far a run is.
+// Shows the progress of a run on standard error.
 fn say_progress<R: Wait + Clock>(
     rt: &R,
     host: HostRuntime,
@@ -87,7 +87,8 @@ fn say_progress<R: Wait + Clock>(
     show_progress(rt, alloc, show, counts, ended, &mut err);
 }
 
-/// Tells the thread, if there is one, that the run has ended, and waits until it has said so.
+/// Tells the thread, if there is one, that the run has ended, and waits until it has written the
+/// last line.
 pub(crate) fn stop_watch<R: Threads>(rt: &R, watch: Option<Watch>) {
     if let Some(watch) = watch {
         let Watch { ended, thread } = watch;

@@ -1,4 +1,4 @@
-//! Two files to the stand-in server in a thread of its own.
+//! Two files to the stand-in server in its own thread.
 use relay_action::{Action, DocKey, MemStream, Write};
 use relay_index::{Index, Script};
 use relay_net::TcpListen;
@@ -54,7 +54,7 @@ fn file_text(alloc: Global, producer: u64) -> Option<String> {
     Some(text)
 }
 
-// Writes the file of a producer. Its name.
+// Writes the file of a producer, and returns its name.
 fn write_file<R: Files>(rt: &R, alloc: Global, producer: u64) -> Option<String> {
     let name = format!(in alloc; "operations-{producer}").ok()?;
     let text = file_text(alloc, producer)?;
@@ -86,7 +86,7 @@ fn is_as_put(alloc: Global, index: &Index, producer: u8, document: u8) -> Option
     Some(applied.len() == (OPERATIONS / DOCUMENTS) as usize)
 }
 
-// The same of all documents of both producers.
+// The same for all documents of both producers.
 fn all_as_put(alloc: Global, index: &Index) -> Option<bool> {
     for producer in 0..2u8 {
         for document in 0..DOCUMENTS as u8 {
@@ -98,7 +98,7 @@ fn all_as_put(alloc: Global, index: &Index) -> Option<bool> {
     Some(true)
 }
 
-// Serves so many connections. Whether what was applied then is what was put.
+// Serves this many connections, and returns whether what was applied is what was put.
 fn serves<R: Net>(alloc: Global, mut listener: TcpListen<R>, requests: u64) -> Option<bool> {
     let mut index = Index::new(alloc);
     let mut script = Script::new(alloc);
@@ -106,7 +106,7 @@ fn serves<R: Net>(alloc: Global, mut listener: TcpListen<R>, requests: u64) -> O
     all_as_put(alloc, &index)
 }
 
-// What a run is to do that writes both files to this address.
+// The options of a run that writes both files to this address.
 fn options<R: Files>(rt: &R, alloc: Global, to: String) -> Option<RunOptions> {
     let mut files = Vec::new(alloc);
     files.push(write_file(rt, alloc, 0)?).ok()?;
@@ -128,7 +128,7 @@ fn printed(alloc: Global) -> Option<MemStream> {
     MemStream::new(alloc, Vec::new(alloc), 1000, 1000, 0).ok()
 }
 
-// Whether the files are written as they are to be: each operation once, and nothing else is said.
+// Whether the files are written as expected: each operation once, and without a message.
 fn writes_all<R>(rt: R, host: HostRuntime, alloc: Global, to: String) -> Option<bool>
 where
     R: Files + Threads + Wait + Clock + Copy + Send + 'static,
@@ -147,7 +147,7 @@ where
     )
 }
 
-// Whether both ends say that all was written, where each operation is a request.
+// Whether both ends report that everything was written, with one operation per request.
 fn writes_beside_server<R>(rt: R, host: HostRuntime, alloc: Global) -> Option<(bool, bool)>
 where
     R: Files

@@ -1,4 +1,4 @@
--- What `relay stub` serves and writes, and how it ends.
+-- What `relay stub` serves and writes, and its exit status.
 use Rattle.std.specs.Prelude.{◌≡◌, ◌⊎◌, ℕ, ◌<◌, List, length, take, Option, Result, Ok, Err}
 use Rattle.std.specs.Io.KnownBytes.{append_known}
 use Rattle.relay_action.specs.Streams.{one_more}
@@ -14,7 +14,7 @@ use Rattle.relay_stub.specs.declared.stub.ServeError.TheVariants as error
 use Rattle.relay_stub.specs.declared.command.StubFault.{StubFault}
 use Rattle.relay_stub.specs.declared.command.StubFault.TheVariants as fault
 
--- all connections were served with an index that was fresh, which has come to this
+-- all connections were served with an index that was fresh, and this is the server afterwards
 abbrev pub ServesFresh : ℕ → Plan → Listening → Listening → State → Type 0
 ServesFresh requests script from to end = (left : Plan) × Serves requests from (under fresh script) to (under end left) (Ok tt)
 
@@ -22,7 +22,8 @@ ServesFresh requests script from to end = (left : Plan) × Serves requests from 
 abbrev pub IsOutput : ℕ → Plan → Listening → Listening → List ℕ → Type 0
 IsOutput requests script from to text = (end : State) × ServesFresh requests script from to end × IsListing end text
 
--- why there is no listing: a connection could not be accepted; or memory ran out, at a connection or when all were served
+-- why there is no listing: a connection could not be accepted; or an allocation failed, at a connection or after all
+-- were served
 abbrev pub NoOutput : ℕ → Plan → Listening → Listening → StubFault → Type 0
 NoOutput requests script from to fault.Accept =
     (end : State) × (left : Plan) × Serves requests from (under fresh script) to (under end left) (Err error.Accept)
@@ -31,8 +32,8 @@ NoOutput requests script from to fault.Memory =
     ((end : State) × (left : Plan) × Serves requests from (under fresh script) to (under end left) (Err error.Memory))
     ⊎ ((end : State) × ServesFresh requests script from to end)
 
--- What was written, by how it ended: the listing of the index that served all connections; after a failed write exactly the
--- first of its bytes; else nothing.
+-- What was written, by how it ended: the listing of the index that served all connections; after a failed write
+-- exactly the first of its bytes; otherwise nothing.
 abbrev pub Stubs : ℕ → Plan → Listening → Listening → Option (List ℕ) → Option (List ℕ) → Result (Unit {0}) StubFault → Type 0
 Stubs requests script from to before after (Ok u) =
     (text : List ℕ) × IsOutput requests script from to text × (after ≡ append_known before text)
@@ -49,14 +50,14 @@ Sends before after failed count text (Err (fault.Write sent)) =
 Sends before after failed count text (Err fault.Accept) = ⊥
 Sends before after failed count text (Err fault.Memory) = ⊥
 
--- how many calls of the writer have failed after an answer
+-- the number of failed calls of the writer after this result
 abbrev pub failed_by : Result (Unit {0}) StubFault → ℕ → ℕ
 failed_by (Ok u) n = n
 failed_by (Err fault.Accept) n = n
 failed_by (Err (fault.Write sent)) n = one_more n
 failed_by (Err fault.Memory) n = n
 
--- how the program ends
+-- the exit status
 abbrev pub exit_of_stub : StubFault → Exit
 exit_of_stub fault.Accept = exit.Device
 exit_of_stub (fault.Write sent) = exit.Device

@@ -1,4 +1,4 @@
--- What becomes of a connection, and of one connection after another.
+-- What is done with a connection, and with one connection after another.
 use Rattle.std.specs.Prelude.{◌≡◌, ◌⊎◌, ℕ, suc, zero, ◌<◌, ◌≤◌, List, [], codes, length, Option, Some, None, Result, Ok, Err, MatchResult, IsTrue, IsFalse, false}
 use Rattle.relay_action.specs.Streams.{one_more}
 use Rattle.relay_index.specs.Serving.{Server, answer_of, Answers, StopsAfter}
@@ -26,7 +26,7 @@ opened s = fresh s.left s.written s.failed
 abbrev pub stream_of : Connection → Shown
 stream_of c = shown c.left c.written c.failed
 
--- what reading a request from a connection answers and leaves
+-- the result of reading a request from a connection, and the connection afterwards
 pub record ReadsRequest (c d : Connection) (r : Result (Option HttpRequest) HttpFault) : Type 0 where
   pub answer : MatchResult r (TookRequest (ahead c) (ahead d)) (Fails IsRequest (ahead c) d.left)
   pub found : (stream : List ℕ) (there : Begins IsRequest stream) → ahead c ≡ Some stream → MatchResult r (IsFound there (ahead d)) IsOutside
@@ -38,19 +38,19 @@ pub record ReadsRequest (c d : Connection) (r : Result (Option HttpRequest) Http
 
 -- ---- what is written
 
--- the text of the answer to a request that is no POST to /_bulk
+-- the text of the answer to a request that is not a POST to /_bulk
 abbrev pub not_bulk : List ℕ
 not_bulk = codes "{\"error\":{\"type\":\"NotBulk\"},\"status\":400}"
 
--- An answer that fits was written, and says close: all of it, or a part where a write failed, or nothing where there was no
--- memory for it.
+-- An answer that fits was written, and says close: all of it, or part of it if a write failed, or nothing if an
+-- allocation for it failed.
 pub record Goes (status : ℕ) (text : List ℕ) (c d : Connection) : Type 0 where
   pub fits : length text ≤ reply_limit
   pub sent : Result (Unit {0}) HttpFault
   pub message : Sends (answer status text false) c.written d.written sent
   pub failed : d.failed ≡ failed_writing sent c.failed
 
--- one that is longer than a reply may be was not
+-- one that is longer than a reply may be was not written
 pub record IsTooLong (text : List ℕ) (c d : Connection) : Type 0 where
   pub passes : reply_limit < length text
   pub written : d.written ≡ c.written
@@ -63,14 +63,14 @@ pub record IsAnswered (status : ℕ) (text : List ℕ) (c d : Connection) : Type
 
 -- ---- one connection
 
--- The body of a bulk request was served, once, and answered. Or memory ran out after its first items, and nothing was
--- written.
+-- The body of a bulk request was served once, and answered. Or an allocation failed after its first items, and
+-- nothing was written.
 abbrev pub MeetsBulk : List ℕ → Server → Server → Connection → Connection → Result (Unit {0}) ServeFault → Type 0
 MeetsBulk body old new c d (Ok u) =
     (status : ℕ) × (text : List ℕ) × Answers body old (answer_of status text) new × IsAnswered status text c d
 MeetsBulk body old new c d (Err e) = StopsAfter e.ran body old new × (d ≡ c)
 
--- another request was answered NotBulk, and nothing was run
+-- another request was answered with NotBulk, and nothing was run
 abbrev pub MeetsOther : Server → Server → Connection → Connection → Result (Unit {0}) ServeFault → Type 0
 MeetsOther old new c d (Ok u) = (new ≡ old) × IsAnswered 400 not_bulk c d
 MeetsOther old new c d (Err e) = ⊥
@@ -97,19 +97,19 @@ pub record Exchanges (c d : Connection) (old new : Server) (result : Result (Uni
   pub reads : ReadsRequest c between read
   pub handles : Handles read old new between d result
 
--- there was no memory for a connection over the stream: nothing was read, written or run
+-- allocating a connection over the stream failed: nothing was read, written or run
 abbrev pub HasNoRoom : Shown → Shown → Server → Server → Result (Unit {0}) ServeFault → Type 0
 HasNoRoom came went old new (Ok u) = ⊥
 HasNoRoom came went old new (Err e) = (e.ran ≡ 0) × (went ≡ came) × (new ≡ old)
 
--- The stream that came was served one request, and showed this when it went.
+-- The stream was served one request, and showed this afterwards.
 abbrev pub IsServed : Shown → Shown → Server → Server → Result (Unit {0}) ServeFault → Type 0
 IsServed came went old new result =
     ((d : Connection) × Exchanges (opened came) d old new result × (went ≡ stream_of d)) ⊎ HasNoRoom came went old new result
 
 -- ---- one after another
 
--- one connection was handed out, served, and taken back
+-- one connection was provided, served, and taken back
 pub record Visits (from : Listening) (old : Server) (to : Listening) (new : Server) (result : Result (Unit {0}) ServeFault) : Type 0 where
   pub came : Shown
   pub went : Shown
@@ -118,14 +118,14 @@ pub record Visits (from : Listening) (old : Server) (to : Listening) (new : Serv
   pub served : IsServed came went old new result
   pub back : to ≡ with_done at went
 
--- so many were, one after the other
+-- this many were, one after the other
 abbrev pub VisitsAll : ℕ → Listening → Server → Listening → Server → Type 0
 VisitsAll zero from old to new = (to ≡ from) × (new ≡ old)
 VisitsAll (suc n) from old to new =
     (at : Listening) × (later : Server) × VisitsAll n from old at later × Visits at later to new (Ok tt)
 
--- What was served, by how it ended: all connections; or fewer, and then a call of the listener failed, or memory ran out
--- at the next.
+-- What was served, by how it ended: all connections; or fewer, and then a call of the listener failed, or an
+-- allocation did at the next one.
 abbrev pub Serves : ℕ → Listening → Server → Listening → Server → Result (Unit {0}) ServeError → Type 0
 Serves n from old to new (Ok u) = VisitsAll n from old to new
 Serves n from old to new (Err error.Accept) =
@@ -133,7 +133,7 @@ Serves n from old to new (Err error.Accept) =
 Serves n from old to new (Err error.Memory) =
     (k : ℕ) × (k < n) × ((at : Listening) × (later : Server) × (e : ServeFault) × VisitsAll k from old at later × Visits at later to new (Err e))
 
--- the next connection was served; or a call of the listener failed; or memory ran out
+-- the next connection was served; or a call of the listener or an allocation failed
 abbrev pub ServesNext : Listening → Server → Listening → Server → Result (Unit {0}) ServeError → Type 0
 ServesNext from old to new (Ok u) = Visits from old to new (Ok tt)
 ServesNext from old to new (Err error.Accept) = (to ≡ refused from) × (new ≡ old)

@@ -11,27 +11,28 @@ use relay_words::Exit;
 use std::alloc::Global;
 use thiserror::Error;
 
-/// Why the connections were not all served, or not all was written. The text of a variant is what the
-/// program prints.
+/// Why not all connections were served, or not everything was written. The text of a variant is
+/// what the program prints.
 #[derive(Clone, Copy, Debug, PartialEq, Eq, Error)]
 pub enum StubFault {
     /// A connection could not be accepted. Nothing was written.
     #[error("accept failed")]
     Accept,
-    /// A write failed, which is not repeated. Exactly the first `sent` bytes of the listing went out.
+    /// A write failed. It is not retried; exactly the first `sent` bytes of the listing were
+    /// written.
     #[error("write failed")]
     Write {
-        /// How many bytes went out.
+        /// The number of bytes that were written.
         sent: u64,
     },
-    /// There was no memory. Nothing was written.
+    /// An allocation failed. Nothing was written.
     #[error("out of memory")]
     Memory,
 }
 
-/// Serves one request on each of so many connections with a fresh index under the script, and then writes
-/// a line for each write that the index applied, as [`listing`] makes them. Nothing is written before all
-/// connections were served.
+/// Serves one request on each of `requests` connections with a fresh index under the script, and
+/// then writes a line for each write that the index applied, as [`listing`] makes them. Nothing is
+/// written before all connections were served.
 ///
 /// [`listing`]: crate::listing::listing
 pub fn stub<S: ByteIn + ByteOut + Drop, L: Listen<S>, W: ByteOut>(
@@ -51,7 +52,7 @@ pub fn stub<S: ByteIn + ByteOut + Drop, L: Listen<S>, W: ByteOut>(
     }
 }
 
-// Serves the connections, and gives the listing of the index.
+// Serves the connections, and returns the listing of the index.
 fn output<S: ByteIn + ByteOut + Drop, L: Listen<S>>(
     alloc: Global,
     listener: &mut L,
@@ -72,7 +73,6 @@ fn output<S: ByteIn + ByteOut + Drop, L: Listen<S>>(
     }
 }
 
-// Writes the listing.
 fn send<W: ByteOut>(writer: &mut W, text: &[u8]) -> Result<(), StubFault>
     ensures { Sends (W.written writer.old) (W.written writer.new) (W.failed writer.old) (W.failed writer.new) text.now result }
 {
@@ -82,7 +82,7 @@ fn send<W: ByteOut>(writer: &mut W, text: &[u8]) -> Result<(), StubFault>
     }
 }
 
-/// How `relay stub` ends after a fault.
+/// The exit status of `relay stub` after a fault.
 pub fn exit_of_stub(fault: StubFault) -> Exit
     ensures { result ≡ exit_of_stub fault }
 {

@@ -11,19 +11,20 @@ use relay_http::{Conn, HttpRequest, REPLY_LIMIT};
 use relay_index::{Index, Script, ServeFault};
 use std::alloc::Global;
 
-// The answer to a request that is no POST to `/_bulk`.
+// The answer to a request that is not a POST to `/_bulk`.
 const NOT_BULK: &str = "{\"error\":{\"type\":\"NotBulk\"},\"status\":400}";
 
-/// Serves one request on a connection over this stream, and hands the stream back.
+/// Serves one request on a connection over this stream, and returns the stream.
 ///
-/// A bulk request is run by the index under the script, as `Index::serve_body` does it, and answered. Any
-/// other request is answered 400 and `{"error":{"type":"NotBulk"},"status":400}`. Each answer says that
-/// the connection closes. Where no request comes, its bytes are at fault or a read fails, or there is no
-/// memory to read it, nothing is run and nothing answered. An answer of more than 67,108,864 bytes is not
-/// written, and one that a write fails for is left as it is; its request was run.
+/// A bulk request is run by the index under the script, as in `Index::serve_body`, and answered.
+/// Any other request gets 400 and `{"error":{"type":"NotBulk"},"status":400}`. Each answer says
+/// that the connection closes. If no request arrives, if its bytes are invalid, or if a read or an
+/// allocation for reading fails, nothing is run and nothing answered. An answer of more than
+/// 67,108,864 bytes is not written; its request was run, and so was one whose answer could not be
+/// written in full.
 ///
-/// `ServeFault`: there was no memory for the connection or to run the request, of which exactly the first
-/// `ran` items were run, and nothing was written.
+/// `ServeFault`: an allocation for the connection or for running the request failed after exactly
+/// the first `ran` items of the request, and nothing was written.
 pub fn serve_connection<S: ByteIn + ByteOut + Drop>(
     alloc: Global,
     stream: S,
@@ -43,7 +44,7 @@ pub fn serve_connection<S: ByteIn + ByteOut + Drop>(
     }
 }
 
-// Reads a request, and does what it asks for. Where there is none, nothing is done.
+// Reads a request, and does what it asks for. If there is none, nothing is done.
 fn exchange<S: ByteIn + ByteOut + Drop>(
     alloc: Global,
     conn: &mut Conn<S>,
@@ -98,7 +99,8 @@ fn run<S: ByteOut + Drop>(
     }
 }
 
-// Writes an answer, unless it is too long. A fault of the connection is let be: it carries nothing more.
+// Writes an answer, unless it is too long. A fault of the connection is ignored, since it carries
+// nothing more.
 fn reply<S: ByteOut + Drop>(alloc: Global, conn: &mut Conn<S>, status: u16, text: &str)
     requires phase { IsFalse (is_broken conn.old.phase) }
     requires status { IsAnswerStatus status }

@@ -8,10 +8,10 @@ use relay_action::{ActionKind, DocKey, Write};
 use relay_index::Index;
 use std::alloc::{AllocError, Global};
 
-/// A line `applied INDEX/ID VERSION index`, or `.. delete`, for each write that the index applied, also to
-/// documents that were deleted since: the documents in byte order of their index names and then of their
-/// ids, and the writes of each in the order in which they were applied. Names and ids stand as they are.
-/// `AllocError`: there was no memory for the text.
+/// A line `applied INDEX/ID VERSION index`, or `.. delete`, for each write that the index applied,
+/// including those to documents that were deleted since: the documents in byte order of their index
+/// names and then of their ids, and the writes of each in the order in which they were applied.
+/// Names and ids are written as they are. `AllocError`: allocation failed.
 pub fn listing(alloc: Global, index: &Index) -> Result<Vec<u8>, AllocError>
     ensures { IfOk result (λ text. IsListing index.now text.items) }
 {
@@ -21,7 +21,6 @@ pub fn listing(alloc: Global, index: &Index) -> Result<Vec<u8>, AllocError>
     Ok(text)
 }
 
-// Adds the lines of these documents.
 fn add_documents(text: &mut Vec<u8>, index: &Index, keys: &[DocKey]) -> Result<(), AllocError>
     ensures { OnOk result (text.new.items ≡ text.old.items ++ listing index.now keys.now) }
 {
@@ -31,7 +30,6 @@ fn add_documents(text: &mut Vec<u8>, index: &Index, keys: &[DocKey]) -> Result<(
     Ok(())
 }
 
-// Adds the lines of these writes.
 fn add_writes(text: &mut Vec<u8>, writes: &[Write]) -> Result<(), AllocError>
     ensures { OnOk result (text.new.items ≡ text.old.items ++ flat_map applied_line writes.now) }
 {
@@ -41,7 +39,6 @@ fn add_writes(text: &mut Vec<u8>, writes: &[Write]) -> Result<(), AllocError>
     Ok(())
 }
 
-// Adds the line of a write.
 fn add_line(text: &mut Vec<u8>, write: &Write) -> Result<(), AllocError>
     ensures { OnOk result (text.new.items ≡ text.old.items ++ applied_line write.now) }
 {
@@ -57,7 +54,7 @@ fn add_line(text: &mut Vec<u8>, write: &Write) -> Result<(), AllocError>
     text.extend_from_slice(b"\n")
 }
 
-// The name that the bulk API has for a kind of action.
+// The name of a kind of action in the bulk API.
 fn name_of(kind: ActionKind) -> &'static [u8]
     ensures { result.now ≡ kind_name kind }
 {

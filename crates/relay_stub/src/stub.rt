@@ -11,24 +11,24 @@ use relay_index::{Index, Script};
 use std::alloc::Global;
 use thiserror::Error;
 
-/// Why fewer connections were served than were asked for.
+/// Why fewer connections were served than requested.
 #[derive(Clone, Copy, Debug, PartialEq, Eq, Error)]
 pub enum ServeError {
     /// A connection could not be accepted. It is not tried again.
     #[error("accept failed")]
     Accept,
-    /// There was no memory for a connection, or to run its request. What ran before stays.
+    /// An allocation for a connection or for running its request failed. What ran before is kept.
     #[error("out of memory")]
     Memory,
 }
 
-/// Serves one request on each of so many connections, one connection after the other, as
-/// [`serve_connection`] does it. A connection whose request is at fault, or whose answer could not be
+/// Serves one request on each of `requests` connections, one connection after the other, as
+/// [`serve_connection`] does. A connection whose request is invalid, or whose answer could not be
 /// written, counts like any other.
 ///
-/// The index and the script go through the requests in their order. `Accept`: the listener had no
-/// connection, and those before it were served. `Memory`: there was none for a connection, or to run its
-/// request; that connection and those before it were given back.
+/// The index and the script go through the requests in order. `Accept`: the listener had no
+/// connection, and those before it were served. `Memory`: an allocation for a connection or for
+/// running its request failed; that connection and those before it were given back.
 ///
 /// [`serve_connection`]: crate::serve_connection
 pub fn stub_serve<S: ByteIn + ByteOut + Drop, L: Listen<S>>(
@@ -40,7 +40,7 @@ pub fn stub_serve<S: ByteIn + ByteOut + Drop, L: Listen<S>>(
 ) -> Result<(), ServeError>
     ensures served { Serves requests (L.shows listener.old) (under index.old script.old)
         (L.shows listener.new) (under index.new script.new) result }
-    // So many connections were accepted, and no more.
+    // Exactly this many connections were accepted.
     ensures accepted { OnOk result ((L.shows listener.old).accepted + requests ≤ most
         → (L.shows listener.new).accepted ≡ (L.shows listener.old).accepted + requests) }
 {

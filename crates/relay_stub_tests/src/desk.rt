@@ -7,8 +7,8 @@ use relay_index::{Index, Script, may_refuse};
 use relay_stub::{AcceptFailed, Listen, ServeError, stub_serve};
 use std::alloc::Global;
 
-/// A connection: what is read from it, how many bytes may be written to it, which of its calls fails
-/// (0: none), and what is written to it.
+/// A connection: what is read from it, how many bytes may be written to it, which of its calls
+/// fails (0: none), and what should be written to it.
 #[derive(Clone, Copy)]
 pub struct Visit<'a> {
     pub input: &'a [u8],
@@ -17,7 +17,7 @@ pub struct Visit<'a> {
     pub wanted: &'a [u8],
 }
 
-/// A listener for these connections, whose streams move so many bytes in a call. Where none is left it
+/// A listener for these connections, whose streams move a few bytes per call. If none is left it
 /// fails.
 #[derive(Drop)]
 pub struct Desk<'a> {
@@ -32,7 +32,7 @@ pub struct Desk<'a> {
 }
 
 impl<'a> Desk<'a> {
-    /// None was handed out yet.
+    /// No connection was provided yet.
     pub fn new(alloc: Global, visits: &'a [Visit<'a>], piece: usize) -> Desk<'a> {
         Desk {
             alloc,
@@ -46,12 +46,13 @@ impl<'a> Desk<'a> {
         }
     }
 
-    /// Whether so many connections were handed out and taken back, and each was written what it was to be.
+    /// Whether this many connections were provided and taken back, and what was written to each is
+    /// as expected.
     pub fn served(&self, visits: usize) -> bool {
         self.handed == visits && self.closed == visits && self.wrong == 0
     }
 
-    // The stream of the next connection, where there is one and memory for it.
+    // The stream of the next connection, if there is one and it can be allocated.
     fn stream(&mut self) -> Option<MemStream>
         ensures accepted { self.new.accepted ≡ self.old.accepted }
         ensures failed { self.new.failed ≡ self.old.failed }
@@ -69,7 +70,7 @@ impl<'a> Desk<'a> {
         .ok()
     }
 
-    // Whether what was written on the connection that is closed next is what it was to be.
+    // Whether what was written on the connection that is closed next is as expected.
     fn right(&self, written: &[u8]) -> bool {
         match self.visits.get(self.closed) {
             Some(visit) => visit.wanted == written,
@@ -113,8 +114,8 @@ pub fn script_of(alloc: Global, refusals: &[(u64, u16)]) -> Option<Script> {
     Some(script)
 }
 
-/// Serves so many connections with an index. What it answers, or `None` where a connection was written
-/// something else or was not taken back.
+/// Serves this many connections with an index. Returns the result, or `None` if something else was
+/// written to a connection or it was not taken back.
 pub fn serves(
     alloc: Global,
     visits: &[Visit<'_>],

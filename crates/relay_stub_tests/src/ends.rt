@@ -1,4 +1,4 @@
-//! What the command writes, and how it ends.
+//! What the command writes, and its exit status.
 use crate::desk::{Desk, Visit, script_of};
 use relay_action::MemStream;
 use relay_stub::command::{StubFault, exit_of_stub, stub};
@@ -13,8 +13,8 @@ const ANSWER: &[u8] =
 
 const LINES: &[u8] = b"applied a/9 4 delete\napplied b/10 3 delete\napplied b/2 1 delete\n";
 
-// What the command answers over a connection with these deletes, with room for so much output, where so
-// many connections are asked for; and whether this is what it wrote.
+// The result of the command over a connection with these deletes, with this room for output, if
+// this many connections are requested; and whether this is what it wrote.
 fn ends(
     alloc: Global,
     requests: u64,
@@ -34,7 +34,7 @@ fn ends(
     Some((result, desk.served(1) && writer.written() == wanted))
 }
 
-// How many connections are asked for, the room for output, what is written, and how it ends.
+// The number of connections requested, the room for output, what is written, and the exit status.
 const ENDS: &[(u64, usize, &[u8], Result<(), StubFault>)] = &[
     (1, 1000, LINES, Ok(())),
     (1, 64, LINES, Ok(())),
@@ -57,7 +57,7 @@ fn lists_or_fails(rt: HostRuntime) {
     }
 }
 
-// Whether a fault ends the command with this status, and is printed as this.
+// Whether a fault has this exit status, and is printed as this.
 fn is_told(alloc: Global, fault: StubFault, exit: Exit, said: &str) -> bool {
     match format!(in alloc; "{fault}") {
         Ok(text) => exit_of_stub(fault) == exit && text.as_str() == said,

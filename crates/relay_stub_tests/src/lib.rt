@@ -1,5 +1,6 @@
-//! Tests of `relay_stub`, over its public items and streams in memory: requests that are bulk, other ones
-//! and broken ones, refusals by places, streams and listeners that fail, and what the command writes.
+//! Tests of `relay_stub`, over its public items and streams in memory: requests that are bulk,
+//! other ones and broken ones, refusals by position, streams and listeners that fail, and what the
+//! command writes.
 #![tactic(auto)]
 
 #[cfg(test)]

@@ -9,15 +9,15 @@ use std::alloc::Global;
 const DELETE: &[u8] =
     b"POST /_bulk HTTP/1.1\r\nHost: h\r\nContent-Length: 74\r\n\r\n{\"delete\":{\"_id\":\"1\",\"_index\":\"b\",\"version\":5,\"version_type\":\"external\"}}\n";
 
-// Its answer where there was none.
+// The answer if there was none before.
 const NOT_FOUND: &[u8] =
     b"HTTP/1.1 200 OK\r\nContent-Type: application/json\r\nContent-Length: 130\r\nConnection: close\r\n\r\n{\"errors\":false,\"items\":[{\"delete\":{\"_id\":\"1\",\"_index\":\"b\",\"_seq_no\":0,\"_version\":5,\"result\":\"not_found\",\"status\":404}}],\"took\":0}";
 
-// Its answer where it came before.
+// The answer if it came before.
 const CONFLICT: &[u8] =
     b"HTTP/1.1 200 OK\r\nContent-Type: application/json\r\nContent-Length: 136\r\nConnection: close\r\n\r\n{\"errors\":true,\"items\":[{\"delete\":{\"_id\":\"1\",\"_index\":\"b\",\"error\":{\"type\":\"version_conflict_engine_exception\"},\"status\":409}}],\"took\":0}";
 
-// Its answer where it is refused with 429.
+// The answer if it is refused with 429.
 const REFUSED: &[u8] =
     b"HTTP/1.1 200 OK\r\nContent-Type: application/json\r\nContent-Length: 119\r\nConnection: close\r\n\r\n{\"errors\":true,\"items\":[{\"delete\":{\"_id\":\"1\",\"_index\":\"b\",\"error\":{\"type\":\"scripted_refusal\"},\"status\":429}}],\"took\":0}";
 
@@ -25,29 +25,29 @@ const REFUSED: &[u8] =
 const LATER: &[u8] =
     b"POST /_bulk HTTP/1.1\r\nHost: h\r\nContent-Length: 150\r\n\r\n{\"delete\":{\"_id\":\"1\",\"_index\":\"b\",\"version\":6,\"version_type\":\"external\"}}\n{\"index\":{\"_id\":\"0\",\"_index\":\"b\",\"version\":1,\"version_type\":\"external\"}}\n{}\n";
 
-// Its answer after the delete with version 5.
+// The answer after the delete with version 5.
 const LATER_ANSWER: &[u8] =
     b"HTTP/1.1 200 OK\r\nContent-Type: application/json\r\nContent-Length: 222\r\nConnection: close\r\n\r\n{\"errors\":false,\"items\":[{\"delete\":{\"_id\":\"1\",\"_index\":\"b\",\"_seq_no\":1,\"_version\":6,\"result\":\"not_found\",\"status\":404}},{\"index\":{\"_id\":\"0\",\"_index\":\"b\",\"_seq_no\":2,\"_version\":1,\"result\":\"created\",\"status\":201}}],\"took\":0}";
 
-// Its answer there, where the index action is refused with 503.
+// The answer there, if the index action is refused with 503.
 const LATER_REFUSED: &[u8] =
     b"HTTP/1.1 200 OK\r\nContent-Type: application/json\r\nContent-Length: 213\r\nConnection: close\r\n\r\n{\"errors\":true,\"items\":[{\"delete\":{\"_id\":\"1\",\"_index\":\"b\",\"_seq_no\":1,\"_version\":6,\"result\":\"not_found\",\"status\":404}},{\"index\":{\"_id\":\"0\",\"_index\":\"b\",\"error\":{\"type\":\"scripted_refusal\"},\"status\":503}}],\"took\":0}";
 
-// The answer to what is no POST to /_bulk.
+// The answer to a request that is not a POST to /_bulk.
 const NOT_BULK: &[u8] =
     b"HTTP/1.1 400 Bad Request\r\nContent-Type: application/json\r\nContent-Length: 41\r\nConnection: close\r\n\r\n{\"error\":{\"type\":\"NotBulk\"},\"status\":400}";
 
-// The answer to a body whose first line is no JSON.
+// The answer to a body whose first line is not JSON.
 const NOT_JSON: &[u8] =
     b"HTTP/1.1 400 Bad Request\r\nContent-Type: application/json\r\nContent-Length: 50\r\nConnection: close\r\n\r\n{\"error\":{\"line\":1,\"type\":\"NotJson\"},\"status\":400}";
 
-// A bulk request whose body is no bulk body.
+// A bulk request whose body is not bulk text.
 const BROKEN_BODY: &[u8] = b"POST /_bulk HTTP/1.1\r\nHost: h\r\nContent-Length: 2\r\n\r\n{\n";
 
-// A request that is no POST to /_bulk.
+// A request that is not a POST to /_bulk.
 const GET: &[u8] = b"GET /_bulk HTTP/1.1\r\nHost: h\r\n\r\n";
 
-// One with a body that is bulk.
+// One with a body that is bulk text.
 const ELSEWHERE: &[u8] =
     b"POST /books HTTP/1.1\r\nHost: h\r\nContent-Length: 74\r\n\r\n{\"delete\":{\"_id\":\"1\",\"_index\":\"b\",\"version\":5,\"version_type\":\"external\"}}\n";
 
@@ -59,7 +59,7 @@ const OLD: &[u8] =
 const CLOSING: &[u8] =
     b"POST /_bulk HTTP/1.1\r\nConnection: close\r\nContent-Length: 74\r\n\r\n{\"delete\":{\"_id\":\"1\",\"_index\":\"b\",\"version\":5,\"version_type\":\"external\"}}\n";
 
-// The delete as it is not read.
+// The delete in a form that is not read.
 const GZIP: &[u8] =
     b"POST /_bulk HTTP/1.1\r\nContent-Encoding: gzip\r\nContent-Length: 74\r\n\r\n{\"delete\":{\"_id\":\"1\",\"_index\":\"b\",\"version\":5,\"version_type\":\"external\"}}\n";
 
@@ -77,7 +77,8 @@ const fn visit<'a>(input: &'a [u8], wanted: &'a [u8]) -> Visit<'a> {
     }
 }
 
-// Whether so many connections are served with this answer, and these are the lines of the index then.
+// Whether this many connections are served with this result, and these are the lines of the index
+// then.
 fn leaves(
     alloc: Global,
     visits: &[Visit<'_>],
@@ -90,7 +91,7 @@ fn leaves(
         && leaves_by(alloc, visits, 4096, requests, refusals, answer, lines)
 }
 
-// The same, over streams that move so many bytes in a call.
+// The same, over streams that move a few bytes per call.
 fn leaves_by(
     alloc: Global,
     visits: &[Visit<'_>],
@@ -106,7 +107,7 @@ fn leaves_by(
     }
 }
 
-// The same by this script.
+// The same with this script.
 fn serves_and_lists(
     alloc: Global,
     visits: &[Visit<'_>],
@@ -131,14 +132,14 @@ fn lists(alloc: Global, index: &Index, lines: &str) -> bool {
 
 const ONE: &str = "applied b/1 5 delete\n";
 
-// What comes on a connection, what is written to it, and the lines of the index then.
+// What arrives on a connection, what is written to it, and the lines of the index then.
 const SINGLE: &[(&[u8], &[u8], &str)] = &[
     (DELETE, NOT_FOUND, ONE),
     (OLD, NOT_FOUND, ONE),
     (CLOSING, NOT_FOUND, ONE),
     // The second request of a connection is not read.
     (TWICE, NOT_FOUND, ONE),
-    // No bulk body, and no bulk request.
+    // Not bulk text, and not a bulk request.
     (BROKEN_BODY, NOT_JSON, ""),
     (GET, NOT_BULK, ""),
     (ELSEWHERE, NOT_BULK, ""),
@@ -183,7 +184,7 @@ fn one_after_another(rt: HostRuntime) {
     assert!(rt; leaves(rt.alloc(), &visits, 5, &[], Ok(()), lines));
 }
 
-// Places count over all requests, and those that are not bulk have none.
+// Positions count over all requests, and those that are not bulk have none.
 #[test]
 fn refusals(rt: HostRuntime) {
     let visits = [
@@ -197,7 +198,7 @@ fn refusals(rt: HostRuntime) {
     assert!(rt; leaves(rt.alloc(), &visits, 5, &[(1, 429), (5, 503)], Ok(()), lines));
 }
 
-// No more are accepted than are asked for; where there are fewer, the last call of the listener fails.
+// No more are accepted than requested; if there are fewer, the last call of the listener fails.
 #[test]
 fn as_many_as_asked_for(rt: HostRuntime) {
     let alloc = rt.alloc();
@@ -209,8 +210,8 @@ fn as_many_as_asked_for(rt: HostRuntime) {
     assert!(rt; leaves(alloc, &one, u64::MAX, &[], Err(ServeError::Accept), ONE));
 }
 
-// Whether a writer that takes so many bytes of an answer has its front, the run stays, and the next
-// connection is served.
+// Whether a writer that takes this many bytes of an answer has a prefix of it, the run is kept, and
+// the next connection is served.
 fn stays_cut_at(alloc: Global, room: usize) -> bool {
     let Some(wanted) = NOT_FOUND.get(..room) else {
         return false;
@@ -232,8 +233,8 @@ fn answers_cut_short(rt: HostRuntime) {
     }
 }
 
-// One call of the first connection fails: a read, and nothing is run, or the write of the answer, and the
-// run stays. By 4096 bytes a call there is one of each.
+// One call of the first connection fails: a read, and nothing is run, or the write of the answer,
+// and the run is kept. With 4096 bytes per call there is one of each.
 fn fails_at(alloc: Global, fail_at: u64) -> bool {
     let failing = Visit {
         input: DELETE,

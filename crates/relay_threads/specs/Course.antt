@@ -1,4 +1,4 @@
--- What a lane made of the messages of its queue.
+-- What a lane does with the messages of its queue.
 use Rattle.std.specs.Prelude.{◌≡◌, ◌≢◌, ◌+◌, ◌<◌, ◌≤◌, ℕ, List, [], ◌∷◌, ◌++◌, Bool, true, false, IsTrue, Some, length, slice_index_or}
 use Rattle.relay_action.specs.declared.operation.Op.{Op}
 use Rattle.relay_action.specs.declared.mail.Mail.{Mail}
@@ -15,7 +15,7 @@ use Rattle.relay_threads.specs.declared.lane_end.LaneEndKind.{LaneEndKind}
 use Rattle.relay_threads.specs.declared.lane_end.LaneEndKind.TheVariants.{Finished, Memory, Gone}
 use Rattle.relay_delivery.specs.Machine.{first_in}
 
--- the operations of messages, in their order
+-- the operations of messages, in order
 abbrev pub puts_of : List Mail → List Op
 puts_of [] = []
 puts_of (m ∷ ms) = ops_of m.body ++ puts_of ms
@@ -28,11 +28,12 @@ KnowsClosed closed heard = (sender : ℕ) → slice_index_or closed sender false
 abbrev pub KnowsOpen : List Bool → List Mail → Type 0
 KnowsOpen closed heard = (sender : ℕ) → sender < length closed → slice_index_or closed sender false ≡ false → ¬ HasDone (mail_of sender heard)
 
--- not each of so many senders has closed: of one no Done was taken
+-- not all senders have closed: no Done was taken from one of them
 abbrev pub OneIsOpen : ℕ → List Mail → Type 0
 OneIsOpen senders taken = (sender : ℕ) × (sender < senders) × (¬ HasDone (mail_of sender taken))
 
--- Of the messages that were taken from the queue the lane heard all, but for lack of memory maybe the last one, an operation.
+-- The lane heard all messages that were taken from the queue, except that the last one, if it is an operation, may be
+-- missing after a failed allocation.
 pub record Heard (kind : LaneEndKind) (taken heard : List Mail) : Type 0 where
   pub missed : List Mail
   pub all : taken ≡ heard ++ missed
@@ -44,18 +45,18 @@ pub record Heard (kind : LaneEndKind) (taken heard : List Mail) : Type 0 where
 abbrev pub HasTotals : State → Type 0
 HasTotals s = length s.core.held + (s.core.applied + s.core.already) + length s.core.reports ≡ s.core.taken
 
--- each version that was stored at the start is below the first one that is dealt
+-- each version that was stored at the start is below the first one assigned
 abbrev pub IsBelow : ℕ → Outside → Type 0
 IsBelow first o = (k : Document) (u : ℕ) → o.stored k ≡ Some u → u < first
 
--- from each opening that fitted the wire at the start an outside came that fits it now, and beside it delivery of what was
--- heard is as promised, where the wire describes it
+-- from each opening that fitted the wire at the start an outside came about that fits it now, for which delivery of
+-- what was heard is as promised, if the wire describes it
 abbrev pub DeliversFrom : {S : Type 0} → Bool → (S → Outside → Type 0) → S → S → RelayConfig → List Mail → State → Type 0
 DeliversFrom describes fits start now c heard s =
     IsTrue describes → (o : Outside) → fits start o → IsOpening o → IsBelow (first_in c.epoch) o → GoesOn fits now s (puts_of heard) o
 
--- A lane of this config that began fresh has heard these messages, and worked on its wire; it came to its state by calls that
--- it may make, whatever the wire answered.
+-- A lane with this config that started fresh has heard these messages, and worked on its wire; it reached its state
+-- by calls that it may make, whatever the wire returned.
 pub record Course {S : Type 0} (describes : Bool) (fits : S → Outside → Type 0) (start now : S) (c : RelayConfig) (heard : List Mail) (s : State) : Type 0 where
   pub config : s.config ≡ c
   pub taken : s.core.taken ≡ length (puts_of heard)
@@ -66,8 +67,8 @@ pub record Course {S : Type 0} (describes : Bool) (fits : S → Outside → Type
   pub reached : IsReached s (puts_of heard)
   pub delivers : DeliversFrom describes fits start now c heard s
 
--- How it ended: what it heard of what was taken. Where it finished each sender closed and nothing is held; where it ended as
--- Gone not each of them had closed.
+-- How it ended, and what it heard of what was taken. If it finished, each sender closed and nothing is held; if it
+-- ended as Gone, not all of them had closed.
 pub record EndsAs {S : Type 0} (describes : Bool) (fits : S → Outside → Type 0) (start now : S) (c : RelayConfig) (taken : List Mail) (kind : LaneEndKind) (s : State) : Type 0 where
   pub messages : List Mail
   pub heard : Heard kind taken messages

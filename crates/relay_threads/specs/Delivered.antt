@@ -12,15 +12,16 @@ use Rattle.relay_threads.specs.Course.{IsBelow}
 use Rattle.relay_threads.specs.Finished.{CameTo, Carries}
 use Rattle.relay_delivery.specs.Machine.{first_in}
 
--- the producers numbered p, p + 1, and so on put these operations, and no others
+-- the producers numbered p, p + 1 and so on put exactly these operations
 abbrev pub HavePut : (ℕ → List Op) → ℕ → List ClosedProducerState → Type 0
 HavePut puts p [] = Unit {0}
 HavePut puts p (c ∷ cs) = HasPut p c.put (closed_puts c.ends) (puts p) × HavePut puts (p + 1) cs
 
 module _ {W : Type 0} (describes : W → Bool) (fits : W → Outside → Type 0) (c : RelayConfig) (puts : ℕ → List Op) where
-  -- What a lane has delivered: the operations on its documents that the producers put, each producer's in its order, and no
-  -- others. Each of them was applied or is reported, and the lane came to that by calls that it may make. For each opening that
-  -- fitted the wire at the start one outside goes on from there to the end, and beside it delivery is sound and complete.
+  -- What a lane has delivered: exactly the operations on its documents that the producers put, each producer's in
+  -- order. Each of them was applied or is reported, and the lane reached that by calls that it may make. For each
+  -- opening that fitted the wire at the start an outside continues it to the end, for which delivery is sound and
+  -- complete.
   pub record DeliveredLane (lane : ℕ) (start : W) (s : LaneSummary W) : Type 0 where
     pub taken : List Op
     pub own : (p : ℕ) → p < c.producers → taken_of taken p ≡ ops_for c.lanes lane (puts p)
@@ -30,7 +31,7 @@ module _ {W : Type 0} (describes : W → Bool) (fits : W → Outside → Type 0)
     pub reached : CameTo describes fits c taken s
     pub delivers : IsTrue (describes start) → (o : Outside) → fits start o → IsOpening o → IsBelow (first_in c.epoch) o → Carries describes fits c taken s o
 
-  -- so it is of the lanes from this one on, each with its wire
+  -- this holds for the lanes from this one on, each with its wire
   abbrev pub AllDelivered : ℕ → List W → List (LaneSummary W) → Type 0
   AllDelivered lane [] [] = Unit {0}
   AllDelivered lane [] (s ∷ ss) = ⊥

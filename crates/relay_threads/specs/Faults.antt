@@ -24,7 +24,7 @@ is_gone_kind Finished = false
 is_gone_kind Memory = false
 is_gone_kind Gone = true
 
--- the lane has ended in such a way
+-- the lane has ended like this
 abbrev pub ends_as : {W : Type 0} → (LaneEndKind → Bool) → List (LaneEnd W) → ℕ → Bool
 ends_as test [] lane = false
 ends_as test (e ∷ es) zero = test e.kind
@@ -54,14 +54,14 @@ NoneMemory ends = FirstOf (ends_as is_memory ends) (length ends) None
 abbrev pub NoneLost : {W : Type 0} → List (LaneEnd W) → List (List ClosedEnd) → Type 0
 NoneLost ends rows = FirstOf (is_gone_lane ends rows) (length ends) None
 
--- A fault of this kind tells of this lane: the first that ended as Memory; if none did, the first that ended as Gone or that
--- a closed handle has marked; if there is none of either, lane 0.
+-- A fault of this kind names this lane: the first that ended as Memory; if none did, the first that ended as Gone or
+-- that a closed handle has marked; if there is neither, lane 0.
 abbrev pub IsFaultOf : {W : Type 0} → List (LaneEnd W) → List (List ClosedEnd) → FinishFaultKind → ℕ → Type 0
 IsFaultOf ends rows kind.LaneMemory lane = FirstOf (ends_as is_memory ends) (length ends) (Some lane)
 IsFaultOf ends rows kind.LaneGone lane = NoneMemory ends × FirstOf (is_gone_lane ends rows) (length ends) (Some lane)
 IsFaultOf ends rows kind.Memory lane = NoneMemory ends × NoneLost ends rows × (lane ≡ 0)
 
--- what went wrong with lanes that have ended, if anything did
+-- the fault of lanes that have ended, if there is one
 abbrev pub TellsFault : {W : Type 0} → List (LaneEnd W) → List (List ClosedEnd) → Option FinishFault → Type 0
 TellsFault ends rows None = NoneMemory ends × NoneLost ends rows
 TellsFault ends rows (Some fault) = IsFaultOf ends rows fault.kind fault.lane × (fault.kind ≡ kind.Memory → ⊥)

@@ -25,14 +25,14 @@ use Rattle.relay_delivery.specs.Machine.{first_in}
 module _ {W : Type 0} (describes : W → Bool) (fits : W → Outside → Type 0) (c : RelayConfig) where
   -- ---- how the lanes ended
 
-  -- a lane that began with this queue and this wire has ended so
+  -- a lane that began with this queue and this wire has ended like this
   pub record EndsOn (queue : Queue) (start : W) (end : LaneEnd W) : Type 0 where
     pub of_queue : end.taken.queue ≡ queue
     pub well_taken : IsWellTaken (c.producers + 1) end.taken.taken
     pub ends : EndsAs (describes start) fits start end.wire c end.taken.taken end.kind end.lane.state
     pub closed : end.kind ≡ Finished → (sender : ℕ) → sender < c.producers + 1 → HasDone (mail_of sender end.taken.taken)
 
-  -- all of them have, in their order
+  -- all of them have, in order
   abbrev pub AllEndOn : List Queue → List W → List (LaneEnd W) → Type 0
   AllEndOn [] [] [] = Unit {0}
   AllEndOn [] [] (e ∷ es) = ⊥
@@ -43,7 +43,7 @@ module _ {W : Type 0} (describes : W → Bool) (fits : W → Outside → Type 0)
 
   -- ---- faults
 
-  -- the lanes have ended, and this is what went wrong
+  -- the lanes have ended, with this fault
   pub record HasFault (queues : List Queue) (wires : List W) (rows : List (List ClosedEnd)) (fault : FinishFault) : Type 0 where
     pub ends : List (LaneEnd W)
     pub ended : AllEndOn queues wires ends
@@ -51,9 +51,9 @@ module _ {W : Type 0} (describes : W → Bool) (fits : W → Outside → Type 0)
 
   -- ---- delivery
 
-  -- An outside fits the wire of the summary and continues the one before. Beside it delivery of these operations is sound
-  -- and complete, that many requests were sent, and that many operations ended as applied, and as applied already, by their
-  -- answers.
+  -- An outside fits the wire of the summary and continues the one before. For it delivery of these operations is
+  -- sound and complete, this many requests were sent, and this many operations ended as applied, and as already
+  -- applied, by their answers.
   pub record Carries (ops : List Op) (s : LaneSummary W) (before : Outside) : Type 0 where
     pub outside : Outside
     pub fitting : fits s.wire outside
@@ -64,8 +64,8 @@ module _ {W : Type 0} (describes : W → Bool) (fits : W → Outside → Type 0)
     pub sound : IsSound (config_of c) ops (map report_of s.reports.items) outside (attributed (config_of c) ops outside)
     pub complete : IsComplete ops (map report_of s.reports.items) (attributed (config_of c) ops outside)
 
-  -- The lane came to this summary by calls that it may make, which took these operations, whatever its wire answered: nothing
-  -- is held, and the counts and the reports are those to which the calls led.
+  -- The lane reached this summary by calls that it may make, which took these operations, whatever its wire returned:
+  -- nothing is held, and the counts and the reports are those to which the calls led.
   pub record CameTo (ops : List Op) (s : LaneSummary W) : Type 0 where
     pub state : delivery.State
     pub reached : Reached state ops
@@ -77,9 +77,9 @@ module _ {W : Type 0} (describes : W → Bool) (fits : W → Outside → Type 0)
     pub requests : s.requests ≡ state.requests
     pub reports : map report_of s.reports.items ≡ state.reports
 
-  -- A lane that has finished took from its queue exactly what each sender sent there, each of which has closed and has not
-  -- marked the lane. Each operation that it took was applied or is reported, and it came to that by calls that it may make. For
-  -- each opening that fitted the wire at the start one outside goes on from there to the end.
+  -- A lane that has finished took from its queue exactly what each sender sent there, each of which has closed and
+  -- has not marked the lane. Each operation that it took was applied or is reported, and it reached that by calls
+  -- that it may make. For each opening that fitted the wire at the start an outside continues it to the end.
   pub record FinishedLane (rows : List (List ClosedEnd)) (lane : ℕ) (start : W) (s : LaneSummary W) : Type 0 where
     pub messages : List Mail
     pub met : AreMetAt lane 0 messages rows
@@ -89,7 +89,7 @@ module _ {W : Type 0} (describes : W → Bool) (fits : W → Outside → Type 0)
     pub reached : CameTo (puts_of messages) s
     pub delivers : HasDistinctNames (puts_of messages) → IsTrue (describes start) → (o : Outside) → fits start o → IsOpening o → IsBelow (first_in c.epoch) o → Carries (puts_of messages) s o
 
-  -- so it is of the lanes from this one on, each with its wire
+  -- this holds for the lanes from this one on, each with its wire
   abbrev pub AllFinished : List (List ClosedEnd) → ℕ → List W → List (LaneSummary W) → Type 0
   AllFinished rows lane [] [] = Unit {0}
   AllFinished rows lane [] (s ∷ ss) = ⊥

@@ -15,12 +15,12 @@ module _ {W : Type 0} where
   abbrev pub wires_of : List (PromisedHandle (LaneEnd W) (LanePromise W)) → List W
   wires_of lanes = map (λ h. h.promise.wire.value) lanes
 
-  -- they work by this config, and each queue has its senders
+  -- they have this config, and each queue has its senders
   abbrev pub AreLanesOf : RelayConfig → List (PromisedHandle (LaneEnd W) (LanePromise W)) → Type 0
   AreLanesOf c [] = Unit {0}
   AreLanesOf c (h ∷ hs) = ((h.promise.config.value ≡ c) × (h.promise.take.value.senders ≡ c.producers + 1)) × AreLanesOf c hs
 
-  -- each lane has ended as its thread promised, in their order
+  -- each lane has ended as its thread promised, in order
   abbrev pub EndAsPromised : (W → Bool) → (W → Outside → Type 0) → List (PromisedHandle (LaneEnd W) (LanePromise W)) → List (LaneEnd W) → Type 0
   EndAsPromised describes fits [] [] = Unit {0}
   EndAsPromised describes fits [] (e ∷ es) = ⊥

@@ -6,7 +6,7 @@ use Rattle.relay_core.specs.declared.config.RelayConfig.{RelayConfig}
 use Rattle.relay_core.specs.State.{State, after_take}
 use Rattle.relay_threads.specs.Course.{Course}
 
--- the lane took one message of a sender that it knows, the next one that was taken from the queue
+-- the lane took one message of a known sender, the next one that was taken from the queue
 pub record Takes (s t : State) (old new : List Mail) : Type 0 where
   pub mail : Mail
   pub taken : new ≡ old ++ mail ∷ []

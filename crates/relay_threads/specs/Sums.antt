@@ -1,4 +1,4 @@
--- What is summed up of lanes that have ended, and what it is met with.
+-- The summary of lanes that have ended, and what it is compared with.
 use Rattle.std.specs.Prelude.{◌≡◌, ◌+◌, ◌<◌, ◌≤◌, ℕ, Bool, false, List, [], ◌∷◌, Option, Some, None, slice_get, map, length}
 use Rattle.relay_action.specs.declared.mail.Mail.{Mail}
 use Rattle.relay_queue.specs.Ends.{Queue}
@@ -18,7 +18,7 @@ abbrev pub IsClosedOn : Queue → ℕ → ClosedEnd → Type 0
 IsClosedOn queue sender (Closed put) = (put.queue ≡ queue) × (put.sender ≡ sender)
 IsClosedOn queue sender (Gone put) = ⊥
 
--- they are those of the senders p, p + 1, and so on
+-- they are those of the senders p, p + 1 and so on
 abbrev pub AreClosedOn : Queue → ℕ → List ClosedEnd → Type 0
 AreClosedOn queue p [] = Unit {0}
 AreClosedOn queue p (e ∷ es) = IsClosedOn queue p e × AreClosedOn queue (p + 1) es
@@ -28,7 +28,7 @@ abbrev pub IsMet : ℕ → List Mail → ClosedEnd → Type 0
 IsMet sender taken (Closed put) = mail_of sender taken ≡ put.sent
 IsMet sender taken (Gone put) = ⊥
 
--- so it is of the senders p, p + 1, and so on
+-- this holds for the senders p, p + 1 and so on
 abbrev pub AreMet : ℕ → List Mail → List ClosedEnd → Type 0
 AreMet p taken [] = Unit {0}
 AreMet p taken (e ∷ es) = IsMet p taken e × AreMet (p + 1) taken es
@@ -40,7 +40,7 @@ abbrev pub IsMetAt : Option ClosedEnd → ℕ → List Mail → Type 0
 IsMetAt None sender taken = ⊥
 IsMetAt (Some e) sender taken = IsMet sender taken e
 
--- what was taken on this lane of the senders p, p + 1, and so on is what they sent there
+-- what was taken on this lane from the senders p, p + 1 and so on is what they sent there
 abbrev pub AreMetAt : ℕ → ℕ → List Mail → List (List ClosedEnd) → Type 0
 AreMetAt lane p taken [] = Unit {0}
 AreMetAt lane p taken (row ∷ rows) = IsMetAt (slice_get row lane) p taken × AreMetAt lane (p + 1) taken rows
@@ -58,7 +58,7 @@ module _ {W : Type 0} where
   abbrev pub queues_taken : List (LaneEnd W) → List Queue
   queues_taken ends = map (λ (e : LaneEnd W). e.taken.queue) ends
 
-  -- each lane took the Done of each of so many senders
+  -- each lane took the Done of each of its senders
   abbrev pub AreDone : ℕ → List (LaneEnd W) → Type 0
   AreDone n [] = Unit {0}
   AreDone n (e ∷ es) = ((sender : ℕ) → sender < n → HasDone (mail_of sender e.taken.taken)) × AreDone n es
@@ -73,7 +73,7 @@ module _ {W : Type 0} where
     pub reports : map report_of s.reports.items ≡ e.lane.state.core.reports
     pub wire : s.wire ≡ e.wire
 
-  -- the summaries of the lanes from this one on, each of which was met with what was sent there
+  -- the summaries of the lanes from this one on, each of which was compared with what was sent there
   abbrev pub AllSumUp : List (List ClosedEnd) → ℕ → List (LaneEnd W) → List (LaneSummary W) → Type 0
   AllSumUp rows lane [] [] = Unit {0}
   AllSumUp rows lane [] (s ∷ ss) = ⊥

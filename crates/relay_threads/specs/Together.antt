@@ -1,4 +1,5 @@
--- What is promised of all that the producers of a relay put: one record over all its lanes, each beside an outside of its own.
+-- What is promised of all that the producers of a relay put: one record over all its lanes, each with its own
+-- outside.
 use Rattle.std.specs.Prelude.{◌≡◌, ◌≢◌, ◌⊎◌, ℕ, zero, suc, Bool, IsTrue, nat_lt, if◌then◌else◌, List, [], ◌∷◌, Option, Some, slice_get, map, length}
 use Rattle.relay_action.specs.declared.operation.Op.{Op}
 use Rattle.relay_results.specs.Words.{Mem, AllDistinct}
@@ -18,11 +19,11 @@ use Rattle.relay_threads.specs.Course.{IsBelow}
 
 -- ---- what was put, and what is reported
 
--- what each producer put; no other sender put any
+-- what each producer put; no other sender put anything
 abbrev pub put_by : RelayConfig → (ℕ → List Op) → ℕ → List Op
 put_by c puts p = if nat_lt p c.producers then puts p else []
 
--- the reports of a lane, and none past the last
+-- the reports of a lane; none beyond the last lane
 abbrev pub reports_at : {W : Type 0} → List (LaneSummary W) → ℕ → List Report
 reports_at [] l = []
 reports_at (s ∷ ss) zero = map report_of s.reports.items
@@ -37,8 +38,8 @@ pub record IsOnPut (c : RelayConfig) (puts : ℕ → List Op) (l : ℕ) (r : Rep
   pub name : r.name ≡ name_of op
   pub document : r.document ≡ document_of op.key
 
--- Whatever the wires answered: each report names an operation of its lane that a producer put, and none is reported twice, by
--- one lane or by two.
+-- Whatever the wires returned: each report names an operation of its lane that a producer put, and none is reported
+-- twice, by one lane or by two.
 pub record AreReportedOnce {W : Type 0} (c : RelayConfig) (puts : ℕ → List Op) (lanes : List (LaneSummary W)) : Type 0 where
   pub named : (l : ℕ) (r : Report) → Mem r (reports_at lanes l) → IsOnPut c puts l r
   pub once : (l : ℕ) → AllDistinct (names_of (reports_at lanes l))
@@ -46,15 +47,16 @@ pub record AreReportedOnce {W : Type 0} (c : RelayConfig) (puts : ℕ → List O
 
 -- ---- the outside of a lane
 
--- before its lane begins it is an opening, which fits the wire, and each version that is stored is below the first one dealt
+-- before its lane begins it is an opening, which fits the wire, and each stored version is below the first one
+-- assigned
 pub record BeginsBeside {W : Type 0} (describes : W → Bool) (fits : W → Outside → Type 0) (c : RelayConfig) (start : W) (before : Outside) : Type 0 where
   pub is_described : IsTrue (describes start)
   pub fitting : fits start before
   pub opening : IsOpening before
   pub below : IsBelow (first_in c.epoch) before
 
--- when its lane has ended it fits the wire of the summary and continues what it was: that many requests were sent, by whose
--- answers that many operations ended as applied, and as applied already
+-- when its lane has ended it fits the wire of the summary and continues what it was: this many requests were sent, by
+-- whose answers this many operations ended as applied, and as already applied
 pub record EndsBeside {W : Type 0} (fits : W → Outside → Type 0) (s : LaneSummary W) (before after : Outside) : Type 0 where
   pub fitting : fits s.wire after
   pub continues : Continues before after
@@ -64,14 +66,15 @@ pub record EndsBeside {W : Type 0} (fits : W → Outside → Type 0) (s : LaneSu
 
 -- ---- what is promised
 
--- a report of a lane names an operation of that lane that a producer put, and its cause is true of the lane's requests and runs
+-- a report of a lane names an operation of that lane that a producer put, and its cause is true for the lane's
+-- requests and runs
 pub record IsTrueTogether (c : RelayConfig) (puts : ℕ → List Op) (taken : ℕ → List Op) (after : ℕ → Outside) (versions : Op → Option ℕ) (l : ℕ) (r : Report) : Type 0 where
   pub on_put : IsOnPut c puts l r
   pub cause : IsTrueCause (terms_of (config_of c) (taken l)) (after l) on_put.op (versions on_put.op) r.cause
 
--- Over all lanes the writes applied to each document are those of distinct operations that were put, each producer's in its
--- order; they were sent by the document's lane, and no other lane's outside has one. Each report has a true cause, by one
--- assignment of versions, which is that of all lanes.
+-- Over all lanes the writes applied to each document are those of distinct operations that were put, each producer's
+-- in order; they were sent by the document's lane, and no other lane's outside has one. Each report has a true cause,
+-- by one assignment of versions, which is that of all lanes.
 pub record IsSoundTogether {W : Type 0} (c : RelayConfig) (puts : ℕ → List Op) (lanes : List (LaneSummary W)) (taken : ℕ → List Op) (after : ℕ → Outside) (ops : Document → List Op) : Type 0 where
   pub attribution : (k : Document) → IsAttribution (put_by c puts) k ((after (lane_of c.lanes k)).applied k) (ops k)
   pub in_order : (k : Document) → IsInProducerOrder (put_by c puts) (ops k)
@@ -87,7 +90,7 @@ IsCompleteTogether c puts lanes ops =
     (p : ℕ) (o : Op) → Mem o (put_by c puts p) →
     Mem o (ops (document_of o.key)) ⊎ Mem (name_of o) (names_of (reports_at lanes (lane_of c.lanes (document_of o.key))))
 
--- from these outsides, one for each lane, others came about, beside which delivery over all lanes is sound and complete
+-- from these outsides, one for each lane, others came about, for which delivery over all lanes is sound and complete
 pub record DeliversTogether {W : Type 0} (fits : W → Outside → Type 0) (c : RelayConfig) (puts : ℕ → List Op) (lanes : List (LaneSummary W)) (taken : ℕ → List Op) (before : ℕ → Outside) : Type 0 where
   pub after : ℕ → Outside
   pub ends : (l : ℕ) (s : LaneSummary W) → slice_get lanes l ≡ Some s → EndsBeside fits s (before l) (after l)
@@ -95,9 +98,9 @@ pub record DeliversTogether {W : Type 0} (fits : W → Outside → Type 0) (c : 
   pub sound : IsSoundTogether c puts lanes taken after ops
   pub complete : IsCompleteTogether c puts lanes ops
 
--- There is a summary for each lane. It took what the producers put for it, each producer's in its order, and no others; each report
--- is on one of these, and none is reported twice. Beside an outside for each lane that its wire describes, delivery over all lanes
--- is sound and complete.
+-- There is a summary for each lane. It took exactly what the producers put for it, each producer's in order; each
+-- report is on one of these, and none is reported twice. With an outside for each lane that its wire describes,
+-- delivery over all lanes is sound and complete.
 pub record AreDeliveredTogether {W : Type 0} (describes : W → Bool) (fits : W → Outside → Type 0) (c : RelayConfig) (puts : ℕ → List Op) (wires : List W) (lanes : List (LaneSummary W)) : Type 0 where
   pub all_lanes : length lanes ≡ c.lanes
   pub taken : ℕ → List Op

@@ -4,19 +4,19 @@ ghost use Rattle.std.specs.Prelude.{◌≡◌};
 use std::alloc::AllocError;
 use thiserror::Error;
 
-/// Why a relay was not started. The first that holds is given, in this order.
+/// Why a relay was not started: the first cause that applies, in this order.
 #[derive(Clone, Copy, Debug, PartialEq, Eq, Error)]
 pub enum StartFault {
     /// The config is not valid.
     #[error("BadConfig")]
     BadConfig,
-    /// The wires or the paces are not one for each lane.
+    /// The number of wires or of paces is not that of the lanes.
     #[error("WireCount")]
     WireCount,
-    /// There was no memory for a queue, a lane or a handle.
+    /// An allocation for a queue, a lane or a handle failed.
     #[error("Memory")]
     Memory,
-    /// A thread could not be started, for lack of memory too. When this comes is not promised.
+    /// A thread could not be started, which may also be a failed allocation. No contract says when.
     #[error("Thread")]
     Thread,
 }
@@ -31,26 +31,26 @@ impl From<AllocError> for StartFault {
     }
 }
 
-/// Why a relay did not finish well. The first that holds is given, in this order.
+/// Why a relay did not finish well: the first cause that applies, in this order.
 #[derive(Clone, Copy, Debug, PartialEq, Eq, Error)]
 pub enum FinishFaultKind {
     /// A lane ended as Memory.
     #[error("LaneMemory")]
     LaneMemory,
-    /// A lane ended as Gone, or a closed handle has marked it. When this comes is not promised.
+    /// A lane ended as Gone, or a closed handle has marked it. No contract says when.
     #[error("LaneGone")]
     LaneGone,
-    /// There was no memory for the summary.
+    /// An allocation for the summary failed.
     #[error("Memory")]
     Memory,
 }
 
-/// Why a relay did not finish well, and the first lane of which that is so. All lanes have ended.
+/// Why a relay did not finish well, and the first lane to which that applies. All lanes have ended.
 #[derive(Clone, Copy, Debug, PartialEq, Eq, Error)]
 #[error("{kind} on lane {lane}")]
 pub struct FinishFault {
     /// Why.
     pub kind: FinishFaultKind,
-    /// The first such lane, from 0. It is 0 where the kind is Memory.
+    /// The first such lane, from 0. It is 0 if the kind is Memory.
     pub lane: u32,
 }

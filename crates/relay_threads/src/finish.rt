@@ -1,4 +1,4 @@
-//! Waits until the lanes of a relay have ended, and tells what each of them has done.
+//! Waiting until the lanes of a relay have ended, and summing up what they have done.
 ghost use Rattle.std.specs.Prelude.{◌≡◌, ◌+◌, ◌<◌, ◌≤◌, ◌||◌, ℕ, List, [], IfOk, IfErr, map, vec_len, vec_capacity};
 ghost use Rattle.relay_action.specs.declared.operation.Op.{Op};
 ghost use Rattle.relay_queue.specs.Sent.{mail_of, HasDone};
@@ -25,7 +25,6 @@ use std::thread::Threads;
 
 // ---- faults
 
-// Whether the end is of a lane that a closed handle has marked.
 fn is_marked(end: &ClosedEnd) -> bool
     ensures { result ≡ is_gone end.now }
 {
@@ -43,14 +42,12 @@ fn is_marked_at(row: &Vec<ClosedEnd>, lane: usize) -> bool
     }
 }
 
-// Whether a lane ended as Memory.
 fn is_memory(kind: LaneEndKind) -> bool
     ensures { result ≡ is_memory kind }
 {
     matches!(kind, LaneEndKind::Memory)
 }
 
-// Whether a lane ended as Gone.
 fn is_gone(kind: LaneEndKind) -> bool
     ensures { result ≡ is_gone_kind kind }
 {
@@ -102,9 +99,10 @@ fn first_gone<W: Drop>(ends: &Vec<LaneEnd<W>>, rows: &Vec<Vec<ClosedEnd>>) -> Op
     None
 }
 
-/// What went wrong with lanes that have ended, by the ends and by the closed handles' ends of their queues, a
-/// row for each handle: `LaneMemory` of the first lane that ended as Memory; if none did, `LaneGone` of the
-/// first that ended as Gone or that a handle has marked. `None`: each lane has finished, and none is marked.
+/// The fault of lanes that have ended, given their ends and the closed handles' ends of their
+/// queues, one row per handle: `LaneMemory` of the first lane that ended as Memory; if none did,
+/// `LaneGone` of the first that ended as Gone or that a handle has marked. `None`: each lane has
+/// finished, and none is marked.
 pub fn fault_of<W: Drop>(ends: &Vec<LaneEnd<W>>, rows: &Vec<Vec<ClosedEnd>>) -> Option<FinishFault>
     requires { vec_len ends.now ≤ 8 }
     ensures { TellsFault ends.now.items (map (λ r. r.items) rows.now.items) result }
@@ -126,7 +124,7 @@ pub fn fault_of<W: Drop>(ends: &Vec<LaneEnd<W>>, rows: &Vec<Vec<ClosedEnd>>) -> 
 
 // ---- what is given back
 
-// The closed ends of the senders, in their order. There is a place for each.
+// The closed ends of the senders, in order. There is room for all.
 fn give_back(
     places: Vec<Vec<ClosedEnd>>,
     producers: Vec<ClosedProducer>,
@@ -145,7 +143,7 @@ fn give_back(
     rows
 }
 
-// Meets what was taken with what one sender sent.
+// Compares what was taken with what one sender sent.
 fn meet_one(taken: Taken, end: ClosedEnd, sender: u32) -> Taken
     requires end { IsClosedOn taken.queue sender end }
     requires done { HasDone (mail_of sender taken.taken) }
@@ -158,7 +156,7 @@ fn meet_one(taken: Taken, end: ClosedEnd, sender: u32) -> Taken
     }
 }
 
-// Meets what was taken with what each sender sent.
+// Compares what was taken with what each sender sent.
 fn meet_all(taken: Taken, column: Vec<ClosedEnd>)
     requires few { vec_len column ≤ 17 }
     requires column { AreClosedOn taken.queue 0 column.items }
@@ -175,7 +173,7 @@ fn meet_all(taken: Taken, column: Vec<ClosedEnd>)
 
 // ---- the summary
 
-// What a lane has done, of which each sender has closed.
+// The summary of a lane in which each sender has closed.
 fn sum_up<W: Drop>(end: LaneEnd<W>, column: Vec<ClosedEnd>) -> LaneSummary<W>
     requires few { vec_len column ≤ 17 }
     requires column { AreClosedOn end.taken.queue 0 column.items }
@@ -201,7 +199,7 @@ fn sum_up<W: Drop>(end: LaneEnd<W>, column: Vec<ClosedEnd>) -> LaneSummary<W>
     }
 }
 
-// What the lanes have done, none of which is marked.
+// The summaries of the lanes, none of which is marked.
 fn sum_up_all<W: Drop>(
     alloc: Global,
     ends: Vec<LaneEnd<W>>,
@@ -224,14 +222,15 @@ fn sum_up_all<W: Drop>(
 }
 
 impl<W: Wire + Drop + Send + 'static> Relay<W> {
-    /// Waits until every lane has ended, and tells what each has done. Each handle that `start` gave has
-    /// to be closed and given back: the producers in their order, and the control.
+    /// Waits until every lane has ended, and returns what each has done. Each handle that `start`
+    /// returned must be closed and passed here: the producers in order, and the control.
     ///
-    /// After `Ok` each lane has finished: it took exactly what the handles sent there, and each operation
-    /// is applied or reported. Over all lanes no operation is reported twice, and one assignment of
-    /// versions serves all reports. A fault says which lane is the first of its kind: one that ended as
-    /// Memory, else one that ended as Gone or that a handle has marked; else there was no memory for the
-    /// summary. What was taken until then was delivered as [`run_lane`](crate::run_lane) says.
+    /// After `Ok` each lane has finished: it took exactly what the handles sent there, and each
+    /// operation was applied or is reported. Over all lanes no operation is reported twice, and one
+    /// assignment of versions is used for all reports. A fault names the first lane of its kind:
+    /// one that ended as Memory, otherwise one that ended as Gone or that a handle has marked;
+    /// otherwise an allocation for the summary failed. What was taken until then was delivered as
+    /// [`run_lane`](crate::run_lane) says.
     pub fn finish<R: Threads>(
         self,
         rt: &R,

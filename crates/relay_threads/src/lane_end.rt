@@ -7,15 +7,14 @@ use relay_queue::Taken;
 pub enum LaneEndKind {
     /// Each sender's Done was taken, and nothing is held.
     Finished,
-    /// There was no memory for an operation that was taken, which the lane does not hold then, or for a
-    /// request. What the lane holds is neither sent nor reported.
+    /// An allocation for an operation that was taken, which the lane does not hold then, or for a
+    /// request failed. What the lane holds is neither sent nor reported.
     Memory,
-    /// The ends of all senders were dropped, and not each of them had closed. When this comes is not
-    /// promised.
+    /// The ends of all senders were dropped, and not all of them had closed. No contract says when.
     Gone,
 }
 
-/// What a lane ended with.
+/// The state of a lane at its end.
 #[derive(Drop)]
 pub struct LaneEnd<W> {
     /// How it ended.
@@ -24,6 +23,6 @@ pub struct LaneEnd<W> {
     pub taken: Taken,
     /// The lane, with what it reports and counts.
     pub lane: Lane,
-    /// Its wire, on which no number is out.
+    /// Its wire, on which no number is outstanding.
     pub wire: W,
 }

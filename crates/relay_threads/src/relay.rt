@@ -1,4 +1,4 @@
-//! A relay that runs.
+//! A running relay.
 use crate::lane_end::LaneEnd;
 use crate::thread::LaneThread;
 use relay_lane::{RelayConfig, Wire};
@@ -6,16 +6,16 @@ use relay_producer::ClosedEnd;
 use std::alloc::Global;
 use std::marker::Model;
 
-/// A relay that runs: a thread for each lane. Contracts see how it works, its lanes' queues, and their
+/// A running relay: a thread for each lane. Contracts see its config, its lanes' queues, and their
 /// wires as they were at the start, by lane.
 ///
-/// Dropping it leaves the lanes to end by themselves, once each handle has closed or is dropped.
+/// If it is dropped, the lanes end by themselves once each handle has closed or is dropped.
 #[derive(Drop)]
 pub struct Relay<W: Wire> {
     pub(crate) alloc: Global,
     pub(crate) config: RelayConfig,
     pub(crate) lanes: Vec<LaneThread<W>>,
-    // Places for what they end with, and for the handles that are given back.
+    // Room for what they end with, and for the handles that are passed back.
     pub(crate) ends: Vec<LaneEnd<W>>,
     pub(crate) rows: Vec<Vec<ClosedEnd>>,
 }

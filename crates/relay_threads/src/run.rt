@@ -1,4 +1,4 @@
-//! A lane takes its messages and works, until each sender has closed.
+//! A lane's thread: it takes messages and works until each sender has closed.
 ghost use Rattle.std.specs.Prelude.{◌≡◌, ◌≢◌, ◌+◌, ◌<◌, [], ℕ, List, true, false, length, IfOk, OnOk, OnErr, IfErr, IfSome, IfNone, ◌++◌, ◌∷◌};
 ghost use Rattle.relay_action.specs.declared.mail.Mail.{Mail};
 ghost use Rattle.relay_queue.specs.Sent.{mail_of, HasDone, IsWellTaken};
@@ -16,7 +16,8 @@ use relay_queue::{Gone, LaneTake};
 use std::alloc::AllocError;
 use std::sync::Wait;
 
-// Where as many operations are held as may be, it sends and settles until there is room for one.
+// If the lane holds its maximum number of operations, sends and settles until there is room for
+// one.
 fn make_place<W: Wire, P: Pace>(
     lane: &mut Lane,
     wire: &mut W,

@@ -1,4 +1,4 @@
-//! Starts a relay: for each lane a queue, a lane and a thread, and the handles of the senders.
+//! Starting a relay: a queue, a lane and a thread for each lane, and the handles of the senders.
 ghost use Rattle.std.specs.Prelude.{◌≡◌, ◌≢◌, ◌+◌, ◌<◌, ◌≤◌, ◌⊎◌, ◌↔◌, List, [], true, false, IfOk, IfErr, IsErrAnd, map, vec_len};
 ghost use Rattle.relay_queue.specs.Ends.{Queue, fresh_puts};
 ghost use Rattle.relay_core.specs.Limits.{is_valid};
@@ -117,7 +117,7 @@ fn deal(
     Ok((producers, control))
 }
 
-// Starts the lanes of a config that is valid, each with its wire and its pace.
+// Starts the lanes of a valid config, each with its wire and its pace.
 fn start_all<R, W, P>(
     rt: R,
     alloc: Global,
@@ -158,14 +158,14 @@ where
 }
 
 impl<W: Wire + Drop + Send + 'static> Relay<W> {
-    /// Starts a relay: for each lane a queue of its own, a lane that starts fresh, and a thread that works
-    /// on the lane's wire and pauses by its pace, both those at the lane's place; and the handles of the
-    /// senders, the producers numbered from 0 and the control. No lock stands between lanes.
+    /// Starts a relay: for each lane its own queue, a fresh lane, and a thread that works with the
+    /// wire and the pace at the lane's position; and the handles of the senders, which are the
+    /// producers, numbered from 0, and the control. There is no lock between lanes.
     ///
-    /// It is up to the caller that the epoch of the config is above those of all earlier relays over the same
-    /// documents, and that the relay before this one has ended.
+    /// The caller must make sure that the epoch of the config is above those of all earlier relays
+    /// over the same documents, and that the previous relay has ended.
     ///
-    /// At a fault wires and paces are dropped, and lanes that were started end by themselves.
+    /// If it fails, wires and paces are dropped, and lanes that were started end by themselves.
     pub fn start<R, P>(
         rt: R,
         alloc: Global,

@@ -1,20 +1,20 @@
 //! What a relay has done.
 use relay_lane::Report;
 
-/// What a lane has done. The numbers are of operations, but for `requests`.
+/// What a lane has done. The numbers are numbers of operations, except `requests`.
 #[derive(Drop)]
 pub struct LaneSummary<W> {
-    /// How many operations it took: those that the producers put to it.
+    /// The number of operations that it took: those that the producers put to it.
     pub taken: u64,
-    /// How many ended as applied by the request that was answered.
+    /// The number that ended as applied by the answered request.
     pub applied: u64,
-    /// How many ended as applied by an earlier request.
+    /// The number that ended as applied by an earlier request.
     pub already: u64,
-    /// How many requests it sent.
+    /// The number of requests that it sent.
     pub requests: u64,
-    /// The other operations, in the order in which they came to be reported.
+    /// The reports on the other operations, in the order in which they arose.
     pub reports: Vec<Report>,
-    /// Its wire, on which no number is out.
+    /// Its wire, on which no number is outstanding.
     pub wire: W,
 }
 

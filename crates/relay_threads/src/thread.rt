@@ -14,10 +14,10 @@ use std::sync::Wait;
 use std::thread;
 use std::thread::{Promise, PromisedHandle, Threads};
 
-/// What a lane's thread was given, for proofs alone: how it works, its end of the queue, and its wire.
+/// What a lane's thread was given, for proofs only: its config, its end of the queue, and its wire.
 #[derive(Drop)]
 pub struct LanePromise<W> {
-    /// How it works.
+    /// Its config.
     pub config: Snapshot<RelayConfig>,
     /// Its end of the queue, as it was at the start.
     pub take: Snapshot<LaneTake>,
@@ -63,7 +63,7 @@ where
     })?)
 }
 
-// Waits until each lane has ended. There is a place for each end.
+// Waits until each lane has ended. There is room for all ends.
 pub(crate) fn join_all<R: Threads, W: Wire + Drop + Send + 'static>(
     rt: &R,
     lanes: Vec<LaneThread<W>>,

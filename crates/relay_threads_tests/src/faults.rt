@@ -1,4 +1,4 @@
-//! Which fault tells of lanes that have ended, and of which lane.
+//! The fault of lanes that have ended, and the lane that it names.
 use relay_batch::Limits;
 use relay_lane::{Lane, RelayConfig};
 use relay_producer::ClosedEnd;
@@ -22,7 +22,7 @@ const CONFIG: RelayConfig = RelayConfig {
     deal: 1,
 };
 
-// The end of a lane that took nothing, over no wire.
+// The end of a lane that took nothing, without a wire.
 fn end_of(alloc: Global, kind: LaneEndKind) -> Option<LaneEnd<u8>> {
     let (take, _puts) = lane_queue(alloc, 1, 1).ok()?;
     if !CONFIG.valid() {
@@ -54,7 +54,7 @@ fn marked(alloc: Global) -> Option<Vec<ClosedEnd>> {
     Some(row)
 }
 
-// The fault of two lanes that ended so, of which a handle has marked the first or none.
+// The fault of two lanes that ended like this, if a handle has marked the first one, or none.
 fn told(
     alloc: Global,
     kinds: [LaneEndKind; 2],

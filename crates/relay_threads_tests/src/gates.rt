@@ -11,11 +11,11 @@ use std::sync::atomic::{AtomicU32, Ordering};
 use std::thread;
 use std::time::{Clock, Duration};
 
-/// How many lanes there are.
+/// The number of lanes.
 pub const LANES: u32 = 8;
 
-/// A wire in memory that in its first `receive` raises its flag, and waits until it sees all flags. The
-/// flags are a count, to which each wire adds one, once.
+/// A wire in memory that raises its flag in its first `receive`, and waits until it sees all flags.
+/// The flags are a count, to which each wire adds one, once.
 #[derive(Drop)]
 pub struct GateWire<C> {
     clock: C,

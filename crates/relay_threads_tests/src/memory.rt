@@ -1,4 +1,4 @@
-//! A wire round an index in memory, which loses its first reply.
+//! A wire to an index in memory, which loses its first reply.
 ghost use Rattle.std.specs.Prelude.{◌≡◌, None};
 
 use relay_action::{Action, DocKey, Write};
@@ -92,7 +92,7 @@ impl Pace for AtOnce {
     fn pause(&mut self, _ticks: u64) {}
 }
 
-/// How many documents each producer writes to.
+/// The number of documents that each producer writes.
 pub const DOCUMENTS: u64 = 10;
 
 /// The document of an operation: one of the producer's own.
@@ -155,7 +155,7 @@ fn count_applied(alloc: Global, index: &Index) -> Result<usize, AllocError> {
     Ok(count)
 }
 
-/// Whether an index applied what two producers put: the operations 1 to 100 of each, and nothing else.
+/// Whether an index applied exactly what two producers put: the operations 1 to 100 of each.
 pub fn is_whole(alloc: Global, index: &Index) -> Option<bool> {
     for producer in 0..2u32 {
         if !is_as_put(alloc, index, producer, 100)? {

@@ -59,7 +59,7 @@ enum RunFault {
     Finish(FinishFault),
 }
 
-// Puts an operation on a document. Whether it went to this lane.
+// Puts an operation on a document, and returns whether it went to this lane.
 fn put_to<R: Wait>(rt: &R, alloc: Global, producer: &mut Producer, id: usize, lane: u32) -> bool
     ensures { identities (open_puts producer.new.ends) ≡ identities (open_puts producer.old.ends) }
 {
@@ -78,7 +78,7 @@ fn put_to<R: Wait>(rt: &R, alloc: Global, producer: &mut Producer, id: usize, la
     }
 }
 
-// Puts an operation. Whether it was put under its number.
+// Puts an operation, and returns whether it was put under its number.
 fn put_one<R: Wait>(rt: &R, alloc: Global, producer: &mut Producer, number: u32, count: u64) -> bool
     ensures { identities (open_puts producer.new.ends) ≡ identities (open_puts producer.old.ends) }
 {
@@ -119,7 +119,8 @@ fn put_all<R: Wait>(
 /// The lanes of the documents `0` to `7` of the index `books`, among eight.
 const LANE_OF: [u32; 8] = [6, 1, 0, 3, 2, 5, 4, 7];
 
-// Puts an operation on each of eight documents, one for each lane. Whether each went to its lane, and none was found gone.
+// Puts an operation on each of eight documents, one for each lane, and returns whether each went to
+// its lane, and none was found gone.
 fn put_eight<R: Wait>(rt: &R, alloc: Global, producers: &mut Vec<Producer>) -> bool
     ensures { open_names producers.new.items ≡ open_names producers.old.items }
 {
@@ -133,7 +134,8 @@ fn put_eight<R: Wait>(rt: &R, alloc: Global, producers: &mut Vec<Producer>) -> b
     true
 }
 
-// Puts to eight lanes an operation each, or else so many operations by each producer. Whether all went well.
+// Puts one operation to each of eight lanes, or else operations by each producer, and returns
+// whether all went well.
 fn put_some<R: Wait>(
     rt: &R,
     alloc: Global,
@@ -239,7 +241,7 @@ where
     run(rt, alloc, config, wires, paces, count, puts)
 }
 
-// Whether the summary is of one lane, whose index is whole.
+// Whether the summary is of one lane, whose index is complete.
 fn is_delivered(alloc: Global, summary: &Summary<MemoryWire>) -> Option<bool> {
     match summary.lanes.as_slice() {
         [lane] if all_applied(lane) => is_whole(alloc, &lane.wire.index),
@@ -255,7 +257,7 @@ fn two_producers(rt: HostRuntime) -> Result<(), Fail> {
     Ok(())
 }
 
-// A wire round an index of its own, whose first reply is lost.
+// A wire to its own index, whose first reply is lost.
 fn loop_wire(alloc: Global) -> Result<LoopWire, AllocError>
     ensures { IfOk result (λ w. numbers w.out ≡ []) }
 {
@@ -264,7 +266,7 @@ fn loop_wire(alloc: Global) -> Result<LoopWire, AllocError>
     Ok(wire)
 }
 
-// Whether the summary is of one lane, whose index is whole.
+// Whether the summary is of one lane, whose index is complete.
 fn is_delivered_over_http(alloc: Global, summary: &Summary<LoopWire>) -> Option<bool> {
     match summary.lanes.as_slice() {
         [lane] if all_applied(lane) => is_whole(alloc, lane.wire.index()),
@@ -302,7 +304,7 @@ fn two_producers_with_four_in_flight(rt: HostRuntime) -> Result<(), Fail> {
     Ok(())
 }
 
-// The fault at the start of a relay that has one wire, and is to have so many lanes.
+// The fault at the start of a relay that has one wire, and a config with this many lanes.
 fn fault_of<R>(rt: R, alloc: Global, lanes: u32) -> Option<StartFault>
 where
     R: Threads + Wait + Copy + Send + 'static,

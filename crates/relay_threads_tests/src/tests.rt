@@ -43,7 +43,7 @@ fn body_of(alloc: Global, producer: u32, number: u64) -> Option<Body>
     }))
 }
 
-// Puts so many operations. Whether all were put.
+// Puts operations, and returns whether all were put.
 fn put_all<R: Wait>(rt: &R, alloc: Global, put: &mut LanePut, sender: u32, count: u64) -> bool {
     for sent in 0..count {
         let Some(body) = body_of(alloc, sender, sent.saturating_add(1)) else {
@@ -56,7 +56,7 @@ fn put_all<R: Wait>(rt: &R, alloc: Global, put: &mut LanePut, sender: u32, count
     true
 }
 
-// Puts so many operations, and closes where this is wanted. Whether all went well.
+// Puts operations, closes if wanted, and returns whether all went well.
 fn send_all<R: Wait>(
     rt: &R,
     alloc: Global,
@@ -72,7 +72,7 @@ fn send_all<R: Wait>(
     put.close(rt).is_ok()
 }
 
-// A thread for each sender: the producers put so many operations each, and the control none.
+// A thread for each sender: the producers put operations, and the control none.
 fn start_senders<R: Threads + Wait + Copy + Send + 'static>(
     rt: R,
     alloc: Global,

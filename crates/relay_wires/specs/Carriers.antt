@@ -1,4 +1,4 @@
--- A wire over connections of HTTP.
+-- A wire over HTTP connections.
 use Rattle.std.specs.Prelude.{◌≡◌, ◌==◌, ◌&&◌, ◌⊎◌, ℕ, ◌+◌, ◌≤◌, List, [], ◌∷◌, ◌++◌, length, Option, Some, None, IsTrue, Result, Ok, Err, MatchResult, if◌then◌else◌}
 use Rattle.std.specs.Io.KnownBytes.{append_known}
 use Rattle.relay_action.specs.Streams.{one_more}
@@ -20,8 +20,8 @@ use Rattle.relay_wires.specs.Told.{Tells}
 
 -- ---- the wire
 
--- The host that requests name, and how many requests may be out at most; the connections that requests are out on, with
--- the newest first; those that are free, with the one freed last at the end; how many dials failed, and how many were made.
+-- The host in requests, and the maximum number of outstanding requests; the connections of outstanding requests, the
+-- newest first; the free ones, with the one freed last at the end; how many dials failed, and how many were made.
 pub record Carrier : Type 0 where
   pub host : List ℕ
   pub most : ℕ
@@ -30,7 +30,7 @@ pub record Carrier : Type 0 where
   pub failed : ℕ
   pub dialled : ℕ
 
--- no request is out and no connection is free
+-- no request is outstanding and no connection is free
 abbrev pub idle : List ℕ → ℕ → ℕ → ℕ → Carrier
 idle host most failed dialled = record { host = host; most = most; out = []; free = []; failed = failed; dialled = dialled }
 
@@ -47,7 +47,7 @@ abbrev pub AllOutOpen : List (ℕ × Connection) → Type 0
 AllOutOpen [] = Unit {0}
 AllOutOpen (e ∷ es) = IsTrue (is_open e.1.phase) × AllOutOpen es
 
--- what always holds of a wire that has room for so many requests that are out, and for so many free connections
+-- what always holds of a wire that has room for this many outstanding requests, and as many free connections
 pub record IsCarrier (c : Carrier) (for_out for_free : ℕ) : Type 0 where
   pub host : IsTrue (is_host c.host)
   pub out : AllOutOpen c.out
@@ -58,8 +58,8 @@ pub record IsCarrier (c : Carrier) (for_out for_free : ℕ) : Type 0 where
 
 -- ---- a request is sent
 
--- The free connection that is quiet and was freed last is taken. Those freed after it are dropped: bytes came on them that
--- nobody asked for, or their end.
+-- The free connection that is quiet and was freed last is taken. Those freed after it are dropped: unrequested bytes,
+-- or the end, arrived on them.
 pub record TakesFree (old new : List Connection) (c : Connection) : Type 0 where
   pub dropped : List Connection
   pub free : old ≡ new ++ (c ∷ dropped)
@@ -68,7 +68,7 @@ pub record TakesFree (old new : List Connection) (c : Connection) : Type 0 where
 abbrev pub IsFresh : Connection → Type 0
 IsFresh c = (left : Option (List ℕ)) × (written : Option (List ℕ)) × (failed : ℕ) × (c ≡ fresh left written failed)
 
--- So a free connection is picked, and none is dialled; or, where none is left, one is, and it is the fresh one.
+-- So a free connection is picked, and none is dialled; or, if none is left, one is dialled, and it is the fresh one.
 abbrev pub Picks : List Connection → List Connection → ℕ → ℕ → Connection → Type 0
 Picks old new before after c = (TakesFree old new c × (after ≡ before)) ⊎ ((new ≡ []) × IsFresh c × (after ≡ one_more before))
 
@@ -76,9 +76,9 @@ Picks old new before after c = (TakesFree old new c × (after ≡ before)) ⊎ (
 abbrev pub with_written : Connection → List ℕ → Connection
 with_written c text = record c { written = append_known c.written text }
 
--- What sending a request with these writes does. Sent: the request was written on a connection, which it is out on now.
--- Else nothing more is out; it was not sent since as many are out as may be, since no free connection is quiet and the dial
--- failed, or since the connection that was picked could not carry it.
+-- Sending a request with these writes. Sent: the request was written on a connection, on which it is now outstanding.
+-- Otherwise nothing more is outstanding; it was not sent because the maximum number is outstanding, because no free
+-- connection is quiet and the dial failed, or because the connection that was picked could not carry it.
 abbrev pub Carries : ℕ → List Write → Carrier → Carrier → Result (Unit {0}) WireFault → Type 0
 Carries number ws old new (Ok u) =
     (c : Connection) × Picks old.free new.free old.dialled new.dialled c × IsTrue (is_open c.phase) × (new.failed ≡ old.failed)
@@ -93,7 +93,7 @@ Carries number ws old new (Err fault.Memory) = (c : Connection) × Picks old.fre
 
 -- ---- a reply is received
 
--- what reading a reply from a connection answers and leaves
+-- the result of reading a reply from a connection, and the connection afterwards
 pub record Reads (c d : Connection) (r : Result HttpReply HttpFault) : Type 0 where
   pub lasts : IsTrue (is_open c.phase)
   pub answer : MatchResult r (λ reply. Took IsReply (ahead c) (ahead d) (reply_view reply)) (Fails IsReply (ahead c) d.left)
@@ -105,7 +105,7 @@ pub record Reads (c d : Connection) (r : Result HttpReply HttpFault) : Type 0 wh
   pub failed : d.failed ≡ failed_reading r c.failed
   pub written : d.written ≡ c.written
 
--- a fault of a connection that reads is a lost reply, but for lack of memory
+-- a fault of a connection while reading is a lost reply, except for a failed allocation
 abbrev pub fault_received : HttpFault → WireFault
 fault_received http.Malformed = fault.Lost
 fault_received http.HeadLong = fault.Lost
@@ -124,13 +124,12 @@ abbrev pub IsTold : Result HttpReply HttpFault → Result WireReply WireFault �
 IsTold (Ok reply) result = Tells (reply_view reply) result
 IsTold (Err f) result = result ≡ Err (fault_received f)
 
--- a connection that may carry further messages is free then, unless bytes beyond the reply were read with it
+-- a connection that may carry further messages is then free, unless bytes beyond the reply were read with it
 abbrev pub freed : Result HttpReply HttpFault → Connection → List Connection → List Connection
 freed (Ok reply) d free = if reply.keep && (length d.held == 0) then free ++ d ∷ [] else free
 freed (Err f) d free = free
 
--- What receiving the reply to a number does: it is read from the connection that the request is out on, and told by the
--- table of statuses.
+-- Receiving the reply to a number: it is read from the connection of that request, and told by the table of statuses.
 pub record Brings (number : ℕ) (old new : Carrier) (result : Result WireReply WireFault) : Type 0 where
   pub connection : Connection
   pub out_on : found number old.out ≡ Some connection
@@ -151,7 +150,7 @@ abbrev pub FindsFree : List Connection → List Connection → Option Connection
 FindsFree old new (Some c) = TakesFree old new c × IsTrue (is_open c.phase)
 FindsFree old new None = new ≡ []
 
--- a connection is picked, unless the dial failed or there was no memory for a fresh one's window
+-- a connection is picked, unless the dial failed or allocating a fresh one's window did
 abbrev pub PicksOne : List Connection → List Connection → ℕ → ℕ → ℕ → ℕ → Result Connection WireFault → Type 0
 PicksOne old new failed later before after (Ok c) = Picks old new before after c × IsTrue (is_open c.phase) × (later ≡ failed)
 PicksOne old new failed later before after (Err fault.Send) = (new ≡ []) × (later ≡ one_more failed) × (after ≡ one_more before)
@@ -164,7 +163,7 @@ abbrev pub IsWritten : Connection → Connection → List ℕ → Result (Unit {
 IsWritten c d text (Ok u) = d ≡ with_written c text
 IsWritten c d text (Err e) = (e ≡ fault.Send) ⊎ (e ≡ fault.Memory)
 
--- a reply was read from a connection, which is free then if it may be
+-- a reply was read from a connection, which is then free if it may be
 pub record BringsFrom (connection : Connection) (old new : List Connection) (result : Result WireReply WireFault) : Type 0 where
   pub left : Connection
   pub read : Result HttpReply HttpFault

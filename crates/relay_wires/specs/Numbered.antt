@@ -1,16 +1,16 @@
--- What is out, each under its number, with the newest first.
+-- What is outstanding, by number, the newest first.
 use Rattle.std.specs.Prelude.{ℕ, List, [], ◌∷◌, Option, None, Some, ◌==◌, if◌then◌else◌}
 
 abbrev pub numbers : {A : Type 0} → List (ℕ × A) → List ℕ
 numbers [] = []
 numbers (e ∷ es) = e.0 ∷ numbers es
 
--- what is out under a number
+-- what is outstanding under a number
 abbrev pub found : {A : Type 0} → ℕ → List (ℕ × A) → Option A
 found number [] = None
 found number (e ∷ es) = if e.0 == number then Some e.1 else found number es
 
--- what is out besides
+-- what else is outstanding
 abbrev pub besides : {A : Type 0} → ℕ → List (ℕ × A) → List (ℕ × A)
 besides number [] = []
 besides number (e ∷ es) = if e.0 == number then es else e ∷ besides number es

@@ -13,8 +13,8 @@ use relay_http::{Conn, Dial, HttpFault, Peek};
 use relay_lane::{WireFault, WireReply};
 use std::alloc::Global;
 
-// The free connection that was freed last of those on which nothing came since. Those freed after
-// it are dropped.
+// Takes the free connection that was freed last among those on which nothing has arrived since.
+// Those freed after it are dropped.
 fn take_quiet<S: Peek + Drop>(free: &mut Vec<Conn<S>>) -> Option<Conn<S>>
     requires { AllFree free.old.items }
     ensures finds { FindsFree free.old.items free.new.items result }
@@ -29,7 +29,7 @@ fn take_quiet<S: Peek + Drop>(free: &mut Vec<Conn<S>>) -> Option<Conn<S>>
     None
 }
 
-// A connection that may carry a request: a free one on which nothing came, or a fresh one.
+// A connection for a request: a free one on which nothing has arrived, or a fresh one.
 pub(crate) fn pick<S: Peek + Drop, D: Dial<S>>(
     alloc: Global,
     free: &mut Vec<Conn<S>>,
@@ -53,7 +53,6 @@ pub(crate) fn pick<S: Peek + Drop, D: Dial<S>>(
     }
 }
 
-// Writes a request on a connection.
 pub(crate) fn carry<S: ByteOut + Drop>(
     alloc: Global,
     conn: &mut Conn<S>,
@@ -73,7 +72,7 @@ pub(crate) fn carry<S: ByteOut + Drop>(
     }
 }
 
-// What the lane is told of a connection's fault.
+// What the lane is told after a fault of a connection.
 fn fault_received(fault: HttpFault) -> WireFault
     ensures { result ≡ fault_received fault }
 {
@@ -95,8 +94,8 @@ fn release<S: ByteStream + Drop>(conn: Conn<S>, keep: bool, free: &mut Vec<Conn<
     }
 }
 
-// Reads a reply from a connection. It is free then if it may carry a further message and no byte
-// beyond the reply was read.
+// Reads a reply from a connection. The connection is then free if it may carry a further message
+// and no byte beyond the reply was read.
 pub(crate) fn bring<S: ByteIn + Drop>(
     alloc: Global,
     mut conn: Conn<S>,

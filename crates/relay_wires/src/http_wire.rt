@@ -1,4 +1,4 @@
-//! A wire over connections of HTTP.
+//! A wire over HTTP connections.
 ghost use Rattle.std.specs.Prelude.{◌≡◌, string_bytes, IfOk, IsTrue};
 ghost use Rattle.relay_http.specs.WrittenRequest.{is_host};
 ghost use Rattle.relay_wires.specs.Carriers.{idle};
@@ -12,16 +12,15 @@ use std::alloc::{AllocError, Global};
 use std::collections::VecDeque;
 use std::marker::Model;
 
-/// A wire to an index that is reached by HTTP. Each request is out on a connection of its own.
-/// After a reply that lets the connection carry a further message, and with which no byte beyond it
-/// was read, the connection is free, and it is used again before another is dialled. A fault drops
-/// the connection.
+/// A wire to an index over HTTP. Each outstanding request has its own connection. After a reply
+/// that keeps the connection, and with which no byte beyond it was read, the connection is free,
+/// and is used again before another one is dialled. A fault drops the connection.
 ///
-/// Before a free connection is used again, it is looked at without waiting: if a byte came on it,
-/// or its end, it is dropped, since a reply that nobody asked for would be taken for that of the
+/// Before a free connection is used again, it is checked without waiting: if a byte or the end of
+/// the stream has arrived, it is dropped, since an unrequested reply would be taken for that of the
 /// next request.
 ///
-/// It describes nothing: what stands outside is the affair of its streams.
+/// It describes no outside: what happens there depends on its streams.
 #[derive(Drop)]
 pub struct HttpWire<S: ByteStream, D: Dial<S>> {
     alloc: Global,
@@ -54,9 +53,9 @@ impl<S: ByteStream, D: Dial<S>> Model for HttpWire<S, D> {
 }
 
 impl<S: ByteStream + Drop, D: Dial<S> + Drop> HttpWire<S, D> {
-    /// A wire whose requests name this host, 1 to 255 visible ASCII characters, and of which at most
-    /// `max` are out at a time. It reserves a place for each of them. `AllocError`: there was no memory
-    /// for the places.
+    /// A wire whose requests name this host, 1 to 255 visible ASCII characters, with at most `max`
+    /// requests outstanding. It reserves a place for each of them. `AllocError`: allocating the
+    /// places failed.
     pub fn new(alloc: Global, dial: D, host: String, max: u32) -> Result<HttpWire<S, D>, AllocError>
         requires { IsTrue (is_host (string_bytes host)) }
         ensures { IfOk result (λ w. w ≡ idle (string_bytes host) max (D.failed dial) (D.dialled dial)) }
@@ -89,10 +88,11 @@ impl<S: ByteIn + ByteOut + Peek + Drop, D: Dial<S> + Drop> Wire for HttpWire<S, 
 
     ghost fits = { FitsNone };
 
-    /// Writes a request on a free connection on which nothing came since it was freed, or on one
-    /// that is dialled. `Send`: as many requests are out as may be, the dial failed, or the
-    /// connection did. `Memory`: there was no memory for the request, of which a part may be out,
-    /// or for a fresh connection's window. A connection that a fault came on is dropped.
+    /// Writes a request on a free connection on which nothing has arrived since it was freed, or on
+    /// one that is dialled. `Send`: the maximum number of requests is outstanding, the dial failed,
+    /// or the connection did. `Memory`: an allocation failed, for the request, of which part may
+    /// have been sent, or for the window of a fresh connection. After a fault the connection is
+    /// dropped.
     fn send(&mut self, number: u64, writes: &[Write]) -> Result<(), WireFault>
         requires fresh { Mem number (numbers self.old.out) → ⊥ }
         requires few { length writes.now ≤ 10000 }
@@ -101,7 +101,7 @@ impl<S: ByteIn + ByteOut + Peek + Drop, D: Dial<S> + Drop> Wire for HttpWire<S, 
         ensures out { MatchResult result
             (λ _. numbers self.new.out ≡ number ∷ numbers self.old.out)
             (λ _. numbers self.new.out ≡ numbers self.old.out) }
-        // What goes out is the request of what was given.
+        // What is sent is the request with these writes.
         ensures carries { Carries number writes.now self.old self.new result }
     {
         if self.out.len() >= self.most as usize {
@@ -119,14 +119,15 @@ impl<S: ByteIn + ByteOut + Peek + Drop, D: Dial<S> + Drop> Wire for HttpWire<S, 
         Ok(())
     }
 
-    /// Reads the reply to a request from the connection that it is out on. Status 200 gives its entries,
-    /// or `Unreadable` where its body is no reply; any other status is the answer to the request as a
-    /// whole. `Memory`: there was no memory for the reply. `Lost`: any other fault of the connection.
+    /// Reads the reply to a request from its connection. Status 200 returns the entries, or
+    /// `Unreadable` if the body is not a reply; any other status is the answer to the request as a
+    /// whole. `Memory`: an allocation for the reply failed. `Lost`: any other fault of the
+    /// connection.
     fn receive(&mut self, number: u64) -> Result<WireReply, WireFault>
         requires { Mem number (numbers self.old.out) }
         ensures out { numbers self.new.out ≡ without number (numbers self.old.out) }
         ensures reply { IsReply result }
-        // What is answered is the reply that was read there, by the table of statuses.
+        // What is returned is the reply that was read there, by the table of statuses.
         ensures brings { Brings number self.old self.new result }
     {
         match take(&mut self.out, number) {

@@ -1,4 +1,4 @@
-//! What is out, each under its number.
+//! What is outstanding, by number.
 ghost use Rattle.std.specs.Prelude.{◌≡◌, ◌==◌};
 ghost use Rattle.std.specs.List.{position};
 ghost use Rattle.std.specs.VecDeque.{deque_capacity};

@@ -1,4 +1,4 @@
-//! One delete over a wire, and what comes of it.
+//! One delete over a wire, and its result.
 ghost use Rattle.std.specs.Prelude.{◌≡◌, ◌≤◌, [], length};
 ghost use Rattle.relay_ndjson.specs.Bodies.{AreDealt};
 ghost use Rattle.relay_ndjson.specs.Bulk.{text_of};
@@ -8,8 +8,8 @@ use relay_lane::{Wire, WireFault, WireReply};
 use relay_ndjson::bulk_len;
 use std::alloc::Global;
 
-/// What a wire answered: so many entries and the status of the first, or a status of the request as a
-/// whole, or a fault.
+/// What a wire returned: a number of entries and the status of the first, or a status for the
+/// request as a whole, or a fault.
 #[derive(Clone, Copy, Debug, PartialEq, Eq)]
 pub enum Told {
     Entries(usize, u16),
@@ -33,7 +33,7 @@ fn summed_up(answer: Result<WireReply, WireFault>) -> Told {
     }
 }
 
-// Sends a request where none is out, and receives its reply.
+// Sends a request if none is outstanding, and receives its reply.
 fn exchange<W: Wire>(wire: &mut W, number: u64, writes: &[Write]) -> Result<WireReply, WireFault>
     requires out { W.out wire.old ≡ [] }
     requires few { length writes.now ≤ 10000 }

@@ -1,5 +1,5 @@
-//! Connections that are used again or not, dials and streams that fail, and as many requests out as may
-//! be.
+//! Connections that are used again or not, dials and streams that fail, and the maximum number of
+//! outstanding requests.
 ghost use Rattle.std.specs.Prelude.{◌≡◌, [], true, length};
 ghost use Rattle.relay_wires.specs.Numbered.{numbers};
 
@@ -17,7 +17,7 @@ const KEPT_TWICE: &[u8] =
 const CLOSED: &[u8] =
     b"HTTP/1.1 503 Busy\r\nConnection: close\r\nContent-Length: 0\r\n\r\nHTTP/1.1 502 Bad\r\n\r\n";
 
-// What two deletes one after the other are told, over streams with these bytes.
+// The results of two deletes one after the other, over streams with these bytes.
 fn twice(alloc: Global, inputs: &[&[u8]], room: usize, fail_at: usize) -> (Told, Told) {
     match wired(alloc, inputs, room, fail_at, 1) {
         Some(mut wire) => {
@@ -33,8 +33,8 @@ const NOT_SENT: Told = Told::Fault(WireFault::Send);
 const LOST: Told = Told::Fault(WireFault::Lost);
 
 const DIALS: &[(&[&[u8]], usize, usize, (Told, Told))] = &[
-    // A stream in memory has all its bytes from the start, and its end after them: it is not used
-    // again.
+    // A stream in memory has all its bytes from the start, and its end after them, so it is not
+    // used again.
     (&[KEPT_TWICE], 1000, 0, (Told::Whole(503), NOT_SENT)),
     (
         &[KEPT_TWICE, KEPT],

@@ -1,4 +1,4 @@
-//! A lane that deletes are put into, and a pace that notes its pauses.
+//! A lane into which deletes are put, and a pace that records its pauses.
 ghost use Rattle.std.specs.Prelude.{◌≡◌, ◌<◌, ℕ, [], length, IfSome};
 ghost use Rattle.relay_lane.specs.Out.{out_of};
 
@@ -7,7 +7,7 @@ use relay_batch::Limits;
 use relay_lane::{Lane, Pace, RelayConfig, TakeFault};
 use std::alloc::Global;
 
-/// One lane and producer, batches of many documents that go at once, and three attempts.
+/// One lane and one producer, batches of many documents that are sent at once, and three attempts.
 pub const CONFIG: RelayConfig = RelayConfig {
     lanes: 1,
     producers: 1,
@@ -30,7 +30,7 @@ pub struct Desk {
     pub lane: Lane,
 }
 
-// Takes a message of a known sender. The fault, if it is not taken.
+// Takes a message of a known sender. Returns the fault, if it is not taken.
 fn take(lane: &mut Lane, mail: Mail) -> Option<TakeFault>
     requires known { mail.sender < length lane.old.state.closed }
     ensures out { out_of lane.new.state ≡ out_of lane.old.state }
@@ -42,7 +42,7 @@ fn take(lane: &mut Lane, mail: Mail) -> Option<TakeFault>
     None
 }
 
-// Takes a message of a sender. Whether it was taken.
+// Takes a message of a sender, and returns whether it was taken.
 fn sends(desk: &mut Desk, sender: u32, body: Body) -> bool
     ensures { out_of desk.new.lane.state ≡ out_of desk.old.lane.state }
 {
@@ -57,7 +57,7 @@ fn sends(desk: &mut Desk, sender: u32, body: Body) -> bool
     take(&mut desk.lane, mail).is_none()
 }
 
-// Puts a delete of a document. Whether it was taken.
+// Puts a delete of a document, and returns whether it was taken.
 fn puts(alloc: Global, desk: &mut Desk, number: u64, id: &str) -> bool
     ensures { out_of desk.new.lane.state ≡ out_of desk.old.lane.state }
 {
@@ -77,7 +77,7 @@ fn puts(alloc: Global, desk: &mut Desk, number: u64, id: &str) -> bool
     }
 }
 
-// Puts a delete of the document whose id is this number. Whether it was taken.
+// Puts a delete of the document whose id is this number, and returns whether it was taken.
 fn puts_number(alloc: Global, desk: &mut Desk, number: u64) -> bool
     ensures { out_of desk.new.lane.state ≡ out_of desk.old.lane.state }
 {
@@ -87,14 +87,14 @@ fn puts_number(alloc: Global, desk: &mut Desk, number: u64) -> bool
     }
 }
 
-/// The producer and the control close. Whether the lane is closed.
+/// Closes the producer and the control, and returns whether the lane is closed.
 pub fn closes(desk: &mut Desk) -> bool
     ensures { out_of desk.new.lane.state ≡ out_of desk.old.lane.state }
 {
     sends(desk, 0, Body::Done) && sends(desk, 1, Body::Done) && desk.lane.closed()
 }
 
-// A fresh lane of a config, which has to be valid.
+// A fresh lane with a config, which must be valid.
 fn fresh_desk(alloc: Global, config: RelayConfig) -> Option<Desk>
     ensures { IfSome result (λ d. out_of d.lane.state ≡ []) }
 {
@@ -107,7 +107,7 @@ fn fresh_desk(alloc: Global, config: RelayConfig) -> Option<Desk>
     }
 }
 
-/// A lane of a config that took a delete of each of these documents in turn.
+/// A lane with a config that took a delete of each of these documents in turn.
 pub fn with_deletes(alloc: Global, config: RelayConfig, ids: &[&str]) -> Option<Desk>
     ensures { IfSome result (λ d. out_of d.lane.state ≡ []) }
 {
@@ -120,7 +120,7 @@ pub fn with_deletes(alloc: Global, config: RelayConfig, ids: &[&str]) -> Option<
     Some(desk)
 }
 
-/// A closed lane that took deletes of so many documents, with the ids `1`, `2` and so on.
+/// A closed lane that took deletes of this many documents, with the ids `1`, `2` and so on.
 pub fn filled(alloc: Global, count: u64) -> Option<Desk>
     ensures { IfSome result (λ d. out_of d.lane.state ≡ []) }
 {
@@ -133,7 +133,7 @@ pub fn filled(alloc: Global, count: u64) -> Option<Desk>
     if closes(&mut desk) { Some(desk) } else { None }
 }
 
-/// A pace that does not wait, and notes how often and for how many ticks it paused.
+/// A pace that does not wait, and records how often and for how many ticks it paused.
 #[derive(Clone, Copy, Debug, PartialEq, Eq)]
 pub struct Notes {
     pub pauses: u64,

@@ -10,7 +10,7 @@ use relay_lane::{Wire, drain};
 use relay_loop::LoopWire;
 use std::alloc::{AllocError, Global};
 
-/// What a drain came to.
+/// The outcome of a drain.
 #[derive(Clone, Copy, Debug, PartialEq, Eq)]
 pub struct Came {
     pub requests: u64,
@@ -21,7 +21,7 @@ pub struct Came {
     pub reports: usize,
 }
 
-/// Drains a closed lane over a wire. `None`: there was no memory, or it is not closed.
+/// Drains a closed lane over a wire. `None`: an allocation failed, or it is not closed.
 pub fn drained<W: Wire>(desk: &mut Desk, wire: &mut W) -> Option<Came>
     requires { W.out wire.old ≡ out_of desk.old.lane.state }
 {
@@ -49,7 +49,7 @@ fn count_applied(alloc: Global, index: &Index) -> Result<usize, AllocError> {
     Ok(count)
 }
 
-// A wire round an empty index, of which the reply to one number is lost.
+// A wire to an empty index that loses the reply to one number.
 fn looped(alloc: Global, lost: u64) -> Option<LoopWire>
     ensures { IfSome result (λ w. w.out ≡ []) }
 {
@@ -58,7 +58,7 @@ fn looped(alloc: Global, lost: u64) -> Option<LoopWire>
     Some(wire)
 }
 
-/// What a drain in memory comes to, and how many writes the index applied.
+/// The outcome of a drain in memory, and how many writes the index applied.
 pub fn came_to(alloc: Global, desk: &mut Desk, wire: &mut LoopWire) -> Option<(Came, usize)>
     requires { numbers wire.old.out ≡ out_of desk.old.lane.state }
 {
@@ -66,7 +66,7 @@ pub fn came_to(alloc: Global, desk: &mut Desk, wire: &mut LoopWire) -> Option<(C
     Some((came, count_applied(alloc, wire.index()).ok()?))
 }
 
-// The same of deletes of so many documents, where the reply to one number is lost.
+// The same for deletes of this many documents, if the reply to one number is lost.
 fn in_memory(alloc: Global, count: u64, lost: u64) -> Option<(Came, usize)> {
     came_to(alloc, &mut filled(alloc, count)?, &mut looped(alloc, lost)?)
 }
@@ -78,14 +78,15 @@ fn after_three(alloc: Global) -> Option<(Option<u64>, usize)> {
     Some((wire.index().highest(), wire.index().keys(alloc).ok()?.len()))
 }
 
-// What deletes of three documents come to over streams with these bytes.
+// The outcome of deletes of three documents over streams with these bytes.
 fn over_http(alloc: Global, inputs: &[&[u8]]) -> Option<Came> {
     let mut wire = wired(alloc, inputs, 1000, 0, 1)?;
     let mut desk = filled(alloc, 3)?;
     drained(&mut desk, &mut wire)
 }
 
-// Three deletes on three documents, of whose first request the reply is lost: all three were applied by it.
+// Three deletes of three documents, whose first request's reply is lost: all three were applied by
+// it.
 const LOST_ONCE: Came = Came {
     requests: 2,
     pauses: 1,

@@ -1,4 +1,4 @@
-//! Lanes under replies that are refused and streams that fail.
+//! Lanes with replies that are refused and streams that fail.
 
 use crate::desk::{Desk, filled};
 use crate::drains::{Came, drained};
@@ -6,14 +6,15 @@ use crate::streams::wired_failing;
 use relay_results::Cause;
 use std::alloc::{AllocError, Global};
 
-// A reply that settles a delete of the document `1`, in chunks after an interim head, and as usual.
+// A reply that settles a delete of the document `1`, in chunks after an interim head, and in the
+// usual form.
 const CHUNKED: &[u8] =
     b"HTTP/1.1 100 Continue\r\n\r\nHTTP/1.1 200 OK\r\nTransfer-Encoding: chunked\r\n\r\n5\r\n{\"ite\r\n2A\r\nms\":[{\"delete\":{\"_id\":\"1\",\"status\":200}}]}\r\n0\r\n\r\n";
 
 const USUAL: &[u8] =
     b"HTTP/1.1 200 OK\r\nContent-Length: 47\r\n\r\n{\"items\":[{\"delete\":{\"_id\":\"1\",\"status\":200}}]}";
 
-// What a drain comes to, and how often the operation was sent, if it was given up.
+// The outcome of a drain, and how often the operation was sent, if it was given up.
 type End = (Came, Option<u32>);
 
 // The operation is applied at once, or at the second try.
@@ -54,7 +55,7 @@ const GIVEN_UP: End = (
     Some(3),
 );
 
-// How often the first operation that is reported was sent, if it was given up.
+// How often the first reported operation was sent, if it was given up.
 fn sends(desk: &Desk) -> Option<u32> {
     match desk.lane.reports().first()?.cause {
         Cause::GaveUp { sends } => Some(sends),
@@ -62,8 +63,8 @@ fn sends(desk: &Desk) -> Option<u32> {
     }
 }
 
-// What a delete of the document `1` comes to over streams with these bytes that move so many at a
-// time, of the first of which one call fails; 0 is none of them.
+// The outcome of a delete of the document `1` over streams with these bytes that move a few at a
+// time, of the first of which one call fails; 0 means none.
 fn ends(alloc: Global, inputs: &[&[u8]], piece: usize, fails_at: u64) -> Option<End> {
     let mut wire = wired_failing(alloc, inputs, piece, fails_at)?;
     let mut desk = filled(alloc, 1)?;
@@ -71,8 +72,8 @@ fn ends(alloc: Global, inputs: &[&[u8]], piece: usize, fails_at: u64) -> Option<
     Some((came, sends(&desk)))
 }
 
-// Whether an operation to which this is replied once is applied at the second try, over another
-// connection, and one to which nothing else is replied is given up.
+// Whether an operation with this single reply is applied at the second try, over another
+// connection, and one with no other reply is given up.
 fn is_refused(alloc: Global, reply: &[u8], piece: usize) -> bool {
     ends(alloc, &[reply, USUAL], piece, 0) == Some(AGAIN)
         && ends(alloc, &[reply, reply, reply], piece, 0) == Some(GIVEN_UP)
@@ -91,7 +92,7 @@ fn a_reply_cut_anywhere(rt: HostRuntime) {
     assert!(rt; ends(rt.alloc(), &[CHUNKED], 1, 0) == Some(AT_ONCE));
 }
 
-// The first text, so many times the second, and the third.
+// The first text, the second one repeated, and the third.
 type Row<'a> = (&'a [u8], &'a [u8], usize, &'a [u8]);
 
 fn repeated(alloc: Global, row: Row) -> Result<Vec<u8>, AllocError> {
@@ -131,7 +132,7 @@ const REFUSED: &[Row] = &[
         9,
         b"HTTP/1.1 204 No Content\r\n\r\n",
     ),
-    // Chunks that are too long or have no size, and lengths that are none or differ.
+    // Chunks that are too long or have no size, and lengths that are invalid or differ.
     (
         b"HTTP/1.1 200 OK\r\nTransfer-Encoding: chunked\r\n\r\n",
         b"4000001\r\n",
@@ -205,7 +206,7 @@ const REFUSED: &[Row] = &[
         1,
         b"\r\nok",
     ),
-    // A status that ends no request, a continued line and a NUL in a field.
+    // A status that is not final, a continued line and a NUL in a field.
     (b"HTTP/1.1 101 Switching Protocols\r\n\r\n", b"", 0, b""),
     (
         b"HTTP/1.1 204 No Content\r\nX: a\r\n",
@@ -214,7 +215,8 @@ const REFUSED: &[Row] = &[
         b"\r\n",
     ),
     (b"HTTP/1.1 204 No Content\r\nX: a", b"\0", 1, b"\r\n\r\n"),
-    // Bodies that are no reply: a page, an entry of two members, and statuses that there are not.
+    // Bodies that are not replies: a page, an entry with two members, and statuses that do not
+    // exist.
     (
         b"HTTP/1.1 200 OK\r\nContent-Length: 13\r\n\r\n",
         b"<html></html>",
@@ -253,7 +255,7 @@ fn replies_that_are_refused(rt: HostRuntime) {
     }
 }
 
-// A reply whose JSON is nested so deep: arrays in an object.
+// A reply whose JSON is nested this deep: arrays in an object.
 fn nested(alloc: Global, depth: usize) -> Result<Vec<u8>, AllocError> {
     let mut text =
         b"HTTP/1.1 200 OK\r\n\r\n{\"items\":[{\"delete\":{\"_id\":\"1\",\"status\":200}}],\"x\":".to_vec(
@@ -269,7 +271,7 @@ fn nested(alloc: Global, depth: usize) -> Result<Vec<u8>, AllocError> {
     Ok(text)
 }
 
-// What an operation comes to over such a reply and the usual one.
+// The outcome of an operation with such a reply and the usual one.
 fn ends_nested(alloc: Global, depth: usize) -> Option<End> {
     let reply = nested(alloc, depth).ok()?;
     ends(alloc, &[reply.as_slice(), USUAL], 1000, 0)
@@ -282,7 +284,8 @@ fn replies_that_are_nested(rt: HostRuntime) {
 }
 
 const ACCEPTED: &[&[u8]] = &[
-    // Lengths that agree, names in any case, a body as it is, and line ends of a line feed alone.
+    // Lengths that agree, names in any case, a body without coding, and line ends of a lone line
+    // feed.
     b"HTTP/1.1 200 OK\r\nContent-Length: 47, 47\r\n\r\n{\"items\":[{\"delete\":{\"_id\":\"1\",\"status\":200}}]}",
     b"HTTP/1.1 200 OK\r\nCONTENT-LENGTH: 47\r\ncontent-length:047\r\n\r\n{\"items\":[{\"delete\":{\"_id\":\"1\",\"status\":200}}]}",
     b"HTTP/1.1 200 OK\r\nContent-Encoding: identity\r\nContent-Length: 47\r\n\r\n{\"items\":[{\"delete\":{\"_id\":\"1\",\"status\":200}}]}",

@@ -1,4 +1,4 @@
-//! Free connections on which something came that nobody asked for.
+//! Free connections on which something arrived that was not asked for.
 ghost use Rattle.std.specs.Prelude.{◌≡◌, []};
 
 use crate::asking::{Told, asks};
@@ -6,7 +6,7 @@ use crate::turns::{Turns, turned};
 use relay_lane::{Wire, WireFault};
 use std::alloc::Global;
 
-// 40 bytes each: a reply of 8 or 20 bytes a read ends with a read.
+// 40 bytes each: a reply read in pieces of 8 or 20 bytes ends with a read.
 const BUSY: &[u8] = b"HTTP/1.1 503 Busy\r\nContent-Length: 0\r\n\r\n";
 
 const GATE: &[u8] = b"HTTP/1.1 502 Gate\r\nContent-Length: 0\r\n\r\n";
@@ -19,7 +19,7 @@ const BUSY_AND_HALF: &[u8] =
 
 const BUSY_AND_ONE: &[u8] = b"HTTP/1.1 503 Busy\r\nContent-Length: 0\r\n\r\n\n";
 
-// What two deletes one after the other are told over streams with these turns.
+// The results of two deletes one after the other over streams with these turns.
 fn twice(alloc: Global, streams: &[Turns<'_>], piece: usize) -> (Told, Told) {
     match turned(alloc, streams, piece, 1) {
         Some(mut wire) => {
@@ -35,14 +35,14 @@ const BUSY_THEN_GATE: (Told, Told) = (Told::Whole(503), Told::Whole(502));
 const NOT_SENT: Told = Told::Fault(WireFault::Send);
 
 const STREAMS: &[(&[Turns<'static>], (Told, Told))] = &[
-    // Nothing came: the connection is used again, and a second dial would fail.
+    // Nothing arrived: the connection is used again, and a second dial would fail.
     (&[&[BUSY, GATE]], BUSY_THEN_GATE),
     // A second reply, half of one and one byte: the next request is dialled for.
     (&[&[BUSY_TWICE, BUSY], &[GATE]], BUSY_THEN_GATE),
     (&[&[BUSY_AND_HALF, BUSY], &[GATE]], BUSY_THEN_GATE),
     (&[&[BUSY_AND_ONE, BUSY], &[GATE]], BUSY_THEN_GATE),
     (&[&[BUSY_TWICE, BUSY]], (Told::Whole(503), NOT_SENT)),
-    // The end came.
+    // The end arrived.
     (&[&[BUSY], &[GATE]], BUSY_THEN_GATE),
     (&[&[BUSY]], (Told::Whole(503), NOT_SENT)),
 ];
@@ -78,7 +78,7 @@ fn answers_both<W: Wire>(wire: &mut W) -> bool
     wire.receive(2).is_ok() && earlier
 }
 
-// What a delete is told over streams with these turns, once two of them are free.
+// The result of a delete over streams with these turns, once two of them are free.
 fn after_two(alloc: Global, streams: &[Turns<'_>], piece: usize) -> Told {
     match turned(alloc, streams, piece, 2) {
         Some(mut wire) => {
@@ -94,7 +94,7 @@ fn after_two(alloc: Global, streams: &[Turns<'_>], piece: usize) -> Told {
 const TWO_FREE: &[(&[Turns<'static>], Told)] = &[
     // The one freed last.
     (&[&[BUSY, BUSY], &[BUSY, GATE]], Told::Whole(502)),
-    // Something came on that one: the other one.
+    // Something arrived on that one: the other one.
     (&[&[BUSY, GATE], &[BUSY_TWICE, BUSY]], Told::Whole(502)),
     (&[&[BUSY, GATE], &[BUSY]], Told::Whole(502)),
     // On both: a third one.

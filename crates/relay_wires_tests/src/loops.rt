@@ -9,7 +9,7 @@ use relay_lane::WireFault;
 use relay_loop::LoopWire;
 use std::alloc::Global;
 
-// A wire round an empty index that refuses item 1, of which the second reply is lost.
+// A wire to an empty index that refuses item 1, and loses the second reply.
 fn scripted(alloc: Global) -> Option<LoopWire>
     ensures { IfSome result (λ w. w.out ≡ []) }
 {
@@ -28,7 +28,7 @@ fn applied(alloc: Global, index: &Index) -> usize {
     }
 }
 
-// What the same delete is told three times, and how many writes the index applied then.
+// The results of the same delete, three times, and how many writes the index applied then.
 fn three_times(alloc: Global) -> Option<([Told; 3], usize)> {
     let mut wire = scripted(alloc)?;
     let first = asks(alloc, &mut wire, 1);

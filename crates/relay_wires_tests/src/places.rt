@@ -1,4 +1,4 @@
-//! As many requests out as may be.
+//! The maximum number of outstanding requests.
 ghost use Rattle.std.specs.Prelude.{◌≡◌, ◌∷◌, ◌≤◌, [], length, MatchResult};
 ghost use Rattle.relay_results.specs.Words.{Mem};
 ghost use Rattle.relay_wires.specs.Numbered.{numbers};
@@ -21,7 +21,7 @@ fn sends(wire: &mut Wired, number: u64) -> Result<(), WireFault>
     wire.send(number, &[])
 }
 
-// What becomes of two requests that are sent before a reply is received, where so many may be out.
+// The results of two requests that are sent before a reply is received, with this maximum.
 fn two_out(alloc: Global, most: u32) -> Option<[Result<(), WireFault>; 2]> {
     let inputs = [BUSY, BUSY];
     let mut wire = wired(alloc, &inputs, 1000, 0, most)?;
@@ -31,7 +31,7 @@ fn two_out(alloc: Global, most: u32) -> Option<[Result<(), WireFault>; 2]> {
     Some([Ok(()), sends(&mut wire, 2)])
 }
 
-// Whether two requests that are out are both answered, the later one first.
+// Whether two outstanding requests are both answered, the later one first.
 fn answers_both<W: Wire>(wire: &mut W) -> bool
     requires { W.out wire.old ≡ [] }
 {
@@ -45,7 +45,7 @@ fn answers_both<W: Wire>(wire: &mut W) -> bool
     wire.receive(1).is_ok() && later
 }
 
-// The same over streams, where two may be out.
+// The same over streams, with a maximum of two.
 fn answers_both_over_http(alloc: Global) -> bool {
     match wired(alloc, &[BUSY, BUSY], 1000, 0, 2) {
         Some(mut wire) => answers_both(&mut wire),

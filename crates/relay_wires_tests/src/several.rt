@@ -11,8 +11,8 @@ use relay_lane::{RelayConfig, Wire, WireFault, WireReply, collect, drain, pump};
 use relay_loop::LoopWire;
 use std::alloc::Global;
 
-// A wire in memory that notes what it does: a request's number where it is sent, and less than 0
-// where it is received.
+// A wire in memory that records what it does: a request's number when it is sent, and a negative
+// number when it is received.
 #[derive(Drop)]
 struct Noting {
     inner: LoopWire,
@@ -52,7 +52,7 @@ impl Wire for Noting {
     }
 }
 
-// One operation a request, and so many requests in flight.
+// One operation per request, and this many requests in flight.
 const fn one_each(in_flight: u32) -> RelayConfig {
     RelayConfig {
         limits: Limits {
@@ -64,7 +64,7 @@ const fn one_each(in_flight: u32) -> RelayConfig {
     }
 }
 
-// A wire round an empty index, of which the reply to one number is lost.
+// A wire to an empty index that loses the reply to one number.
 fn wire_of(alloc: Global, lost: u64) -> Option<Noting>
     ensures { IfSome result (λ w. numbers w.inner.out ≡ []) }
 {
@@ -130,7 +130,7 @@ fn drained(alloc: Global, in_flight: u32, ids: &[&str], lost: u64) -> Option<Not
     drains_over(&mut desk, &mut wire)
 }
 
-// Whether these are the notes, and 0 behind them.
+// Whether these are the records, followed by 0.
 fn are(notes: [i64; 16], some: &[i64]) -> bool {
     for i in 0..16usize {
         let wanted = if i < some.len() { some[i] } else { 0 };
@@ -142,7 +142,7 @@ fn are(notes: [i64; 16], some: &[i64]) -> bool {
 }
 
 const PUMPS: &[(u32, &[&str], &[i64], u64, u64)] = &[
-    // The oldest is answered where no place is free.
+    // The oldest is answered if no place is free.
     (
         2,
         &["1", "2", "3", "4"],

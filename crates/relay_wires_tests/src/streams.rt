@@ -7,9 +7,9 @@ use relay_http::is_host;
 use relay_wires::{Dial, DialFault, HttpWire};
 use std::alloc::{AllocError, Global};
 
-/// What is dialled: streams that give these bytes, one after another, take so many, and move so
-/// many at a time; which call of the first of them fails; and which dial fails, counted from 1 (0:
-/// none). A dial where no stream is left fails, too.
+/// What is dialled: streams that return these bytes, one after another, with room for writes, that
+/// move a few bytes at a time; which call of the first of them fails; and which dial fails, counted
+/// from 1 (0: none). A dial when no stream is left fails, too.
 #[derive(Drop)]
 pub struct Streams<'a> {
     pub alloc: Global,
@@ -25,7 +25,7 @@ pub struct Streams<'a> {
 }
 
 impl Streams<'_> {
-    // The next of them, where there is one and memory for it.
+    // The next of them, if there is one and it can be allocated.
     fn stream(&mut self) -> Option<MemStream>
         ensures failed { self.new.failed ≡ self.old.failed }
         ensures dialled { self.new.dialled ≡ self.old.dialled }
@@ -63,7 +63,7 @@ impl Dial<MemStream> for Streams<'_> {
 /// A wire over such streams.
 pub type Wired<'a> = HttpWire<MemStream, Streams<'a>>;
 
-// A wire to a host over these streams, of which at most `most` requests are out.
+// A wire to a host over these streams, with at most `most` requests outstanding.
 fn wired_over<'a>(alloc: Global, streams: Streams<'a>, most: u32) -> Option<Wired<'a>>
     ensures { IfSome result (λ w. w.out ≡ []) }
 {
@@ -74,7 +74,7 @@ fn wired_over<'a>(alloc: Global, streams: Streams<'a>, most: u32) -> Option<Wire
     HttpWire::new(alloc, streams, host, most).ok()
 }
 
-/// A wire to a host, of which at most `most` requests are out, over streams with these bytes.
+/// A wire to a host, with at most `most` requests outstanding, over streams with these bytes.
 pub fn wired<'a>(
     alloc: Global,
     inputs: &'a [&'a [u8]],
@@ -99,8 +99,8 @@ pub fn wired<'a>(
     wired_over(alloc, streams, most)
 }
 
-/// A wire to a host, of which one request is out at most, over streams with these bytes that move
-/// so many at a time, of the first of which one call fails; 0 is none of them.
+/// A wire to a host, with at most one request outstanding, over streams with these bytes that move
+/// a few at a time, of the first of which one call fails; 0 means none.
 pub fn wired_failing<'a>(
     alloc: Global,
     inputs: &'a [&'a [u8]],

@@ -7,7 +7,7 @@ use relay_index::{Index, Script};
 use relay_loop::LoopWire;
 use std::alloc::Global;
 
-// A wire round an empty index that takes bodies of at most so many bytes.
+// A wire to an empty index that accepts bodies up to this size.
 fn limited(alloc: Global, most: u64) -> Option<LoopWire>
     ensures { IfSome result (λ w. w.out ≡ []) }
 {
@@ -16,7 +16,7 @@ fn limited(alloc: Global, most: u64) -> Option<LoopWire>
     LoopWire::new(alloc, Index::new(alloc), script).ok()
 }
 
-// What five deletes of 74 bytes each come to, and how many of them the index applied.
+// The outcome of five deletes of 74 bytes each, and how many of them the index applied.
 fn five(alloc: Global, most: u64) -> Option<(Came, usize)> {
     came_to(alloc, &mut filled(alloc, 5)?, &mut limited(alloc, most)?)
 }

@@ -1,4 +1,4 @@
-//! Streams that give a reply once a request was written, dialled one after another.
+//! Streams that return a reply once a request was written, dialled one after another.
 ghost use Rattle.std.specs.Prelude.{◌≡◌, [], None, Ok, IfSome};
 ghost use Rattle.relay_wires.specs.Numbered.{numbers};
 
@@ -7,12 +7,12 @@ use relay_http::is_host;
 use relay_wires::{Dial, DialFault, HttpWire, Peek};
 use std::alloc::Global;
 
-/// What comes on a stream: something after each request, and its end after the last.
+/// What arrives on a stream: something after each request, and its end after the last.
 pub type Turns<'a> = &'a [&'a [u8]];
 
-/// A stream on which the bytes of a turn come when a request is written, and the end with those of
-/// the last. A read gives at most `piece` of those that came. It takes each write whole, and shows
-/// no bytes.
+/// A stream on which the bytes of a turn arrive when a request is written, and the end with those
+/// of the last. A read returns at most `piece` of those that arrived. It takes each write in full,
+/// and shows no bytes.
 #[derive(Drop)]
 pub struct TurnStream<'a> {
     turns: Turns<'a>,
@@ -42,8 +42,7 @@ impl ByteIn for TurnStream<'_> {
 
 impl ByteOut for TurnStream<'_> {
     fn write(&mut self, bytes: &[u8]) -> Result<usize, StreamFailed> {
-        // Bytes that nobody asked for are read first, so that they are seen if they are taken for a
-        // reply.
+        // Unrequested bytes are read first, so that they are noticed if they are taken for a reply.
         if !self.writing && self.came.is_empty() {
             if let Some(turn) = self.turns.get(self.next) {
                 self.came = *turn;
@@ -93,7 +92,7 @@ impl<'a> Dial<TurnStream<'a>> for TurnDial<'a> {
     }
 }
 
-/// A wire over streams with these turns, whose reads give at most so many bytes.
+/// A wire over streams with these turns, whose reads return a few bytes at a time.
 pub fn turned<'a>(
     alloc: Global,
     streams: &'a [Turns<'a>],

@@ -1,4 +1,4 @@
--- How the program ends, and with which status.
+-- Exit statuses.
 use Rattle.std.specs.Prelude.{ℕ}
 use Rattle.relay_ndjson.specs.declared.kind.LineKind.{LineKind}
 use Rattle.relay_ndjson.specs.declared.kind.LineKind.TheVariants as kind
@@ -14,7 +14,8 @@ status_of exit.Device = 3
 status_of exit.Memory = 4
 status_of exit.Reported = 5
 
--- a failed read is a device fault, and out of memory is a status of its own; all other kinds are faults of the input
+-- a failed read is a device fault, and a failed allocation has its own status; all other kinds are faults of the
+-- input
 abbrev pub exit_of_kind : LineKind → Exit
 exit_of_kind kind.Read = exit.Device
 exit_of_kind kind.Memory = exit.Memory

@@ -2,7 +2,7 @@
 use Rattle.std.specs.Prelude.{◌≡◌, ℕ, ◌<◌, ◌^◌, List}
 use Rattle.std.specs.Str.Parse.{IsNumeral, digits_value}
 
--- decimal digits, one or more, for a number of 64 bits; there is no sign, and leading zeros mean nothing
+-- one or more decimal digits of a number of 64 bits, without a sign; leading zeros have no meaning
 pub record IsNumber (word : List ℕ) (n : ℕ) : Type 0 where
   pub digits : IsNumeral 10 word
   pub value : digits_value 10 word ≡ n

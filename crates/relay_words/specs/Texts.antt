@@ -1,4 +1,4 @@
--- Names, documents and causes as a person reads them.
+-- Names, documents and causes as they are printed.
 use Rattle.std.specs.Prelude.{ℕ, List, [], ◌++◌, ◌==◌, if◌then◌else◌, codes, decimal}
 use Rattle.relay_action.specs.declared.key.DocKey.{DocKey}
 use Rattle.relay_action.specs.declared.operation.OpName.{OpName}
@@ -21,7 +21,7 @@ name_text name = epoch_text name.epoch ++ decimal name.producer ++ codes ":" ++ 
 abbrev pub document_text : DocKey → List ℕ
 document_text key = key.index ++ codes "/" ++ key.id
 
--- the cause of a report: its name, and what it tells
+-- the cause of a report: its name, and its details
 abbrev pub cause_text : Cause → List ℕ
 cause_text (cause.Refused status kind) = codes "Refused" ++ spaced status ++ codes " " ++ kind
 cause_text (cause.Request status) = codes "Request" ++ spaced status

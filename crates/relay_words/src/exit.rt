@@ -1,28 +1,28 @@
-//! How the program ends.
+//! Exit statuses.
 ghost use Rattle.std.specs.Prelude.{◌≡◌};
 ghost use Rattle.relay_words.specs.Exits.{exit_of_kind, status_of};
 
 use relay_ndjson::LineKind;
 
-/// How the program ends.
+/// The exit status of the program.
 #[derive(Clone, Copy, Debug, PartialEq, Eq)]
 pub enum Exit {
-    /// All was done.
+    /// Success.
     Done,
-    /// The command line is not one of the program's.
+    /// The command line is invalid.
     Usage,
-    /// The input is at fault.
+    /// The input is invalid.
     Input,
-    /// A device is: a read or a write failed.
+    /// A device failed: a read or a write.
     Device,
-    /// There was no memory.
+    /// An allocation failed.
     Memory,
     /// Operations could not be settled, and were reported.
     Reported,
 }
 
 impl Exit {
-    /// The exit status.
+    /// The number of the exit status.
     pub fn status(self) -> u8
         ensures { result ≡ status_of self }
     {
@@ -37,7 +37,7 @@ impl Exit {
     }
 }
 
-/// How the program ends after a fault of a producer's input.
+/// The exit status after a fault of a producer's input.
 pub fn exit_of_kind(kind: LineKind) -> Exit
     ensures { result ≡ exit_of_kind kind }
 {

@@ -1,4 +1,4 @@
-//! Texts that are added to the end of a vector.
+//! Texts that are appended to a vector.
 ghost use Rattle.std.specs.Prelude.{◌≡◌, ◌++◌, OnOk, decimal};
 ghost use Rattle.relay_words.specs.Texts.{cause_text, document_text, epoch_text, name_text, spaced};
 
@@ -23,7 +23,7 @@ pub fn add_spaced(text: &mut Vec<u8>, number: u64) -> Result<(), AllocError>
     add_number(text, number)
 }
 
-// Adds an epoch and a point, or nothing in epoch 0.
+// Adds an epoch and a dot, or nothing in epoch 0.
 fn add_epoch(text: &mut Vec<u8>, epoch: u32) -> Result<(), AllocError>
     ensures { OnOk result (text.new.items ≡ text.old.items ++ epoch_text epoch) }
 {
@@ -45,7 +45,7 @@ pub fn add_name(text: &mut Vec<u8>, name: OpName) -> Result<(), AllocError>
     add_number(text, name.number)
 }
 
-/// Adds a document, `INDEX/ID`, both as they are.
+/// Adds a document, `INDEX/ID`, unescaped.
 pub fn add_document(text: &mut Vec<u8>, key: &DocKey) -> Result<(), AllocError>
     ensures { OnOk result (text.new.items ≡ text.old.items ++ document_text key.now) }
 {
