@@ -109,9 +109,9 @@ HOMES = {
     "relay_script": (SCRIPT, {"which lines are taken": WORLD, "which calls failed": WORLD, "exit statuses": WORLD}),
     "relay_stub": (STUB, {}),
     "relay_words": ((SCRIPT, RUN), {
-        "the number that a word is": (APPLY, SCRIPT),
+        "reading a number": (APPLY, SCRIPT),
         "exit statuses": (LINES, RUN),
-        "operations were taken": (LINES, RUN),
+        "the operations taken": (LINES, RUN),
     }),
     "relay_threads": (RUN, {}),
     "relay_wires": (LANE, {}),

@@ -1,10 +1,9 @@
 //! The way from a lane to the stand-in index within one process (`LoopWire`), for tests and
 //! simulations. It depends on `relay_lane` for what a wire is, on `relay_http` for both ends of a
-//! connection, on `relay_index` for the index, and on `relay_wires` for what a reply tells.
+//! connection, on `relay_index` for the index, and on `relay_wires` for the table of statuses.
 //!
-//! It carries this promise: a `LoopWire` describes what stands outside. Each request passes as
-//! bytes through both ends of a connection, is run once by the index, item by item, and answered
-//! honestly.
+//! What is proved: a `LoopWire` describes the outside. Each request passes as bytes through both
+//! ends of a connection, is run once by the index, item by item, and is answered honestly.
 #![tactic(auto)]
 
 mod ends;

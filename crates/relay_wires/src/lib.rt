@@ -1,10 +1,10 @@
-//! The way from a lane to an index over connections of HTTP (`HttpWire`), whose streams are dialled
-//! from outside (`Dial`). It depends on `relay_lane` for what a wire is, on `relay_http` for
-//! connections and on `relay_results` for the entries of replies.
+//! The way from a lane to an index over HTTP connections (`HttpWire`), whose streams a `Dial` makes.
+//! It depends on `relay_lane` for what a wire is, on `relay_http` for connections and on
+//! `relay_results` for the entries of replies.
 //!
-//! It carries this promise: what an `HttpWire` writes is the request of what it was given, and what
-//! it answers is the reply that stood on that connection, by the table of statuses. `numbered` and
-//! `told`, what is out and what a reply tells, serve the wire of `relay_loop` too.
+//! What is proved: an `HttpWire` writes the request for the writes that it is given, and returns the
+//! reply that was on that connection, by the table of statuses. `numbered` (the outstanding
+//! requests) and `told` (the table of statuses) also serve the wire of `relay_loop`.
 #![tactic(auto)]
 
 mod carrying;

@@ -1,11 +1,11 @@
-//! The words of the program's commands: numbers, names, documents and causes as they are printed
-//! (`text`), the number that a word is (`number`), and how the program ends (`exit`). What a
-//! command took of a producer's input, one operation after another, is defined here too, for
-//! `relay_commands` and `relay_run` alike.
+//! What the program's commands share: numbers, names, documents and causes as they are printed
+//! (`text`), numbers as they are read (`number`), and exit statuses (`exit`). The definition of
+//! which operations a command took from a producer's input is here too, for `relay_commands` and
+//! `relay_run` alike.
 //!
-//! It stands on `relay_action`, `relay_results` and, for the faults of an input, `relay_ndjson`.
-//! Each function of `text` adds a text to the end of a vector. `AllocError`: allocation failed, and
-//! a front of it may have been added.
+//! It depends on `relay_action`, `relay_results` and, for the faults of an input, `relay_ndjson`.
+//! Each function of `text` appends to a vector. `AllocError`: allocation failed, and a prefix of
+//! the text may have been appended.
 #![tactic(auto)]
 
 pub mod exit;
