@@ -106,7 +106,7 @@ HOMES = {
         "definitions on lists": CODE,
     }),
     "relay_run": (RUN, {}),
-    "relay_script": (SCRIPT, {"which lines are taken": WORLD, "which calls failed": WORLD, "exit statuses": WORLD}),
+    "relay_scenario": (SCRIPT, {"which lines are taken": WORLD, "which calls failed": WORLD, "exit statuses": WORLD}),
     "relay_stub": (STUB, {}),
     "relay_words": ((SCRIPT, RUN), {
         "reading a number": (APPLY, SCRIPT),

@@ -21,7 +21,7 @@ index, over standard input or HTTP; and simulates what may happen between produc
 index.";
 
 /// Runs what the command line of the process asks for.
-pub fn run<R>(rt: &R, host: HostRuntime) -> Exit
+pub fn execute<R>(rt: &R, host: HostRuntime) -> Exit
 where
     R: Input
         + Print

@@ -1,4 +1,4 @@
-//! The program `relay`: a command line over `relay_commands`, `relay_script`, `relay_stub`,
+//! The program `relay`: a command line over `relay_commands`, `relay_scenario`, `relay_stub`,
 //! `relay_run` and `relay_report`. `relay run` writes files of operations to an index; `relay pick`
 //! extracts the operations that its report names; `relay lines` turns a producer's NDJSON into bulk
 //! lines with versions; `relay apply` serves one bulk request with a fresh stand-in index; `relay
@@ -19,5 +19,5 @@ pub use relay_commands as commands;
 use std::process::ExitCode;
 
 fn main(rt: HostRuntime) -> ExitCode {
-    ExitCode::from(command::run(&rt, rt).status())
+    ExitCode::from(command::execute(&rt, rt).status())
 }

@@ -39,11 +39,11 @@ where
     R: Input + Print + Eprint + Net + AllocGlobal + Threads + Wait + Clock + Copy + Send + 'static,
 {
     match subcommand {
-        Subcommand::Lines => lines::run(rt, matches),
-        Subcommand::Apply => apply::run(rt, matches),
-        Subcommand::Run => run::run(rt, host, matches),
-        Subcommand::Pick => pick::run(rt, host, matches),
-        Subcommand::Stub => stub::run(rt, matches),
-        Subcommand::World => world::run(rt, matches),
+        Subcommand::Lines => lines::execute(rt, matches),
+        Subcommand::Apply => apply::execute(rt, matches),
+        Subcommand::Run => run::execute(rt, host, matches),
+        Subcommand::Pick => pick::execute(rt, host, matches),
+        Subcommand::Stub => stub::execute(rt, matches),
+        Subcommand::World => world::execute(rt, matches),
     }
 }

@@ -34,7 +34,7 @@ pub use relay_http::{Conn, Dial, DialFault, HttpFault, HttpReply, HttpRequest, L
 pub use relay_loop::LoopWire;
 pub use relay_wires::HttpWire;
 // The world and its scripts.
-pub use relay_script::script::{ScriptFault, world_script};
+pub use relay_scenario::script::{ScriptFault, world_script};
 pub use relay_world::{Event, Refusal, RunEnd, StepAnswer, World};
 // The running relay.
 pub use relay_producer::{

@@ -13,7 +13,7 @@ use Rattle.relay_index.specs.Choices.{MayRefuse}
 use Rattle.relay_index.specs.Plans.{Plan, refusal_at, unscripted}
 use Rattle.relay_commands.specs.declared.refuse_list.ListFault.{ListFault}
 use Rattle.relay_commands.specs.declared.refuse_list.ListFault.TheVariants as fault
-use Rattle.relay_commands.specs.Cuts.{Adds, IsCut, IsPartFault, IsUncut}
+use Rattle.relay_commands.specs.Cuts.{Adds, IsSplitAt, IsPartFault, IsUncut}
 use Rattle.relay_words.specs.Numbers.{IsNumber}
 use Rattle.relay_commands.specs.Refusals.{IsBadAfter, IsList, IsListFault, IsNoRefusal, IsRefusal, Refuses, last_status}
 
@@ -78,7 +78,7 @@ at_end : (c : ℕ) (xs : List ℕ) → Without c xs → IsUncut c xs
 at_end c xs w = position_or_len_is (λ b. b == c) xs (length xs) 0 (omega arith) (λ k lt. let ne = without-lacks c xs w k lt in grind (arith, nat_tests, ne)) (λ lt. absurd (omega (arith, lt)))
 
 -- the parts, and the byte between them, are the text
-pub whole_of : (c : ℕ) (text front back : List ℕ) → IsCut c text front back → text ≡ front ++ c ∷ back
+pub whole_of : (c : ℕ) (text front back : List ℕ) → IsSplitAt c text front back → text ≡ front ++ c ∷ back
 whole_of c text front back cut =
     let byte : get_or text (position_or_len (λ b. b == c) text) 0 ≡ c = eqb-true _ c (passes_at_first (λ b. b == c) text 0 cut.there) in
     rw (cut.front_is, cut.back_is) (split_at_first (λ b. b == c) text 0 cut.there ∙ ap (λ b. before_first (λ b. b == c) text ++ b ∷ after_first (λ b. b == c) text) byte)
@@ -91,12 +91,12 @@ front-without text place status h = digits-without 58 h.front colon_is_none h.pl
 pub uncut_is_none : (text : List ℕ) → IsUncut 58 text → IsNoRefusal text
 uncut_is_none text e place status h = is_there 58 h.front h.back (front-without text place status h) (rw h.whole at e)
 
-pub place_of : (text front back : List ℕ) → IsCut 58 text front back → (place status : ℕ) → IsRefusal text place status → IsNumber front place
+pub place_of : (text front back : List ℕ) → IsSplitAt 58 text front back → (place status : ℕ) → IsRefusal text place status → IsNumber front place
 place_of text front back cut place status h =
     let same : front ≡ h.front = cut.front_is ∙ ap (λ t. before_first (λ b. b == 58) t) h.whole ∙ before_first-at 58 h.front h.back (without-lacks 58 h.front (front-without text place status h)) in
     subst (λ t. IsNumber t place) (sym same) h.place_is
 
-pub status_of : (text front back : List ℕ) → IsCut 58 text front back → (place status : ℕ) → IsRefusal text place status → IsNumber back status
+pub status_of : (text front back : List ℕ) → IsSplitAt 58 text front back → (place status : ℕ) → IsRefusal text place status → IsNumber back status
 status_of text front back cut place status h =
     let same : back ≡ h.back = cut.back_is ∙ ap (λ t. after_first (λ b. b == 58) t) h.whole ∙ after_first-at 58 h.front h.back (without-lacks 58 h.front (front-without text place status h)) in
     subst (λ t. IsNumber t status) (sym same) h.status_is
@@ -123,11 +123,11 @@ pub record Splits (front back : List ℕ) : Type 0 where
   pub rest : IsList back later
 
 -- a text with no other comma is cut nowhere
-uncut : (c : ℕ) (text front back : List ℕ) → IsCut c text front back → Without c text → ⊥
+uncut : (c : ℕ) (text front back : List ℕ) → IsSplitAt c text front back → Without c text → ⊥
 uncut c text front back cut w =
     omega (arith, cut.there, at_end c text w)
 
-pub splits : (text front back : List ℕ) → IsCut 44 text front back → (xs : List (ℕ × ℕ)) → IsList text xs → Splits front back
+pub splits : (text front back : List ℕ) → IsSplitAt 44 text front back → (xs : List (ℕ × ℕ)) → IsList text xs → Splits front back
 splits text front back cut [] h = absurd h
 splits text front back cut (x ∷ []) h = absurd (uncut 44 text front back cut (refusal-without text x.0 x.1 h))
 splits text front back cut (x ∷ y ∷ xs) h =
@@ -176,7 +176,7 @@ one_more_found found x n = let e = length-append found (x ∷ []) in omega (arit
 shorter : (text front back : List ℕ) → text ≡ front ++ 44 ∷ back → length back + 1 ≤ length text
 shorter text front back e = let n = length-append front (44 ∷ back) in let m : length text ≡ length (front ++ 44 ∷ back) = ap length e in omega (arith, n, m)
 
-pub part_more : (whole rest front back : List ℕ) (old new : Plan) (count : ℕ) → Parted whole rest old count → IsCut 44 rest front back → (place status : ℕ) → IsRefusal front place status → Adds old new place status → Parted whole back new (count + 1)
+pub part_more : (whole rest front back : List ℕ) (old new : Plan) (count : ℕ) → Parted whole rest old count → IsSplitAt 44 rest front back → (place status : ℕ) → IsRefusal front place status → Adds old new place status → Parted whole back new (count + 1)
 part_more whole rest front back old new count h cut place status r a =
     let e = whole_of 44 rest front back cut in record {
       found = h.found ++ (place, status) ∷ [];
@@ -211,7 +211,7 @@ blamed whole rest front plan count n h e bad s =
     subst (λ (m : ℕ). IsBadAfter whole m) same (h.blames 0 (subst (λ (t : List ℕ). IsNoRefusal t) e bad))
 
 -- a part that is no refusal makes the whole no list
-pub part_fault : (whole rest front back : List ℕ) (plan : Plan) (count : ℕ) (e : ListFault) → Parted whole rest plan count → IsCut 44 rest front back → IsPartFault front count e → IsListFault whole e
+pub part_fault : (whole rest front back : List ℕ) (plan : Plan) (count : ℕ) (e : ListFault) → Parted whole rest plan count → IsSplitAt 44 rest front back → IsPartFault front count e → IsListFault whole e
 part_fault whole rest front back plan count (fault.BadList n) h cut bad =
     ((λ xs l. let p = h.peels xs l in let s = splits rest front back cut p.0 p.1 in bad.0 s.place s.status s.first), blamed whole rest front plan count n h cut.front_is bad.0 bad.1)
 part_fault whole rest front back plan count fault.Memory h cut bad = tt

@@ -11,7 +11,7 @@ abbrev pub IsUncut : ℕ → List ℕ → Type 0
 IsUncut c text = position_or_len (λ b. b == c) text ≡ length text
 
 -- the parts are what precedes the first such byte, and what follows it
-pub record IsCut (c : ℕ) (text front back : List ℕ) : Type 0 where
+pub record IsSplitAt (c : ℕ) (text front back : List ℕ) : Type 0 where
   pub there : position_or_len (λ b. b == c) text < length text
   pub front_is : front ≡ before_first (λ b. b == c) text
   pub back_is : back ≡ after_first (λ b. b == c) text

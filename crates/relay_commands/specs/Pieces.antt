@@ -44,8 +44,8 @@ pub record IsAnswered (plan : Plan) (old new : Option (List ℕ)) (out : List �
   pub output : IsOutput plan body out
 
 -- the text was written, or after a failed write exactly the first of its bytes
-abbrev pub Sends : {T : Type 0} → Option (List ℕ) → Option (List ℕ) → ℕ → ℕ → List ℕ → Result T ApplyFault → Type 0
-Sends before after failed count out (Ok x) = (after ≡ append_known before out) × NoneFails failed count
-Sends before after failed count out (Err (fault.Write sent)) =
+abbrev pub WritesOutput : {T : Type 0} → Option (List ℕ) → Option (List ℕ) → ℕ → ℕ → List ℕ → Result T ApplyFault → Type 0
+WritesOutput before after failed count out (Ok x) = (after ≡ append_known before out) × NoneFails failed count
+WritesOutput before after failed count out (Err (fault.Write sent)) =
     (sent < length out) × (after ≡ append_known before (take sent out)) × OneFails failed count
-Sends before after failed count out (Err other) = ⊥
+WritesOutput before after failed count out (Err other) = ⊥

@@ -2,7 +2,7 @@
 ghost use Rattle.std.specs.Prelude.{◌≡◌, IfOk, IfErr};
 ghost use Rattle.relay_commands.specs.Applies.{Applies, IsOutput, answer_lines};
 ghost use Rattle.relay_commands.specs.Calls.{FailsOnceInApply};
-ghost use Rattle.relay_commands.specs.Pieces.{IsAnswered, IsBodyFault, Sends, failed_by};
+ghost use Rattle.relay_commands.specs.Pieces.{IsAnswered, IsBodyFault, WritesOutput, failed_by};
 
 use crate::body::read_body;
 use itoa::Buffer;
@@ -65,7 +65,7 @@ fn answer<R: ByteIn>(alloc: Global, reader: &mut R, script: Script) -> Result<Ve
 }
 
 fn send<W: ByteOut>(writer: &mut W, out: &[u8]) -> Result<(), ApplyFault>
-    ensures { Sends (W.written writer.old) (W.written writer.new) (W.failed writer.old) (W.failed writer.new) out.now result }
+    ensures { WritesOutput (W.written writer.old) (W.written writer.new) (W.failed writer.old) (W.failed writer.new) out.now result }
 {
     match write_all(writer, out) {
         Ok(()) => Ok(()),

@@ -8,7 +8,7 @@
 //! fault, with versions that rise by one, and no version past the last; `apply` writes the answer
 //! of a fresh index to the body that it read, and nothing before the whole body was served; and a
 //! call of a stream that failed is not repeated. `outgoing` gathers what is to be written, here and
-//! in `relay_script`, and counts it.
+//! in `relay_scenario`, and counts it.
 #![tactic(auto)]
 
 pub mod apply;

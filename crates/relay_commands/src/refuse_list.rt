@@ -1,7 +1,7 @@
 //! The refusals that a command line asks for.
 ghost use Rattle.std.specs.Prelude.{◌≡◌, ◌↔◌, ℕ, List, IsTrue, IfSome, IfNone, IfOk, IfErr, OnOk, MatchOption};
 ghost use Rattle.relay_index.specs.Choices.{MayRefuse};
-ghost use Rattle.relay_commands.specs.Cuts.{Adds, IsCut, IsPartFault, IsUncut};
+ghost use Rattle.relay_commands.specs.Cuts.{Adds, IsSplitAt, IsPartFault, IsUncut};
 ghost use Rattle.relay_commands.specs.Refusals.{IsList, IsListFault, IsNoRefusal, IsRefusal, Refuses};
 
 use relay_index::{Script, may_refuse};
@@ -48,14 +48,14 @@ pub fn refuse_list(alloc: Global, list: &str) -> Result<Script, ListFault>
 
 // The parts of a text before its first colon and after it.
 fn cut_at_colon(text: &str) -> Option<(&str, &str)>
-    ensures { MatchOption result (IsUncut 58 text.now) (λ x. IsCut 58 text.now x.0.now x.1.now) }
+    ensures { MatchOption result (IsUncut 58 text.now) (λ x. IsSplitAt 58 text.now x.0.now x.1.now) }
 {
     text.split_once(':')
 }
 
 // The parts of a text before its first comma and after it.
 fn cut_at_comma(text: &str) -> Option<(&str, &str)>
-    ensures { MatchOption result (IsUncut 44 text.now) (λ x. IsCut 44 text.now x.0.now x.1.now) }
+    ensures { MatchOption result (IsUncut 44 text.now) (λ x. IsSplitAt 44 text.now x.0.now x.1.now) }
 {
     text.split_once(',')
 }

@@ -9,7 +9,7 @@ use Rattle.relay_http.specs.Framing.{framing_of, framing_of_fields, is_chunked, 
 use Rattle.relay_http.specs.Body.{IsBody}
 use Rattle.relay_http.specs.Forms.{Form, Begins, Gives, IsUnique}
 use Rattle.relay_http.proofs.Leading.{IsStated, Leads}
-use Rattle.relay_http.specs.Reply.{FitsHead, headers, info_of, IsHead, IsInterim, IsHeadsWith, IsHeads, Reply, IsReply, IsReplyBody}
+use Rattle.relay_http.specs.Reply.{FitsHead, headers, info_of, IsHead, IsInterim, IsHeadsWith, IsHeads, Reply, IsReplyMessage, IsReplyBody}
 use Rattle.relay_http.specs.declared.fault.HttpFault.{HttpFault}
 use Rattle.relay_http.specs.declared.fault.HttpFault.TheVariants as fault
 use Rattle.relay_http.specs.declared.framing.Framing.{Framing}
@@ -232,5 +232,5 @@ body_after_unique info = record {
       record { value_is = reply_is b.value c.value (b.message.status_is ∙ sym c.message.status_is) same.value_is (b.message.keep_is ∙ ap (λ k. info.lasting && not (is_to_end k)) f ∙ sym c.message.keep_is); rest_is = same.rest_is };
 }
 
-pub reply_unique : IsUnique IsReply
+pub reply_unique : IsUnique IsReplyMessage
 reply_unique = then_unique IsHeads IsReplyBody (heads_unique 8) body_after_unique

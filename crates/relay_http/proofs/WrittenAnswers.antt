@@ -12,7 +12,7 @@ use Rattle.std.proofs.lemmas.List.Elements.{All-cons, All-nil}
 use Rattle.httparse.proofs.OnLiterals.{httparse_on_literals}
 use Rattle.httparse.specs.Grammar.{is_value_byte, is_token_byte, IsField, crlf, status_code, trim_ows}
 use Rattle.relay_http.specs.WrittenAnswer.{IsAnswerStatus, answer, answer_text, answer_tree, reason_of, json_field, size_field, close_fields}
-use Rattle.relay_http.specs.Reply.{IsReply, headers, info_of}
+use Rattle.relay_http.specs.Reply.{IsReplyMessage, headers, info_of}
 use Rattle.relay_http.specs.Framing.{framing_of, framing_of_fields, is_interim, keeps, reply_limit}
 use Rattle.relay_http.specs.Fields.{Header, same_word, elements}
 use Rattle.relay_http.specs.declared.fault.HttpFault.{HttpFault}
@@ -99,7 +99,7 @@ status_framed : (n : ℕ) (fields : List Header) → 200 ≤ n → n ≤ 599 →
 status_framed n fields low high a b = by_tests (is_interim n) (nat_lt n 200) (nat_lt 599 n) (n == 204) (n == 304) _ (not_interim n low) (grind (arith, nat_tests, low)) (grind (arith, nat_tests, high)) (ne_eqb n 204 a) (ne_eqb n 304 b)
 
 pub answer_written : (n : ℕ) (body : List ℕ) (keep : Bool) → IsAnswerStatus n → length body ≤ 67108864
-    → IsReply (answer n body keep) false (record { status = n; body = body; keep = keep })
+    → IsReplyMessage (answer n body keep) false (record { status = n; body = body; keep = keep })
 answer_written n body keep good fits =
     let low = good.0 in
     let high = good.1 in

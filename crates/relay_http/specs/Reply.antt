@@ -84,8 +84,8 @@ pub record IsReplyBody (info : HeadInfo) (bytes : List ℕ) (ends : Bool) (reply
   pub keep_is : reply.keep ≡ (info.lasting && not (is_to_end framing))
 
 -- the bytes, with or without the end of the stream after them, are this reply
-abbrev pub IsReply : Form Reply
-IsReply = IsHeadThen IsHeads IsReplyBody
+abbrev pub IsReplyMessage : Form Reply
+IsReplyMessage = IsHeadThen IsHeads IsReplyBody
 
 -- the heads at the front of a stream have this fault
 pub record ReplyStates (stream : List ℕ) (f : HttpFault) : Type 0 where

@@ -75,7 +75,7 @@ SendsRequest host ws old new (Err fault.Memory) = (new ≡ old) ⊎ SendsFirst h
 SendsRequest host ws old new (Err f) = ⊥
 
 -- how much of this message was sent: all of it, part of it if a write failed, or nothing
-abbrev pub Sends : List ℕ → Option (List ℕ) → Option (List ℕ) → Result (Unit {0}) HttpFault → Type 0
-Sends text old new (Ok _) = new ≡ append_known old text
-Sends text old new (Err fault.Write) = (sent : ℕ) × (sent < length text) × (new ≡ append_known old (take sent text))
-Sends text old new (Err f) = (f ≡ fault.Memory) × (new ≡ old)
+abbrev pub WritesText : List ℕ → Option (List ℕ) → Option (List ℕ) → Result (Unit {0}) HttpFault → Type 0
+WritesText text old new (Ok _) = new ≡ append_known old text
+WritesText text old new (Err fault.Write) = (sent : ℕ) × (sent < length text) × (new ≡ append_known old (take sent text))
+WritesText text old new (Err f) = (f ≡ fault.Memory) × (new ≡ old)

@@ -4,11 +4,11 @@ ghost use Rattle.relay_ndjson.specs.Bulk.{text_of};
 ghost use Rattle.relay_http.specs.Forms.{Took, Fails, Begins, IsOutside, IsThatOrOutside};
 ghost use Rattle.relay_http.specs.Framing.{reply_limit, request_limit};
 ghost use Rattle.relay_http.specs.Refusals.{ReplyFault, RequestFault};
-ghost use Rattle.relay_http.specs.Reply.{IsReply, ReplyPasses, ReplyStates, reply_view};
+ghost use Rattle.relay_http.specs.Reply.{IsReplyMessage, ReplyPasses, ReplyStates, reply_view};
 ghost use Rattle.relay_http.specs.Request.{IsRequest, RequestPasses, RequestStates, TookRequest, IsFound};
 ghost use Rattle.relay_http.specs.Window.{window_size};
 ghost use Rattle.relay_http.specs.WrittenAnswer.{IsAnswerStatus, answer};
-ghost use Rattle.relay_http.specs.WrittenRequest.{is_host, request, Sends, SendsRequest};
+ghost use Rattle.relay_http.specs.WrittenRequest.{is_host, request, WritesText, SendsRequest};
 ghost use Rattle.relay_http.specs.Connection.{ahead, fresh, IsQuiet, is_open, is_broken, after_reply, after_request, after_write, failed_reading, failed_writing};
 ghost use Rattle.relay_http.specs.declared.fault.HttpFault.{HttpFault};
 
@@ -113,9 +113,9 @@ impl<S: ByteIn + Drop> Conn<S> {
         // A connection that carries no further message returns Broken, and is unchanged.
         ensures broken { IsFalse (is_open self.old.phase) → (result ≡ Err HttpFault.Broken) × (self.new ≡ self.old) }
         // A reply that is returned was at the front, and each fault has its cause.
-        ensures answer { IsTrue (is_open self.old.phase) → MatchResult result (λ reply. Took IsReply (ahead self.old) (ahead self.new) (reply_view reply)) (Fails IsReply (ahead self.old) self.new.left) }
+        ensures answer { IsTrue (is_open self.old.phase) → MatchResult result (λ reply. Took IsReplyMessage (ahead self.old) (ahead self.new) (reply_view reply)) (Fails IsReplyMessage (ahead self.old) self.new.left) }
         // A reply at the front is returned, and the bytes after it are left.
-        ensures found { (stream : List ℕ) (there : Begins IsReply stream) → IsTrue (is_open self.old.phase) → ahead self.old ≡ Some stream
+        ensures found { (stream : List ℕ) (there : Begins IsReplyMessage stream) → IsTrue (is_open self.old.phase) → ahead self.old ≡ Some stream
             → MatchResult result (λ reply. (reply_view reply ≡ there.value) × (ahead self.new ≡ Some there.rest)) IsOutside }
         // Each fault says what is at the front.
         ensures why { (stream : List ℕ) → IsTrue (is_open self.old.phase) → ahead self.old ≡ Some stream → IfErr result (ReplyFault stream) }
@@ -231,9 +231,9 @@ impl<S: ByteOut + Drop> Conn<S> {
         // A connection that carries nothing more returns Broken, and is unchanged.
         ensures broken { IsTrue (is_broken self.old.phase) → (result ≡ Err HttpFault.Broken) × (self.new ≡ self.old) }
         // The answer was sent; after Write part of it, and after Memory nothing.
-        ensures sent { IsFalse (is_broken self.old.phase) → Sends (answer status body.now (keep && is_open self.old.phase)) self.old.written self.new.written result }
+        ensures sent { IsFalse (is_broken self.old.phase) → WritesText (answer status body.now (keep && is_open self.old.phase)) self.old.written self.new.written result }
         // That text is the reply with this status and this body.
-        ensures message { IsReply (answer status body.now (keep && is_open self.old.phase)) false (record { status = status; body = body.now; keep = keep && is_open self.old.phase }) }
+        ensures message { IsReplyMessage (answer status body.now (keep && is_open self.old.phase)) false (record { status = status; body = body.now; keep = keep && is_open self.old.phase }) }
         ensures phase { IsFalse (is_broken self.old.phase) → self.new.phase ≡ after_write (keep && is_open self.old.phase) result }
         // At most one call of the stream failed: a write, if the fault says so.
         ensures failed { IsFalse (is_broken self.old.phase) → self.new.failed ≡ failed_writing result self.old.failed }
@@ -258,7 +258,7 @@ fn write_text<S: ByteOut>(
     body: &str,
     keep: bool,
 ) -> Result<(), HttpFault>
-    ensures sent { Sends (answer status body.now keep) (S.written stream.old) (S.written stream.new) result }
+    ensures sent { WritesText (answer status body.now keep) (S.written stream.old) (S.written stream.new) result }
     ensures failed { S.failed stream.new ≡ failed_writing result (S.failed stream.old) }
     ensures left { S.left stream.new ≡ S.left stream.old }
 {

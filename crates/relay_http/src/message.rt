@@ -2,7 +2,7 @@
 ghost use Rattle.std.specs.Prelude.{◌≡◌, OnOk};
 ghost use Rattle.std.specs.Fmt.{decimal};
 ghost use Rattle.relay_http.specs.Connection.{failed_writing};
-ghost use Rattle.relay_http.specs.WrittenRequest.{Sends};
+ghost use Rattle.relay_http.specs.WrittenRequest.{WritesText};
 ghost use Rattle.relay_http.specs.WrittenAnswer.{answer, answer_text, ending, reason_of};
 
 use crate::fault::HttpFault;
@@ -69,7 +69,7 @@ fn ending(keep: bool) -> &'static [u8]
 }
 
 pub(crate) fn send<S: ByteOut>(stream: &mut S, message: &[u8]) -> Result<(), HttpFault>
-    ensures sent { Sends message.now (S.written stream.old) (S.written stream.new) result }
+    ensures sent { WritesText message.now (S.written stream.old) (S.written stream.new) result }
     ensures failed { S.failed stream.new ≡ failed_writing result (S.failed stream.old) }
     ensures left { S.left stream.new ≡ S.left stream.old }
 {

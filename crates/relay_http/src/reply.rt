@@ -8,7 +8,7 @@ ghost use Rattle.relay_http.specs.Steps.{Answers, pending};
 ghost use Rattle.relay_http.specs.Connection.{is_read};
 ghost use Rattle.relay_http.specs.Framing.{is_to_end};
 ghost use Rattle.relay_http.specs.declared.fault.HttpFault.{HttpFault};
-ghost use Rattle.relay_http.specs.Reply.{IsHeads, IsReply, ReplyPasses, ReplyStates, reply_view};
+ghost use Rattle.relay_http.specs.Reply.{IsHeads, IsReplyMessage, ReplyPasses, ReplyStates, reply_view};
 
 use crate::buffered::Buffered;
 use crate::fault::HttpFault;
@@ -69,9 +69,9 @@ impl<S: ByteIn + Drop> Buffered<S> {
 
     // Reads a reply. One at the front is found, and so is a fault in the heads there.
     pub(crate) fn next_reply(&mut self, alloc: Global) -> Result<HttpReply, HttpFault>
-        ensures answer { MatchResult result (λ reply. Took IsReply (pending S.left self.old) (pending S.left self.new) (reply_view reply)) (Fails IsReply (pending S.left self.old) (S.left self.new.stream)) }
+        ensures answer { MatchResult result (λ reply. Took IsReplyMessage (pending S.left self.old) (pending S.left self.new) (reply_view reply)) (Fails IsReplyMessage (pending S.left self.old) (S.left self.new.stream)) }
         ensures why { (stream : List ℕ) → pending S.left self.old ≡ Some stream → IfErr result (ReplyFault stream) }
-        ensures found { (stream : List ℕ) (there : Begins IsReply stream) → pending S.left self.old ≡ Some stream → MatchResult result (λ reply. (reply_view reply ≡ there.value) × (pending S.left self.new ≡ Some there.rest)) IsOutside }
+        ensures found { (stream : List ℕ) (there : Begins IsReplyMessage stream) → pending S.left self.old ≡ Some stream → MatchResult result (λ reply. (reply_view reply ≡ there.value) × (pending S.left self.new ≡ Some there.rest)) IsOutside }
         ensures stated { (stream : List ℕ) (f : HttpFault) → ReplyStates stream f → pending S.left self.old ≡ Some stream → MatchResult result (λ reply. ⊥) (IsThatOrOutside f) }
         ensures long { (stream : List ℕ) → ReplyPasses stream → pending S.left self.old ≡ Some stream → MatchResult result (λ reply. ⊥) (IsThatOrOutside HttpFault.BodyLong) }
         ensures count { S.failed self.new.stream ≡ (if is_read result then one_more (S.failed self.old.stream) else S.failed self.old.stream) }

@@ -10,7 +10,7 @@ use Rattle.relay_ndjson.specs.Kinds.{name_of}
 use Rattle.relay_ndjson.specs.Bodies.{IsBulk, BreaksBulk}
 use Rattle.relay_results.specs.declared.done.ItemDone.{ItemDone}
 use Rattle.relay_results.specs.Done.{outcomes_of, reply_text}
-use Rattle.relay_results.specs.Replies.{IsReply}
+use Rattle.relay_results.specs.Replies.{IsBulkReply}
 use Rattle.relay_index.specs.States.{State}
 use Rattle.relay_index.specs.Runs.{RunsOne}
 use Rattle.relay_index.specs.Plans.{Plan, choice_at, takes, stepped}
@@ -50,7 +50,7 @@ pub record Replies (old : Server) (ws : List Write) (text : List ℕ) (new : Ser
   pub items : List ItemDone
   pub runs : RunsAll old ws items new
   pub text_of : text ≡ reply_text 0 items
-  pub reads_back : IsReply text (outcomes_of items)
+  pub reads_back : IsBulkReply text (outcomes_of items)
 
 -- ---- a body that is no bulk request
 

@@ -8,13 +8,13 @@ use Rattle.std.proofs.lemmas.Str.{IsUtf8-from_ascii}
 use Rattle.std.specs.List.{list_all}
 use Rattle.memchr.specs.Find.{Nowhere, Passes, is_byte}
 use Rattle.json.specs.Print.{escape, escape_byte, quoted}
-use Rattle.relay_json.specs.Plain.{is_plain_byte, IsPlain}
+use Rattle.relay_json.specs.Plain.{is_plain_ascii, IsPlain}
 
-plain_byte : (b : ℕ) → is_plain_byte b ≡ true → escape_byte b ≡ b ∷ []
+plain_byte : (b : ℕ) → is_plain_ascii b ≡ true → escape_byte b ≡ b ∷ []
 unfolding escape_byte
 plain_byte b h = grind (arith, common_steps)
 
-plain_head : (b : ℕ) (bs : List ℕ) → IsPlain (b ∷ bs) → is_plain_byte b ≡ true
+plain_head : (b : ℕ) (bs : List ℕ) → IsPlain (b ∷ bs) → is_plain_ascii b ≡ true
 plain_head b bs h = grind (arith, common_steps)
 
 plain_tail : (b : ℕ) (bs : List ℕ) → IsPlain (b ∷ bs) → IsPlain bs
@@ -51,8 +51,8 @@ no_quote bytes none text rest same plain =
 -- a part in front of a plain text is plain
 plain_take : (text : List ℕ) (i : ℕ) → IsPlain text → IsPlain (take i text)
 plain_take text i plain =
-    let cut : list_all is_plain_byte (take i text ++ drop i text) ≡ true = ap (list_all is_plain_byte) (take-append-drop i text) ∙ plain in
-    let parts : (list_all is_plain_byte (take i text) && list_all is_plain_byte (drop i text)) ≡ true = sym (list_all-append is_plain_byte (take i text) (drop i text)) ∙ cut in
+    let cut : list_all is_plain_ascii (take i text ++ drop i text) ≡ true = ap (list_all is_plain_ascii) (take-append-drop i text) ∙ plain in
+    let parts : (list_all is_plain_ascii (take i text) && list_all is_plain_ascii (drop i text)) ≡ true = sym (list_all-append is_plain_ascii (take i text) (drop i text)) ∙ cut in
     grind (arith, common_steps)
 
 -- where what stands before the first quote is not plain, no plain text stands before any quote

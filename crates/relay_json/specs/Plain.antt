@@ -3,8 +3,8 @@ use Rattle.std.specs.Prelude.{◌≡◌, ℕ, Bool, true, not, ◌&&◌, ◌==�
 use Rattle.std.specs.List.{list_all}
 
 -- an ASCII character from the space on, except the quote, the backslash and DEL
-abbrev pub is_plain_byte : ℕ → Bool
-is_plain_byte b = nat_le 32 b && nat_lt b 127 && not (b == 34) && not (b == 92)
+abbrev pub is_plain_ascii : ℕ → Bool
+is_plain_ascii b = nat_le 32 b && nat_lt b 127 && not (b == 34) && not (b == 92)
 
 abbrev pub IsPlain : List ℕ → Type 0
-IsPlain text = list_all is_plain_byte text ≡ true
+IsPlain text = list_all is_plain_ascii text ≡ true

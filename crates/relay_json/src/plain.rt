@@ -1,7 +1,7 @@
 //! Texts that need no unescaping, and the bytes between them.
 ghost use Rattle.std.specs.Prelude.{◌≡◌, ◌≢◌, ℕ, List, ◌++◌, ◌∷◌, IfSome, IfNone, MatchOption};
 ghost use Rattle.std.specs.List.{list_all};
-ghost use Rattle.relay_json.specs.Plain.{is_plain_byte, IsPlain};
+ghost use Rattle.relay_json.specs.Plain.{is_plain_ascii, IsPlain};
 
 use memchr::memchr;
 use std::str;
@@ -43,14 +43,14 @@ pub fn take_plain(bytes: &[u8]) -> Option<(&str, &[u8])>
 
 // Whether each byte is an ASCII character that stands for itself.
 fn is_plain(bytes: &[u8]) -> bool
-    ensures { result ≡ list_all is_plain_byte bytes.now }
+    ensures { result ≡ list_all is_plain_ascii bytes.now }
 {
-    bytes.iter().all(|byte| is_plain_byte(*byte))
+    bytes.iter().all(|byte| is_plain_ascii(*byte))
 }
 
 #[inline(always)]
-fn is_plain_byte(byte: u8) -> bool
-    ensures { result ≡ is_plain_byte byte }
+fn is_plain_ascii(byte: u8) -> bool
+    ensures { result ≡ is_plain_ascii byte }
 {
     byte >= 32 && byte < 127 && byte != b'"' && byte != b'\\'
 }

@@ -16,10 +16,10 @@ answer_of (Ok (reply.Whole status)) = Whole status
 answer_of (Err fault) = Lost
 
 -- a status of the request as a whole is not 200
-abbrev pub IsReply : Result WireReply WireFault → Type 0
-IsReply (Ok (reply.Items outcomes)) = Unit {0}
-IsReply (Ok (reply.Whole status)) = status ≢ 200
-IsReply (Err fault) = Unit {0}
+abbrev pub IsWireReply : Result WireReply WireFault → Type 0
+IsWireReply (Ok (reply.Items outcomes)) = Unit {0}
+IsWireReply (Ok (reply.Whole status)) = status ≢ 200
+IsWireReply (Err fault) = Unit {0}
 
 -- ---- what happens outside meanwhile
 

@@ -1,7 +1,7 @@
 //! One request over a wire.
 ghost use Rattle.std.specs.Prelude.{◌≡◌, true};
 ghost use Rattle.relay_core.specs.State.{is_flying, answered};
-ghost use Rattle.relay_lane.specs.Wires.{answer_of, IsReply};
+ghost use Rattle.relay_lane.specs.Wires.{answer_of, IsWireReply};
 
 use crate::wire::{WireFault, WireReply};
 use relay_core::Lane;
@@ -9,7 +9,7 @@ use relay_core::Lane;
 /// Settles a request in flight by its answer.
 pub(crate) fn settle(lane: &mut Lane, number: u64, answer: Result<WireReply, WireFault>)
     requires flies { is_flying number lane.old.state ≡ true }
-    requires reply { IsReply answer }
+    requires reply { IsWireReply answer }
     ensures { lane.new.state ≡ answered lane.old.state number (answer_of answer) }
 {
     let _ = match answer {

@@ -4,7 +4,7 @@ ghost use Rattle.relay_ndjson.specs.Bodies.{AreDealt};
 ghost use Rattle.relay_ndjson.specs.Bulk.{text_of};
 ghost use Rattle.relay_results.specs.Outside.{Outside, Lost};
 ghost use Rattle.relay_results.specs.Words.{Mem};
-ghost use Rattle.relay_lane.specs.Wires.{answer_of, IsReply, SendsOn, AnswersOn, ExchangesOn, Shows, ShowsNext, without};
+ghost use Rattle.relay_lane.specs.Wires.{answer_of, IsWireReply, SendsOn, AnswersOn, ExchangesOn, Shows, ShowsNext, without};
 
 use relay_action::Write;
 use relay_results::Outcome;
@@ -74,6 +74,6 @@ pub trait Wire {
         requires { Mem number (out self.old) }
         ensures out { out self.new ≡ without number (out self.old) }
         ensures describes { describes self.new ≡ describes self.old }
-        ensures reply { IsReply result }
+        ensures reply { IsWireReply result }
         ensures outside { Shows (describes self.old) fits self.old self.new (AnswersOn number (answer_of result)) };
 }

@@ -1,6 +1,6 @@
 //! A wire to an index that fails as configured, and describes nothing.
 ghost use Rattle.std.specs.Prelude.{◌≡◌, None};
-ghost use Rattle.relay_lane.specs.Wires.{IsReply};
+ghost use Rattle.relay_lane.specs.Wires.{IsWireReply};
 
 use crate::telling::run_all;
 use relay_action::{ActionKind, Text, Write};
@@ -115,7 +115,7 @@ fn changed(
 }
 
 fn answered(alloc: Global, way: Way, entries: Vec<Outcome>) -> Result<WireReply, WireFault>
-    ensures { IsReply result }
+    ensures { IsWireReply result }
 {
     let (drops, adds) = match way {
         Way::Loses => return Err(WireFault::Lost),

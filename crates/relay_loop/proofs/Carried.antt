@@ -6,7 +6,7 @@ use Rattle.relay_http.specs.Connection.{Connection, fresh, is_open, is_broken}
 use Rattle.relay_http.specs.Forms.{Begins}
 use Rattle.relay_http.specs.Framing.{request_limit, reply_limit}
 use Rattle.relay_http.specs.Request.{IsRequest}
-use Rattle.relay_http.specs.Reply.{IsReply}
+use Rattle.relay_http.specs.Reply.{IsReplyMessage}
 use Rattle.relay_http.specs.WrittenRequest.{request}
 use Rattle.relay_http.specs.WrittenAnswer.{IsAnswerStatus, answer}
 use Rattle.relay_http.proofs.WrittenRequests.{request_written}
@@ -24,7 +24,7 @@ request_there body size = record {
   last = λ e. refl;
 }
 
-abbrev pub answer_there : (status : ℕ) (body : List ℕ) → IsAnswerStatus status → length body ≤ reply_limit → Begins IsReply (answer status body true)
+abbrev pub answer_there : (status : ℕ) (body : List ℕ) → IsAnswerStatus status → length body ≤ reply_limit → Begins IsReplyMessage (answer status body true)
 answer_there status body good size = record {
   front = answer status body true;
   ends = false;

@@ -13,7 +13,7 @@ use Rattle.relay_results.specs.Done.{outcome_of, outcomes_of}
 use Rattle.relay_results.specs.Words.{Mem}
 use Rattle.relay_results.specs.Documents.{document_of}
 use Rattle.relay_results.specs.Outside.{Request, writes_of, IsOutcomeOf, Ran, Outside, Event, Runs, MayRun, WasRun, EachWasRun, write_at, ran_of, after, after_all, AllMayHappen}
-use Rattle.relay_results.specs.Replies.{IsReply}
+use Rattle.relay_results.specs.Replies.{IsBulkReply}
 use Rattle.relay_results.proofs.OneReading.{one_reply, no_fault}
 use Rattle.relay_results.proofs.Lists.{Mem-left, Mem-last}
 use Rattle.relay_results.proofs.Steps.{step_runs_item}
@@ -27,7 +27,7 @@ use Rattle.relay_lane.specs.declared.wire.WireReply.{WireReply}
 use Rattle.relay_lane.specs.declared.wire.WireReply.TheVariants as reply
 use Rattle.relay_lane.specs.declared.wire.WireFault.{WireFault}
 use Rattle.relay_lane.specs.declared.wire.WireFault.TheVariants as fault
-use Rattle.relay_lane.specs.Wires.{AreRuns, RunsOn, IsReply as IsTold}
+use Rattle.relay_lane.specs.Wires.{AreRuns, RunsOn, IsWireReply as IsTold}
 use Rattle.relay_http.specs.Framing.{reply_limit}
 use Rattle.relay_http.specs.Reply.{Reply}
 use Rattle.relay_http.specs.WrittenAnswer.{IsAnswerStatus}
@@ -193,7 +193,7 @@ stops_after_all ws old new text r =
 -- ---- what comes back
 
 -- a reply that says these outcomes is read so, unless memory runs out
-pub told : (r : Reply) (os : List Outcome) (result : Result WireReply WireFault) → r.status ≡ 200 → IsReply r.body os → Tells r result → Reads os result
+pub told : (r : Reply) (os : List Outcome) (result : Result WireReply WireFault) → r.status ≡ 200 → IsBulkReply r.body os → Tells r result → Reads os result
 told r os (Ok (reply.Items outcomes)) success is t = one_reply r.body outcomes.items os t.1 is
 told r os (Ok (reply.Whole status)) success is t = absurd (t.0 success)
 told r os (Err fault.Send) success is t = absurd t

@@ -7,8 +7,8 @@
 #![tactic(auto)]
 
 mod ends;
-mod exchange;
 pub mod loop_wire;
+mod round_trip;
 
 pub use loop_wire::LoopWire;
 pub use relay_lane::{Wire, WireFault, WireReply};

@@ -3,7 +3,7 @@ ghost use Rattle.std.specs.Prelude.{◌≡◌, ◌++◌, ◌∷◌, [], true, If
 ghost use Rattle.relay_loop.specs.Loops.{begun, is_lost, Opens};
 
 use crate::ends::request_bytes;
-use crate::exchange::exchange;
+use crate::round_trip::round_trip;
 use relay_action::{List, Write};
 use relay_index::{Index, Script};
 use relay_lane::{Wire, WireFault, WireReply};
@@ -83,7 +83,7 @@ impl Wire for LoopWire {
     ghost use Rattle.relay_ndjson.specs.Bulk.{text_of};
     ghost use Rattle.relay_results.specs.Outside.{Lost};
     ghost use Rattle.relay_results.specs.Words.{Mem};
-    ghost use Rattle.relay_lane.specs.Wires.{answer_of, IsReply, SendsOn, AnswersOn, ExchangesOn, Shows, ShowsNext, without};
+    ghost use Rattle.relay_lane.specs.Wires.{answer_of, IsWireReply, SendsOn, AnswersOn, ExchangesOn, Shows, ShowsNext, without};
     ghost use Rattle.relay_wires.specs.Numbered.{numbers, found};
     ghost use Rattle.relay_loop.specs.Loops.{Fits, MayGo, bytes_of, Receives, TakesIn};
 
@@ -129,7 +129,7 @@ impl Wire for LoopWire {
     fn receive(&mut self, number: u64) -> Result<WireReply, WireFault>
         requires { Mem number (numbers self.old.out) }
         ensures out { numbers self.new.out ≡ without number (numbers self.old.out) }
-        ensures reply { IsReply result }
+        ensures reply { IsWireReply result }
         ensures outside { Shows true Fits self.old self.new (AnswersOn number (answer_of result)) }
         // What was sent is run as the script says, and the answer of the index is received.
         ensures received { (ws : List Write) → MayGo ws → found number self.old.out ≡ Some (bytes_of ws)
@@ -138,7 +138,7 @@ impl Wire for LoopWire {
     {
         let lost = self.is_lost(number);
         match take(&mut self.out, number) {
-            Some(bytes) => exchange(
+            Some(bytes) => round_trip(
                 self.alloc,
                 bytes.into_vec(),
                 lost,

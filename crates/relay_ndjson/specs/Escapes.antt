@@ -26,8 +26,8 @@ abbrev pub EscapesByTable : Type 0
 EscapesByTable = (b : ℕ) → escape_byte b ≡ escaped b
 
 -- a byte that stands for itself
-abbrev pub is_plain_byte : ℕ → Bool
-is_plain_byte b = nat_le 32 b && not (b == 34) && not (b == 92)
+abbrev pub needs_no_escape : ℕ → Bool
+needs_no_escape b = nat_le 32 b && not (b == 34) && not (b == 92)
 
 -- the JSON string of a text, or `None` if the text needs no escapes
 abbrev pub IsEscapeOf : List ℕ → Option (String Global) → Type 0

@@ -2,7 +2,7 @@
 ghost use Rattle.std.specs.Prelude.{◌≡◌, ◌&&◌, not, IfOk};
 ghost use Rattle.std.specs.List.{list_all};
 ghost use Rattle.json.specs.Print.{escape};
-ghost use Rattle.relay_ndjson.specs.Escapes.{is_plain_byte, IsEscapeOf};
+ghost use Rattle.relay_ndjson.specs.Escapes.{needs_no_escape, IsEscapeOf};
 
 use relay_action::Write;
 use serde_json::Value;
@@ -38,20 +38,20 @@ pub fn between_quotes<'t>(text: &'t str, string: &'t Option<String>) -> &'t [u8]
 /// Whether the id or the index name of a write's document needs an escape in its action line.
 /// Appending such a line allocates, even if the text it is appended to has room.
 pub fn has_escapes(write: &Write) -> bool
-    ensures { result ≡ not (list_all is_plain_byte write.now.key.id && list_all is_plain_byte write.now.key.index) }
+    ensures { result ≡ not (list_all needs_no_escape write.now.key.id && list_all needs_no_escape write.now.key.index) }
 {
     !(is_plain(write.key.id().as_bytes()) && is_plain(write.key.index().as_bytes()))
 }
 
 // Whether a byte stands for itself in a JSON string.
-fn is_plain_byte(byte: u8) -> bool
-    ensures { result ≡ is_plain_byte byte }
+fn needs_no_escape(byte: u8) -> bool
+    ensures { result ≡ needs_no_escape byte }
 {
     byte >= 32 && byte != b'"' && byte != b'\\'
 }
 
 fn is_plain(bytes: &[u8]) -> bool
-    ensures { result ≡ list_all is_plain_byte bytes.now }
+    ensures { result ≡ list_all needs_no_escape bytes.now }
 {
-    bytes.iter().all(|byte| is_plain_byte(*byte))
+    bytes.iter().all(|byte| needs_no_escape(*byte))
 }

@@ -1,6 +1,6 @@
 //! Counted wires.
 ghost use Rattle.std.specs.Prelude.{◌≡◌, ◌∷◌, ◌≤◌, [], length, OnOk, None};
-ghost use Rattle.relay_lane.specs.Wires.{IsReply};
+ghost use Rattle.relay_lane.specs.Wires.{IsWireReply};
 ghost use Rattle.relay_ndjson.specs.Bodies.{AreDealt};
 ghost use Rattle.relay_ndjson.specs.Bulk.{text_of};
 
@@ -35,7 +35,7 @@ struct Planned {
 
 // The entries of a reply to a delete.
 fn entries(alloc: Global, status: u16) -> Result<WireReply, WireFault>
-    ensures { IsReply result }
+    ensures { IsWireReply result }
 {
     let mut outcomes = Vec::new(alloc);
     let outcome = Outcome {

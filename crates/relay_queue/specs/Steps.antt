@@ -92,8 +92,8 @@ with_met Met w = Met
 
 -- a send: the message was added to the sender's list, which is well sent, with a Done exactly if the sender has
 -- closed
-abbrev pub Sends : Bool → Knowledge → Mail → Knowledge → Type 0
-Sends state v m w = (w ≡ with_sent state v m) × IsWellSent (sent_of w) × ClosedAs state (sent_of w)
+abbrev pub SendsNext : Bool → Knowledge → Mail → Knowledge → Type 0
+SendsNext state v m w = (w ≡ with_sent state v m) × IsWellSent (sent_of w) × ClosedAs state (sent_of w)
 
 -- a take: the message was added to what was taken; its sender is one of those that were made, and what was taken is
 -- well taken

@@ -117,9 +117,9 @@ pub struct Puts;
 
 impl Outcome<Mail, Knowledge> for Puts {
     ghost use Rattle.std.specs.Prelude.{false};
-    ghost use Rattle.relay_queue.specs.Steps.{Sends};
+    ghost use Rattle.relay_queue.specs.Steps.{SendsNext};
 
-    ghost then = { Sends false };
+    ghost then = { SendsNext false };
 }
 
 impl Lesson<Mail, Knowledge> for Puts {
@@ -133,9 +133,9 @@ pub struct Closes;
 
 impl Outcome<Mail, Knowledge> for Closes {
     ghost use Rattle.std.specs.Prelude.{true};
-    ghost use Rattle.relay_queue.specs.Steps.{Sends};
+    ghost use Rattle.relay_queue.specs.Steps.{SendsNext};
 
-    ghost then = { Sends true };
+    ghost then = { SendsNext true };
 }
 
 impl Lesson<Mail, Knowledge> for Closes {

@@ -7,7 +7,7 @@ use Rattle.relay_action.specs.Actions.{kind_name}
 use Rattle.relay_action.proofs.Actions.{one_kind}
 use Rattle.relay_results.specs.declared.outcome.Outcome.{Outcome}
 use Rattle.relay_results.specs.declared.reading.ReplyFault.TheVariants as fault
-use Rattle.relay_results.specs.Replies.{ReadsAs, IsCut, error_limit, error_member, SaysError, IsEntry, AreEntries, HasItems, IsBadAt}
+use Rattle.relay_results.specs.Replies.{ReadsAs, IsTruncated, error_limit, error_member, SaysError, IsEntry, AreEntries, HasItems, IsBadAt}
 use Rattle.relay_results.specs.Laws.{OneReply, NoFaultOfReply, OneFault}
 
 -- ---- an entry says one outcome
@@ -15,14 +15,14 @@ use Rattle.relay_results.specs.Laws.{OneReply, NoFaultOfReply, OneFault}
 three_ways : (m n : ℕ) → (m < n) ⊎ ((m ≡ n) ⊎ (n < m))
 three_ways m n = grind arith
 
-one_count : (limit : ℕ) (text a b : List ℕ) (p : IsCut limit text a) (q : IsCut limit text b) → p.count ≡ q.count
+one_count : (limit : ℕ) (text a b : List ℕ) (p : IsTruncated limit text a) (q : IsTruncated limit text b) → p.count ≡ q.count
 one_count limit text a b p q =
     elim (three_ways p.count q.count) [
       | inl less ↦ absurd (p.longest q.count less q.within q.ends)
       | inr rest ↦ elim rest [ inl same ↦ same | inr more ↦ absurd (q.longest p.count more p.within p.ends) ]
     ]
 
-one_cut : (limit : ℕ) (text a b : List ℕ) → IsCut limit text a → IsCut limit text b → a ≡ b
+one_cut : (limit : ℕ) (text a b : List ℕ) → IsTruncated limit text a → IsTruncated limit text b → a ≡ b
 one_cut limit text a b p q = p.front_is ∙ ap (λ n. take n text) (one_count limit text a b p q) ∙ sym q.front_is
 
 one_error : (m : Option Data) (a b : Option (List ℕ)) → SaysError m a → SaysError m b → a ≡ b

@@ -13,7 +13,7 @@ use Rattle.relay_results.specs.declared.done.ItemDone.{ItemDone}
 use Rattle.relay_results.specs.declared.done.DoneResult.{DoneResult}
 use Rattle.relay_results.specs.declared.done.DoneResult.TheVariants as done
 use Rattle.relay_results.specs.Done.{failure, fields_by, entry_data, entries_data, reply_data, reply_text, outcome_of, outcomes_of, HaveStatuses}
-use Rattle.relay_results.specs.Replies.{IsCut, error_limit, error_member, SaysError, IsEntry, AreEntries, IsReply}
+use Rattle.relay_results.specs.Replies.{IsTruncated, error_limit, error_member, SaysError, IsEntry, AreEntries, IsBulkReply}
 
 pub entries_data-map : (ds : List ItemDone) → items_of (map entry_data ds) ≡ entries_data ds
 entries_data-map [] = refl
@@ -54,7 +54,7 @@ reply-depth took ds = let b = entries-depth ds in omega (arith, b)
 -- ---- each entry says its outcome
 
 -- a short text is not cut
-cut_whole : (text : List ℕ) → length text ≤ error_limit → IsCut error_limit text text
+cut_whole : (text : List ℕ) → length text ≤ error_limit → IsTruncated error_limit text text
 cut_whole text h = record {
   count = length text;
   within = h;
@@ -94,7 +94,7 @@ pub says_each : (ds : List ItemDone) → HaveStatuses ds → AreEntries (entries
 says_each [] h = tt
 says_each (d ∷ ds) h = (says_entry d h.0 h.1, says_each ds h.2)
 
-pub reply_back : (text : String Global) (took : ℕ) (ds : List ItemDone) → read (string_bytes text) ≡ Some (reply_data took ds) → HaveStatuses ds → IsReply (string_bytes text) (outcomes_of ds)
+pub reply_back : (text : String Global) (took : ℕ) (ds : List ItemDone) → read (string_bytes text) ≡ Some (reply_data took ds) → HaveStatuses ds → IsBulkReply (string_bytes text) (outcomes_of ds)
 reply_back text took ds r h = record {
   value = reply_data took ds;
   reads = record { utf8 = IsUtf8-string_bytes text; value = r };
@@ -109,5 +109,5 @@ pub text_is : (v : Data) (bytes : List ℕ) (took : ℕ) (ds : List ItemDone) �
 unfolding reply_text
 text_is v bytes took ds e h = h (ap has_float e ∙ reply-no_float took ds) ∙ ap compact_text e
 
-pub read_is : (v : Data) (text : String Global) (took : ℕ) (ds : List ItemDone) → v ≡ reply_data took ds → (depth v ≤ max_depth → read (string_bytes text) ≡ Some v) → HaveStatuses ds → IsReply (string_bytes text) (outcomes_of ds)
+pub read_is : (v : Data) (text : String Global) (took : ℕ) (ds : List ItemDone) → v ≡ reply_data took ds → (depth v ≤ max_depth → read (string_bytes text) ≡ Some v) → HaveStatuses ds → IsBulkReply (string_bytes text) (outcomes_of ds)
 read_is v text took ds e h = reply_back text took ds (h (subst (λ d. depth d ≤ max_depth) (sym e) (reply-depth took ds)) ∙ ap Some e)

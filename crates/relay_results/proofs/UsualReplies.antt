@@ -24,7 +24,7 @@ use Rattle.relay_json.specs.Plain.{IsPlain}
 use Rattle.relay_json.proofs.PlainTexts.{between_quotes, utf8_plain}
 use Rattle.relay_results.specs.declared.outcome.Outcome.{Outcome}
 use Rattle.relay_results.specs.declared.usual.Entry.{Entry}
-use Rattle.relay_results.specs.Replies.{IsEntry, AreEntries, IsReply}
+use Rattle.relay_results.specs.Replies.{IsEntry, AreEntries, IsBulkReply}
 use Rattle.relay_results.specs.Usual.{start_text, type_text, id_text, applied_text, shards_text, place_text, entry_text, more_text, head_text, outcome_of, IsPlainType, IsUsual, AreUsual, HasRead}
 
 -- ---- entries one after another
@@ -424,7 +424,7 @@ read-reply text took e es is n h k =
     let value = ap (json.value max_depth) (told ∙ sym (append-nil _)) ∙ value-json_tokens j max_depth [] (reply_depth took e es) in
     ap (λ o. option_and_then of_json (option_and_then (λ p. json.if_last p.0 p.1) o)) value ∙ reply_reads took e es n (h, k)
 
-pub whole_reply : (bytes : List ℕ) (os : List Outcome) (rest : List ℕ) → HasRead bytes os rest → rest ≡ codes "]}" → IsReply bytes os
+pub whole_reply : (bytes : List ℕ) (os : List Outcome) (rest : List ℕ) → HasRead bytes os rest → rest ≡ codes "]}" → IsBulkReply bytes os
 whole_reply bytes os rest r last =
     let is = r.text ∙ ap (λ t. head_text r.took (entry_text r.first (more_text r.more t))) last in
     let head = after_ascii (codes "{\"took\":") _ refl (after_number r.took _ r.took_fits (after_ascii (codes ",\"errors\":false,\"items\":[") _ refl (utf8_entry r.first (more_text r.more (codes "]}")) r.first_is (utf8_more r.more (codes "]}") r.more_are (IsUtf8-are_ascii (codes "]}") refl))))) in

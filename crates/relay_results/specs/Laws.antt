@@ -11,7 +11,7 @@ use Rattle.relay_results.specs.declared.reading.ReplyFault.{ReplyFault}
 use Rattle.relay_results.specs.declared.reading.ReplyFault.TheVariants as fault
 use Rattle.relay_results.specs.declared.decide.ItemVerdict.TheVariants as verdict
 use Rattle.relay_results.specs.Verdicts.{verdict_of, IsRefused, is_conflict, is_sent_again, is_success}
-use Rattle.relay_results.specs.Replies.{IsReply, IsFaultOf}
+use Rattle.relay_results.specs.Replies.{IsBulkReply, IsFaultOf}
 use Rattle.relay_results.specs.Words.{Mem}
 use Rattle.relay_results.specs.Documents.{Document, document_of, lane_of, same_name}
 use Rattle.relay_results.specs.Matching.{matches}
@@ -79,12 +79,12 @@ RefusedWhateverSent = (kind : ActionKind) (status : ℕ) (has_error : Bool) (sen
 
 -- a text has at most one list of outcomes
 abbrev pub OneReply : Type 0
-OneReply = (text : List ℕ) (os ps : List Outcome) → IsReply text os → IsReply text ps → os ≡ ps
+OneReply = (text : List ℕ) (os ps : List Outcome) → IsBulkReply text os → IsBulkReply text ps → os ≡ ps
 
 -- a reply has no fault other than a failed allocation
 abbrev pub NoFaultOfReply : Type 0
 NoFaultOfReply =
-    (text : List ℕ) (os : List Outcome) (e : ReplyFault) → IsReply text os → IsFaultOf text e → e ≡ fault.Memory
+    (text : List ℕ) (os : List Outcome) (e : ReplyFault) → IsBulkReply text os → IsFaultOf text e → e ≡ fault.Memory
 
 -- a text has at most one fault, apart from a failed allocation
 abbrev pub OneFault : Type 0

@@ -7,7 +7,7 @@ use Rattle.relay_results.specs.declared.reading.EntryFields.{EntryFields}
 use Rattle.relay_results.specs.declared.reading.Entries.{Entries}
 use Rattle.relay_results.specs.declared.reading.ErrorType.{ErrorType}
 use Rattle.relay_results.specs.declared.reading.Reply.{Reply}
-use Rattle.relay_results.specs.Replies.{IsCut, error_limit, error_type, AreEntries, IsBadAt}
+use Rattle.relay_results.specs.Replies.{IsTruncated, error_limit, error_type, AreEntries, IsBadAt}
 
 -- ---- an error
 
@@ -25,7 +25,7 @@ told_error d = if is_some (as_null d) then None else Some (error_type d)
 -- an outcome keeps a prefix of it
 abbrev pub KeepsError : Option (List ℕ) → Option (List ℕ) → Type 0
 KeepsError None kept = kept ≡ None
-KeepsError (Some text) kept = (front : List ℕ) × IsCut error_limit text front × (kept ≡ Some front)
+KeepsError (Some text) kept = (front : List ℕ) × IsTruncated error_limit text front × (kept ≡ Some front)
 
 -- ---- an entry
 

@@ -22,7 +22,7 @@ abbrev pub error_limit : ℕ
 error_limit = 64
 
 -- the longest prefix of a text that is within the limit and ends at a character boundary
-pub record IsCut (limit : ℕ) (text front : List ℕ) : Type 0 where
+pub record IsTruncated (limit : ℕ) (text front : List ℕ) : Type 0 where
   pub count : ℕ
   pub within : count ≤ limit
   pub ends : IsCharBoundary text count
@@ -40,7 +40,7 @@ error_type d = unwrap_or (option_and_then as_str (get (codes "type") d)) []
 -- what an outcome keeps of an error: a prefix of its type
 abbrev pub SaysError : Option Data → Option (List ℕ) → Type 0
 SaysError None error = error ≡ None
-SaysError (Some d) error = (front : List ℕ) × IsCut error_limit (error_type d) front × (error ≡ Some front)
+SaysError (Some d) error = (front : List ℕ) × IsTruncated error_limit (error_type d) front × (error ≡ Some front)
 
 -- An entry is valid if it is an object with one member, named by the kind of the action, whose value is an object
 -- with a string `_id` and an integer `status` from 100 to 599 (OpenSearch, bulk API, response). Members other than
@@ -68,7 +68,7 @@ abbrev pub HasItems : Data → Items → Type 0
 HasItems d ds = get (codes "items") d ≡ Some (array ds)
 
 -- the text is a reply with these outcomes
-pub record IsReply (text : List ℕ) (os : List Outcome) : Type 0 where
+pub record IsBulkReply (text : List ℕ) (os : List Outcome) : Type 0 where
   pub value : Data
   pub reads : ReadsAs text value
   pub entries : Items

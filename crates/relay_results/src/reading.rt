@@ -4,7 +4,7 @@ ghost use Rattle.serde_json.specs.Data.{Data, object, Items, no_items, Members, 
 ghost use Rattle.relay_json.specs.Items.{and_item};
 ghost use Rattle.relay_json.specs.Sole.{SoleObject};
 ghost use Rattle.relay_json.specs.Walks.{IsLeaf, IsRead, IsRefused};
-ghost use Rattle.relay_results.specs.Replies.{IsCut, error_limit, IsEntry, IsNoEntry, IsReply, IsFaultOf};
+ghost use Rattle.relay_results.specs.Replies.{IsTruncated, error_limit, IsEntry, IsNoEntry, IsBulkReply, IsFaultOf};
 ghost use Rattle.relay_results.specs.Parts.{status_of, told_error, KeepsError, HoldsType, HoldsFields, HoldsEntries, HoldsReply};
 
 use crate::outcome::Outcome;
@@ -118,7 +118,7 @@ impl<'t> Fields<'t> for EntryFields<'t> {
 
 // The longest prefix that is within the limit and ends at a character boundary.
 fn cut(text: &str) -> &str
-    ensures { IsCut error_limit text.now result.now }
+    ensures { IsTruncated error_limit text.now result.now }
 {
     &text[..text.floor_char_boundary(ERROR_LIMIT)]
 }
@@ -245,7 +245,7 @@ impl<'t> Gather<'t> for Reply {
 /// Contracts do not see whether an allocation fails, so no clause says that `Memory` is returned
 /// only then.
 pub fn read_reply(alloc: Global, bytes: &[u8]) -> Result<Vec<Outcome>, ReplyFault>
-    ensures ok { IfOk result (λ v. IsReply bytes.now v.items) }
+    ensures ok { IfOk result (λ v. IsBulkReply bytes.now v.items) }
     ensures err { IfErr result (λ e. IsFaultOf bytes.now e) }
 {
     match read_usual(alloc, bytes) {
@@ -256,7 +256,7 @@ pub fn read_reply(alloc: Global, bytes: &[u8]) -> Result<Vec<Outcome>, ReplyFaul
 
 // The same for replies that are not in the usual form.
 fn parse_reply(alloc: Global, bytes: &[u8]) -> Result<Vec<Outcome>, ReplyFault>
-    ensures ok { IfOk result (λ v. IsReply bytes.now v.items) }
+    ensures ok { IfOk result (λ v. IsBulkReply bytes.now v.items) }
     ensures err { IfErr result (λ e. IsFaultOf bytes.now e) }
 {
     let mut scratch = Scratch::new(alloc);

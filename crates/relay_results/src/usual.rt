@@ -2,7 +2,7 @@
 ghost use Rattle.std.specs.Prelude.{◌≡◌, ◌≤◌, ◌<◌, ◌∷◌, ◌++◌, [], length, codes, decimal, IsTrue, IfSome};
 ghost use Rattle.relay_json.specs.Plain.{IsPlain};
 ghost use Rattle.relay_results.specs.declared.usual.Entry.{Entry as EntryModel};
-ghost use Rattle.relay_results.specs.Replies.{IsReply};
+ghost use Rattle.relay_results.specs.Replies.{IsBulkReply};
 ghost use Rattle.relay_results.specs.Usual.{start_text, type_text, id_text, document_text, applied_text, shards_text, place_text, entry_text, head_text, outcome_of, IsPlainType, IsDocument, IsApplied, AreShards, IsPlace, IsUsual, HasRead};
 
 use crate::outcome::Outcome;
@@ -54,7 +54,7 @@ struct Entry<'t> {
 /// was applied, with the members in its order, without blanks, and with texts of ASCII characters
 /// that stand for themselves. `None`: the reply has another form, or an allocation failed.
 pub fn read_usual(alloc: Global, bytes: &[u8]) -> Option<Vec<Outcome>>
-    ensures { IfSome result (λ v. IsReply bytes.now v.items) }
+    ensures { IfSome result (λ v. IsBulkReply bytes.now v.items) }
 {
     let mut outcomes = Vec::new(alloc);
     let mut rest = take_first(alloc, bytes, &mut outcomes)?;

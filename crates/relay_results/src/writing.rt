@@ -4,7 +4,7 @@ ghost use Rattle.serde_json.specs.Data.{object, array};
 ghost use Rattle.serde_json.specs.View.{view, items_view};
 ghost use Rattle.std.specs.List.{list_any};
 ghost use Rattle.relay_results.specs.Done.{failure, result_name, fields_by, entry_data, entries_data, is_failure, reply_data, reply_text, outcomes_of, HaveStatuses};
-ghost use Rattle.relay_results.specs.Replies.{IsReply};
+ghost use Rattle.relay_results.specs.Replies.{IsBulkReply};
 
 use crate::done::{DoneResult, ItemDone};
 use relay_action::ActionKind;
@@ -88,7 +88,7 @@ fn reply_value(alloc: Global, took: u64, items: &[ItemDone]) -> Result<Value, Al
 pub fn write_reply(alloc: Global, took: u64, items: &[ItemDone]) -> Result<String, AllocError>
     ensures text { IfOk result (λ s. string_bytes s ≡ reply_text took items.now) }
     ensures reads_back { IfOk result (λ s. HaveStatuses items.now
-        → IsReply (string_bytes s) (outcomes_of items.now)) }
+        → IsBulkReply (string_bytes s) (outcomes_of items.now)) }
 {
     let value = reply_value(alloc, took, items)?;
     let text = value.to_string(alloc)?;

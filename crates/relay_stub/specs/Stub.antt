@@ -43,12 +43,12 @@ Stubs requests script from to before after (Err fault.Accept) = NoOutput request
 Stubs requests script from to before after (Err fault.Memory) = NoOutput requests script from to fault.Memory × (after ≡ before)
 
 -- the text was written, or after a failed write exactly the first of its bytes
-abbrev pub Sends : Option (List ℕ) → Option (List ℕ) → ℕ → ℕ → List ℕ → Result (Unit {0}) StubFault → Type 0
-Sends before after failed count text (Ok u) = (after ≡ append_known before text) × (count ≡ failed)
-Sends before after failed count text (Err (fault.Write sent)) =
+abbrev pub WritesListing : Option (List ℕ) → Option (List ℕ) → ℕ → ℕ → List ℕ → Result (Unit {0}) StubFault → Type 0
+WritesListing before after failed count text (Ok u) = (after ≡ append_known before text) × (count ≡ failed)
+WritesListing before after failed count text (Err (fault.Write sent)) =
     (sent < length text) × (after ≡ append_known before (take sent text)) × (count ≡ one_more failed)
-Sends before after failed count text (Err fault.Accept) = ⊥
-Sends before after failed count text (Err fault.Memory) = ⊥
+WritesListing before after failed count text (Err fault.Accept) = ⊥
+WritesListing before after failed count text (Err fault.Memory) = ⊥
 
 -- the number of failed calls of the writer after this result
 abbrev pub failed_by : Result (Unit {0}) StubFault → ℕ → ℕ

@@ -8,7 +8,7 @@ use Rattle.relay_http.specs.Framing.{reply_limit}
 use Rattle.relay_http.specs.Connection.{Connection, ahead, fresh, failed_reading, failed_writing}
 use Rattle.relay_http.specs.Request.{IsRequest, RequestPasses, RequestStates, TookRequest, IsFound}
 use Rattle.relay_http.specs.WrittenAnswer.{answer}
-use Rattle.relay_http.specs.WrittenRequest.{Sends}
+use Rattle.relay_http.specs.WrittenRequest.{WritesText}
 use Rattle.relay_http.specs.declared.fault.HttpFault.{HttpFault}
 use Rattle.relay_http.specs.declared.fault.HttpFault.TheVariants as fault
 use Rattle.relay_http.specs.declared.request.HttpRequest.{HttpRequest}
@@ -47,7 +47,7 @@ not_bulk = codes "{\"error\":{\"type\":\"NotBulk\"},\"status\":400}"
 pub record Goes (status : ℕ) (text : List ℕ) (c d : Connection) : Type 0 where
   pub fits : length text ≤ reply_limit
   pub sent : Result (Unit {0}) HttpFault
-  pub message : Sends (answer status text false) c.written d.written sent
+  pub message : WritesText (answer status text false) c.written d.written sent
   pub failed : d.failed ≡ failed_writing sent c.failed
 
 -- one that is longer than a reply may be was not written

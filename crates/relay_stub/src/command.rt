@@ -1,6 +1,6 @@
 //! A fresh stand-in index that serves connections: the function behind `relay stub`.
 ghost use Rattle.std.specs.Prelude.{◌≡◌, MatchResult};
-ghost use Rattle.relay_stub.specs.Stub.{Stubs, IsOutput, NoOutput, Sends, failed_by, exit_of_stub};
+ghost use Rattle.relay_stub.specs.Stub.{Stubs, IsOutput, NoOutput, WritesListing, failed_by, exit_of_stub};
 
 use crate::listing::listing;
 use crate::stub::{ServeError, stub_serve};
@@ -74,7 +74,7 @@ fn output<S: ByteIn + ByteOut + Drop, L: Listen<S>>(
 }
 
 fn send<W: ByteOut>(writer: &mut W, text: &[u8]) -> Result<(), StubFault>
-    ensures { Sends (W.written writer.old) (W.written writer.new) (W.failed writer.old) (W.failed writer.new) text.now result }
+    ensures { WritesListing (W.written writer.old) (W.written writer.new) (W.failed writer.old) (W.failed writer.new) text.now result }
 {
     match write_all(writer, text) {
         Ok(()) => Ok(()),

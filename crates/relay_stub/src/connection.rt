@@ -37,7 +37,7 @@ pub fn serve_connection<S: ByteIn + ByteOut + Drop>(
 {
     match Conn::new(alloc, stream) {
         Ok(mut conn) => {
-            let result = exchange(alloc, &mut conn, index, script);
+            let result = serve_request(alloc, &mut conn, index, script);
             (result, conn.into_stream())
         }
         Err((_, stream)) => (Err(ServeFault { ran: 0 }), stream),
@@ -45,7 +45,7 @@ pub fn serve_connection<S: ByteIn + ByteOut + Drop>(
 }
 
 // Reads a request, and does what it asks for. If there is none, nothing is done.
-fn exchange<S: ByteIn + ByteOut + Drop>(
+fn serve_request<S: ByteIn + ByteOut + Drop>(
     alloc: Global,
     conn: &mut Conn<S>,
     index: &mut Index,

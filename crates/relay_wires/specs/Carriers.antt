@@ -6,7 +6,7 @@ use Rattle.relay_action.specs.declared.write.Write.{Write}
 use Rattle.relay_ndjson.specs.Bulk.{text_of}
 use Rattle.relay_http.specs.Connection.{Connection, IsQuiet, ahead, fresh, is_open, after_reply, failed_reading}
 use Rattle.relay_http.specs.Forms.{Begins, Took, Fails, IsOutside, IsThatOrOutside}
-use Rattle.relay_http.specs.Reply.{IsReply, ReplyStates, ReplyPasses, reply_view}
+use Rattle.relay_http.specs.Reply.{IsReplyMessage, ReplyStates, ReplyPasses, reply_view}
 use Rattle.relay_http.specs.WrittenRequest.{is_host, request}
 use Rattle.relay_http.specs.declared.fault.HttpFault.{HttpFault}
 use Rattle.relay_http.specs.declared.fault.HttpFault.TheVariants as http
@@ -96,8 +96,8 @@ Carries number ws old new (Err fault.Memory) = (c : Connection) × Picks old.fre
 -- the result of reading a reply from a connection, and the connection afterwards
 pub record Reads (c d : Connection) (r : Result HttpReply HttpFault) : Type 0 where
   pub lasts : IsTrue (is_open c.phase)
-  pub answer : MatchResult r (λ reply. Took IsReply (ahead c) (ahead d) (reply_view reply)) (Fails IsReply (ahead c) d.left)
-  pub found : (stream : List ℕ) (there : Begins IsReply stream) → ahead c ≡ Some stream
+  pub answer : MatchResult r (λ reply. Took IsReplyMessage (ahead c) (ahead d) (reply_view reply)) (Fails IsReplyMessage (ahead c) d.left)
+  pub found : (stream : List ℕ) (there : Begins IsReplyMessage stream) → ahead c ≡ Some stream
       → MatchResult r (λ reply. (reply_view reply ≡ there.value) × (ahead d ≡ Some there.rest)) IsOutside
   pub stated : (stream : List ℕ) (f : HttpFault) → ReplyStates stream f → ahead c ≡ Some stream → MatchResult r (λ reply. ⊥) (IsThatOrOutside f)
   pub long : (stream : List ℕ) → ReplyPasses stream → ahead c ≡ Some stream → MatchResult r (λ reply. ⊥) (IsThatOrOutside http.BodyLong)

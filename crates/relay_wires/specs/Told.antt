@@ -7,12 +7,12 @@ use Rattle.relay_lane.specs.declared.wire.WireFault.TheVariants as fault
 use Rattle.relay_http.specs.Reply.{Reply}
 use Rattle.relay_results.specs.declared.reading.ReplyFault.{ReplyFault}
 use Rattle.relay_results.specs.declared.reading.ReplyFault.TheVariants as unread
-use Rattle.relay_results.specs.Replies.{IsReply, IsFaultOf}
+use Rattle.relay_results.specs.Replies.{IsBulkReply, IsFaultOf}
 
 -- The table of statuses: 200 with a readable body tells its entries, 200 with another body that it could not be read,
 -- and any other status itself. Only reading a body allocates.
 abbrev pub Tells : Reply → Result WireReply WireFault → Type 0
-Tells r (Ok (reply.Items outcomes)) = (r.status ≡ 200) × IsReply r.body outcomes.items
+Tells r (Ok (reply.Items outcomes)) = (r.status ≡ 200) × IsBulkReply r.body outcomes.items
 Tells r (Ok (reply.Whole status)) = (r.status ≢ 200) × (status ≡ r.status)
 Tells r (Err fault.Send) = ⊥
 Tells r (Err fault.Lost) = ⊥

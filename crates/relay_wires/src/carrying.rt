@@ -4,7 +4,7 @@ ghost use Rattle.relay_ndjson.specs.Bulk.{text_of};
 ghost use Rattle.relay_http.specs.Connection.{is_open};
 ghost use Rattle.relay_http.specs.Framing.{request_limit};
 ghost use Rattle.relay_http.specs.WrittenRequest.{is_host, request};
-ghost use Rattle.relay_lane.specs.Wires.{IsReply};
+ghost use Rattle.relay_lane.specs.Wires.{IsWireReply};
 ghost use Rattle.relay_wires.specs.Carriers.{AllFree, IsFree, FindsFree, PicksOne, IsWritten, BringsFrom, fault_received};
 
 use crate::told::tell;
@@ -105,7 +105,7 @@ pub(crate) fn bring<S: ByteIn + Drop>(
     requires room { vec_len free.old < vec_capacity free.old }
     requires all_free { AllFree free.old.items }
     ensures brings { BringsFrom conn free.old.items free.new.items result }
-    ensures reply { IsReply result }
+    ensures reply { IsWireReply result }
     ensures free_left { AllFree free.new.items }
     ensures capacity { vec_capacity free.new ≡ vec_capacity free.old }
     ensures grows { vec_len free.new ≤ vec_len free.old + 1 }

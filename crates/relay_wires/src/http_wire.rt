@@ -78,7 +78,7 @@ impl<S: ByteIn + ByteOut + Peek + Drop, D: Dial<S> + Drop> Wire for HttpWire<S, 
     ghost use Rattle.relay_ndjson.specs.Bodies.{AreDealt};
     ghost use Rattle.relay_ndjson.specs.Bulk.{text_of};
     ghost use Rattle.relay_results.specs.Words.{Mem};
-    ghost use Rattle.relay_lane.specs.Wires.{IsReply, without};
+    ghost use Rattle.relay_lane.specs.Wires.{IsWireReply, without};
     ghost use Rattle.relay_wires.specs.Numbered.{numbers};
     ghost use Rattle.relay_wires.specs.Carriers.{Carries, Brings, FitsNone};
 
@@ -126,7 +126,7 @@ impl<S: ByteIn + ByteOut + Peek + Drop, D: Dial<S> + Drop> Wire for HttpWire<S, 
     fn receive(&mut self, number: u64) -> Result<WireReply, WireFault>
         requires { Mem number (numbers self.old.out) }
         ensures out { numbers self.new.out ≡ without number (numbers self.old.out) }
-        ensures reply { IsReply result }
+        ensures reply { IsWireReply result }
         // What is returned is the reply that was read there, by the table of statuses.
         ensures brings { Brings number self.old self.new result }
     {

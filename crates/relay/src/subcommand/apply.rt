@@ -38,7 +38,7 @@ pub fn command<'a>(alloc: Global, name: &'static str) -> Result<Command<'a>, All
 }
 
 /// Runs it over standard input and output.
-pub fn run<R: Input + Print + Eprint + AllocGlobal>(rt: &R, matches: &ArgMatches<'_>) -> Exit {
+pub fn execute<R: Input + Print + Eprint + AllocGlobal>(rt: &R, matches: &ArgMatches<'_>) -> Exit {
     let script = match script_of(rt, matches) {
         Ok(script) => script,
         Err(exit) => return exit,

@@ -68,7 +68,7 @@ pub fn command<'a>(alloc: Global, name: &'static str) -> Result<Command<'a>, All
 }
 
 /// Runs it over standard input and output.
-pub fn run<R: Input + Print + Eprint + AllocGlobal>(rt: &R, matches: &ArgMatches<'_>) -> Exit {
+pub fn execute<R: Input + Print + Eprint + AllocGlobal>(rt: &R, matches: &ArgMatches<'_>) -> Exit {
     let first = matches.get_one::<u64>("first").unwrap_or(1);
     if first > LAST_VERSION {
         return usage(rt, "error: the first version is past the last");

@@ -65,7 +65,7 @@ pub fn command<'a>(alloc: Global, name: &'static str) -> Result<Command<'a>, All
 }
 
 /// Runs it over files and standard output.
-pub fn run<R: Print + Eprint + AllocGlobal>(
+pub fn execute<R: Print + Eprint + AllocGlobal>(
     rt: &R,
     host: HostRuntime,
     matches: &ArgMatches<'_>,

@@ -293,7 +293,7 @@ fn options_of(alloc: Global, matches: &ArgMatches<'_>) -> Result<RunOptions, All
 }
 
 /// Runs it over files, sockets, standard output and standard error.
-pub fn run<R>(rt: &R, host: HostRuntime, matches: &ArgMatches<'_>) -> Exit
+pub fn execute<R>(rt: &R, host: HostRuntime, matches: &ArgMatches<'_>) -> Exit
 where
     R: Print + Eprint + AllocGlobal + Threads + Wait + Clock + Copy + Send + 'static,
 {

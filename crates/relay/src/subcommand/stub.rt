@@ -82,7 +82,7 @@ pub fn command<'a>(alloc: Global, name: &'static str) -> Result<Command<'a>, All
 }
 
 /// Runs it over sockets and standard output.
-pub fn run<R: Print + Eprint + Net + AllocGlobal>(rt: &R, matches: &ArgMatches<'_>) -> Exit {
+pub fn execute<R: Print + Eprint + Net + AllocGlobal>(rt: &R, matches: &ArgMatches<'_>) -> Exit {
     let mut script = match script_of(rt, matches) {
         Ok(script) => script,
         Err(exit) => return exit,

@@ -1,8 +1,8 @@
 //! `relay world`.
 use clap::{ArgMatches, Command};
 use relay_action::StdStream;
-use relay_script::exit::exit_of_script;
-use relay_script::script::{ScriptFault, world_script};
+use relay_scenario::exit::exit_of_script;
+use relay_scenario::script::{ScriptFault, world_script};
 use relay_words::Exit;
 use std::alloc::{AllocError, Global};
 use std::io;
@@ -81,7 +81,7 @@ pub fn command<'a>(alloc: Global, name: &'static str) -> Result<Command<'a>, All
 }
 
 /// Runs it over standard input and output.
-pub fn run<R: Input + Print + Eprint + AllocGlobal>(rt: &R, _: &ArgMatches<'_>) -> Exit {
+pub fn execute<R: Input + Print + Eprint + AllocGlobal>(rt: &R, _: &ArgMatches<'_>) -> Exit {
     let mut reader = StdStream::new(rt.reader());
     let mut writer = StdStream::new(io::writer(rt));
     match world_script(rt.alloc(), &mut reader, &mut writer) {

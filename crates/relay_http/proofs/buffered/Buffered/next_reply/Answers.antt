@@ -1,7 +1,7 @@
 use Rattle.std.proofs.Common.{refl, [], sym, subst}
 use Rattle.relay_http.specs.Framing.{reply_limit}
 use Rattle.relay_http.specs.Body.{IsBody, IsLongBody}
-use Rattle.relay_http.specs.Reply.{IsHeads, IsReply, IsReplyBody}
+use Rattle.relay_http.specs.Reply.{IsHeads, IsReplyMessage, IsReplyBody}
 use Rattle.relay_http.proofs.Stands.{prepend_known-nil}
 use Rattle.relay_http.proofs.Leading.{fails_behind, fails_stated, took_behind}
 use Rattle.relay_http.proofs.Messages.{begins_then, then_leads}
@@ -15,7 +15,7 @@ use Rattle.relay_http.proofs.buffered.Buffered.next_reply.Goals as goal
 
 pub returns-in-Err-clause-answer : goal.returns-in-Err-clause-answer
 returns-in-Err-clause-answer g c =
-    fails_behind IsReply IsHeads [] _ _ _ c.in-Err.fault (begins_then IsHeads IsReplyBody) (sym (prepend_known-nil _)) c.in-Err.ensures.answer
+    fails_behind IsReplyMessage IsHeads [] _ _ _ c.in-Err.fault (begins_then IsHeads IsReplyBody) (sym (prepend_known-nil _)) c.in-Err.ensures.answer
 
 pub returns-in-Err-clause-stated : goal.returns-in-Err-clause-stated
 returns-in-Err-clause-stated g c = λ stream f states stands. stated_outside IsHeads _ _ c.in-Err.fault f c.in-Err.ensures.answer stream states.heads stands
@@ -24,8 +24,8 @@ pub returns-in-Err-framing-clause-answer : goal.returns-in-Err-framing-clause-an
 returns-in-Err-framing-clause-answer g c =
     let t = c.in-Ok.ensures.answer in
     let leads = then_leads IsHeads IsReplyBody (heads_unique 8) t.front c.in-Ok.info (heads_either 8 t.front t.ends c.in-Ok.info t.message) in
-    fails_stated IsReply _ _ c.in-Err-framing.fault (info_stated 8 t.front t.ends c.in-Ok.info t.message c.in-Err-framing.fault c.in-Err-framing.is)
-    (refused_here IsReply t.front _ c.read_heads.new.self.window (g.S.ByteStream.left c.read_heads.new.self.stream) t.split (λ s b. stated_never c.in-Ok.info c.in-Err-framing.fault c.in-Err-framing.is s (leads.peel s b).0))
+    fails_stated IsReplyMessage _ _ c.in-Err-framing.fault (info_stated 8 t.front t.ends c.in-Ok.info t.message c.in-Err-framing.fault c.in-Err-framing.is)
+    (refused_here IsReplyMessage t.front _ c.read_heads.new.self.window (g.S.ByteStream.left c.read_heads.new.self.stream) t.split (λ s b. stated_never c.in-Ok.info c.in-Err-framing.fault c.in-Err-framing.is s (leads.peel s b).0))
 
 pub returns-in-Err-framing-clause-stated : goal.returns-in-Err-framing-clause-stated
 returns-in-Err-framing-clause-stated g c = λ stream f states stands.
@@ -35,7 +35,7 @@ pub returns-in-Err-read_body-clause-answer : goal.returns-in-Err-read_body-claus
 returns-in-Err-read_body-clause-answer g c =
     let t = c.in-Ok.ensures.answer in
     let leads = then_leads IsHeads IsReplyBody (heads_unique 8) t.front c.in-Ok.info (heads_either 8 t.front t.ends c.in-Ok.info t.message) in
-    fails_behind IsReply (IsBody reply_limit c.in-Ok-framing.framing) t.front _ _ _ c.in-Err-read_body.fault (λ s b. begins_body c.in-Ok.info c.in-Ok-framing.framing c.in-Ok-framing.is s (leads.peel s b).0) t.split c.in-Err-read_body.ensures.answer
+    fails_behind IsReplyMessage (IsBody reply_limit c.in-Ok-framing.framing) t.front _ _ _ c.in-Err-read_body.fault (λ s b. begins_body c.in-Ok.info c.in-Ok-framing.framing c.in-Ok-framing.is s (leads.peel s b).0) t.split c.in-Err-read_body.ensures.answer
 
 pub returns-in-Err-read_body-clause-stated : goal.returns-in-Err-read_body-clause-stated
 returns-in-Err-read_body-clause-stated g c = λ stream f states stands.
@@ -46,7 +46,7 @@ returns-clause-answer g c =
     let t = c.in-Ok.ensures.answer in
     let leads = then_leads IsHeads IsReplyBody (heads_unique 8) t.front c.in-Ok.info (heads_either 8 t.front t.ends c.in-Ok.info t.message) in
     let e = c.in-Ok-read_body.ensures.answer in
-    took_behind IsReply (IsReplyBody c.in-Ok.info) t.front _ _ _ _ leads t.split (record {
+    took_behind IsReplyMessage (IsReplyBody c.in-Ok.info) t.front _ _ _ _ leads t.split (record {
       front = e.front;
       ends = e.ends;
       message = record { framing = c.in-Ok-framing.framing; framed = c.in-Ok-framing.is; body = e.message; status_is = refl; keep_is = c.keeps.ensures };
@@ -59,16 +59,16 @@ returns-clause-stated g c = λ stream f states stands.
     absurd (stated_framed IsHeads (heads_unique 8) (λ i. i.framing) _ _ c.in-Ok.info c.in-Ok.ensures.answer stream states.heads stands f c.in-Ok-framing.framing states.fault_is c.in-Ok-framing.is)
 
 pub returns-in-Err-clause-found : goal.returns-in-Err-clause-found
-returns-in-Err-clause-found g c = λ stream there stands. fails_found IsReply _ _ c.in-Err.fault (returns-in-Err-clause-answer g c) stream there stands
+returns-in-Err-clause-found g c = λ stream there stands. fails_found IsReplyMessage _ _ c.in-Err.fault (returns-in-Err-clause-answer g c) stream there stands
 
 pub returns-in-Err-framing-clause-found : goal.returns-in-Err-framing-clause-found
-returns-in-Err-framing-clause-found g c = λ stream there stands. fails_found IsReply _ _ c.in-Err-framing.fault (returns-in-Err-framing-clause-answer g c) stream there stands
+returns-in-Err-framing-clause-found g c = λ stream there stands. fails_found IsReplyMessage _ _ c.in-Err-framing.fault (returns-in-Err-framing-clause-answer g c) stream there stands
 
 pub returns-in-Err-read_body-clause-found : goal.returns-in-Err-read_body-clause-found
-returns-in-Err-read_body-clause-found g c = λ stream there stands. fails_found IsReply _ _ c.in-Err-read_body.fault (returns-in-Err-read_body-clause-answer g c) stream there stands
+returns-in-Err-read_body-clause-found g c = λ stream there stands. fails_found IsReplyMessage _ _ c.in-Err-read_body.fault (returns-in-Err-read_body-clause-answer g c) stream there stands
 
 pub returns-clause-found : goal.returns-clause-found
-returns-clause-found g c = λ stream there stands. took_found IsReply reply_unique _ _ _ (returns-clause-answer g c) stream there stands
+returns-clause-found g c = λ stream there stands. took_found IsReplyMessage reply_unique _ _ _ (returns-clause-answer g c) stream there stands
 
 pub returns-in-Err-clause-long : goal.returns-in-Err-clause-long
 returns-in-Err-clause-long g c = λ stream passes stands. stated_outside IsHeads _ _ c.in-Err.fault _ c.in-Err.ensures.answer stream passes.heads stands

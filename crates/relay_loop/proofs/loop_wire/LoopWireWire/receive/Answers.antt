@@ -19,17 +19,17 @@ returns-clause-out c = rw (c.take.ensures.besides, ← c.self.view_is) (numbers-
 pub returns-clause-received : goal.returns-clause-received
 returns-clause-received c ws may is =
     let inside : Loop = record { index = c.self.inside.index; script = c.self.inside.script; lost = c.self.inside.lost.items; out = c.self.inside.out.items } in
-    let v : Loop = record { index = c.exchange.new.index; script = c.exchange.new.script; lost = c.self.inside.lost.items; out = c.take.new.out.items } in
-    receives c.args.self.now v inside c.args.number ws c.is_lost-lost.result c.in-Some.bytes c.into_vec.result.items c.exchange.result c.self.view_is c.is_lost-lost.ensures
-    (sym c.take.ensures.found ∙ c.in-Some.is) c.into_vec.ensures is (c.exchange.ensures.exchanged ws may)
+    let v : Loop = record { index = c.round_trip.new.index; script = c.round_trip.new.script; lost = c.self.inside.lost.items; out = c.take.new.out.items } in
+    receives c.args.self.now v inside c.args.number ws c.is_lost-lost.result c.in-Some.bytes c.into_vec.result.items c.round_trip.result c.self.view_is c.is_lost-lost.ensures
+    (sym c.take.ensures.found ∙ c.in-Some.is) c.into_vec.ensures is (c.round_trip.ensures.exchanged ws may)
 
 pub returns-clause-outside : goal.returns-clause-outside
 returns-clause-outside c described o fits =
     let inside : Loop = record { index = c.self.inside.index; script = c.self.inside.script; lost = c.self.inside.lost.items; out = c.self.inside.out.items } in
-    let v : Loop = record { index = c.exchange.new.index; script = c.exchange.new.script; lost = c.self.inside.lost.items; out = c.take.new.out.items } in
-    received_fits c.args.self.now v o c.args.number c.exchange.result
+    let v : Loop = record { index = c.round_trip.new.index; script = c.round_trip.new.script; lost = c.self.inside.lost.items; out = c.take.new.out.items } in
+    received_fits c.args.self.now v o c.args.number c.round_trip.result
     (record { out = c.take.ensures.besides ∙ ap (λ (w : Loop). besides c.args.number w.out) c.self.view_is; lost = ap (λ (w : Loop). w.lost) c.self.view_is })
     c.requires
-    (λ ws may is. receives c.args.self.now v inside c.args.number ws c.is_lost-lost.result c.in-Some.bytes c.into_vec.result.items c.exchange.result c.self.view_is c.is_lost-lost.ensures
-    (sym c.take.ensures.found ∙ c.in-Some.is) c.into_vec.ensures is (c.exchange.ensures.exchanged ws may))
+    (λ ws may is. receives c.args.self.now v inside c.args.number ws c.is_lost-lost.result c.in-Some.bytes c.into_vec.result.items c.round_trip.result c.self.view_is c.is_lost-lost.ensures
+    (sym c.take.ensures.found ∙ c.in-Some.is) c.into_vec.ensures is (c.round_trip.ensures.exchanged ws may))
     fits

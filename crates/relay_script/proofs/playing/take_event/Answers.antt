@@ -1,8 +1,0 @@
-use Rattle.relay_script.proofs.Underway.{no_event_on}
-use Rattle.relay_script.proofs.playing.take_event.Goals as goal
-
-pub returns-in-Err-read_event-clause-event : goal.returns-in-Err-read_event-clause-event
-returns-in-Err-read_event-clause-event g c =
-    let taken = rw c.in-Ok-true.field-0-test at c.in-Ok-true.ensures.line in
-    let bad = rw c.text.ensures at c.in-Err-read_event.ensures.err in
-    rw (c.fault_at.ensures, c.count.ensures) (no_event_on _ _ c.args.lines.now.count c.take_line.new.lines.count c.take_line.new.lines.text c.in-Err-read_event.fault taken.0 taken.1 bad)
