@@ -44,13 +44,12 @@ enum Message {
     Mark,
     // An operation or a Done.
     Other,
-    // Nothing is queued, and an answer is awaited.
+    // Nothing is queued, and no place in flight is free.
     Nothing,
 }
 
-// The next message; `None` if nothing is queued and an answer is awaited, for which it would wait
-// in vain.
-fn next_mail<R: Wait>(rt: &R, take: &mut LaneTake, awaits: bool) -> Result<Option<Mail>, Gone>
+// The next message. If no place in flight is free it does not wait: `None` if nothing is queued.
+fn next_mail<R: Wait>(rt: &R, take: &mut LaneTake, is_full: bool) -> Result<Option<Mail>, Gone>
     ensures same { (take.new.queue ≡ take.old.queue) × (take.new.senders ≡ take.old.senders) }
     ensures taken { IfOk result (λ o. IfSome o (λ m. take.new.taken ≡ take.old.taken ++ m ∷ [])) }
     ensures sender { IfOk result (λ o. IfSome o (λ m. m.sender < take.old.senders)) }
@@ -58,7 +57,7 @@ fn next_mail<R: Wait>(rt: &R, take: &mut LaneTake, awaits: bool) -> Result<Optio
     ensures none { IfOk result (λ o. IfNone o (take.new ≡ take.old)) }
     ensures gone { IfErr result (λ _. take.new ≡ take.old) }
 {
-    if awaits {
+    if is_full {
         return take.try_take(rt);
     }
     match take.take(rt) {
@@ -87,8 +86,8 @@ fn take_message<R: Wait>(
     ensures early { IfErr result (λ kind. kind ≢ LaneEndKind.Finished) }
     ensures heard { IfErr result (λ kind. Heard kind take.new.taken take.old.taken) }
 {
-    let awaits = lane.flying() > 0;
-    let mail = match next_mail(rt, take, awaits) {
+    let is_full = lane.flying() >= lane.in_flight();
+    let mail = match next_mail(rt, take, is_full) {
         Ok(Some(mail)) => mail,
         Ok(None) => return Ok(Message::Nothing),
         Err(_) => return Err(LaneEndKind::Gone),
@@ -106,7 +105,7 @@ fn take_message<R: Wait>(
 }
 
 // Waits for answers after a message: for all after a Tick or a Flush, once all that is ready is
-// sent; for one if nothing is queued, or if the next request cannot go before.
+// sent; for one if no place in flight is free.
 fn settle_some<W: Wire>(lane: &mut Lane, wire: &mut W, message: Message) -> Result<(), AllocError>
     requires out { W.out wire.old ≡ out_of lane.old.state }
     ensures out { W.out wire.new ≡ out_of lane.new.state }
@@ -260,16 +259,16 @@ fn work<R: Wait, W: Wire, P: Pace>(
 }
 
 /// A lane's thread. Until each sender's Done was taken it makes room if as many operations are held as
-/// may be, takes one message, and sends what is ready. It takes messages while requests are in flight,
-/// at most as many as one request carries once all places are taken, and waits for the oldest answer
-/// when nothing is queued or the next request cannot go before; after a Tick or a Flush it waits for
-/// every answer. Then it works until nothing is held. It waits for messages, for the wire and for the
-/// pace, and nothing else. However it ends, what is in flight is waited for and settled first.
+/// may be, takes one message, and sends what is ready. If no place in flight is free, it takes at most
+/// as many operations as one request carries, and then, or once nothing is queued, waits for the oldest
+/// answer and settles it; after a Tick or a Flush it waits for every answer. Then it works until
+/// nothing is held. It waits for messages, for the wire and for the pace, and nothing else. However it
+/// ends, it first waits for what is in flight and settles it.
 ///
 /// It ends as Memory if the allocation for an operation that it took or for a request failed, and as
-/// Gone if the queue says that all senders are dropped, of which not each had closed; [`LaneEnd`]
-/// says what stands then. In each case what the lane heard of its queue is delivered soundly beside each
-/// outside that the wire describes, and if it ends as Finished completely.
+/// Gone if the queue says that all senders are dropped but not all had closed; [`LaneEnd`] says what
+/// holds then. In each case delivery of what the lane heard from its queue is sound for each outside
+/// that the wire describes, and complete if it ends as Finished.
 pub fn run_lane<R: Wait, W: Wire, P: Pace + Drop>(
     rt: &R,
     take: LaneTake,
