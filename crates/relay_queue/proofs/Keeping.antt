@@ -71,7 +71,7 @@ log_send log x well unclosed number p =
     (λ (e : (eqb x.sender p ≡ false) × (x.sender ≢ p)). subst IsWellSent (sym (mail_of-other p log x e.1)) (well p)) (eqb_tells x.sender p)
 
 pub sends : (state : Bool) (n pass : ℕ) (v : Knowledge) (x : Mail) → IsSender false v → capacity_of v ≡ n → sender_of v ≡ x.sender → x.number ≡ length (sent_of v) + 1
-    → (¬ HasDone (sent_of v) → ClosedAs state (sent_of v ++ x ∷ [])) → Pushes Delivers n pass v x (step.Sends state v x)
+    → (¬ HasDone (sent_of v) → ClosedAs state (sent_of v ++ x ∷ [])) → Pushes Delivers n pass v x (step.SendsNext state v x)
 sends state n pass (Sender capacity sender sent closed) x open_one places mine number now queued passes room h at =
     let history = h.history in
     let me : Fits history pass (Sender capacity sender sent closed) = h.known pass (Sender capacity sender sent closed) at in
