@@ -11,4 +11,6 @@ mod inputs;
 #[cfg(test)]
 mod lines;
 #[cfg(test)]
+mod refusals;
+#[cfg(test)]
 mod written;

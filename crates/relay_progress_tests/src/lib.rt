@@ -9,6 +9,8 @@ mod lines;
 #[cfg(test)]
 mod readers;
 #[cfg(test)]
+mod refusals;
+#[cfg(test)]
 mod shown;
 #[cfg(test)]
 mod wires;

@@ -12,9 +12,9 @@ use relay_results::Outcome;
 use std::alloc::Global;
 use std::sync::Arc;
 
-// What a wire does with a request.
+/// What a wire does with a request.
 #[derive(Clone, Copy, Debug, PartialEq, Eq)]
-enum Plan {
+pub enum Plan {
     // It returns an entry with this status.
     Entry(u16),
     // It returns this status for the request as a whole.
@@ -105,8 +105,8 @@ fn asks<W: Wire>(alloc: Global, wire: &mut W) -> Option<bool>
     Some(wire.receive(1).is_ok())
 }
 
-// Whether a counted wire has a result.
-fn asks_counted(alloc: Global, plan: Plan, counts: Option<Shared>) -> Option<bool> {
+/// Whether a counted wire has a result.
+pub fn asks_counted(alloc: Global, plan: Plan, counts: Option<Shared>) -> Option<bool> {
     let planned = Planned {
         alloc,
         plan,

@@ -5,3 +5,5 @@
 mod lines;
 #[cfg(test)]
 mod picks;
+#[cfg(test)]
+mod refusals;

@@ -27,6 +27,7 @@ pub struct Desk<'a> {
     handed: usize,
     closed: usize,
     wrong: usize,
+    unanswered: usize,
     accepted: u64,
     failed: u64,
 }
@@ -41,6 +42,7 @@ impl<'a> Desk<'a> {
             handed: 0,
             closed: 0,
             wrong: 0,
+            unanswered: 0,
             accepted: 0,
             failed: 0,
         }
@@ -50,6 +52,12 @@ impl<'a> Desk<'a> {
     /// as expected.
     pub fn served(&self, visits: usize) -> bool {
         self.handed == visits && self.closed == visits && self.wrong == 0
+    }
+
+    /// Whether that many connections were handed out and taken back, and each was written its answer
+    /// or nothing.
+    pub fn answered_or_dropped(&self, visits: usize) -> bool {
+        self.handed == visits && self.closed == visits && self.wrong == self.unanswered
     }
 
     // The stream of the next connection, if there is one and it can be allocated.
@@ -98,6 +106,9 @@ impl Listen<MemStream> for Desk<'_> {
     fn close(&mut self, stream: MemStream) {
         if !self.right(stream.written()) {
             self.wrong = self.wrong.saturating_add(1);
+            if stream.written().is_empty() {
+                self.unanswered = self.unanswered.saturating_add(1);
+            }
         }
         self.closed = self.closed.saturating_add(1);
     }

@@ -5,13 +5,13 @@ use relay_stub::command::{StubFault, exit_of_stub, stub};
 use relay_words::Exit;
 use std::alloc::Global;
 
-const DELETES: &[u8] =
+pub const DELETES: &[u8] =
     b"POST /_bulk HTTP/1.1\r\nHost: h\r\nContent-Length: 297\r\n\r\n{\"delete\":{\"_id\":\"2\",\"_index\":\"b\",\"version\":1,\"version_type\":\"external\"}}\n{\"delete\":{\"_id\":\"3\",\"_index\":\"b\",\"version\":2,\"version_type\":\"external\"}}\n{\"delete\":{\"_id\":\"10\",\"_index\":\"b\",\"version\":3,\"version_type\":\"external\"}}\n{\"delete\":{\"_id\":\"9\",\"_index\":\"a\",\"version\":4,\"version_type\":\"external\"}}\n";
 
-const ANSWER: &[u8] =
+pub const ANSWER: &[u8] =
     b"HTTP/1.1 200 OK\r\nContent-Type: application/json\r\nContent-Length: 405\r\nConnection: close\r\n\r\n{\"errors\":true,\"items\":[{\"delete\":{\"_id\":\"2\",\"_index\":\"b\",\"_seq_no\":0,\"_version\":1,\"result\":\"not_found\",\"status\":404}},{\"delete\":{\"_id\":\"3\",\"_index\":\"b\",\"error\":{\"type\":\"scripted_refusal\"},\"status\":503}},{\"delete\":{\"_id\":\"10\",\"_index\":\"b\",\"_seq_no\":1,\"_version\":3,\"result\":\"not_found\",\"status\":404}},{\"delete\":{\"_id\":\"9\",\"_index\":\"a\",\"_seq_no\":2,\"_version\":4,\"result\":\"not_found\",\"status\":404}}],\"took\":0}";
 
-const LINES: &[u8] = b"applied a/9 4 delete\napplied b/10 3 delete\napplied b/2 1 delete\n";
+pub const LINES: &[u8] = b"applied a/9 4 delete\napplied b/10 3 delete\napplied b/2 1 delete\n";
 
 // The result of the command over a connection with these deletes, with this room for output, if
 // this many connections are requested; and whether this is what it wrote.

@@ -8,4 +8,6 @@ mod desk;
 #[cfg(test)]
 mod ends;
 #[cfg(test)]
+mod refusals;
+#[cfg(test)]
 mod visits;

@@ -1,0 +1,458 @@
+//! Calls over bulk text, of whose allocations any one may be refused (`make refusals`): the refusal is
+//! told, and says what it leaves.
+use relay_action::{Action, ActionKind, DocKey, MemStream, Write};
+use relay_json::Scratch;
+use relay_ndjson::action_line::action_of;
+use relay_ndjson::{
+    Input, InputFault, LineKind, LineReader, Parser, TextFault, append_action_line, append_bulk,
+    append_write, bulk_text, read_action, read_bulk, read_source, write_write,
+};
+use std::alloc::{AllocError, Global};
+
+const ID: &str = "an id with a \"quote\", of more than thirty-eight bytes";
+
+const SOURCE: &str = "{\"title\":\"a source of more than thirty-eight bytes\"}";
+
+/// An index action on that document under version 7, and a delete under version 8.
+const INDEXED: &[u8] =
+    b"x{\"index\":{\"_id\":\"an id with a \\\"quote\\\", of more than thirty-eight bytes\",\"_index\":\"books\",\"version\":7,\"version_type\":\"external\"}}\n{\"title\":\"a source of more than thirty-eight bytes\"}\n";
+
+const BOTH: &[u8] =
+    b"x{\"index\":{\"_id\":\"an id with a \\\"quote\\\", of more than thirty-eight bytes\",\"_index\":\"books\",\"version\":7,\"version_type\":\"external\"}}\n{\"title\":\"a source of more than thirty-eight bytes\"}\n{\"delete\":{\"_id\":\"an id with a \\\"quote\\\", of more than thirty-eight bytes\",\"_index\":\"books\",\"version\":8,\"version_type\":\"external\"}}\n";
+
+fn write_once(alloc: Global, version: u64) -> Option<Write> {
+    let action = if version == 7 {
+        Action::index(alloc, SOURCE).ok()?
+    } else {
+        Action::delete()
+    };
+    Some(Write {
+        key: DocKey::new(alloc, "books", ID).ok()?,
+        version,
+        action,
+    })
+}
+
+fn write_of(alloc: Global, version: u64) -> Option<Write> {
+    write_once(alloc, version).or_else(|| write_once(alloc, version))
+}
+
+/// A text of one byte.
+const BEGUN: &[u8] = b"x";
+
+fn begun(alloc: Global) -> Option<Vec<u8>> {
+    BEGUN.to_vec(alloc).or_else(|_| BEGUN.to_vec(alloc)).ok()
+}
+
+// Appends the lines of a write, or its action line alone.
+fn append(alloc: Global, text: &mut Vec<u8>, write: &Write, whole: bool) -> Result<(), AllocError> {
+    if whole {
+        append_write(alloc, text, write)
+    } else {
+        append_action_line(alloc, text, write)
+    }
+}
+
+// Whether they are appended, by a second call if the first was refused and left the text as it was.
+fn appends(alloc: Global, text: &mut Vec<u8>, write: &Write, whole: bool) -> bool {
+    match append(alloc, text, write, whole) {
+        Ok(()) => true,
+        Err(AllocError) => text.as_slice() == BEGUN && append(alloc, text, write, whole).is_ok(),
+    }
+}
+
+// Whether a text has the lines of a write, or its action line, after what it had.
+fn has_lines(alloc: Global, write: &Write, whole: bool) -> Option<bool> {
+    let mut text = begun(alloc)?;
+    let good = appends(alloc, &mut text, write, whole);
+    let line = INDEXED.len().saturating_sub(SOURCE.len()).saturating_sub(1);
+    let wanted = INDEXED.get(..(if whole { INDEXED.len() } else { line }))?;
+    Some(good && text.as_slice() == wanted)
+}
+
+fn has_lines_of(alloc: Global, whole: bool) -> Option<bool> {
+    let write = write_of(alloc, 7)?;
+    has_lines(alloc, &write, whole)
+}
+
+#[test]
+fn refused_lines(rt: HostRuntime) {
+    for whole in [true, false] {
+        assert!(rt; has_lines_of(rt.alloc(), whole) == Some(true));
+    }
+}
+
+// Whether the lines of two writes are appended, by a second call if the first was refused and left those of a front of them,
+// fewer than all.
+fn appends_all(text: &mut Vec<u8>, writes: &[Write]) -> bool {
+    match append_bulk(text, writes) {
+        Ok(()) => true,
+        Err(AllocError) => {
+            let front = text.as_slice() == BEGUN || text.as_slice() == INDEXED;
+            text.truncate(BEGUN.len());
+            front && append_bulk(text, writes).is_ok()
+        }
+    }
+}
+
+fn has_all(alloc: Global, writes: &[Write]) -> Option<bool> {
+    let mut text = begun(alloc)?;
+    let good = appends_all(&mut text, writes);
+    Some(good && text.as_slice() == BOTH)
+}
+
+fn text_of(alloc: Global, writes: &[Write]) -> Option<Vec<u8>> {
+    match bulk_text(alloc, writes) {
+        Ok(text) => Some(text),
+        Err(AllocError) => bulk_text(alloc, writes).ok(),
+    }
+}
+
+fn has_text(alloc: Global, writes: &[Write]) -> Option<bool> {
+    let text = text_of(alloc, writes)?;
+    Some(BOTH.get(BEGUN.len()..) == Some(text.as_slice()))
+}
+
+fn are_appended(alloc: Global) -> Option<bool> {
+    let writes = [write_of(alloc, 7)?, write_of(alloc, 8)?];
+    Some(has_all(alloc, writes.as_slice())? && has_text(alloc, writes.as_slice())?)
+}
+
+#[test]
+fn refused_bulk_text(rt: HostRuntime) {
+    assert!(rt; are_appended(rt.alloc()) == Some(true));
+}
+
+fn stream_once(alloc: Global, input: &[u8]) -> Option<MemStream> {
+    MemStream::new(alloc, input.to_vec(alloc).ok()?, 1_000, 7, 0).ok()
+}
+
+fn stream_of(alloc: Global, input: &[u8]) -> Option<MemStream> {
+    stream_once(alloc, input).or_else(|| stream_once(alloc, input))
+}
+
+// Whether the lines of a write go out, by a second call if the first was refused before anything went out.
+fn goes_out(alloc: Global, out: &mut MemStream, write: &Write) -> bool {
+    match write_write(alloc, out, write) {
+        Ok(()) => true,
+        Err(fault) => {
+            let refused = fault == TextFault::Memory && out.written().is_empty();
+            refused && write_write(alloc, out, write).is_ok()
+        }
+    }
+}
+
+fn has_gone_out(alloc: Global) -> Option<bool> {
+    let write = write_of(alloc, 7)?;
+    let mut out = stream_of(alloc, b"")?;
+    let good = goes_out(alloc, &mut out, &write);
+    Some(good && INDEXED.get(BEGUN.len()..) == Some(out.written()))
+}
+
+#[test]
+fn refused_writes_to_a_stream(rt: HostRuntime) {
+    assert!(rt; has_gone_out(rt.alloc()) == Some(true));
+}
+
+fn is_write(write: &Write, version: u64) -> bool {
+    let source = match &write.action {
+        Action::Index(source) => Some(source.text()),
+        Action::Delete => None,
+    };
+    write.key.id() == ID
+        && write.key.index() == "books"
+        && write.version == version
+        && source == (if version == 7 { Some(SOURCE) } else { None })
+}
+
+fn are_writes(writes: &[Write]) -> bool {
+    match writes {
+        [one, other] => is_write(one, 7) && is_write(other, 8),
+        _ => false,
+    }
+}
+
+// Whether a body is read as the two writes.
+fn read_writes(alloc: Global, body: &[u8]) -> Result<bool, LineKind> {
+    match read_bulk(alloc, body) {
+        Ok(writes) => Ok(are_writes(writes.as_slice())),
+        Err(fault) => Err(fault.kind),
+    }
+}
+
+// The same, by a second call if the first was refused.
+fn reads_writes(alloc: Global, body: &[u8]) -> bool {
+    match read_writes(alloc, body) {
+        Err(LineKind::Memory) => read_writes(alloc, body) == Ok(true),
+        read => read == Ok(true),
+    }
+}
+
+#[test]
+fn refused_bodies(rt: HostRuntime) {
+    let body = BOTH.get(BEGUN.len()..).unwrap_or(b"");
+    assert!(rt; reads_writes(rt.alloc(), body));
+}
+
+const PLAIN_ID: &str = "an id of no quote, but of more than thirty-eight bytes";
+
+/// Action lines in the usual form, and in another one, with their ids.
+const ACTIONS: &[(&[u8], &str)] = &[
+    (
+        b"{\"index\":{\"_index\":\"books\",\"_id\":\"an id of no quote, but of more than thirty-eight bytes\"}}",
+        PLAIN_ID,
+    ),
+    (
+        b"{\"index\":{\"_id\":\"an id with a \\\"quote\\\", of more than thirty-eight bytes\",\"_index\":\"books\"}}",
+        ID,
+    ),
+];
+
+// Whether an action line is read as the index action on the document of this id.
+fn read_key(alloc: Global, line: &[u8], scratch: &mut Scratch, id: &str) -> Result<bool, LineKind> {
+    match read_action(alloc, None, line, scratch) {
+        Ok((kind, key)) => {
+            Ok(kind == ActionKind::Index && key.index() == "books" && key.id() == id)
+        }
+        Err(kind) => Err(kind),
+    }
+}
+
+// The same, by a second call with the same scratch if the first was refused.
+fn reads_key(alloc: Global, line: &[u8], id: &str) -> bool {
+    let mut scratch = Scratch::new(alloc);
+    match read_key(alloc, line, &mut scratch, id) {
+        Err(LineKind::Memory) => read_key(alloc, line, &mut scratch, id) == Ok(true),
+        read => read == Ok(true),
+    }
+}
+
+// Whether an action line says by itself that it indexes, and gives a document's index and id.
+fn read_members(line: &[u8], scratch: &mut Scratch) -> Result<bool, LineKind> {
+    match action_of(line, scratch) {
+        Ok((kind, metadata)) => {
+            let document = metadata.index.is_some() && metadata.id.is_some();
+            Ok(kind == ActionKind::Index && document && !metadata.has_other)
+        }
+        Err(kind) => Err(kind),
+    }
+}
+
+// The same, by a second call with the same scratch if the first was refused.
+fn reads_members(alloc: Global, line: &[u8]) -> bool {
+    let mut scratch = Scratch::new(alloc);
+    match read_members(line, &mut scratch) {
+        Err(LineKind::Memory) => read_members(line, &mut scratch) == Ok(true),
+        read => read == Ok(true),
+    }
+}
+
+fn is_source(action: &Action) -> bool {
+    match action {
+        Action::Index(source) => source.text() == SOURCE,
+        Action::Delete => false,
+    }
+}
+
+fn read_text(alloc: Global) -> Result<bool, LineKind> {
+    match read_source(alloc, SOURCE.as_bytes()) {
+        Ok(action) => Ok(is_source(&action)),
+        Err(kind) => Err(kind),
+    }
+}
+
+fn reads_text(alloc: Global) -> bool {
+    match read_text(alloc) {
+        Err(LineKind::Memory) => read_text(alloc) == Ok(true),
+        read => read == Ok(true),
+    }
+}
+
+#[test]
+fn refused_action_lines(rt: HostRuntime) {
+    for (line, id) in ACTIONS {
+        assert!(rt; reads_key(rt.alloc(), line, id) && reads_members(rt.alloc(), line));
+    }
+    assert!(rt; reads_text(rt.alloc()));
+}
+
+/// Two operations, the second on the lines 3 and 4.
+const INPUT: &[u8] =
+    b"{\"delete\":{\"_index\":\"books\",\"_id\":\"an id with a \\\"quote\\\", of more than thirty-eight bytes\"}}\n\n{\"index\":{\"_index\":\"books\",\"_id\":\"an id with a \\\"quote\\\", of more than thirty-eight bytes\"}}\n{\"title\":\"a source of more than thirty-eight bytes\"}\n";
+
+/// What a step through an input gives.
+#[derive(Clone, Copy, PartialEq)]
+enum Step {
+    Deletes,
+    Indexes,
+    Ends,
+    Breaks(InputFault),
+    Other,
+}
+
+fn step_of(found: Result<Option<(DocKey, Action)>, InputFault>) -> Step {
+    match found {
+        Ok(Some((key, action))) => {
+            if key.id() != ID || key.index() != "books" {
+                Step::Other
+            } else if is_source(&action) {
+                Step::Indexes
+            } else if matches!(action, Action::Delete) {
+                Step::Deletes
+            } else {
+                Step::Other
+            }
+        }
+        Ok(None) => Step::Ends,
+        Err(fault) => Step::Breaks(fault),
+    }
+}
+
+/// An input that is asked for a step after another, and the line of the operation that it gave last.
+trait Steps {
+    fn step(&mut self) -> Step;
+
+    fn line(&self) -> u64;
+}
+
+impl Steps for Input<'static, MemStream> {
+    fn step(&mut self) -> Step {
+        step_of(self.next())
+    }
+
+    fn line(&self) -> u64 {
+        Input::line(self)
+    }
+}
+
+/// A parser, and the stream that it does not own.
+#[derive(Drop)]
+struct Parsing {
+    parser: Parser<'static>,
+    stream: MemStream,
+}
+
+impl Steps for Parsing {
+    fn step(&mut self) -> Step {
+        step_of(self.parser.next(&mut self.stream))
+    }
+
+    fn line(&self) -> u64 {
+        self.parser.line()
+    }
+}
+
+/// How an input was read.
+#[derive(Clone, Copy, PartialEq)]
+enum Reading {
+    Whole,
+    /// To a line of the next operation for which there was no memory, and failed on it from then on.
+    Refused,
+    Wrong,
+}
+
+// How an input goes on after a step that did not give the operation after this line. Its next operation is on the lines from
+// here to there.
+fn stopped<S: Steps>(input: &mut S, step: Step, line: u64, from: u64, to: u64) -> Reading {
+    let Step::Breaks(fault) = step else {
+        return Reading::Wrong;
+    };
+    let failed = Step::Breaks(InputFault {
+        line: fault.line,
+        kind: LineKind::Failed,
+    });
+    let refused = fault.kind == LineKind::Memory && from <= fault.line && fault.line <= to;
+    if refused && input.line() == line && input.step() == failed && input.line() == line {
+        Reading::Refused
+    } else {
+        Reading::Wrong
+    }
+}
+
+// How the two operations are read.
+fn read_all<S: Steps>(input: &mut S) -> Reading {
+    let step = input.step();
+    if step != Step::Deletes {
+        return stopped(input, step, 0, 1, 1);
+    }
+    if input.line() != 1 {
+        return Reading::Wrong;
+    }
+    let step = input.step();
+    if step != Step::Indexes {
+        return stopped(input, step, 1, 2, 4);
+    }
+    if input.line() == 3 && input.step() == Step::Ends {
+        Reading::Whole
+    } else {
+        Reading::Wrong
+    }
+}
+
+fn read_input(alloc: Global) -> Option<Reading> {
+    let mut input = Input::new(alloc, stream_of(alloc, INPUT)?, None);
+    Some(read_all(&mut input))
+}
+
+#[test]
+fn refused_input(rt: HostRuntime) {
+    let first = read_input(rt.alloc());
+    assert!(rt; first == Some(Reading::Whole) || first == Some(Reading::Refused));
+    assert!(rt; first == Some(Reading::Whole) || read_input(rt.alloc()) == Some(Reading::Whole));
+}
+
+fn parse_input(alloc: Global) -> Option<Reading> {
+    let mut parsing = Parsing {
+        parser: Parser::new(alloc, None),
+        stream: stream_of(alloc, INPUT)?,
+    };
+    Some(read_all(&mut parsing))
+}
+
+#[test]
+fn refused_parser(rt: HostRuntime) {
+    let first = parse_input(rt.alloc());
+    assert!(rt; first == Some(Reading::Whole) || first == Some(Reading::Refused));
+    assert!(rt; first == Some(Reading::Whole) || parse_input(rt.alloc()) == Some(Reading::Whole));
+}
+
+/// Lines of which no two have the same end, and what holds them.
+const LINES: [&[u8]; 3] = [
+    b"the first line, of more than thirty-eight bytes, and it ends in 1",
+    b"",
+    b"the third line, of more than thirty-eight bytes, and it ends in 3",
+];
+
+const TEXT: &[u8] =
+    b"the first line, of more than thirty-eight bytes, and it ends in 1\n\nthe third line, of more than thirty-eight bytes, and it ends in 3\n";
+
+// Whether the next line is this one. If it is refused it is not counted, and a second call gives what
+// is left of it.
+fn takes_line(lines: &mut LineReader, stream: &mut MemStream, line: &[u8]) -> bool {
+    let count = lines.count();
+    match lines.next(stream) {
+        Ok(found) => found && lines.text() == line && lines.count() == count.saturating_add(1),
+        Err(fault) => {
+            fault.kind == LineKind::Memory
+                && fault.line == count.saturating_add(1)
+                && lines.count() == count
+                && lines.next(stream) == Ok(true)
+                && line.ends_with(lines.text())
+        }
+    }
+}
+
+fn takes_lines(alloc: Global) -> Option<bool> {
+    let mut stream = stream_of(alloc, TEXT)?;
+    let mut lines = LineReader::new(alloc);
+    let mut good = true;
+    for line in LINES {
+        good = takes_line(&mut lines, &mut stream, line) && good;
+    }
+    Some(good && lines.next(&mut stream) == Ok(false))
+}
+
+#[test]
+fn refused_line_reader(rt: HostRuntime) {
+    assert!(rt; takes_lines(rt.alloc()) == Some(true));
+}

@@ -1,0 +1,99 @@
+//! Counts and the lines that say them, of whose allocations any one may be refused (`make refusals`).
+use crate::wires::{Plan, asks_counted};
+use relay_progress::{
+    Counts, Progress, Shared, Trouble, progress_text, trouble_text, written_text,
+};
+use std::alloc::{AllocError, Global};
+use std::sync::Arc;
+
+const SOME: Progress = Progress {
+    read: 65_536,
+    size: Some(98_304),
+    requests: 12,
+    operations: 1_500,
+    settled: 1_400,
+    repeats: 7,
+    out: 2,
+    idle: Some(3),
+};
+
+const TEXT: &[u8] =
+    b"read 65536 of 98304 bytes (66 %), sent 1500 operations in 12 requests, settled 1400, repeats 7, out 2, last answer 3 s ago";
+
+const LINE: &[u8] =
+    b"read 65536 of 98304 bytes (66 %), sent 1500 operations in 12 requests, settled 1400, repeats 7, out 2, last answer 3 s ago\n";
+
+fn text_of(alloc: Global) -> Option<Vec<u8>> {
+    match progress_text(alloc, &SOME) {
+        Ok(text) => Some(text),
+        Err(AllocError) => progress_text(alloc, &SOME).ok(),
+    }
+}
+
+fn line_of(alloc: Global) -> Option<Vec<u8>> {
+    match written_text(alloc, &SOME, false) {
+        Ok(text) => Some(text),
+        Err(AllocError) => written_text(alloc, &SOME, false).ok(),
+    }
+}
+
+fn is_said(alloc: Global) -> Option<bool> {
+    let text = text_of(alloc)?;
+    let line = line_of(alloc)?;
+    Some(text.as_slice() == TEXT && line.as_slice() == LINE)
+}
+
+#[test]
+fn refused_lines(rt: HostRuntime) {
+    assert!(rt; is_said(rt.alloc()) == Some(true));
+}
+
+const ADDRESS: &str = "an.address.of.more.than.thirty-eight.bytes:9200";
+
+fn trouble_of(alloc: Global) -> Option<Vec<u8>> {
+    match trouble_text(alloc, ADDRESS, Trouble::Refused, false) {
+        Ok(text) => Some(text),
+        Err(AllocError) => trouble_text(alloc, ADDRESS, Trouble::Refused, false).ok(),
+    }
+}
+
+#[test]
+fn refused_trouble(rt: HostRuntime) {
+    let wanted =
+        b"an.address.of.more.than.thirty-eight.bytes:9200: connection refused, trying again\n";
+    assert!(rt; trouble_of(rt.alloc()).is_some_and(|text| text.as_slice() == wanted.as_slice()));
+}
+
+fn counts_of(alloc: Global) -> Option<Shared> {
+    match Counts::shared(alloc) {
+        Ok(counts) => Some(counts),
+        Err(AllocError) => Counts::shared(alloc).ok(),
+    }
+}
+
+#[test]
+fn refused_counts(rt: HostRuntime) {
+    assert!(rt; counts_of(rt.alloc()).is_some_and(|counts| counts.requests() == 0));
+}
+
+// Asks over a counted wire. Whether it is answered, if so many requests are counted as sent and ended by then,
+// and one answer if it is.
+fn asks(alloc: Global, counts: &Shared, sent: u64) -> Option<bool> {
+    let shared = Arc::try_clone(counts).ok()?;
+    let answered = asks_counted(alloc, Plan::Entry(404), Some(shared))?;
+    let asked = counts.requests() == sent && counts.operations() == sent && counts.ended() == sent;
+    let answers = if answered { 1 } else { 0 };
+    (asked && counts.answers() == answers).then_some(answered)
+}
+
+// Whether a request over a counted wire is answered, by a second one if the wire was refused memory for the
+// first.
+fn is_counted(alloc: Global) -> Option<bool> {
+    let counts = counts_of(alloc)?;
+    Some(asks(alloc, &counts, 1)? || asks(alloc, &counts, 2)?)
+}
+
+#[test]
+fn refused_counted_wire(rt: HostRuntime) {
+    assert!(rt; is_counted(rt.alloc()) == Some(true));
+}

@@ -1,0 +1,234 @@
+//! Reports and what is printed of them, of whose allocations any one may be refused (`make refusals`): the
+//! refusal says what it leaves, and the call does its work when it is made again.
+use relay_action::{DocKey, MemStream, OpName, Text};
+use relay_core::Report;
+use relay_report::{
+    Named, PickFault, ReportFault, append_report, pick, read_name, read_names, report_text,
+};
+use relay_results::Cause;
+use relay_words::{add_cause, add_document, add_name, add_number, add_spaced};
+use std::alloc::{AllocError, Global};
+
+const NAME: OpName = OpName {
+    epoch: 7,
+    producer: 1,
+    number: 3,
+};
+
+const ID: &str = "a document of more than thirty-eight bytes";
+
+const KIND: &str = "a_kind_of_errors_of_more_than_thirty_eight_bytes";
+
+fn report_once(alloc: Global) -> Option<Report> {
+    Some(Report {
+        name: NAME,
+        key: DocKey::new(alloc, "books", ID).ok()?,
+        cause: Cause::Refused {
+            status: 400,
+            kind: Text::new(alloc, KIND).ok()?,
+        },
+    })
+}
+
+fn report_of(alloc: Global) -> Option<Report> {
+    report_once(alloc).or_else(|| report_once(alloc))
+}
+
+/// A byte, and the line of the report.
+const BEGUN: &[u8] = b"x";
+
+const APPENDED: &[u8] =
+    b"x{\"cause\":\"Refused\",\"epoch\":7,\"id\":\"a document of more than thirty-eight bytes\",\"index\":\"books\",\"kind\":\"a_kind_of_errors_of_more_than_thirty_eight_bytes\",\"number\":3,\"producer\":1,\"status\":400}\n";
+
+// Whether the line of a report is appended, by a second call if the first was refused and left the text as
+// it was.
+fn appends(alloc: Global, text: &mut Vec<u8>, report: &Report) -> bool {
+    match append_report(alloc, text, report) {
+        Ok(()) => true,
+        Err(AllocError) => text.as_slice() == BEGUN && append_report(alloc, text, report).is_ok(),
+    }
+}
+
+fn has_line(alloc: Global, report: &Report) -> Option<bool> {
+    let mut text = BEGUN.to_vec(alloc).or_else(|_| BEGUN.to_vec(alloc)).ok()?;
+    let good = appends(alloc, &mut text, report);
+    Some(good && text.as_slice() == APPENDED)
+}
+
+fn lines_of(alloc: Global, reports: &[Report]) -> Option<Vec<u8>> {
+    match report_text(alloc, reports) {
+        Ok(text) => Some(text),
+        Err(AllocError) => report_text(alloc, reports).ok(),
+    }
+}
+
+fn has_lines(alloc: Global, reports: &[Report]) -> Option<bool> {
+    let lines = lines_of(alloc, reports)?;
+    Some(APPENDED.get(BEGUN.len()..) == Some(lines.as_slice()))
+}
+
+fn writes(alloc: Global) -> Option<bool> {
+    let reports = [report_of(alloc)?];
+    Some(has_line(alloc, &reports[0])? && has_lines(alloc, reports.as_slice())?)
+}
+
+#[test]
+fn refused_reports(rt: HostRuntime) {
+    assert!(rt; writes(rt.alloc()) == Some(true));
+}
+
+const LINE: &[u8] =
+    b"{\"cause\":\"Sp\\u0065nt\",\"id\":\"a document of more than thirty-eight bytes\",\"index\":\"books\",\"number\":2,\"producer\":0}";
+
+const LINES: &[u8] =
+    b"{\"cause\":\"Spent\",\"id\":\"1\",\"index\":\"books\",\"number\":2,\"producer\":0}\n{\"cause\":\"Sp\\u0065nt\",\"id\":\"a document of more than thirty-eight bytes\",\"index\":\"books\",\"number\":3,\"producer\":0}\n";
+
+/// The operation that the line names.
+const ON_LINE: OpName = OpName {
+    epoch: 0,
+    producer: 0,
+    number: 2,
+};
+
+fn names(alloc: Global, line: &[u8]) -> Option<OpName> {
+    match read_name(alloc, line) {
+        Ok(name) => name,
+        Err(AllocError) => read_name(alloc, line).ok()?,
+    }
+}
+
+#[test]
+fn refused_name(rt: HostRuntime) {
+    assert!(rt; names(rt.alloc(), LINE) == Some(ON_LINE));
+}
+
+fn stream_once(alloc: Global, input: &[u8]) -> Option<MemStream> {
+    MemStream::new(alloc, input.to_vec(alloc).ok()?, 1_000, 50, 0).ok()
+}
+
+fn stream_of(alloc: Global, input: &[u8]) -> Option<MemStream> {
+    stream_once(alloc, input).or_else(|| stream_once(alloc, input))
+}
+
+/// The operations that the lines name.
+const NAMED: &[Named] = &[
+    Named {
+        producer: 0,
+        number: 2,
+        line: 1,
+    },
+    Named {
+        producer: 0,
+        number: 3,
+        line: 2,
+    },
+];
+
+// How a report of two lines is read, if the names that it gives are the first of the two, and how many.
+fn read_once(alloc: Global) -> Option<(Result<(), ReportFault>, usize)> {
+    let mut stream = stream_of(alloc, LINES)?;
+    let mut names = Vec::new(alloc);
+    let found = read_names(alloc, &mut stream, &mut names);
+    NAMED
+        .starts_with(names.as_slice())
+        .then_some((found, names.len()))
+}
+
+// Whether both are read, by a second call if the first was refused after the lines before.
+fn reads(alloc: Global) -> bool {
+    match read_once(alloc) {
+        Some((Err(ReportFault::Memory), count)) => {
+            count < 2 && read_once(alloc) == Some((Ok(()), 2))
+        }
+        found => found == Some((Ok(()), 2)),
+    }
+}
+
+#[test]
+fn refused_names(rt: HostRuntime) {
+    assert!(rt; reads(rt.alloc()));
+}
+
+const INPUT: &[u8] =
+    b"{\"delete\":{\"_id\":\"1\",\"_index\":\"books\"}}\n{\"delete\":{\"_id\":\"a document of more than thirty-eight bytes\",\"_index\":\"books\"}}\n{\"index\":{\"_id\":\"\\u0061 document of more than thirty-eight bytes\",\"_index\":\"books\"}}\n{\"a\":\"a source of more than thirty-eight bytes\"}\n";
+
+const PICKED: &[u8] =
+    b"{\"delete\":{\"_id\":\"a document of more than thirty-eight bytes\",\"_index\":\"books\"}}\n{\"index\":{\"_id\":\"\\u0061 document of more than thirty-eight bytes\",\"_index\":\"books\"}}\n{\"a\":\"a source of more than thirty-eight bytes\"}\n";
+
+// How the second and the third operation are picked, if what goes out is a front of them, and how much it is.
+fn pick_once(alloc: Global) -> Option<(Result<u64, PickFault>, usize)> {
+    let mut input = stream_of(alloc, INPUT)?;
+    let mut writer = stream_of(alloc, b"")?;
+    let found = pick(alloc, NAMED, 0, &mut input, None, &mut writer);
+    let written = writer.written();
+    PICKED
+        .starts_with(written)
+        .then_some((found, written.len()))
+}
+
+// Whether they are picked, by a second call if the first was refused when a front of them had gone out.
+fn picks(alloc: Global) -> bool {
+    let whole = Some((Ok(3), PICKED.len()));
+    match pick_once(alloc) {
+        Some((Err(PickFault::Memory), _)) => pick_once(alloc) == whole,
+        found => found == whole,
+    }
+}
+
+#[test]
+fn refused_picks(rt: HostRuntime) {
+    assert!(rt; picks(rt.alloc()));
+}
+
+// Adds a part of a report as it is printed.
+fn add(text: &mut Vec<u8>, part: u32, report: &Report) -> Result<(), AllocError> {
+    match part {
+        0 => add_number(text, 18_446_744_073_709_551_615),
+        1 => add_spaced(text, 7),
+        2 => add_name(text, report.name),
+        3 => add_document(text, &report.key),
+        _ => add_cause(text, &report.cause),
+    }
+}
+
+const PARTS: [&[u8]; 5] = [
+    b"18446744073709551615",
+    b" 7",
+    b"7.1:3",
+    b"books/a document of more than thirty-eight bytes",
+    b"Refused 400 a_kind_of_errors_of_more_than_thirty_eight_bytes",
+];
+
+// Whether a part is added, by a second call if the first was refused when a front of it had been.
+fn adds(text: &mut Vec<u8>, part: u32, report: &Report, wanted: &[u8]) -> bool {
+    match add(text, part, report) {
+        Ok(()) => true,
+        Err(AllocError) => {
+            let front = wanted.starts_with(text.as_slice());
+            text.clear();
+            front && add(text, part, report).is_ok()
+        }
+    }
+}
+
+fn is_added(alloc: Global, part: u32, report: &Report, wanted: &[u8]) -> bool {
+    let mut text = Vec::new(alloc);
+    adds(&mut text, part, report, wanted) && text.as_slice() == wanted
+}
+
+// Whether each part of a report is added as it is printed.
+fn are_added(alloc: Global) -> Option<bool> {
+    let report = report_of(alloc)?;
+    let mut good = true;
+    let mut part = 0u32;
+    for wanted in PARTS {
+        good = is_added(alloc, part, &report, wanted) && good;
+        part = part.saturating_add(1);
+    }
+    Some(good)
+}
+
+#[test]
+fn refused_parts(rt: HostRuntime) {
+    assert!(rt; are_added(rt.alloc()) == Some(true));
+}
