@@ -493,6 +493,7 @@ impl Lane {
         ensures unchanged { OnErr result (self.new ≡ self.old) }
         ensures looks { self.new.looks ≡ self.old.looks }
     {
+        // Read for the range of its writes.
         let _ = &self.flight;
         let Some(writes) = self.writes(number) else {
             return Err(NotFlying);
