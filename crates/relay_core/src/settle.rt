@@ -2,7 +2,6 @@
 ghost use Rattle.std.specs.Prelude.{◌≡◌, Some, true, false, ◌-◌, ◌^◌, min, ◌+◌, ◌≤◌, ◌<◌, ◌++◌, ◌∷◌, [], map, length, drop, slice_get, vec_len, vec_capacity};
 ghost use Rattle.std.specs.Vec.Iter.{into_iter_items};
 ghost use Rattle.relay_delivery.specs.Machine.{is_applied_fate, is_already_fate};
-ghost use Rattle.relay_delivery.specs.Lane.{backoff};
 ghost use Rattle.relay_results.specs.Documents.{document_of};
 ghost use Rattle.relay_held.specs.declared.kept.Kept.{Kept};
 ghost use Rattle.relay_core.specs.Walk.{waits_here, with_first, without_first, first_of, back, after_one, fate_one, reports_one, said, report_of, tally, kept_walk, reports_walk, tally_walk};
@@ -29,17 +28,6 @@ fn pause(attempts: u32) -> u64
         5 => 16,
         6 => 32,
         _ => 64,
-    }
-}
-
-fn due_after(clock: u64, attempts: u32) -> u64
-    ensures { result ≡ backoff clock attempts }
-{
-    let ticks = pause(attempts);
-    if clock <= u64::MAX - ticks {
-        clock + ticks
-    } else {
-        u64::MAX
     }
 }
 
@@ -78,7 +66,7 @@ fn land(held: &mut Held, write: Write, clock: u64, attempts: u32)
         → held.new.list ≡ with_first write.key (back clock write) held.old.list }
     ensures clock { held.new.clock ≡ held.old.clock }
 {
-    held.land(due_after(clock, attempts), write);
+    held.land(clock.saturating_add(pause(attempts)), write);
 }
 
 // Settles the first operation of a document by its fate.

@@ -333,9 +333,7 @@ impl Documents {
         ensures unique { IsDistinct same_key (keys_of self.new.queues) }
     {
         if let Some(slot) = self.slot(&one.key) {
-            if let Err(refused) = push_in(&mut self.queues, slot, one) {
-                return Err(refused);
-            }
+            push_in(&mut self.queues, slot, one)?;
             return Ok(None);
         }
         match push_new(&mut self.slots, &mut self.queues, one) {

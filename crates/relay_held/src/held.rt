@@ -42,13 +42,6 @@ impl Model for Held {
     ghost invariant = { λ h. IsHeld h.documents h.count h.waiting };
 }
 
-// One tick later, at most `u64::MAX`.
-fn one_later(clock: u64) -> u64
-    ensures { result ≡ later clock }
-{
-    if clock < u64::MAX { clock + 1 } else { clock }
-}
-
 // Lets the first operation of a document wait, if there is one. There is room for it.
 fn wait(waiting: &mut DelayQueue, entry: Option<Entry>)
     requires { IfSome entry (λ e. (length waiting.old.entries < waiting.old.room)
@@ -83,7 +76,7 @@ impl Held {
     pub fn tick(&mut self)
         ensures { self.new ≡ record { list = self.old.list; clock = later self.old.clock } }
     {
-        self.waiting.tick(one_later(self.waiting.clock()));
+        self.waiting.tick(self.waiting.clock().saturating_add(1));
     }
 
     /// The number of operations held.

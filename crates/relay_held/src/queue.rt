@@ -29,18 +29,12 @@ impl Model for Queue {
     ghost view = { λ q. q.head ∷ q.behind.items };
 }
 
-fn one_more(n: u32) -> u32
-    ensures { result ≡ Rattle.relay_held.specs.Kept.more n }
-{
-    if n < u32::MAX { n + 1 } else { n }
-}
-
 fn send_one(one: &mut Kept, number: u64, place: u64) -> Option<Write>
     ensures sent { one.new ≡ launch_one number place one.old }
     ensures write { result ≡ one.old.write }
 {
-    one.sends = one_more(one.sends);
-    one.attempts = one_more(one.attempts);
+    one.sends = one.sends.saturating_add(1);
+    one.attempts = one.attempts.saturating_add(1);
     one.flies = Some(Spot {
         request: number,
         place,

@@ -66,10 +66,9 @@ impl<S: ByteIn + Drop> Buffered<S> {
     {
         let mut left = size;
         'reading: while left > 0 {
-            match self.take_some(left, into) {
-                Err(fault) => return Err(fault),
-                Ok(0) => return Err(HttpFault::Ended),
-                Ok(count) => left -= count,
+            match self.take_some(left, into)? {
+                0 => return Err(HttpFault::Ended),
+                count => left -= count,
             }
         }
         Ok(())
@@ -82,10 +81,8 @@ impl<S: ByteIn + Drop> Buffered<S> {
         ensures written { S.written self.new.stream ≡ S.written self.old.stream }
     {
         let mut body = Content::new(alloc);
-        match self.read_data(size, &mut body) {
-            Err(fault) => Err(fault),
-            Ok(()) => Ok(body.into_vec()),
-        }
+        self.read_data(size, &mut body)?;
+        Ok(body.into_vec())
     }
 
     // Reads to the end of the stream.
@@ -99,10 +96,8 @@ impl<S: ByteIn + Drop> Buffered<S> {
     {
         let mut body = Content::new(alloc);
         'reading: while body.len() <= limit {
-            match self.take_some(limit + 1 - body.len(), &mut body) {
-                Err(fault) => return Err(fault),
-                Ok(0) => return Ok(body.into_vec()),
-                Ok(_) => {}
+            if self.take_some(limit + 1 - body.len(), &mut body)? == 0 {
+                return Ok(body.into_vec());
             }
         }
         Err(HttpFault::BodyLong)

@@ -25,14 +25,9 @@ impl<S: ByteIn + Drop> Buffered<S> {
         ensures count { S.failed self.new.stream ≡ (if is_read result then one_more (S.failed self.old.stream) else S.failed self.old.stream) }
         ensures written { S.written self.new.stream ≡ S.written self.old.stream }
     {
-        match self.read_data(size, into) {
-            Err(fault) => return Err(fault),
-            Ok(()) => {}
-        }
-        match self.read_piece::<ChunkEnd>() {
-            Err(fault) => Err(fault),
-            Ok(_) => Ok(()),
-        }
+        self.read_data(size, into)?;
+        self.read_piece::<ChunkEnd>()?;
+        Ok(())
     }
 
     pub(crate) fn read_chunked(&mut self, alloc: Global, limit: usize) -> Result<Vec<u8>, HttpFault>
@@ -45,23 +40,15 @@ impl<S: ByteIn + Drop> Buffered<S> {
     {
         let mut body = Content::new(alloc);
         'chunks: loop {
-            let size = match self.read_piece::<SizeLine>() {
-                Err(fault) => return Err(fault),
-                Ok(line) => line.size,
-            };
+            let size = self.read_piece::<SizeLine>()?.size;
             if size == 0 {
-                match self.read_piece::<Trailer>() {
-                    Err(fault) => return Err(fault),
-                    Ok(_) => return Ok(body.into_vec()),
-                }
+                self.read_piece::<Trailer>()?;
+                return Ok(body.into_vec());
             }
             if size > (limit - body.len()) as u64 {
                 return Err(HttpFault::BodyLong);
             }
-            match self.read_chunk(size as usize, limit, &mut body) {
-                Err(fault) => return Err(fault),
-                Ok(()) => {}
-            }
+            self.read_chunk(size as usize, limit, &mut body)?;
         }
     }
 }

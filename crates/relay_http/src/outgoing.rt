@@ -41,13 +41,9 @@ pub(crate) fn write_bulk<S: ByteOut>(
     ensures failed { S.failed stream.new ≡ failed_writing result (S.failed stream.old) }
     ensures left { S.left stream.new ≡ S.left stream.old }
 {
-    if let Err(fault) = start(stream, text, host, writes) {
-        return Err(fault);
-    }
+    start(stream, text, host, writes)?;
     for write in writes {
-        if let Err(fault) = gather(alloc, stream, text, write) {
-            return Err(fault);
-        }
+        gather(alloc, stream, text, write)?;
     }
     flush(stream, text)
 }
@@ -168,13 +164,9 @@ fn send_source<S: ByteOut>(
             Err(fault) => Err(fault),
         };
     }
-    match send_both(stream, text.as_slice(), source) {
-        Err(fault) => Err(fault),
-        Ok(()) => {
-            keep_line_end(text);
-            Ok(())
-        }
-    }
+    send_both(stream, text.as_slice(), source)?;
+    keep_line_end(text);
+    Ok(())
 }
 
 // Writes one text and then another. `Err`: a write failed.

@@ -54,10 +54,8 @@ impl<S: ByteIn + Drop> Buffered<S> {
     {
         'filling: loop {
             let before = self.window.as_slice().len();
-            match self.fill() {
-                Err(fault) => return Err(fault),
-                Ok(0) => return Ok(false),
-                Ok(_) => {}
+            if self.fill()? == 0 {
+                return Ok(false);
             }
             let bytes = self.window.as_slice();
             if bytes.len() >= most || memchr(b'\n', &bytes[before..]).is_some() {
@@ -76,6 +74,7 @@ impl<S: ByteIn + Drop> Buffered<S> {
     {
         let mut ended = false;
         'reading: loop {
+            // With `?` the prover does not see that the length that is skipped is the one found.
             match P::find(self.window.as_slice()) {
                 Err(fault) => return Err(fault),
                 Ok(Some((piece, len))) => {

@@ -56,10 +56,7 @@ impl<S: ByteIn + Drop> Buffered<S> {
     {
         let mut passed = 0;
         'heads: loop {
-            let info = match self.read_piece::<HeadInfo>() {
-                Err(fault) => return Err(fault),
-                Ok(info) => info,
-            };
+            let info = self.read_piece::<HeadInfo>()?;
             if !is_interim(info.status) || passed == INTERIM_LIMIT {
                 return Ok(info);
             }
@@ -77,18 +74,9 @@ impl<S: ByteIn + Drop> Buffered<S> {
         ensures count { S.failed self.new.stream ≡ (if is_read result then one_more (S.failed self.old.stream) else S.failed self.old.stream) }
         ensures written { S.written self.new.stream ≡ S.written self.old.stream }
     {
-        let info = match self.read_heads() {
-            Err(fault) => return Err(fault),
-            Ok(info) => info,
-        };
-        let framing = match info.framing {
-            Err(fault) => return Err(fault),
-            Ok(framing) => framing,
-        };
-        let body = match self.read_body(alloc, framing, REPLY_LIMIT) {
-            Err(fault) => return Err(fault),
-            Ok(body) => body,
-        };
+        let info = self.read_heads()?;
+        let framing = info.framing?;
+        let body = self.read_body(alloc, framing, REPLY_LIMIT)?;
         Ok(HttpReply {
             status: info.status,
             body,

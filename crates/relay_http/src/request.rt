@@ -62,18 +62,9 @@ impl<S: ByteIn + Drop> Buffered<S> {
         ensures count { S.failed self.new.stream ≡ (if is_read result then one_more (S.failed self.old.stream) else S.failed self.old.stream) }
         ensures written { S.written self.new.stream ≡ S.written self.old.stream }
     {
-        let info = match self.read_piece::<RequestInfo>() {
-            Err(fault) => return Err(fault),
-            Ok(info) => info,
-        };
-        let framing = match info.framing {
-            Err(fault) => return Err(fault),
-            Ok(framing) => framing,
-        };
-        let body = match self.read_body(alloc, framing, REQUEST_LIMIT) {
-            Err(fault) => return Err(fault),
-            Ok(body) => body,
-        };
+        let info = self.read_piece::<RequestInfo>()?;
+        let framing = info.framing?;
+        let body = self.read_body(alloc, framing, REQUEST_LIMIT)?;
         Ok(HttpRequest {
             bulk: info.bulk,
             body,

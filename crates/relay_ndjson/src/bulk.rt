@@ -66,9 +66,7 @@ pub fn append_bulk(text: &mut Vec<u8>, writes: &[Write]) -> Result<(), AllocErro
 {
     let alloc = *text.allocator();
     for write in writes {
-        if let Err(refused) = append_write(alloc, text, write) {
-            return Err(refused);
-        }
+        append_write(alloc, text, write)?;
     }
     Ok(())
 }

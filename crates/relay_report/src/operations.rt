@@ -157,10 +157,7 @@ fn kind_on(
     ensures ok { IfOk result (λ kind. Asks (shown default_index.entry) line.now kind) }
     ensures err { IfErr result (λ e. (e ≡ LineKind.Memory) ⊎ (line_fault (shown default_index.entry) line.now ≡ Some e)) }
 {
-    let (kind, _key) = match read_action(alloc, default_index, line, scratch) {
-        Ok(asked) => asked,
-        Err(kind) => return Err(kind),
-    };
+    let (kind, _key) = read_action(alloc, default_index, line, scratch)?;
     Ok(kind)
 }
 
@@ -169,10 +166,7 @@ fn check_source(alloc: Global, line: &[u8]) -> Result<(), LineKind>
     ensures ok { OnOk result (IsSource line.now) }
     ensures err { IfErr result (λ e. (e ≡ LineKind.Memory) ⊎ (source_line_fault line.now ≡ Some e)) }
 {
-    let _action = match read_source(alloc, line) {
-        Ok(action) => action,
-        Err(kind) => return Err(kind),
-    };
+    let _action = read_source(alloc, line)?;
     Ok(())
 }
 

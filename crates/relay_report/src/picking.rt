@@ -171,15 +171,10 @@ impl Picking {
         ensures writes { WritesFail (W.failed writer.old) (W.failed writer.new) result }
     {
         'operations: for taken in 0..last {
-            match self.pick_next(alloc, numbers, taken + 1, input, default_index) {
-                Ok(true) => {}
-                Ok(false) => return Ok(taken),
-                Err(fault) => return Err(fault),
+            if !self.pick_next(alloc, numbers, taken + 1, input, default_index)? {
+                return Ok(taken);
             }
-            match self.make_way(writer) {
-                Ok(()) => {}
-                Err(fault) => return Err(fault),
-            }
+            self.make_way(writer)?;
         }
         Ok(last)
     }

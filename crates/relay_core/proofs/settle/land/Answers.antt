@@ -1,4 +1,4 @@
-use Rattle.std.proofs.Common.{◌∙◌, sym, ap}
+use Rattle.std.proofs.Common.{◌+◌, ◌∙◌, ap, min, sym}
 use Rattle.relay_delivery.specs.Lane.{backoff}
 use Rattle.relay_held.specs.Kept.{back_at}
 use Rattle.relay_core.specs.Walk.{back}
@@ -8,5 +8,5 @@ use Rattle.relay_core.proofs.settle.land.Goals as goal
 pub returns-clause-held : goal.returns-clause-held
 returns-clause-held c = λ h a e.
     c.land.ensures.list
-    ∙ with_first_same c.args.write.key (back_at c.due_after.result c.args.write) (back c.args.clock c.args.write) c.args.held.now.list h e
-    (ap (λ due. back_at due c.args.write h) (c.due_after.ensures ∙ ap (backoff c.args.clock) (sym a)))
+    ∙ with_first_same c.args.write.key (back_at c.saturating_add.result c.args.write) (back c.args.clock c.args.write) c.args.held.now.list h e
+    (ap (λ due. back_at due c.args.write h) (c.saturating_add.ensures ∙ ap (λ n. min (c.args.clock + n) 18446744073709551615) c.pause.ensures ∙ ap (backoff c.args.clock) (sym a)))

@@ -1,4 +1,5 @@
 use Rattle.std.proofs.Common.{ℕ, List, ◌++◌, Err, subst, ap, ◌∙◌}
+use Rattle.std.proofs.lemmas.Result.{err_from_is_err_and}
 use Rattle.relay_ndjson.specs.Bulk.{write_text}
 use Rattle.relay_http.specs.Steps.{Gathers, SendsBoth}
 use Rattle.relay_http.proofs.Gathering.{not_flushed, source_cut}
@@ -11,7 +12,8 @@ returns-in-Err-flush-clause-sent g c =
     c.in-Err.ensures.err
     (not_flushed (write_text c.args.write.now) c.append_action_line.new.text.items c.flush.new.text.items c.flush.new.text.items (show.written c.args.stream.now) (show.written c.flush.new.stream) c.in-Err-flush.fault c.in-Err-flush.ensures.sent)
 
-pub returns-in-Err-send_both-clause-sent : goal.returns-in-Err-send_both-clause-sent
-returns-in-Err-send_both-clause-sent g c =
-    source_cut c.args.write.now c.args.text.now.items c.as_slice.result.now c.args.source.now c.append_action_line.new.text.items _ _ c.in-Err-send_both.fault
-    c.requires (c.as_slice.ensures.value ∙ c.in_default.ensures.ok) c.in-Err-send_both.ensures.sent
+pub returns-in_err-send_both-clause-sent : goal.returns-in_err-send_both-clause-sent
+returns-in_err-send_both-clause-sent g c =
+    let p = err_from_is_err_and c.from_residual.result c.from_residual.ensures.1 in
+    rw (p.1, p.2) (source_cut c.args.write.now c.args.text.now.items c.as_slice.result.now c.args.source.now c.append_action_line.new.text.items _ _ c.in_err-send_both.field-0.0
+    c.requires (c.as_slice.ensures.value ∙ c.in_default.ensures.ok) c.in_err-send_both.ensures.sent)

@@ -3,17 +3,17 @@ use Rattle.std.specs.Prelude.{Some}
 use Rattle.relay_held.specs.Queues.{Changes}
 use Rattle.relay_held.specs.Shelf.{shelved, slot_of}
 use Rattle.relay_held.proofs.Shelving.{queue_shown, set_shown, count_shelved, count_shown, old_entry, new_shown, new_entry, new_slots, unique_shown, unique_shelved}
-use Rattle.relay_held.proofs.documents.Documents.push.Goals.{in-Ok, in-Err-push_new}
+use Rattle.relay_held.proofs.documents.Documents.push.Goals.{in-Ok, in-Err}
 use Rattle.relay_held.proofs.documents.Documents.push.Goals as goal
 
-pub returns-in-Err-clause-unique : goal.returns-in-Err-clause-unique
-returns-in-Err-clause-unique c = unique_shown c.self.inside.queues c.push_in.new.queues c.self.inside.slots.entries c.self.invariant
+pub returns-in_err-push_in-clause-unique : goal.returns-in_err-push_in-clause-unique
+returns-in_err-push_in-clause-unique c = unique_shown c.self.inside.queues c.push_in.new.queues c.self.inside.slots.entries c.self.invariant
 
 pub returns-in-Some-clause-ok : goal.returns-in-Some-clause-ok
 returns-in-Some-clause-ok c =
     subst (λ q. Changes c.args.self.now.queues (shelved c.push_in.new.queues c.self.inside.slots.entries) c.args.one.key (q ++ c.args.one ∷ []))
     (sym (queue_shown c.self.inside.queues c.self.inside.slots.entries c.args.one.key c.in-Some.slot c.args.self.now c.self.view_is c.in-Some.ensures))
-    (set_shown c.self.inside.queues c.push_in.new.queues c.self.inside.slots.entries c.args.one.key c.in-Some.slot _ c.args.self.now c.self.view_is c.self.invariant c.in-Some.ensures c.in_default-push_in.ensures.ok)
+    (set_shown c.self.inside.queues c.push_in.new.queues c.self.inside.slots.entries c.args.one.key c.in-Some.slot _ c.args.self.now c.self.view_is c.self.invariant c.in-Some.ensures c.in_ok-push_in.ensures.ok)
 
 pub returns-in-Some-clause-entry : goal.returns-in-Some-clause-entry
 returns-in-Some-clause-entry c =
@@ -31,19 +31,19 @@ returns-in-Some-clause-unique c = unique_shown c.self.inside.queues c.push_in.ne
 pub returns-clause-ok : goal.returns-clause-ok
 returns-clause-ok c = elim c.match-push_new.branch [
   | in-Ok w ↦ rw w.result-is (new_shown c.self.inside.queues c.push_new.new.queues c.self.inside.slots.entries c.push_new.new.slots.entries c.args.one.key c.args.one c.args.self.now c.self.view_is c.in_default.ensures w.in-Ok.ensures.ok)
-  | in-Err-push_new w ↦ rw w.result-is tt
+  | in-Err w ↦ rw w.result-is tt
 ]
 
 pub returns-clause-entry : goal.returns-clause-entry
 returns-clause-entry c = elim c.match-push_new.branch [
   | in-Ok w ↦ rw w.result-is (ap Some w.in-Ok.ensures.entry ∙ new_entry c.self.inside.queues c.self.inside.slots.entries c.args.one.key (slot_of c.push_new.new.slots.entries c.args.one.key) c.args.one c.args.self.now c.self.view_is c.in_default.ensures)
-  | in-Err-push_new w ↦ rw w.result-is tt
+  | in-Err w ↦ rw w.result-is tt
 ]
 
 pub returns-clause-slots : goal.returns-clause-slots
 returns-clause-slots c = elim c.match-push_new.branch [
   | in-Ok w ↦ new_slots c.self.inside.queues c.push_new.new.queues c.self.inside.slots.entries c.push_new.new.slots.entries c.args.one.key c.args.self.now c.self.view_is c.in_default.ensures w.in-Ok.ensures.others
-  | in-Err-push_new w ↦ λ k g h is at. ap (λ ss. slot_of ss k) (w.in-Err-push_new.ensures.slots) ∙ ap (λ v. slot_of v.slots k) c.self.view_is
+  | in-Err w ↦ λ k g h is at. ap (λ ss. slot_of ss k) (w.in-Err.ensures.slots) ∙ ap (λ v. slot_of v.slots k) c.self.view_is
 ]
 
 pub returns-clause-more : goal.returns-clause-more
@@ -52,7 +52,7 @@ returns-clause-more c =
     let m = count_shown c.self.inside.queues c.self.inside.slots.entries c.args.self.now c.self.view_is in
     elim c.match-push_new.branch [
       | in-Ok w ↦ let l = w.in-Ok.ensures.more in omega (arith, n, m, l)
-      | in-Err-push_new w ↦ let l = ap length w.in-Err-push_new.ensures.slots in omega (arith, n, m, l)
+      | in-Err w ↦ let l = ap length w.in-Err.ensures.slots in omega (arith, n, m, l)
     ]
 
 pub returns-clause-unique : goal.returns-clause-unique

@@ -1,4 +1,5 @@
 use Rattle.std.proofs.Common.{rules, ◌<◌, ◌++◌, ◌∙◌, sym, arith, length, length-append}
+use Rattle.std.proofs.lemmas.Result.{err_from_is_err_and}
 use Rattle.relay_http.proofs.Bodies.{rest_never}
 use Rattle.relay_http.proofs.Stands.{prepend_known-append}
 use Rattle.std.proofs.Common.{inr}
@@ -23,5 +24,7 @@ returns-clause-why g c = λ stream stands.
     let long : c.args.limit < length c.reading.body = search rules in
     rest_passed c.args.limit c.reading.body _ _ c.reading.invariant.taken long stream stands
 
-pub returns-in-Err-clause-why : goal.returns-in-Err-clause-why
-returns-in-Err-clause-why g c = λ stream stands. cut_body c.args.limit ToEnd stream c.in-Err.fault (inr c.in-Err.ensures.err)
+pub returns-in_err-take_some-clause-why : goal.returns-in_err-take_some-clause-why
+returns-in_err-take_some-clause-why g c =
+    let p = err_from_is_err_and c.from_residual.result c.from_residual.ensures.1 in
+    rw (p.1, p.2) (λ stream stands. cut_body c.args.limit ToEnd stream c.in_err-take_some.field-0.0 (inr c.in_err-take_some.ensures.err))
