@@ -24,7 +24,7 @@ HEADING = "## Each allocation refused in turn"
 REFUSED = b"REFUSED\n"
 # What allocates and tells nobody of a refusal, and the crates whose rows are still to come.
 SILENT = {"relay_progress": ["show_progress"]}
-TO_COME = {"relay_http", "relay_run", "relay_threads"}
+TO_COME = {"relay_threads"}
 # A test with more allocations than this is not one of a few calls; a run of it takes a few milliseconds.
 MOST, SECONDS = 20_000, 10
 FAULTS = []

@@ -28,8 +28,8 @@ pub fn writes_of(alloc: Global, count: u64, size: usize) -> Option<Vec<Write>> {
     writes_named(alloc, "", count, size)
 }
 
-// The same, with ids that begin with this.
-fn writes_named(alloc: Global, start: &str, count: u64, size: usize) -> Option<Vec<Write>> {
+/// The same, with ids that begin with this.
+pub fn writes_named(alloc: Global, start: &str, count: u64, size: usize) -> Option<Vec<Write>> {
     let source = text_of(alloc, size).ok()?;
     let mut writes = Vec::new(alloc);
     for number in 1..=count {
@@ -61,6 +61,18 @@ fn request_of(alloc: Global, lines: &str) -> Result<String, AllocError> {
     format!(in alloc;
         "POST /_bulk HTTP/1.1\r\nHost: a\r\nContent-Type: application/x-ndjson\r\nContent-Length: {size}\r\n\r\n{lines}"
     )
+}
+
+/// The request with this many writes, each with a source of this many bytes and an id that begins
+/// with this in a JSON string.
+pub fn request_named(
+    alloc: Global,
+    start: &str,
+    count: u64,
+    size: usize,
+) -> Result<String, AllocError> {
+    let lines = lines_of(alloc, start, count, size)?;
+    request_of(alloc, lines.as_str())
 }
 
 // The result of writing the request with these writes to a stream that takes a few bytes at a time:
@@ -104,8 +116,7 @@ fn is_written_named(
     piece: usize,
 ) -> Option<bool> {
     let writes = writes_named(alloc, start.0, count, size)?;
-    let lines = lines_of(alloc, start.1, count, size).ok()?;
-    let wanted = request_of(alloc, lines.as_str()).ok()?;
+    let wanted = request_named(alloc, start.1, count, size).ok()?;
     leaves(alloc, writes.as_slice(), wanted.as_str(), piece).ok()
 }
 

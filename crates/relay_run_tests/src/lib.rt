@@ -3,3 +3,5 @@
 
 #[cfg(test)]
 mod loopback;
+#[cfg(test)]
+mod refusals;

@@ -20,7 +20,8 @@ const OPERATIONS: u64 = 100;
 
 const DOCUMENTS: u64 = 10;
 
-const CONFIG: RelayConfig = RelayConfig {
+/// One lane and two producers.
+pub const CONFIG: RelayConfig = RelayConfig {
     lanes: 1,
     producers: 2,
     capacity: 1,

@@ -1,0 +1,218 @@
+//! Messages read and written, of whose allocations any one may be refused (`make refusals`): the refusal is
+//! told, the connection is broken after it, and another one carries the message.
+use crate::large::{request_named, writes_named};
+use crate::reading::over_failing;
+use relay_action::{MemStream, Write};
+use relay_http::{Conn, HttpFault};
+use relay_ndjson::bulk_len;
+use std::alloc::{AllocError, Global};
+
+fn stream_once(alloc: Global, bytes: &[u8]) -> Option<MemStream> {
+    MemStream::new(alloc, bytes.to_vec(alloc).ok()?, 1_000, 7, 0).ok()
+}
+
+// A connection over a stream, by a second call over the stream that came back if the window was refused.
+fn conn_over(alloc: Global, stream: MemStream) -> Option<Conn<MemStream>> {
+    match Conn::new(alloc, stream) {
+        Ok(conn) => Some(conn),
+        Err((AllocError, back)) => Conn::new(alloc, back).ok(),
+    }
+}
+
+// Whether a connection is made, and its stream has what it had.
+fn opens(alloc: Global) -> Option<bool> {
+    let stream = stream_once(alloc, REQUESTS[0]).or_else(|| stream_once(alloc, REQUESTS[0]))?;
+    let mut conn = conn_over(alloc, stream)?;
+    let fresh = conn.is_open() && conn.held() == 0;
+    Some(match read_request(alloc, &mut conn) {
+        Ok(right) => fresh && right,
+        Err(fault) => fresh && fault == HttpFault::Memory,
+    })
+}
+
+#[test]
+fn refused_connections(rt: HostRuntime) {
+    assert!(rt; opens(rt.alloc()) == Some(true));
+}
+
+// A connection over these bytes, whose stream takes so many.
+fn conn_of(alloc: Global, bytes: &[u8], room: usize) -> Option<Conn<MemStream>> {
+    match over_failing(alloc, bytes, 7, room, 0) {
+        Ok(conn) => Some(conn),
+        Err(AllocError) => over_failing(alloc, bytes, 7, room, 0).ok(),
+    }
+}
+
+/// What is read of a connection: a reply or a request.
+#[derive(Clone, Copy)]
+enum Side {
+    Reply,
+    Request,
+}
+
+/// A body by its length and in chunks.
+const REPLIES: [&[u8]; 2] = [
+    b"HTTP/1.1 200 OK\r\nContent-Length: 70\r\n\r\n0123456789012345678901234567890123456789012345678901234567890123456789",
+    b"HTTP/1.1 200 OK\r\nTransfer-Encoding: chunked\r\n\r\n28\r\n0123456789012345678901234567890123456789\r\n1e\r\n012345678901234567890123456789\r\n0\r\n\r\n",
+];
+
+const REQUESTS: [&[u8]; 2] = [
+    b"POST /_bulk HTTP/1.1\r\nHost: a\r\nContent-Length: 70\r\n\r\n0123456789012345678901234567890123456789012345678901234567890123456789",
+    b"POST /_bulk HTTP/1.1\r\nHost: a\r\nTransfer-Encoding: chunked\r\n\r\n28\r\n0123456789012345678901234567890123456789\r\n1e\r\n012345678901234567890123456789\r\n0\r\n\r\n",
+];
+
+const BODY: &[u8] = b"0123456789012345678901234567890123456789012345678901234567890123456789";
+
+// Whether the next reply is a 200 with the body.
+fn read_reply(alloc: Global, conn: &mut Conn<MemStream>) -> Result<bool, HttpFault> {
+    match conn.read_reply(alloc) {
+        Ok(reply) => Ok(reply.status == 200 && reply.body.as_slice() == BODY && reply.keep),
+        Err(fault) => Err(fault),
+    }
+}
+
+// Whether the next request is a bulk request with the body.
+fn read_request(alloc: Global, conn: &mut Conn<MemStream>) -> Result<bool, HttpFault> {
+    match conn.read_request(alloc) {
+        Ok(Some(request)) => { Ok(request.bulk && request.body.as_slice() == BODY && request.keep) }
+        Ok(None) => Ok(false),
+        Err(fault) => Err(fault),
+    }
+}
+
+fn read(alloc: Global, conn: &mut Conn<MemStream>, side: Side) -> Result<bool, HttpFault> {
+    match side {
+        Side::Reply => read_reply(alloc, conn),
+        Side::Request => read_request(alloc, conn),
+    }
+}
+
+// Whether a message is read. `Err`: it was refused, and whether the connection is broken after it.
+fn read_once(alloc: Global, bytes: &[u8], side: Side) -> Option<Result<bool, bool>> {
+    let mut conn = conn_of(alloc, bytes, 0)?;
+    Some(match read(alloc, &mut conn, side) {
+        Err(HttpFault::Memory) => {
+            let broken = !conn.is_open();
+            Err(broken && read(alloc, &mut conn, side) == Err(HttpFault::Broken))
+        }
+        found => Ok(found == Ok(true) && conn.is_open() && conn.held() == 0),
+    })
+}
+
+// Whether a message is read, over another connection if it was refused.
+fn reads(alloc: Global, bytes: &[u8], side: Side) -> bool {
+    match read_once(alloc, bytes, side) {
+        Some(Ok(right)) => right,
+        Some(Err(broken)) => broken && read_once(alloc, bytes, side) == Some(Ok(true)),
+        None => false,
+    }
+}
+
+#[test]
+fn refused_replies(rt: HostRuntime) {
+    for bytes in REPLIES {
+        assert!(rt; reads(rt.alloc(), bytes, Side::Reply));
+    }
+}
+
+#[test]
+fn refused_requests(rt: HostRuntime) {
+    for bytes in REQUESTS {
+        assert!(rt; reads(rt.alloc(), bytes, Side::Request));
+    }
+}
+
+const ANSWER: &[u8] =
+    b"HTTP/1.1 200 OK\r\nContent-Type: application/json\r\nContent-Length: 70\r\n\r\n0123456789012345678901234567890123456789012345678901234567890123456789";
+
+const TEXT: &str = "0123456789012345678901234567890123456789012345678901234567890123456789";
+
+// Whether an answer goes out. `Err`: it was refused, and whether nothing went out and the connection is
+// broken.
+fn answer_once(alloc: Global) -> Option<Result<bool, bool>> {
+    let mut conn = conn_of(alloc, b"", 1_000)?;
+    let done = conn.write_answer(alloc, 200, TEXT, true);
+    let open = conn.is_open();
+    let stream = conn.into_stream();
+    Some(match done {
+        Ok(()) => Ok(open && stream.written() == ANSWER),
+        Err(fault) => Err(fault == HttpFault::Memory && !open && stream.written().is_empty()),
+    })
+}
+
+// Whether an answer goes out, over another connection if it was refused.
+fn answers(alloc: Global) -> bool {
+    match answer_once(alloc) {
+        Some(Ok(right)) => right,
+        Some(Err(refused)) => refused && answer_once(alloc) == Some(Ok(true)),
+        None => false,
+    }
+}
+
+#[test]
+fn refused_answers(rt: HostRuntime) {
+    assert!(rt; answers(rt.alloc()));
+}
+
+// Whether nothing went out, or the head and the two lines of each of the first writes, fewer than all; the
+// body has so many bytes.
+fn is_front(written: &[u8], wanted: &[u8], body: usize) -> bool {
+    let head = wanted.len().saturating_sub(body);
+    let Some(lines) = written.get(head..) else {
+        return written.is_empty();
+    };
+    let ends = lines.iter().filter(|byte| **byte == b'\n').count();
+    wanted.starts_with(written)
+        && written.len() < wanted.len()
+        && ends % 2 == 0
+        && lines.last().is_none_or(|last| *last == b'\n')
+}
+
+// Whether a bulk request goes out. `Err`: it was refused, and whether a front of it went out and the
+// connection is broken.
+fn send_once(alloc: Global, writes: &[Write], wanted: &[u8]) -> Option<Result<bool, bool>> {
+    if writes.len() > 10_000 || bulk_len(writes) > 16_777_216 {
+        return None;
+    }
+    let mut conn = conn_of(alloc, b"", wanted.len())?;
+    let done = conn.write_request(alloc, "a", writes);
+    let open = conn.is_open();
+    let stream = conn.into_stream();
+    Some(match done {
+        Ok(()) => Ok(open && stream.written() == wanted),
+        Err(fault) => {
+            let front = is_front(stream.written(), wanted, bulk_len(writes) as usize);
+            Err(fault == HttpFault::Memory && !open && front)
+        }
+    })
+}
+
+// Whether a bulk request goes out, over another connection if it was refused.
+fn sends(alloc: Global, writes: &[Write], wanted: &[u8]) -> bool {
+    match send_once(alloc, writes, wanted) {
+        Some(Ok(right)) => right,
+        Some(Err(refused)) => refused && send_once(alloc, writes, wanted) == Some(Ok(true)),
+        None => false,
+    }
+}
+
+fn request_of(alloc: Global, size: usize) -> Option<String> {
+    match request_named(alloc, "\\\"", 3, size) {
+        Ok(request) => Some(request),
+        Err(AllocError) => request_named(alloc, "\\\"", 3, size).ok(),
+    }
+}
+
+// The same of three writes whose ids have quotes, with sources of so many bytes.
+fn sends_writes(alloc: Global, size: usize) -> Option<bool> {
+    let writes = writes_named(alloc, "\"", 3, size).or_else(|| writes_named(alloc, "\"", 3, size))?;
+    let wanted = request_of(alloc, size)?;
+    Some(sends(alloc, writes.as_slice(), wanted.as_bytes()))
+}
+
+#[test]
+fn refused_bulk_requests(rt: HostRuntime) {
+    for size in [100usize, 30_000] {
+        assert!(rt; sends_writes(rt.alloc(), size) == Some(true));
+    }
+}

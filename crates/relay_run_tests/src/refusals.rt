@@ -1,0 +1,369 @@
+//! Runs and what is said of them, of whose allocations any one may be refused (`make refusals`): they end well,
+//! or tell of the refusal, and then the next one ends well.
+ghost use Rattle.std.specs.Prelude.{◌≡◌, ◌∷◌, [], IfSome};
+ghost use Rattle.relay_wires.specs.Numbered.{numbers};
+
+use crate::loopback::CONFIG;
+use relay_action::{DocKey, MemStream, OpName, Text};
+use relay_core::{Cause, Report};
+use relay_index::{Index, Script};
+use relay_loop::{LoopWire, Wire};
+use relay_ndjson::{Input, InputFault, LineKind};
+use relay_producer::Producer;
+use relay_queue::{LaneTake, lane_queue};
+use relay_run::faults::{FileFault, add_file_fault};
+use relay_run::feed::{FeedFault, feed};
+use relay_run::outcome::outcome_text;
+use relay_run::run::{Ran, run};
+use relay_run::saving::save_reports;
+use relay_run::ticking::SleepPace;
+use relay_threads::{FinishFaultKind, StartFault};
+use relay_words::Exit;
+use std::alloc::{AllocError, Global};
+use std::sync::Wait;
+use std::thread::Threads;
+use std::time::Clock;
+
+const FAULT: FileFault = FileFault::Feed(FeedFault::Input(InputFault {
+    line: 17,
+    kind: LineKind::NotJson,
+}));
+
+const FAULT_LINE: &[u8] =
+    b"a-file-whose-name-has-more-than-thirty-eight-bytes.ndjson: line 17: NotJson\n";
+
+const FILE: &str = "a-file-whose-name-has-more-than-thirty-eight-bytes.ndjson";
+
+// Whether the line of a fault is added, by a second call if the first was refused when a front of it had been.
+fn adds_fault(text: &mut Vec<u8>) -> bool {
+    match add_file_fault(text, FILE, FAULT) {
+        Ok(()) => true,
+        Err(AllocError) => {
+            let front = FAULT_LINE.starts_with(text.as_slice());
+            text.clear();
+            front && add_file_fault(text, FILE, FAULT).is_ok()
+        }
+    }
+}
+
+fn has_fault(alloc: Global) -> bool {
+    let mut text = Vec::new(alloc);
+    adds_fault(&mut text) && text.as_slice() == FAULT_LINE
+}
+
+#[test]
+fn refused_fault_line(rt: HostRuntime) {
+    assert!(rt; has_fault(rt.alloc()));
+}
+
+fn report_once(alloc: Global) -> Option<Vec<Report>> {
+    let report = Report {
+        name: OpName {
+            epoch: 0,
+            producer: 1,
+            number: 3,
+        },
+        key: DocKey::new(alloc, "books", "a document of more than thirty-eight bytes").ok()?,
+        cause: Cause::Refused {
+            status: 400,
+            kind: Text::new(alloc, "mapper_parsing_exception").ok()?,
+        },
+    };
+    let mut reports = Vec::new(alloc);
+    reports.push(report).ok()?;
+    Some(reports)
+}
+
+fn report_of(alloc: Global) -> Option<Vec<Report>> {
+    report_once(alloc).or_else(|| report_once(alloc))
+}
+
+const OUTCOME: &[u8] =
+    b"report 1:3 books/a document of more than thirty-eight bytes Refused 400 mapper_parsing_exception\napplied 7 already 2 reported 1\n";
+
+// Whether an outcome is told, by a second call if the first was refused.
+fn tells(alloc: Global) -> Option<bool> {
+    let mut reports = report_of(alloc)?;
+    let text = match outcome_text(alloc, &mut reports, 7, 2) {
+        Ok(text) => text,
+        Err(AllocError) => outcome_text(alloc, &mut reports, 7, 2).ok()?,
+    };
+    Some(text.as_slice() == OUTCOME)
+}
+
+#[test]
+fn refused_outcome(rt: HostRuntime) {
+    assert!(rt; tells(rt.alloc()) == Some(true));
+}
+
+fn stream_once(alloc: Global, input: &[u8], room: usize) -> Option<MemStream> {
+    MemStream::new(alloc, input.to_vec(alloc).ok()?, room, 100, 0).ok()
+}
+
+fn stream_of(alloc: Global, input: &[u8], room: usize) -> Option<MemStream> {
+    stream_once(alloc, input, room).or_else(|| stream_once(alloc, input, room))
+}
+
+const SAVED: &[u8] =
+    b"{\"cause\":\"Refused\",\"id\":\"a document of more than thirty-eight bytes\",\"index\":\"books\",\"kind\":\"mapper_parsing_exception\",\"number\":3,\"producer\":1,\"status\":400}\n";
+
+const NOT_SAVED: &[u8] =
+    b"a-file-whose-name-has-more-than-thirty-eight-bytes.ndjson: write failed\n";
+
+/// What came of reports that were to be saved: how the program ends, if it does, how many bytes went into the
+/// file, and what was said.
+#[derive(Clone, Copy, PartialEq)]
+enum Saving {
+    Done(Exit, usize),
+    /// Nothing was said.
+    Refused,
+    Wrong,
+}
+
+// Saves reports in a file, and says what is to be said.
+fn save(
+    alloc: Global,
+    reports: &[Report],
+    file: &mut MemStream,
+    err: &mut MemStream,
+    said: &[u8],
+) -> Saving {
+    let saved = save_reports(alloc, Exit::Reported, FILE, reports, file, err);
+    if !SAVED.starts_with(file.written()) {
+        return Saving::Wrong;
+    }
+    match saved {
+        Ok(exit) if err.written() == said => Saving::Done(exit, file.written().len()),
+        Err(AllocError) if err.written().is_empty() => Saving::Refused,
+        _ => Saving::Wrong,
+    }
+}
+
+// Saves reports in a file that takes so many bytes.
+fn save_once(alloc: Global, room: usize, said: &[u8]) -> Option<Saving> {
+    let reports = report_of(alloc)?;
+    let mut file = stream_of(alloc, b"", room)?;
+    let mut err = stream_of(alloc, b"", 1_000)?;
+    Some(save(alloc, &reports, &mut file, &mut err, said))
+}
+
+// Whether they are saved, or that they could not be is said, by a second call if the first was refused.
+fn saves(alloc: Global, room: usize, exit: Exit, said: &[u8]) -> bool {
+    let done = Some(Saving::Done(exit, room.min(SAVED.len())));
+    match save_once(alloc, room, said) {
+        Some(Saving::Refused) => save_once(alloc, room, said) == done,
+        saved => saved == done,
+    }
+}
+
+const ROOMS: &[(usize, Exit, &[u8])] = &[
+    (1_000, Exit::Reported, b""),
+    (100, Exit::Device, NOT_SAVED),
+];
+
+#[test]
+fn refused_saving(rt: HostRuntime) {
+    for (room, exit, said) in ROOMS {
+        assert!(rt; saves(rt.alloc(), *room, *exit, *said));
+    }
+}
+
+const INPUT: &[u8] =
+    b"{\"delete\":{\"_id\":\"1\",\"_index\":\"books\"}}\n{\"index\":{\"_id\":\"a document of more than thirty-eight bytes\",\"_index\":\"books\"}}\n{\"a\":\"a source of more than thirty-eight bytes\"}\n{\"delete\":{\"_id\":\"\\u0031\",\"_index\":\"books\"}}\n";
+
+// A producer of one lane, and its taker.
+fn producer_once(alloc: Global) -> Option<(LaneTake, Producer)> {
+    let (take, puts) = lane_queue(alloc, 16, 1).ok()?;
+    Some((take, Producer::new(alloc, 0, 0, puts).ok()?))
+}
+
+/// How a producer was fed: how it ended, and the line of the last operation that was put.
+type Fed = (Result<(), FeedFault>, u64);
+
+// Feeds a producer, whose ends are dropped after it.
+fn feed_all<R: Wait>(rt: &R, alloc: Global, mut producer: Producer) -> Option<Fed> {
+    let mut input = Input::new(alloc, stream_of(alloc, INPUT, 0)?, None);
+    let end = feed(rt, &mut input, &mut producer);
+    Some((end, input.line()))
+}
+
+// How many messages a lane's queue has, of which all senders are gone.
+fn count<R: Wait>(rt: &R, take: &mut LaneTake) -> u64 {
+    let mut taken = 0u64;
+    for _ in 0..4u64 {
+        if take.take(rt).is_ok() {
+            taken = taken.saturating_add(1);
+        }
+    }
+    taken
+}
+
+// How a producer is fed, and how many operations went to its lane.
+fn feed_once<R: Wait>(rt: &R, alloc: Global) -> Option<(Fed, u64)> {
+    let (mut take, producer) = producer_once(alloc).or_else(|| producer_once(alloc))?;
+    let fed = feed_all(rt, alloc, producer)?;
+    Some((fed, count(rt, &mut take)))
+}
+
+// Whether a feed was refused at a line after this one, when the operations up to it had been put.
+fn is_cut(end: Result<(), FeedFault>, line: u64, put: u64) -> bool {
+    let before = match line {
+        0 => put == 0,
+        1 => put == 1,
+        2 => put == 2,
+        _ => put == 3,
+    };
+    match end {
+        Err(FeedFault::Input(fault)) => {
+            before && fault.kind == LineKind::Memory && fault.line > line
+        }
+        _ => false,
+    }
+}
+
+// Whether a producer is fed three operations, by a second call if the first was refused.
+fn feeds<R: Wait>(rt: &R, alloc: Global) -> bool {
+    let whole = Some(((Ok(()), 4), 3));
+    match feed_once(rt, alloc) {
+        Some(((end, line), put)) if end.is_err() => {
+            is_cut(end, line, put) && feed_once(rt, alloc) == whole
+        }
+        fed => fed == whole,
+    }
+}
+
+#[test]
+fn refused_feeding(rt: HostRuntime) {
+    assert!(rt; feeds(&rt, rt.alloc()));
+}
+
+// A list of one.
+fn one<T: Drop>(alloc: Global, x: T) -> Option<Vec<T>>
+    ensures { IfSome result (λ v. v.items ≡ x ∷ []) }
+{
+    let Ok(mut all) = Vec::with_capacity(alloc, 1) else {
+        return None;
+    };
+    all.push_reserved(x);
+    Some(all)
+}
+
+fn wire_of(alloc: Global) -> Option<LoopWire>
+    ensures { IfSome result (λ w. numbers w.out ≡ []) }
+{
+    LoopWire::new(alloc, Index::new(alloc), Script::new(alloc)).ok()
+}
+
+// Both producers' inputs.
+fn readers_of(alloc: Global) -> Option<Vec<Option<MemStream>>> {
+    let mut readers = Vec::new(alloc);
+    readers.push(Some(stream_of(alloc, INPUT, 0)?)).ok()?;
+    readers.push(Some(stream_of(alloc, INPUT, 0)?)).ok()?;
+    Some(readers)
+}
+
+// A run of two producers over a wire. `None`: an allocation of the test was refused.
+fn run_over<R, W>(rt: R, alloc: Global, wire: W) -> Option<Result<Ran<W>, StartFault>>
+where
+    R: Threads + Wait + Clock + Copy + Send + 'static,
+    W: Wire + Drop + Send + 'static,
+    requires { W.out wire ≡ [] }
+{
+    let wires = one(alloc, wire)?;
+    let paces = one(alloc, SleepPace::new(rt))?;
+    let readers = readers_of(alloc)?;
+    Some(run(rt, alloc, CONFIG, wires, paces, readers, None))
+}
+
+// The same over a wire in memory.
+fn run_once<R>(rt: R, alloc: Global) -> Option<Result<Ran<LoopWire>, StartFault>>
+where
+    R: Threads + Wait + Clock + Copy + Send + 'static,
+{
+    run_over(rt, alloc, wire_of(alloc)?)
+}
+
+// Whether a run was whole: each producer was fed its three operations, and each is applied, or reported as a
+// conflict of its document with the other producer's.
+fn is_whole(ran: &Ran<LoopWire>) -> bool {
+    let fed = ran.faults.iter().all(|fault| fault.is_none());
+    let taken = match &ran.end {
+        Ok(summary) => match summary.lanes.as_slice() {
+            [lane] => {
+                let settled = lane.applied.saturating_add(lane.already);
+                lane.taken == 6 && settled.saturating_add(lane.reports.len() as u64) == 6
+            }
+            _ => false,
+        },
+        Err(_) => false,
+    };
+    fed && taken
+}
+
+// Whether a fault of a producer, or of a relay's end, may come of a refusal.
+fn is_refused(fault: &Option<FeedFault>) -> bool {
+    match fault {
+        Some(FeedFault::Input(fault)) => fault.kind == LineKind::Memory,
+        Some(FeedFault::LaneGone) => true,
+        Some(FeedFault::NumbersSpent) => false,
+        None => true,
+    }
+}
+
+// Whether a run tells of a refusal, by a fault of a producer or at its end, and of nothing else.
+fn tells_refusal(ran: &Ran<LoopWire>) -> bool {
+    let (told, right) = match &ran.end {
+        Ok(_) => (false, true),
+        Err(fault) => {
+            let lane = fault.kind == FinishFaultKind::LaneMemory;
+            (true, lane || fault.kind == FinishFaultKind::Memory)
+        }
+    };
+    let faults = ran.faults.iter().any(|fault| fault.is_some());
+    (told || faults) && right && ran.faults.iter().all(is_refused)
+}
+
+/// What a run came to.
+#[derive(Clone, Copy, PartialEq)]
+enum Came {
+    Whole,
+    /// It tells of a refusal, or an allocation of the test was refused.
+    Refused,
+    Wrong,
+}
+
+fn came_of(ran: &Result<Ran<LoopWire>, StartFault>) -> Came {
+    let refused = match ran {
+        Ok(ran) if is_whole(ran) => return Came::Whole,
+        Ok(ran) => tells_refusal(ran),
+        Err(fault) => *fault == StartFault::Memory || *fault == StartFault::Thread,
+    };
+    if refused { Came::Refused } else { Came::Wrong }
+}
+
+fn come<R>(rt: R, alloc: Global) -> Came
+where
+    R: Threads + Wait + Clock + Copy + Send + 'static,
+{
+    match run_once(rt, alloc) {
+        Some(ran) => came_of(&ran),
+        None => Came::Refused,
+    }
+}
+
+// Whether a run delivers, by a second one if the first was refused.
+fn delivers<R>(rt: R, alloc: Global) -> bool
+where
+    R: Threads + Wait + Clock + Copy + Send + 'static,
+{
+    match come(rt, alloc) {
+        Came::Whole => true,
+        Came::Refused => come(rt, alloc) == Came::Whole,
+        Came::Wrong => false,
+    }
+}
+
+#[test]
+fn refused_run(rt: HostRuntime) {
+    assert!(rt; delivers(rt, rt.alloc()));
+}
