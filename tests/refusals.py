@@ -22,9 +22,8 @@ CRATES = os.path.join(TOP, "crates")
 TABLE = os.path.join(TOP, "docs", "CONTRIBUTING.md")
 HEADING = "## Each allocation refused in turn"
 REFUSED = b"REFUSED\n"
-# What allocates and tells nobody of a refusal, and the crates whose rows are still to come.
+# What allocates and reports no refusal.
 SILENT = {"relay_progress": ["show_progress"]}
-TO_COME = {"relay_threads"}
 # A test with more allocations than this is not one of a few calls; a run of it takes a few milliseconds.
 MOST, SECONDS = 20_000, 10
 FAULTS = []
@@ -179,7 +178,7 @@ def check_table():
     """Holds the table against the sources. How many calls it has."""
     refusals, table = refusal_types(), list(rows())
     named = [(crate, call) for crate, calls, _, _ in table for call in calls]
-    wanted = {crate: calls_that_allocate(crate, refusals) for crate in libraries() if crate not in TO_COME}
+    wanted = {crate: calls_that_allocate(crate, refusals) for crate in libraries()}
     for crate, calls in wanted.items():
         for call in sorted(calls):
             if (crate, call) not in named:

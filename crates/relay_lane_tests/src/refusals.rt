@@ -7,7 +7,7 @@ use crate::desk::{CONFIG, Desk, NO_PAUSES, closes, desk_of, puts};
 use crate::wires::{IndexWire, Way, wire_of};
 use relay_action::DocKey;
 use relay_index::Index;
-use relay_lane::{Lane, RelayConfig, drain, make_room, pump};
+use relay_lane::{Lane, RelayConfig, drain, make_room, pump, send_ready, settle_next};
 use std::alloc::{AllocError, Global};
 
 /// Room for the three operations, and no more.
@@ -59,6 +59,22 @@ fn pumps(lane: &mut Lane, wire: &mut IndexWire) -> bool
     }
 }
 
+// Sends what is ready, by a second call if the first was refused and left the lane as it was, and
+// settles it.
+fn sends(lane: &mut Lane, wire: &mut IndexWire) -> bool
+    requires { option_to_list wire.old.flying ≡ out_of lane.old.state }
+    ensures { option_to_list wire.new.flying ≡ out_of lane.new.state }
+{
+    let (held, totals) = (lane.held(), lane.totals());
+    let sent = match send_ready(lane, wire) {
+        Ok(sent) => sent == 1,
+        Err(AllocError) => {
+            lane.held() == held && lane.totals() == totals && send_ready(lane, wire) == Ok(1)
+        }
+    };
+    sent && lane.flying() == 1 && settle_next(lane, wire) && !settle_next(lane, wire)
+}
+
 // Makes room for an operation, by a second call if the first was refused.
 fn makes_room(lane: &mut Lane, wire: &mut IndexWire) -> bool
     requires { option_to_list wire.old.flying ≡ out_of lane.old.state }
@@ -107,10 +123,16 @@ fn puts_fourth(alloc: Global, desk: &mut Desk) -> bool
     puts(alloc, desk, 4, IDS[3], IDS[3]) || puts(alloc, desk, 4, IDS[3], IDS[3])
 }
 
-fn works(alloc: Global) -> Option<bool> {
+// Whether four operations are applied, the first three by a pump or by a request and its answer.
+fn works(alloc: Global, by_pump: bool) -> Option<bool> {
     let mut desk = made_again(alloc)?;
     let mut wire = wire_of(alloc, Way::Runs);
-    let good = pumps(&mut desk.lane, &mut wire)
+    let sent = if by_pump {
+        pumps(&mut desk.lane, &mut wire)
+    } else {
+        sends(&mut desk.lane, &mut wire)
+    };
+    let good = sent
         && makes_room(&mut desk.lane, &mut wire)
         && puts_fourth(alloc, &mut desk)
         && closes(&mut desk)
@@ -127,5 +149,7 @@ fn works(alloc: Global) -> Option<bool> {
 
 #[test]
 fn refused_turns(rt: HostRuntime) {
-    assert!(rt; works(rt.alloc()) == Some(true));
+    for by_pump in [true, false] {
+        assert!(rt; works(rt.alloc(), by_pump) == Some(true));
+    }
 }

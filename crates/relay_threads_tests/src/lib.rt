@@ -9,6 +9,8 @@ mod gates;
 #[cfg(test)]
 mod memory;
 #[cfg(test)]
+mod refusals;
+#[cfg(test)]
 mod relays;
 #[cfg(test)]
 mod tests;

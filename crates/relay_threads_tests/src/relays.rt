@@ -22,7 +22,8 @@ use std::test::Fail;
 use std::thread::Threads;
 use std::time::Clock;
 
-const CONFIG: RelayConfig = RelayConfig {
+/// Two producers, a queue of one place, and a lane that holds four operations.
+pub const CONFIG: RelayConfig = RelayConfig {
     lanes: 1,
     producers: 2,
     capacity: 1,
@@ -52,7 +53,7 @@ const FOUR_IN_FLIGHT: RelayConfig = RelayConfig {
 
 /// Why a run did not end well.
 #[derive(Clone, Copy, Debug, PartialEq, Eq)]
-enum RunFault {
+pub enum RunFault {
     Memory,
     NotPut,
     Start(StartFault),
@@ -218,8 +219,8 @@ fn all_applied<W>(lane: &LaneSummary<W>) -> bool {
         && lane.reports.is_empty()
 }
 
-// A relay of one wire.
-fn run_one<R, W>(
+/// A relay of one wire.
+pub fn run_one<R, W>(
     rt: R,
     alloc: Global,
     config: RelayConfig,

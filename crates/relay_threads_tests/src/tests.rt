@@ -88,8 +88,8 @@ fn start_senders<R: Threads + Wait + Copy + Send + 'static>(
     Ok(())
 }
 
-// A lane beside its senders' threads.
-fn run<R: Threads + Wait + Copy + Send + 'static>(
+/// A lane beside its senders' threads.
+pub fn run<R: Threads + Wait + Copy + Send + 'static>(
     rt: R,
     alloc: Global,
     count: u64,
