@@ -1,4 +1,4 @@
-//! What an HTTP reply tells a lane.
+//! What an HTTP reply means to a lane.
 ghost use Rattle.relay_http.specs.Reply.{reply_view};
 ghost use Rattle.relay_wires.specs.Told.{Tells};
 
@@ -10,9 +10,9 @@ use std::alloc::Global;
 // The status of a reply whose body has entries.
 const OK: u16 = 200;
 
-/// What a reply tells a lane, by its status: 200 gives its entries, and any other status is the
-/// answer to the request as a whole. `Unreadable`: the status is 200, and the body is no reply.
-/// `Memory`: allocation failed to read it.
+/// What a reply means to a lane, by its status: 200 returns its entries, and any other status is the
+/// answer to the request as a whole. `Unreadable`: the status is 200, and the body is not a bulk
+/// reply. `Memory`: an allocation failed.
 pub fn tell(alloc: Global, reply: &HttpReply) -> Result<WireReply, WireFault>
     ensures { Tells (reply_view reply.now) result }
 {
