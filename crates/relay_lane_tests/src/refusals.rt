@@ -59,20 +59,31 @@ fn pumps(lane: &mut Lane, wire: &mut IndexWire) -> bool
     }
 }
 
-// Sends what is ready, by a second call if the first was refused and left the lane as it was, and
-// settles it.
+// Sends the first request without a wait, by a second call if the first was refused and left the lane
+// as it was.
 fn sends(lane: &mut Lane, wire: &mut IndexWire) -> bool
     requires { option_to_list wire.old.flying ≡ out_of lane.old.state }
     ensures { option_to_list wire.new.flying ≡ out_of lane.new.state }
 {
     let (held, totals) = (lane.held(), lane.totals());
-    let sent = match send_ready(lane, wire) {
-        Ok(sent) => sent == 1,
+    match send_ready(lane, wire) {
+        Ok(sent) => sent == 1 && lane.flying() == 1,
         Err(AllocError) => {
             lane.held() == held && lane.totals() == totals && send_ready(lane, wire) == Ok(1)
         }
-    };
-    sent && lane.flying() == 1 && settle_next(lane, wire) && !settle_next(lane, wire)
+    }
+}
+
+// Has the first request settled, by a pump or by a request and its answer.
+fn settles_first(lane: &mut Lane, wire: &mut IndexWire, by_pump: bool) -> bool
+    requires { option_to_list wire.old.flying ≡ out_of lane.old.state }
+    ensures { option_to_list wire.new.flying ≡ out_of lane.new.state }
+{
+    if by_pump {
+        pumps(lane, wire)
+    } else {
+        sends(lane, wire) && settle_next(lane, wire) && !settle_next(lane, wire)
+    }
 }
 
 // Makes room for an operation, by a second call if the first was refused.
@@ -127,12 +138,7 @@ fn puts_fourth(alloc: Global, desk: &mut Desk) -> bool
 fn works(alloc: Global, by_pump: bool) -> Option<bool> {
     let mut desk = made_again(alloc)?;
     let mut wire = wire_of(alloc, Way::Runs);
-    let sent = if by_pump {
-        pumps(&mut desk.lane, &mut wire)
-    } else {
-        sends(&mut desk.lane, &mut wire)
-    };
-    let good = sent
+    let good = settles_first(&mut desk.lane, &mut wire, by_pump)
         && makes_room(&mut desk.lane, &mut wire)
         && puts_fourth(alloc, &mut desk)
         && closes(&mut desk)
