@@ -67,11 +67,20 @@ fn sends(lane: &mut Lane, wire: &mut IndexWire) -> bool
 {
     let (held, totals) = (lane.held(), lane.totals());
     match send_ready(lane, wire) {
-        Ok(sent) => sent == 1 && lane.flying() == 1,
+        Ok(sent) => sent == 1,
         Err(AllocError) => {
             lane.held() == held && lane.totals() == totals && send_ready(lane, wire) == Ok(1)
         }
     }
+}
+
+// Settles the request in flight; the wire may have been refused memory, so that none is.
+fn settles_one(lane: &mut Lane, wire: &mut IndexWire) -> bool
+    requires { option_to_list wire.old.flying ≡ out_of lane.old.state }
+    ensures { option_to_list wire.new.flying ≡ out_of lane.new.state }
+{
+    let flies = lane.flying() == 1;
+    settle_next(lane, wire) == flies
 }
 
 // Has the first request settled, by a pump or by a request and its answer.
@@ -82,7 +91,7 @@ fn settles_first(lane: &mut Lane, wire: &mut IndexWire, by_pump: bool) -> bool
     if by_pump {
         pumps(lane, wire)
     } else {
-        sends(lane, wire) && settle_next(lane, wire) && !settle_next(lane, wire)
+        sends(lane, wire) && settles_one(lane, wire) && !settle_next(lane, wire)
     }
 }
 
