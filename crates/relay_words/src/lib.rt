@@ -4,8 +4,8 @@
 //! `relay_run` alike.
 //!
 //! It depends on `relay_action`, `relay_results` and, for the faults of an input, `relay_ndjson`.
-//! Each function of `text` appends to a vector. `AllocError`: allocation failed, and a prefix of
-//! the text may have been appended.
+//! Each function of `text` appends to a vector. `AllocError`: allocation failed, and the vector's
+//! items are as before.
 #![tactic(auto)]
 
 pub mod exit;
