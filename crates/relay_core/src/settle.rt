@@ -50,9 +50,9 @@ fn report(held: &mut Held, write: Write, cause: Cause, reports: &mut Vec<Report>
     ensures len { (h : Kept) → first_of write.key held.old.list ≡ Some h → vec_len reports.new ≡ vec_len reports.old + 1 }
     ensures capacity { vec_capacity reports.new ≡ vec_capacity reports.old }
 {
-    if let Some(one) = held.take(&write.key) {
+    if let Some(name) = held.take(&write.key) {
         reports.push_reserved(Report {
-            name: one.name,
+            name,
             key: write.key,
             cause,
         });

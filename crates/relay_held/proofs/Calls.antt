@@ -4,12 +4,13 @@ use Rattle.std.specs.Prelude.{slice_get, option_map, cond}
 use Rattle.std.specs.List.{IsDistinct}
 use Rattle.std.specs.Map.{keys_of}
 use Rattle.relay_action.specs.declared.key.DocKey.{DocKey}
+use Rattle.relay_action.specs.declared.operation.OpName.{OpName}
 use Rattle.relay_delay.specs.declared.entry.Entry.{Entry}
 use Rattle.relay_delay.specs.Waiting.{Delays, without}
 use Rattle.relay_results.proofs.Lists.{apart_tests, none_some, some_same}
 use Rattle.relay_held.specs.declared.kept.Kept.{Kept}
 use Rattle.relay_held.specs.Kept.{waits_here, launch_one}
-use Rattle.relay_held.specs.Queues.{AllUnder, AllWait, same_key, first_of, with_first, without_first, on_first, merged, queue_of, Changes}
+use Rattle.relay_held.specs.Queues.{AllUnder, AllWait, same_key, first_of, with_first, without_first, on_first, merged, queue_of, first_name, Changes}
 use Rattle.relay_held.specs.Shelf.{Shelf, IsHeld, slot_of, KeepsSlots, entry_at, entry_after}
 use Rattle.relay_held.proofs.Merging.{same_self}
 use Rattle.relay_held.proofs.Changing.{Keeps}
@@ -82,10 +83,10 @@ take_joins v w key x o (h ∷ (y ∷ ys)) e c slots first wait is none =
     let same = slots key h y (ap (λ q. slice_get q 0) e) (head_after v w key (y ∷ ys) c) in
     inr (y, is ∙ ap (λ n. Some (entry_at n y)) (sym same), (refl, ap waits_here wait.0), none)
 
-pub taken : (v w : Shelf) (n : ℕ) (d : Delays) (key : DocKey) (x : Kept) (o : Option Entry) → IsHeld v n d → Changes v.queues w.queues key (drop 1 (queue_of v.queues key)) → KeepsSlots v w
+one_taken : (v w : Shelf) (n : ℕ) (d : Delays) (key : DocKey) (x : Kept) (o : Option Entry) → IsHeld v n d → Changes v.queues w.queues key (drop 1 (queue_of v.queues key)) → KeepsSlots v w
     → length (keys_of w.queues) ≤ length (keys_of v.queues) → IsDistinct same_key (keys_of w.queues) → slice_get (queue_of v.queues key) 0 ≡ Some x
     → o ≡ option_map (entry_at (slot_of v.slots key)) (slice_get (drop 1 (queue_of v.queues key)) 0) → Flies (merged v.queues) key → Moved w (n - 1) d o (without_first key (merged v.queues))
-taken v w n d key x o a c slots fewer unique first is flies =
+one_taken v w n d key x o a c slots fewer unique first is flies =
     let b = take_becomes v.queues w.queues n key x a.holding unique c first in
     record {
       becomes = b;
@@ -93,13 +94,29 @@ taken v w n d key x o a c slots fewer unique first is flies =
           (take_joins v w key x o (queue_of v.queues key) refl c slots first (subst (λ q. AllWait (drop 1 q)) (sym (a.holding.merge.queues key)) (a.holding.behind key)) is (none_waits v n d key a flies));
     }
 
+named_first : (q : List Kept) (name : OpName) → Some name ≡ first_name q → (x : Kept) × (slice_get q 0 ≡ Some x)
+named_first [] name e = absurd (cc)
+named_first (h ∷ hs) name e = (h, refl)
+
+no_first : (q : List Kept) → None ≡ first_name q → slice_get q 0 ≡ None
+no_first [] e = refl
+no_first (h ∷ hs) e = absurd (cc)
+
+pub taken : (v w : Shelf) (n : ℕ) (d : Delays) (key : DocKey) (name : OpName) (o : Option Entry) → IsHeld v n d → Changes v.queues w.queues key (drop 1 (queue_of v.queues key)) → KeepsSlots v w
+    → length (keys_of w.queues) ≤ length (keys_of v.queues) → IsDistinct same_key (keys_of w.queues) → Some name ≡ first_name (queue_of v.queues key)
+    → o ≡ option_map (entry_at (slot_of v.slots key)) (slice_get (drop 1 (queue_of v.queues key)) 0) → Flies (merged v.queues) key → Moved w (n - 1) d o (without_first key (merged v.queues))
+taken v w n d key name o a c slots fewer unique first is flies =
+    let x = named_first (queue_of v.queues key) name first in
+    one_taken v w n d key x.0 o a c slots fewer unique x.1 is flies
+
 none_joins : (v w : Shelf) (key : DocKey) (p : List Kept) → queue_of v.queues key ≡ p → slice_get p 0 ≡ None → Joins v w key (drop 1 p) None
 none_joins v w key [] e first = inl (refl, (λ y u. absurd (none_some y u.0)), (λ y u. (sym (ap (λ q. slice_get q 0) e) ∙ u.0, u.1)))
 none_joins v w key (h ∷ hs) e first = absurd (none_some h (sym first))
 
 pub none_taken : (v w : Shelf) (n : ℕ) (d : Delays) (key : DocKey) → IsHeld v n d → Changes v.queues w.queues key (drop 1 (queue_of v.queues key)) → KeepsSlots v w
-    → length (keys_of w.queues) ≤ length (keys_of v.queues) → IsDistinct same_key (keys_of w.queues) → slice_get (queue_of v.queues key) 0 ≡ None → Moved w n d None (without_first key (merged v.queues))
-none_taken v w n d key a c slots fewer unique first =
+    → length (keys_of w.queues) ≤ length (keys_of v.queues) → IsDistinct same_key (keys_of w.queues) → None ≡ first_name (queue_of v.queues key) → Moved w n d None (without_first key (merged v.queues))
+none_taken v w n d key a c slots fewer unique no_name =
+    let first = no_first (queue_of v.queues key) no_name in
     let b = none_becomes v.queues w.queues n key a.holding unique c first in
     record {
       becomes = b;

@@ -10,7 +10,7 @@ use Rattle.relay_delay.specs.declared.entry.Entry.{Entry}
 use Rattle.relay_results.proofs.Lists.{apart_tests, true_or_false, none_some, some_same, equal_or_not}
 use Rattle.relay_held.specs.declared.kept.Kept.{Kept}
 use Rattle.relay_held.specs.declared.documents.Taken.{Taken}
-use Rattle.relay_held.specs.Queues.{same_key, on_first, queue_of, Changes, NoneEmpty}
+use Rattle.relay_held.specs.Queues.{same_key, on_first, queue_of, first_name, Changes, NoneEmpty}
 use Rattle.relay_held.specs.Shelf.{queue_in, shelved, Shelf, IsShelf, Sets, slot_of, KeepsSlots, entry_at, entry_after}
 use Rattle.relay_held.proofs.Merging.{same_along}
 use Rattle.relay_held.proofs.Changing.{changes_none, same_queue}
@@ -269,13 +269,13 @@ pub unique_shown : (s t : Slab (List Kept)) (ss : List (DocKey × ℕ)) → IsSh
 unique_shown s t ss a = unique_keys t ss a.unique
 
 -- after the first of a queue came out, and a next one is there
-pub next_one : (r : Option Taken) (p q : List Kept) → is_some r ≡ true → IfSome r (λ t. p ≡ t.one ∷ q) → option_map (λ (t : Taken). t.one) r ≡ slice_get p 0
-next_one None p q i e = absurd (cc)
-next_one (Some t) p q i e = ap (λ x. slice_get x 0) (sym e)
+pub next_name : (r : Option Taken) (p : List Kept) → is_some r ≡ true → IfSome r (λ t. Some t.name ≡ first_name p) → option_map (λ (t : Taken). t.name) r ≡ first_name p
+next_name None p i e = absurd (cc)
+next_name (Some t) p i e = e
 
-pub next_left : (r : Option Taken) (p q : List Kept) → is_some r ≡ true → IfSome r (λ t. p ≡ t.one ∷ q) → q ≡ drop 1 p
+pub next_left : (r : Option Taken) (p q : List Kept) → is_some r ≡ true → IfSome r (λ t. q ≡ drop 1 p) → q ≡ drop 1 p
 next_left None p q i e = absurd (cc)
-next_left (Some t) p q i e = ap (drop 1) (sym e)
+next_left (Some t) p q i e = e
 
 pub if_some_map : (r : Option Taken) (P Q : Taken → Type 0) → ((t : Taken) → P t → Q t) → IfSome r P → IfSome r Q
 if_some_map None P Q f a = tt

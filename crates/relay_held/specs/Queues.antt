@@ -1,8 +1,9 @@
 -- The held list, and the queues of documents that it is made of.
-use Rattle.std.specs.Prelude.{◌≡◌, ℕ, ◌+◌, ◌<◌, List, [], ◌∷◌, Option, Some, None, unwrap_or, Bool, cond, not, ◌&&◌, nat_lt, nat_le, min, map, filter, length, drop, if◌then◌else◌}
+use Rattle.std.specs.Prelude.{◌≡◌, ℕ, ◌+◌, ◌<◌, List, [], ◌∷◌, Option, Some, None, unwrap_or, option_map, Bool, cond, not, ◌&&◌, nat_lt, nat_le, min, map, filter, length, drop, slice_get, if◌then◌else◌}
 use Rattle.std.specs.List.{list_any}
 use Rattle.std.specs.Map.{lookup}
 use Rattle.relay_action.specs.declared.key.DocKey.{DocKey}
+use Rattle.relay_action.specs.declared.operation.OpName.{OpName}
 use Rattle.relay_results.specs.Documents.{Document, document_of, same_document}
 use Rattle.relay_held.specs.declared.kept.Kept.{Kept}
 use Rattle.relay_held.specs.Kept.{waits_here}
@@ -47,6 +48,14 @@ without_first k (h ∷ hs) = if is_of k h then hs else h ∷ without_first k hs
 abbrev pub on_first : (Kept → Kept) → List Kept → List Kept
 on_first f [] = []
 on_first f (h ∷ hs) = f h ∷ hs
+
+-- the name of one that may be there
+abbrev pub name_in : Option Kept → Option OpName
+name_in o = option_map (λ (h : Kept). h.name) o
+
+-- the name of the first of a queue
+abbrev pub first_name : List Kept → Option OpName
+first_name q = name_in (slice_get q 0)
 
 abbrev pub is_later_kept : List Kept → Document → ℕ → Bool
 is_later_kept hs k version = list_any (λ (h : Kept). same_document (document_of h.key) k && nat_lt h.version version) hs

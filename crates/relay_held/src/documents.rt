@@ -9,14 +9,14 @@ ghost use Rattle.relay_action.specs.declared.key.DocKey.{DocKey};
 ghost use Rattle.relay_held.specs.declared.kept.Kept.{Kept};
 ghost use Rattle.relay_held.specs.declared.documents.Taken.{Taken};
 ghost use Rattle.relay_held.specs.Kept.{launch_one, back_at, halved_at, candidate_of};
-ghost use Rattle.relay_held.specs.Queues.{same_key, on_first, queue_of, Changes, NoneEmpty};
+ghost use Rattle.relay_held.specs.Queues.{same_key, on_first, first_name, queue_of, Changes, NoneEmpty};
 ghost use Rattle.relay_held.specs.Shelf.{queue_in, shelved, IsShelf, Sets, slot_of, KeepsSlots, entry_at, entry_after};
 
 use crate::held::NotHeld;
 use crate::kept::{Candidate, Kept, candidate_of};
 use crate::queue::Queue;
 use indexmap::IndexMap;
-use relay_action::{DocKey, Write};
+use relay_action::{DocKey, OpName, Write};
 use relay_delay::Entry;
 use slab::Slab;
 use std::alloc::{AllocError, Global};
@@ -39,11 +39,11 @@ impl Model for Documents {
     ghost invariant = { λ d. IsShelf d.slots.entries d.queues };
 }
 
-/// The first operation of a document, taken out.
+/// The first operation of a document, which was taken out.
 #[derive(Debug, Drop)]
 pub struct Taken {
-    /// The operation.
-    pub one: Kept,
+    /// Its name.
+    pub name: OpName,
     /// The entry of the next operation, which is now the first, if there is one.
     pub next: Option<Entry>,
 }
@@ -54,6 +54,16 @@ fn head_in(queues: &Slab<Queue>, slot: usize) -> Option<&Kept>
 {
     match queues.get(slot) {
         Some(queue) => Some(queue.head()),
+        None => None,
+    }
+}
+
+// The name of the first operation of the queue in a slot.
+fn name_in(queues: &Slab<Queue>, slot: usize) -> Option<OpName>
+    ensures { result ≡ first_name (queue_in queues.now slot) }
+{
+    match head_in(queues, slot) {
+        Some(one) => Some(one.name),
         None => None,
     }
 }
@@ -123,7 +133,9 @@ fn push_in(queues: &mut Slab<Queue>, slot: usize, one: Kept) -> Result<(), NotHe
 // Takes the first operation of the queue in a slot out, unless it is the last one.
 fn next_in(queues: &mut Slab<Queue>, slot: usize) -> Option<Taken>
     ensures left { Sets queues.old queues.new slot (queue_in queues.new slot) }
-    ensures one { IfSome result (λ t. queue_in queues.old slot ≡ t.one ∷ queue_in queues.new slot) }
+    ensures name { IfSome result (λ t. Some t.name ≡ first_name (queue_in queues.old slot)) }
+    ensures rest { IfSome result (λ _.
+        queue_in queues.new slot ≡ drop 1 (queue_in queues.old slot)) }
     ensures next { IfSome result (λ t. t.next
         ≡ option_map (entry_at slot) (slice_get (queue_in queues.new slot) 0)) }
     ensures some { IfSome result (λ t. 0 < length (queue_in queues.new slot)) }
@@ -134,9 +146,9 @@ fn next_in(queues: &mut Slab<Queue>, slot: usize) -> Option<Taken>
         return None;
     };
     match queue.next() {
-        Some(one) => {
+        Some(name) => {
             let next = Some(queue.entry(slot));
-            Some(Taken { one, next })
+            Some(Taken { name, next })
         }
         None => None,
     }
@@ -224,19 +236,18 @@ fn remove(
     ensures removed { Changes (shelved queues.old slots.old.entries)
         (shelved queues.new slots.new.entries) key.now [] }
     ensures shelf { IsShelf slots.new.entries queues.new }
-    ensures one { option_map (λ (t : Taken). t.one) result
-        ≡ slice_get (queue_in queues.old slot) 0 }
+    ensures name { option_map (λ (t : Taken). t.name) result
+        ≡ first_name (queue_in queues.old slot) }
     ensures next { IfSome result (λ t. t.next ≡ None) }
     ensures others { (k : DocKey) → same_key key.now k ≡ false
         → lookup (same_key k) slots.new.entries ≡ lookup (same_key k) slots.old.entries }
     ensures fewer { length slots.new.entries ≤ length slots.old.entries }
 {
+    let name = name_in(queues, slot);
     let _ = slots.swap_remove(key);
-    match queues.try_remove(slot) {
-        Some(queue) => Some(Taken {
-            one: queue.into_head(),
-            next: None,
-        }),
+    let _ = queues.try_remove(slot);
+    match name {
+        Some(name) => Some(Taken { name, next: None }),
         None => None,
     }
 }
@@ -253,8 +264,8 @@ fn take_in(
     ensures taken { Changes (shelved queues.old slots.old.entries)
         (shelved queues.new slots.new.entries) key.now (drop 1 (queue_in queues.old slot)) }
     ensures shelf { IsShelf slots.new.entries queues.new }
-    ensures one { option_map (λ (t : Taken). t.one) result
-        ≡ slice_get (queue_in queues.old slot) 0 }
+    ensures name { option_map (λ (t : Taken). t.name) result
+        ≡ first_name (queue_in queues.old slot) }
     ensures next { IfSome result (λ t. t.next
         ≡ option_map (entry_at slot) (slice_get (drop 1 (queue_in queues.old slot)) 0)) }
     ensures kept { (k : DocKey) (h : Kept)
@@ -395,8 +406,8 @@ impl Documents {
     pub(crate) fn take(&mut self, key: &DocKey) -> Option<Taken>
         ensures taken { Changes self.old.queues self.new.queues key.now
             (drop 1 (queue_of self.old.queues key.now)) }
-        ensures one { option_map (λ (t : Taken). t.one) result
-            ≡ slice_get (queue_of self.old.queues key.now) 0 }
+        ensures name { option_map (λ (t : Taken). t.name) result
+            ≡ first_name (queue_of self.old.queues key.now) }
         ensures next { IfSome result (λ t. t.next
             ≡ option_map (entry_at (slot_of self.old.slots key.now))
             (slice_get (drop 1 (queue_of self.old.queues key.now)) 0)) }

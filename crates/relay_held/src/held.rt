@@ -6,11 +6,11 @@ ghost use Rattle.relay_delay.specs.Waiting.{has_version};
 ghost use Rattle.relay_held.specs.declared.kept.Kept.{Kept};
 ghost use Rattle.relay_held.specs.Shelf.{with_entry};
 ghost use Rattle.relay_held.specs.Kept.{waits_here, launch_one, back_at, halved_at, candidate_of};
-ghost use Rattle.relay_held.specs.Queues.{AllUnder, first_of, with_first, without_first, candidates_kept, first_due_kept, is_eligible_kept, Rises, OnlyFirstsFly, documents, distinct, later};
+ghost use Rattle.relay_held.specs.Queues.{AllUnder, first_of, name_in, with_first, without_first, candidates_kept, first_due_kept, is_eligible_kept, Rises, OnlyFirstsFly, documents, distinct, later};
 
 use crate::documents::{Documents, Taken};
 use crate::kept::{Candidate, Kept};
-use relay_action::{DocKey, Write};
+use relay_action::{DocKey, OpName, Write};
 use relay_delay::{DelayQueue, Entry};
 use std::alloc::{AllocError, Global};
 use std::marker::Model;
@@ -186,20 +186,20 @@ impl Held {
         wait(&mut self.waiting, entry);
     }
 
-    /// Takes out the first operation of a document, which must be in flight if one is held. It does
-    /// not allocate.
-    pub fn take(&mut self, key: &DocKey) -> Option<Kept>
+    /// Takes out the first operation of a document, which must be in flight if one is held, and
+    /// returns its name. It does not allocate.
+    pub fn take(&mut self, key: &DocKey) -> Option<OpName>
         requires flies { (h : Kept) → first_of key.now self.old.list ≡ Some h
             → waits_here h.flies ≡ false }
         ensures list { self.new.list ≡ without_first key.now self.old.list }
-        ensures one { result ≡ first_of key.now self.old.list }
+        ensures name { result ≡ name_in (first_of key.now self.old.list) }
         ensures clock { self.new.clock ≡ self.old.clock }
     {
         match self.documents.take(key) {
-            Some(Taken { one, next }) => {
+            Some(Taken { name, next }) => {
                 wait(&mut self.waiting, next);
                 self.count -= 1;
-                Some(one)
+                Some(name)
             }
             None => None,
         }

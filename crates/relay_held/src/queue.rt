@@ -1,17 +1,16 @@
 //! The queue of one document.
 ghost use Rattle.std.specs.Prelude.{◌≡◌, ◌++◌, ◌∷◌, [], ◌<◌, Some, None, drop, slice_get, OnOk, OnErr, IfErr, IfSome, IfNone, length, option_map};
 ghost use Rattle.relay_held.specs.Kept.{launch_one, back_at, halved_at};
-ghost use Rattle.relay_held.specs.Queues.{on_first};
+ghost use Rattle.relay_held.specs.Queues.{on_first, first_name};
 ghost use Rattle.relay_held.specs.Shelf.{entry_at};
 
 use crate::held::NotHeld;
 use crate::kept::{Kept, Spot};
-use relay_action::Write;
+use relay_action::{OpName, Write};
 use relay_delay::Entry;
 use std::alloc::Global;
 use std::collections::VecDeque;
 use std::marker::Model;
-use std::mem::replace;
 
 /// The held operations of one document, at least one, in ascending order of version.
 #[derive(Debug, Drop)]
@@ -123,24 +122,21 @@ impl Queue {
         halve_one(&mut self.head, due, cap, write);
     }
 
-    /// Takes the first operation out, unless it is the only one.
-    pub(crate) fn next(&mut self) -> Option<Kept>
-        ensures some { IfSome result (λ h. self.old ≡ h ∷ self.new) }
+    /// Drops the first operation, unless it is the only one, and returns its name.
+    pub(crate) fn next(&mut self) -> Option<OpName>
+        ensures name { IfSome result (λ name. Some name ≡ first_name self.old) }
+        ensures rest { IfSome result (λ _. self.new ≡ drop 1 self.old) }
         ensures left { 0 < length self.new }
         ensures none { IfNone result (drop 1 self.old ≡ []) }
         ensures unchanged { IfNone result (self.new ≡ self.old) }
     {
         match self.behind.pop_front() {
-            Some(second) => Some(replace(&mut self.head, second)),
+            Some(second) => {
+                let name = self.head.name;
+                self.head = second;
+                Some(name)
+            }
             None => None,
         }
-    }
-
-    /// The operation of a queue of one.
-    pub(crate) fn into_head(self) -> Kept
-        ensures { self ≡ result ∷ drop 1 self }
-    {
-        let Queue { head, .. } = self;
-        head
     }
 }

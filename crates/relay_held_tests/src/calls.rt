@@ -67,11 +67,11 @@ fn first_of(
     }
 }
 
-// Sends what may be sent, and takes out the first operation of a document.
+// Sends what may be sent, and takes out the first operation of a document, whose number is its version.
 fn takes(alloc: Global, desk: &mut Desk, document: u64) -> Result<Option<u64>, Fail> {
     let _ = launch(desk, 0, 0);
     let key = key_of(alloc, document).ok_or("no key")?;
-    Ok(take(desk, &key).map(|one| one.version))
+    Ok(take(desk, &key).map(|name| name.number))
 }
 
 // Two operations of document 0, and one of document 1 that is due at tick 5.

@@ -125,9 +125,9 @@ pub fn halve(desk: &mut Desk, due: u64, cap: u32, write: Write) -> bool {
     true
 }
 
-/// Takes out the first operation of a document, which is in flight. `None` if it waits, or none is
-/// held.
-pub fn take(desk: &mut Desk, key: &DocKey) -> Option<Kept> {
+/// Takes out the first operation of a document, which is in flight, and returns its name. `None` if
+/// it waits, or none is held.
+pub fn take(desk: &mut Desk, key: &DocKey) -> Option<OpName> {
     if waits(&desk.held, key) {
         return None;
     }

@@ -138,7 +138,7 @@ fn takes_of(game: &mut Game, document: u64, key: &DocKey) -> bool {
         return take(&mut game.desk, key).is_none();
     }
     match take(&mut game.desk, key) {
-        Some(one) => at < game.rows.len() && game.rows.remove(at).is(&one) && one.key == *key,
+        Some(name) => at < game.rows.len() && game.rows.remove(at).version == name.number,
         None => at == game.rows.len(),
     }
 }
