@@ -1,7 +1,9 @@
 //! A stream in memory, for tests and for streams within one process.
-ghost use Rattle.std.specs.Prelude.{◌≡◌, ◌++◌, ◌-◌, ◌<◌, ◌≤◌, min, [], length, take, drop, not, None, Some, IfOk, OnErr, is_ok, if◌then◌else◌};
+ghost use Rattle.std.specs.Prelude.{◌≡◌, ◌++◌, ◌-◌, ◌<◌, ◌≤◌, min, [], length, take, drop, not};
+ghost use Rattle.std.specs.Prelude.{None, Some, IfOk, OnErr, is_ok, if◌then◌else◌};
 ghost use Rattle.std.specs.Io.KnownBytes.{append_known, prepend_known, IsAtEnd};
-ghost use Rattle.relay_action.specs.Streams.{fresh, is_call, is_full, called, refused, given, taken, given_count, taken_count, one_more, takes_some};
+ghost use Rattle.relay_action.specs.Streams.{fresh, is_call, is_full, called, refused, given};
+ghost use Rattle.relay_action.specs.Streams.{taken, given_count, taken_count, one_more, takes_some};
 
 use crate::stream::{ByteIn, ByteOut, ByteStream, StreamFailed};
 use std::alloc::{AllocError, Global};
@@ -37,7 +39,8 @@ impl Model for MemStream {
       failed = s.failed;
     } };
 
-    ghost invariant = { λ s. (s.at ≤ vec_len s.input) × (vec_len s.output ≤ s.room) × (s.room ≤ vec_capacity s.output) × (0 < s.piece) };
+    ghost invariant = { λ s. (s.at ≤ vec_len s.input) × (vec_len s.output ≤ s.room)
+        × (s.room ≤ vec_capacity s.output) × (0 < s.piece) };
 }
 
 impl MemStream {

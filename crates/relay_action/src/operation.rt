@@ -35,7 +35,13 @@ pub struct Op {
 impl Op {
     /// The operation's name.
     pub fn name(&self) -> OpName
-        ensures { result ≡ record { epoch = self.now.epoch; producer = self.now.producer; number = self.now.number } }
+        ensures { result
+            ≡ record {
+              epoch = self.now.epoch;
+              producer = self.now.producer;
+              number =
+                  self.now.number;
+            } }
     {
         let Op {
             epoch,

@@ -60,7 +60,8 @@ impl<R: io::Read> ByteIn for StdStream<R> {
     fn read(&mut self, buffer: &mut [u8]) -> Result<usize, StreamFailed>
         ensures bound { IfOk result (λ n. n ≤ length buffer.new) }
         ensures count { self.new.1 ≡ (if is_ok result then self.old.1 else one_more self.old.1) }
-        ensures reader { ReadConsumes (R.remaining self.old.0) (R.remaining self.new.0) result buffer.new }
+        ensures reader { ReadConsumes (R.remaining self.old.0) (R.remaining self.new.0) result
+            buffer.new }
     {
         match self.inner.read(buffer) {
             Ok(count) => Ok(count),
@@ -74,7 +75,8 @@ impl<W: io::Write> ByteOut for StdStream<W> {
         ensures bound { IfOk result (λ n. n ≤ length bytes.now) }
         ensures count { self.new.1 ≡
             (if takes_some result bytes.now then self.old.1 else one_more self.old.1) }
-        ensures writer { WriteAppends (W.contents self.old.0) (W.contents self.new.0) result bytes.now }
+        ensures writer { WriteAppends (W.contents self.old.0) (W.contents self.new.0) result
+            bytes.now }
     {
         match self.inner.write(bytes) {
             Ok(0) if !bytes.is_empty() => Err(self.fail()),

@@ -1,5 +1,6 @@
 //! Byte streams, which show contracts what went through them if they can, and count failed calls.
-ghost use Rattle.std.specs.Prelude.{◌≡◌, ◌<◌, ◌≤◌, ℕ, List, [], length, take, Option, IfOk, IfErr, OnOk, OnErr, is_ok, if◌then◌else◌};
+ghost use Rattle.std.specs.Prelude.{◌≡◌, ◌<◌, ◌≤◌, ℕ, List, [], length, take, Option, IfOk, IfErr};
+ghost use Rattle.std.specs.Prelude.{OnOk, OnErr, is_ok, if◌then◌else◌};
 ghost use Rattle.std.specs.Io.KnownBytes.{append_known, prepend_known, IsAtEnd};
 ghost use Rattle.relay_action.specs.Streams.{one_more, takes_some, FailedSince};
 
@@ -49,7 +50,8 @@ pub trait ByteOut: ByteStream {
             (λ n. Self.written self.new ≡ append_known (Self.written self.old) (take n bytes.now)) }
         ensures err { OnErr result (Self.written self.new ≡ Self.written self.old) }
         ensures count { Self.failed self.new ≡
-            (if takes_some result bytes.now then Self.failed self.old else one_more (Self.failed self.old)) }
+            (if takes_some result bytes.now then Self.failed self.old else one_more
+            (Self.failed self.old)) }
         ensures left { Self.left self.new ≡ Self.left self.old };
 }
 

@@ -1,9 +1,12 @@
 //! A batch while it is gathered.
-ghost use Rattle.std.specs.Prelude.{◌≡◌, ◌+◌, [], MatchOption, OnErr, IfOk, None, Some, if◌then◌else◌};
+ghost use Rattle.std.specs.Prelude.{◌≡◌, ◌+◌, [], MatchOption, OnErr, IfOk, None, Some};
+ghost use Rattle.std.specs.Prelude.{if◌then◌else◌};
 ghost use Rattle.std.specs.Prelude.{◌≤◌, nat_eq};
 ghost use Rattle.indexmap.specs.IndexSet.{insert_key, spare};
 ghost use Rattle.relay_batch.specs.Batches.{IsBatch, bytes_of};
-ghost use Rattle.relay_batch.specs.Gathering.{holds_document, is_count_reached, passes_count, passes_bytes, answer_to, after_offer, is_ready, room_of};
+ghost use Rattle.relay_batch.specs.Gathering.{holds_document, is_count_reached, passes_count};
+ghost use Rattle.relay_batch.specs.Gathering.{passes_bytes, answer_to, after_offer, is_ready};
+ghost use Rattle.relay_batch.specs.Gathering.{room_of};
 
 use crate::batch::Batch;
 use crate::item::{BatchItem, Limits, Room};

@@ -163,7 +163,9 @@ fn drive<R: Clock>(
     mails: Vec<Mail>,
     wanted: u32,
 ) -> Result<LaneTimes, BenchFault>
-    ensures { IfOk result (λ t. (t.take ≤ 10 ^ 18) × (t.request ≤ 10 ^ 18) × (t.reply ≤ 10 ^ 18) × (t.due ≤ 10 ^ 18)) }
+    ensures { IfOk result
+        (λ t. (t.take ≤ 10 ^ 18) × (t.request ≤ 10 ^ 18) × (t.reply ≤ 10 ^ 18)
+        × (t.due ≤ 10 ^ 18)) }
 {
     let start = Instant::now(rt)?;
     take_all(lane, mails)?;
@@ -192,7 +194,9 @@ pub fn measure<R: Clock>(
     documents: u32,
 ) -> Result<LaneTimes, BenchFault>
     requires { 0 < documents }
-    ensures { IfOk result (λ t. (t.take ≤ 10 ^ 18) × (t.request ≤ 10 ^ 18) × (t.reply ≤ 10 ^ 18) × (t.due ≤ 10 ^ 18)) }
+    ensures { IfOk result
+        (λ t. (t.take ≤ 10 ^ 18) × (t.request ≤ 10 ^ 18) × (t.reply ≤ 10 ^ 18)
+        × (t.due ≤ 10 ^ 18)) }
 {
     let config = RelayConfig {
         lanes: 1,

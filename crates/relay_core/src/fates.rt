@@ -80,7 +80,8 @@ fn fate_next(kind: ActionKind, entry: Option<Outcome>, sends: u32, attempts: u32
 pub(crate) fn fate_in(one: &Kept, whole: Way, entry: Option<Outcome>, max: u32) -> Fate
     ensures { said result
         ≡ fate_or whole
-        (fate_of_entry (record { sends = one.now.sends; attempts = one.now.attempts; max = max }) one.now.kind entry) }
+        (fate_of_entry (record { sends = one.now.sends; attempts = one.now.attempts; max = max })
+        one.now.kind entry) }
 {
     match whole {
         Way::Reported(status) => Fate::Reported(Cause::Request { status }),

@@ -1,5 +1,6 @@
 //! The next batch.
-ghost use Rattle.std.specs.Prelude.{◌≡◌, ◌||◌, true, IfOk, IfSome, OnErr, min, ◌+◌, ◌<◌, ◌≤◌, length, []};
+ghost use Rattle.std.specs.Prelude.{◌≡◌, ◌||◌, true, IfOk, IfSome, OnErr, min, ◌+◌, ◌<◌, ◌≤◌};
+ghost use Rattle.std.specs.Prelude.{length, []};
 ghost use Rattle.relay_core.specs.Walk.{item_of_candidate, items_of_kept};
 ghost use Rattle.relay_core.specs.Rule.{offered, closes, is_marked, batch_of};
 ghost use Rattle.relay_core.specs.Quiet.{is_roomy, no_room, less, IsQuiet};
@@ -9,8 +10,8 @@ use relay_batch::{Batch, BatchItem, Batcher, Limits, Offer, Room};
 use relay_held::{Candidate, Held};
 use std::alloc::{AllocError, Global};
 
-// The item of a candidate. Its own version serves as the number of its document, since nothing older
-// is held of that document.
+// The item of a candidate. Its own version serves as the number of its document, since nothing
+// older is held of that document.
 fn item_of(one: Candidate) -> BatchItem
     ensures { result ≡ item_of_candidate one }
 {
@@ -50,13 +51,21 @@ pub(crate) fn gather(
     limits: Limits,
     looks: &mut u64,
 ) -> Result<Gathered, AllocError>
-    ensures batch { IfOk result (λ g. g.batcher ≡ offered (items_of_kept held.old.list held.old.clock held.old.list) (record { limits = limits; items = [] })) }
-    ensures err { OnErr result (0 < length (items_of_kept held.old.list held.old.clock held.old.list)) }
-    ensures closed { IfOk result (λ g. g.closed ≡ closes (items_of_kept held.old.list held.old.clock held.old.list) (record { limits = limits; items = [] })) }
+    ensures batch { IfOk result
+        (λ g. g.batcher
+        ≡ offered (items_of_kept held.old.list held.old.clock held.old.list)
+        (record { limits = limits; items = [] })) }
+    ensures err { OnErr result
+        (0 < length (items_of_kept held.old.list held.old.clock held.old.list)) }
+    ensures closed { IfOk result
+        (λ g. g.closed
+        ≡ closes (items_of_kept held.old.list held.old.clock held.old.list)
+        (record { limits = limits; items = [] })) }
     ensures held { held.new ≡ held.old }
     ensures looks { looks.new ≤ looks.old + distinct (documents held.old.list) }
     ensures looks_rise { looks.old ≤ looks.new }
-    ensures looked { IfOk result (λ g. min (looks.old + length g.batcher.items) 18446744073709551615 ≤ looks.new) }
+    ensures looked { IfOk result
+        (λ g. min (looks.old + length g.batcher.items) 18446744073709551615 ≤ looks.new) }
 {
     let mut batcher = Batcher::new(alloc, limits);
     'candidates: for at in 0..held.documents() {
@@ -104,8 +113,8 @@ pub struct Due {
     /// Nothing is to be sent until more than this was taken, unless a tick passes, a flush or an
     /// answer arrives, or a sender closes.
     pub room: Room,
-    /// How much may be taken beside the batch while it is in flight: as much as one request carries,
-    /// or nothing if some operation that may be sent is left.
+    /// How much may be taken beside the batch while it is in flight: as much as one request
+    /// carries, or nothing if some operation that may be sent is left.
     pub ahead: Room,
 }
 
@@ -158,14 +167,20 @@ pub(crate) fn due_batch(
     limits: Limits,
     looks: &mut u64,
 ) -> Result<Due, AllocError>
-    ensures batch { IfOk result (λ d. d.batch ≡ batch_of held.old.clock mark all_closed limits (items_of_kept held.old.list held.old.clock held.old.list)) }
+    ensures batch { IfOk result
+        (λ d. d.batch
+        ≡ batch_of held.old.clock mark all_closed limits
+        (items_of_kept held.old.list held.old.clock held.old.list)) }
     ensures quiet { IfOk result (λ d. is_roomy d.room ≡ true
-        → IsQuiet held.old.clock mark all_closed limits (items_of_kept held.old.list held.old.clock held.old.list) d.room) }
-    ensures err { OnErr result (0 < length (items_of_kept held.old.list held.old.clock held.old.list)) }
+        → IsQuiet held.old.clock mark all_closed limits
+        (items_of_kept held.old.list held.old.clock held.old.list) d.room) }
+    ensures err { OnErr result
+        (0 < length (items_of_kept held.old.list held.old.clock held.old.list)) }
     ensures held { held.new ≡ held.old }
     ensures looks { looks.new ≤ looks.old + distinct (documents held.old.list) }
     ensures looks_rise { looks.old ≤ looks.new }
-    ensures looked { IfOk result (λ d. IfSome d.batch (λ b. min (looks.old + length b) 18446744073709551615 ≤ looks.new)) }
+    ensures looked { IfOk result
+        (λ d. IfSome d.batch (λ b. min (looks.old + length b) 18446744073709551615 ≤ looks.new)) }
 {
     let Gathered { batcher, closed } = gather(alloc, held, limits, looks)?;
     let is_ready = batcher.ready(held.clock());

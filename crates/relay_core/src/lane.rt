@@ -1,5 +1,8 @@
 //! The lane.
-ghost use Rattle.std.specs.Prelude.{◌≡◌, ◌≢◌, unwrap_or, ◌≤◌, ◌<◌, ◌+◌, ◌-◌, ◌/◌, ◌++◌, ◌∷◌, [], true, Some, None, IfOk, OnOk, OnErr, IfErr, IfSome, OnSome, IfNone, map, option_map, is_some, is_ok, if◌then◌else◌, length, vec_len, vec_capacity};
+ghost use Rattle.std.specs.Prelude.{◌≡◌, ◌≢◌, unwrap_or, ◌≤◌, ◌<◌, ◌+◌, ◌-◌, ◌/◌, ◌++◌, ◌∷◌, []};
+ghost use Rattle.std.specs.Prelude.{true, Some, None, IfOk, OnOk, OnErr, IfErr, IfSome, OnSome};
+ghost use Rattle.std.specs.Prelude.{IfNone, map, option_map, is_some, is_ok, if◌then◌else◌, length};
+ghost use Rattle.std.specs.Prelude.{vec_len, vec_capacity};
 ghost use Rattle.std.specs.List.{list_all};
 ghost use Rattle.relay_results.specs.Numbers.{from_zero};
 ghost use Rattle.relay_results.specs.Outside.{Answer, Lost, Whole, Items};
@@ -10,7 +13,10 @@ ghost use Rattle.relay_delivery.specs.Lane.{candidates};
 ghost use Rattle.relay_core.specs.Limits.{is_valid};
 ghost use Rattle.relay_core.specs.Walk.{report_of};
 ghost use Rattle.relay_core.specs.Memory.{SaysAs, IsHalf};
-ghost use Rattle.relay_core.specs.State.{fresh, taken, after_take, take_fault, is_put, all_closed, ticked, flushed, is_flying, oldest, writes_of, answered, AreCounts, next_batch, after_request, looked, looked_at_least, due_in, is_finished, IsLane};
+ghost use Rattle.relay_core.specs.State.{fresh, taken, after_take, take_fault, is_put, all_closed};
+ghost use Rattle.relay_core.specs.State.{ticked, flushed, is_flying, oldest, writes_of, answered};
+ghost use Rattle.relay_core.specs.State.{AreCounts, next_batch, after_request, looked};
+ghost use Rattle.relay_core.specs.State.{looked_at_least, due_in, is_finished, IsLane};
 
 use crate::config::{RelayConfig, first_in};
 use crate::fates::Way;
@@ -279,7 +285,8 @@ impl Lane {
     /// message is returned with it, and the lane is unchanged.
     pub fn take(&mut self, mail: Mail) -> Result<(), (TakeFault, Mail)>
         requires { mail.sender < length self.old.state.closed }
-        ensures ok { OnOk result (self.new.state ≡ after_take self.old.state mail.sender mail.body) }
+        ensures ok { OnOk result
+            (self.new.state ≡ after_take self.old.state mail.sender mail.body) }
         ensures unchanged { OnErr result (self.new ≡ self.old) }
         ensures looks { self.new.looks ≡ self.old.looks }
         ensures back { IfErr result (λ e. e.1 ≡ mail) }
@@ -343,12 +350,15 @@ impl Lane {
     pub fn request(&mut self) -> Result<Option<u64>, AllocError>
         ensures when { IfOk result (λ o. is_some o ≡ is_some (next_batch self.old.state)) }
         ensures number { IfOk result (λ o. IfSome o (λ n. n ≡ self.old.state.flights.next)) }
-        ensures after { OnOk result (self.new.state ≡ after_request self.old.state (next_batch self.old.state)) }
+        ensures after { OnOk result
+            (self.new.state ≡ after_request self.old.state (next_batch self.old.state)) }
         ensures unchanged { OnErr result (self.new.state ≡ self.old.state) }
         ensures looks { self.new.looks ≤ looked self.old }
         ensures looks_rise { self.old.looks ≤ self.new.looks }
-        ensures looks_sent { IfOk result (λ o. OnSome o (looked_at_least self.old ≤ self.new.looks)) }
-        ensures place { OnErr result (length self.old.state.flights.batches < self.old.state.config.in_flight) }
+        ensures looks_sent { IfOk result
+            (λ o. OnSome o (looked_at_least self.old ≤ self.new.looks)) }
+        ensures place { OnErr result
+            (length self.old.state.flights.batches < self.old.state.config.in_flight) }
         ensures candidates { OnErr result (0 < length (candidates self.old.state.core)) }
     {
         if is_roomy(self.room) {
@@ -380,10 +390,10 @@ impl Lane {
     }
 
     /// Whether the next request is still being gathered: none would be formed now, and more may be
-    /// taken before [`Lane::request`] is worth a call or an answer is worth waiting for. So it is while
-    /// what may be sent is less than a batch and nobody asks for it, and, if all places in flight are
-    /// taken, while what was taken since is less than a batch and nothing was left over. `false`
-    /// promises nothing.
+    /// taken before [`Lane::request`] is worth a call or an answer is worth waiting for. So it is
+    /// while what may be sent is less than a batch and nobody asks for it, and, if all places in
+    /// flight are taken, while what was taken since is less than a batch and nothing was left over.
+    /// `false` promises nothing.
     pub fn is_gathering(&self) -> bool
         ensures { result ≡ true → next_batch self.now.state ≡ None }
     {
@@ -511,8 +521,10 @@ impl Lane {
     /// not allocate.
     pub fn reply(&mut self, number: u64, outcomes: Vec<Outcome>) -> Result<Settled, NotFlying>
         ensures flies { is_ok result ≡ is_flying number self.old.state }
-        ensures ok { OnOk result (self.new.state ≡ answered self.old.state number (Items outcomes.items)) }
-        ensures counts { IfOk result (λ c. AreCounts self.old.state number (Items outcomes.items) c) }
+        ensures ok { OnOk result
+            (self.new.state ≡ answered self.old.state number (Items outcomes.items)) }
+        ensures counts { IfOk result
+            (λ c. AreCounts self.old.state number (Items outcomes.items) c) }
         ensures matched { IfOk result
             (λ c. c.matched ≡ matches outcomes.items (writes_of number self.old.state)) }
         ensures unchanged { OnErr result (self.new ≡ self.old) }

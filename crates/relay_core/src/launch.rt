@@ -1,5 +1,6 @@
 //! Sending a batch.
-ghost use Rattle.std.specs.Prelude.{◌≡◌, ◌+◌, ◌<◌, ◌≤◌, ◌++◌, length, map, option_to_list, take, vec_len, vec_capacity};
+ghost use Rattle.std.specs.Prelude.{◌≡◌, ◌+◌, ◌<◌, ◌≤◌, ◌++◌, length, map, option_to_list, take};
+ghost use Rattle.std.specs.Prelude.{vec_len, vec_capacity};
 ghost use Rattle.relay_held.specs.Queues.{candidates_kept, Rises};
 ghost use Rattle.relay_core.specs.Walk.{item_of_kept, launched_kept, freight};
 
@@ -23,9 +24,14 @@ pub(crate) fn launch(held: &mut Held, number: u64, count: usize, writes: &mut Ve
     requires rises { Rises held.old.list }
     requires count { count ≤ length (candidates_kept held.old.list held.old.clock) }
     requires room { vec_len writes.old + count ≤ vec_capacity writes.old }
-    ensures held { held.new.list ≡ launched_kept held.old.list number 0 (map item_of_kept (take count (candidates_kept held.old.list held.old.clock))) }
+    ensures held { held.new.list
+        ≡ launched_kept held.old.list number 0
+        (map item_of_kept (take count (candidates_kept held.old.list held.old.clock))) }
     ensures clock { held.new.clock ≡ held.old.clock }
-    ensures writes { writes.new.items ≡ writes.old.items ++ freight held.old.list (map item_of_kept (take count (candidates_kept held.old.list held.old.clock))) }
+    ensures writes { writes.new.items
+        ≡ writes.old.items
+        ++ freight held.old.list
+        (map item_of_kept (take count (candidates_kept held.old.list held.old.clock))) }
 {
     'places: for place in 0..count {
         load(writes, held.launch(number, place as u64));

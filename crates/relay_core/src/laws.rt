@@ -1,7 +1,8 @@
 //! How a lane's calls are steps of delivery. These functions do nothing; their contracts are the
 //! laws.
 ghost use Rattle.relay_core.specs.Ties.{FreshFits, TakeFits, RequestFits, RunFits, AnswerFits};
-ghost use Rattle.relay_core.specs.Flights.{EarlierOnesSettled, ItemsAreOfOperations, RequestsKeepLimits};
+ghost use Rattle.relay_core.specs.Flights.{EarlierOnesSettled, ItemsAreOfOperations};
+ghost use Rattle.relay_core.specs.Flights.{RequestsKeepLimits};
 
 /// A new lane fits an opening, and if a lane fits an outside before a call, it fits the outside
 /// after it.

@@ -1,10 +1,13 @@
 //! Settling the operations of a request by its answer.
-ghost use Rattle.std.specs.Prelude.{◌≡◌, Some, true, false, ◌-◌, ◌^◌, min, ◌+◌, ◌≤◌, ◌<◌, ◌++◌, ◌∷◌, [], map, length, drop, slice_get, vec_len, vec_capacity};
+ghost use Rattle.std.specs.Prelude.{◌≡◌, Some, true, false, ◌-◌, ◌^◌, min, ◌+◌, ◌≤◌, ◌<◌, ◌++◌};
+ghost use Rattle.std.specs.Prelude.{◌∷◌, [], map, length, drop, slice_get, vec_len, vec_capacity};
 ghost use Rattle.std.specs.Vec.Iter.{into_iter_items};
 ghost use Rattle.relay_delivery.specs.Machine.{is_applied_fate, is_already_fate};
 ghost use Rattle.relay_results.specs.Documents.{document_of};
 ghost use Rattle.relay_held.specs.declared.kept.Kept.{Kept};
-ghost use Rattle.relay_core.specs.Walk.{waits_here, with_first, without_first, first_of, back, after_one, fate_one, reports_one, said, report_of, tally, kept_walk, reports_walk, tally_walk};
+ghost use Rattle.relay_core.specs.Walk.{waits_here, with_first, without_first, first_of, back};
+ghost use Rattle.relay_core.specs.Walk.{after_one, fate_one, reports_one, said, report_of, tally};
+ghost use Rattle.relay_core.specs.Walk.{kept_walk, reports_walk, tally_walk};
 ghost use Rattle.relay_core.specs.Memory.{Carries};
 ghost use Rattle.relay_core.specs.State.{is_reported_fate, is_retried_fate};
 
@@ -42,12 +45,19 @@ fn next_of<T: Drop>(items: &mut IntoIter<T>) -> Option<T>
 // Ends the first operation of a document with a report.
 fn report(held: &mut Held, write: Write, cause: Cause, reports: &mut Vec<Report>)
     requires room { vec_len reports.old < vec_capacity reports.old }
-    requires flies { (h : Kept) → first_of write.key held.old.list ≡ Some h → waits_here h.flies ≡ false }
+    requires flies { (h : Kept) → first_of write.key held.old.list ≡ Some h
+        → waits_here h.flies ≡ false }
     ensures held { held.new.list ≡ without_first write.key held.old.list }
     ensures clock { held.new.clock ≡ held.old.clock }
     ensures reports { (h : Kept) → first_of write.key held.old.list ≡ Some h
-        → map report_of reports.new.items ≡ map report_of reports.old.items ++ record { name = h.name; document = document_of write.key; cause = cause } ∷ [] }
-    ensures len { (h : Kept) → first_of write.key held.old.list ≡ Some h → vec_len reports.new ≡ vec_len reports.old + 1 }
+        → map report_of reports.new.items ≡ map report_of reports.old.items ++ record {
+          name =
+              h.name;
+          document = document_of write.key;
+          cause = cause;
+        } ∷ [] }
+    ensures len { (h : Kept) → first_of write.key held.old.list ≡ Some h
+        → vec_len reports.new ≡ vec_len reports.old + 1 }
     ensures capacity { vec_capacity reports.new ≡ vec_capacity reports.old }
 {
     if let Some(name) = held.take(&write.key) {
@@ -61,7 +71,8 @@ fn report(held: &mut Held, write: Write, cause: Cause, reports: &mut Vec<Report>
 
 // Lets the first operation of a document wait again.
 fn land(held: &mut Held, write: Write, clock: u64, attempts: u32)
-    requires flies { (h : Kept) → first_of write.key held.old.list ≡ Some h → waits_here h.flies ≡ false }
+    requires flies { (h : Kept) → first_of write.key held.old.list ≡ Some h
+        → waits_here h.flies ≡ false }
     ensures held { (h : Kept) → h.attempts ≡ attempts → first_of write.key held.old.list ≡ Some h
         → held.new.list ≡ with_first write.key (back clock write) held.old.list }
     ensures clock { held.new.clock ≡ held.old.clock }
@@ -80,20 +91,27 @@ fn meet(
     counts: &mut Settled,
 )
     requires room { vec_len reports.old < vec_capacity reports.old }
-    requires few { counts.old.applied + counts.old.already + counts.old.reported + counts.old.retried < 4294967295 }
-    requires flies { (h : Kept) → first_of write.key held.old.list ≡ Some h → waits_here h.flies ≡ false }
+    requires few { counts.old.applied + counts.old.already + counts.old.reported
+        + counts.old.retried < 4294967295 }
+    requires flies { (h : Kept) → first_of write.key held.old.list ≡ Some h
+        → waits_here h.flies ≡ false }
     ensures held { (h : Kept) → h.attempts ≡ attempts → first_of write.key held.old.list ≡ Some h
         → held.new.list ≡ after_one clock write held.old.list (said fate) }
     ensures clock { held.new.clock ≡ held.old.clock }
     ensures reports { (h : Kept) → first_of write.key held.old.list ≡ Some h
-        → map report_of reports.new.items ≡ map report_of reports.old.items ++ reports_one (said fate) h write }
+        → map report_of reports.new.items
+        ≡ map report_of reports.old.items ++ reports_one (said fate) h write }
     ensures capacity { vec_capacity reports.new ≡ vec_capacity reports.old }
     ensures len { (h : Kept) → first_of write.key held.old.list ≡ Some h
         → vec_len reports.new ≡ vec_len reports.old + tally (is_reported_fate (said fate)) }
-    ensures applied { counts.new.applied ≡ counts.old.applied + tally (is_applied_fate (said fate)) }
-    ensures already { counts.new.already ≡ counts.old.already + tally (is_already_fate (said fate)) }
-    ensures reported { counts.new.reported ≡ counts.old.reported + tally (is_reported_fate (said fate)) }
-    ensures retried { counts.new.retried ≡ counts.old.retried + tally (is_retried_fate (said fate)) }
+    ensures applied { counts.new.applied
+        ≡ counts.old.applied + tally (is_applied_fate (said fate)) }
+    ensures already { counts.new.already
+        ≡ counts.old.already + tally (is_already_fate (said fate)) }
+    ensures reported { counts.new.reported
+        ≡ counts.old.reported + tally (is_reported_fate (said fate)) }
+    ensures retried { counts.new.retried
+        ≡ counts.old.retried + tally (is_retried_fate (said fate)) }
     ensures matched { counts.new.matched ≡ counts.old.matched }
 {
     match fate {
@@ -132,24 +150,32 @@ fn settle_one(
     counts: &mut Settled,
 )
     requires room { vec_len reports.old < vec_capacity reports.old }
-    requires few { counts.old.applied + counts.old.already + counts.old.reported + counts.old.retried < 4294967295 }
-    requires flies { (h : Kept) → first_of write.key held.old.list ≡ Some h → waits_here h.flies ≡ false }
+    requires few { counts.old.applied + counts.old.already + counts.old.reported
+        + counts.old.retried < 4294967295 }
+    requires flies { (h : Kept) → first_of write.key held.old.list ≡ Some h
+        → waits_here h.flies ≡ false }
     ensures held { (h : Kept) → first_of write.key held.old.list ≡ Some h
         → held.new.list ≡ after_one clock write held.old.list (fate_one max whole h entry) }
     ensures clock { held.new.clock ≡ held.old.clock }
     ensures reports { (h : Kept) → first_of write.key held.old.list ≡ Some h
-        → map report_of reports.new.items ≡ map report_of reports.old.items ++ reports_one (fate_one max whole h entry) h write }
+        → map report_of reports.new.items
+        ≡ map report_of reports.old.items ++ reports_one (fate_one max whole h entry) h write }
     ensures capacity { vec_capacity reports.new ≡ vec_capacity reports.old }
     ensures len { (h : Kept) → first_of write.key held.old.list ≡ Some h
-        → vec_len reports.new ≡ vec_len reports.old + tally (is_reported_fate (fate_one max whole h entry)) }
+        → vec_len reports.new
+        ≡ vec_len reports.old + tally (is_reported_fate (fate_one max whole h entry)) }
     ensures applied { (h : Kept) → first_of write.key held.old.list ≡ Some h
-        → counts.new.applied ≡ counts.old.applied + tally (is_applied_fate (fate_one max whole h entry)) }
+        → counts.new.applied
+        ≡ counts.old.applied + tally (is_applied_fate (fate_one max whole h entry)) }
     ensures already { (h : Kept) → first_of write.key held.old.list ≡ Some h
-        → counts.new.already ≡ counts.old.already + tally (is_already_fate (fate_one max whole h entry)) }
+        → counts.new.already
+        ≡ counts.old.already + tally (is_already_fate (fate_one max whole h entry)) }
     ensures reported { (h : Kept) → first_of write.key held.old.list ≡ Some h
-        → counts.new.reported ≡ counts.old.reported + tally (is_reported_fate (fate_one max whole h entry)) }
+        → counts.new.reported
+        ≡ counts.old.reported + tally (is_reported_fate (fate_one max whole h entry)) }
     ensures retried { (h : Kept) → first_of write.key held.old.list ≡ Some h
-        → counts.new.retried ≡ counts.old.retried + tally (is_retried_fate (fate_one max whole h entry)) }
+        → counts.new.retried
+        ≡ counts.old.retried + tally (is_retried_fate (fate_one max whole h entry)) }
     ensures matched { counts.new.matched ≡ counts.old.matched }
 {
     if let Some(one) = held.first(&write.key) {
@@ -174,13 +200,20 @@ pub(crate) fn settle_walk(
     requires room { vec_len reports.old + length held.old.list ≤ vec_capacity reports.old }
     requires few { length held.old.list ≤ 65536 }
     requires carries { Carries number 0 held.old.list writes.items }
-    ensures held { held.new.list ≡ kept_walk held.old.list max clock number whole writes.items outcomes.items }
+    ensures held { held.new.list
+        ≡ kept_walk held.old.list max clock number whole writes.items outcomes.items }
     ensures clock { held.new.clock ≡ held.old.clock }
-    ensures reports { map report_of reports.new.items ≡ map report_of reports.old.items ++ reports_walk held.old.list max number whole writes.items outcomes.items }
-    ensures applied { result.applied ≡ tally_walk is_applied_fate held.old.list max number whole writes.items outcomes.items }
-    ensures already { result.already ≡ tally_walk is_already_fate held.old.list max number whole writes.items outcomes.items }
-    ensures reported { result.reported ≡ tally_walk is_reported_fate held.old.list max number whole writes.items outcomes.items }
-    ensures retried { result.retried ≡ tally_walk is_retried_fate held.old.list max number whole writes.items outcomes.items }
+    ensures reports { map report_of reports.new.items
+        ≡ map report_of reports.old.items
+        ++ reports_walk held.old.list max number whole writes.items outcomes.items }
+    ensures applied { result.applied
+        ≡ tally_walk is_applied_fate held.old.list max number whole writes.items outcomes.items }
+    ensures already { result.already
+        ≡ tally_walk is_already_fate held.old.list max number whole writes.items outcomes.items }
+    ensures reported { result.reported
+        ≡ tally_walk is_reported_fate held.old.list max number whole writes.items outcomes.items }
+    ensures retried { result.retried
+        ≡ tally_walk is_retried_fate held.old.list max number whole writes.items outcomes.items }
     ensures room { vec_len reports.new + length held.new.list ≤ vec_capacity reports.new }
     ensures fewer { length held.new.list ≤ length held.old.list }
     ensures done { result.applied + result.already + length held.new.list ≤ length held.old.list }

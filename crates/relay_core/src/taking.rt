@@ -1,5 +1,6 @@
 //! Taking an operation.
-ghost use Rattle.std.specs.Prelude.{◌≡◌, true, ◌+◌, ◌^◌, ◌≤◌, ◌<◌, is_some, IfSome, OnOk, length, vec_len, vec_capacity};
+ghost use Rattle.std.specs.Prelude.{◌≡◌, true, ◌+◌, ◌^◌, ◌≤◌, ◌<◌, is_some, IfSome, OnOk, length};
+ghost use Rattle.std.specs.Prelude.{vec_len, vec_capacity};
 ghost use Rattle.relay_ndjson.specs.Bulk.{write_text};
 ghost use Rattle.relay_results.specs.Documents.{write_for};
 ghost use Rattle.relay_core.specs.Memory.{kept_new};
@@ -24,7 +25,8 @@ pub(crate) fn make_room(held: &Held, reports: &mut Vec<Report>) -> Result<(), Al
     ensures reports { reports.new.items ≡ reports.old.items }
     ensures reports_len { vec_len reports.new ≡ vec_len reports.old }
     ensures capacity { vec_capacity reports.old ≤ vec_capacity reports.new }
-    ensures reports_room { OnOk result (vec_len reports.new + length held.now.list + 1 ≤ vec_capacity reports.new) }
+    ensures reports_room { OnOk result
+        (vec_len reports.new + length held.now.list + 1 ≤ vec_capacity reports.new) }
 {
     reports.reserve(held.len() + 1)?;
     Ok(())

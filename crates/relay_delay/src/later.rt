@@ -1,5 +1,6 @@
 //! Operations that are not due yet, the soonest first.
-ghost use Rattle.std.specs.Prelude.{◌≡◌, ◌<◌, ◌≤◌, [], true, false, Some, length, nat_eq, refl, OnOk, OnErr, MatchOption};
+ghost use Rattle.std.specs.Prelude.{◌≡◌, ◌<◌, ◌≤◌, [], true, false, Some, length, nat_eq, refl};
+ghost use Rattle.std.specs.Prelude.{OnOk, OnErr, MatchOption};
 ghost use Rattle.std.proofs.Common.{rules};
 ghost use Rattle.std.specs.Cmp.{partial_order_from_own_ties};
 ghost use Rattle.std.specs.Cmp.Rules.{comparing};
@@ -32,7 +33,8 @@ impl Eq for ByDue {
 impl PartialOrd for ByDue {
     ghost partial_cmp = { as_partial_cmp (flip_args (on (λ b. b.0.due) nat_cmp)) };
 
-    ghost laws = { partial_order_from_own_ties (Prim.search (comparing, rules)) (Prim.search (comparing, rules)) };
+    ghost laws = { partial_order_from_own_ties (Prim.search (comparing, rules))
+        (Prim.search (comparing, rules)) };
 
     fn partial_cmp(&self, other: &ByDue) -> Option<Ordering> {
         Some(self.cmp(other))
@@ -65,7 +67,8 @@ impl Model for Later {
 
     ghost Value = { Heap };
 
-    ghost view = { λ l. record { room = heap_capacity l.heap; entries = sorted (later_items (heap_items l.heap)) } };
+    ghost view = { λ l. record
+        { room = heap_capacity l.heap; entries = sorted (later_items (heap_items l.heap)) } };
 
     ghost invariant = { λ l. IsLater (heap_items l.heap) };
 }

@@ -1,7 +1,9 @@
 //! The delay queue.
-ghost use Rattle.std.specs.Prelude.{◌≡◌, ◌+◌, ◌<◌, ◌≤◌, ◌++◌, [], true, false, length, slice_get, IfOk, OnOk, OnErr, MatchOption};
+ghost use Rattle.std.specs.Prelude.{◌≡◌, ◌+◌, ◌<◌, ◌≤◌, ◌++◌, [], true, false, length, slice_get};
+ghost use Rattle.std.specs.Prelude.{IfOk, OnOk, OnErr, MatchOption};
 ghost use Rattle.std.specs.VecDeque.{deque_capacity};
-ghost use Rattle.relay_delay.specs.Waiting.{insert, without, has_version, due_entries, due_in, Rises};
+ghost use Rattle.relay_delay.specs.Waiting.{insert, without, has_version, due_entries, due_in};
+ghost use Rattle.relay_delay.specs.Waiting.{Rises};
 ghost use Rattle.relay_delay.specs.Heaps.{inserted, AllDue, NoneDue, AllUpTo, IsMoving};
 
 use crate::entry::Entry;
@@ -33,7 +35,12 @@ impl Model for DelayQueue {
 
     ghost Value = { Delays };
 
-    ghost view = { λ d. record { clock = d.clock; room = d.room; entries = inserted d.later.entries (d.front.items ++ d.ready.entries) } };
+    ghost view = { λ d. record {
+      clock = d.clock;
+      room = d.room;
+      entries = inserted d.later.entries
+          (d.front.items ++ d.ready.entries);
+    } };
 
     ghost invariant = { λ d. IsDelayed d.clock d.room d.front.items d.ready d.later };
 }

@@ -1,5 +1,6 @@
 //! Due operations, the lowest version first.
-ghost use Rattle.std.specs.Prelude.{◌≡◌, ◌<◌, ◌≤◌, [], true, false, length, drop, slice_get, nat_eq, refl, OnOk, OnErr};
+ghost use Rattle.std.specs.Prelude.{◌≡◌, ◌<◌, ◌≤◌, [], true, false, length, drop, slice_get};
+ghost use Rattle.std.specs.Prelude.{nat_eq, refl, OnOk, OnErr};
 ghost use Rattle.std.proofs.Common.{rules};
 ghost use Rattle.std.specs.Cmp.{partial_order_from_own_ties};
 ghost use Rattle.std.specs.Cmp.Rules.{comparing};
@@ -36,7 +37,8 @@ impl Eq for ByVersion {
 impl PartialOrd for ByVersion {
     ghost partial_cmp = { as_partial_cmp (flip_args (on (λ b. b.0.version) nat_cmp)) };
 
-    ghost laws = { partial_order_from_own_ties (Prim.search (comparing, rules)) (Prim.search (comparing, rules)) };
+    ghost laws = { partial_order_from_own_ties (Prim.search (comparing, rules))
+        (Prim.search (comparing, rules)) };
 
     fn partial_cmp(&self, other: &ByVersion) -> Option<Ordering> {
         Some(self.cmp(other))
@@ -75,7 +77,11 @@ impl Model for Ready {
 
     ghost Value = { Heap };
 
-    ghost view = { λ r. record { room = min (deque_capacity r.line) (heap_capacity r.heap); entries = sorted (ready_items (heap_items r.heap) ++ r.line.items) } };
+    ghost view = { λ r. record {
+      room = min (deque_capacity r.line) (heap_capacity r.heap);
+      entries = sorted
+          (ready_items (heap_items r.heap) ++ r.line.items);
+    } };
 
     ghost invariant = { λ r. IsReady (heap_items r.heap) r.line.items };
 }

@@ -1,10 +1,23 @@
 //! Worked schedules satisfy the definitions, and excluded ones do not. These functions do nothing;
 //! their contracts are the laws.
-ghost use Rattle.relay_delivery.specs.Schedules.{LostThenAlready, LateRunChangesNothing, RunTwice, RefusedOrRejected, NoVersionLeft, BusyThenNext, GivenUpAndApplied, ThreeThenOne, HalvedThenAlone};
-ghost use Rattle.relay_delivery.specs.Worked.{MachineWorks, StoredVersionsBelow, EarlierOnesFirst, OneVersionForAllTries};
+ghost use Rattle.relay_delivery.specs.Schedules.{LostThenAlready, LateRunChangesNothing, RunTwice};
+ghost use Rattle.relay_delivery.specs.Schedules.{RefusedOrRejected, NoVersionLeft, BusyThenNext};
+ghost use Rattle.relay_delivery.specs.Schedules.{GivenUpAndApplied, ThreeThenOne, HalvedThenAlone};
+ghost use Rattle.relay_delivery.specs.Worked.{MachineWorks, StoredVersionsBelow, EarlierOnesFirst};
+ghost use Rattle.relay_delivery.specs.Worked.{OneVersionForAllTries};
 ghost use Rattle.relay_delivery.specs.Counts.{CountsAlways, CountsWhereItFits};
 ghost use Rattle.relay_delivery.specs.Reached.{FreshReached, CallReached, ReachedHolds};
-ghost use Rattle.relay_delivery.specs.Laws.{NoneTwice, NoneOutOfOrder, NoneOfOtherAction, NoneOfOtherDocument, NoneUnaccepted, NoneLeftOut, NotGivenUpAfterOne, NotGivenUpWhenSettled, NoConflictAfterTwo, NotRefusedWithoutStatus, NotRefusedWithoutError, NotSpentWithinLimit, NotRefusedWhenBusy, NotReportedUnsent, NotRejectedWithoutAnswer, NotRejectedWhenRetried, NotGivenUpForHalves, NotRejectedWhenHalved, NoConflictWithoutRun, NoneReportedTwice, NoneReportedUntaken, AssignsTwo, NotAssignedTwice, PlaysFromOpening};
+ghost use Rattle.relay_delivery.specs.Laws.{NoneTwice, NoneOutOfOrder, NoneOfOtherAction};
+ghost use Rattle.relay_delivery.specs.Laws.{NoneOfOtherDocument, NoneUnaccepted, NoneLeftOut};
+ghost use Rattle.relay_delivery.specs.Laws.{NotGivenUpAfterOne, NotGivenUpWhenSettled};
+ghost use Rattle.relay_delivery.specs.Laws.{NoConflictAfterTwo, NotRefusedWithoutStatus};
+ghost use Rattle.relay_delivery.specs.Laws.{NotRefusedWithoutError, NotSpentWithinLimit};
+ghost use Rattle.relay_delivery.specs.Laws.{NotRefusedWhenBusy, NotReportedUnsent};
+ghost use Rattle.relay_delivery.specs.Laws.{NotRejectedWithoutAnswer, NotRejectedWhenRetried};
+ghost use Rattle.relay_delivery.specs.Laws.{NotGivenUpForHalves, NotRejectedWhenHalved};
+ghost use Rattle.relay_delivery.specs.Laws.{NoConflictWithoutRun, NoneReportedTwice};
+ghost use Rattle.relay_delivery.specs.Laws.{NoneReportedUntaken, AssignsTwo, NotAssignedTwice};
+ghost use Rattle.relay_delivery.specs.Laws.{PlaysFromOpening};
 
 /// Worked schedules of one operation satisfy the definitions: applied and lost, then a conflict
 /// with its own version; run late, after its repeat; run twice; refused, or rejected with its whole

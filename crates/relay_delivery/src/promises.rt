@@ -1,11 +1,21 @@
 //! The promises. These functions do nothing; their contracts are the theorems.
-ghost use Rattle.relay_delivery.specs.Delivery.{SoundAlways, CompleteAtTheEnd, TotalAlways, WritesAreDealt, EarliestFlies, OneFlies, ContinuesAlways, FreshCameAbout, StepCameAbout};
+ghost use Rattle.relay_delivery.specs.Delivery.{SoundAlways, CompleteAtTheEnd, TotalAlways};
+ghost use Rattle.relay_delivery.specs.Delivery.{WritesAreDealt, EarliestFlies, OneFlies};
+ghost use Rattle.relay_delivery.specs.Delivery.{ContinuesAlways, FreshCameAbout, StepCameAbout};
 ghost use Rattle.relay_delivery.specs.Bound.{WithinTriesLeft, FewRequests};
-ghost use Rattle.relay_delivery.specs.Lane.{FreshFits, ClockFits, TakeFits, SendFits, RunFits, AnswerFits, SoundWhereItFits, CompleteWhereItFits, TotalWhereItFits, WritesWhereItFits, EarliestWhereItFits, OneFliesWhereItFits, SendTakesTry, AnswerGivesNoTry};
+ghost use Rattle.relay_delivery.specs.Lane.{FreshFits, ClockFits, TakeFits, SendFits, RunFits};
+ghost use Rattle.relay_delivery.specs.Lane.{AnswerFits, SoundWhereItFits, CompleteWhereItFits};
+ghost use Rattle.relay_delivery.specs.Lane.{TotalWhereItFits, WritesWhereItFits};
+ghost use Rattle.relay_delivery.specs.Lane.{EarliestWhereItFits, OneFliesWhereItFits, SendTakesTry};
+ghost use Rattle.relay_delivery.specs.Lane.{AnswerGivesNoTry};
 ghost use Rattle.relay_delivery.specs.Lanes.{NothingAfterClose};
-ghost use Rattle.relay_delivery.specs.Numbered.{TakesOn, CandidatesOn, SendsOn, WritesOn, SettlesOn, FliesOn, AnswersOn};
+ghost use Rattle.relay_delivery.specs.Numbered.{TakesOn, CandidatesOn, SendsOn, WritesOn};
+ghost use Rattle.relay_delivery.specs.Numbered.{SettlesOn, FliesOn, AnswersOn};
 ghost use Rattle.relay_delivery.specs.Restarts.{EpochsAreAbove};
-ghost use Rattle.relay_delivery.specs.Accounted.{SoundTogether, CompleteTogether, FreshTogether, ActTogether, RestartTogether, TogetherMay, TogetherRuns, TogetherContinues, ActsKeepNames, RestartsKeepNames};
+ghost use Rattle.relay_delivery.specs.Accounted.{SoundTogether, CompleteTogether, FreshTogether};
+ghost use Rattle.relay_delivery.specs.Accounted.{ActTogether, RestartTogether, TogetherMay};
+ghost use Rattle.relay_delivery.specs.Accounted.{TogetherRuns, TogetherContinues, ActsKeepNames};
+ghost use Rattle.relay_delivery.specs.Accounted.{RestartsKeepNames};
 
 /// After any steps of a lane and the outside, starting from a fresh lane: the writes that the index
 /// applied are those of distinct operations that the lane took, each producer's in order; each

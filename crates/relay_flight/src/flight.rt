@@ -1,7 +1,10 @@
 //! The table of requests in flight.
-ghost use Rattle.std.specs.Prelude.{◌≡◌, ℕ, ◌^◌, ◌<◌, ◌==◌, [], length, IfOk, OnOk, IfErr, IfNone, MatchOption, is_ok, None, Some, if◌then◌else◌, nat_lt, position, option_map};
+ghost use Rattle.std.specs.Prelude.{◌≡◌, ℕ, ◌^◌, ◌<◌, ◌==◌, [], length, IfOk, OnOk, IfErr, IfNone};
+ghost use Rattle.std.specs.Prelude.{MatchOption, is_ok, None, Some, if◌then◌else◌, nat_lt};
+ghost use Rattle.std.specs.Prelude.{position, option_map};
 ghost use Rattle.std.specs.Option.{option_copied};
-ghost use Rattle.relay_flight.specs.InFlight.{InFlight, IsInFlight, has_number, request_at, with_request, without_request, IsOldest};
+ghost use Rattle.relay_flight.specs.InFlight.{InFlight, IsInFlight, has_number, request_at};
+ghost use Rattle.relay_flight.specs.InFlight.{with_request, without_request, IsOldest};
 
 use crate::full::Full;
 use crate::request::Request;
@@ -55,12 +58,14 @@ impl Flight {
         ensures room { is_ok result ≡ nat_lt (length self.old.requests) self.old.max }
         ensures number { IfOk result (λ no. no ≡ self.old.next) }
         ensures ok { OnOk result (self.new
-            ≡ with_request (record { number = self.old.next; batch = batch; writes = writes }) self.old) }
+            ≡ with_request (record
+            { number = self.old.next; batch = batch; writes = writes }) self.old) }
         ensures batch { IfErr result (λ f. f.batch ≡ batch) }
         ensures writes { IfErr result (λ f. f.writes ≡ writes) }
         ensures unchanged { IfErr result (λ _. self.new ≡ self.old) }
         ensures looked_up { IfOk result (λ no. (k : ℕ) → request_at k self.new
-            ≡ (if k == no then Some (record { number = no; batch = batch; writes = writes }) else request_at k self.old)) }
+            ≡ (if k == no then Some (record { number = no; batch = batch; writes = writes }) else
+            request_at k self.old)) }
         ensures fresh { IfOk result (λ no. request_at no self.old ≡ None) }
         ensures kept { IsInFlight self.new }
     {
@@ -104,7 +109,8 @@ impl Flight {
     /// The writes of the request with this number, in the order of its batch, or `None` if it is
     /// not in flight.
     pub fn writes(&self, number: u64) -> Option<&[Write]>
-        ensures { option_map (λ ws. ws.now) result ≡ option_map (λ r. r.writes.items) (request_at number self.now) }
+        ensures { option_map (λ ws. ws.now) result
+            ≡ option_map (λ r. r.writes.items) (request_at number self.now) }
     {
         let at = self.place(number)?;
         Some(self.held[at].writes.as_slice())

@@ -1,5 +1,7 @@
 //! The queues of all documents.
-ghost use Rattle.std.specs.Prelude.{◌≡◌, ◌+◌, ◌^◌, ◌++◌, ◌∷◌, [], ◌<◌, ◌≤◌, Some, None, false, drop, length, slice_get, option_map, OnOk, OnErr, IfErr, IfOk, IfSome, IfNone};
+ghost use Rattle.std.specs.Prelude.{◌≡◌, ◌+◌, ◌^◌, ◌++◌, ◌∷◌, [], ◌<◌, ◌≤◌, Some, None, false};
+ghost use Rattle.std.specs.Prelude.{drop, length, slice_get, option_map, OnOk, OnErr, IfErr, IfOk};
+ghost use Rattle.std.specs.Prelude.{IfSome, IfNone};
 ghost use Rattle.std.specs.Option.{option_copied};
 ghost use Rattle.std.specs.List.{IsDistinct};
 ghost use Rattle.std.specs.Map.{keys_of, lookup};
@@ -9,8 +11,10 @@ ghost use Rattle.relay_action.specs.declared.key.DocKey.{DocKey};
 ghost use Rattle.relay_held.specs.declared.kept.Kept.{Kept};
 ghost use Rattle.relay_held.specs.declared.documents.Taken.{Taken};
 ghost use Rattle.relay_held.specs.Kept.{launch_one, back_at, halved_at, candidate_of};
-ghost use Rattle.relay_held.specs.Queues.{same_key, on_first, first_name, queue_of, Changes, NoneEmpty};
-ghost use Rattle.relay_held.specs.Shelf.{queue_in, shelved, IsShelf, Sets, slot_of, KeepsSlots, entry_at, entry_after};
+ghost use Rattle.relay_held.specs.Queues.{same_key, on_first, first_name, queue_of, Changes};
+ghost use Rattle.relay_held.specs.Queues.{NoneEmpty};
+ghost use Rattle.relay_held.specs.Shelf.{queue_in, shelved, IsShelf, Sets, slot_of, KeepsSlots};
+ghost use Rattle.relay_held.specs.Shelf.{entry_at, entry_after};
 
 use crate::held::NotHeld;
 use crate::kept::{Candidate, Kept, candidate_of};
@@ -34,7 +38,8 @@ impl Model for Documents {
 
     ghost Value = { Shelf };
 
-    ghost view = { λ d. record { queues = shelved d.queues d.slots.entries; slots = d.slots.entries } };
+    ghost view = { λ d. record
+        { queues = shelved d.queues d.slots.entries; slots = d.slots.entries } };
 
     ghost invariant = { λ d. IsShelf d.slots.entries d.queues };
 }
@@ -357,7 +362,8 @@ impl Documents {
     pub(crate) fn launch(&mut self, slot: usize, number: u64, place: u64) -> Option<Write>
         ensures sent { (k : DocKey) (h : Kept) → slice_get (queue_of self.old.queues k) 0 ≡ Some h
             → slot_of self.old.slots k ≡ slot
-            → Changes self.old.queues self.new.queues k (on_first (launch_one number place) (queue_of self.old.queues k)) }
+            → Changes self.old.queues self.new.queues k
+            (on_first (launch_one number place) (queue_of self.old.queues k)) }
         ensures write { (k : DocKey) (h : Kept) → slice_get (queue_of self.old.queues k) 0 ≡ Some h
             → slot_of self.old.slots k ≡ slot
             → result ≡ h.write }

@@ -1,12 +1,16 @@
 //! What a lane holds.
-ghost use Rattle.std.specs.Prelude.{◌≡◌, ◌-◌, ◌<◌, ◌≤◌, ◌^◌, ◌++◌, ◌∷◌, [], Some, None, false, filter, length, slice_get, option_map, OnOk, OnErr, IfErr, IfOk, IfSome};
+ghost use Rattle.std.specs.Prelude.{◌≡◌, ◌-◌, ◌<◌, ◌≤◌, ◌^◌, ◌++◌, ◌∷◌, [], Some, None, false};
+ghost use Rattle.std.specs.Prelude.{filter, length, slice_get, option_map, OnOk, OnErr, IfErr};
+ghost use Rattle.std.specs.Prelude.{IfOk, IfSome};
 ghost use Rattle.std.specs.Option.{option_copied};
 ghost use Rattle.relay_action.specs.declared.key.DocKey.{DocKey};
 ghost use Rattle.relay_delay.specs.Waiting.{has_version};
 ghost use Rattle.relay_held.specs.declared.kept.Kept.{Kept};
 ghost use Rattle.relay_held.specs.Shelf.{with_entry};
 ghost use Rattle.relay_held.specs.Kept.{waits_here, launch_one, back_at, halved_at, candidate_of};
-ghost use Rattle.relay_held.specs.Queues.{AllUnder, first_of, name_in, with_first, without_first, candidates_kept, first_due_kept, is_eligible_kept, Rises, OnlyFirstsFly, documents, distinct, later};
+ghost use Rattle.relay_held.specs.Queues.{AllUnder, first_of, name_in, with_first, without_first};
+ghost use Rattle.relay_held.specs.Queues.{candidates_kept, first_due_kept, is_eligible_kept, Rises};
+ghost use Rattle.relay_held.specs.Queues.{OnlyFirstsFly, documents, distinct, later};
 
 use crate::documents::{Documents, Taken};
 use crate::kept::{Candidate, Kept};

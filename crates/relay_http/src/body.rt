@@ -1,5 +1,6 @@
 //! Bodies of messages (RFC 9112, section 6).
-ghost use Rattle.std.specs.Prelude.{◌≡◌, ◌<◌, ◌≤◌, ℕ, List, length, Some, IfOk, IfErr, MatchResult, if◌then◌else◌};
+ghost use Rattle.std.specs.Prelude.{◌≡◌, ◌<◌, ◌≤◌, ℕ, List, length, Some, IfOk, IfErr, MatchResult};
+ghost use Rattle.std.specs.Prelude.{if◌then◌else◌};
 ghost use Rattle.relay_action.specs.Streams.{one_more};
 ghost use Rattle.relay_http.specs.Body.{IsSized, IsRest, IsBody, IsLongBody, IsLongRest};
 ghost use Rattle.relay_http.specs.Refusals.{BodyFault};
@@ -22,9 +23,13 @@ impl<S: ByteIn + Drop> Buffered<S> {
     // the stream. Large amounts are read straight into the content, small ones through the window.
     fn take_some(&mut self, most: usize, into: &mut Content) -> Result<usize, HttpFault>
         requires { 0 < most }
-        ensures moved { IfOk result (Moved (pending S.left self.old) (pending S.left self.new) (S.left self.new.stream) into.old into.new most) }
+        ensures moved { IfOk result
+            (Moved (pending S.left self.old) (pending S.left self.new) (S.left self.new.stream)
+            into.old into.new most) }
         ensures err { IfErr result IsOutside }
-        ensures count { S.failed self.new.stream ≡ (if is_read result then one_more (S.failed self.old.stream) else S.failed self.old.stream) }
+        ensures count { S.failed self.new.stream
+            ≡ (if is_read result then one_more (S.failed self.old.stream) else S.failed
+            self.old.stream) }
         ensures written { S.written self.new.stream ≡ S.written self.old.stream }
     {
         if most < WINDOW_SIZE || !self.window.as_slice().is_empty() {
@@ -39,9 +44,13 @@ impl<S: ByteIn + Drop> Buffered<S> {
     // The same through the window.
     fn take_held(&mut self, most: usize, into: &mut Content) -> Result<usize, HttpFault>
         requires { 0 < most }
-        ensures moved { IfOk result (Moved (pending S.left self.old) (pending S.left self.new) (S.left self.new.stream) into.old into.new most) }
+        ensures moved { IfOk result
+            (Moved (pending S.left self.old) (pending S.left self.new) (S.left self.new.stream)
+            into.old into.new most) }
         ensures err { IfErr result IsOutside }
-        ensures count { S.failed self.new.stream ≡ (if is_read result then one_more (S.failed self.old.stream) else S.failed self.old.stream) }
+        ensures count { S.failed self.new.stream
+            ≡ (if is_read result then one_more (S.failed self.old.stream) else S.failed
+            self.old.stream) }
         ensures written { S.written self.new.stream ≡ S.written self.old.stream }
     {
         match self.ready() {
@@ -60,8 +69,12 @@ impl<S: ByteIn + Drop> Buffered<S> {
     // Moves exactly `size` bytes to the end of a content.
     pub(crate) fn read_data(&mut self, size: usize, into: &mut Content) -> Result<(), HttpFault>
         ensures why { IfErr result (IsThatOrOutside HttpFault.Ended) }
-        ensures answer { MatchResult result (λ u. TookData size (pending S.left self.old) (pending S.left self.new) into.old into.new) (Fails (IsSized size) (pending S.left self.old) (S.left self.new.stream)) }
-        ensures count { S.failed self.new.stream ≡ (if is_read result then one_more (S.failed self.old.stream) else S.failed self.old.stream) }
+        ensures answer { MatchResult result
+            (λ u. TookData size (pending S.left self.old) (pending S.left self.new) into.old
+            into.new) (Fails (IsSized size) (pending S.left self.old) (S.left self.new.stream)) }
+        ensures count { S.failed self.new.stream
+            ≡ (if is_read result then one_more (S.failed self.old.stream) else S.failed
+            self.old.stream) }
         ensures written { S.written self.new.stream ≡ S.written self.old.stream }
     {
         let mut left = size;
@@ -76,8 +89,12 @@ impl<S: ByteIn + Drop> Buffered<S> {
 
     pub(crate) fn read_sized(&mut self, alloc: Global, size: usize) -> Result<Vec<u8>, HttpFault>
         ensures why { IfErr result (IsThatOrOutside HttpFault.Ended) }
-        ensures answer { MatchResult result (λ body. Took (IsSized size) (pending S.left self.old) (pending S.left self.new) body.items) (Fails (IsSized size) (pending S.left self.old) (S.left self.new.stream)) }
-        ensures count { S.failed self.new.stream ≡ (if is_read result then one_more (S.failed self.old.stream) else S.failed self.old.stream) }
+        ensures answer { MatchResult result
+            (λ body. Took (IsSized size) (pending S.left self.old) (pending S.left self.new)
+            body.items) (Fails (IsSized size) (pending S.left self.old) (S.left self.new.stream)) }
+        ensures count { S.failed self.new.stream
+            ≡ (if is_read result then one_more (S.failed self.old.stream) else S.failed
+            self.old.stream) }
         ensures written { S.written self.new.stream ≡ S.written self.old.stream }
     {
         let mut body = Content::new(alloc);
@@ -88,10 +105,17 @@ impl<S: ByteIn + Drop> Buffered<S> {
     // Reads to the end of the stream.
     pub(crate) fn read_rest(&mut self, alloc: Global, limit: usize) -> Result<Vec<u8>, HttpFault>
         requires { limit < 4294967296 }
-        ensures long { (stream : List ℕ) → IsLongRest limit stream → pending S.left self.old ≡ Some stream → MatchResult result (λ body. ⊥) (IsThatOrOutside HttpFault.BodyLong) }
-        ensures why { (stream : List ℕ) → pending S.left self.old ≡ Some stream → IfErr result (BodyFault limit framing.ToEnd stream) }
-        ensures answer { MatchResult result (λ body. Took (IsRest limit) (pending S.left self.old) (pending S.left self.new) body.items) (Fails (IsRest limit) (pending S.left self.old) (S.left self.new.stream)) }
-        ensures count { S.failed self.new.stream ≡ (if is_read result then one_more (S.failed self.old.stream) else S.failed self.old.stream) }
+        ensures long { (stream : List ℕ) → IsLongRest limit stream
+            → pending S.left self.old ≡ Some stream
+            → MatchResult result (λ body. ⊥) (IsThatOrOutside HttpFault.BodyLong) }
+        ensures why { (stream : List ℕ) → pending S.left self.old ≡ Some stream
+            → IfErr result (BodyFault limit framing.ToEnd stream) }
+        ensures answer { MatchResult result
+            (λ body. Took (IsRest limit) (pending S.left self.old) (pending S.left self.new)
+            body.items) (Fails (IsRest limit) (pending S.left self.old) (S.left self.new.stream)) }
+        ensures count { S.failed self.new.stream
+            ≡ (if is_read result then one_more (S.failed self.old.stream) else S.failed
+            self.old.stream) }
         ensures written { S.written self.new.stream ≡ S.written self.old.stream }
     {
         let mut body = Content::new(alloc);
@@ -110,10 +134,18 @@ impl<S: ByteIn + Drop> Buffered<S> {
         limit: usize,
     ) -> Result<Vec<u8>, HttpFault>
         requires { limit < 4294967296 }
-        ensures long { (stream : List ℕ) → IsLongBody limit framing stream → pending S.left self.old ≡ Some stream → MatchResult result (λ body. ⊥) (IsThatOrOutside HttpFault.BodyLong) }
-        ensures why { (stream : List ℕ) → pending S.left self.old ≡ Some stream → IfErr result (BodyFault limit framing stream) }
-        ensures answer { MatchResult result (λ body. Took (IsBody limit framing) (pending S.left self.old) (pending S.left self.new) body.items) (Fails (IsBody limit framing) (pending S.left self.old) (S.left self.new.stream)) }
-        ensures count { S.failed self.new.stream ≡ (if is_read result then one_more (S.failed self.old.stream) else S.failed self.old.stream) }
+        ensures long { (stream : List ℕ) → IsLongBody limit framing stream
+            → pending S.left self.old ≡ Some stream
+            → MatchResult result (λ body. ⊥) (IsThatOrOutside HttpFault.BodyLong) }
+        ensures why { (stream : List ℕ) → pending S.left self.old ≡ Some stream
+            → IfErr result (BodyFault limit framing stream) }
+        ensures answer { MatchResult result
+            (λ body. Took (IsBody limit framing) (pending S.left self.old)
+            (pending S.left self.new) body.items) (Fails (IsBody limit framing)
+            (pending S.left self.old) (S.left self.new.stream)) }
+        ensures count { S.failed self.new.stream
+            ≡ (if is_read result then one_more (S.failed self.old.stream) else S.failed
+            self.old.stream) }
         ensures written { S.written self.new.stream ≡ S.written self.old.stream }
     {
         match framing {

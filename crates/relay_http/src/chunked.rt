@@ -1,5 +1,6 @@
 //! Chunked bodies (RFC 9112, section 7.1).
-ghost use Rattle.std.specs.Prelude.{◌≡◌, ◌<◌, ◌≤◌, ◌++◌, ℕ, List, [], length, Some, IfErr, MatchResult, if◌then◌else◌};
+ghost use Rattle.std.specs.Prelude.{◌≡◌, ◌<◌, ◌≤◌, ◌++◌, ℕ, List, [], length, Some, IfErr};
+ghost use Rattle.std.specs.Prelude.{MatchResult, if◌then◌else◌};
 ghost use Rattle.relay_action.specs.Streams.{one_more};
 ghost use Rattle.relay_http.specs.Refusals.{BodyFault, HasNoChunkEnd, OverrunsNever, PieceFault};
 ghost use Rattle.relay_http.specs.declared.framing.Framing.TheVariants as framing;
@@ -19,10 +20,17 @@ use std::alloc::Global;
 impl<S: ByteIn + Drop> Buffered<S> {
     // Moves the content of a chunk to the end of a content, and passes the CRLF after it.
     fn read_chunk(&mut self, size: usize, limit: usize, into: &mut Content) -> Result<(), HttpFault>
-        ensures whole { (stream : List ℕ) → IsChunkThere size stream → pending S.left self.old ≡ Some stream → IfErr result IsOutside }
-        ensures why { (stream : List ℕ) → pending S.left self.old ≡ Some stream → IfErr result (PieceFault (HasNoChunkEnd size) OverrunsNever stream) }
-        ensures answer { MatchResult result (λ u. TookChunk size (pending S.left self.old) (pending S.left self.new) into.old into.new) (Fails (IsDataAfter limit into.old size) (pending S.left self.old) (S.left self.new.stream)) }
-        ensures count { S.failed self.new.stream ≡ (if is_read result then one_more (S.failed self.old.stream) else S.failed self.old.stream) }
+        ensures whole { (stream : List ℕ) → IsChunkThere size stream
+            → pending S.left self.old ≡ Some stream → IfErr result IsOutside }
+        ensures why { (stream : List ℕ) → pending S.left self.old ≡ Some stream
+            → IfErr result (PieceFault (HasNoChunkEnd size) OverrunsNever stream) }
+        ensures answer { MatchResult result
+            (λ u. TookChunk size (pending S.left self.old) (pending S.left self.new) into.old
+            into.new) (Fails (IsDataAfter limit into.old size) (pending S.left self.old)
+            (S.left self.new.stream)) }
+        ensures count { S.failed self.new.stream
+            ≡ (if is_read result then one_more (S.failed self.old.stream) else S.failed
+            self.old.stream) }
         ensures written { S.written self.new.stream ≡ S.written self.old.stream }
     {
         self.read_data(size, into)?;
@@ -32,10 +40,18 @@ impl<S: ByteIn + Drop> Buffered<S> {
 
     pub(crate) fn read_chunked(&mut self, alloc: Global, limit: usize) -> Result<Vec<u8>, HttpFault>
         requires { limit < 4294967296 }
-        ensures long { (stream : List ℕ) → IsLongChunked limit [] stream → pending S.left self.old ≡ Some stream → MatchResult result (λ body. ⊥) (IsThatOrOutside HttpFault.BodyLong) }
-        ensures why { (stream : List ℕ) → pending S.left self.old ≡ Some stream → IfErr result (BodyFault limit framing.Chunked stream) }
-        ensures answer { MatchResult result (λ body. Took (IsChunked limit) (pending S.left self.old) (pending S.left self.new) body.items) (Fails (IsChunked limit) (pending S.left self.old) (S.left self.new.stream)) }
-        ensures count { S.failed self.new.stream ≡ (if is_read result then one_more (S.failed self.old.stream) else S.failed self.old.stream) }
+        ensures long { (stream : List ℕ) → IsLongChunked limit [] stream
+            → pending S.left self.old ≡ Some stream
+            → MatchResult result (λ body. ⊥) (IsThatOrOutside HttpFault.BodyLong) }
+        ensures why { (stream : List ℕ) → pending S.left self.old ≡ Some stream
+            → IfErr result (BodyFault limit framing.Chunked stream) }
+        ensures answer { MatchResult result
+            (λ body. Took (IsChunked limit) (pending S.left self.old) (pending S.left self.new)
+            body.items) (Fails (IsChunked limit) (pending S.left self.old)
+            (S.left self.new.stream)) }
+        ensures count { S.failed self.new.stream
+            ≡ (if is_read result then one_more (S.failed self.old.stream) else S.failed
+            self.old.stream) }
         ensures written { S.written self.new.stream ≡ S.written self.old.stream }
     {
         let mut body = Content::new(alloc);

@@ -1,15 +1,19 @@
 //! A connection that carries one message after another (RFC 9112, section 9).
-ghost use Rattle.std.specs.Prelude.{◌≡◌, ◌≤◌, ◌++◌, ◌&&◌, not, ℕ, List, [], length, true, false, IfOk, IfErr, MatchResult, Some, Err, None, IsTrue, IsFalse};
+ghost use Rattle.std.specs.Prelude.{◌≡◌, ◌≤◌, ◌++◌, ◌&&◌, not, ℕ, List, [], length, true, false};
+ghost use Rattle.std.specs.Prelude.{IfOk, IfErr, MatchResult, Some, Err, None, IsTrue, IsFalse};
 ghost use Rattle.relay_ndjson.specs.Bulk.{text_of};
 ghost use Rattle.relay_http.specs.Forms.{Took, Fails, Begins, IsOutside, IsThatOrOutside};
 ghost use Rattle.relay_http.specs.Framing.{reply_limit, request_limit};
 ghost use Rattle.relay_http.specs.Refusals.{ReplyFault, RequestFault};
 ghost use Rattle.relay_http.specs.Reply.{IsReplyMessage, ReplyPasses, ReplyStates, reply_view};
-ghost use Rattle.relay_http.specs.Request.{IsRequest, RequestPasses, RequestStates, TookRequest, IsFound};
+ghost use Rattle.relay_http.specs.Request.{IsRequest, RequestPasses, RequestStates, TookRequest};
+ghost use Rattle.relay_http.specs.Request.{IsFound};
 ghost use Rattle.relay_http.specs.Window.{window_size};
 ghost use Rattle.relay_http.specs.WrittenAnswer.{IsAnswerStatus, answer};
 ghost use Rattle.relay_http.specs.WrittenRequest.{is_host, request, WritesText, SendsRequest};
-ghost use Rattle.relay_http.specs.Connection.{ahead, fresh, IsQuiet, is_open, is_broken, after_reply, after_request, after_write, failed_reading, failed_writing};
+ghost use Rattle.relay_http.specs.Connection.{ahead, fresh, IsQuiet, is_open, is_broken};
+ghost use Rattle.relay_http.specs.Connection.{after_reply, after_request, after_write};
+ghost use Rattle.relay_http.specs.Connection.{failed_reading, failed_writing};
 ghost use Rattle.relay_http.specs.declared.fault.HttpFault.{HttpFault};
 
 use crate::buffered::Buffered;
@@ -57,7 +61,8 @@ impl<S: ByteStream> Conn<S> {
     /// A connection over a stream that nothing was read from. If allocating the window fails, the
     /// stream is returned unchanged.
     pub fn new(alloc: Global, stream: S) -> Result<Conn<S>, (AllocError, S)>
-        ensures fresh { IfOk result (λ c. c ≡ fresh (S.left stream) (S.written stream) (S.failed stream)) }
+        ensures fresh { IfOk result
+            (λ c. c ≡ fresh (S.left stream) (S.written stream) (S.failed stream)) }
         ensures handed_back { IfErr result (λ refused. refused.1 ≡ stream) }
     {
         match Window::new(alloc) {
@@ -111,23 +116,34 @@ impl<S: ByteIn + Drop> Conn<S> {
     /// with `keep` false the connection is broken.
     pub fn read_reply(&mut self, alloc: Global) -> Result<HttpReply, HttpFault>
         // A connection that carries no further message returns Broken, and is unchanged.
-        ensures broken { IsFalse (is_open self.old.phase) → (result ≡ Err HttpFault.Broken) × (self.new ≡ self.old) }
+        ensures broken { IsFalse (is_open self.old.phase) → (result ≡ Err HttpFault.Broken)
+            × (self.new ≡ self.old) }
         // A reply that is returned was at the front, and each fault has its cause.
-        ensures answer { IsTrue (is_open self.old.phase) → MatchResult result (λ reply. Took IsReplyMessage (ahead self.old) (ahead self.new) (reply_view reply)) (Fails IsReplyMessage (ahead self.old) self.new.left) }
+        ensures answer { IsTrue (is_open self.old.phase)
+            → MatchResult result
+            (λ reply. Took IsReplyMessage (ahead self.old) (ahead self.new) (reply_view reply))
+            (Fails IsReplyMessage (ahead self.old) self.new.left) }
         // A reply at the front is returned, and the bytes after it are left.
-        ensures found { (stream : List ℕ) (there : Begins IsReplyMessage stream) → IsTrue (is_open self.old.phase) → ahead self.old ≡ Some stream
-            → MatchResult result (λ reply. (reply_view reply ≡ there.value) × (ahead self.new ≡ Some there.rest)) IsOutside }
+        ensures found { (stream : List ℕ) (there : Begins IsReplyMessage stream)
+            → IsTrue (is_open self.old.phase) → ahead self.old ≡ Some stream
+            → MatchResult result
+            (λ reply. (reply_view reply ≡ there.value) × (ahead self.new ≡ Some there.rest))
+            IsOutside }
         // Each fault says what is at the front.
-        ensures why { (stream : List ℕ) → IsTrue (is_open self.old.phase) → ahead self.old ≡ Some stream → IfErr result (ReplyFault stream) }
+        ensures why { (stream : List ℕ) → IsTrue (is_open self.old.phase)
+            → ahead self.old ≡ Some stream → IfErr result (ReplyFault stream) }
         // A fault in the heads at the front is returned.
-        ensures stated { (stream : List ℕ) (f : HttpFault) → ReplyStates stream f → IsTrue (is_open self.old.phase) → ahead self.old ≡ Some stream
+        ensures stated { (stream : List ℕ) (f : HttpFault) → ReplyStates stream f
+            → IsTrue (is_open self.old.phase) → ahead self.old ≡ Some stream
             → MatchResult result (λ reply. ⊥) (IsThatOrOutside f) }
         // A body that exceeds its limit is refused as too long.
-        ensures long { (stream : List ℕ) → ReplyPasses stream → IsTrue (is_open self.old.phase) → ahead self.old ≡ Some stream
+        ensures long { (stream : List ℕ) → ReplyPasses stream → IsTrue (is_open self.old.phase)
+            → ahead self.old ≡ Some stream
             → MatchResult result (λ reply. ⊥) (IsThatOrOutside HttpFault.BodyLong) }
         ensures phase { IsTrue (is_open self.old.phase) → self.new.phase ≡ after_reply result }
         // At most one call of the stream failed: a read, if the fault says so.
-        ensures failed { IsTrue (is_open self.old.phase) → self.new.failed ≡ failed_reading result self.old.failed }
+        ensures failed { IsTrue (is_open self.old.phase)
+            → self.new.failed ≡ failed_reading result self.old.failed }
         ensures written { self.new.written ≡ self.old.written }
     {
         if !self.phase.is_open() {
@@ -146,25 +162,34 @@ impl<S: ByteIn + Drop> Conn<S> {
     /// answer may be written, and nothing else.
     pub fn read_request(&mut self, alloc: Global) -> Result<Option<HttpRequest>, HttpFault>
         // A connection that carries no further message returns Broken, and is unchanged.
-        ensures broken { IsFalse (is_open self.old.phase) → (result ≡ Err HttpFault.Broken) × (self.new ≡ self.old) }
+        ensures broken { IsFalse (is_open self.old.phase) → (result ≡ Err HttpFault.Broken)
+            × (self.new ≡ self.old) }
         // A request that is returned was at the front, and each fault has its cause.
-        ensures answer { IsTrue (is_open self.old.phase) → MatchResult result (TookRequest (ahead self.old) (ahead self.new)) (Fails IsRequest (ahead self.old) self.new.left) }
+        ensures answer { IsTrue (is_open self.old.phase)
+            → MatchResult result (TookRequest (ahead self.old) (ahead self.new))
+            (Fails IsRequest (ahead self.old) self.new.left) }
         // A request at the front is returned, and the bytes after it are left.
-        ensures found { (stream : List ℕ) (there : Begins IsRequest stream) → IsTrue (is_open self.old.phase) → ahead self.old ≡ Some stream
+        ensures found { (stream : List ℕ) (there : Begins IsRequest stream)
+            → IsTrue (is_open self.old.phase) → ahead self.old ≡ Some stream
             → MatchResult result (IsFound there (ahead self.new)) IsOutside }
         // Each fault says what is at the front.
-        ensures why { (stream : List ℕ) → IsTrue (is_open self.old.phase) → ahead self.old ≡ Some stream → IfErr result (RequestFault stream) }
+        ensures why { (stream : List ℕ) → IsTrue (is_open self.old.phase)
+            → ahead self.old ≡ Some stream → IfErr result (RequestFault stream) }
         // A fault in the head at the front is returned.
-        ensures stated { (stream : List ℕ) (f : HttpFault) → RequestStates stream f → IsTrue (is_open self.old.phase) → ahead self.old ≡ Some stream
+        ensures stated { (stream : List ℕ) (f : HttpFault) → RequestStates stream f
+            → IsTrue (is_open self.old.phase) → ahead self.old ≡ Some stream
             → MatchResult result (λ request. ⊥) (IsThatOrOutside f) }
         // A body that exceeds its limit is refused as too long.
-        ensures long { (stream : List ℕ) → RequestPasses stream → IsTrue (is_open self.old.phase) → ahead self.old ≡ Some stream
+        ensures long { (stream : List ℕ) → RequestPasses stream → IsTrue (is_open self.old.phase)
+            → ahead self.old ≡ Some stream
             → MatchResult result (λ request. ⊥) (IsThatOrOutside HttpFault.BodyLong) }
         // At the end of the stream there is no request.
-        ensures none { IsTrue (is_open self.old.phase) → ahead self.old ≡ Some [] → MatchResult result (λ request. request ≡ None) IsOutside }
+        ensures none { IsTrue (is_open self.old.phase) → ahead self.old ≡ Some []
+            → MatchResult result (λ request. request ≡ None) IsOutside }
         ensures phase { IsTrue (is_open self.old.phase) → self.new.phase ≡ after_request result }
         // At most one call of the stream failed: a read, if the fault says so.
-        ensures failed { IsTrue (is_open self.old.phase) → self.new.failed ≡ failed_reading result self.old.failed }
+        ensures failed { IsTrue (is_open self.old.phase)
+            → self.new.failed ≡ failed_reading result self.old.failed }
         ensures written { self.new.written ≡ self.old.written }
     {
         if !self.phase.is_open() {
@@ -195,15 +220,19 @@ impl<S: ByteOut + Drop> Conn<S> {
         requires few { length writes.now ≤ 10000 }
         requires size { length (text_of writes.now) ≤ request_limit }
         // A connection that carries no further message returns Broken, and is unchanged.
-        ensures broken { IsFalse (is_open self.old.phase) → (result ≡ Err HttpFault.Broken) × (self.new ≡ self.old) }
+        ensures broken { IsFalse (is_open self.old.phase) → (result ≡ Err HttpFault.Broken)
+            × (self.new ≡ self.old) }
         // The request was sent; after Write a prefix of it, and after Memory nothing, or the head
         // and the lines of the first writes.
-        ensures sent { IsTrue (is_open self.old.phase) → SendsRequest host.now writes.now self.old.written self.new.written result }
+        ensures sent { IsTrue (is_open self.old.phase)
+            → SendsRequest host.now writes.now self.old.written self.new.written result }
         // That text is the request with these writes.
-        ensures message { IsRequest (request host.now (text_of writes.now)) false (record { bulk = true; body = text_of writes.now; keep = true }) }
+        ensures message { IsRequest (request host.now (text_of writes.now)) false
+            (record { bulk = true; body = text_of writes.now; keep = true }) }
         ensures phase { IsTrue (is_open self.old.phase) → self.new.phase ≡ after_write true result }
         // At most one call of the stream failed: a write, if the fault says so.
-        ensures failed { IsTrue (is_open self.old.phase) → self.new.failed ≡ failed_writing result self.old.failed }
+        ensures failed { IsTrue (is_open self.old.phase)
+            → self.new.failed ≡ failed_writing result self.old.failed }
         ensures left { self.new.left ≡ self.old.left }
         ensures held { self.new.held ≡ self.old.held }
     {
@@ -229,14 +258,21 @@ impl<S: ByteOut + Drop> Conn<S> {
         requires status { IsAnswerStatus status }
         requires size { length body.now ≤ reply_limit }
         // A connection that carries nothing more returns Broken, and is unchanged.
-        ensures broken { IsTrue (is_broken self.old.phase) → (result ≡ Err HttpFault.Broken) × (self.new ≡ self.old) }
+        ensures broken { IsTrue (is_broken self.old.phase) → (result ≡ Err HttpFault.Broken)
+            × (self.new ≡ self.old) }
         // The answer was sent; after Write part of it, and after Memory nothing.
-        ensures sent { IsFalse (is_broken self.old.phase) → WritesText (answer status body.now (keep && is_open self.old.phase)) self.old.written self.new.written result }
+        ensures sent { IsFalse (is_broken self.old.phase)
+            → WritesText (answer status body.now (keep && is_open self.old.phase)) self.old.written
+            self.new.written result }
         // That text is the reply with this status and this body.
-        ensures message { IsReplyMessage (answer status body.now (keep && is_open self.old.phase)) false (record { status = status; body = body.now; keep = keep && is_open self.old.phase }) }
-        ensures phase { IsFalse (is_broken self.old.phase) → self.new.phase ≡ after_write (keep && is_open self.old.phase) result }
+        ensures message { IsReplyMessage (answer status body.now (keep && is_open self.old.phase))
+            false (record
+            { status = status; body = body.now; keep = keep && is_open self.old.phase }) }
+        ensures phase { IsFalse (is_broken self.old.phase)
+            → self.new.phase ≡ after_write (keep && is_open self.old.phase) result }
         // At most one call of the stream failed: a write, if the fault says so.
-        ensures failed { IsFalse (is_broken self.old.phase) → self.new.failed ≡ failed_writing result self.old.failed }
+        ensures failed { IsFalse (is_broken self.old.phase)
+            → self.new.failed ≡ failed_writing result self.old.failed }
         ensures left { self.new.left ≡ self.old.left }
         ensures held { self.new.held ≡ self.old.held }
     {
@@ -258,7 +294,8 @@ fn write_text<S: ByteOut>(
     body: &str,
     keep: bool,
 ) -> Result<(), HttpFault>
-    ensures sent { WritesText (answer status body.now keep) (S.written stream.old) (S.written stream.new) result }
+    ensures sent { WritesText (answer status body.now keep) (S.written stream.old)
+        (S.written stream.new) result }
     ensures failed { S.failed stream.new ≡ failed_writing result (S.failed stream.old) }
     ensures left { S.left stream.new ≡ S.left stream.old }
 {

@@ -1,5 +1,6 @@
 //! The content of a body, while it arrives.
-ghost use Rattle.std.specs.Prelude.{◌≡◌, ◌+◌, ◌<◌, ◌≤◌, ◌++◌, [], length, take, vec_len, IfOk, IfErr, OnOk, if◌then◌else◌};
+ghost use Rattle.std.specs.Prelude.{◌≡◌, ◌+◌, ◌<◌, ◌≤◌, ◌++◌, [], length, take, vec_len, IfOk};
+ghost use Rattle.std.specs.Prelude.{IfErr, OnOk, if◌then◌else◌};
 ghost use Rattle.relay_action.specs.Streams.{one_more};
 ghost use Rattle.relay_http.specs.Forms.{IsOutside};
 ghost use Rattle.relay_http.specs.Connection.{is_read};
@@ -64,10 +65,12 @@ impl Content {
     /// stream.
     pub fn fill<S: ByteIn>(&mut self, stream: &mut S, most: usize) -> Result<usize, HttpFault>
         requires { 0 < most }
-        ensures bytes { IfOk result (Grown self.old self.new (S.left stream.old) (S.left stream.new)) }
+        ensures bytes { IfOk result
+            (Grown self.old self.new (S.left stream.old) (S.left stream.new)) }
         ensures bound { IfOk result (λ n. n ≤ most) }
         ensures err { IfErr result IsOutside }
-        ensures count { S.failed stream.new ≡ (if is_read result then one_more (S.failed stream.old) else S.failed stream.old) }
+        ensures count { S.failed stream.new
+            ≡ (if is_read result then one_more (S.failed stream.old) else S.failed stream.old) }
         ensures written { S.written stream.new ≡ S.written stream.old }
     {
         match make_room(&mut self.bytes, self.filled, most.min(PIECE)) {

@@ -19,6 +19,7 @@ pub trait Dial<S> {
 
     /// A fresh stream. After [`DialFault`] there is none.
     fn dial(&mut self) -> Result<S, DialFault>
-        ensures failed { failed self.new ≡ (if is_ok result then failed self.old else one_more (failed self.old)) }
+        ensures failed { failed self.new
+            ≡ (if is_ok result then failed self.old else one_more (failed self.old)) }
         ensures dialled { dialled self.new ≡ one_more (dialled self.old) };
 }

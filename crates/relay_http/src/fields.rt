@@ -1,10 +1,13 @@
 //! What the fields of a head say.
-ghost use Rattle.std.specs.Prelude.{◌≡◌, ◌<◌, ◌∷◌, ◌++◌, [], ℕ, List, length, map, All, Result, Ok, Err, codes, Bool, if◌then◌else◌, nat_le};
+ghost use Rattle.std.specs.Prelude.{◌≡◌, ◌<◌, ◌∷◌, ◌++◌, [], ℕ, List, length, map, All, Result, Ok};
+ghost use Rattle.std.specs.Prelude.{Err, codes, Bool, if◌then◌else◌, nat_le};
 ghost use Rattle.std.specs.List.{list_all, list_any};
 ghost use Rattle.httparse.specs.Spans.{IsHeaderWithin, header_bytes};
-ghost use Rattle.relay_http.specs.Fields.{Header, same_word, has_field, values_named, elements_named, elements, number, agrees};
+ghost use Rattle.relay_http.specs.Fields.{Header, same_word, has_field, values_named};
+ghost use Rattle.relay_http.specs.Fields.{elements_named, elements, number, agrees};
 ghost use Rattle.relay_http.specs.Codings.{coding_of, next_coding};
-ghost use Rattle.relay_http.specs.Framing.{framing_of, framing_of_fields, framing_of_request, is_chunked, is_interim, is_plain, sized, keeps};
+ghost use Rattle.relay_http.specs.Framing.{framing_of, framing_of_fields, framing_of_request};
+ghost use Rattle.relay_http.specs.Framing.{is_chunked, is_interim, is_plain, sized, keeps};
 
 use crate::elements::{all_agree, lists_word};
 use crate::fault::HttpFault;
@@ -44,8 +47,10 @@ fn next_coding(coding: Coding, value: &[u8]) -> Coding
 }
 
 fn add_coding(coding: Coding, name: &[u8], value: &[u8]) -> Coding
-    ensures { (before : List Header) → coding ≡ coding_of (values_named (codes "transfer-encoding") before)
-        → result ≡ coding_of (values_named (codes "transfer-encoding") (before ++ (name.now, value.now) ∷ [])) }
+    ensures { (before : List Header)
+        → coding ≡ coding_of (values_named (codes "transfer-encoding") before)
+        → result ≡ coding_of
+        (values_named (codes "transfer-encoding") (before ++ (name.now, value.now) ∷ [])) }
 {
     if !same_word(name, b"transfer-encoding") {
         return coding;
@@ -60,8 +65,10 @@ fn is_plain(value: &[u8]) -> bool
 }
 
 fn add_plain(plain: bool, name: &[u8], value: &[u8]) -> bool
-    ensures { (before : List Header) → plain ≡ list_all is_plain (values_named (codes "content-encoding") before)
-        → result ≡ list_all is_plain (values_named (codes "content-encoding") (before ++ (name.now, value.now) ∷ [])) }
+    ensures { (before : List Header)
+        → plain ≡ list_all is_plain (values_named (codes "content-encoding") before)
+        → result ≡ list_all is_plain
+        (values_named (codes "content-encoding") (before ++ (name.now, value.now) ∷ [])) }
 {
     if !same_word(name, b"content-encoding") {
         return plain;
@@ -70,8 +77,10 @@ fn add_plain(plain: bool, name: &[u8], value: &[u8]) -> bool
 }
 
 fn add_agreed(all: bool, name: &[u8], value: &[u8], first: &[u8]) -> bool
-    ensures { (before : List Header) → all ≡ list_all (agrees first.now) (elements_named (codes "content-length") before)
-        → result ≡ list_all (agrees first.now) (elements_named (codes "content-length") (before ++ (name.now, value.now) ∷ [])) }
+    ensures { (before : List Header)
+        → all ≡ list_all (agrees first.now) (elements_named (codes "content-length") before)
+        → result ≡ list_all (agrees first.now)
+        (elements_named (codes "content-length") (before ++ (name.now, value.now) ∷ [])) }
 {
     if !same_word(name, b"content-length") {
         return all;
@@ -80,8 +89,12 @@ fn add_agreed(all: bool, name: &[u8], value: &[u8], first: &[u8]) -> bool
 }
 
 fn add_close(close: bool, name: &[u8], value: &[u8]) -> bool
-    ensures { (before : List Header) → close ≡ list_any (λ e. same_word e (codes "close")) (elements_named (codes "connection") before)
-        → result ≡ list_any (λ e. same_word e (codes "close")) (elements_named (codes "connection") (before ++ (name.now, value.now) ∷ [])) }
+    ensures { (before : List Header)
+        → close ≡ list_any
+        (λ e. same_word e (codes "close")) (elements_named (codes "connection") before)
+        → result ≡ list_any
+        (λ e. same_word e (codes "close"))
+        (elements_named (codes "connection") (before ++ (name.now, value.now) ∷ [])) }
 {
     if !same_word(name, b"connection") {
         return close;
@@ -104,7 +117,9 @@ fn has_field(buf: &[u8], headers: &[HeaderSpan], wanted: &[u8]) -> bool
 
 fn is_chunked(buf: &[u8], headers: &[HeaderSpan]) -> bool
     requires { All (IsHeaderWithin (length buf.now)) headers.now }
-    ensures { result ≡ is_chunked (values_named (codes "transfer-encoding") (map (header_bytes buf.now) headers.now)) }
+    ensures { result
+        ≡ is_chunked (values_named (codes "transfer-encoding")
+        (map (header_bytes buf.now) headers.now)) }
 {
     let mut coding = Coding::Absent;
     for header in headers {
@@ -115,7 +130,9 @@ fn is_chunked(buf: &[u8], headers: &[HeaderSpan]) -> bool
 
 fn all_plain(buf: &[u8], headers: &[HeaderSpan]) -> bool
     requires { All (IsHeaderWithin (length buf.now)) headers.now }
-    ensures { result ≡ list_all is_plain (values_named (codes "content-encoding") (map (header_bytes buf.now) headers.now)) }
+    ensures { result
+        ≡ list_all is_plain
+        (values_named (codes "content-encoding") (map (header_bytes buf.now) headers.now)) }
 {
     let mut plain = true;
     for header in headers {
@@ -126,7 +143,9 @@ fn all_plain(buf: &[u8], headers: &[HeaderSpan]) -> bool
 
 fn all_lengths_agree(buf: &[u8], headers: &[HeaderSpan], first: &[u8]) -> bool
     requires { All (IsHeaderWithin (length buf.now)) headers.now }
-    ensures { result ≡ list_all (agrees first.now) (elements_named (codes "content-length") (map (header_bytes buf.now) headers.now)) }
+    ensures { result
+        ≡ list_all (agrees first.now)
+        (elements_named (codes "content-length") (map (header_bytes buf.now) headers.now)) }
 {
     let mut all = true;
     for header in headers {
@@ -137,7 +156,9 @@ fn all_lengths_agree(buf: &[u8], headers: &[HeaderSpan], first: &[u8]) -> bool
 
 fn closes(buf: &[u8], headers: &[HeaderSpan]) -> bool
     requires { All (IsHeaderWithin (length buf.now)) headers.now }
-    ensures { result ≡ list_any (λ e. same_word e (codes "close")) (elements_named (codes "connection") (map (header_bytes buf.now) headers.now)) }
+    ensures { result
+        ≡ list_any (λ e. same_word e (codes "close"))
+        (elements_named (codes "connection") (map (header_bytes buf.now) headers.now)) }
 {
     let mut close = false;
     for header in headers {
@@ -149,8 +170,10 @@ fn closes(buf: &[u8], headers: &[HeaderSpan]) -> bool
 // The length that `first` gives, if all agree with it.
 fn agreed(first: &[u8], all: bool, limit: u64) -> Result<Framing, HttpFault>
     requires { limit < 4294967296 }
-    ensures { (rest : List (List ℕ)) → all ≡ list_all (agrees first.now) (first.now ∷ rest) → result ≡
-        (if all then (if nat_le (number first.now) limit then Ok (Framing.Sized (number first.now)) else Err HttpFault.BodyLong) else Err HttpFault.Malformed) }
+    ensures { (rest : List (List ℕ)) → all ≡ list_all (agrees first.now) (first.now ∷ rest)
+        → result ≡
+        (if all then (if nat_le (number first.now) limit then Ok (Framing.Sized (number first.now))
+        else Err HttpFault.BodyLong) else Err HttpFault.Malformed) }
 {
     if !all {
         return Err(HttpFault::Malformed);
@@ -178,7 +201,9 @@ fn sized(
 ) -> Result<Framing, HttpFault>
     requires within { All (IsHeaderWithin (length buf.now)) headers.now }
     requires limit { limit < 4294967296 }
-    ensures { result ≡ sized limit otherwise (elements_named (codes "content-length") (map (header_bytes buf.now) headers.now)) }
+    ensures { result
+        ≡ sized limit otherwise
+        (elements_named (codes "content-length") (map (header_bytes buf.now) headers.now)) }
 {
     for header in headers {
         if same_word(header.name.of(buf), b"content-length") {

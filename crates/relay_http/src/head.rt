@@ -52,7 +52,8 @@ impl Piece for HeadInfo {
 pub fn find_head(buf: &[u8]) -> Result<Option<(HeadInfo, usize)>, HttpFault>
     requires { length buf.now ≤ head_limit }
     ensures found { Finds IsHead buf.now result }
-    ensures why { IfErr result (λ f. (more : List ℕ) → PieceFault NeverHasResponse OverrunsHead (buf.now ++ more) f) }
+    ensures why { IfErr result
+        (λ f. (more : List ℕ) → PieceFault NeverHasResponse OverrunsHead (buf.now ++ more) f) }
     ensures none { result ≡ Ok None → length buf.now < head_limit }
 {
     let mut headers = [EMPTY_HEADER_SPAN; FIELD_LIMIT];

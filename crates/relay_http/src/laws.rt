@@ -14,6 +14,8 @@ pub fn messages_are_unique()
 /// A law: no message that ends by itself is a proper prefix of another; this holds of all messages
 /// that are written.
 pub fn no_proper_prefix()
-    ensures replies { (x y more : List ℕ) (a b : Reply) → IsReplyMessage x false a → IsReplyMessage y false b → x ++ more ≡ y → more ≡ [] }
-    ensures requests { (x y more : List ℕ) (a b : Request) → IsRequest x false a → IsRequest y false b → x ++ more ≡ y → more ≡ [] }
+    ensures replies { (x y more : List ℕ) (a b : Reply) → IsReplyMessage x false a
+        → IsReplyMessage y false b → x ++ more ≡ y → more ≡ [] }
+    ensures requests { (x y more : List ℕ) (a b : Request) → IsRequest x false a
+        → IsRequest y false b → x ++ more ≡ y → more ≡ [] }
 {}

@@ -10,7 +10,8 @@ use thiserror::Error;
 #[error("accept failed")]
 pub struct AcceptFailed;
 
-/// What hands out the streams of connections, one after another, and takes them back when they are over.
+/// What hands out the streams of connections, one after another, and takes them back when they are
+/// over.
 pub trait Listen<S: ByteStream> {
     /// What it shows of the connections, and how many calls failed.
     ghost shows: { Self → Listening };
@@ -18,10 +19,13 @@ pub trait Listen<S: ByteStream> {
     /// The stream of the next connection. After [`AcceptFailed`] there is none.
     fn accept(&mut self) -> Result<S, AcceptFailed>
         ensures ok { IfOk result
-            (λ s. HandsOut (shows self.old) (shown (S.left s) (S.written s) (S.failed s)) (shows self.new)) }
+            (λ s. HandsOut (shows self.old) (shown (S.left s) (S.written s) (S.failed s))
+            (shows self.new)) }
         ensures err { OnErr result (shows self.new ≡ refused (shows self.old)) };
 
     /// Takes back the stream of a connection that is over.
     fn close(&mut self, stream: S)
-        ensures { shows self.new ≡ with_done (shows self.old) (shown (S.left stream) (S.written stream) (S.failed stream)) };
+        ensures { shows self.new
+            ≡ with_done (shows self.old)
+            (shown (S.left stream) (S.written stream) (S.failed stream)) };
 }

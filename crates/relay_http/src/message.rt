@@ -27,7 +27,8 @@ pub(crate) fn gather_answer(
 // Sets a text to the head of an answer with a body of this length. After an error, part of it may
 // be there.
 fn answer_head(text: &mut Vec<u8>, status: u16, size: usize, keep: bool) -> Result<(), AllocError>
-    ensures { OnOk result (text.new.items ≡ answer_text (decimal status) (reason_of status) (decimal size) keep) }
+    ensures { OnOk result
+        (text.new.items ≡ answer_text (decimal status) (reason_of status) (decimal size) keep) }
 {
     let mut code = Buffer::new();
     let mut digits = Buffer::new();

@@ -37,7 +37,8 @@ pub(crate) fn write_bulk<S: ByteOut>(
     writes: &[Write],
 ) -> Result<(), HttpFault>
     requires { length writes.now ≤ 10000 }
-    ensures sent { SendsRequest host.now writes.now (S.written stream.old) (S.written stream.new) result }
+    ensures sent { SendsRequest host.now writes.now (S.written stream.old) (S.written stream.new)
+        result }
     ensures failed { S.failed stream.new ≡ failed_writing result (S.failed stream.old) }
     ensures left { S.left stream.new ≡ S.left stream.old }
 {
@@ -57,7 +58,8 @@ fn start<S: ByteOut>(
     writes: &[Write],
 ) -> Result<(), HttpFault>
     requires { length writes.now ≤ 10000 }
-    ensures sent { Begun (head_text host.now (decimal (length (text_of writes.now)))) text.new.items (S.written stream.old) (S.written stream.new) result }
+    ensures sent { Begun (head_text host.now (decimal (length (text_of writes.now))))
+        text.new.items (S.written stream.old) (S.written stream.new) result }
     ensures failed { S.failed stream.new ≡ failed_writing result (S.failed stream.old) }
     ensures left { S.left stream.new ≡ S.left stream.old }
 {
@@ -99,7 +101,8 @@ fn gather<S: ByteOut>(
     text: &mut Vec<u8>,
     write: &Write,
 ) -> Result<(), HttpFault>
-    ensures sent { Gathers (write_text write.now) text.old.items text.new.items (S.written stream.old) (S.written stream.new) result }
+    ensures sent { Gathers (write_text write.now) text.old.items text.new.items
+        (S.written stream.old) (S.written stream.new) result }
     ensures failed { S.failed stream.new ≡ failed_writing result (S.failed stream.old) }
     ensures left { S.left stream.new ≡ S.left stream.old }
 {
@@ -128,7 +131,8 @@ fn gather_lines<S: ByteOut>(
     text: &mut Vec<u8>,
     write: &Write,
 ) -> Result<(), HttpFault>
-    ensures sent { Gathers (write_text write.now) text.old.items text.new.items (S.written stream.old) (S.written stream.new) result }
+    ensures sent { Gathers (write_text write.now) text.old.items text.new.items
+        (S.written stream.old) (S.written stream.new) result }
     ensures failed { S.failed stream.new ≡ failed_writing result (S.failed stream.old) }
     ensures left { S.left stream.new ≡ S.left stream.old }
 {
@@ -154,7 +158,8 @@ fn send_source<S: ByteOut>(
     source: &[u8],
 ) -> Result<(), HttpFault>
     requires { source_line write.now.action ≡ source.now ++ line_end }
-    ensures sent { Gathers (write_text write.now) text.old.items text.new.items (S.written stream.old) (S.written stream.new) result }
+    ensures sent { Gathers (write_text write.now) text.old.items text.new.items
+        (S.written stream.old) (S.written stream.new) result }
     ensures failed { S.failed stream.new ≡ failed_writing result (S.failed stream.old) }
     ensures left { S.left stream.new ≡ S.left stream.old }
 {
@@ -171,7 +176,8 @@ fn send_source<S: ByteOut>(
 
 // Writes one text and then another. `Err`: a write failed.
 fn send_both<S: ByteOut>(stream: &mut S, first: &[u8], second: &[u8]) -> Result<(), HttpFault>
-    ensures sent { SendsBoth (first.now ++ second.now) (S.written stream.old) (S.written stream.new) result }
+    ensures sent { SendsBoth (first.now ++ second.now) (S.written stream.old)
+        (S.written stream.new) result }
     ensures failed { S.failed stream.new ≡ failed_writing result (S.failed stream.old) }
     ensures left { S.left stream.new ≡ S.left stream.old }
 {
@@ -195,7 +201,8 @@ fn keep_line_end(text: &mut Vec<u8>)
 
 // Sends what was gathered.
 fn flush<S: ByteOut>(stream: &mut S, text: &mut Vec<u8>) -> Result<(), HttpFault>
-    ensures sent { Flushes text.old.items text.new.items (S.written stream.old) (S.written stream.new) result }
+    ensures sent { Flushes text.old.items text.new.items (S.written stream.old)
+        (S.written stream.new) result }
     ensures failed { S.failed stream.new ≡ failed_writing result (S.failed stream.old) }
     ensures left { S.left stream.new ≡ S.left stream.old }
 {

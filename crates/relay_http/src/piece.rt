@@ -1,5 +1,7 @@
 //! The pieces of a message that are looked for at the front of the window.
-ghost use Rattle.std.specs.Prelude.{◌≡◌, ◌<◌, ◌≤◌, ◌++◌, ℕ, List, Some, IfErr, Bool, length, Ok, None, Err, IfOk, OnOk, OnErr, IsTrue, IsFalse, is_ok, if◌then◌else◌};
+ghost use Rattle.std.specs.Prelude.{◌≡◌, ◌<◌, ◌≤◌, ◌++◌, ℕ, List, Some, IfErr, Bool, length, Ok};
+ghost use Rattle.std.specs.Prelude.{None, Err, IfOk, OnOk, OnErr, IsTrue, IsFalse, is_ok};
+ghost use Rattle.std.specs.Prelude.{if◌then◌else◌};
 ghost use Rattle.std.specs.Io.KnownBytes.{IsAtEnd};
 ghost use Rattle.relay_action.specs.Streams.{one_more};
 ghost use Rattle.relay_http.specs.Steps.{Finds, Answers, pending};
@@ -35,7 +37,8 @@ pub trait Piece: Copy {
     fn find(buf: &[u8]) -> Result<Option<(Self, usize)>, HttpFault>
         requires { length buf.now ≤ window_size }
         ensures found { Finds Self.form buf.now result }
-        ensures why { IfErr result (λ f. (more : List ℕ) → PieceFault Self.breaks Self.overruns (buf.now ++ more) f) }
+        ensures why { IfErr result
+            (λ f. (more : List ℕ) → PieceFault Self.breaks Self.overruns (buf.now ++ more) f) }
         ensures none { result ≡ Ok None → length buf.now < Self.size };
 }
 
@@ -45,11 +48,14 @@ impl<S: ByteIn + Drop> Buffered<S> {
     fn fill_line(&mut self, most: usize) -> Result<bool, HttpFault>
         requires { (length self.old.window < most) × (most ≤ window_size) }
         ensures stands { OnOk result (pending S.left self.old ≡ pending S.left self.new) }
-        ensures more { IfOk result (λ more. IsTrue more → length self.old.window < length self.new.window) }
+        ensures more { IfOk result
+            (λ more. IsTrue more → length self.old.window < length self.new.window) }
         ensures longer { OnOk result (length self.old.window ≤ length self.new.window) }
         ensures ended { IfOk result (λ more. IsFalse more → IsAtEnd (S.left self.new.stream)) }
         ensures err { OnErr result (result ≡ Err HttpFault.Read) }
-        ensures count { S.failed self.new.stream ≡ (if is_ok result then S.failed self.old.stream else one_more (S.failed self.old.stream)) }
+        ensures count { S.failed self.new.stream
+            ≡ (if is_ok result then S.failed self.old.stream else one_more
+            (S.failed self.old.stream)) }
         ensures written { S.written self.new.stream ≡ S.written self.old.stream }
     {
         'filling: loop {
@@ -67,9 +73,13 @@ impl<S: ByteIn + Drop> Buffered<S> {
     // Reads a piece. It is parsed again only when a line feed arrives, the limit is reached or the
     // stream ends, since each piece ends with a line feed.
     pub(crate) fn read_piece<P: Piece>(&mut self) -> Result<P, HttpFault>
-        ensures answer { Answers P.form (pending S.left self.old) (pending S.left self.new) (S.left self.new.stream) result }
-        ensures why { (stream : List ℕ) → pending S.left self.old ≡ Some stream → IfErr result (PieceFault P.breaks P.overruns stream) }
-        ensures count { S.failed self.new.stream ≡ (if is_read result then one_more (S.failed self.old.stream) else S.failed self.old.stream) }
+        ensures answer { Answers P.form (pending S.left self.old) (pending S.left self.new)
+            (S.left self.new.stream) result }
+        ensures why { (stream : List ℕ) → pending S.left self.old ≡ Some stream
+            → IfErr result (PieceFault P.breaks P.overruns stream) }
+        ensures count { S.failed self.new.stream
+            ≡ (if is_read result then one_more (S.failed self.old.stream) else S.failed
+            self.old.stream) }
         ensures written { S.written self.new.stream ≡ S.written self.old.stream }
     {
         let mut ended = false;

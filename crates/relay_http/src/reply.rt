@@ -1,5 +1,6 @@
 //! Replies (RFC 9112, section 4).
-ghost use Rattle.std.specs.Prelude.{◌≡◌, ◌<◌, ◌≤◌, ℕ, List, length, IfErr, MatchResult, Some, ◌&&◌, not, if◌then◌else◌};
+ghost use Rattle.std.specs.Prelude.{◌≡◌, ◌<◌, ◌≤◌, ℕ, List, length, IfErr, MatchResult, Some, ◌&&◌};
+ghost use Rattle.std.specs.Prelude.{not, if◌then◌else◌};
 ghost use Rattle.relay_action.specs.Streams.{one_more};
 ghost use Rattle.relay_http.specs.Forms.{Took, Fails, Begins, IsOutside, IsThatOrOutside};
 ghost use Rattle.httparse.specs.Grammar.{NeverHasResponse};
@@ -8,7 +9,8 @@ ghost use Rattle.relay_http.specs.Steps.{Answers, pending};
 ghost use Rattle.relay_http.specs.Connection.{is_read};
 ghost use Rattle.relay_http.specs.Framing.{is_to_end};
 ghost use Rattle.relay_http.specs.declared.fault.HttpFault.{HttpFault};
-ghost use Rattle.relay_http.specs.Reply.{IsHeads, IsReplyMessage, ReplyPasses, ReplyStates, reply_view};
+ghost use Rattle.relay_http.specs.Reply.{IsHeads, IsReplyMessage, ReplyPasses, ReplyStates};
+ghost use Rattle.relay_http.specs.Reply.{reply_view};
 
 use crate::buffered::Buffered;
 use crate::fault::HttpFault;
@@ -49,9 +51,14 @@ fn keeps(lasting: bool, framing: Framing) -> bool
 impl<S: ByteIn + Drop> Buffered<S> {
     // Reads the heads of a reply, and returns what the last of them says.
     fn read_heads(&mut self) -> Result<HeadInfo, HttpFault>
-        ensures why { (stream : List ℕ) → pending S.left self.old ≡ Some stream → IfErr result (PieceFault (AfterInterim NeverHasResponse) (AfterInterim OverrunsHead) stream) }
-        ensures answer { Answers IsHeads (pending S.left self.old) (pending S.left self.new) (S.left self.new.stream) result }
-        ensures count { S.failed self.new.stream ≡ (if is_read result then one_more (S.failed self.old.stream) else S.failed self.old.stream) }
+        ensures why { (stream : List ℕ) → pending S.left self.old ≡ Some stream
+            → IfErr result
+            (PieceFault (AfterInterim NeverHasResponse) (AfterInterim OverrunsHead) stream) }
+        ensures answer { Answers IsHeads (pending S.left self.old) (pending S.left self.new)
+            (S.left self.new.stream) result }
+        ensures count { S.failed self.new.stream
+            ≡ (if is_read result then one_more (S.failed self.old.stream) else S.failed
+            self.old.stream) }
         ensures written { S.written self.new.stream ≡ S.written self.old.stream }
     {
         let mut passed = 0;
@@ -66,12 +73,26 @@ impl<S: ByteIn + Drop> Buffered<S> {
 
     // Reads a reply. One at the front is found, and so is a fault in the heads there.
     pub(crate) fn next_reply(&mut self, alloc: Global) -> Result<HttpReply, HttpFault>
-        ensures answer { MatchResult result (λ reply. Took IsReplyMessage (pending S.left self.old) (pending S.left self.new) (reply_view reply)) (Fails IsReplyMessage (pending S.left self.old) (S.left self.new.stream)) }
-        ensures why { (stream : List ℕ) → pending S.left self.old ≡ Some stream → IfErr result (ReplyFault stream) }
-        ensures found { (stream : List ℕ) (there : Begins IsReplyMessage stream) → pending S.left self.old ≡ Some stream → MatchResult result (λ reply. (reply_view reply ≡ there.value) × (pending S.left self.new ≡ Some there.rest)) IsOutside }
-        ensures stated { (stream : List ℕ) (f : HttpFault) → ReplyStates stream f → pending S.left self.old ≡ Some stream → MatchResult result (λ reply. ⊥) (IsThatOrOutside f) }
-        ensures long { (stream : List ℕ) → ReplyPasses stream → pending S.left self.old ≡ Some stream → MatchResult result (λ reply. ⊥) (IsThatOrOutside HttpFault.BodyLong) }
-        ensures count { S.failed self.new.stream ≡ (if is_read result then one_more (S.failed self.old.stream) else S.failed self.old.stream) }
+        ensures answer { MatchResult result
+            (λ reply. Took IsReplyMessage (pending S.left self.old) (pending S.left self.new)
+            (reply_view reply)) (Fails IsReplyMessage (pending S.left self.old)
+            (S.left self.new.stream)) }
+        ensures why { (stream : List ℕ) → pending S.left self.old ≡ Some stream
+            → IfErr result (ReplyFault stream) }
+        ensures found { (stream : List ℕ) (there : Begins IsReplyMessage stream)
+            → pending S.left self.old ≡ Some stream
+            → MatchResult result
+            (λ reply. (reply_view reply ≡ there.value)
+            × (pending S.left self.new ≡ Some there.rest)) IsOutside }
+        ensures stated { (stream : List ℕ) (f : HttpFault) → ReplyStates stream f
+            → pending S.left self.old ≡ Some stream
+            → MatchResult result (λ reply. ⊥) (IsThatOrOutside f) }
+        ensures long { (stream : List ℕ) → ReplyPasses stream
+            → pending S.left self.old ≡ Some stream
+            → MatchResult result (λ reply. ⊥) (IsThatOrOutside HttpFault.BodyLong) }
+        ensures count { S.failed self.new.stream
+            ≡ (if is_read result then one_more (S.failed self.old.stream) else S.failed
+            self.old.stream) }
         ensures written { S.written self.new.stream ≡ S.written self.old.stream }
     {
         let info = self.read_heads()?;

@@ -1,5 +1,6 @@
 //! The head of a request (RFC 9112, sections 3 and 5).
-ghost use Rattle.std.specs.Prelude.{◌≡◌, ◌<◌, ◌≤◌, ◌++◌, ℕ, List, IfErr, length, Ok, None, codes, ◌&&◌, bytes_eq};
+ghost use Rattle.std.specs.Prelude.{◌≡◌, ◌<◌, ◌≤◌, ◌++◌, ℕ, List, IfErr, length, Ok, None, codes};
+ghost use Rattle.std.specs.Prelude.{◌&&◌, bytes_eq};
 ghost use Rattle.httparse.specs.Grammar.{NeverHasRequest};
 ghost use Rattle.relay_http.specs.Refusals.{OverrunsRequestHead, PieceFault};
 ghost use Rattle.relay_http.specs.Steps.{Finds};
@@ -45,7 +46,8 @@ impl Piece for RequestInfo {
 
 // Whether a request with this method and target is for the bulk API.
 fn is_bulk(method: &[u8], target: &[u8]) -> bool
-    ensures { result ≡ (bytes_eq method.now (codes "POST") && bytes_eq target.now (codes "/_bulk")) }
+    ensures { result
+        ≡ (bytes_eq method.now (codes "POST") && bytes_eq target.now (codes "/_bulk")) }
 {
     method == b"POST".as_slice() && target == b"/_bulk".as_slice()
 }
@@ -55,7 +57,9 @@ fn is_bulk(method: &[u8], target: &[u8]) -> bool
 pub fn find_request_head(buf: &[u8]) -> Result<Option<(RequestInfo, usize)>, HttpFault>
     requires { length buf.now ≤ head_limit }
     ensures found { Finds IsRequestInfo buf.now result }
-    ensures why { IfErr result (λ f. (more : List ℕ) → PieceFault NeverHasRequest OverrunsRequestHead (buf.now ++ more) f) }
+    ensures why { IfErr result
+        (λ f. (more : List ℕ)
+        → PieceFault NeverHasRequest OverrunsRequestHead (buf.now ++ more) f) }
     ensures none { result ≡ Ok None → length buf.now < head_limit }
 {
     let mut headers = [EMPTY_HEADER_SPAN; FIELD_LIMIT];

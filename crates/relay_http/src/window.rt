@@ -1,5 +1,6 @@
 //! The bytes that were read ahead of a stream.
-ghost use Rattle.std.specs.Prelude.{◌≡◌, ◌+◌, ◌-◌, ◌<◌, ◌≤◌, ◌++◌, ℕ, List, [], length, take, drop, IfOk, OnErr, is_ok, if◌then◌else◌};
+ghost use Rattle.std.specs.Prelude.{◌≡◌, ◌+◌, ◌-◌, ◌<◌, ◌≤◌, ◌++◌, ℕ, List, [], length, take, drop};
+ghost use Rattle.std.specs.Prelude.{IfOk, OnErr, is_ok, if◌then◌else◌};
 ghost use Rattle.std.specs.Io.KnownBytes.{IsAtEnd};
 ghost use Rattle.relay_action.specs.Streams.{one_more};
 ghost use Rattle.std.specs.Io.KnownBytes.{prepend_known};
@@ -29,7 +30,8 @@ impl Model for Window {
 
     ghost view = { λ w. take (w.to - w.from) (drop w.from w.bytes.items) };
 
-    ghost invariant = { λ w. (w.from ≤ w.to) × (w.to ≤ window_size) × (vec_len w.bytes ≡ window_size) };
+    ghost invariant = { λ w. (w.from ≤ w.to) × (w.to ≤ window_size)
+        × (vec_len w.bytes ≡ window_size) };
 }
 
 impl Window {
@@ -63,10 +65,13 @@ impl Window {
     /// Reads more bytes. 0 means the end of the stream.
     pub fn fill<S: ByteIn>(&mut self, stream: &mut S) -> Result<usize, StreamFailed>
         requires { length self.old < window_size }
-        ensures bytes { IfOk result (Grown self.old self.new (S.left stream.old) (S.left stream.new)) }
+        ensures bytes { IfOk result
+            (Grown self.old self.new (S.left stream.old) (S.left stream.new)) }
         ensures bound { length self.new ≤ window_size }
-        ensures err { OnErr result ((self.new ≡ self.old) × (S.left stream.new ≡ S.left stream.old)) }
-        ensures count { S.failed stream.new ≡ (if is_ok result then S.failed stream.old else one_more (S.failed stream.old)) }
+        ensures err { OnErr result
+            ((self.new ≡ self.old) × (S.left stream.new ≡ S.left stream.old)) }
+        ensures count { S.failed stream.new
+            ≡ (if is_ok result then S.failed stream.old else one_more (S.failed stream.old)) }
         ensures written { S.written stream.new ≡ S.written stream.old }
     {
         if self.from > 0 {
@@ -97,10 +102,14 @@ pub(crate) fn read_behind<S: ByteIn>(
 ) -> Result<usize, StreamFailed>
     requires { (at < to) × (to ≤ length bytes.old) }
     ensures bound { IfOk result (λ n. at + n ≤ to) }
-    ensures bytes { IfOk result (λ n. Grown (take at bytes.old) (take (at + n) bytes.new) (S.left stream.old) (S.left stream.new) n) }
+    ensures bytes { IfOk result
+        (λ n. Grown (take at bytes.old) (take (at + n) bytes.new) (S.left stream.old)
+        (S.left stream.new) n) }
     ensures length { length bytes.new ≡ length bytes.old }
-    ensures err { OnErr result ((take at bytes.new ≡ take at bytes.old) × (S.left stream.new ≡ S.left stream.old)) }
-    ensures count { S.failed stream.new ≡ (if is_ok result then S.failed stream.old else one_more (S.failed stream.old)) }
+    ensures err { OnErr result
+        ((take at bytes.new ≡ take at bytes.old) × (S.left stream.new ≡ S.left stream.old)) }
+    ensures count { S.failed stream.new
+        ≡ (if is_ok result then S.failed stream.old else one_more (S.failed stream.old)) }
     ensures written { S.written stream.new ≡ S.written stream.old }
 {
     match stream.read(&mut bytes[at..to]) {

@@ -1,14 +1,17 @@
 //! The index.
-ghost use Rattle.std.specs.Prelude.{◌≡◌, ◌∷◌, [], Some, IsTrue, option_map, unwrap_or, max, IfOk, OnOk, OnErr};
+ghost use Rattle.std.specs.Prelude.{◌≡◌, ◌∷◌, [], Some, IsTrue, option_map, unwrap_or, max, IfOk};
+ghost use Rattle.std.specs.Prelude.{OnOk, OnErr};
 ghost use Rattle.std.specs.List.{IsDistinct};
 ghost use Rattle.relay_results.specs.Documents.{document_of};
 ghost use Rattle.relay_results.specs.Outside.{Outside, Ran, IsOutcomeOf, ran_of};
-ghost use Rattle.relay_index.specs.States.{fresh, applied, stored, live, is_live, IsHighest, IsIndex};
+ghost use Rattle.relay_index.specs.States.{fresh, applied, stored, live, is_live, IsHighest};
+ghost use Rattle.relay_index.specs.States.{IsIndex};
 ghost use Rattle.relay_index.specs.Choices.{MayChoose};
 ghost use Rattle.relay_index.specs.Keys.{document_order, same_key, AreKeys};
 ghost use Rattle.indexmap.specs.IndexMap.{keys as keys_of};
 ghost use Rattle.relay_index.specs.Lists.{with_write, appended, after_run};
-ghost use Rattle.relay_index.specs.Runs.{is_newer, is_run, status_by, result_of, applied_result, status_of, done_of, outcome_of_run, Effect, Shows};
+ghost use Rattle.relay_index.specs.Runs.{is_newer, is_run, status_by, result_of, applied_result};
+ghost use Rattle.relay_index.specs.Runs.{status_of, done_of, outcome_of_run, Effect, Shows};
 
 use crate::choice::Choice;
 use crate::history::History;
@@ -162,7 +165,8 @@ impl Index {
 
     // The status and the result of a write.
     fn answer(&self, write: &Write, choice: Choice) -> (u16, DoneResult)
-        ensures { result ≡ (status_by self.now write.now choice, result_of self.now write.now choice) }
+        ensures { result
+            ≡ (status_by self.now write.now choice, result_of self.now write.now choice) }
     {
         match choice {
             Choice::Refuse(status) => (status, DoneResult::Refused),
@@ -229,7 +233,8 @@ impl Index {
         ensures effect { OnOk result (Effect self.old write.now choice self.new) }
         ensures err { OnErr result (self.new ≡ self.old) }
         ensures versioned { IfOk result (λ done.
-            IsOutcomeOf (stored self.old (document_of write.now.key)) write.now (outcome_of_run done)) }
+            IsOutcomeOf (stored self.old (document_of write.now.key)) write.now
+            (outcome_of_run done)) }
         ensures outside { IfOk result (λ done. (o : Outside) (r : Ran) → Shows o self.old
             → r.outcome ≡ outcome_of_run done → Shows (ran_of o r (Some write.now)) self.new) }
         ensures kept { OnOk result (IsIndex self.new) }

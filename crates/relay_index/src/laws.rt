@@ -1,6 +1,7 @@
 //! What the definitions of `specs/` say of runs. These functions do nothing; their contracts are
 //! the laws.
-ghost use Rattle.relay_index.specs.Laws.{RunIsOfOutside, AppliedIsStored, DeletedKeepsVersion, RepeatIsConflict, ScriptsMay};
+ghost use Rattle.relay_index.specs.Laws.{RunIsOfOutside, AppliedIsStored, DeletedKeepsVersion};
+ghost use Rattle.relay_index.specs.Laws.{RepeatIsConflict, ScriptsMay};
 
 /// The result of running a write, also as part of a request, is an outcome that a versioned run may
 /// have; and if an outside shows the index before the run, the outside with the run recorded shows

@@ -1,7 +1,8 @@
 //! Scripts of refusals.
 ghost use Rattle.std.specs.Prelude.{◌≡◌, ◌==◌, ℕ, Some, OnOk, OnErr, if◌then◌else◌};
 ghost use Rattle.relay_index.specs.Choices.{MayRefuse, MayChoose};
-ghost use Rattle.relay_index.specs.Plans.{unscripted, refusal_at, choice_at, limited, takes, stepped};
+ghost use Rattle.relay_index.specs.Plans.{unscripted, refusal_at, choice_at, limited, takes};
+ghost use Rattle.relay_index.specs.Plans.{stepped};
 
 use crate::choice::Choice;
 use crate::refusal::Refusal;

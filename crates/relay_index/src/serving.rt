@@ -1,7 +1,9 @@
 //! Serving bulk requests.
 ghost use Rattle.std.specs.Prelude.{◌≡◌, IfOk, IfErr, string_bytes};
 ghost use Rattle.serde_json.specs.View.{view};
-ghost use Rattle.relay_index.specs.Serving.{under, answer_of, RunsAll, RunsFirst, Replies, fault_data, fault_text, too_large_data, too_large_text, IsRejection, IsTooLarge, Answers, StopsAfter};
+ghost use Rattle.relay_index.specs.Serving.{under, answer_of, RunsAll, RunsFirst, Replies};
+ghost use Rattle.relay_index.specs.Serving.{fault_data, fault_text, too_large_data, too_large_text};
+ghost use Rattle.relay_index.specs.Serving.{IsRejection, IsTooLarge, Answers, StopsAfter};
 
 use crate::index::Index;
 use crate::script::Script;
@@ -39,7 +41,8 @@ fn write_fault(alloc: Global, line: u64, kind: &str) -> Result<String, AllocErro
 
 // The answer to a body with a fault: 400 and the text that names it, unless an allocation failed.
 fn reject(alloc: Global, fault: BulkFault) -> Result<(u16, String), ServeFault>
-    ensures ok { IfOk result (λ answer. IsRejection fault (answer_of answer.0 (string_bytes answer.1))) }
+    ensures ok { IfOk result
+        (λ answer. IsRejection fault (answer_of answer.0 (string_bytes answer.1))) }
     ensures err { IfErr result (λ e. e.ran ≡ 0) }
 {
     if fault.kind == LineKind::Memory {
@@ -89,7 +92,8 @@ impl Index {
         script: &mut Script,
     ) -> Result<Vec<ItemDone>, ServeFault>
         ensures ok { IfOk result (λ items.
-            RunsAll (under self.old script.old) writes.now items.items (under self.new script.new)) }
+            RunsAll (under self.old script.old) writes.now items.items
+            (under self.new script.new)) }
         ensures err { IfErr result (λ e.
             RunsFirst e.ran (under self.old script.old) writes.now (under self.new script.new)) }
     {
@@ -122,7 +126,8 @@ impl Index {
         script: &mut Script,
     ) -> Result<String, ServeFault>
         ensures ok { IfOk result (λ text.
-            Replies (under self.old script.old) writes.now (string_bytes text) (under self.new script.new)) }
+            Replies (under self.old script.old) writes.now (string_bytes text)
+            (under self.new script.new)) }
         ensures err { IfErr result (λ e.
             RunsFirst e.ran (under self.old script.old) writes.now (under self.new script.new)) }
     {

@@ -1,8 +1,10 @@
 //! A lane sends, repeats and settles over a wire.
-ghost use Rattle.std.specs.Prelude.{◌≡◌, ◌+◌, ◌*◌, ◌-◌, ◌<◌, ◌≤◌, [], None, true, length, nat_lt, IfOk, OnOk, OnErr};
+ghost use Rattle.std.specs.Prelude.{◌≡◌, ◌+◌, ◌*◌, ◌-◌, ◌<◌, ◌≤◌, [], None, true, length, nat_lt};
+ghost use Rattle.std.specs.Prelude.{IfOk, OnOk, OnErr};
 ghost use Rattle.relay_core.specs.State.{next_batch, all_closed, flushed};
 ghost use Rattle.relay_lane.specs.Out.{out_of};
-ghost use Rattle.relay_lane.specs.Turns.{Worked, Stays, pumps, sends_only, collects, holds, holds_some, is_full, Paused, sends_left};
+ghost use Rattle.relay_lane.specs.Turns.{Worked, Stays, pumps, sends_only, collects, holds};
+ghost use Rattle.relay_lane.specs.Turns.{holds_some, is_full, Paused, sends_left};
 ghost use Rattle.relay_lane.specs.Steps.{IsPressed};
 ghost use Rattle.relay_lane.specs.Delivers.{Delivers};
 
@@ -19,9 +21,11 @@ use std::alloc::AllocError;
 /// may be repeated.
 pub fn pump<W: Wire>(lane: &mut Lane, wire: &mut W) -> Result<u64, AllocError>
     requires out { W.out wire.old ≡ out_of lane.old.state }
-    ensures requests { IfOk result (λ n. lane.new.state.core.requests ≡ lane.old.state.core.requests + n) }
+    ensures requests { IfOk result
+        (λ n. lane.new.state.core.requests ≡ lane.old.state.core.requests + n) }
     ensures done { OnOk result (next_batch lane.new.state ≡ None) }
-    ensures place { OnOk result (length lane.new.state.core.flying < lane.new.state.config.in_flight) }
+    ensures place { OnOk result
+        (length lane.new.state.core.flying < lane.new.state.config.in_flight) }
     ensures memory { OnErr result (0 < length lane.new.state.core.held) }
     ensures worked { Worked pumps lane.old.state lane.new.state }
     ensures clock { lane.new.state.core.clock ≡ lane.old.state.core.clock }
@@ -30,7 +34,8 @@ pub fn pump<W: Wire>(lane: &mut Lane, wire: &mut W) -> Result<u64, AllocError>
     ensures stays { Stays lane.old.state lane.new.state }
     ensures out { W.out wire.new ≡ out_of lane.new.state }
     ensures describes { W.describes wire.new ≡ W.describes wire.old }
-    ensures delivers { Delivers (W.describes wire.old) W.fits wire.old wire.new lane.old.state lane.new.state }
+    ensures delivers { Delivers (W.describes wire.old) W.fits wire.old wire.new lane.old.state
+        lane.new.state }
 {
     let _ = lane.totals();
     let places = lane.in_flight();
@@ -46,12 +51,13 @@ pub fn pump<W: Wire>(lane: &mut Lane, wire: &mut W) -> Result<u64, AllocError>
     }
 }
 
-/// Sends every request that is ready while a place in flight is free, and returns how many. It waits
-/// for no answer, and no tick passes. `AllocError`: the allocation of a request failed; the lane is
-/// as the requests before left it, and the call may be repeated.
+/// Sends every request that is ready while a place in flight is free, and returns how many. It
+/// waits for no answer, and no tick passes. `AllocError`: the allocation of a request failed; the
+/// lane is as the requests before left it, and the call may be repeated.
 pub fn send_ready<W: Wire>(lane: &mut Lane, wire: &mut W) -> Result<u64, AllocError>
     requires out { W.out wire.old ≡ out_of lane.old.state }
-    ensures requests { IfOk result (λ n. lane.new.state.core.requests ≡ lane.old.state.core.requests + n) }
+    ensures requests { IfOk result
+        (λ n. lane.new.state.core.requests ≡ lane.old.state.core.requests + n) }
     ensures done { OnOk result (next_batch lane.new.state ≡ None) }
     ensures memory { OnErr result (0 < length lane.new.state.core.held) }
     ensures worked { Worked sends_only lane.old.state lane.new.state }
@@ -61,7 +67,8 @@ pub fn send_ready<W: Wire>(lane: &mut Lane, wire: &mut W) -> Result<u64, AllocEr
     ensures stays { Stays lane.old.state lane.new.state }
     ensures out { W.out wire.new ≡ out_of lane.new.state }
     ensures describes { W.describes wire.new ≡ W.describes wire.old }
-    ensures delivers { Delivers (W.describes wire.old) W.fits wire.old wire.new lane.old.state lane.new.state }
+    ensures delivers { Delivers (W.describes wire.old) W.fits wire.old wire.new lane.old.state
+        lane.new.state }
 {
     let _ = lane.totals();
     let mut count: u64 = 0;
@@ -87,7 +94,8 @@ pub fn settle_next<W: Wire>(lane: &mut Lane, wire: &mut W) -> bool
     ensures stays { Stays lane.old.state lane.new.state }
     ensures out { W.out wire.new ≡ out_of lane.new.state }
     ensures describes { W.describes wire.new ≡ W.describes wire.old }
-    ensures delivers { Delivers (W.describes wire.old) W.fits wire.old wire.new lane.old.state lane.new.state }
+    ensures delivers { Delivers (W.describes wire.old) W.fits wire.old wire.new lane.old.state
+        lane.new.state }
 {
     if lane.flying() == 0 {
         return false;
@@ -109,7 +117,8 @@ pub fn collect<W: Wire>(lane: &mut Lane, wire: &mut W) -> u64
     ensures stays { Stays lane.old.state lane.new.state }
     ensures out { W.out wire.new ≡ [] }
     ensures describes { W.describes wire.new ≡ W.describes wire.old }
-    ensures delivers { Delivers (W.describes wire.old) W.fits wire.old wire.new lane.old.state lane.new.state }
+    ensures delivers { Delivers (W.describes wire.old) W.fits wire.old wire.new lane.old.state
+        lane.new.state }
 {
     let _ = lane.totals();
     let mut settled: u64 = 0;
@@ -135,11 +144,13 @@ fn work<W: Wire, P: Pace>(
     ensures worked { Worked (holds least) lane.old.state lane.new.state }
     ensures bound { lane.new.state.core.requests + sends_left lane.new.state
         ≤ lane.old.state.core.requests + sends_left lane.old.state }
-    ensures paused { Paused (lane.new.state.core.clock - lane.old.state.core.clock) (P.paused pace.old) (P.paused pace.new) }
+    ensures paused { Paused (lane.new.state.core.clock - lane.old.state.core.clock)
+        (P.paused pace.old) (P.paused pace.new) }
     ensures stays { Stays lane.old.state lane.new.state }
     ensures out { W.out wire.new ≡ out_of lane.new.state }
     ensures describes { W.describes wire.new ≡ W.describes wire.old }
-    ensures delivers { Delivers (W.describes wire.old) W.fits wire.old wire.new lane.old.state lane.new.state }
+    ensures delivers { Delivers (W.describes wire.old) W.fits wire.old wire.new lane.old.state
+        lane.new.state }
 {
     'turns: while lane.held() >= least {
         if send_next(lane, wire)? {
@@ -165,15 +176,18 @@ pub fn make_room<W: Wire, P: Pace>(
 ) -> Result<(), AllocError>
     requires out { W.out wire.old ≡ out_of lane.old.state }
     ensures done { OnOk result (length lane.new.state.core.held < lane.new.state.config.max_held) }
-    ensures memory { OnErr result (lane.new.state.config.max_held ≤ length lane.new.state.core.held) }
+    ensures memory { OnErr result
+        (lane.new.state.config.max_held ≤ length lane.new.state.core.held) }
     ensures worked { Worked is_full (flushed lane.old.state) lane.new.state }
     ensures bound { lane.new.state.core.requests + sends_left lane.new.state
         ≤ lane.old.state.core.requests + sends_left lane.old.state }
-    ensures paused { Paused (lane.new.state.core.clock - lane.old.state.core.clock) (P.paused pace.old) (P.paused pace.new) }
+    ensures paused { Paused (lane.new.state.core.clock - lane.old.state.core.clock)
+        (P.paused pace.old) (P.paused pace.new) }
     ensures stays { Stays lane.old.state lane.new.state }
     ensures out { W.out wire.new ≡ out_of lane.new.state }
     ensures describes { W.describes wire.new ≡ W.describes wire.old }
-    ensures delivers { Delivers (W.describes wire.old) W.fits wire.old wire.new lane.old.state lane.new.state }
+    ensures delivers { Delivers (W.describes wire.old) W.fits wire.old wire.new lane.old.state
+        lane.new.state }
 {
     let _ = lane.totals();
     let most = lane.max_held();
@@ -200,12 +214,15 @@ pub fn drain<W: Wire, P: Pace>(
     ensures bound { lane.new.state.core.requests + sends_left lane.new.state
         ≤ lane.old.state.core.requests + sends_left lane.old.state }
     ensures most { lane.new.state.core.requests
-        ≤ lane.old.state.core.requests + length lane.old.state.core.held * (lane.old.state.config.attempts + 14) }
-    ensures paused { Paused (lane.new.state.core.clock - lane.old.state.core.clock) (P.paused pace.old) (P.paused pace.new) }
+        ≤ lane.old.state.core.requests
+        + length lane.old.state.core.held * (lane.old.state.config.attempts + 14) }
+    ensures paused { Paused (lane.new.state.core.clock - lane.old.state.core.clock)
+        (P.paused pace.old) (P.paused pace.new) }
     ensures stays { Stays lane.old.state lane.new.state }
     ensures out { W.out wire.new ≡ out_of lane.new.state }
     ensures describes { W.describes wire.new ≡ W.describes wire.old }
-    ensures delivers { Delivers (W.describes wire.old) W.fits wire.old wire.new lane.old.state lane.new.state }
+    ensures delivers { Delivers (W.describes wire.old) W.fits wire.old wire.new lane.old.state
+        lane.new.state }
 {
     let _ = lane.totals();
     work(lane, wire, pace, 1)

@@ -1,7 +1,9 @@
 //! What follows from the definitions. These functions do nothing; their contracts are the laws.
 ghost use Rattle.relay_core.specs.Ties.{FreshFits, TakeFits};
-ghost use Rattle.relay_lane.specs.Reached.{FreshIsReached, TakeIsReached, TurnIsReached, WorkIsReached, ReachedIsOrderly};
-ghost use Rattle.relay_lane.specs.Laws.{NothingIsOut, TakeKeepsOut, TurnsKeep, WorksOn, LeftAtMost, LeftIsTries};
+ghost use Rattle.relay_lane.specs.Reached.{FreshIsReached, TakeIsReached, TurnIsReached};
+ghost use Rattle.relay_lane.specs.Reached.{WorkIsReached, ReachedIsOrderly};
+ghost use Rattle.relay_lane.specs.Laws.{NothingIsOut, TakeKeepsOut, TurnsKeep, WorksOn, LeftAtMost};
+ghost use Rattle.relay_lane.specs.Laws.{LeftIsTries};
 
 /// Nothing of a new lane is outstanding, and it fits every opening, in which nothing was sent and
 /// every stored version is below the first one assigned; whatever message it takes, what is

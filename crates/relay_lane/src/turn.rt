@@ -23,7 +23,8 @@ pub(crate) fn send_next<W: Wire>(lane: &mut Lane, wire: &mut W) -> Result<bool, 
     ensures held { OnErr result (0 < length lane.old.state.core.held) }
     ensures out { W.out wire.new ≡ out_of lane.new.state }
     ensures describes { W.describes wire.new ≡ W.describes wire.old }
-    ensures delivers { Delivers (W.describes wire.old) W.fits wire.old wire.new lane.old.state lane.new.state }
+    ensures delivers { Delivers (W.describes wire.old) W.fits wire.old wire.new lane.old.state
+        lane.new.state }
 {
     let _ = lane.totals();
     let Some(number) = lane.request()? else {
@@ -50,7 +51,8 @@ pub(crate) fn settle_oldest<W: Wire>(lane: &mut Lane, wire: &mut W)
     ensures turn { Settled lane.old.state lane.new.state }
     ensures out { W.out wire.new ≡ out_of lane.new.state }
     ensures describes { W.describes wire.new ≡ W.describes wire.old }
-    ensures delivers { Delivers (W.describes wire.old) W.fits wire.old wire.new lane.old.state lane.new.state }
+    ensures delivers { Delivers (W.describes wire.old) W.fits wire.old wire.new lane.old.state
+        lane.new.state }
 {
     let _ = lane.totals();
     if let Some(number) = lane.oldest() {
@@ -62,7 +64,8 @@ pub(crate) fn settle_oldest<W: Wire>(lane: &mut Lane, wire: &mut W)
 /// Pauses until the first operation that may be sent is due, and ticks the clock accordingly.
 pub(crate) fn wait<P: Pace>(lane: &mut Lane, pace: &mut P)
     requires { IsDueLater lane.old.state }
-    ensures lane { IfSome (due_in lane.old.state) (λ n. lane.new.state ≡ after_ticks n lane.old.state) }
+    ensures lane { IfSome (due_in lane.old.state)
+        (λ n. lane.new.state ≡ after_ticks n lane.old.state) }
     ensures paused { IfSome (due_in lane.old.state)
         (λ n. Paused n (P.paused pace.old) (P.paused pace.new)) }
 {

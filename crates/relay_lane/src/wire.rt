@@ -4,7 +4,8 @@ ghost use Rattle.relay_ndjson.specs.Bodies.{AreDealt};
 ghost use Rattle.relay_ndjson.specs.Bulk.{text_of};
 ghost use Rattle.relay_results.specs.Outside.{Outside, Lost};
 ghost use Rattle.relay_results.specs.Words.{Mem};
-ghost use Rattle.relay_lane.specs.Wires.{answer_of, IsWireReply, SendsOn, AnswersOn, ExchangesOn, Shows, ShowsNext, without};
+ghost use Rattle.relay_lane.specs.Wires.{answer_of, IsWireReply, SendsOn, AnswersOn, ExchangesOn};
+ghost use Rattle.relay_lane.specs.Wires.{Shows, ShowsNext, without};
 
 use relay_action::Write;
 use relay_results::Outcome;
@@ -67,7 +68,8 @@ pub trait Wire {
         ensures describes { describes self.new ≡ describes self.old }
         ensures outside { MatchResult result
             (λ _. ShowsNext (describes self.old) fits self.old self.new number (SendsOn writes.now))
-            (λ _. ShowsNext (describes self.old) fits self.old self.new number (ExchangesOn number writes.now Lost)) };
+            (λ _. ShowsNext (describes self.old) fits self.old self.new number
+            (ExchangesOn number writes.now Lost)) };
 
     /// Waits for the answer to the request with this number, which is then no longer outstanding.
     fn receive(&mut self, number: u64) -> Result<WireReply, WireFault>
@@ -75,5 +77,6 @@ pub trait Wire {
         ensures out { out self.new ≡ without number (out self.old) }
         ensures describes { describes self.new ≡ describes self.old }
         ensures reply { IsWireReply result }
-        ensures outside { Shows (describes self.old) fits self.old self.new (AnswersOn number (answer_of result)) };
+        ensures outside { Shows (describes self.old) fits self.old self.new
+            (AnswersOn number (answer_of result)) };
 }

@@ -2,7 +2,8 @@
 ghost use Rattle.std.specs.Prelude.{◌≡◌, ◌+◌, ℕ, [], IfOk, IfErr, length};
 ghost use Rattle.std.specs.Io.KnownBytes.{prepend_known};
 ghost use Rattle.relay_ndjson.specs.Operations.{counted};
-ghost use Rattle.relay_report.specs.Names.{NamesNext, ReadsNames, TakesName, ends_failed, line_fault};
+ghost use Rattle.relay_report.specs.Names.{NamesNext, ReadsNames, TakesName, ends_failed};
+ghost use Rattle.relay_report.specs.Names.{line_fault};
 
 use crate::line::read_name;
 use relay_action::ByteIn;

@@ -35,7 +35,8 @@ impl OperationReader {
 
     // Takes blank lines and the action line after them, if there is one.
     fn skip_blank<R: ByteIn>(&mut self, reader: &mut R) -> Result<bool, InputFault>
-        ensures line { SkipsTo (position (R.left reader.old) self.old.lines.held self.old.lines.count)
+        ensures line { SkipsTo
+            (position (R.left reader.old) self.old.lines.held self.old.lines.count)
             (position (R.left reader.new) self.new.lines.held self.new.lines.count)
             self.new.lines.text self.new.lines.end result }
         ensures failed { R.failed reader.new ≡ failed_after result (R.failed reader.old) }
@@ -91,7 +92,8 @@ impl OperationReader {
         reader: &mut R,
         line: u64,
     ) -> Result<(), InputFault>
-        ensures line { KeepsSource (position (R.left reader.old) self.old.lines.held self.old.lines.count)
+        ensures line { KeepsSource
+            (position (R.left reader.old) self.old.lines.held self.old.lines.count)
             (position (R.left reader.new) self.new.lines.held self.new.lines.count) line
             self.old.taken.items self.new.taken.items result }
         ensures failed { R.failed reader.new ≡ failed_after result (R.failed reader.old) }
@@ -122,7 +124,8 @@ impl OperationReader {
     ) -> Result<bool, InputFault>
         ensures lines { Reads (shown default_index.entry)
             (position (R.left reader.old) self.old.lines.held self.old.lines.count)
-            (position (R.left reader.new) self.new.lines.held self.new.lines.count) self.new.taken.items result }
+            (position (R.left reader.new) self.new.lines.held self.new.lines.count)
+            self.new.taken.items result }
         ensures failed { R.failed reader.new ≡ failed_after result (R.failed reader.old) }
     {
         let found = self.skip_blank(reader)?;
@@ -155,7 +158,8 @@ fn kind_on(
     scratch: &mut Scratch,
 ) -> Result<ActionKind, LineKind>
     ensures ok { IfOk result (λ kind. Asks (shown default_index.entry) line.now kind) }
-    ensures err { IfErr result (λ e. (e ≡ LineKind.Memory) ⊎ (line_fault (shown default_index.entry) line.now ≡ Some e)) }
+    ensures err { IfErr result
+        (λ e. (e ≡ LineKind.Memory) ⊎ (line_fault (shown default_index.entry) line.now ≡ Some e)) }
 {
     let (kind, _key) = read_action(alloc, default_index, line, scratch)?;
     Ok(kind)
@@ -164,7 +168,8 @@ fn kind_on(
 // Checks that a line is a source.
 fn check_source(alloc: Global, line: &[u8]) -> Result<(), LineKind>
     ensures ok { OnOk result (IsSource line.now) }
-    ensures err { IfErr result (λ e. (e ≡ LineKind.Memory) ⊎ (source_line_fault line.now ≡ Some e)) }
+    ensures err { IfErr result
+        (λ e. (e ≡ LineKind.Memory) ⊎ (source_line_fault line.now ≡ Some e)) }
 {
     let _action = read_source(alloc, line)?;
     Ok(())

@@ -109,8 +109,10 @@ impl Picking {
         default_index: Option<&str>,
     ) -> Result<bool, PickFault>
         ensures next { PicksNext (contains nat_cmp numbers.now) number (shown default_index.entry)
-            (position (R.left input.old) self.old.operations.lines.held self.old.operations.lines.count)
-            (position (R.left input.new) self.new.operations.lines.held self.new.operations.lines.count)
+            (position (R.left input.old) self.old.operations.lines.held
+            self.old.operations.lines.count)
+            (position (R.left input.new) self.new.operations.lines.held
+            self.new.operations.lines.count)
             self.old.text.items self.new.text.items result }
         ensures reads { ReadsFail (R.failed input.old) (R.failed input.new) result }
     {
@@ -133,9 +135,12 @@ impl Picking {
 
     // Writes what was gathered, if it is enough.
     fn make_way<W: ByteOut>(&mut self, writer: &mut W) -> Result<(), PickFault>
-        ensures ok { OnOk result (Moves self.old.text.items self.new.text.items (W.written writer.old) (W.written writer.new)) }
+        ensures ok { OnOk result
+            (Moves self.old.text.items self.new.text.items (W.written writer.old)
+            (W.written writer.new)) }
         ensures err { IfErr result (λ e. e ≡ PickFault.Write) }
-        ensures front { OnErr result (WritesFront (W.written writer.old) (W.written writer.new) self.old.text.items) }
+        ensures front { OnErr result
+            (WritesFront (W.written writer.old) (W.written writer.new) self.old.text.items) }
         ensures operations { self.new.operations ≡ self.old.operations }
         ensures failed { OnErr result (FailedSince (W.failed writer.old) (W.failed writer.new)) }
         ensures succeeded { OnOk result (W.failed writer.new ≡ W.failed writer.old) }
@@ -165,7 +170,8 @@ impl Picking {
         requires held { self.old.operations.lines.held ≡ [] }
         requires count { self.old.operations.lines.count ≡ 0 }
         requires text { self.old.text.items ≡ [] }
-        ensures picks { PicksTo (contains nat_cmp numbers.now) last (shown default_index.entry) (R.left input.old)
+        ensures picks { PicksTo (contains nat_cmp numbers.now) last (shown default_index.entry)
+            (R.left input.old)
             (W.written writer.old) (W.written writer.new) self.new.text.items result }
         ensures reads { ReadsFail (R.failed input.old) (R.failed input.new) result }
         ensures writes { WritesFail (W.failed writer.old) (W.failed writer.new) result }

@@ -88,7 +88,8 @@ fn add_number(
 
 // Adds the members for the name of the operation. In epoch 0 there is none for the epoch.
 fn add_name(alloc: Global, members: &mut Map<String, Value>, name: OpName) -> Result<(), AllocError>
-    ensures { OnOk result (members_view members.new.entries ≡ and_name name (members_view members.old.entries)) }
+    ensures { OnOk result
+        (members_view members.new.entries ≡ and_name name (members_view members.old.entries)) }
 {
     add_number(alloc, members, "number", name.number)?;
     add_number(alloc, members, "producer", name.producer as u64)?;
@@ -104,7 +105,9 @@ fn add_document(
     members: &mut Map<String, Value>,
     key: &DocKey,
 ) -> Result<(), AllocError>
-    ensures { OnOk result (members_view members.new.entries ≡ and_document key.now (members_view members.old.entries)) }
+    ensures { OnOk result
+        (members_view members.new.entries
+        ≡ and_document key.now (members_view members.old.entries)) }
 {
     add_text(alloc, members, "id", key.id())?;
     add_text(alloc, members, "index", key.index())
@@ -129,7 +132,9 @@ fn add_cause(
     members: &mut Map<String, Value>,
     cause: &Cause,
 ) -> Result<(), AllocError>
-    ensures { OnOk result (members_view members.new.entries ≡ and_cause cause.now (members_view members.old.entries)) }
+    ensures { OnOk result
+        (members_view members.new.entries
+        ≡ and_cause cause.now (members_view members.old.entries)) }
 {
     add_text(alloc, members, "cause", cause_name(cause))?;
     match cause {

@@ -1,5 +1,6 @@
 //! What was accepted from a producer.
-ghost use Rattle.std.specs.Prelude.{◌≡◌, [], ◌∷◌, ◌++◌, IfOk, OnOk, OnErr, length, option_map, replicate, slice_get};
+ghost use Rattle.std.specs.Prelude.{◌≡◌, [], ◌∷◌, ◌++◌, IfOk, OnOk, OnErr, length, option_map};
+ghost use Rattle.std.specs.Prelude.{replicate, slice_get};
 ghost use Rattle.relay_action.specs.declared.mail.Body.TheVariants as body;
 ghost use Rattle.relay_world.specs.Changes.{posted};
 ghost use Rattle.relay_world.specs.Memory.{IsOpenAt};

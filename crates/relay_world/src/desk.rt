@@ -1,14 +1,19 @@
 //! A lane with its queue.
-ghost use Rattle.std.specs.Prelude.{◌≡◌, if◌then◌else◌, ℕ, ◌+◌, ◌≤◌, ◌≢◌, [], ◌∷◌, ◌++◌, None, Some, true, IsTrue, OnOk, OnErr, IfOk, IfSome, OnSome, IfNone, map, option_map, is_some, is_ok, length, nat_le, nat_lt, replicate, slice_get, vec_capacity};
+ghost use Rattle.std.specs.Prelude.{◌≡◌, if◌then◌else◌, ℕ, ◌+◌, ◌≤◌, ◌≢◌, [], ◌∷◌, ◌++◌, None};
+ghost use Rattle.std.specs.Prelude.{Some, true, IsTrue, OnOk, OnErr, IfOk, IfSome, OnSome, IfNone};
+ghost use Rattle.std.specs.Prelude.{map, option_map, is_some, is_ok, length, nat_le, nat_lt};
+ghost use Rattle.std.specs.Prelude.{replicate, slice_get, vec_capacity};
 ghost use Rattle.std.specs.List.{list_all};
 ghost use Rattle.relay_core.specs.Limits.{is_valid};
 ghost use Rattle.relay_core.specs.Walk.{report_of};
-ghost use Rattle.relay_core.specs.State.{is_flying, after_request, next_batch, writes_of, AreCounts};
+ghost use Rattle.relay_core.specs.State.{is_flying, after_request, next_batch, writes_of};
+ghost use Rattle.relay_core.specs.State.{AreCounts};
 ghost use Rattle.relay_results.specs.Outside.{Items, Whole, Lost};
 ghost use Rattle.relay_results.specs.Matching.{matches};
 ghost use Rattle.relay_world.specs.State.{fresh_desk, has_closed, is_done};
 ghost use Rattle.relay_world.specs.Refusals.{cause_if, front_refusal};
-ghost use Rattle.relay_world.specs.Changes.{after_mail, posted, took_front, sent_request, request_of, answered_desk, item_of, items_of};
+ghost use Rattle.relay_world.specs.Changes.{after_mail, posted, took_front, sent_request};
+ghost use Rattle.relay_world.specs.Changes.{request_of, answered_desk, item_of, items_of};
 ghost use Rattle.relay_world.specs.Memory.{AllBelow, IsOpenAt};
 
 use crate::event::Refusal;
@@ -38,9 +43,22 @@ impl Model for Desk {
 
     ghost Value = { Desk };
 
-    ghost view = { λ d. record { queue = d.queue.items; senders = d.senders.items; taken = d.taken.items; lane = d.lane.state } };
+    ghost view = { λ d. record {
+      queue = d.queue.items;
+      senders = d.senders.items;
+      taken = d.taken.items;
+      lane =
+          d.lane.state;
+    } };
 
-    ghost invariant = { λ d. IsDesk (record { queue = d.queue.items; senders = d.senders.items; taken = d.taken.items; lane = d.lane.state }) };
+    ghost invariant = { λ d. IsDesk
+        (record {
+          queue = d.queue.items;
+          senders = d.senders.items;
+          taken = d.taken.items;
+          lane =
+              d.lane.state;
+        }) };
 }
 
 pub(crate) fn fresh_desks(alloc: Global, config: RelayConfig) -> Result<Vec<Desk>, AllocError>
@@ -91,7 +109,8 @@ fn form(lane: &mut Lane, alloc: Global) -> Result<Option<Formed>, AllocError>
     ensures number { IfOk result (λ o. IfSome o (λ f. f.number ≡ lane.old.state.flights.next)) }
     ensures items { IfOk result
         (λ o. IfSome o (λ f. f.items.items ≡ items_of (next_batch lane.old.state))) }
-    ensures ok { OnOk result (lane.new.state ≡ after_request lane.old.state (next_batch lane.old.state)) }
+    ensures ok { OnOk result
+        (lane.new.state ≡ after_request lane.old.state (next_batch lane.old.state)) }
     ensures unchanged { OnErr result (lane.new.state ≡ lane.old.state) }
 {
     let mut items = Vec::with_capacity(alloc, lane.held() as usize)?;
@@ -298,7 +317,8 @@ impl Desk {
     pub(crate) fn request(&mut self, alloc: Global) -> Result<Option<Formed>, AllocError>
         ensures when { IfOk result (λ o. is_some o ≡ is_some (next_batch self.old.lane)) }
         ensures number { IfOk result (λ o. IfSome o (λ f. f.number ≡ self.old.lane.flights.next)) }
-        ensures items { IfOk result (λ o. IfSome o (λ f. f.items.items ≡ items_of (next_batch self.old.lane))) }
+        ensures items { IfOk result
+            (λ o. IfSome o (λ f. f.items.items ≡ items_of (next_batch self.old.lane))) }
         ensures ok { OnOk result (self.new ≡ sent_request self.old) }
         ensures unchanged { OnErr result (self.new ≡ self.old) }
     {

@@ -1,5 +1,6 @@
 //! Incarnations that have ended.
-ghost use Rattle.std.specs.Prelude.{◌≡◌, ◌≤◌, unwrap_or, [], map, option_map, slice_get, vec_len, vec_capacity};
+ghost use Rattle.std.specs.Prelude.{◌≡◌, ◌≤◌, unwrap_or, [], map, option_map, slice_get, vec_len};
+ghost use Rattle.std.specs.Prelude.{vec_capacity};
 
 use crate::accepted::Accepted;
 use crate::desk::Desk;
@@ -21,7 +22,8 @@ impl Model for Ended {
 
     ghost Value = { Past };
 
-    ghost view = { λ e. record { epoch = e.epoch; accepted = e.accepted.items; taken = e.taken.items; sent = e.sent } };
+    ghost view = { λ e. record
+        { epoch = e.epoch; accepted = e.accepted.items; taken = e.taken.items; sent = e.sent } };
 }
 
 // What the lane of each desk took. There is room for these lists.

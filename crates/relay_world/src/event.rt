@@ -76,7 +76,8 @@ pub enum Refusal {
     /// An item has no such run, or the number of picks is not that of the items.
     #[error("NotRun")]
     NotRun,
-    /// The index may not refuse an item with this status, or a whole request may not be answered with it.
+    /// The index may not refuse an item with this status, or a whole request may not be answered
+    /// with it.
     #[error("BadStatus")]
     BadStatus,
     /// There is no such lane or sender.

@@ -1,6 +1,7 @@
 //! What is promised of worlds that are tied to the machines of delivery. These functions do
 //! nothing; their contracts are the laws.
-ghost use Rattle.relay_world.specs.Ties.{FreshIsWorld, StepsKeepTied, WorldsDeliver, FreshIsBelow, HighestIsBelow};
+ghost use Rattle.relay_world.specs.Ties.{FreshIsWorld, StepsKeepTied, WorldsDeliver, FreshIsBelow};
+ghost use Rattle.relay_world.specs.Ties.{HighestIsBelow};
 
 /// A fresh world is tied to machines of delivery which share one outside, if every version that the
 /// index has is below the first one to be assigned; each event keeps a world tied; and a tied world

@@ -1,5 +1,6 @@
 //! The names of the operations whose writes were applied, by document.
-ghost use Rattle.std.specs.Prelude.{◌≡◌, ℕ, [], ◌∷◌, ◌++◌, ◌&&◌, OnOk, OnErr, IfOk, length, if◌then◌else◌};
+ghost use Rattle.std.specs.Prelude.{◌≡◌, ℕ, [], ◌∷◌, ◌++◌, ◌&&◌, OnOk, OnErr, IfOk, length};
+ghost use Rattle.std.specs.Prelude.{if◌then◌else◌};
 ghost use Rattle.relay_results.specs.Documents.{Document, document_of, same_document};
 ghost use Rattle.relay_index.specs.Choices.{MayChoose};
 ghost use Rattle.relay_index.specs.States.{applied};
@@ -65,7 +66,8 @@ impl Named {
         requires { MayChoose choice }
         ensures status { IfOk result (λ s. s ≡ (done_of index.old write.now choice).status) }
         ensures item { OnOk result
-            (item.new ≡ with_outcome (outcome_of_run (done_of index.old write.now choice)) item.old) }
+            (item.new ≡ with_outcome (outcome_of_run (done_of index.old write.now choice))
+            item.old) }
         ensures effect { OnOk result (Effect index.old write.now choice index.new) }
         ensures names { OnOk result (self.new ≡ record self.old {
           names = self.old.names
@@ -136,7 +138,8 @@ impl Names {
         requires { MayChoose choice }
         ensures status { IfOk result (λ s. s ≡ (done_of index.old write.now choice).status) }
         ensures item { OnOk result
-            (item.new ≡ with_outcome (outcome_of_run (done_of index.old write.now choice)) item.old) }
+            (item.new ≡ with_outcome (outcome_of_run (done_of index.old write.now choice))
+            item.old) }
         ensures effect { OnOk result (Effect index.old write.now choice index.new) }
         ensures names { OnOk result ((k : Document) → names_of (kept_among self.new k)
             ≡ names_of (kept_among self.old k) ++ (if is_run index.old write.now choice

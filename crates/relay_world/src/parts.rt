@@ -1,17 +1,26 @@
 //! The parts of a world, and each event on them.
-ghost use Rattle.std.specs.Prelude.{◌≡◌, ◌≢◌, slice_get, is_ok, ◌-◌, ◌^◌, ◌<◌, [], ◌∷◌, None, Some, true, OnOk, OnErr, IfOk, IfSome, map, option_map, is_some, length};
+ghost use Rattle.std.specs.Prelude.{◌≡◌, ◌≢◌, slice_get, is_ok, ◌-◌, ◌^◌, ◌<◌, [], ◌∷◌, None, Some};
+ghost use Rattle.std.specs.Prelude.{true, OnOk, OnErr, IfOk, IfSome, map, option_map, is_some};
+ghost use Rattle.std.specs.Prelude.{length};
 ghost use Rattle.relay_results.specs.Words.{update};
 ghost use Rattle.relay_results.specs.Outside.{Items, Whole, Lost};
 ghost use Rattle.relay_results.specs.Documents.{document_of};
 ghost use Rattle.relay_core.specs.Limits.{is_valid};
 ghost use Rattle.relay_core.specs.Walk.{report_of};
 ghost use Rattle.relay_world.specs.declared.event.Event.TheVariants as event;
-ghost use Rattle.relay_world.specs.State.{fresh, desk_at, lane_of, accepted_from, applied, names_at, reports, request_at, item_at, is_closed, is_finished, is_written, AreKeysOf, op_among, op_with, running, write_at, place_dealt, incarnations_of};
-ghost use Rattle.relay_world.specs.Refusals.{entries_from, flies_at, put_refusal, close_refusal, control_refusal, take_refusal, may_choose, is_flying, entry_at, entries, is_above};
-ghost use Rattle.relay_world.specs.Changes.{after_put, at_lane, posted, took_front, with_answer, answered_desk, restarted, RunsItem};
+ghost use Rattle.relay_world.specs.State.{fresh, desk_at, lane_of, accepted_from, applied};
+ghost use Rattle.relay_world.specs.State.{names_at, reports, request_at, item_at, is_closed};
+ghost use Rattle.relay_world.specs.State.{is_finished, is_written, AreKeysOf, op_among, op_with};
+ghost use Rattle.relay_world.specs.State.{running, write_at, place_dealt, incarnations_of};
+ghost use Rattle.relay_world.specs.Refusals.{entries_from, flies_at, put_refusal, close_refusal};
+ghost use Rattle.relay_world.specs.Refusals.{control_refusal, take_refusal, may_choose, is_flying};
+ghost use Rattle.relay_world.specs.Refusals.{entry_at, entries, is_above};
+ghost use Rattle.relay_world.specs.Changes.{after_put, at_lane, posted, took_front, with_answer};
+ghost use Rattle.relay_world.specs.Changes.{answered_desk, restarted, RunsItem};
 ghost use Rattle.relay_delivery.specs.Accounted.{accepted_in};
 ghost use Rattle.relay_world.specs.Steps.{Steps};
-ghost use Rattle.relay_world.specs.Memory.{answer_of, IsItemOf, IsWriteAt, IsThere, IsOpenIn, IsSent, IsSettledAt, Forms, ArePartsOf};
+ghost use Rattle.relay_world.specs.Memory.{answer_of, IsItemOf, IsWriteAt, IsThere, IsOpenIn};
+ghost use Rattle.relay_world.specs.Memory.{IsSent, IsSettledAt, Forms, ArePartsOf};
 
 use crate::accepted::{Accepted, none_accepted};
 use crate::desk::{Desk, fresh_desks, send_from};
@@ -210,7 +219,8 @@ impl Parts {
         }
     }
 
-    // Whether each sender has closed at each lane, nothing is queued, and no lane holds an operation.
+    // Whether each sender has closed at each lane, nothing is queued, and no lane holds an
+    // operation.
     pub(crate) fn finished(&self) -> bool
         ensures { result ≡ is_finished self.now }
     {

@@ -1,5 +1,6 @@
 //! Sent requests.
-ghost use Rattle.std.specs.Prelude.{◌≡◌, ℕ, ◌-◌, ◌<◌, [], ◌∷◌, ◌++◌, ◌&&◌, option_map, OnOk, OnErr, IfOk, length, if◌then◌else◌};
+ghost use Rattle.std.specs.Prelude.{◌≡◌, ℕ, ◌-◌, ◌<◌, [], ◌∷◌, ◌++◌, ◌&&◌, option_map, OnOk, OnErr};
+ghost use Rattle.std.specs.Prelude.{IfOk, length, if◌then◌else◌};
 ghost use Rattle.relay_results.specs.Documents.{Document, document_of, same_document};
 ghost use Rattle.relay_results.specs.Outside.{Unanswered};
 ghost use Rattle.relay_index.specs.Choices.{MayChoose};
@@ -110,9 +111,12 @@ impl SentItem {
         requires { MayChoose choice }
         ensures status { IfOk result (λ s. s ≡ (done_of index.old write.now choice).status) }
         ensures item { OnOk result
-            (self.new ≡ with_outcome (outcome_of_run (done_of index.old write.now choice)) self.old) }
+            (self.new ≡ with_outcome (outcome_of_run (done_of index.old write.now choice))
+            self.old) }
         ensures effect { OnOk result (Effect index.old write.now choice index.new) }
-        ensures names { OnOk result (names.new.items ≡ names.old.items ++ (if is_run index.old write.now choice then name ∷ [] else [])) }
+        ensures names { OnOk result
+            (names.new.items
+            ≡ names.old.items ++ (if is_run index.old write.now choice then name ∷ [] else [])) }
         ensures same_item { OnErr result (self.new ≡ self.old) }
         ensures same_index { OnErr result (index.new ≡ index.old) }
         ensures same_names { OnErr result (names.new.items ≡ names.old.items) }
@@ -132,7 +136,8 @@ impl SentItem {
     }
 }
 
-// A sent request. Contracts see it as its epoch, its lane, its number there, its items and its answer.
+// A sent request. Contracts see it as its epoch, its lane, its number there, its items and its
+// answer.
 #[derive(Drop)]
 pub(crate) struct SentRequest {
     epoch: u32,
@@ -148,7 +153,14 @@ impl Model for SentRequest {
 
     ghost Value = { Sent };
 
-    ghost view = { λ s. record { epoch = s.epoch; lane = s.lane; number = s.number; items = s.items.items; answer = answer_of s.given } };
+    ghost view = { λ s. record {
+      epoch = s.epoch;
+      lane = s.lane;
+      number = s.number;
+      items = s.items.items;
+      answer =
+          answer_of s.given;
+    } };
 }
 
 impl SentRequest {

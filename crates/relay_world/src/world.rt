@@ -1,9 +1,12 @@
 //! The world.
-ghost use Rattle.std.specs.Prelude.{◌≡◌, ℕ, ◌+◌, ◌^◌, ◌<◌, [], true, map, take, slice_get, is_some, length, IfOk, IfErr, IfSome, OnOk, OnErr};
+ghost use Rattle.std.specs.Prelude.{◌≡◌, ℕ, ◌+◌, ◌^◌, ◌<◌, [], true, map, take, slice_get, is_some};
+ghost use Rattle.std.specs.Prelude.{length, IfOk, IfErr, IfSome, OnOk, OnErr};
 ghost use Rattle.relay_results.specs.Documents.{document_of};
 ghost use Rattle.relay_core.specs.Limits.{is_valid};
 ghost use Rattle.relay_core.specs.Walk.{report_of};
-ghost use Rattle.relay_world.specs.State.{fresh, accepted_from, applied, names_at, reports, write_at, is_finished, incarnations_of, AreKeysOf, IsBelow};
+ghost use Rattle.relay_world.specs.State.{fresh, accepted_from, applied, names_at, reports};
+ghost use Rattle.relay_world.specs.State.{write_at, is_finished, incarnations_of, AreKeysOf};
+ghost use Rattle.relay_world.specs.State.{IsBelow};
 ghost use Rattle.relay_delivery.specs.Accounted.{accepted_in};
 ghost use Rattle.relay_delivery.specs.Machine.{first_in};
 ghost use Rattle.relay_world.specs.Headline.{Delivered, StaysClosed};
@@ -167,16 +170,16 @@ impl World {
         self.parts.applied(key)
     }
 
-    /// The names of the operations whose writes the index applied to a document since the start: the
-    /// attribution of these writes.
+    /// The names of the operations whose writes the index applied to a document since the start:
+    /// the attribution of these writes.
     pub fn names(&self, key: &DocKey) -> &[OpName]
         ensures { result.now ≡ names_at self.now (document_of key.now) }
     {
         self.parts.names(key)
     }
 
-    /// The document and the version of an item of a sent request, both numbered from 1. `None`: there is no
-    /// such request or item.
+    /// The document and the version of an item of a sent request, both numbered from 1. `None`:
+    /// there is no such request or item.
     pub fn sent(&self, request: u64, item: u64) -> Option<(&DocKey, u64)>
         ensures found { is_some result ≡ is_some (write_at self.now request item) }
         ensures write { IfSome result (λ p. IsWriteAt self.now request item p.0.now p.1) }
