@@ -199,21 +199,17 @@ const PARTS: [&[u8]; 5] = [
     b"Refused 400 a_kind_of_errors_of_more_than_thirty_eight_bytes",
 ];
 
-// Whether a part is added, by a second call if the first was refused when a front of it had been.
-fn adds(text: &mut Vec<u8>, part: u32, report: &Report, wanted: &[u8]) -> bool {
+// Whether a part is added to an empty text, by a second call if the first was refused and left it empty.
+fn adds(text: &mut Vec<u8>, part: u32, report: &Report) -> bool {
     match add(text, part, report) {
         Ok(()) => true,
-        Err(AllocError) => {
-            let front = wanted.starts_with(text.as_slice());
-            text.clear();
-            front && add(text, part, report).is_ok()
-        }
+        Err(AllocError) => text.is_empty() && add(text, part, report).is_ok(),
     }
 }
 
 fn is_added(alloc: Global, part: u32, report: &Report, wanted: &[u8]) -> bool {
     let mut text = Vec::new(alloc);
-    adds(&mut text, part, report, wanted) && text.as_slice() == wanted
+    adds(&mut text, part, report) && text.as_slice() == wanted
 }
 
 // Whether each part of a report is added as it is printed.
