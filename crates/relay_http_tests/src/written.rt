@@ -141,54 +141,44 @@ fn is_answer(
     Ok(done && conn.is_open() == keep && was_written(conn, wanted))
 }
 
+const ANSWERS: &[(u16, &str, bool, &[u8])] = &[
+    (
+        200,
+        "ok",
+        true,
+        b"HTTP/1.1 200 OK\r\nContent-Type: application/json\r\nContent-Length: 2\r\n\r\nok",
+    ),
+    (
+        503,
+        "ok",
+        false,
+        b"HTTP/1.1 503 Service Unavailable\r\nContent-Type: application/json\r\nContent-Length: 2\r\nConnection: close\r\n\r\nok",
+    ),
+    (
+        418,
+        "ok",
+        false,
+        b"HTTP/1.1 418 \r\nContent-Type: application/json\r\nContent-Length: 2\r\nConnection: close\r\n\r\nok",
+    ),
+    (
+        200,
+        "{}",
+        false,
+        b"HTTP/1.1 200 OK\r\nContent-Type: application/json\r\nContent-Length: 2\r\nConnection: close\r\n\r\n{}",
+    ),
+    (
+        400,
+        "\u{e9}",
+        true,
+        b"HTTP/1.1 400 Bad Request\r\nContent-Type: application/json\r\nContent-Length: 2\r\n\r\n\xc3\xa9",
+    ),
+];
+
 #[test]
 fn answers(rt: HostRuntime) {
-    let alloc = rt.alloc();
-    assert!(rt;
-        is_answer(
-            alloc,
-            200,
-            "ok",
-            true,
-            b"HTTP/1.1 200 OK\r\nContent-Type: application/json\r\nContent-Length: 2\r\n\r\nok"
-        ) == Ok(true)
-    );
-    assert!(rt;
-        is_answer(
-            alloc,
-            503,
-            "ok",
-            false,
-            b"HTTP/1.1 503 Service Unavailable\r\nContent-Type: application/json\r\nContent-Length: 2\r\nConnection: close\r\n\r\nok"
-        ) == Ok(true)
-    );
-    assert!(rt;
-        is_answer(
-            alloc,
-            418,
-            "ok",
-            false,
-            b"HTTP/1.1 418 \r\nContent-Type: application/json\r\nContent-Length: 2\r\nConnection: close\r\n\r\nok"
-        ) == Ok(true)
-    );
-    assert!(rt;
-        is_answer(
-            alloc,
-            200,
-            "{}",
-            false,
-            b"HTTP/1.1 200 OK\r\nContent-Type: application/json\r\nContent-Length: 2\r\nConnection: close\r\n\r\n{}"
-        ) == Ok(true)
-    );
-    assert!(rt;
-        is_answer(
-            alloc,
-            400,
-            "\u{e9}",
-            true,
-            b"HTTP/1.1 400 Bad Request\r\nContent-Type: application/json\r\nContent-Length: 2\r\n\r\n\xc3\xa9"
-        ) == Ok(true)
-    );
+    for (status, text, keep, wanted) in ANSWERS {
+        assert!(rt; is_answer(rt.alloc(), *status, *text, *keep, *wanted) == Ok(true));
+    }
 }
 
 // What is written after a request was read, and what the connection may carry then.

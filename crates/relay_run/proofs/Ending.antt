@@ -20,11 +20,11 @@ use Rattle.relay_threads.specs.declared.fault.FinishFault.{FinishFault}
 use Rattle.relay_threads.specs.declared.summary.Summary.{Summary}
 use Rattle.relay_run.specs.declared.feed.FeedFault.{FeedFault}
 use Rattle.relay_run.specs.declared.feed.FeedFault.TheVariants as fault
-use Rattle.relay_run.specs.declared.producing.Fed.{Fed}
+use Rattle.relay_run.specs.declared.producing.FedProducer.{FedProducer}
 use Rattle.relay_run.specs.declared.producing.FedPromise.{FedPromise}
 use Rattle.relay_run.specs.Feeding.{after_puts, Stops}
 use Rattle.relay_run.specs.Identities.{identity_of, identity_of_closed}
-use Rattle.relay_run.specs.Fed.{named, answer_of, first_reader, other_readers, IsFedFrom, IsFed, AreFedFrom}
+use Rattle.relay_run.specs.Readers.{named, answer_of, first_reader, other_readers, IsFedFrom, IsFed, AreFedFrom}
 use Rattle.relay_run.specs.Handles.{Given, given_to, all_given, EndsFed, AllEndFed}
 
 -- ---- one producer
@@ -197,7 +197,7 @@ module _ {S : Type 0} (left : S → Option (List ℕ)) (failed : S → ℕ) wher
       record { first = sym (ap first_reader none_old); others = none_new ∙ sym (ap other_readers none_old) }
   takes_reader (Some x) old new m n is now h = record { first = sym (ap first_reader h.0); others = sym (ap other_readers h.0) }
 
-  pub given_push : (hs : List (PromisedHandle Fed (FedPromise S))) (h : PromisedHandle Fed (FedPromise S)) → map given_to (hs ++ h ∷ []) ≡ map given_to hs ++ given_to h ∷ []
+  pub given_push : (hs : List (PromisedHandle FedProducer (FedPromise S))) (h : PromisedHandle FedProducer (FedPromise S)) → map given_to (hs ++ h ∷ []) ≡ map given_to hs ++ given_to h ∷ []
   given_push [] h = refl
   given_push (x ∷ hs) h = ap (λ l. given_to x ∷ l) (given_push hs h)
 
@@ -216,19 +216,19 @@ module _ {S : Type 0} (left : S → Option (List ℕ)) (failed : S → ℕ) wher
   all_end_more (w ∷ gs) (x ∷ cs) (y ∷ fs) g c f a k = (a.0, all_end_more gs cs fs g c f a.1 k)
 
   -- the first of these threads have ended, and the others are left
-  pub record JoinsFed (hs others : List (PromisedHandle Fed (FedPromise S))) (cs : List ClosedProducerState) (fs : List (Option FeedFault)) : Type 0 where
-    pub joined : List (PromisedHandle Fed (FedPromise S))
+  pub record JoinsFed (hs others : List (PromisedHandle FedProducer (FedPromise S))) (cs : List ClosedProducerState) (fs : List (Option FeedFault)) : Type 0 where
+    pub joined : List (PromisedHandle FedProducer (FedPromise S))
     pub all : hs ≡ joined ++ others
     pub ended : AllEndFed left failed (map given_to joined) cs fs
 
-  pub joins_none : (hs : List (PromisedHandle Fed (FedPromise S))) (cs : List ClosedProducerState) (fs : List (Option FeedFault)) → cs ≡ [] → fs ≡ [] → JoinsFed hs hs cs fs
+  pub joins_none : (hs : List (PromisedHandle FedProducer (FedPromise S))) (cs : List ClosedProducerState) (fs : List (Option FeedFault)) → cs ≡ [] → fs ≡ [] → JoinsFed hs hs cs fs
   joins_none hs cs fs none_c none_f = record {
     joined = [];
     all = refl;
     ended = subst (λ (x : List ClosedProducerState × List (Option FeedFault)). AllEndFed left failed [] x.0 x.1) (λ i. (sym none_c i, sym none_f i)) tt;
   }
 
-  pub joins_on : (hs others later : List (PromisedHandle Fed (FedPromise S))) (cs new_cs : List ClosedProducerState) (fs new_fs : List (Option FeedFault)) (h : PromisedHandle Fed (FedPromise S)) (c : ClosedProducerState) (f : Option FeedFault)
+  pub joins_on : (hs others later : List (PromisedHandle FedProducer (FedPromise S))) (cs new_cs : List ClosedProducerState) (fs new_fs : List (Option FeedFault)) (h : PromisedHandle FedProducer (FedPromise S)) (c : ClosedProducerState) (f : Option FeedFault)
       → JoinsFed hs others cs fs → others ≡ h ∷ later → EndsFed left failed (given_to h) c f → new_cs ≡ cs ++ c ∷ [] → new_fs ≡ fs ++ f ∷ [] → JoinsFed hs later new_cs new_fs
   joins_on hs others later cs new_cs fs new_fs h c f j is k more_c more_f = record {
     joined = j.joined ++ h ∷ [];
@@ -238,7 +238,7 @@ module _ {S : Type 0} (left : S → Option (List ℕ)) (failed : S → ℕ) wher
         (all_end_more (map given_to j.joined) cs fs (given_to h) c f j.ended k);
   }
 
-  pub joins_all : (hs others : List (PromisedHandle Fed (FedPromise S))) (cs : List ClosedProducerState) (fs : List (Option FeedFault)) → JoinsFed hs others cs fs → others ≡ [] → AllEndFed left failed (map given_to hs) cs fs
+  pub joins_all : (hs others : List (PromisedHandle FedProducer (FedPromise S))) (cs : List ClosedProducerState) (fs : List (Option FeedFault)) → JoinsFed hs others cs fs → others ≡ [] → AllEndFed left failed (map given_to hs) cs fs
   joins_all hs others cs fs j none =
       subst (λ l. AllEndFed left failed (map given_to l) cs fs) (sym (j.all ∙ ap (λ l. j.joined ++ l) none ∙ append-nil j.joined)) j.ended
 

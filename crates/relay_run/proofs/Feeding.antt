@@ -13,7 +13,7 @@ use Rattle.relay_run.specs.declared.feed.Next.TheVariants as next
 use Rattle.relay_run.specs.Feeding.{after_puts, Puts, Stops, Feeds, FeedsNext}
 
 -- operations were taken of an open input, and put one after another
-pub record Fed (old now : Reading) (before after : ProducerState) : Type 0 where
+pub record IsFedSoFar (old now : Reading) (before after : ProducerState) : Type 0 where
   pub ops : List Operation
   pub taken : TakesAll old now ops
   pub fed : after ≡ after_puts before ops
@@ -23,10 +23,10 @@ after_puts_more : (s : ProducerState) (ops : List Operation) (op : Operation) �
 after_puts_more s [] op = refl
 after_puts_more s (x ∷ xs) op = after_puts_more (after_put x.0 x.1 s) xs op
 
-pub fed_none : (r : Reading) (p : ProducerState) → r.phase ≡ phase.Open → Fed r r p p
+pub fed_none : (r : Reading) (p : ProducerState) → r.phase ≡ phase.Open → IsFedSoFar r r p p
 fed_none r p is = record { ops = []; taken = refl; fed = refl; opens = is }
 
-pub fed_more : (old now next : Reading) (p q r : ProducerState) (n : ℕ) (op : Operation) → Fed old now p q → Takes now next n op → r ≡ after_put op.0 op.1 q → Fed old next p r
+pub fed_more : (old now next : Reading) (p q r : ProducerState) (n : ℕ) (op : Operation) → IsFedSoFar old now p q → Takes now next n op → r ≡ after_put op.0 op.1 q → IsFedSoFar old next p r
 fed_more old now next p q r n op h t e = record {
   ops = h.ops ++ op ∷ [];
   taken = takes_more old now next h.ops n op h.taken t;
@@ -34,12 +34,12 @@ fed_more old now next p q r n op h t e = record {
   opens = t.phase;
 }
 
-pub fed_stops : (old now new : Reading) (p q after : ProducerState) (result : Result Unit FeedFault) → Fed old now p q → Stops now new q after result → Feeds old new p after result
+pub fed_stops : (old now new : Reading) (p q after : ProducerState) (result : Result Unit FeedFault) → IsFedSoFar old now p q → Stops now new q after result → Feeds old new p after result
 fed_stops old now new p q after result h s =
     record { ops = h.ops; rest = now; taken = h.taken; stops = subst (λ (x : ProducerState). Stops now new x after result) h.fed s }
 
 -- the end of the input stops the feeding
-pub fed_ends : (old now new : Reading) (p q after : ProducerState) (n : Next) → n ≡ next.Ended → FeedsNext now new q after (Ok n) → Fed old now p q → Feeds old new p after (Ok tt)
+pub fed_ends : (old now new : Reading) (p q after : ProducerState) (n : Next) → n ≡ next.Ended → FeedsNext now new q after (Ok n) → IsFedSoFar old now p q → Feeds old new p after (Ok tt)
 fed_ends old now new p q after n is e h =
     fed_stops old now new p q after (Ok tt) h (subst (λ (x : Next). FeedsNext now new q after (Ok x)) is e)
 

@@ -3,9 +3,9 @@ use Rattle.std.specs.Prelude.{ℕ, List, [], ◌∷◌, Option, option_map, stri
 use Rattle.std.specs.declared.thread.PromisedHandle.{PromisedHandle}
 use Rattle.relay_producer.specs.States.{ProducerState, ClosedProducerState}
 use Rattle.relay_run.specs.declared.feed.FeedFault.{FeedFault}
-use Rattle.relay_run.specs.declared.producing.Fed.{Fed}
+use Rattle.relay_run.specs.declared.producing.FedProducer.{FedProducer}
 use Rattle.relay_run.specs.declared.producing.FedPromise.{FedPromise}
-use Rattle.relay_run.specs.Fed.{IsFed, first_reader, other_readers}
+use Rattle.relay_run.specs.Readers.{IsFed, first_reader, other_readers}
 
 -- what a producer's thread is given: the producer, its reader, if it has one, and the index of operations that do not
 -- name one
@@ -13,7 +13,7 @@ abbrev pub Given : Type 0 → Type 0
 Given S = ProducerState × Option S × Option (List ℕ)
 
 module _ {S : Type 0} where
-  abbrev pub given_to : PromisedHandle Fed (FedPromise S) → Given S
+  abbrev pub given_to : PromisedHandle FedProducer (FedPromise S) → Given S
   given_to h = (h.promise.producer.value, h.promise.reader.value, option_map string_bytes h.promise.index.value)
 
   -- each producer with the reader at its position

@@ -2,7 +2,7 @@ pub mod Outcomes
 pub mod Faults
 pub mod Feeding
 pub mod Identities
-pub mod Fed
+pub mod Readers
 pub mod Handles
 pub mod Saying
 pub mod Sources

@@ -58,3 +58,7 @@ abbrev pub SavesReports : List ℕ → List Report → Exit → Written → Writ
 SavesReports name reports before file file' err err' end =
     ((file'.0 ≡ append_known file.0 (flat_map saved_line reports)) × (file'.1 ≡ file.1) × (err' ≡ err) × (end ≡ before))
     ⊎ (FailedSince file.1 file'.1 × IsSaid (file_failed_text name (codes "write")) err err' × (end ≡ worse before exit.Device))
+
+-- There was no message, and nothing was written to the file, or a write of it failed.
+abbrev pub StopsSaving : Written → Written → Written → Written → Type 0
+StopsSaving file file' err err' = (err' ≡ err) × ((file' ≡ file) ⊎ FailedSince file.1 file'.1)

@@ -1,6 +1,8 @@
 //! Files that were not put in full: their messages and exit statuses.
-ghost use Rattle.std.specs.Prelude.{◌≡◌, ◌++◌, OnOk};
-ghost use Rattle.relay_run.specs.Faults.{exit_of_file, file_fault_line, line_fault_text, rank, worse};
+ghost use Rattle.std.specs.Prelude.{◌≡◌, ◌++◌, OnOk, OnErr};
+ghost use Rattle.relay_ndjson.specs.Bulk.{Begins};
+ghost use Rattle.relay_run.specs.Faults.{exit_of_file, file_fault_line, line_fault_text, rank};
+ghost use Rattle.relay_run.specs.Faults.{worse};
 
 use crate::feed::FeedFault;
 use relay_ndjson::LineKind;
@@ -18,9 +20,23 @@ pub enum FileFault {
 
 /// Adds the message: `FILE: open failed`, `FILE: read failed`, `FILE: out of memory`, `FILE: line
 /// N: KIND` or `FILE: NumbersSpent`. A lane that is gone adds nothing: it has its own message.
-/// `AllocError`: allocation failed, and a prefix of the message may have been added.
+/// `AllocError`: allocation failed, and the text is unchanged.
 pub fn add_file_fault(text: &mut Vec<u8>, file: &str, fault: FileFault) -> Result<(), AllocError>
-    ensures { OnOk result (text.new.items ≡ text.old.items ++ file_fault_line file.now fault) }
+    ensures ok { OnOk result (text.new.items ≡ text.old.items ++ file_fault_line file.now fault) }
+    ensures err { OnErr result (text.new.items ≡ text.old.items) }
+{
+    let length = text.len();
+    let done = append_file_fault(text, file, fault);
+    if done.is_err() {
+        text.truncate(length);
+    }
+    done
+}
+
+// Appends the message. After an error, part of it may be there.
+fn append_file_fault(text: &mut Vec<u8>, file: &str, fault: FileFault) -> Result<(), AllocError>
+    ensures ok { OnOk result (text.new.items ≡ text.old.items ++ file_fault_line file.now fault) }
+    ensures front { Begins text.old.items text.new.items }
 {
     match fault {
         FileFault::Open => {
@@ -30,7 +46,7 @@ pub fn add_file_fault(text: &mut Vec<u8>, file: &str, fault: FileFault) -> Resul
         FileFault::Feed(FeedFault::Input(fault)) => {
             text.extend_from_slice(file.as_bytes())?;
             text.extend_from_slice(b": ")?;
-            add_line_fault(text, fault.line, fault.kind)?;
+            append_line_fault(text, fault.line, fault.kind)?;
             text.extend_from_slice(b"\n")
         }
         FileFault::Feed(FeedFault::NumbersSpent) => {
@@ -41,9 +57,10 @@ pub fn add_file_fault(text: &mut Vec<u8>, file: &str, fault: FileFault) -> Resul
     }
 }
 
-// Adds what follows the name of the file.
-fn add_line_fault(text: &mut Vec<u8>, line: u64, kind: LineKind) -> Result<(), AllocError>
-    ensures { OnOk result (text.new.items ≡ text.old.items ++ line_fault_text line kind) }
+// Appends what follows the name of the file. After an error, part of it may be there.
+fn append_line_fault(text: &mut Vec<u8>, line: u64, kind: LineKind) -> Result<(), AllocError>
+    ensures ok { OnOk result (text.new.items ≡ text.old.items ++ line_fault_text line kind) }
+    ensures front { Begins text.old.items text.new.items }
 {
     match kind {
         LineKind::Read => text.extend_from_slice(b"read failed"),

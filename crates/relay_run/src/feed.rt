@@ -32,14 +32,14 @@ pub fn feed<R: Wait, S: ByteIn>(
     requires { input.old.phase ≡ phase.Open }
     ensures feeds { Feeds input.old input.new producer.old producer.new result }
     ensures failed { input.new.failed ≡ failed_by result input.old.failed }
-    ensures same { identities (open_puts producer.new.ends) ≡ identities (open_puts producer.old.ends) }
+    ensures same { identities (open_puts producer.new.ends)
+        ≡ identities (open_puts producer.old.ends) }
     ensures producer { producer.new.producer ≡ producer.old.producer }
 {
     'operations: loop {
-        match feed_next(rt, input, producer) {
-            Ok(Next::Put) => {}
-            Ok(Next::Ended) => return Ok(()),
-            Err(fault) => return Err(fault),
+        match feed_next(rt, input, producer)? {
+            Next::Put => {}
+            Next::Ended => return Ok(()),
         }
     }
 }
@@ -62,13 +62,14 @@ fn feed_next<R: Wait, S: ByteIn>(
     requires { input.old.phase ≡ phase.Open }
     ensures next { FeedsNext input.old input.new producer.old producer.new result }
     ensures failed { input.new.failed ≡ failed_by result input.old.failed }
-    ensures same { identities (open_puts producer.new.ends) ≡ identities (open_puts producer.old.ends) }
+    ensures same { identities (open_puts producer.new.ends)
+        ≡ identities (open_puts producer.old.ends) }
 {
     match input.next() {
-        Ok(Some((key, action))) => match put(rt, producer, key, action) {
-            Ok(()) => Ok(Next::Put),
-            Err(fault) => Err(fault),
-        },
+        Ok(Some((key, action))) => {
+            put(rt, producer, key, action)?;
+            Ok(Next::Put)
+        }
         Ok(None) => Ok(Next::Ended),
         Err(fault) => Err(FeedFault::Input(fault)),
     }
@@ -82,7 +83,8 @@ fn put<R: Wait>(
     action: Action,
 ) -> Result<(), FeedFault>
     ensures puts { Puts key action producer.old producer.new result }
-    ensures same { identities (open_puts producer.new.ends) ≡ identities (open_puts producer.old.ends) }
+    ensures same { identities (open_puts producer.new.ends)
+        ≡ identities (open_puts producer.old.ends) }
 {
     match producer.put(rt, key, action) {
         Ok(_) => Ok(()),

@@ -1,15 +1,18 @@
 //! Sending files of operations to an index: the function behind `relay run`.
-ghost use Rattle.std.specs.Prelude.{◌≡◌, ◌≢◌, ◌⊎◌, ◌++◌, ◌↔◌, ◌≤◌, IfOk, OnOk, IsTrue, false, is_some, length, map, option_map, string_bytes, true, vec_len};
+ghost use Rattle.std.specs.Prelude.{◌≡◌, ◌≢◌, ◌⊎◌, ◌++◌, ◌↔◌, ◌≤◌, IfOk, OnOk, IsTrue, false};
+ghost use Rattle.std.specs.Prelude.{is_some, length, map, option_map, string_bytes, true, vec_len};
 ghost use Rattle.relay_core.specs.Limits.{is_valid};
 ghost use Rattle.relay_http.specs.WrittenRequest.{is_host};
 ghost use Rattle.relay_threads.specs.Relay.{NoneOut};
 ghost use Rattle.relay_wires.specs.Numbered.{numbers};
 ghost use Rattle.std.specs.Io.KnownBytes.{append_known};
 ghost use Rattle.relay_action.specs.Streams.{FailedSince};
-ghost use Rattle.relay_run.specs.Faults.{worse, file_fault, said_of, worse_by, faults_text, exit_of_files};
+ghost use Rattle.relay_run.specs.Faults.{worse, file_fault, said_of, worse_by, faults_text};
+ghost use Rattle.relay_run.specs.Faults.{exit_of_files};
 ghost use Rattle.relay_run.specs.Saying.{IsSaid, exit_of_finish, SaysSummary, Concludes};
 ghost use Rattle.relay_run.specs.Sources.{named_count, standard_name, stands_apart};
-ghost use Rattle.relay_run.specs.Outcomes.{start_fault_text, kind_name, finish_fault_text, total, reports_of, exit_of_reports, TellsOf};
+ghost use Rattle.relay_run.specs.Outcomes.{start_fault_text, kind_name, finish_fault_text, total};
+ghost use Rattle.relay_run.specs.Outcomes.{reports_of, exit_of_reports, TellsOf};
 
 use crate::faults::{FileFault, add_file_fault, exit_of_file, worse};
 use crate::feed::FeedFault;
@@ -77,7 +80,8 @@ impl RunOptions {
 
     /// Whether at most one producer reads standard input, `-`.
     pub fn reads_input_once(&self) -> bool
-        ensures { IsTrue result ↔ named_count standard_name (map string_bytes self.now.files.items) ≤ 1 }
+        ensures { IsTrue result
+            ↔ named_count standard_name (map string_bytes self.now.files.items) ≤ 1 }
     {
         count_named(&self.files, STANDARD_NAME) <= 1
     }
@@ -115,7 +119,12 @@ fn make_dial(
     counts: &Option<Shared>,
 ) -> Result<RunDial, AllocError>
     ensures { IfOk result (λ d.
-        d ≡ ((string_bytes options.now.to, 0, 0, options.now.timeout, None), options.now.patience, 0, 0)) }
+        d ≡ (
+          (string_bytes options.now.to, 0, 0, options.now.timeout, None),
+          options.now.patience,
+          0,
+          0,
+        )) }
 {
     let address = String::from_str(alloc, options.to.as_str())?;
     let dial = TcpDial::new(rt, address).with_timeout(options.timeout);
@@ -464,7 +473,8 @@ fn conclude<W: Drop, O: ByteOut, E: ByteOut>(
 ) -> Result<(Exit, Vec<Report>), AllocError>
     requires opened { length opened.now ≡ length files.now }
     requires stops { vec_len ran.faults ≡ length files.now }
-    ensures { IfOk result (λ r. Concludes (faults_text (map string_bytes files.now) opened.now ran.faults.items)
+    ensures { IfOk result
+        (λ r. Concludes (faults_text (map string_bytes files.now) opened.now ran.faults.items)
         (exit_of_files Exit.Done opened.now ran.faults.items) ran.end r.1.items
         (O.written out.old, O.failed out.old) (O.written out.new, O.failed out.new)
         (E.written err.old, E.failed err.old) (E.written err.new, E.failed err.new) r.0) }

@@ -1,6 +1,8 @@
 //! The lines at the end of a run.
-ghost use Rattle.std.specs.Prelude.{◌≡◌, ◌++◌, ◌*◌, ◌+◌, ◌^◌, flat_map, length, IsPermutation, OnOk, IfOk};
-ghost use Rattle.relay_run.specs.Outcomes.{report_line, counts_line, outcome_text, place_of, AreInOrder};
+ghost use Rattle.std.specs.Prelude.{◌≡◌, ◌++◌, ◌*◌, ◌+◌, ◌^◌, flat_map, length, IsPermutation};
+ghost use Rattle.std.specs.Prelude.{OnOk, IfOk};
+ghost use Rattle.relay_run.specs.Outcomes.{report_line, counts_line, outcome_text, place_of};
+ghost use Rattle.relay_run.specs.Outcomes.{AreInOrder};
 
 use relay_action::OpName;
 use relay_core::Report;
@@ -18,7 +20,8 @@ pub fn outcome_text(
 ) -> Result<Vec<u8>, AllocError>
     ensures same { IsPermutation reports.old.items reports.new.items }
     ensures order { AreInOrder reports.new.items }
-    ensures text { IfOk result (λ text. text.items ≡ outcome_text reports.new.items applied already) }
+    ensures text { IfOk result
+        (λ text. text.items ≡ outcome_text reports.new.items applied already) }
 {
     sort_by_name(reports);
     let mut text = Vec::new(alloc);
@@ -69,7 +72,8 @@ fn add_counts(
     already: u64,
     reported: u64,
 ) -> Result<(), AllocError>
-    ensures { OnOk result (text.new.items ≡ text.old.items ++ counts_line applied already reported) }
+    ensures { OnOk result
+        (text.new.items ≡ text.old.items ++ counts_line applied already reported) }
 {
     text.extend_from_slice(b"applied")?;
     add_spaced(text, applied)?;

@@ -3,7 +3,7 @@ ghost use Rattle.std.specs.Prelude.{◌≡◌, ◌⊎◌, List, map, option_map,
 ghost use Rattle.relay_ndjson.specs.Metadata.{shown};
 ghost use Rattle.relay_ndjson.specs.Operations.{Operation};
 ghost use Rattle.relay_producer.specs.Ends.{identities, open_puts};
-ghost use Rattle.relay_run.specs.Fed.{IsFedFrom, IsFed};
+ghost use Rattle.relay_run.specs.Readers.{IsFedFrom, IsFed};
 ghost use Rattle.relay_run.specs.Handles.{given_to, all_given, AllEndFed};
 
 use crate::feed::{FeedFault, feed};
@@ -20,7 +20,7 @@ use std::thread::{Promise, PromisedHandle, Threads};
 
 /// The state of a producer's thread at its end.
 #[derive(Drop)]
-pub struct Fed {
+pub struct FedProducer {
     /// The producer, which has closed.
     pub closed: ClosedProducer,
     /// Why it was not fed all of its stream; `None` if it was.
@@ -38,18 +38,19 @@ pub struct FedPromise<S> {
     pub index: Snapshot<Option<String>>,
 }
 
-impl<S: ByteIn> Promise<Fed> for FedPromise<S> {
+impl<S: ByteIn> Promise<FedProducer> for FedPromise<S> {
     ghost use Rattle.std.specs.Prelude.{option_map, string_bytes};
-    ghost use Rattle.relay_run.specs.Fed.{IsFed};
+    ghost use Rattle.relay_run.specs.Readers.{IsFed};
 
-    ghost kept_by = { λ p end. IsFed S.left S.failed (option_map string_bytes p.index.value) p.reader.value p.producer.value end.closed end.fault };
+    ghost kept_by = { λ p end. IsFed S.left S.failed (option_map string_bytes p.index.value)
+        p.reader.value p.producer.value end.closed end.fault };
 }
 
 /// A producer in its thread.
-pub type FedThread<S> = PromisedHandle<Fed, FedPromise<S>>;
+pub type FedThread<S> = PromisedHandle<FedProducer, FedPromise<S>>;
 
 // Puts the operations of a stream. Returns why not all were put, or `None` if they were.
-fn feed_from<R: Wait, S: ByteIn + Drop>(
+fn feed_reader<R: Wait, S: ByteIn + Drop>(
     rt: &R,
     alloc: Global,
     reader: S,
@@ -57,8 +58,10 @@ fn feed_from<R: Wait, S: ByteIn + Drop>(
     producer: &mut Producer,
 ) -> Option<FeedFault>
     ensures fed { (ops : List Operation)
-        × IsFedFrom S.left S.failed (shown index.entry) (Some reader) ops producer.old producer.new result }
-    ensures same { identities (open_puts producer.new.ends) ≡ identities (open_puts producer.old.ends) }
+        × IsFedFrom S.left S.failed (shown index.entry) (Some reader) ops producer.old producer.new
+        result }
+    ensures same { identities (open_puts producer.new.ends)
+        ≡ identities (open_puts producer.old.ends) }
     ensures producer { producer.new.producer ≡ producer.old.producer }
 {
     let mut input = Input::new(alloc, reader, index);
@@ -70,7 +73,7 @@ fn feed_from<R: Wait, S: ByteIn + Drop>(
 
 // Puts the operations of a stream, if there is one. Returns why not all were put, or `None` if they
 // were.
-fn feed_some<R: Wait, S: ByteIn + Drop>(
+fn feed_given<R: Wait, S: ByteIn + Drop>(
     rt: &R,
     alloc: Global,
     reader: Option<S>,
@@ -78,12 +81,14 @@ fn feed_some<R: Wait, S: ByteIn + Drop>(
     producer: &mut Producer,
 ) -> Option<FeedFault>
     ensures fed { (ops : List Operation)
-        × IsFedFrom S.left S.failed (shown index.entry) reader ops producer.old producer.new result }
-    ensures same { identities (open_puts producer.new.ends) ≡ identities (open_puts producer.old.ends) }
+        × IsFedFrom S.left S.failed (shown index.entry) reader ops producer.old producer.new
+        result }
+    ensures same { identities (open_puts producer.new.ends)
+        ≡ identities (open_puts producer.old.ends) }
     ensures producer { producer.new.producer ≡ producer.old.producer }
 {
     match reader {
-        Some(reader) => feed_from(rt, alloc, reader, index, producer),
+        Some(reader) => feed_reader(rt, alloc, reader, index, producer),
         None => None,
     }
 }
@@ -95,12 +100,13 @@ fn run_producer<R: Wait, S: ByteIn + Drop>(
     reader: Option<S>,
     index: Option<String>,
     producer: Producer,
-) -> Fed
-    ensures { IsFed S.left S.failed (option_map string_bytes index) reader producer result.closed result.fault }
+) -> FedProducer
+    ensures { IsFed S.left S.failed (option_map string_bytes index) reader producer result.closed
+        result.fault }
 {
     let mut producer = producer;
-    let fault = feed_some(rt, alloc, reader, index.as_deref(), &mut producer);
-    Fed {
+    let fault = feed_given(rt, alloc, reader, index.as_deref(), &mut producer);
+    FedProducer {
         closed: producer.close(rt),
         fault,
     }

@@ -1,12 +1,13 @@
 //! Sending readers of operations through a relay.
-ghost use Rattle.std.specs.Prelude.{◌≡◌, ◌≢◌, ◌⊎◌, ◌↔◌, ℕ, List, IfOk, IsErrAnd, false, true, vec_len};
+ghost use Rattle.std.specs.Prelude.{◌≡◌, ◌≢◌, ◌⊎◌, ◌↔◌, ℕ, List, IfOk, IsErrAnd, false, true};
+ghost use Rattle.std.specs.Prelude.{vec_len};
 ghost use Rattle.relay_core.specs.Limits.{is_valid};
 ghost use Rattle.relay_ndjson.specs.Metadata.{shown};
 ghost use Rattle.relay_ndjson.specs.Operations.{Operation};
 ghost use Rattle.relay_queue.specs.Ends.{Queue};
 ghost use Rattle.relay_threads.specs.Relay.{NoneOut};
 ghost use Rattle.relay_threads.specs.Delivered.{AllDelivered};
-ghost use Rattle.relay_run.specs.Fed.{named, AreFedFrom};
+ghost use Rattle.relay_run.specs.Readers.{named, AreFedFrom};
 
 use crate::feed::FeedFault;
 use crate::producing::{join_producers, spawn_producers};
@@ -60,18 +61,18 @@ where
     S: ByteIn + Drop + Send + 'static,
     requires { NoneOut W.out wires.items }
     ensures count { IfOk result (λ r. vec_len r.faults ≡ config.producers) }
-    ensures bad_config { IsErrAnd result (λ e. e ≡ StartFault.BadConfig) ↔ (is_valid config ≡ false) }
+    ensures bad_config { IsErrAnd result (λ e. e ≡ StartFault.BadConfig)
+        ↔ (is_valid config ≡ false) }
     ensures wire_count { IsErrAnd result (λ e. e ≡ StartFault.WireCount) ↔ ((is_valid config ≡ true)
         × ((vec_len wires ≢ config.lanes) ⊎ (vec_len paces ≢ config.lanes))) }
     ensures delivered { IfOk result (λ r. (queues : List Queue) × (ops : ℕ → List Operation)
-        × AreFedFrom S.left S.failed (shown index.entry) queues config.epoch ops 0 readers.items r.faults.items
-        × IfOk r.end (λ s. AllDelivered W.describes W.fits config (λ p. named config.epoch p 1 (ops p)) 0
+        × AreFedFrom S.left S.failed (shown index.entry) queues config.epoch ops 0 readers.items
+        r.faults.items
+        × IfOk r.end (λ s. AllDelivered W.describes W.fits config
+        (λ p. named config.epoch p 1 (ops p)) 0
         wires.items s.lanes.items)) }
 {
-    let (relay, producers, mut control) = match Relay::start(rt, alloc, config, wires, paces) {
-        Ok(started) => started,
-        Err(fault) => return Err(fault),
-    };
+    let (relay, producers, mut control) = Relay::start(rt, alloc, config, wires, paces)?;
     let (ended, waiting) = bounded(alloc, 1)?;
     let threads = spawn_producers(rt, alloc, readers, index, producers, ended)?;
     tick_until_ended(&rt, &waiting, &mut control);

@@ -1,6 +1,6 @@
 //! The file in which the reports of a run are saved.
-ghost use Rattle.std.specs.Prelude.{◌≡◌, IfOk};
-ghost use Rattle.relay_run.specs.Saying.{SavesReports, file_failed_text};
+ghost use Rattle.std.specs.Prelude.{◌≡◌, IfOk, OnErr};
+ghost use Rattle.relay_run.specs.Saying.{SavesReports, StopsSaving, file_failed_text};
 
 use crate::faults::worse;
 use crate::files::say;
@@ -12,7 +12,8 @@ use std::alloc::{AllocError, Global};
 
 /// Saves reports in the file with this name, one object per line, or writes that a write of it
 /// failed, and returns the exit status of a program that would have ended with `exit`.
-/// `AllocError`: allocation failed.
+/// `AllocError`: allocation failed. Nothing was written to `err`, and nothing to the file either
+/// unless a write of it failed.
 pub fn save_reports<P: ByteOut, E: ByteOut>(
     alloc: Global,
     exit: Exit,
@@ -21,9 +22,12 @@ pub fn save_reports<P: ByteOut, E: ByteOut>(
     file: &mut P,
     err: &mut E,
 ) -> Result<Exit, AllocError>
-    ensures { IfOk result (λ end. SavesReports name.now reports.now exit
+    ensures ok { IfOk result (λ end. SavesReports name.now reports.now exit
         (P.written file.old, P.failed file.old) (P.written file.new, P.failed file.new)
         (E.written err.old, E.failed err.old) (E.written err.new, E.failed err.new) end) }
+    ensures err { OnErr result (StopsSaving
+        (P.written file.old, P.failed file.old) (P.written file.new, P.failed file.new)
+        (E.written err.old, E.failed err.old) (E.written err.new, E.failed err.new)) }
 {
     let text = report_text(alloc, reports)?;
     if say(file, &text) {

@@ -50,7 +50,8 @@ pub(crate) fn tick_until_ended<R: Wait + Clock>(
     control: &mut Control,
 )
     ensures sender { control.new.sender ≡ control.old.sender }
-    ensures same { identities (open_puts control.new.ends) ≡ identities (open_puts control.old.ends) }
+    ensures same { identities (open_puts control.new.ends)
+        ≡ identities (open_puts control.old.ends) }
 {
     'ticks: for _ in rt.forever() {
         match ended.recv_timeout(rt, Duration::from_millis(TICK)) {

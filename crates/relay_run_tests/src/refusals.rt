@@ -34,15 +34,11 @@ const FAULT_LINE: &[u8] =
 
 const FILE: &str = "a-file-whose-name-has-more-than-thirty-eight-bytes.ndjson";
 
-// Whether the line of a fault is added, by a second call if the first was refused when a front of it had been.
+// Whether the line of a fault is added to an empty text, by a second call if the first was refused and left it empty.
 fn adds_fault(text: &mut Vec<u8>) -> bool {
     match add_file_fault(text, FILE, FAULT) {
         Ok(()) => true,
-        Err(AllocError) => {
-            let front = FAULT_LINE.starts_with(text.as_slice());
-            text.clear();
-            front && add_file_fault(text, FILE, FAULT).is_ok()
-        }
+        Err(AllocError) => text.is_empty() && add_file_fault(text, FILE, FAULT).is_ok(),
     }
 }
 
@@ -115,7 +111,7 @@ const NOT_SAVED: &[u8] =
 #[derive(Clone, Copy, PartialEq)]
 enum Saving {
     Done(Exit, usize),
-    /// Nothing was said.
+    /// Nothing was said, and the file is not whole.
     Refused,
     Wrong,
 }
@@ -134,7 +130,9 @@ fn save(
     }
     match saved {
         Ok(exit) if err.written() == said => Saving::Done(exit, file.written().len()),
-        Err(AllocError) if err.written().is_empty() => Saving::Refused,
+        Err(AllocError) if err.written().is_empty() && file.written().len() < SAVED.len() => {
+            Saving::Refused
+        }
         _ => Saving::Wrong,
     }
 }

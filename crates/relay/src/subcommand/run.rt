@@ -193,6 +193,24 @@ fn with_numbers<'a>(alloc: Global, command: Command<'a>) -> Result<Command<'a>, 
     Ok(command)
 }
 
+// The options of what is saved and shown.
+fn with_outputs<'a>(alloc: Global, command: Command<'a>) -> Result<Command<'a>, AllocError> {
+    let report = Arg::new(alloc, "report")
+        .long("report")
+        .value_name("FILE")
+        .action(ArgAction::Set)
+        .help(
+            "Save what could not be settled to this file as NDJSON, one object per line; it is created before anything is put, and written at the end",
+        );
+    let progress = Arg::new(alloc, "progress")
+        .long("progress")
+        .action(ArgAction::SetTrue)
+        .help(
+            "Show on standard error every second how far the run is, and at once if no connection can be made; a terminal gets the latter without this option too",
+        );
+    command.arg(report)?.arg(progress)
+}
+
 /// Its help and its options.
 pub fn command<'a>(alloc: Global, name: &'static str) -> Result<Command<'a>, AllocError> {
     let to = Arg::new(alloc, "to")
@@ -221,23 +239,7 @@ pub fn command<'a>(alloc: Global, name: &'static str) -> Result<Command<'a>, All
         .long_about(LONG_ABOUT)
         .arg(to)?
         .arg(index)?;
-    let report = Arg::new(alloc, "report")
-        .long("report")
-        .value_name("FILE")
-        .action(ArgAction::Set)
-        .help(
-            "Save what could not be settled to this file as NDJSON, one object per line; it is created before anything is put, and written at the end",
-        );
-    let progress = Arg::new(alloc, "progress")
-        .long("progress")
-        .action(ArgAction::SetTrue)
-        .help(
-            "Show on standard error every second how far the run is, and at once if no connection can be made; a terminal gets the latter without this option too",
-        );
-    with_numbers(alloc, command)?
-        .arg(report)?
-        .arg(progress)?
-        .arg(files)
+    with_outputs(alloc, with_numbers(alloc, command)?)?.arg(files)
 }
 
 // The value of a numeric option, which has a default and a range.

@@ -1,7 +1,7 @@
 use Rattle.std.proofs.Common.{List, ap, sym, subst, ◌∙◌}
 use Rattle.relay_core.specs.declared.config.RelayConfig.{RelayConfig}
 use Rattle.relay_ndjson.specs.Metadata.{shown}
-use Rattle.relay_run.specs.Fed.{named}
+use Rattle.relay_run.specs.Readers.{named}
 use Rattle.relay_run.specs.Handles.{Given, AllEndFed}
 use Rattle.relay_run.proofs.Handing.{rows_of_all, count_back, control_back}
 use Rattle.relay_run.proofs.Ending.{all_fed, fed_and_put, delivered_as}
