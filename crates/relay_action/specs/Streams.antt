@@ -12,7 +12,7 @@ one_more count = min (count + 1) most
 abbrev pub FailedSince : ℕ → ℕ → Type 0
 FailedSince old new = one_more old ≤ new
 
--- whether a write took any of the bytes that it was given
+-- whether a write took any of the bytes that it was after_read
 abbrev pub takes_some : {E : Type 0} → Result ℕ E → List ℕ → Bool
 takes_some (Ok n) bytes = nat_lt 0 n || (length bytes == 0)
 takes_some (Err e) bytes = false
@@ -43,11 +43,11 @@ abbrev pub is_full : Memory → Bool
 is_full s = is_call s || (length s.written == s.room)
 
 -- one more call was made; a call failed
-abbrev pub called : Memory → Memory
-called s = record s { calls = one_more s.calls }
+abbrev pub after_call : Memory → Memory
+after_call s = record s { calls = one_more s.calls }
 
-abbrev pub refused : Memory → Memory
-refused s = record s { failed = one_more s.failed }
+abbrev pub after_failure : Memory → Memory
+after_failure s = record s { failed = one_more s.failed }
 
 -- how many bytes a read moves into a buffer of this size, and a write takes of as many
 abbrev pub given_count : Memory → ℕ → ℕ
@@ -57,8 +57,8 @@ abbrev pub taken_count : Memory → ℕ → ℕ
 taken_count s bytes = min bytes (min s.piece (s.room - length s.written))
 
 -- these many bytes were read; these were written
-abbrev pub given : Memory → ℕ → Memory
-given s n = record s { left = drop n s.left }
+abbrev pub after_read : Memory → ℕ → Memory
+after_read s n = record s { left = drop n s.left }
 
-abbrev pub taken : Memory → List ℕ → Memory
-taken s bytes = record s { written = s.written ++ bytes }
+abbrev pub after_write : Memory → List ℕ → Memory
+after_write s bytes = record s { written = s.written ++ bytes }

@@ -2,8 +2,8 @@
 ghost use Rattle.std.specs.Prelude.{◌≡◌, ◌++◌, ◌-◌, ◌<◌, ◌≤◌, min, [], length, take, drop, not};
 ghost use Rattle.std.specs.Prelude.{None, Some, IfOk, OnErr, is_ok, if◌then◌else◌};
 ghost use Rattle.std.specs.Io.KnownBytes.{append_known, prepend_known, IsAtEnd};
-ghost use Rattle.relay_action.specs.Streams.{fresh, is_call, is_full, called, refused, given};
-ghost use Rattle.relay_action.specs.Streams.{taken, given_count, taken_count, one_more, takes_some};
+ghost use Rattle.relay_action.specs.Streams.{fresh, is_call, is_full, after_call, after_failure, after_read};
+ghost use Rattle.relay_action.specs.Streams.{after_write, given_count, taken_count, one_more, takes_some};
 
 use crate::stream::{ByteIn, ByteOut, ByteStream, StreamFailed};
 use std::alloc::{AllocError, Global};
@@ -78,7 +78,7 @@ impl MemStream {
 
     // Counts a call, and returns whether it is the one that fails.
     fn begin(&mut self) -> bool
-        ensures calls { self.new ≡ called self.old }
+        ensures calls { self.new ≡ after_call self.old }
         ensures fails { result ≡ is_call self.old }
     {
         self.calls = self.calls.saturating_add(1);
@@ -86,7 +86,7 @@ impl MemStream {
     }
 
     fn fail(&mut self) -> StreamFailed
-        ensures { self.new ≡ refused self.old }
+        ensures { self.new ≡ after_failure self.old }
     {
         self.failed = self.failed.saturating_add(1);
         StreamFailed
@@ -95,7 +95,7 @@ impl MemStream {
     // Copies the next piece of the input to the front of the buffer.
     fn give(&mut self, buffer: &mut [u8]) -> usize
         ensures count { result ≡ given_count self.old (length buffer.old) }
-        ensures stream { self.new ≡ given self.old result }
+        ensures stream { self.new ≡ after_read self.old result }
         ensures bytes { buffer.new ≡ take result self.old.left ++ drop result buffer.old }
         ensures end { result ≡ 0 → 0 < length buffer.new → self.old.left ≡ [] }
     {
@@ -108,7 +108,7 @@ impl MemStream {
     // Appends a piece of the bytes to the output.
     fn take(&mut self, bytes: &[u8]) -> usize
         ensures count { result ≡ taken_count self.old (length bytes.now) }
-        ensures stream { self.new ≡ taken self.old (take result bytes.now) }
+        ensures stream { self.new ≡ after_write self.old (take result bytes.now) }
     {
         let count = bytes
             .len()
@@ -142,8 +142,8 @@ impl ByteIn for MemStream {
         // When the call fails, how many bytes it moves, and what is left.
         ensures fails { is_ok result ≡ not (is_call self.old) }
         ensures moves { IfOk result (λ n. n ≡ given_count self.old (length buffer.old)) }
-        ensures after { IfOk result (λ n. self.new ≡ given (called self.old) n) }
-        ensures kept { OnErr result (self.new ≡ refused (called self.old)) }
+        ensures after { IfOk result (λ n. self.new ≡ after_read (after_call self.old) n) }
+        ensures kept { OnErr result (self.new ≡ after_failure (after_call self.old)) }
     {
         if self.begin() {
             return Err(self.fail());
@@ -165,8 +165,8 @@ impl ByteOut for MemStream {
         // When the call fails, how many bytes it moves, and what was written.
         ensures fails { is_ok result ≡ not (is_full self.old) }
         ensures moves { IfOk result (λ n. n ≡ taken_count self.old (length bytes.now)) }
-        ensures after { IfOk result (λ n. self.new ≡ taken (called self.old) (take n bytes.now)) }
-        ensures kept { OnErr result (self.new ≡ refused (called self.old)) }
+        ensures after { IfOk result (λ n. self.new ≡ after_write (after_call self.old) (take n bytes.now)) }
+        ensures kept { OnErr result (self.new ≡ after_failure (after_call self.old)) }
     {
         if self.begin() || self.output.len() == self.room {
             return Err(self.fail());

@@ -10,7 +10,7 @@ use Rattle.std.specs.List.{before_first, after_first, position_or_len}
 use Rattle.std.specs.Char.{digit_value}
 use Rattle.std.specs.Str.Parse.{AllDigits}
 use Rattle.relay_index.specs.Choices.{MayRefuse}
-use Rattle.relay_index.specs.Plans.{Plan, refusal_at, unscripted}
+use Rattle.relay_index.specs.Plans.{Plan, refusal_at, no_script}
 use Rattle.relay_commands.specs.declared.refuse_list.ListFault.{ListFault}
 use Rattle.relay_commands.specs.declared.refuse_list.ListFault.TheVariants as fault
 use Rattle.relay_commands.specs.Cuts.{Adds, IsSplitAt, IsPartFault, IsUncut}
@@ -221,7 +221,7 @@ last_fault whole rest plan count (fault.BadList n) h e bad =
     ((λ xs l. let p = h.peels xs l in let s = alone rest e p.0 p.1 in bad.0 s.0 s.1 s.2), blamed whole rest rest plan count n h (sym (ap (λ m. take m rest) e ∙ take_all (length rest) rest (omega arith))) bad.0 bad.1)
 last_fault whole rest plan count fault.Memory h e bad = tt
 
-pub refuses_none : (plan : Plan) → plan ≡ unscripted → Refuses [] plan
+pub refuses_none : (plan : Plan) → plan ≡ no_script → Refuses [] plan
 refuses_none plan h = record { statuses = λ place. ap (λ p. refusal_at p place) h; none_run = ap (λ p. p.ran) h; unlimited = ap (λ p. p.limit) h }
 
 -- what may be refused is what the test tells

@@ -14,7 +14,7 @@ use Rattle.relay_results.proofs.Lists.{Mem-map}
 use Rattle.relay_delivery.specs.Machine.{Held, KeepsCaps}
 use Rattle.relay_delivery.specs.Lane.{Entry, candidates, held_of}
 use Rattle.relay_held.specs.declared.kept.Kept.{Kept}
-use Rattle.relay_core.specs.Rule.{by_answer, with_item, offered, item_of}
+use Rattle.relay_core.specs.Rule.{by_answer, with_item, gathering_after, item_of}
 use Rattle.relay_core.specs.Walk.{item_of_kept}
 use Rattle.relay_core.specs.State.{State, gathering, next_batch, next_entries}
 use Rattle.relay_flight.specs.declared.request.Request.{Request}
@@ -30,10 +30,10 @@ by_keep limits Busy busy closed added b c a = b
 by_keep limits Closed busy closed added b c a = c
 by_keep limits Added busy closed added b c a = a refl
 
-offered_keep : (is : List BatchItem) (g : Gathering) → IsBatch g.limits g.items → IsBatch g.limits (offered is g).items
+offered_keep : (is : List BatchItem) (g : Gathering) → IsBatch g.limits g.items → IsBatch g.limits (gathering_after is g).items
 offered_keep [] g b = b
 offered_keep (i ∷ is) g b =
-    by_keep g.limits (answer_to i g) (offered is g) g (offered is (with_item i g)) (offered_keep is g b) b (λ e. offered_keep is (with_item i g) (item_added g i e b))
+    by_keep g.limits (answer_to i g) (gathering_after is g) g (gathering_after is (with_item i g)) (offered_keep is g b) b (λ e. offered_keep is (with_item i g) (item_added g i e b))
 
 nothing_gathered : (limits : Limits) → IsBatch limits []
 nothing_gathered limits = record { distinct = λ i j d lt within. absurd (omega (arith, within)); counted = λ more. absurd (omega (arith, more)); weighed = λ more. absurd (omega (arith, more)) }

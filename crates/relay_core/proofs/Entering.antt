@@ -10,7 +10,7 @@ use Rattle.relay_held.specs.Queues.{Rises, candidates_kept, is_candidate_kept}
 use Rattle.relay_held.proofs.Merging.{rises_filter}
 use Rattle.relay_batch.specs.declared.item.Room.{Room}
 use Rattle.relay_delivery.specs.Lane.{candidates}
-use Rattle.relay_core.specs.Rule.{offered, item_of, batch_of}
+use Rattle.relay_core.specs.Rule.{gathering_after, item_of, batch_of}
 use Rattle.relay_core.specs.Quiet.{is_roomy, IsQuiet}
 use Rattle.relay_core.proofs.Quiet.{quiet_none}
 use Rattle.relay_core.specs.State.{State, all_closed, gathering, next_batch}
@@ -39,7 +39,7 @@ pub front_of : (s : State) (f : ℕ → List Write) (hs : List Kept) (items : Li
 front_of s f hs items held rises e =
     let cs = candidates_kept hs s.core.clock in
     let r = first_ones cs (gathering s) (rises_filter (is_candidate_kept hs s.core.clock) hs rises) (below_none cs) in
-    let is : items ≡ map item_of_kept (take r.0 cs) = sym (batch_offered s items e) ∙ ap (λ xs. (offered xs (gathering s)).items) (offers_seen s.core f hs held) ∙ r.1 in
+    let is : items ≡ map item_of_kept (take r.0 cs) = sym (batch_offered s items e) ∙ ap (λ xs. (gathering_after xs (gathering s)).items) (offers_seen s.core f hs held) ∙ r.1 in
     let len : length items ≡ r.0 = ap length is ∙ length-map (take r.0 cs) item_of_kept ∙ length_take r.0 cs r.2 in
     let le = r.2 in
     record {

@@ -10,7 +10,7 @@ use Rattle.relay_results.specs.Words.{IsSubsequence}
 use Rattle.relay_results.proofs.Lists.{and_left}
 use Rattle.relay_delivery.specs.Lane.{candidates}
 use Rattle.relay_held.specs.declared.kept.Kept.{Kept}
-use Rattle.relay_core.specs.Rule.{item_of, chosen, offered, closes, goes, batch_if, batch_of}
+use Rattle.relay_core.specs.Rule.{item_of, chosen_entries, gathering_after, closes, goes, batch_if, batch_of}
 use Rattle.relay_core.specs.Walk.{is_candidate_kept, item_of_kept}
 use Rattle.relay_core.specs.State.{State, all_closed, gathering, next_entries, next_batch}
 use Rattle.relay_core.specs.Flights.{ItemsAreOfOperations}
@@ -44,11 +44,11 @@ formed s f hs items held e =
     let a = if_some (nat_lt (length s.flights.batches) s.config.in_flight) _ items e in
     let all = map item_of (candidates s.core) in
     let g = gathering s in
-    let b = if_batch (goes s.core.clock s.mark (all_closed s) (offered all g) (closes all g)) _ items a.1 in
+    let b = if_batch (goes s.core.clock s.mark (all_closed s) (gathering_after all g) (closes all g)) _ items a.1 in
     let seen = candidates_seen s.core f hs held in
     let kept = filter (is_candidate_kept hs s.core.clock) hs in
     let ops = picked kept g in
-    let entries_are : next_entries s ≡ entries ops f = ap (λ es. chosen es g) seen ∙ chosen_picked f kept g in
+    let entries_are : next_entries s ≡ entries ops f = ap (λ es. chosen_entries es g) seen ∙ chosen_picked f kept g in
     record {
       few = ltb-true _ _ a.0;
       ops = ops;
@@ -60,12 +60,12 @@ formed s f hs items held e =
     }
 
 -- the batch is what was gathered of the candidates
-pub batch_offered : (s : State) (items : List BatchItem) → next_batch s ≡ Some items → (offered (map item_of (candidates s.core)) (gathering s)).items ≡ items
+pub batch_offered : (s : State) (items : List BatchItem) → next_batch s ≡ Some items → (gathering_after (map item_of (candidates s.core)) (gathering s)).items ≡ items
 batch_offered s items e =
     let a = if_some (nat_lt (length s.flights.batches) s.config.in_flight) _ items e in
     let all = map item_of (candidates s.core) in
     let g = gathering s in
-    (if_batch (goes s.core.clock s.mark (all_closed s) (offered all g) (closes all g)) _ items a.1).1
+    (if_batch (goes s.core.clock s.mark (all_closed s) (gathering_after all g) (closes all g)) _ items a.1).1
 
 pub items_of_operations : ItemsAreOfOperations
 items_of_operations s items e = sym (batch_offered s items e) ∙ offered_chosen (candidates s.core) (gathering s)

@@ -7,7 +7,7 @@ use Rattle.relay_batch.specs.Gathering.{Gathering, answer_to, after_offer, holds
 use Rattle.std.specs.Prelude.{◌⊎◌, ◌||◌}
 use Rattle.relay_batch.specs.declared.offer.Offer.{Offer}
 use Rattle.relay_batch.specs.declared.offer.Offer.TheVariants.{Busy, Closed, Added}
-use Rattle.relay_core.specs.Rule.{offered, closes, by_answer, with_item}
+use Rattle.relay_core.specs.Rule.{gathering_after, closes, by_answer, with_item}
 use Rattle.std.specs.Prelude.{Ok}
 use Rattle.relay_results.specs.Words.{Mem}
 use Rattle.relay_results.specs.Documents.{Document, document_of, same_document}
@@ -244,9 +244,9 @@ take_less m i cs h lt e =
 -- ---- offers
 
 pub offer_closed : (i : BatchItem) (is : List BatchItem) (g : Gathering) → answer_to i g ≡ Closed
-    → (offered (i ∷ is) g ≡ g) × (closes (i ∷ is) g ≡ true)
+    → (gathering_after (i ∷ is) g ≡ g) × (closes (i ∷ is) g ≡ true)
 offer_closed i is g e = (
-  ap (λ o. by_answer o (offered is g) g (offered is (with_item i g))) e,
+  ap (λ o. by_answer o (gathering_after is g) g (gathering_after is (with_item i g))) e,
   ap (λ o. by_answer o (closes is g) true (closes is (with_item i g))) e,
 )
 
@@ -254,14 +254,14 @@ pub items_next : (cs : List Kept) (i : ℕ) (h x : Kept) → drop i cs ≡ h ∷
 items_next cs i h x e is = ap (map item_of_kept) e ∙ ap (λ (y : Kept). item_of_kept y ∷ map item_of_kept (drop (i + 1) cs)) is
 
 pub offer_on : (i : BatchItem) (is : List BatchItem) (g g' : Gathering) (o : Offer) → o ≡ answer_to i g → (o ≡ Closed → ⊥) → g' ≡ after_offer {E = Unit {0}} i g (Ok o)
-    → (offered (i ∷ is) g ≡ offered is g') × (closes (i ∷ is) g ≡ closes is g')
+    → (gathering_after (i ∷ is) g ≡ gathering_after is g') × (closes (i ∷ is) g ≡ closes is g')
 offer_on i is g g' Busy e n after = (
-  ap (λ o. by_answer o (offered is g) g (offered is (with_item i g))) (sym e) ∙ ap (offered is) (sym after),
+  ap (λ o. by_answer o (gathering_after is g) g (gathering_after is (with_item i g))) (sym e) ∙ ap (gathering_after is) (sym after),
   ap (λ o. by_answer o (closes is g) true (closes is (with_item i g))) (sym e) ∙ ap (closes is) (sym after),
 )
 offer_on i is g g' Closed e n after = absurd (n refl)
 offer_on i is g g' Added e n after = (
-  ap (λ o. by_answer o (offered is g) g (offered is (with_item i g))) (sym e) ∙ ap (offered is) (sym after),
+  ap (λ o. by_answer o (gathering_after is g) g (gathering_after is (with_item i g))) (sym e) ∙ ap (gathering_after is) (sym after),
   ap (λ o. by_answer o (closes is g) true (closes is (with_item i g))) (sym e) ∙ ap (closes is) (sym after),
 )
 
@@ -308,13 +308,13 @@ below_next : (c : Kept) (cs : List Kept) (is : List BatchItem) → AllAbove c.ve
 below_next c [] is a b = tt
 below_next c (d ∷ cs) is a b = docs_more c.version d.version is (item_of_kept c) a.0 refl b
 
-pub first_ones : (cs : List Kept) (g : Gathering) → Rises cs → BelowFirst cs g.items → (n : ℕ) × ((offered (map item_of_kept cs) g).items ≡ g.items ++ map item_of_kept (take n cs)) × (n ≤ length cs)
+pub first_ones : (cs : List Kept) (g : Gathering) → Rises cs → BelowFirst cs g.items → (n : ℕ) × ((gathering_after (map item_of_kept cs) g).items ≡ g.items ++ map item_of_kept (take n cs)) × (n ≤ length cs)
 first_ones [] g r b = (0, none_behind g.items, omega arith)
-first_ones (c ∷ cs) g r b = ⊎_elim {C = (n : ℕ) × ((offered (map item_of_kept (c ∷ cs)) g).items ≡ g.items ++ map item_of_kept (take n (c ∷ cs))) × (n ≤ length (c ∷ cs))}
+first_ones (c ∷ cs) g r b = ⊎_elim {C = (n : ℕ) × ((gathering_after (map item_of_kept (c ∷ cs)) g).items ≡ g.items ++ map item_of_kept (take n (c ∷ cs))) × (n ≤ length (c ∷ cs))}
     (λ e. (0, ap (λ (h : Gathering). h.items) (offer_closed (item_of_kept c) (map item_of_kept cs) g e).0 ∙ none_behind g.items, omega arith))
     (λ e. let rest = first_ones cs (with_item (item_of_kept c) g) r.1 (below_next c cs g.items r.0 b) in (
       suc rest.0,
-      ap (λ o. (by_answer o (offered (map item_of_kept cs) g) g (offered (map item_of_kept cs) (with_item (item_of_kept c) g))).items) e
+      ap (λ o. (by_answer o (gathering_after (map item_of_kept cs) g) g (gathering_after (map item_of_kept cs) (with_item (item_of_kept c) g))).items) e
           ∙ rest.1 ∙ Rattle.std.proofs.Common.append_assoc g.items (item_of_kept c ∷ []) (map item_of_kept (take rest.0 cs)),
       let le = rest.2 in omega (arith, le),
     ))

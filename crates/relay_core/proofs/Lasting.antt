@@ -16,7 +16,7 @@ use Rattle.relay_core.specs.Walk.{flies_here}
 use Rattle.relay_core.specs.Memory.{place_at, writes_in, is_in, flying_of, entry_of, entries, Given, further, rest_if, IsMet, Carries, HasRoom, IsHome, AllAbove, Rises, AllUnder}
 use Rattle.relay_core.specs.State.{VersionsRise, AreNumbered, IsPlaceIn, IsInOrder, first_number}
 use Rattle.relay_core.specs.declared.lane.Lane.TheInside.{Inside}
-use Rattle.relay_core.specs.View.{seen, IsSound}
+use Rattle.relay_core.specs.View.{state_of, IsSound}
 use Rattle.relay_core.proofs.Invariant.{writes_absent}
 use Rattle.relay_core.proofs.Keeping.{one_less}
 use Rattle.relay_core.proofs.Reading.{writes_seen}
@@ -72,7 +72,7 @@ place_in a v h m p e =
     let here : flies_here n h.flies ≡ true = ap (flies_here n) s.1 ∙ equal_test n n refl in
     let some = carried n 0 h a.held.list (writes_in a.flight.requests n) (v.readable.carries n) m here in
     let seen : writes_at p.request (map flying_of a.flight.requests) ≡ writes_in a.flight.requests n = ap (λ q. writes_at q (map flying_of a.flight.requests)) s.3 ∙ writes_seen 1 a.flight.next a.flight.requests n (omega arith) v.flight.numbered from in
-    let ws = ap length seen in
+    let ws = ap length state_of in
     let room = has_room n (length (writes_in a.flight.requests n)) h a.held.list (v.readable.caps n) m here in
     record {
       flies = ap (λ q. list_any (λ (f : Flying). f.request == q) (map flying_of a.flight.requests)) s.3 ∙ sym (any_seen 1 a.flight.next a.flight.requests n (omega arith) v.flight.numbered from) ∙ there_is a.flight.requests n some;
@@ -98,7 +98,7 @@ home_most max next h (Some w) (Some s) home = absurd home
 home_most max next h None None home = absurd home
 home_most max next h None (Some s) home = home.2
 
-kept_in_order : (a : Inside) → IsSound a → (h : Kept) → Mem h a.held.list → IsInOrder (seen a) (entry_of (writes_in a.flight.requests) h)
+kept_in_order : (a : Inside) → IsSound a → (h : Kept) → Mem h a.held.list → IsInOrder (state_of a) (entry_of (writes_in a.flight.requests) h)
 kept_in_order a v h m =
     let k = kept_at a.config.attempts a.flight.next h a.held.list v.readable.kept m in
     record {
@@ -110,10 +110,10 @@ kept_in_order a v h m =
       halved = k.sends;
     }
 
-pub held_in_order : (a : Inside) → IsSound a → (e : Entry) → Mem e (entries a.held.list (writes_in a.flight.requests)) → IsInOrder (seen a) e
+pub held_in_order : (a : Inside) → IsSound a → (e : Entry) → Mem e (entries a.held.list (writes_in a.flight.requests)) → IsInOrder (state_of a) e
 held_in_order a v e m =
     let there = Mem-map (entry_of (writes_in a.flight.requests)) e a.held.list m in
-    subst (IsInOrder (seen a)) (sym there.2) (kept_in_order a v there.0 there.1)
+    subst (IsInOrder (state_of a)) (sym there.2) (kept_in_order a v there.0 there.1)
 
 above_at : (v : ℕ) (f : ℕ → List Write) (hs : List Kept) → AllAbove v hs → (j : Held) → Mem j (held_of (entries hs f)) → v < j.version
 above_at v f [] a j m = absurd m

@@ -12,7 +12,7 @@ use Rattle.relay_delivery.specs.Machine.{write_of}
 use Rattle.relay_delivery.specs.Lane.{Entry, writes_of_all}
 use Rattle.relay_held.specs.declared.kept.Kept.{Kept}
 use Rattle.relay_held.specs.declared.kept.Spot.{Spot}
-use Rattle.relay_core.specs.Rule.{by_answer, chosen, item_of, offered, with_item}
+use Rattle.relay_core.specs.Rule.{by_answer, chosen_entries, item_of, gathering_after, with_item}
 use Rattle.relay_core.specs.Walk.{waits_here, is_candidate_kept, item_of_kept, is_next, freight}
 use Rattle.relay_core.specs.Memory.{write_found, action_or, held_seen, entry_of, entries, IsWriteOf, IsHome, IsKept, AllKept, AllAbove, Rises}
 
@@ -29,9 +29,9 @@ offered_by Busy i busy closed added front b a e is p q r = p
 offered_by Closed i busy closed added front b a e is p q r = q ∙ none_after front
 offered_by Added i busy closed added front b a e is p q r = r ∙ append_assoc front (i ∷ []) (map item_of a) ∙ ap (λ x. front ++ x ∷ map item_of a) (sym is)
 
-pub offered_chosen : (es : List Entry) (g : Gathering) → (offered (map item_of es) g).items ≡ g.items ++ map item_of (chosen es g)
+pub offered_chosen : (es : List Entry) (g : Gathering) → (gathering_after (map item_of es) g).items ≡ g.items ++ map item_of (chosen_entries es g)
 offered_chosen [] g = none_after g.items
-offered_chosen (e ∷ es) g = offered_by (answer_to (item_of e) g) (item_of e) _ _ _ g.items (chosen es g) (chosen es (with_item (item_of e) g)) e refl (offered_chosen es g) refl (offered_chosen es (with_item (item_of e) g))
+offered_chosen (e ∷ es) g = offered_by (answer_to (item_of e) g) (item_of e) _ _ _ g.items (chosen_entries es g) (chosen_entries es (with_item (item_of e) g)) e refl (offered_chosen es g) refl (offered_chosen es (with_item (item_of e) g))
 
 -- the same, of what stands in memory
 abbrev pub picked : List Kept → Gathering → List Kept
@@ -43,7 +43,7 @@ picked_by Busy f h b a b' a' p q = p
 picked_by Closed f h b a b' a' p q = refl
 picked_by Added f h b a b' a' p q = ap (λ es. entry_of f h ∷ es) q
 
-pub chosen_picked : (f : ℕ → List Write) (hs : List Kept) (g : Gathering) → chosen (entries hs f) g ≡ entries (picked hs g) f
+pub chosen_picked : (f : ℕ → List Write) (hs : List Kept) (g : Gathering) → chosen_entries (entries hs f) g ≡ entries (picked hs g) f
 chosen_picked f [] g = refl
 chosen_picked f (h ∷ hs) g = picked_by (answer_to (item_of_kept h) g) f h (picked hs g) (picked hs (with_item (item_of_kept h) g)) _ _ (chosen_picked f hs g) (chosen_picked f hs (with_item (item_of_kept h) g))
 

@@ -16,25 +16,25 @@ use Rattle.relay_batch.proofs.Added.{or_none, and_none, count-more}
 use Rattle.relay_results.specs.Documents.{Document, document_of, same_document}
 use Rattle.relay_results.proofs.Lists.{and_left, and_right}
 use Rattle.relay_held.specs.declared.kept.Kept.{Kept}
-use Rattle.relay_core.specs.Rule.{by_answer, with_item, offered, closes, is_marked, batch_if, batch_of}
+use Rattle.relay_core.specs.Rule.{by_answer, with_item, gathering_after, closes, is_marked, batch_if, batch_of}
 use Rattle.relay_core.specs.Walk.{waits_here, is_later_kept, is_candidate_kept, item_of_kept, items_of_kept}
 use Rattle.relay_core.specs.Memory.{AllUnder}
 use Rattle.relay_core.specs.Quiet.{empty, is_roomy, no_room, less, IsQuiet}
 use Rattle.relay_core.proofs.Taken.{ltb_no}
 
--- ---- one item more is offered
+-- ---- one item more is gathering_after
 
 after_offers : (x : Offer) (j : BatchItem) (g busy busy' added added' : Gathering) (b a : Bool) → by_answer x b true a ≡ false
-    → (b ≡ false → busy' ≡ offered (j ∷ []) busy) → (a ≡ false → added' ≡ offered (j ∷ []) added)
-    → by_answer x busy' g added' ≡ offered (j ∷ []) (by_answer x busy g added)
+    → (b ≡ false → busy' ≡ gathering_after (j ∷ []) busy) → (a ≡ false → added' ≡ gathering_after (j ∷ []) added)
+    → by_answer x busy' g added' ≡ gathering_after (j ∷ []) (by_answer x busy g added)
 after_offers Busy j g busy busy' added added' b a e p q = p e
 after_offers Closed j g busy busy' added added' b a e p q = absurd (cc)
 after_offers Added j g busy busy' added added' b a e p q = q e
 
-offered_more : (is : List BatchItem) (j : BatchItem) (g : Gathering) → closes is g ≡ false → offered (is ++ j ∷ []) g ≡ offered (j ∷ []) (offered is g)
+offered_more : (is : List BatchItem) (j : BatchItem) (g : Gathering) → closes is g ≡ false → gathering_after (is ++ j ∷ []) g ≡ gathering_after (j ∷ []) (gathering_after is g)
 offered_more [] j g e = refl
 offered_more (i ∷ is) j g e =
-    after_offers (answer_to i g) j g (offered is g) (offered (is ++ j ∷ []) g) (offered is (with_item i g)) (offered (is ++ j ∷ []) (with_item i g)) (closes is g) (closes is (with_item i g)) e
+    after_offers (answer_to i g) j g (gathering_after is g) (gathering_after (is ++ j ∷ []) g) (gathering_after is (with_item i g)) (gathering_after (is ++ j ∷ []) (with_item i g)) (closes is g) (closes is (with_item i g)) e
     (offered_more is j g) (offered_more is j (with_item i g))
 
 after_closes : (x : Offer) (j : BatchItem) (g busy added : Gathering) (b a b' a' : Bool) → by_answer x b true a ≡ false
@@ -44,10 +44,10 @@ after_closes Busy j g busy added b a b' a' e p q = p e
 after_closes Closed j g busy added b a b' a' e p q = absurd (cc)
 after_closes Added j g busy added b a b' a' e p q = q e
 
-closes_more : (is : List BatchItem) (j : BatchItem) (g : Gathering) → closes is g ≡ false → closes (is ++ j ∷ []) g ≡ closes (j ∷ []) (offered is g)
+closes_more : (is : List BatchItem) (j : BatchItem) (g : Gathering) → closes is g ≡ false → closes (is ++ j ∷ []) g ≡ closes (j ∷ []) (gathering_after is g)
 closes_more [] j g e = refl
 closes_more (i ∷ is) j g e =
-    after_closes (answer_to i g) j g (offered is g) (offered is (with_item i g)) (closes is g) (closes is (with_item i g)) (closes (is ++ j ∷ []) g) (closes (is ++ j ∷ []) (with_item i g)) e
+    after_closes (answer_to i g) j g (gathering_after is g) (gathering_after is (with_item i g)) (closes is g) (closes is (with_item i g)) (closes (is ++ j ∷ []) g) (closes (is ++ j ∷ []) (with_item i g)) e
     (closes_more is j g) (closes_more is j (with_item i g))
 
 by_limits : (x : Offer) (limits : Limits) (busy closed added : Gathering) → busy.limits ≡ limits → closed.limits ≡ limits → added.limits ≡ limits → (by_answer x busy closed added).limits ≡ limits
@@ -55,9 +55,9 @@ by_limits Busy limits busy closed added b c a = b
 by_limits Closed limits busy closed added b c a = c
 by_limits Added limits busy closed added b c a = a
 
-pub offered_limits : (is : List BatchItem) (g : Gathering) → (offered is g).limits ≡ g.limits
+pub offered_limits : (is : List BatchItem) (g : Gathering) → (gathering_after is g).limits ≡ g.limits
 offered_limits [] g = refl
-offered_limits (i ∷ is) g = by_limits (answer_to i g) g.limits (offered is g) g (offered is (with_item i g)) (offered_limits is g) refl (offered_limits is (with_item i g))
+offered_limits (i ∷ is) g = by_limits (answer_to i g) g.limits (gathering_after is g) g (gathering_after is (with_item i g)) (offered_limits is g) refl (offered_limits is (with_item i g))
 
 -- ---- a gathering that waits
 
@@ -126,19 +126,19 @@ one_offer P g j true c e b a = (b, refl)
 one_offer P g j false true e b a = absurd (cc)
 one_offer P g j false false e b a = (a, refl)
 
-waiting : (clock mark : ℕ) (all_closed : Bool) (limits : Limits) (is : List BatchItem) (room : Room) → IsQuiet clock mark all_closed limits is room → Waits clock mark limits room (offered is (empty limits))
+waiting : (clock mark : ℕ) (all_closed : Bool) (limits : Limits) (is : List BatchItem) (room : Room) → IsQuiet clock mark all_closed limits is room → Waits clock mark limits room (gathering_after is (empty limits))
 waiting clock mark all_closed limits is room q = record { some = q.some; items = q.items; bytes = q.bytes; young = q.young; unmarked = q.unmarked }
 
 pub quiet_on : (clock mark bytes : ℕ) (all_closed : Bool) (limits : Limits) (is : List BatchItem) (room : Room) → IsQuiet clock mark all_closed limits is room
     → IsQuiet clock mark all_closed limits is (record { items = room.items - 1; bytes = room.bytes - bytes })
 quiet_on clock mark bytes all_closed limits is room q =
-    let w = waits_on clock mark bytes limits room (offered is (empty limits)) (waiting clock mark all_closed limits is room q) in
+    let w = waits_on clock mark bytes limits room (gathering_after is (empty limits)) (waiting clock mark all_closed limits is room q) in
     record { some = w.some; lasts = q.lasts; items = w.items; bytes = w.bytes; young = w.young; unmarked = w.unmarked; still_open = q.still_open }
 
 pub quiet_with : (clock mark : ℕ) (all_closed : Bool) (limits : Limits) (is : List BatchItem) (j : BatchItem) (room : Room) → limits.count ≤ j.cap → 0 < room.items → j.bytes < room.bytes → IsQuiet clock mark all_closed limits is room
     → IsQuiet clock mark all_closed limits (is ++ j ∷ []) (record { items = room.items - 1; bytes = room.bytes - j.bytes })
 quiet_with clock mark all_closed limits is j room wide one fits q =
-    let g = offered is (empty limits) in
+    let g = gathering_after is (empty limits) in
     let w = waiting clock mark all_closed limits is room q in
     let less_room : Room = record { items = room.items - 1; bytes = room.bytes - j.bytes } in
     let shut = stays_open clock mark limits room g j (offered_limits is (empty limits)) wide one fits w in
@@ -156,7 +156,7 @@ none_goes false a b c d e f items p q r s t u = refl
 pub quiet_none : (clock mark : ℕ) (all_closed : Bool) (limits : Limits) (is : List BatchItem) (room : Room) → is_roomy room ≡ true → IsQuiet clock mark all_closed limits is room
     → batch_of clock mark all_closed limits is ≡ None
 quiet_none clock mark all_closed limits is room roomy q =
-    let g = offered is (empty limits) in
+    let g = gathering_after is (empty limits) in
     let same = offered_limits is (empty limits) in
     let one = ltb-true 0 room.items (and_left (nat_lt 0 room.items) (nat_lt 0 room.bytes) roomy) in
     let some = ltb-true 0 room.bytes (and_right (nat_lt 0 room.items) (nat_lt 0 room.bytes) roomy) in
@@ -230,11 +230,11 @@ or_all false true c e = absurd (cc)
 or_all false false c e = (refl, refl, e)
 
 pub quiet_of : (clock mark : ℕ) (all_closed : Bool) (limits : Limits) (is : List BatchItem) (room : Room) (ready shut marked : Bool)
-    → 0 < length (offered is (empty limits)).items → room ≡ room_of (offered is (empty limits)) → ready ≡ is_ready clock (offered is (empty limits)) → shut ≡ closes is (empty limits)
-    → marked ≡ is_marked mark (offered is (empty limits)).items → (ready || (shut || (marked || all_closed))) ≡ false
+    → 0 < length (gathering_after is (empty limits)).items → room ≡ room_of (gathering_after is (empty limits)) → ready ≡ is_ready clock (gathering_after is (empty limits)) → shut ≡ closes is (empty limits)
+    → marked ≡ is_marked mark (gathering_after is (empty limits)).items → (ready || (shut || (marked || all_closed))) ≡ false
     → IsQuiet clock mark all_closed limits is room
 quiet_of clock mark all_closed limits is room ready shut marked some left is_r is_s is_m none =
-    let g = offered is (empty limits) in
+    let g = gathering_after is (empty limits) in
     let same = offered_limits is (empty limits) in
     let counts = ap (λ (l : Limits). count_of l.count g.items) same in
     let weighs = ap (λ (l : Limits). l.bytes) same in

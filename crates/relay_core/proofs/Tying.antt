@@ -8,7 +8,7 @@ use Rattle.relay_results.specs.Words.{IsSubsequence}
 use Rattle.relay_results.specs.Outside.{Sends, after}
 use Rattle.relay_delivery.specs.Lane.{Entry, candidates, writes_of_all}
 use Rattle.relay_delivery.proofs.Fitting as delivery
-use Rattle.relay_core.specs.Rule.{by_answer, chosen, item_of, with_item}
+use Rattle.relay_core.specs.Rule.{by_answer, chosen_entries, item_of, with_item}
 use Rattle.relay_core.specs.State.{config_of, later, bytes_of, after_take, gathering, next_entries, after_request}
 use Rattle.relay_core.proofs.Batched.{next_keeps}
 use Rattle.relay_core.specs.Ties.{Fits, FreshFits, TakeFits, RequestFits, RunFits, AnswerFits}
@@ -26,7 +26,7 @@ take_fits s sender body.Tick taken out f = subst (λ os. Fits (after_take s send
 take_fits s sender body.Flush taken out f = subst (λ os. Fits (after_take s sender body.Flush) os out) (none_more taken) f
 take_fits s sender body.Done taken out f = subst (λ os. Fits (after_take s sender body.Done) os out) (none_more taken) f
 
--- those that are chosen stand among the candidates, in their order
+-- those that are chosen_entries stand among the candidates, in their order
 skip : {A : Type 0} (xs : List A) (y : A) (ys : List A) → IsSubsequence xs ys → IsSubsequence xs (y ∷ ys)
 skip [] y ys s = tt
 skip (x ∷ xs) y ys s = inr s
@@ -36,9 +36,9 @@ chosen_by Busy e es busy added b a = skip busy e es b
 chosen_by Closed e es busy added b a = tt
 chosen_by Added e es busy added b a = inl (refl, a)
 
-pub chosen_sub : (es : List Entry) (g : Gathering) → IsSubsequence (chosen es g) es
+pub chosen_sub : (es : List Entry) (g : Gathering) → IsSubsequence (chosen_entries es g) es
 chosen_sub [] g = tt
-chosen_sub (e ∷ es) g = chosen_by (answer_to (item_of e) g) e es (chosen es g) (chosen es (with_item (item_of e) g)) (chosen_sub es g) (chosen_sub es (with_item (item_of e) g))
+chosen_sub (e ∷ es) g = chosen_by (answer_to (item_of e) g) e es (chosen_entries es g) (chosen_entries es (with_item (item_of e) g)) (chosen_sub es g) (chosen_sub es (with_item (item_of e) g))
 
 pub request_fits : RequestFits
 request_fits s items taken out some f =

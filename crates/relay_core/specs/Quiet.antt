@@ -5,7 +5,7 @@ use Rattle.relay_batch.specs.declared.item.Room.{Room}
 use Rattle.relay_batch.specs.declared.item.BatchItem.{BatchItem}
 use Rattle.relay_batch.specs.Batches.{bytes_of, count_of}
 use Rattle.relay_batch.specs.Gathering.{Gathering, is_lingered}
-use Rattle.relay_core.specs.Rule.{offered, closes, is_marked}
+use Rattle.relay_core.specs.Rule.{gathering_after, closes, is_marked}
 
 abbrev pub empty : Limits → Gathering
 empty limits = record { limits = limits; items = [] }
@@ -24,10 +24,10 @@ less bytes r = if nat_lt bytes r.bytes then record { items = r.items - 1; bytes 
 -- What is gathered of these items waits: it is not empty, nothing was Closed, nothing demands it yet, and as many
 -- more items and bytes as there is room for, with caps of at least the limit's count, do not fill it.
 pub record IsQuiet (clock mark : ℕ) (all_closed : Bool) (limits : Limits) (is : List BatchItem) (room : Room) : Type 0 where
-  pub some : 0 < length (offered is (empty limits)).items
+  pub some : 0 < length (gathering_after is (empty limits)).items
   pub lasts : closes is (empty limits) ≡ false
-  pub items : length (offered is (empty limits)).items + room.items ≤ count_of limits.count (offered is (empty limits)).items
-  pub bytes : bytes_of (offered is (empty limits)).items + room.bytes ≤ limits.bytes
-  pub young : is_lingered limits.linger clock (offered is (empty limits)).items ≡ false
-  pub unmarked : is_marked mark (offered is (empty limits)).items ≡ false
+  pub items : length (gathering_after is (empty limits)).items + room.items ≤ count_of limits.count (gathering_after is (empty limits)).items
+  pub bytes : bytes_of (gathering_after is (empty limits)).items + room.bytes ≤ limits.bytes
+  pub young : is_lingered limits.linger clock (gathering_after is (empty limits)).items ≡ false
+  pub unmarked : is_marked mark (gathering_after is (empty limits)).items ≡ false
   pub still_open : all_closed ≡ false

@@ -17,10 +17,10 @@ by_answer Added busy closed added = added
 abbrev pub with_item : BatchItem → Gathering → Gathering
 with_item i g = record g { items = g.items ++ i ∷ [] }
 
--- the items are offered one after another until one is Closed or none is left
-abbrev pub offered : List BatchItem → Gathering → Gathering
-offered [] g = g
-offered (i ∷ is) g = by_answer (answer_to i g) (offered is g) g (offered is (with_item i g))
+-- the items are gathering_after one after another until one is Closed or none is left
+abbrev pub gathering_after : List BatchItem → Gathering → Gathering
+gathering_after [] g = g
+gathering_after (i ∷ is) g = by_answer (answer_to i g) (gathering_after is g) g (gathering_after is (with_item i g))
 
 -- an offer was Closed
 abbrev pub closes : List BatchItem → Gathering → Bool
@@ -32,9 +32,9 @@ abbrev pub item_of : Entry → BatchItem
 item_of e = record { name = name_of e.held.op; doc = e.held.version; version = e.held.version; bytes = e.bytes; cap = e.held.cap; taken_at = e.taken_at }
 
 -- those that were added
-abbrev pub chosen : List Entry → Gathering → List Entry
-chosen [] g = []
-chosen (e ∷ es) g = by_answer (answer_to (item_of e) g) (chosen es g) [] (e ∷ chosen es (with_item (item_of e) g))
+abbrev pub chosen_entries : List Entry → Gathering → List Entry
+chosen_entries [] g = []
+chosen_entries (e ∷ es) g = by_answer (answer_to (item_of e) g) (chosen_entries es g) [] (e ∷ chosen_entries es (with_item (item_of e) g))
 
 abbrev pub is_marked : ℕ → List BatchItem → Bool
 is_marked mark [] = false
@@ -51,5 +51,5 @@ batch_if false is = None
 
 abbrev pub batch_of : ℕ → ℕ → Bool → Limits → List BatchItem → Option (List BatchItem)
 batch_of clock mark all_closed limits is =
-    batch_if (goes clock mark all_closed (offered is (record { limits = limits; items = [] })) (closes is (record { limits = limits; items = [] })))
-    (offered is (record { limits = limits; items = [] })).items
+    batch_if (goes clock mark all_closed (gathering_after is (record { limits = limits; items = [] })) (closes is (record { limits = limits; items = [] })))
+    (gathering_after is (record { limits = limits; items = [] })).items

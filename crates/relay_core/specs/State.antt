@@ -23,7 +23,7 @@ use Rattle.relay_core.specs.declared.settled.TakeFault.{TakeFault}
 use Rattle.relay_core.specs.declared.settled.TakeFault.TheVariants.{AfterClose, HeldFull}
 use Rattle.relay_core.specs.declared.settled.Settled.{Settled}
 use Rattle.relay_core.specs.Limits.{is_valid}
-use Rattle.relay_core.specs.Rule.{item_of, chosen, batch_of}
+use Rattle.relay_core.specs.Rule.{item_of, chosen_entries, batch_of}
 
 -- The config; the clock, what it took, holds, sent and reported, in the words of delivery; the flush mark, which is
 -- the highest version to be sent whether or not the batch is full; which senders have closed; and the batches in
@@ -35,7 +35,7 @@ pub record State : Type 0 where
   pub closed : List Bool
   pub flights : flight.Flying
 
--- A lane as contracts see it, in two parts: its state, and how many held operations its requests looked at. What a
+-- A lane as contracts see it, in two parts: its state, and how many held operations its requests looks_after at. What a
 -- contract says of the state does not include the looks.
 pub record Seen : Type 0 where
   pub state : State
@@ -45,8 +45,8 @@ abbrev pub config_of : RelayConfig → Config
 config_of c = in_epoch c.epoch c.deal c.attempts c.limits.count
 
 -- this many senders, none of which has closed
-abbrev pub none_closed : ℕ → List Bool
-none_closed n = replicate n false
+abbrev pub all_open : ℕ → List Bool
+all_open n = replicate n false
 
 -- before its first call
 abbrev pub fresh : RelayConfig → State
@@ -54,7 +54,7 @@ fresh c = record {
   config = c;
   core = delivery.fresh_state (config_of c);
   mark = 0;
-  closed = none_closed (c.producers + 1);
+  closed = all_open (c.producers + 1);
   flights = record { max = c.in_flight; next = 1; batches = [] };
 }
 
@@ -71,27 +71,27 @@ last_tick = 18446744073709551615
 abbrev pub later : ℕ → ℕ
 later clock = if nat_lt clock last_tick then clock + 1 else clock
 
-abbrev pub ticked : State → State
-ticked s = record s { core = record s.core { clock = later s.core.clock } }
+abbrev pub after_tick : State → State
+after_tick s = record s { core = record s.core { clock = later s.core.clock } }
 
 -- the last version assigned; the mark is unchanged if none was
 abbrev pub mark_of : State → ℕ
 mark_of s = if s.core.taken == 0 then s.mark else s.core.config.first + min s.core.taken s.core.config.deals - 1
 
-abbrev pub flushed : State → State
-flushed s = record s { mark = mark_of s }
+abbrev pub after_flush : State → State
+after_flush s = record s { mark = mark_of s }
 
 -- the length of an operation's lines, with the version that it is assigned
 abbrev pub bytes_of : State → Op → ℕ
 bytes_of s o = length (write_text (write_for o (version_at s.core.config s.core.taken)))
 
-abbrev pub taken : State → Op → State
-taken s o = record s { core = delivery.taken_op s.core o (bytes_of s o) }
+abbrev pub after_put : State → Op → State
+after_put s o = record s { core = delivery.taken_op s.core o (bytes_of s o) }
 
 abbrev pub after_take : State → ℕ → Body → State
-after_take s sender (body.Put o) = taken s o
-after_take s sender body.Tick = ticked s
-after_take s sender body.Flush = flushed s
+after_take s sender (body.Put o) = after_put s o
+after_take s sender body.Tick = after_tick s
+after_take s sender body.Flush = after_flush s
 after_take s sender body.Done = record s { closed = slice_set s.closed sender true }
 
 abbrev pub is_full : State → Body → Bool
@@ -107,7 +107,7 @@ is_put body.Tick = false
 is_put body.Flush = false
 is_put body.Done = false
 
--- why a message is not taken: the first cause that applies
+-- why a message is not after_put: the first cause that applies
 abbrev pub take_fault : State → ℕ → Body → Option TakeFault
 take_fault s sender b =
     if slice_index_or s.closed sender false then Some AfterClose
@@ -121,7 +121,7 @@ gathering s = record { limits = s.config.limits; items = [] }
 
 -- the operations of the next request
 abbrev pub next_entries : State → List delivery.Entry
-next_entries s = chosen (delivery.candidates s.core) (gathering s)
+next_entries s = chosen_entries (delivery.candidates s.core) (gathering s)
 
 -- the batch to send now, if there is one
 abbrev pub next_batch : State → Option (List BatchItem)
@@ -132,15 +132,15 @@ next_batch s =
 
 abbrev pub after_request : State → Option (List BatchItem) → State
 after_request s None = s
-after_request s (Some items) = record s { core = delivery.sent s.core (next_entries s); flights = flight.entered items s.flights }
+after_request s (Some items) = record s { core = delivery.with_request s.core (next_entries s); flights = flight.with_batch items s.flights }
 
 -- the number of documents with held operations
 abbrev pub documents_of : State → ℕ
 documents_of s = distinct (map (λ (h : Held). document_of h.op.key) (delivery.held_of s.core.held))
 
 -- the looks, after one at each document
-abbrev pub looked : Seen → ℕ
-looked v = v.looks + documents_of v.state
+abbrev pub looks_after : Seen → ℕ
+looks_after v = v.looks + documents_of v.state
 
 -- the looks, after one at each operation of the next request; they saturate at 2^64 - 1
 abbrev pub looked_at_least : Seen → ℕ
@@ -164,8 +164,8 @@ first_number (f ∷ fs) = Some (from_one f.request)
 abbrev pub oldest : State → Option ℕ
 oldest s = first_number s.core.flying
 
-abbrev pub answered : State → ℕ → Answer → State
-answered s number a = record s { core = delivery.answered s.core number a; flights = flight.settled number s.flights }
+abbrev pub with_answer : State → ℕ → Answer → State
+with_answer s number a = record s { core = delivery.with_answer s.core number a; flights = flight.without_batch number s.flights }
 
 abbrev pub is_reported_fate : fates.Fate → Bool
 is_reported_fate fates.Flies = false
@@ -184,15 +184,15 @@ is_retried_fate (fates.Halved cap) = true
 is_retried_fate (fates.Reported cause) = false
 
 -- the number of operations for which an answer has this fate
-abbrev pub counted : (fates.Fate → Bool) → State → ℕ → Answer → ℕ
-counted test s number a = how_many test s.core.config (from_zero number) (writes_of number s) a (delivery.held_of s.core.held)
+abbrev pub count_of : (fates.Fate → Bool) → State → ℕ → Answer → ℕ
+count_of test s number a = how_many test s.core.config (from_zero number) (writes_of number s) a (delivery.held_of s.core.held)
 
 -- the counts are those of the operations with these fates
 pub record AreCounts (s : State) (number : ℕ) (a : Answer) (c : Settled) : Type 0 where
-  pub applied : c.applied ≡ counted is_applied_fate s number a
-  pub already : c.already ≡ counted is_already_fate s number a
-  pub reported : c.reported ≡ counted is_reported_fate s number a
-  pub retried : c.retried ≡ counted is_retried_fate s number a
+  pub applied : c.applied ≡ count_of is_applied_fate s number a
+  pub already : c.already ≡ count_of is_already_fate s number a
+  pub reported : c.reported ≡ count_of is_reported_fate s number a
+  pub retried : c.retried ≡ count_of is_retried_fate s number a
 
 -- ---- looks
 

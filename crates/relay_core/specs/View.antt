@@ -10,8 +10,8 @@ use Rattle.relay_core.specs.Memory.{entries, writes_in, flying_of, IsReadable, A
 use Rattle.relay_core.specs.Walk.{report_of, items_of_kept}
 use Rattle.relay_core.specs.Quiet.{is_roomy, IsQuiet}
 
-abbrev pub seen : Inside → State
-seen a = record {
+abbrev pub state_of : Inside → State
+state_of a = record {
   config = a.config;
   core = record {
     config = record { epoch = a.config.epoch; first = a.first; deals = a.config.deal; max = a.config.attempts; cap = a.config.limits.count };
@@ -29,8 +29,8 @@ seen a = record {
   flights = batches_of a.flight;
 }
 
-abbrev pub shown : Inside → Seen
-shown a = record { state = seen a; looks = a.looks }
+abbrev pub view_of : Inside → Seen
+view_of a = record { state = state_of a; looks = a.looks }
 
 pub record IsSound (a : Inside) : Type 0 where
   pub readable : IsReadable a.config.attempts a.flight.next a.held.list a.flight.requests

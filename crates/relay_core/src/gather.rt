@@ -2,7 +2,7 @@
 ghost use Rattle.std.specs.Prelude.{◌≡◌, ◌||◌, true, IfOk, IfSome, OnErr, min, ◌+◌, ◌<◌, ◌≤◌};
 ghost use Rattle.std.specs.Prelude.{length, []};
 ghost use Rattle.relay_core.specs.Walk.{item_of_candidate, items_of_kept};
-ghost use Rattle.relay_core.specs.Rule.{offered, closes, is_marked, batch_of};
+ghost use Rattle.relay_core.specs.Rule.{gathering_after, closes, is_marked, batch_of};
 ghost use Rattle.relay_core.specs.Quiet.{is_roomy, no_room, less, IsQuiet};
 ghost use Rattle.relay_held.specs.Queues.{distinct, documents};
 
@@ -53,7 +53,7 @@ pub(crate) fn gather(
 ) -> Result<Gathered, AllocError>
     ensures batch { IfOk result
         (λ g. g.batcher
-        ≡ offered (items_of_kept held.old.list held.old.clock held.old.list)
+        ≡ gathering_after (items_of_kept held.old.list held.old.clock held.old.list)
         (record { limits = limits; items = [] })) }
     ensures err { OnErr result
         (0 < length (items_of_kept held.old.list held.old.clock held.old.list)) }

@@ -13,9 +13,9 @@ ghost use Rattle.relay_delivery.specs.Lane.{candidates};
 ghost use Rattle.relay_core.specs.Limits.{is_valid};
 ghost use Rattle.relay_core.specs.Walk.{report_of};
 ghost use Rattle.relay_core.specs.Memory.{SaysAs, IsHalf};
-ghost use Rattle.relay_core.specs.State.{fresh, taken, after_take, take_fault, is_put, all_closed};
-ghost use Rattle.relay_core.specs.State.{ticked, flushed, is_flying, oldest, writes_of, answered};
-ghost use Rattle.relay_core.specs.State.{AreCounts, next_batch, after_request, looked};
+ghost use Rattle.relay_core.specs.State.{fresh, after_put, after_take, take_fault, is_put, all_closed};
+ghost use Rattle.relay_core.specs.State.{after_tick, after_flush, is_flying, oldest, writes_of, with_answer};
+ghost use Rattle.relay_core.specs.State.{AreCounts, next_batch, after_request, looks_after};
 ghost use Rattle.relay_core.specs.State.{looked_at_least, due_in, is_finished, IsLane};
 
 use crate::config::{RelayConfig, first_in};
@@ -61,11 +61,11 @@ pub struct Lane {
 
 impl Model for Lane {
     ghost use Rattle.relay_core.specs.State.{Seen};
-    ghost use Rattle.relay_core.specs.View.{shown, IsSound};
+    ghost use Rattle.relay_core.specs.View.{view_of, IsSound};
 
     ghost Value = { Seen };
 
-    ghost view = { shown };
+    ghost view = { view_of };
 
     ghost invariant = { IsSound };
 }
@@ -117,7 +117,7 @@ impl Lane {
 
     /// A tick of the clock passes. The clock saturates at `u64::MAX`.
     pub fn tick(&mut self)
-        ensures ticked { self.new.state ≡ ticked self.old.state }
+        ensures ticked { self.new.state ≡ after_tick self.old.state }
         ensures looks { self.new.looks ≡ self.old.looks }
     {
         self.room = no_room();
@@ -127,7 +127,7 @@ impl Lane {
     /// Sets the flush mark to the last version assigned: what was taken so far is to be sent,
     /// whether or not the batch is full. It has no effect if no version was assigned yet.
     pub fn flush(&mut self)
-        ensures flushed { self.new.state ≡ flushed self.old.state }
+        ensures flushed { self.new.state ≡ after_flush self.old.state }
         ensures looks { self.new.looks ≡ self.old.looks }
     {
         self.room = no_room();
@@ -236,7 +236,7 @@ impl Lane {
     // Takes an operation into a lane that has room for it.
     fn take_put(&mut self, op: Op) -> Result<(), NoRoom>
         requires { length self.old.state.core.held < self.old.state.config.max_held }
-        ensures ok { OnOk result (self.new.state ≡ taken self.old.state op) }
+        ensures ok { OnOk result (self.new.state ≡ after_put self.old.state op) }
         ensures unchanged { OnErr result (self.new ≡ self.old) }
         ensures back { IfErr result (λ e. e.op ≡ op) }
         ensures looks { self.new.looks ≡ self.old.looks }
@@ -353,7 +353,7 @@ impl Lane {
         ensures after { OnOk result
             (self.new.state ≡ after_request self.old.state (next_batch self.old.state)) }
         ensures unchanged { OnErr result (self.new.state ≡ self.old.state) }
-        ensures looks { self.new.looks ≤ looked self.old }
+        ensures looks { self.new.looks ≤ looks_after self.old }
         ensures looks_rise { self.old.looks ≤ self.new.looks }
         ensures looks_sent { IfOk result
             (λ o. OnSome o (looked_at_least self.old ≤ self.new.looks)) }
@@ -442,7 +442,7 @@ impl Lane {
         ensures flies { is_some result ≡ is_flying number self.old.state }
         ensures settled { OnSome result ((a : Answer)
             → SaysAs a (writes_of number self.old.state) whole outcomes.items
-            → self.new.state ≡ answered self.old.state number a) }
+            → self.new.state ≡ with_answer self.old.state number a) }
         ensures counts { IfSome result (λ c. (a : Answer)
             → SaysAs a (writes_of number self.old.state) whole outcomes.items
             → AreCounts self.old.state number a c) }
@@ -476,7 +476,7 @@ impl Lane {
     /// not allocate.
     pub fn lost(&mut self, number: u64) -> Result<Settled, NotFlying>
         ensures flies { is_ok result ≡ is_flying number self.old.state }
-        ensures ok { OnOk result (self.new.state ≡ answered self.old.state number Lost) }
+        ensures ok { OnOk result (self.new.state ≡ with_answer self.old.state number Lost) }
         ensures counts { IfOk result (λ c. AreCounts self.old.state number Lost c) }
         ensures matched { IfOk result (λ c. c.matched ≡ true) }
         ensures unchanged { OnErr result (self.new ≡ self.old) }
@@ -497,7 +497,7 @@ impl Lane {
     pub fn whole(&mut self, number: u64, status: u16) -> Result<Settled, NotFlying>
         requires { status ≢ 200 }
         ensures flies { is_ok result ≡ is_flying number self.old.state }
-        ensures ok { OnOk result (self.new.state ≡ answered self.old.state number (Whole status)) }
+        ensures ok { OnOk result (self.new.state ≡ with_answer self.old.state number (Whole status)) }
         ensures counts { IfOk result (λ c. AreCounts self.old.state number (Whole status) c) }
         ensures matched { IfOk result (λ c. c.matched ≡ true) }
         ensures unchanged { OnErr result (self.new ≡ self.old) }
@@ -522,7 +522,7 @@ impl Lane {
     pub fn reply(&mut self, number: u64, outcomes: Vec<Outcome>) -> Result<Settled, NotFlying>
         ensures flies { is_ok result ≡ is_flying number self.old.state }
         ensures ok { OnOk result
-            (self.new.state ≡ answered self.old.state number (Items outcomes.items)) }
+            (self.new.state ≡ with_answer self.old.state number (Items outcomes.items)) }
         ensures counts { IfOk result
             (λ c. AreCounts self.old.state number (Items outcomes.items) c) }
         ensures matched { IfOk result

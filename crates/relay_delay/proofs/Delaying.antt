@@ -5,7 +5,7 @@ use Rattle.std.specs.List.{AllByRecursion}
 use Rattle.std.proofs.lemmas.Bool.{cases_Bool, lt-leb, le-leb, leb-true}
 use Rattle.relay_delay.specs.declared.entry.Entry.{Entry}
 use Rattle.relay_delay.specs.Waiting.{Delays, AllAbove, Rises, has_version, insert, without, is_due}
-use Rattle.relay_delay.specs.Heaps.{Heap, inserted, AllDue, NoneDue, AllUpTo, StartsUpTo, IsMoving, IsDelayed}
+use Rattle.relay_delay.specs.Heaps.{Heap, insert_all, AllDue, NoneDue, AllUpTo, StartsUpTo, IsMoving, IsDelayed}
 use Rattle.relay_delay.proofs.Sorting.{by_place, above_more, insert_past, insert_front, length_insert, length_inserted, rises_insert, insert_rises, fresh_head, fresh_cons, fresh_above, insert_fresh, inserted_fresh, inserted_base, inserted_more, without_insert}
 
 -- ---- what holds of each
@@ -33,31 +33,31 @@ filter_all : (clock : ℕ) (es : List Entry) → AllDue clock es → filter (is_
 filter_all clock [] a = refl
 filter_all clock (e ∷ es) a = rw (a.0) (ap (λ xs. e ∷ xs) (filter_all clock es a.1))
 
-pub due_is : (clock : ℕ) (xs es : List Entry) → NoneDue clock xs → AllDue clock es → filter (is_due clock) (inserted xs es) ≡ es
+pub due_is : (clock : ℕ) (xs es : List Entry) → NoneDue clock xs → AllDue clock es → filter (is_due clock) (insert_all xs es) ≡ es
 due_is clock [] es n a = filter_all clock es a
-due_is clock (x ∷ xs) es n a = filter_insert clock x (inserted xs es) n.0 ∙ due_is clock xs es n.1 a
+due_is clock (x ∷ xs) es n a = filter_insert clock x (insert_all xs es) n.0 ∙ due_is clock xs es n.1 a
 
 -- ---- rising versions
 
-pub inserted_rises : (xs es : List Entry) → Rises (inserted xs es) → Rises es
+pub inserted_rises : (xs es : List Entry) → Rises (insert_all xs es) → Rises es
 inserted_rises [] es r = r
-inserted_rises (x ∷ xs) es r = inserted_rises xs es (insert_rises x (inserted xs es) r).1
+inserted_rises (x ∷ xs) es r = inserted_rises xs es (insert_rises x (insert_all xs es) r).1
 
 -- one of the list that the others are put into is not among those
-base_fresh : (x : Entry) (xs es : List Entry) → Rises (inserted xs (insert x es)) → has_version x.version xs ≡ false
+base_fresh : (x : Entry) (xs es : List Entry) → Rises (insert_all xs (insert x es)) → has_version x.version xs ≡ false
 base_fresh x [] es r = refl
 base_fresh x (y ∷ ys) es r =
-    let s = insert_rises y (inserted ys (insert x es)) r in
+    let s = insert_rises y (insert_all ys (insert x es)) r in
     let n = fresh_head y.version x es (insert_fresh y.version x es (inserted_fresh y.version ys (insert x es) s.0).1) in
     fresh_cons x.version y ys (λ q. n (sym q)) (base_fresh x ys es s.1)
 
 -- one of those that are put into the list is not among the others, nor in the list
-pub more_fresh : (x : Entry) (xs es : List Entry) → Rises (inserted (insert x xs) es) → (has_version x.version xs ≡ false) × (has_version x.version es ≡ false)
+pub more_fresh : (x : Entry) (xs es : List Entry) → Rises (insert_all (insert x xs) es) → (has_version x.version xs ≡ false) × (has_version x.version es ≡ false)
 more_fresh x [] es r = (refl, (insert_rises x es r).0)
-more_fresh x (y ∷ ys) es r = by_place (λ zs. Rises (inserted zs es) → (has_version x.version (y ∷ ys) ≡ false) × (has_version x.version es ≡ false)) x y ys
-    (λ lt s. inserted_fresh x.version (y ∷ ys) es (insert_rises x (inserted (y ∷ ys) es) s).0)
+more_fresh x (y ∷ ys) es r = by_place (λ zs. Rises (insert_all zs es) → (has_version x.version (y ∷ ys) ≡ false) × (has_version x.version es ≡ false)) x y ys
+    (λ lt s. inserted_fresh x.version (y ∷ ys) es (insert_rises x (insert_all (y ∷ ys) es) s).0)
     (λ le s.
-    let t = insert_rises y (inserted (insert x ys) es) s in
+    let t = insert_rises y (insert_all (insert x ys) es) s in
     let n = fresh_head y.version x ys (insert_fresh y.version x ys (inserted_fresh y.version (insert x ys) es t.0).0) in
     let ih = more_fresh x ys es t.1 in
     (fresh_cons x.version y ys (λ q. n (sym q)) ih.0, ih.1))
@@ -105,7 +105,7 @@ first_up_to v (y ∷ ys) x some e le = subst (λ (z : Entry). z.version ≤ v) e
 
 -- ---- how many
 
-pub counted : (fs rs ls : List Entry) → length (inserted ls (fs ++ rs)) ≡ length fs + length rs + length ls
+pub counted : (fs rs ls : List Entry) → length (insert_all ls (fs ++ rs)) ≡ length fs + length rs + length ls
 counted fs rs ls = let a = length_inserted ls (fs ++ rs) in let b = length-append fs rs in omega (arith, a, b)
 
 -- ---- the calls
@@ -113,18 +113,18 @@ counted fs rs ls = let a = length_inserted ls (fs ++ rs) in let b = length-appen
 -- what the fields are after a call, and the list that they show
 pub record Becomes (clock room : ℕ) (fs : List Entry) (r l : Heap) (es : List Entry) : Type 0 where
   pub delayed : IsDelayed clock room fs r l
-  pub entries : inserted l.entries (fs ++ r.entries) ≡ es
+  pub entries : insert_all l.entries (fs ++ r.entries) ≡ es
 
-pub insert_later : (clock room : ℕ) (fs : List Entry) (r l k : Heap) (x : Entry) → IsDelayed clock room fs r l → clock < x.due → has_version x.version (inserted l.entries (fs ++ r.entries)) ≡ false
-    → length (inserted l.entries (fs ++ r.entries)) < room → l.room ≤ k.room → k.entries ≡ insert x l.entries → Becomes clock room fs r k (insert x (inserted l.entries (fs ++ r.entries)))
+pub insert_later : (clock room : ℕ) (fs : List Entry) (r l k : Heap) (x : Entry) → IsDelayed clock room fs r l → clock < x.due → has_version x.version (insert_all l.entries (fs ++ r.entries)) ≡ false
+    → length (insert_all l.entries (fs ++ r.entries)) < room → l.room ≤ k.room → k.entries ≡ insert x l.entries → Becomes clock room fs r k (insert x (insert_all l.entries (fs ++ r.entries)))
 insert_later clock room fs r l k x d late fresh few grows is =
-    let e = ap (λ es. inserted es (fs ++ r.entries)) is ∙ inserted_more x l.entries (fs ++ r.entries) (inserted_fresh x.version l.entries (fs ++ r.entries) fresh).0 in
+    let e = ap (λ es. insert_all es (fs ++ r.entries)) is ∙ inserted_more x l.entries (fs ++ r.entries) (inserted_fresh x.version l.entries (fs ++ r.entries) fresh).0 in
     let c = counted fs r.entries l.entries in
     let n = ap length is ∙ length_insert x l.entries in
     let later = d.later_room in
     record {
       delayed = record {
-        rises = subst Rises (sym e) (rises_insert x (inserted l.entries (fs ++ r.entries)) fresh d.rises);
+        rises = subst Rises (sym e) (rises_insert x (insert_all l.entries (fs ++ r.entries)) fresh d.rises);
         due = d.due;
         not_due = subst (NoneDue clock) (sym is) (all_insert (λ y. is_due clock y ≡ false) x l.entries (lt-leb x.due clock late) d.not_due);
         ready_room = d.ready_room;
@@ -135,17 +135,17 @@ insert_later clock room fs r l k x d late fresh few grows is =
       entries = e;
     }
 
-pub insert_due : (clock room : ℕ) (fs gs : List Entry) (r q l : Heap) (x : Entry) → IsDelayed clock room fs r l → x.due ≤ clock → has_version x.version (inserted l.entries (fs ++ r.entries)) ≡ false
-    → length (inserted l.entries (fs ++ r.entries)) < room → r.room ≤ q.room → gs ++ q.entries ≡ insert x (fs ++ r.entries) → Becomes clock room gs q l (insert x (inserted l.entries (fs ++ r.entries)))
+pub insert_due : (clock room : ℕ) (fs gs : List Entry) (r q l : Heap) (x : Entry) → IsDelayed clock room fs r l → x.due ≤ clock → has_version x.version (insert_all l.entries (fs ++ r.entries)) ≡ false
+    → length (insert_all l.entries (fs ++ r.entries)) < room → r.room ≤ q.room → gs ++ q.entries ≡ insert x (fs ++ r.entries) → Becomes clock room gs q l (insert x (insert_all l.entries (fs ++ r.entries)))
 insert_due clock room fs gs r q l x d now fresh few grows is =
-    let e = ap (inserted l.entries) is ∙ inserted_base x l.entries (fs ++ r.entries) (inserted_fresh x.version l.entries (fs ++ r.entries) fresh).0 in
+    let e = ap (insert_all l.entries) is ∙ inserted_base x l.entries (fs ++ r.entries) (inserted_fresh x.version l.entries (fs ++ r.entries) fresh).0 in
     let c = counted fs r.entries l.entries in
     let n = sym (length-append gs q.entries) ∙ ap length is ∙ length_insert x (fs ++ r.entries) in
     let m = length-append fs r.entries in
     let ready = d.ready_room in
     record {
       delayed = record {
-        rises = subst Rises (sym e) (rises_insert x (inserted l.entries (fs ++ r.entries)) fresh d.rises);
+        rises = subst Rises (sym e) (rises_insert x (insert_all l.entries (fs ++ r.entries)) fresh d.rises);
         due = subst (AllDue clock) (sym is) (all_insert (λ y. is_due clock y ≡ true) x (fs ++ r.entries) (le-leb x.due clock now) d.due);
         not_due = d.not_due;
         ready_room = omega (arith, ready, grows);
@@ -157,13 +157,13 @@ insert_due clock room fs gs r q l x d now fresh few grows is =
     }
 
 -- what comes to the front or goes back from there changes nothing
-pub moved : (clock room : ℕ) (fs gs : List Entry) (r q l : Heap) → IsDelayed clock room fs r l → gs ++ q.entries ≡ fs ++ r.entries → q.room ≡ r.room → Becomes clock room gs q l (inserted l.entries (fs ++ r.entries))
+pub moved : (clock room : ℕ) (fs gs : List Entry) (r q l : Heap) → IsDelayed clock room fs r l → gs ++ q.entries ≡ fs ++ r.entries → q.room ≡ r.room → Becomes clock room gs q l (insert_all l.entries (fs ++ r.entries))
 moved clock room fs gs r q l d is same =
     let n = sym (length-append gs q.entries) ∙ ap length is ∙ length-append fs r.entries in
     let c = d.count in
     record {
       delayed = record {
-        rises = subst Rises (sym (ap (inserted l.entries) is)) d.rises;
+        rises = subst Rises (sym (ap (insert_all l.entries) is)) d.rises;
         due = subst (AllDue clock) (sym is) d.due;
         not_due = d.not_due;
         ready_room = subst (λ m. room ≤ m) (sym same) d.ready_room;
@@ -171,18 +171,18 @@ moved clock room fs gs r q l d is same =
         count = omega (arith, n, c);
         fits = d.fits;
       };
-      entries = ap (inserted l.entries) is;
+      entries = ap (insert_all l.entries) is;
     }
 
 -- the first of those that are due is gone
 pub taken : (clock room : ℕ) (fs gs : List Entry) (r q l : Heap) (x : Entry) → IsDelayed clock room fs r l → fs ++ r.entries ≡ x ∷ (gs ++ q.entries) → q.room ≡ r.room
-    → Becomes clock room gs q l (without x.version (inserted l.entries (fs ++ r.entries)))
+    → Becomes clock room gs q l (without x.version (insert_all l.entries (fs ++ r.entries)))
 taken clock room fs gs r q l x d is same =
     let up = subst Rises is (inserted_rises l.entries (fs ++ r.entries) d.rises) in
     let first = is ∙ sym (insert_front x (gs ++ q.entries) up.0) in
-    let rises = subst (λ es. Rises (inserted l.entries es)) first d.rises in
-    let e = ap (inserted l.entries) first ∙ inserted_base x l.entries (gs ++ q.entries) (base_fresh x l.entries (gs ++ q.entries) rises) in
-    let left = insert_rises x (inserted l.entries (gs ++ q.entries)) (subst Rises e d.rises) in
+    let rises = subst (λ es. Rises (insert_all l.entries es)) first d.rises in
+    let e = ap (insert_all l.entries) first ∙ inserted_base x l.entries (gs ++ q.entries) (base_fresh x l.entries (gs ++ q.entries) rises) in
+    let left = insert_rises x (insert_all l.entries (gs ++ q.entries)) (subst Rises e d.rises) in
     let n = sym (length-append fs r.entries) ∙ ap length is in
     let m = length-append gs q.entries in
     let c = d.count in
@@ -196,7 +196,7 @@ taken clock room fs gs r q l x d is same =
         count = omega (arith, n, m, c);
         fits = d.fits;
       };
-      entries = sym (without_insert x (inserted l.entries (gs ++ q.entries)) left.0) ∙ ap (without x.version) (sym e);
+      entries = sym (without_insert x (insert_all l.entries (gs ++ q.entries)) left.0) ∙ ap (without x.version) (sym e);
     }
 
 -- ---- the clock goes on
@@ -210,10 +210,10 @@ start_moving clock room next fs r l le d = record {
 
 -- one falls due
 pub one_moves : (clock : ℕ) (fs gs : List Entry) (r q l k : Heap) (x : Entry) → IsMoving clock fs r l → l.entries ≡ insert x k.entries → is_due clock x ≡ true → r.room ≤ q.room → gs ++ q.entries ≡ insert x (fs ++ r.entries)
-    → IsMoving clock gs q k × (inserted k.entries (gs ++ q.entries) ≡ inserted l.entries (fs ++ r.entries))
+    → IsMoving clock gs q k × (insert_all k.entries (gs ++ q.entries) ≡ insert_all l.entries (fs ++ r.entries))
 one_moves clock fs gs r q l k x m from now grows is =
-    let f = more_fresh x k.entries (fs ++ r.entries) (subst (λ es. Rises (inserted es (fs ++ r.entries))) from m.rises) in
-    let e = ap (inserted k.entries) is ∙ inserted_base x k.entries (fs ++ r.entries) f.0 ∙ sym (inserted_more x k.entries (fs ++ r.entries) f.0) ∙ ap (λ es. inserted es (fs ++ r.entries)) (sym from) in
+    let f = more_fresh x k.entries (fs ++ r.entries) (subst (λ es. Rises (insert_all es (fs ++ r.entries))) from m.rises) in
+    let e = ap (insert_all k.entries) is ∙ inserted_base x k.entries (fs ++ r.entries) f.0 ∙ sym (inserted_more x k.entries (fs ++ r.entries) f.0) ∙ ap (λ es. insert_all es (fs ++ r.entries)) (sym from) in
     let n = sym (length-append gs q.entries) ∙ ap length is ∙ length_insert x (fs ++ r.entries) in
     let o = length-append fs r.entries in
     let p = ap length from ∙ length_insert x k.entries in
@@ -226,7 +226,7 @@ one_moves clock fs gs r q l k x m from now grows is =
       e,
     )
 
-pub all_moved : (clock room next : ℕ) (fs gs : List Entry) (r q l k : Heap) → IsDelayed clock room fs r l → inserted k.entries (gs ++ q.entries) ≡ inserted l.entries (fs ++ r.entries)
+pub all_moved : (clock room next : ℕ) (fs gs : List Entry) (r q l k : Heap) → IsDelayed clock room fs r l → insert_all k.entries (gs ++ q.entries) ≡ insert_all l.entries (fs ++ r.entries)
     → AllDue next (gs ++ q.entries) → NoneDue next k.entries → r.room ≤ q.room → k.room ≡ l.room → IsDelayed next room gs q k
 all_moved clock room next fs gs r q l k d e due none grows same =
     let a = counted gs q.entries k.entries in let b = counted fs r.entries l.entries in let n = ap length e in let c = d.count in let m = d.ready_room in
@@ -242,7 +242,7 @@ all_moved clock room next fs gs r q l k d e due none grows same =
 
 -- ---- what is read
 
-pub due_here : (clock room : ℕ) (fs : List Entry) (r l : Heap) → IsDelayed clock room fs r l → filter (is_due clock) (inserted l.entries (fs ++ r.entries)) ≡ fs ++ r.entries
+pub due_here : (clock room : ℕ) (fs : List Entry) (r l : Heap) → IsDelayed clock room fs r l → filter (is_due clock) (insert_all l.entries (fs ++ r.entries)) ≡ fs ++ r.entries
 due_here clock room fs r l d = due_is clock l.entries (fs ++ r.entries) d.not_due d.due
 
 pub none_here : {A : Type 0} (xs : List A) (n : ℕ) → n ≡ length xs → n ≡ 0 → xs ≡ []
@@ -258,10 +258,10 @@ get_front (x ∷ xs) ys (suc i) lt = get_front xs ys i (omega (arith, lt))
 pub record Popped (clock room : ℕ) (gs : List Entry) (q l : Heap) (o : Option Entry) (es : List Entry) : Type 0 where
   pub delayed : IsDelayed clock room gs q l
   pub first : o ≡ slice_get (filter (is_due clock) es) 0
-  pub left : MatchOption o (inserted l.entries (gs ++ q.entries) ≡ es) (λ e. inserted l.entries (gs ++ q.entries) ≡ without e.version es)
+  pub left : MatchOption o (insert_all l.entries (gs ++ q.entries) ≡ es) (λ e. insert_all l.entries (gs ++ q.entries) ≡ without e.version es)
 
 pub popped : (clock room : ℕ) (fs gs : List Entry) (r q l : Heap) (o : Option Entry) → IsDelayed clock room fs r l → fs ≡ [] → fs ≡ gs → q.room ≡ r.room → o ≡ slice_get r.entries 0 → q.entries ≡ drop 1 r.entries
-    → Popped clock room gs q l o (inserted l.entries (fs ++ r.entries))
+    → Popped clock room gs q l o (insert_all l.entries (fs ++ r.entries))
 popped clock room fs gs r q l o d empty same room_is first rest = by r.entries refl
   where
     alone : (es : List Entry) → fs ++ es ≡ es
@@ -270,7 +270,7 @@ popped clock room fs gs r q l o d empty same room_is first rest = by r.entries r
     here : gs ≡ []
     here = sym same ∙ empty
 
-    by : (es : List Entry) → r.entries ≡ es → Popped clock room gs q l o (inserted l.entries (fs ++ r.entries))
+    by : (es : List Entry) → r.entries ≡ es → Popped clock room gs q l o (insert_all l.entries (fs ++ r.entries))
     by [] is =
         let none : q.entries ≡ r.entries = rest ∙ ap (drop 1) is ∙ sym is in
         let m = moved clock room fs gs r q l d (ap (λ xs. xs ++ q.entries) (sym same) ∙ ap (λ es. fs ++ es) none) room_is in
@@ -278,7 +278,7 @@ popped clock room fs gs r q l o d empty same room_is first rest = by r.entries r
         record {
           delayed = m.delayed;
           first = none_is ∙ sym (ap (λ es. slice_get es 0) (due_here clock room fs r l d ∙ alone r.entries ∙ is));
-          left = subst (λ p. MatchOption p (inserted l.entries (gs ++ q.entries) ≡ inserted l.entries (fs ++ r.entries)) (λ e. inserted l.entries (gs ++ q.entries) ≡ without e.version (inserted l.entries (fs ++ r.entries)))) (sym none_is) m.entries;
+          left = subst (λ p. MatchOption p (insert_all l.entries (gs ++ q.entries) ≡ insert_all l.entries (fs ++ r.entries)) (λ e. insert_all l.entries (gs ++ q.entries) ≡ without e.version (insert_all l.entries (fs ++ r.entries)))) (sym none_is) m.entries;
         }
     by (x ∷ xs) is =
         let next : q.entries ≡ xs = rest ∙ ap (drop 1) is in
@@ -287,7 +287,7 @@ popped clock room fs gs r q l o d empty same room_is first rest = by r.entries r
         record {
           delayed = t.delayed;
           first = some_is ∙ sym (ap (λ es. slice_get es 0) (due_here clock room fs r l d ∙ alone r.entries ∙ is));
-          left = subst (λ p. MatchOption p (inserted l.entries (gs ++ q.entries) ≡ inserted l.entries (fs ++ r.entries)) (λ e. inserted l.entries (gs ++ q.entries) ≡ without e.version (inserted l.entries (fs ++ r.entries)))) (sym some_is) t.entries;
+          left = subst (λ p. MatchOption p (insert_all l.entries (gs ++ q.entries) ≡ insert_all l.entries (fs ++ r.entries)) (λ e. insert_all l.entries (gs ++ q.entries) ≡ without e.version (insert_all l.entries (fs ++ r.entries)))) (sym some_is) t.entries;
         }
 
 -- the same, as callers see it

@@ -10,7 +10,7 @@ use Rattle.std.proofs.lemmas.List.Sorted.{IsPermutation-map}
 use Rattle.relay_delay.specs.declared.entry.Entry.{Entry}
 use Rattle.relay_delay.specs.declared.later.ByDue.{ByDue}
 use Rattle.relay_delay.specs.Waiting.{Delays, insert, is_due, sooner, first_due, due_entries, due_in}
-use Rattle.relay_delay.specs.Heaps.{Heap, sorted, inserted, by_due, later_items, NoneDue, IsDelayed}
+use Rattle.relay_delay.specs.Heaps.{Heap, sort, insert_all, by_due, later_items, NoneDue, IsDelayed}
 use Rattle.relay_delay.proofs.Sorting.{Mem, by_place, mem_moved}
 use Rattle.relay_delay.proofs.Delaying.{due_here, none_here}
 
@@ -26,18 +26,18 @@ first_due_insert x [] = refl
 first_due_insert x (e ∷ es) = by_place (λ xs. first_due xs ≡ sooner x.due (first_due (e ∷ es))) x e es (λ lt. refl)
     (λ le. ap (sooner e.due) (first_due_insert x es) ∙ sooner_swaps e.due x.due (first_due es))
 
-pub first_due_sorted : (es : List Entry) → first_due (sorted es) ≡ first_due es
+pub first_due_sorted : (es : List Entry) → first_due (sort es) ≡ first_due es
 first_due_sorted [] = refl
-first_due_sorted (e ∷ es) = first_due_insert e (sorted es) ∙ ap (sooner e.due) (first_due_sorted es)
+first_due_sorted (e ∷ es) = first_due_insert e (sort es) ∙ ap (sooner e.due) (first_due_sorted es)
 
-pub first_due_alone : (xs : List Entry) → first_due (inserted xs []) ≡ first_due xs
+pub first_due_alone : (xs : List Entry) → first_due (insert_all xs []) ≡ first_due xs
 first_due_alone [] = refl
-first_due_alone (x ∷ xs) = first_due_insert x (inserted xs []) ∙ ap (sooner x.due) (first_due_alone xs)
+first_due_alone (x ∷ xs) = first_due_insert x (insert_all xs []) ∙ ap (sooner x.due) (first_due_alone xs)
 
-pub first_due_inserted : (xs es : List Entry) (m n : ℕ) → first_due es ≡ Some m → m ≤ n → (k : ℕ) × (first_due (inserted xs es) ≡ Some k) × (k ≤ n)
+pub first_due_inserted : (xs es : List Entry) (m n : ℕ) → first_due es ≡ Some m → m ≤ n → (k : ℕ) × (first_due (insert_all xs es) ≡ Some k) × (k ≤ n)
 first_due_inserted [] es m n e le = (m, e, le)
 first_due_inserted (x ∷ xs) es m n e le = let ih = first_due_inserted xs es m n e le in
-    (min x.due ih.0, first_due_insert x (inserted xs es) ∙ ap (sooner x.due) ih.1, let l = ih.2 in omega (arith, l))
+    (min x.due ih.0, first_due_insert x (insert_all xs es) ∙ ap (sooner x.due) ih.1, let l = ih.2 in omega (arith, l))
 
 abbrev AtLeast : ℕ → Option ℕ → Type 0
 AtLeast d None = Unit {0}
@@ -67,10 +67,10 @@ least_items : (t : ByDue) (xs : List ByDue) → IsUpperBound by_due t xs → All
 least_items t [] u = tt
 least_items t (x ∷ xs) u = (ge_from_not_lt x.0.due t.0.due u.0, least_items t xs u.1)
 
-pub later_first_due : (t : ByDue) (xs : List ByDue) → Mem t.0 (later_items xs) → IsUpperBound by_due t xs → first_due (sorted (later_items xs)) ≡ Some t.0.due
+pub later_first_due : (t : ByDue) (xs : List ByDue) → Mem t.0 (later_items xs) → IsUpperBound by_due t xs → first_due (sort (later_items xs)) ≡ Some t.0.due
 later_first_due t xs m u = first_due_sorted (later_items xs) ∙ first_due_least t.0 (later_items xs) m (least_items t xs u)
 
-pub later_pop_due : (t : ByDue) (xs ys : List ByDue) → IsPermutation xs (t ∷ ys) → IsUpperBound by_due t xs → first_due (sorted (later_items xs)) ≡ Some t.0.due
+pub later_pop_due : (t : ByDue) (xs ys : List ByDue) → IsPermutation xs (t ∷ ys) → IsUpperBound by_due t xs → first_due (sort (later_items xs)) ≡ Some t.0.due
 later_pop_due t xs ys p u = later_first_due t xs (mem_moved (later_items xs) (t.0 ∷ later_items ys) (IsPermutation-map (λ (b : ByDue). b.0) xs (t ∷ ys) p) t.0 (inl refl)) u
 
 -- ---- before the first due tick none is due
@@ -134,11 +134,11 @@ after_clock clock m (x ∷ xs) n e = by (first_due xs) (leb-false x.due clock n.
     by (Some k) lt f q = let is : m ≡ min x.due k = cc in let l = f k refl in omega (arith, is, lt, l)
 
 -- none is due yet
-pub due_later : (clock room : ℕ) (fs : List Entry) (r l : Heap) (o : Option ℕ) (d : Delays) → IsDelayed clock room fs r l → ◌≡◌ {A = Delays} (record { clock = clock; room = room; entries = inserted l.entries (fs ++ r.entries) }) d
+pub due_later : (clock room : ℕ) (fs : List Entry) (r l : Heap) (o : Option ℕ) (d : Delays) → IsDelayed clock room fs r l → ◌≡◌ {A = Delays} (record { clock = clock; room = room; entries = insert_all l.entries (fs ++ r.entries) }) d
     → length (due_entries d) ≤ 0 → o ≡ first_due l.entries → option_map (λ due. due - clock) o ≡ due_in d
 due_later clock room fs r l o d delayed shown few is =
     let n = ap (λ (s : Delays). length (due_entries s)) shown in
     let m = ap length (due_here clock room fs r l delayed) in
     let none = none_here (fs ++ r.entries) (length (due_entries d)) (sym n ∙ m) (omega (arith, few)) in
-    ap (option_map (λ due. due - clock)) (is ∙ sym (ap (λ es. first_due (inserted l.entries es)) none ∙ first_due_alone l.entries))
+    ap (option_map (λ due. due - clock)) (is ∙ sym (ap (λ es. first_due (insert_all l.entries es)) none ∙ first_due_alone l.entries))
     ∙ ap due_in shown

@@ -11,7 +11,7 @@ use Rattle.relay_delay.specs.declared.entry.Entry.{Entry}
 use Rattle.relay_delay.specs.declared.ready.ByVersion.{ByVersion}
 use Rattle.relay_delay.specs.declared.later.ByDue.{ByDue}
 use Rattle.relay_delay.specs.Waiting.{AllAbove, Rises, has_version, insert}
-use Rattle.relay_delay.specs.Heaps.{Heap, sorted, same_version, by_version, by_due, ready_items, later_items, IsReady, IsLater, AllUpTo, AllFrom, StartsUpTo, Leads}
+use Rattle.relay_delay.specs.Heaps.{Heap, sort, same_version, by_version, by_due, ready_items, later_items, IsReady, IsLater, AllUpTo, AllFrom, StartsUpTo, Leads}
 use Rattle.relay_delay.proofs.Sorting.{above_insert, rises_insert, distinct_cons, distinct_head, distinct_moved, sorted_moved, sorted_fresh, insert_front, fresh_head, fresh_tail, strict, length_sorted}
 use Rattle.relay_delay.proofs.Delaying.{insert_behind, none_here}
 
@@ -19,33 +19,33 @@ pub on_ok : {A E : Type 0} (r : Result A E) (P : Type 0) → IsOk r → OnOk r P
 on_ok (Ok x) P is p = p
 on_ok (Err e) P is p = absurd (cc)
 
-push_distinct : (one : Entry) (xs ys : List Entry) → IsPermutation (one ∷ xs) ys → IsDistinct same_version xs → has_version one.version (sorted xs) ≡ false → IsDistinct same_version ys
+push_distinct : (one : Entry) (xs ys : List Entry) → IsPermutation (one ∷ xs) ys → IsDistinct same_version xs → has_version one.version (sort xs) ≡ false → IsDistinct same_version ys
 push_distinct one xs ys p d f = distinct_moved (one ∷ xs) ys p (distinct_cons one xs (sorted_fresh one.version xs f) d)
 
-push_entries : (one : Entry) (xs ys : List Entry) → IsPermutation (one ∷ xs) ys → IsDistinct same_version xs → has_version one.version (sorted xs) ≡ false → sorted ys ≡ insert one (sorted xs)
+push_entries : (one : Entry) (xs ys : List Entry) → IsPermutation (one ∷ xs) ys → IsDistinct same_version xs → has_version one.version (sort xs) ≡ false → sort ys ≡ insert one (sort xs)
 push_entries one xs ys p d f = sym (sorted_moved (one ∷ xs) ys p (distinct_cons one xs (sorted_fresh one.version xs f) d))
 
 pop_distinct : (one : Entry) (xs ys : List Entry) → IsPermutation xs (one ∷ ys) → IsDistinct same_version xs → IsDistinct same_version ys
 pop_distinct one xs ys p d = IsDistinct-tail same_version one ys (distinct_moved xs (one ∷ ys) p d)
 
-pop_entries : (one : Entry) (xs ys : List Entry) → IsPermutation xs (one ∷ ys) → IsDistinct same_version xs → sorted xs ≡ insert one (sorted ys)
+pop_entries : (one : Entry) (xs ys : List Entry) → IsPermutation xs (one ∷ ys) → IsDistinct same_version xs → sort xs ≡ insert one (sort ys)
 pop_entries one xs ys p d = sorted_moved xs (one ∷ ys) p d
 
 -- ---- those that are due
 
-above_sorted : (v : ℕ) (es : List Entry) → AllAbove v es → AllAbove v (sorted es)
+above_sorted : (v : ℕ) (es : List Entry) → AllAbove v es → AllAbove v (sort es)
 above_sorted v [] a = tt
-above_sorted v (e ∷ es) a = above_insert v e (sorted es) a.0 (above_sorted v es a.1)
+above_sorted v (e ∷ es) a = above_insert v e (sort es) a.0 (above_sorted v es a.1)
 
 strictly : (x : Entry) (es : List Entry) → AllFrom x.version es → has_version x.version es ≡ false → AllAbove x.version es
 strictly x [] a f = tt
 strictly x (e ∷ es) a f = (strict x.version e.version a.0 (λ q. fresh_head x.version e es f (sym q)), strictly x es a.1 (fresh_tail x.version e es f))
 
 -- one that is no higher than any other is the first
-pop_first : (one : Entry) (xs ys : List Entry) → IsPermutation xs (one ∷ ys) → IsDistinct same_version xs → AllFrom one.version ys → sorted xs ≡ one ∷ sorted ys
+pop_first : (one : Entry) (xs ys : List Entry) → IsPermutation xs (one ∷ ys) → IsDistinct same_version xs → AllFrom one.version ys → sort xs ≡ one ∷ sort ys
 pop_first one xs ys p d a =
     let f = distinct_head one ys (distinct_moved xs (one ∷ ys) p d) in
-    pop_entries one xs ys p d ∙ insert_front one (sorted ys) (above_sorted one.version ys (strictly one ys a f))
+    pop_entries one xs ys p d ∙ insert_front one (sort ys) (above_sorted one.version ys (strictly one ys a f))
 
 from_more : (v w : ℕ) (es : List Entry) → v ≤ w → AllFrom w es → AllFrom v es
 from_more v w [] le a = tt
@@ -73,11 +73,11 @@ heap_more : (one : ByVersion) (xs ys : List ByVersion) (line : List Entry) → I
 heap_more one xs ys line p = IsPermutation-append_left line (ready_items (one ∷ xs)) (ready_items ys) (IsPermutation-map (λ (b : ByVersion). b.0) (one ∷ xs) ys p)
 
 pub heap_pushed : (one : ByVersion) (xs ys : List ByVersion) (line : List Entry) → IsPermutation (one ∷ xs) ys → IsHeap by_version ys → IsReady xs line
-    → has_version one.0.version (sorted (ready_items xs ++ line)) ≡ false → IsReady ys line
+    → has_version one.0.version (sort (ready_items xs ++ line)) ≡ false → IsReady ys line
 heap_pushed one xs ys line p h r f = record { order = h; rises = r.rises; distinct = push_distinct one.0 (ready_items xs ++ line) (ready_items ys ++ line) (heap_more one xs ys line p) r.distinct f }
 
 pub heap_push_entries : (one : ByVersion) (xs ys : List ByVersion) (line : List Entry) → IsPermutation (one ∷ xs) ys → IsReady xs line
-    → has_version one.0.version (sorted (ready_items xs ++ line)) ≡ false → sorted (ready_items ys ++ line) ≡ insert one.0 (sorted (ready_items xs ++ line))
+    → has_version one.0.version (sort (ready_items xs ++ line)) ≡ false → sort (ready_items ys ++ line) ≡ insert one.0 (sort (ready_items xs ++ line))
 heap_push_entries one xs ys line p r f = push_entries one.0 (ready_items xs ++ line) (ready_items ys ++ line) (heap_more one xs ys line p) r.distinct f
 
 -- ---- one more behind the line
@@ -89,7 +89,7 @@ line_more one es line =
     (IsPermutation-sym ((es ++ line) ++ one ∷ []) (one ∷ ((es ++ line) ++ [])) (IsPermutation-middle (es ++ line) one [])))
 
 pub line_pushed : (one : Entry) (bs : List ByVersion) (line next : List Entry) → IsReady bs line → AllUpTo one.version line
-    → has_version one.version (sorted (ready_items bs ++ line)) ≡ false → next ≡ line ++ one ∷ [] → IsReady bs next
+    → has_version one.version (sort (ready_items bs ++ line)) ≡ false → next ≡ line ++ one ∷ [] → IsReady bs next
 line_pushed one bs line next r a f is =
     let g = fresh_behind one.version (ready_items bs) line (sorted_fresh one.version (ready_items bs ++ line) f) in
     subst (IsReady bs) (sym is) (record {
@@ -99,7 +99,7 @@ line_pushed one bs line next r a f is =
     })
 
 pub line_push_entries : (one : Entry) (bs : List ByVersion) (line : List Entry) → IsReady bs line
-    → has_version one.version (sorted (ready_items bs ++ line)) ≡ false → sorted (ready_items bs ++ (line ++ one ∷ [])) ≡ insert one (sorted (ready_items bs ++ line))
+    → has_version one.version (sort (ready_items bs ++ line)) ≡ false → sort (ready_items bs ++ (line ++ one ∷ [])) ≡ insert one (sort (ready_items bs ++ line))
 line_push_entries one bs line r f = push_entries one (ready_items bs ++ line) (ready_items bs ++ (line ++ one ∷ [])) (line_more one (ready_items bs) line) r.distinct f
 
 -- ---- which of both has the first
@@ -129,7 +129,7 @@ under_top one [] line e l = subst (AllFrom one.0.version) (sym l) tt
 under_top one (x ∷ xs) line e l = subst (λ (t : ByVersion). AllFrom t.0.version line) (sym e) l
 
 pub heap_pop_entries : (one : ByVersion) (xs ys : List ByVersion) (line : List Entry) → IsPermutation xs (one ∷ ys) → IsReady xs line → IsUpperBound by_version one ys
-    → one ≡ slice_index_or xs 0 one → Leads (ready_items xs) line → sorted (ready_items xs ++ line) ≡ one.0 ∷ sorted (ready_items ys ++ line)
+    → one ≡ slice_index_or xs 0 one → Leads (ready_items xs) line → sort (ready_items xs ++ line) ≡ one.0 ∷ sort (ready_items ys ++ line)
 heap_pop_entries one xs ys line p r u e l =
     pop_first one.0 (ready_items xs ++ line) (ready_items ys ++ line) (heap_less one xs ys line p) r.distinct
     (from_both one.0.version (ready_items ys) line (from_top one ys u) (under_top one xs line e l))
@@ -141,12 +141,12 @@ line_popped bs [] r = r
 line_popped bs (x ∷ xs) r = record { order = r.order; rises = r.rises.1; distinct = pop_distinct x (ready_items bs ++ x ∷ xs) (ready_items bs ++ xs) (IsPermutation-middle (ready_items bs) x xs) r.distinct }
 
 pub record FromLine (bs : List ByVersion) (line : List Entry) : Type 0 where
-  pub first : slice_get line 0 ≡ slice_get (sorted (ready_items bs ++ line)) 0
-  pub rest : sorted (ready_items bs ++ drop 1 line) ≡ drop 1 (sorted (ready_items bs ++ line))
+  pub first : slice_get line 0 ≡ slice_get (sort (ready_items bs ++ line)) 0
+  pub rest : sort (ready_items bs ++ drop 1 line) ≡ drop 1 (sort (ready_items bs ++ line))
 
 pub line_pop_entries : (bs : List ByVersion) (line : List Entry) → IsReady bs line → Leads line (ready_items bs) → FromLine bs line
 line_pop_entries bs [] r l =
-    let e : sorted (ready_items bs ++ []) ≡ [] = ap (λ es. sorted (es ++ [])) l in
+    let e : sort (ready_items bs ++ []) ≡ [] = ap (λ es. sort (es ++ [])) l in
     record { first = sym (ap (λ es. slice_get es 0) e); rest = e ∙ sym (ap (drop 1) e) }
 line_pop_entries bs (x ∷ xs) r l =
     let e = pop_first x (ready_items bs ++ x ∷ xs) (ready_items bs ++ xs) (IsPermutation-middle (ready_items bs) x xs) r.distinct (from_both x.version (ready_items bs) xs l (from_above x.version xs r.rises.0)) in
@@ -158,16 +158,16 @@ popped_is (Some x) line rest n m is e c = sym (ap (λ es. slice_get es 0) e)
 
 -- ---- those that are not
 
-pub later_pushed : (one : ByDue) (xs ys : List ByDue) → IsPermutation (one ∷ xs) ys → IsHeap by_due ys → IsLater xs → has_version one.0.version (sorted (later_items xs)) ≡ false → IsLater ys
+pub later_pushed : (one : ByDue) (xs ys : List ByDue) → IsPermutation (one ∷ xs) ys → IsHeap by_due ys → IsLater xs → has_version one.0.version (sort (later_items xs)) ≡ false → IsLater ys
 later_pushed one xs ys p h r f = record { order = h; distinct = push_distinct one.0 (later_items xs) (later_items ys) (IsPermutation-map (λ (b : ByDue). b.0) (one ∷ xs) ys p) r.distinct f }
 
-pub later_push_entries : (one : ByDue) (xs ys : List ByDue) → IsPermutation (one ∷ xs) ys → IsLater xs → has_version one.0.version (sorted (later_items xs)) ≡ false → sorted (later_items ys) ≡ insert one.0 (sorted (later_items xs))
+pub later_push_entries : (one : ByDue) (xs ys : List ByDue) → IsPermutation (one ∷ xs) ys → IsLater xs → has_version one.0.version (sort (later_items xs)) ≡ false → sort (later_items ys) ≡ insert one.0 (sort (later_items xs))
 later_push_entries one xs ys p r f = push_entries one.0 (later_items xs) (later_items ys) (IsPermutation-map (λ (b : ByDue). b.0) (one ∷ xs) ys p) r.distinct f
 
 pub later_popped : (one : ByDue) (xs ys : List ByDue) → IsPermutation xs (one ∷ ys) → IsHeap by_due ys → IsLater xs → IsLater ys
 later_popped one xs ys p h r = record { order = h; distinct = pop_distinct one.0 (later_items xs) (later_items ys) (IsPermutation-map (λ (b : ByDue). b.0) xs (one ∷ ys) p) r.distinct }
 
-pub later_pop_entries : (one : ByDue) (xs ys : List ByDue) → IsPermutation xs (one ∷ ys) → IsLater xs → sorted (later_items xs) ≡ insert one.0 (sorted (later_items ys))
+pub later_pop_entries : (one : ByDue) (xs ys : List ByDue) → IsPermutation xs (one ∷ ys) → IsLater xs → sort (later_items xs) ≡ insert one.0 (sort (later_items ys))
 later_pop_entries one xs ys p r = pop_entries one.0 (later_items xs) (later_items ys) (IsPermutation-map (λ (b : ByDue). b.0) xs (one ∷ ys) p) r.distinct
 
 -- ---- none
@@ -195,14 +195,14 @@ items_length : {A : Type 0} (f : A → Entry) (xs : List A) → length (map f xs
 items_length f [] = refl
 items_length f (x ∷ xs) = let ih = items_length f xs in omega (arith, ih)
 
-pub ready_length : (bs : List ByVersion) (line : List Entry) → length (sorted (ready_items bs ++ line)) ≡ length bs + length line
+pub ready_length : (bs : List ByVersion) (line : List Entry) → length (sort (ready_items bs ++ line)) ≡ length bs + length line
 ready_length bs line =
     let s = length_sorted (ready_items bs ++ line) in
     let a = length-append (ready_items bs) line in
     let i = items_length (λ (b : ByVersion). b.0) bs in
     omega (arith, s, a, i)
 
-pub later_length : (xs : List ByDue) → length (sorted (later_items xs)) ≡ length xs
+pub later_length : (xs : List ByDue) → length (sort (later_items xs)) ≡ length xs
 later_length xs = length_sorted (later_items xs) ∙ items_length (λ (b : ByDue). b.0) xs
 
 -- what a heap shows has none of the version, so what it holds has none

@@ -9,7 +9,7 @@ use Rattle.std.proofs.lemmas.List.Sorted.{IsPermutation-sym}
 use Rattle.std.proofs.lemmas.Map.Keys.{IsDistinct-IsPermutation, IsDistinct-head, IsDistinct-tail, IsDistinct-cons}
 use Rattle.relay_delay.specs.declared.entry.Entry.{Entry}
 use Rattle.relay_delay.specs.Waiting.{AllAbove, Rises, has_version, insert, without}
-use Rattle.relay_delay.specs.Heaps.{sorted, inserted, same_version}
+use Rattle.relay_delay.specs.Heaps.{sort, insert_all, same_version}
 
 -- it is one of them
 abbrev pub Mem : Entry → List Entry → Type 0
@@ -42,9 +42,9 @@ pub length_insert : (x : Entry) (es : List Entry) → length (insert x es) ≡ l
 length_insert x [] = omega arith
 length_insert x (e ∷ es) = by_place (λ xs. length xs ≡ length (e ∷ es) + 1) x e es (λ lt. omega arith) (λ le. let ih = length_insert x es in omega (arith, ih))
 
-pub length_sorted : (es : List Entry) → length (sorted es) ≡ length es
+pub length_sorted : (es : List Entry) → length (sort es) ≡ length es
 length_sorted [] = refl
-length_sorted (e ∷ es) = let l = length_insert e (sorted es) in let ih = length_sorted es in omega (arith, l, ih)
+length_sorted (e ∷ es) = let l = length_insert e (sort es) in let ih = length_sorted es in omega (arith, l, ih)
 
 pub mem_insert : (y x : Entry) (es : List Entry) → Mem y (x ∷ es) → Mem y (insert x es)
 mem_insert y x [] m = m
@@ -56,15 +56,15 @@ insert_mem y x [] m = m
 insert_mem y x (e ∷ es) m = by_place (λ xs. Mem y xs → Mem y (x ∷ e ∷ es)) x e es (λ lt n. n)
     (λ le n. ⊎_elim (λ q. inr (inl q)) (λ k. ⊎_elim (λ q. inl q) (λ j. inr (inr j)) (insert_mem y x es k)) n) m
 
-pub mem_sorted : (y : Entry) (es : List Entry) → Mem y es → Mem y (sorted es)
+pub mem_sorted : (y : Entry) (es : List Entry) → Mem y es → Mem y (sort es)
 mem_sorted y [] m = m
-mem_sorted y (e ∷ es) m = mem_insert y e (sorted es) (⊎_elim (λ q. inl q) (λ n. inr (mem_sorted y es n)) m)
+mem_sorted y (e ∷ es) m = mem_insert y e (sort es) (⊎_elim (λ q. inl q) (λ n. inr (mem_sorted y es n)) m)
 
-pub sorted_mem : (y : Entry) (es : List Entry) → Mem y (sorted es) → Mem y es
+pub sorted_mem : (y : Entry) (es : List Entry) → Mem y (sort es) → Mem y es
 sorted_mem y [] m = m
-sorted_mem y (e ∷ es) m = ⊎_elim (λ q. inl q) (λ n. inr (sorted_mem y es n)) (insert_mem y e (sorted es) m)
+sorted_mem y (e ∷ es) m = ⊎_elim (λ q. inl q) (λ n. inr (sorted_mem y es n)) (insert_mem y e (sort es) m)
 
--- two that differ may be inserted in either order
+-- two that differ may be insert_all in either order
 pub insert_commutes : (x y : Entry) (es : List Entry) → (x.version ≡ y.version → ⊥) → insert x (insert y es) ≡ insert y (insert x es)
 insert_commutes x y [] n = ⊎_elim {C = insert x (y ∷ []) ≡ insert y (x ∷ [])}
     (λ t. let lt = ltb-true x.version y.version t in insert_before x y [] lt ∙ sym (insert_past y x [] (omega (arith, lt))))
@@ -110,13 +110,13 @@ insert_fresh v x (e ∷ es) f = by_place (λ xs. has_version v xs ≡ false → 
     (λ le g. let ih = insert_fresh v x es (fresh_tail v e (insert x es) g) in
     fresh_cons v x (e ∷ es) (fresh_head v x es ih) (fresh_cons v e es (fresh_head v e (insert x es) g) (fresh_tail v x es ih))) f
 
-pub sorted_fresh : (v : ℕ) (es : List Entry) → has_version v (sorted es) ≡ false → has_version v es ≡ false
+pub sorted_fresh : (v : ℕ) (es : List Entry) → has_version v (sort es) ≡ false → has_version v es ≡ false
 sorted_fresh v [] f = f
-sorted_fresh v (e ∷ es) f = let g = insert_fresh v e (sorted es) f in fresh_cons v e es (fresh_head v e (sorted es) g) (sorted_fresh v es (fresh_tail v e (sorted es) g))
+sorted_fresh v (e ∷ es) f = let g = insert_fresh v e (sort es) f in fresh_cons v e es (fresh_head v e (sort es) g) (sorted_fresh v es (fresh_tail v e (sort es) g))
 
-pub fresh_sorted : (v : ℕ) (es : List Entry) → has_version v es ≡ false → has_version v (sorted es) ≡ false
+pub fresh_sorted : (v : ℕ) (es : List Entry) → has_version v es ≡ false → has_version v (sort es) ≡ false
 fresh_sorted v [] f = f
-fresh_sorted v (e ∷ es) f = fresh_insert v e (sorted es) (fresh_cons v e (sorted es) (fresh_head v e es f) (fresh_sorted v es (fresh_tail v e es f)))
+fresh_sorted v (e ∷ es) f = fresh_insert v e (sort es) (fresh_cons v e (sort es) (fresh_head v e es f) (fresh_sorted v es (fresh_tail v e es f)))
 
 pub fresh_above : (v : ℕ) (es : List Entry) → AllAbove v es → has_version v es ≡ false
 fresh_above v [] a = refl
@@ -220,9 +220,9 @@ version_flips a b = ⊎_elim {C = same_version a b ≡ same_version b a}
     (λ f. let n = eqb-false a.version b.version f in f ∙ sym (ne_eqb b.version a.version (λ q. n (sym q))))
     (cases_Bool (same_version a b))
 
-pub rises_sorted : (es : List Entry) → IsDistinct same_version es → Rises (sorted es)
+pub rises_sorted : (es : List Entry) → IsDistinct same_version es → Rises (sort es)
 rises_sorted [] d = tt
-rises_sorted (e ∷ es) d = rises_insert e (sorted es) (fresh_sorted e.version es (distinct_head e es d)) (rises_sorted es (IsDistinct-tail same_version e es d))
+rises_sorted (e ∷ es) d = rises_insert e (sort es) (fresh_sorted e.version es (distinct_head e es d)) (rises_sorted es (IsDistinct-tail same_version e es d))
 
 -- each is one of them
 own : (xs ys : List Entry) → ((z : Entry) → Mem z xs → Mem z ys) → AllByRecursion (λ z. Mem z ys) xs
@@ -240,29 +240,29 @@ pub distinct_moved : (xs ys : List Entry) → IsPermutation xs ys → IsDistinct
 distinct_moved xs ys p d = IsDistinct-IsPermutation same_version version_flips xs ys p d
 
 -- insertion makes one list of them, in whatever order they come
-pub sorted_moved : (xs ys : List Entry) → IsPermutation xs ys → IsDistinct same_version xs → sorted xs ≡ sorted ys
-sorted_moved xs ys p d = one_list (sorted xs) (sorted ys) (rises_sorted xs d) (rises_sorted ys (distinct_moved xs ys p d))
+pub sorted_moved : (xs ys : List Entry) → IsPermutation xs ys → IsDistinct same_version xs → sort xs ≡ sort ys
+sorted_moved xs ys p d = one_list (sort xs) (sort ys) (rises_sorted xs d) (rises_sorted ys (distinct_moved xs ys p d))
     (λ z m. mem_sorted z ys (mem_moved ys xs (IsPermutation-sym xs ys p) z (sorted_mem z xs m)))
     (λ z m. mem_sorted z xs (mem_moved xs ys p z (sorted_mem z ys m)))
 
 -- ---- two lists, one put into the other
 
-pub length_inserted : (xs es : List Entry) → length (inserted xs es) ≡ length xs + length es
+pub length_inserted : (xs es : List Entry) → length (insert_all xs es) ≡ length xs + length es
 length_inserted [] es = omega arith
-length_inserted (x ∷ xs) es = let l = length_insert x (inserted xs es) in let ih = length_inserted xs es in omega (arith, l, ih)
+length_inserted (x ∷ xs) es = let l = length_insert x (insert_all xs es) in let ih = length_inserted xs es in omega (arith, l, ih)
 
-pub inserted_fresh : (v : ℕ) (xs es : List Entry) → has_version v (inserted xs es) ≡ false → (has_version v xs ≡ false) × (has_version v es ≡ false)
+pub inserted_fresh : (v : ℕ) (xs es : List Entry) → has_version v (insert_all xs es) ≡ false → (has_version v xs ≡ false) × (has_version v es ≡ false)
 inserted_fresh v [] es f = (refl, f)
-inserted_fresh v (x ∷ xs) es f = let g = insert_fresh v x (inserted xs es) f in let ih = inserted_fresh v xs es (fresh_tail v x (inserted xs es) g) in
-    (fresh_cons v x xs (fresh_head v x (inserted xs es) g) ih.0, ih.1)
+inserted_fresh v (x ∷ xs) es f = let g = insert_fresh v x (insert_all xs es) f in let ih = inserted_fresh v xs es (fresh_tail v x (insert_all xs es) g) in
+    (fresh_cons v x xs (fresh_head v x (insert_all xs es) g) ih.0, ih.1)
 
 -- one more in the list that the others are put into
-pub inserted_base : (x : Entry) (xs es : List Entry) → has_version x.version xs ≡ false → inserted xs (insert x es) ≡ insert x (inserted xs es)
+pub inserted_base : (x : Entry) (xs es : List Entry) → has_version x.version xs ≡ false → insert_all xs (insert x es) ≡ insert x (insert_all xs es)
 inserted_base x [] es f = refl
-inserted_base x (y ∷ ys) es f = ap (insert y) (inserted_base x ys es (fresh_tail x.version y ys f)) ∙ insert_commutes y x (inserted ys es) (fresh_head x.version y ys f)
+inserted_base x (y ∷ ys) es f = ap (insert y) (inserted_base x ys es (fresh_tail x.version y ys f)) ∙ insert_commutes y x (insert_all ys es) (fresh_head x.version y ys f)
 
 -- one more in the list that is put into the other
-pub inserted_more : (x : Entry) (xs es : List Entry) → has_version x.version xs ≡ false → inserted (insert x xs) es ≡ insert x (inserted xs es)
+pub inserted_more : (x : Entry) (xs es : List Entry) → has_version x.version xs ≡ false → insert_all (insert x xs) es ≡ insert x (insert_all xs es)
 inserted_more x [] es f = refl
-inserted_more x (y ∷ ys) es f = by_place (λ zs. inserted zs es ≡ insert x (inserted (y ∷ ys) es)) x y ys (λ lt. refl)
-    (λ le. ap (insert y) (inserted_more x ys es (fresh_tail x.version y ys f)) ∙ insert_commutes y x (inserted ys es) (fresh_head x.version y ys f))
+inserted_more x (y ∷ ys) es f = by_place (λ zs. insert_all zs es ≡ insert x (insert_all (y ∷ ys) es)) x y ys (λ lt. refl)
+    (λ le. ap (insert y) (inserted_more x ys es (fresh_tail x.version y ys f)) ∙ insert_commutes y x (insert_all ys es) (fresh_head x.version y ys f))

@@ -14,14 +14,14 @@ pub record Heap : Type 0 where
   pub room : ℕ
   pub entries : List Entry
 
-abbrev pub sorted : List Entry → List Entry
-sorted [] = []
-sorted (e ∷ es) = insert e (sorted es)
+abbrev pub sort : List Entry → List Entry
+sort [] = []
+sort (e ∷ es) = insert e (sort es)
 
--- the first list, inserted one by one into the other
-abbrev pub inserted : List Entry → List Entry → List Entry
-inserted [] es = es
-inserted (x ∷ xs) es = insert x (inserted xs es)
+-- the first list, insert_all one by one into the other
+abbrev pub insert_all : List Entry → List Entry → List Entry
+insert_all [] es = es
+insert_all (x ∷ xs) es = insert x (insert_all xs es)
 
 abbrev pub same_version : Entry → Entry → Bool
 same_version a b = a.version == b.version
@@ -74,13 +74,13 @@ Leads (x ∷ xs) es = AllFrom x.version es
 
 -- while the clock advances: those in front and those that are ready are due, and some of the others may be
 pub record IsMoving (clock : ℕ) (front : List Entry) (ready later : Heap) : Type 0 where
-  pub rises : Rises (inserted later.entries (front ++ ready.entries))
+  pub rises : Rises (insert_all later.entries (front ++ ready.entries))
   pub due : AllDue clock (front ++ ready.entries)
   pub count : length front + length ready.entries + length later.entries ≤ ready.room
 
 -- the due ones are those in front and then those that are ready; the others are later
 pub record IsDelayed (clock room : ℕ) (front : List Entry) (ready later : Heap) : Type 0 where
-  pub rises : Rises (inserted later.entries (front ++ ready.entries))
+  pub rises : Rises (insert_all later.entries (front ++ ready.entries))
   pub due : AllDue clock (front ++ ready.entries)
   pub not_due : NoneDue clock later.entries
   pub ready_room : room ≤ ready.room

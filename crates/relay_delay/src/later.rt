@@ -63,12 +63,12 @@ pub struct Later {
 
 impl Model for Later {
     ghost use Rattle.std.specs.BinaryHeap.{heap_items, heap_capacity};
-    ghost use Rattle.relay_delay.specs.Heaps.{Heap, sorted, later_items, IsLater};
+    ghost use Rattle.relay_delay.specs.Heaps.{Heap, sort, later_items, IsLater};
 
     ghost Value = { Heap };
 
     ghost view = { λ l. record
-        { room = heap_capacity l.heap; entries = sorted (later_items (heap_items l.heap)) } };
+        { room = heap_capacity l.heap; entries = sort (later_items (heap_items l.heap)) } };
 
     ghost invariant = { λ l. IsLater (heap_items l.heap) };
 }

@@ -4,7 +4,7 @@ ghost use Rattle.std.specs.Prelude.{IfOk, OnOk, OnErr, MatchOption};
 ghost use Rattle.std.specs.VecDeque.{deque_capacity};
 ghost use Rattle.relay_delay.specs.Waiting.{insert, without, has_version, due_entries, due_in};
 ghost use Rattle.relay_delay.specs.Waiting.{Rises};
-ghost use Rattle.relay_delay.specs.Heaps.{inserted, AllDue, NoneDue, AllUpTo, IsMoving};
+ghost use Rattle.relay_delay.specs.Heaps.{insert_all, AllDue, NoneDue, AllUpTo, IsMoving};
 
 use crate::entry::Entry;
 use crate::later::Later;
@@ -31,14 +31,14 @@ pub struct DelayQueue {
 impl Model for DelayQueue {
     ghost use Rattle.std.specs.Prelude.{◌++◌};
     ghost use Rattle.relay_delay.specs.Waiting.{Delays};
-    ghost use Rattle.relay_delay.specs.Heaps.{inserted, IsDelayed};
+    ghost use Rattle.relay_delay.specs.Heaps.{insert_all, IsDelayed};
 
     ghost Value = { Delays };
 
     ghost view = { λ d. record {
       clock = d.clock;
       room = d.room;
-      entries = inserted d.later.entries
+      entries = insert_all d.later.entries
           (d.front.items ++ d.ready.entries);
     } };
 
@@ -112,8 +112,8 @@ fn place(front: &VecDeque<Entry>, at: usize) -> Option<Entry>
 // Moves the operations that are due at this tick to the other due ones.
 fn come_due(front: &mut VecDeque<Entry>, ready: &mut Ready, later: &mut Later, clock: u64)
     requires { IsMoving clock front.old.items ready.old later.old }
-    ensures same { inserted later.new.entries (front.new.items ++ ready.new.entries)
-        ≡ inserted later.old.entries (front.old.items ++ ready.old.entries) }
+    ensures same { insert_all later.new.entries (front.new.items ++ ready.new.entries)
+        ≡ insert_all later.old.entries (front.old.items ++ ready.old.entries) }
     ensures due { AllDue clock (front.new.items ++ ready.new.entries) }
     ensures none { NoneDue clock later.new.entries }
     ensures ready_room { ready.old.room ≤ ready.new.room }

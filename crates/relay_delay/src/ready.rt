@@ -73,13 +73,13 @@ impl Model for Ready {
     ghost use Rattle.std.specs.Prelude.{◌++◌, min};
     ghost use Rattle.std.specs.VecDeque.{deque_capacity};
     ghost use Rattle.std.specs.BinaryHeap.{heap_items, heap_capacity};
-    ghost use Rattle.relay_delay.specs.Heaps.{Heap, sorted, ready_items, IsReady};
+    ghost use Rattle.relay_delay.specs.Heaps.{Heap, sort, ready_items, IsReady};
 
     ghost Value = { Heap };
 
     ghost view = { λ r. record {
       room = min (deque_capacity r.line) (heap_capacity r.heap);
-      entries = sorted
+      entries = sort
           (ready_items (heap_items r.heap) ++ r.line.items);
     } };
 

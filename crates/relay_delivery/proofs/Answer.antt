@@ -15,7 +15,7 @@ use Rattle.relay_results.specs.Laws.{Says}
 use Rattle.relay_results.specs.declared.cause.Cause.TheVariants as cause
 use Rattle.relay_delivery.specs.Causes.{carries, is_try, CarriedAt, IsAnswered, IsTrueOf}
 use Rattle.relay_results.proofs.Same.{same_write-self}
-use Rattle.relay_delivery.specs.Machine.{Config, Core, Held, Place, Report, write_of, report_on, landed, halved, kept, reported, writes_or, settle, how_many, is_applied_fate, is_already_fate}
+use Rattle.relay_delivery.specs.Machine.{Config, Core, Held, Place, Report, write_of, report_on, back_to_wait, with_cap, still_held, reports_of, writes_or, settle, how_many, is_applied_fate, is_already_fate}
 use Rattle.relay_results.proofs.Fates.{says_as, halved_retried, honest_entry}
 use Rattle.relay_results.proofs.Lists.{equal, equal_or_not, at-Mem, Mem-cases, Mem-left, Mem-right, at-update-cases, at-update_same, at-update_other, true_or_false, count-update, count-update_at, count-append, count_some, some_same}
 use Rattle.relay_delivery.proofs.Facts.{IsSent, HeldFact, RunFact, IndexFact, ReportFact, IsSomewhere, CoreFacts, is_report_as}
@@ -158,7 +158,7 @@ module _ (g : Config) (past : Write → Type 0) (c : Core) (f : CoreFacts g past
   says : (h : Held) → (w : IsHere g number q.writes a h) → (t : Fate) → turn g number q.writes a h ≡ t → SaysOf h w.place t
   says h w t e = says_as (record { sends = h.sends; attempts = h.attempts; max = g.max }) q.writes w.place (kind_of h.op.action) a t (sym w.fate_is ∙ e)
 
-  held-landed : (h : Held) → Mem h c.held → (w : IsHere g number q.writes a h) → turn g number q.writes a h ≡ Retried → HeldFact g c.taken new (landed h)
+  held-landed : (h : Held) → Mem h c.held → (w : IsHere g number q.writes a h) → turn g number q.writes a h ≡ Retried → HeldFact g c.taken new (back_to_wait h)
   held-landed h m w t =
       let k = f.held h m in
       record {
@@ -170,7 +170,7 @@ module _ (g : Config) (past : Write → Type 0) (c : Core) (f : CoreFacts g past
         last = λ x s doc. k.last x (sent_answered c.outside.requests number a x s) doc;
       }
 
-  held-halved : (h : Held) → Mem h c.held → (w : IsHere g number q.writes a h) (cap : ℕ) → turn g number q.writes a h ≡ Halved cap → HeldFact g c.taken new (halved cap h)
+  held-halved : (h : Held) → Mem h c.held → (w : IsHere g number q.writes a h) (cap : ℕ) → turn g number q.writes a h ≡ Halved cap → HeldFact g c.taken new (with_cap cap h)
   held-halved h m w cap t =
       let k = f.held h m in
       let s = says h w (Halved cap) t in
@@ -316,18 +316,18 @@ module _ (g : Config) (past : Write → Type 0) (c : Core) (f : CoreFacts g past
   -- ---- all together
 
   abbrev held_after : List Held
-  held_after = kept g number q.writes a c.held
+  held_after = still_held g number q.writes a c.held
 
-  kept_of : (k : Held) → Mem k (kept g number q.writes a c.held) → (h : Held) × Mem h c.held × StaysAs (turn g number q.writes a h) h k × (k.version ≡ h.version)
+  kept_of : (k : Held) → Mem k (still_held g number q.writes a c.held) → (h : Held) × Mem h c.held × StaysAs (turn g number q.writes a h) h k × (k.version ≡ h.version)
   kept_of k m =
       let h = kept-from g number q.writes a c.held k m in
       (h.0, h.1, h.2, kept_version (turn g number q.writes a h.0) h.0 k h.2)
 
-  -- what stays held is not reported
+  -- what stays held is not reports_of
   not_reported : (t : Fate) (h k : Held) (e : Cause) → StaysAs t h k → t ≡ Reported e → ⊥
   not_reported t h k e s r = ⊎_elim {C = ⊥} (λ y. let z = y.0 in cc (z, r)) (λ s. ⊎_elim {C = ⊥} (λ y. let z = y.0 in cc (z, r)) (λ y. let z = y.1 in cc (z, r)) s) s
 
-  report-stays : (r : Report) → ReportFact g c.taken c.held c.outside r → ReportFact g c.taken (kept g number q.writes a c.held) later r
+  report-stays : (r : Report) → ReportFact g c.taken c.held c.outside r → ReportFact g c.taken (still_held g number q.writes a c.held) later r
   report-stays r x = ⊎_elim
       (λ s. inl s)
       (λ s. inr (record {
@@ -341,7 +341,7 @@ module _ (g : Config) (past : Write → Type 0) (c : Core) (f : CoreFacts g past
       }))
       x
 
-  new_report : (h : Held) → Mem h c.held → (e : Cause) → turn g number q.writes a h ≡ Reported e → ReportFact g c.taken (kept g number q.writes a c.held) later (report_on h.op e)
+  new_report : (h : Held) → Mem h c.held → (e : Cause) → turn g number q.writes a h ≡ Reported e → ReportFact g c.taken (still_held g number q.writes a c.held) later (report_on h.op e)
   new_report h m e t = ⊎_elim
       (λ w. absurd (cc (t, w.stays)))
       (λ w. inr (record {
@@ -379,9 +379,9 @@ module _ (g : Config) (past : Write → Type 0) (c : Core) (f : CoreFacts g past
   index-stays k h = record { sent = λ w m. sent-stays w (h.sent w m); document = h.document; rising = h.rising; above = h.above; from = h.from }
 
   abbrev settled_core : Core
-  settled_core = record { taken = c.taken; held = kept g number q.writes a c.held; reports = c.reports ++ reported g number q.writes a c.held; applied = c.applied + how_many is_applied_fate g number q.writes a c.held; already = c.already + how_many is_already_fate g number q.writes a c.held; outside = later }
+  settled_core = record { taken = c.taken; held = still_held g number q.writes a c.held; reports = c.reports ++ reports_of g number q.writes a c.held; applied = c.applied + how_many is_applied_fate g number q.writes a c.held; already = c.already + how_many is_already_fate g number q.writes a c.held; outside = later }
 
-  held_kept : (k : Held) → Mem k (kept g number q.writes a c.held) → HeldFact g c.taken new k
+  held_kept : (k : Held) → Mem k (still_held g number q.writes a c.held) → HeldFact g c.taken new k
   held_kept k m =
       let h = kept-from g number q.writes a c.held k m in
       ⊎_elim
@@ -401,7 +401,7 @@ module _ (g : Config) (past : Write → Type 0) (c : Core) (f : CoreFacts g past
       s)
       h.2
 
-  alone_kept : (k l : Held) → Mem k (kept g number q.writes a c.held) → Mem l (kept g number q.writes a c.held) → k.version ≡ l.version → k ≡ l
+  alone_kept : (k l : Held) → Mem k (still_held g number q.writes a c.held) → Mem l (still_held g number q.writes a c.held) → k.version ≡ l.version → k ≡ l
   unfolding kept_of
   alone_kept k l mk ml e =
       let h = kept-from g number q.writes a c.held k mk in
@@ -423,12 +423,12 @@ module _ (g : Config) (past : Write → Type 0) (c : Core) (f : CoreFacts g past
       (λ y. inl (record { held_op = y.0; is_in = y.1; version = y.2 ∙ h.version }))
       (λ z. ⊎_elim
       (λ y. inr (inl (record { write = write_of h.held_op; is_in = subst (λ p. Mem (write_of h.held_op) (c.outside.applied (document_of p.key))) same (ended h.held_op h.is_in y); version = h.version })))
-      (λ y. inr (inr (record { report = report_on h.held_op.op y.0; is_in = Mem-right (report_on h.held_op.op y.0) c.reports (reported g number q.writes a c.held) y.1; name = ap (λ p. (report_on p y.0).name) same })))
+      (λ y. inr (inr (record { report = report_on h.held_op.op y.0; is_in = Mem-right (report_on h.held_op.op y.0) c.reports (reports_of g number q.writes a c.held) y.1; name = ap (λ p. (report_on p y.0).name) same })))
       z)
       (goes_to g number q.writes a c.held h.held_op h.is_in))
       (λ z. ⊎_elim
       (λ y. inr (inl y))
-      (λ p. inr (inr (record { report = p.report; is_in = Mem-left p.report c.reports (reported g number q.writes a c.held) p.is_in; name = p.name })))
+      (λ p. inr (inr (record { report = p.report; is_in = Mem-left p.report c.reports (reports_of g number q.writes a c.held) p.is_in; name = p.name })))
       z)
       x
 
@@ -445,16 +445,16 @@ module _ (g : Config) (past : Write → Type 0) (c : Core) (f : CoreFacts g past
         (λ old. report-stays r (f.reports r old))
         (λ y.
         let h = reported-from g number q.writes a c.held r y in
-        subst (λ z. ReportFact g c.taken (kept g number q.writes a c.held) later z) (sym h.2.2) (new_report h.0 h.1 h.2.0 h.2.1))
-        (Mem-cases r c.reports (reported g number q.writes a c.held) m);
+        subst (λ z. ReportFact g c.taken (still_held g number q.writes a c.held) later z) (sym h.2.2) (new_report h.0 h.1 h.2.0 h.2.1))
+        (Mem-cases r c.reports (reports_of g number q.writes a c.held) m);
     apart = λ n.
-        let e = count-append (is_report_as n) c.reports (reported g number q.writes a c.held) in
+        let e = count-append (is_report_as n) c.reports (reports_of g number q.writes a c.held) in
         let s = count-settled g number q.writes a n c.held in
         let b = f.apart n in omega arith;
     totals =
         let t = f.totals in
         let e = totals-settled g number q.writes a c.held in
-        let r = length-append c.reports (reported g number q.writes a c.held) in
+        let r = length-append c.reports (reports_of g number q.writes a c.held) in
         omega (arith, t, r, e);
     nothing_lost = λ place o s. somewhere place o s (f.nothing_lost place o s);
   }
@@ -466,8 +466,8 @@ pub answer_keeps : (g : Config) (past : Write → Type 0) (c : Core) (f : CoreFa
 answer_keeps g past c f number a may =
     subst (λ p. CoreFacts g past (record {
       taken = c.taken;
-      held = kept g number (writes_or p) a c.held;
-      reports = c.reports ++ reported g number (writes_or p) a c.held;
+      held = still_held g number (writes_or p) a c.held;
+      reports = c.reports ++ reports_of g number (writes_or p) a c.held;
       applied = c.applied + how_many is_applied_fate g number (writes_or p) a c.held;
       already = c.already + how_many is_already_fate g number (writes_or p) a c.held;
       outside = record { requests = update number (with_answer a) c.outside.requests; runs = c.outside.runs; stored = c.outside.stored; before = c.outside.before; applied = c.outside.applied };

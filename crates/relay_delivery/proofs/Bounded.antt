@@ -10,7 +10,7 @@ use Rattle.relay_results.specs.Outside.{Answer, Request, Ran, Outside, MayRun, M
 use Rattle.relay_results.specs.Outside as outside
 use Rattle.relay_results.proofs.Steps.{step_runs_item}
 use Rattle.relay_results.specs.Fates.{Fate, Flies, Applied, Already, Retried, Halved, Reported}
-use Rattle.relay_delivery.specs.Machine.{Config, Core, Held, Place, Step, Takes, Sends, Runs, Answers, write_of, held_at, held_if, place_of, launched_at, launched, kept_one, kept, writes_or, step, steps_of, MaySend, MayStep, AllMayStep, CameAbout}
+use Rattle.relay_delivery.specs.Machine.{Config, Core, Held, Place, Step, Takes, Sends, Runs, Answers, write_of, held_at, held_if, place_of, launched_at, after_launch, kept_one, still_held, writes_or, step, steps_of, MaySend, MayStep, AllMayStep, CameAbout}
 use Rattle.relay_delivery.specs.Bound.{IsDraining, AllDraining, sent_of, tries_left, halvings, WithinTriesLeft, FewRequests}
 use Rattle.relay_results.proofs.Lists.{Mem-cases, Mem-one, Mem-map, length-update, at-left, at-last, at-Mem, at-update_same, at-update_other, equal_or_not, some_same}
 use Rattle.relay_delivery.proofs.Dealt.{with_answer}
@@ -91,7 +91,7 @@ less_at : (max n : ℕ) (h : Held) (p : Option ℕ) → (max - (launched_at n h 
 less_at max n h None = omega arith
 less_at max n h (Some p) = omega arith
 
-left-sent : (max n : ℕ) (chosen hs : List Held) → tries_left max (map (launched n chosen) hs) ≤ tries_left max hs
+left-sent : (max n : ℕ) (chosen hs : List Held) → tries_left max (map (after_launch n chosen) hs) ≤ tries_left max hs
 left-sent max n chosen [] = omega arith
 left-sent max n chosen (h ∷ hs) = let r = left-sent max n chosen hs in let l = less_at max n h (place_of h.version chosen) in omega (arith, r, l)
 
@@ -99,9 +99,9 @@ fewer_at : (max n : ℕ) (h : Held) (chosen : List Held) (p : Option ℕ) → pl
 fewer_at max n h chosen None e m lt = absurd (no_place chosen h.version e h m refl)
 fewer_at max n h chosen (Some p) e m lt = omega (arith, lt)
 
-left-less : (max n : ℕ) (chosen hs : List Held) (h : Held) → Mem h hs → Mem h chosen → h.attempts < max → tries_left max (map (launched n chosen) hs) + 1 ≤ tries_left max hs
+left-less : (max n : ℕ) (chosen hs : List Held) (h : Held) → Mem h hs → Mem h chosen → h.attempts < max → tries_left max (map (after_launch n chosen) hs) + 1 ≤ tries_left max hs
 left-less max n chosen [] h m k lt = absurd m
-left-less max n chosen (j ∷ hs) h m k lt = ⊎_elim {C = tries_left max (map (launched n chosen) (j ∷ hs)) + 1 ≤ tries_left max (j ∷ hs)}
+left-less max n chosen (j ∷ hs) h m k lt = ⊎_elim {C = tries_left max (map (after_launch n chosen) (j ∷ hs)) + 1 ≤ tries_left max (j ∷ hs)}
     (λ e.
     let k' = subst (λ x. Mem x chosen) e k in
     let lt' = subst (λ (x : Held). x.attempts < max) e lt in
@@ -124,7 +124,7 @@ left_one max (Reported c) h rest f = omega arith
 
 -- the answered request
 module _ (g : Config) (requests : List Request) (number : ℕ) (q : Request) (stands : slice_get requests number ≡ Some q) (a : Answer) where
-  -- what is halved flew in it, which kept its cap
+  -- what is halved flew in it, which still_held its cap
   cap_falls : (h : Held) → HasTries g requests h → (cap : ℕ) → turn g number q.writes a h ≡ Halved cap → halvings cap + 1 ≤ halvings h.cap
   cap_falls h f cap t = ⊎_elim {C = halvings cap + 1 ≤ halvings h.cap}
       (λ w. absurd (cc (t, w.stays)))
@@ -139,11 +139,11 @@ module _ (g : Config) (requests : List Request) (number : ℕ) (q : Request) (st
       subst (λ x. halvings x + 1 ≤ halvings h.cap) (sym s.2) l)
       (away_or_here g number q.writes a h)
 
-  pub left-kept : (hs : List Held) → HaveTries g requests hs → tries_left g.max (kept g number q.writes a hs) ≤ tries_left g.max hs
+  pub left-kept : (hs : List Held) → HaveTries g requests hs → tries_left g.max (still_held g number q.writes a hs) ≤ tries_left g.max hs
   left-kept [] f = omega arith
   left-kept (h ∷ hs) f =
       let r = left-kept hs (λ k m. f k (inr m)) in
-      let l = left_one g.max (turn g number q.writes a h) h (kept g number q.writes a hs) (cap_falls h (f h (inl refl))) in omega (arith, r, l)
+      let l = left_one g.max (turn g number q.writes a h) h (still_held g number q.writes a hs) (cap_falls h (f h (inl refl))) in omega (arith, r, l)
 
   -- what flies in another request is not touched
   flying_on : (h : Held) (p : Place) → FliesWithin requests h p → FliesWithin (update number (with_answer a) requests) h p
@@ -152,7 +152,7 @@ module _ (g : Config) (requests : List Request) (number : ℕ) (q : Request) (st
       (λ ne. record { request = y.request; sent = at-update_other number (with_answer a) requests p.request ne ∙ y.sent; within = y.within })
       (equal_or_not p.request number)
 
-  kept_tries : 0 < g.max → (hs : List Held) → HaveTries g requests hs → HaveTries g (update number (with_answer a) requests) (kept g number q.writes a hs)
+  kept_tries : 0 < g.max → (hs : List Held) → HaveTries g requests hs → HaveTries g (update number (with_answer a) requests) (still_held g number q.writes a hs)
   kept_tries some hs f k m =
       let h = kept-from g number q.writes a hs k m in
       let y = f h.0 h.1 in
@@ -184,14 +184,14 @@ step_tries g c facts (Takes o) may some f h m = ⊎_elim {C = HasTries g c.outsi
     (λ y. new_tries g c.outside.requests (nat_lt (length c.taken) g.deals) (length c.taken) o some h y)
     (Mem-cases h c.held (held_if (nat_lt (length c.taken) g.deals) g (length c.taken) o) m)
 step_tries g c facts (Sends chosen) may some f h m =
-    let k = Mem-map (launched (length c.outside.requests) chosen) h c.held m in
+    let k = Mem-map (after_launch (length c.outside.requests) chosen) h c.held m in
     subst (λ (z : Held). HasTries g (c.outside.requests ++ record { writes = map write_of chosen; answer = outside.Unanswered } ∷ []) z) (sym k.2) (sent_tries_at g c facts chosen may k.0 k.1 (place_of k.0.version chosen) refl (f k.0 k.1))
 step_tries g c facts (Runs r) may some f h m =
     let e = (step_runs_item c.outside (after (outside.Runs r) c.outside) (record { run = r; may = may; reached = refl })).requests in
     subst (λ qs. HasTries g qs h) (sym e) (f h m)
 step_tries g c facts (Answers number a) may some f h m =
     let e = answered_request c number a may in
-    kept_tries g c.outside.requests number may.request may.sent a some c.held f h (subst (λ ws. Mem h (kept g number ws a c.held)) e m)
+    kept_tries g c.outside.requests number may.request may.sent a some c.held f h (subst (λ ws. Mem h (still_held g number ws a c.held)) e m)
 
 steps_tries : (g : Config) (ss : List Step) (c : Core) → CoreFacts g none_past c → AllMayStep g ss c → 0 < g.max → HasAll g c → HasAll g (steps_of g ss c)
 steps_tries g [] c facts may some f = f
@@ -213,7 +213,7 @@ one_step g c (Runs r) f may d =
     let n = ap length e in omega (arith, n)
 one_step g c (Answers number a) f may d =
     let n = length-update number (with_answer a) c.outside.requests in
-    let e = ap (λ ws. tries_left g.max (kept g number ws a c.held)) (answered_request c number a may) in
+    let e = ap (λ ws. tries_left g.max (still_held g number ws a c.held)) (answered_request c number a may) in
     let l = left-kept g c.outside.requests number may.request may.sent a c.held f in omega (arith, n, e, l)
 
 drained : (g : Config) (ss : List Step) (c : Core) → CoreFacts g none_past c → 0 < g.max → HasAll g c → AllMayStep g ss c → AllDraining ss → sent_of (steps_of g ss c) + tries_left g.max (steps_of g ss c).held ≤ sent_of c + tries_left g.max c.held

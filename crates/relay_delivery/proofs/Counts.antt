@@ -17,9 +17,9 @@ use Rattle.relay_results.specs.Fates.{Fate, Flies, Applied, Already, Retried, Ha
 use Rattle.relay_results.proofs.Steps.{step_runs_item}
 use Rattle.relay_results.proofs.Lists.{none_some, true_or_false, equal, equal_test, some_same, at-Mem, at-left, at-cases, at-within, at-map, map-at, at-update-cases, at-update_other, Mem-left, Mem-right, Mem-cases, Mem-map, map-Mem, count-push, distinct_places, none_at, none_in}
 use Rattle.relay_delivery.specs.Causes.{carries}
-use Rattle.relay_delivery.specs.Machine.{Config, Core, Held, Place, Step, Takes, Sends, Runs, Answers, write_of, held_if, place_of, launched_at, launched, kept_one, kept, writes_or, how_many, is_applied_fate, is_already_fate, settle, step, steps_of, MaySend, MayStep, AllMayStep, IsFresh}
+use Rattle.relay_delivery.specs.Machine.{Config, Core, Held, Place, Step, Takes, Sends, Runs, Answers, write_of, held_if, place_of, launched_at, after_launch, kept_one, still_held, writes_or, how_many, is_applied_fate, is_already_fate, settle, step, steps_of, MaySend, MayStep, AllMayStep, IsFresh}
 use Rattle.relay_delivery.specs.Lane.{State, Fits}
-use Rattle.relay_delivery.specs.Counts.{PlaceTest, says_applied, says_already, entries_that, places_that, places_from, settled_applied, settled_already, CountsAlways, CountsWhereItFits}
+use Rattle.relay_delivery.specs.Counts.{PlaceTest, says_applied, says_already, entries_that, places_that, places_from, applied_answers, settled_already, CountsAlways, CountsWhereItFits}
 use Rattle.relay_delivery.proofs.Facts.{IsFlying, AreRising, CoreFacts}
 use Rattle.relay_delivery.proofs.Dealt.{with_answer, carries_its}
 use Rattle.relay_delivery.proofs.Take.{is_new_held}
@@ -144,7 +144,7 @@ pub record IsAtPlace (held : List Held) (w : Write) (f : Place) : Type 0 where
   pub write : write_of held_op ≡ w
 
 pub record Counted (requests : List Request) (held : List Held) (applied already : ℕ) : Type 0 where
-  pub applied_is : applied ≡ settled_applied requests
+  pub applied_is : applied ≡ applied_answers requests
   pub already_is : already ≡ settled_already requests
   pub last_sent : (h : Held) (f : Place) → Mem h held → h.flies ≡ Some f → count (carries (write_of h)) (first (suc f.request) requests) ≡ h.sends
   pub each_flies : (number place : ℕ) (q : Request) (w : Write) → slice_get requests number ≡ Some q → q.answer ≡ Unanswered → slice_get q.writes place ≡ Some w
@@ -207,20 +207,20 @@ module _ (g : Config) (c : Core) (facts : CoreFacts g none_past c) (k : Counted 
       let same = distinct_places (map (λ (j : Held). j.version) chosen) at place h.version may.distinct (at-map (λ (j : Held). j.version) chosen at h l.stands) (at-map (λ (j : Held). j.version) chosen place h s) in
       λ i. Some (record { request = length rs; place = same i })
 
-  send_counted : Counted (rs ++ new ∷ []) (map (launched (length rs) chosen) c.held) c.applied c.already
+  send_counted : Counted (rs ++ new ∷ []) (map (after_launch (length rs) chosen) c.held) c.applied c.already
   send_counted = record {
     applied_is = k.applied_is ∙ sym (from-push says_applied rs [] (map write_of chosen));
     already_is = k.already_is ∙ sym (from-push says_already rs [] (map write_of chosen));
     last_sent = λ h f m e.
-        let x = Mem-map (launched (length rs) chosen) h c.held m in
+        let x = Mem-map (after_launch (length rs) chosen) h c.held m in
         let y = launched_last x.0 f (place_of x.0.version chosen) refl x.1 (sym (ap (λ (z : Held). z.flies) x.2) ∙ e) in
         ap (λ w. count (carries w) (first (suc f.request) (rs ++ new ∷ []))) (ap write_of x.2 ∙ launched_write (length rs) x.0 (place_of x.0.version chosen)) ∙ y ∙ sym (ap (λ (z : Held). z.sends) x.2);
-    each_flies = λ number place q w s u at. ⊎_elim {C = IsAtPlace (map (launched (length rs) chosen) c.held) w (record { request = number; place = place })}
+    each_flies = λ number place q w s u at. ⊎_elim {C = IsAtPlace (map (after_launch (length rs) chosen) c.held) w (record { request = number; place = place })}
         (λ old.
         let y = k.each_flies number place q w old u at in
         record {
-          held_op = launched (length rs) chosen y.held_op;
-          is_in = map-Mem (launched (length rs) chosen) y.held_op c.held y.is_in;
+          held_op = after_launch (length rs) chosen y.held_op;
+          is_in = map-Mem (after_launch (length rs) chosen) y.held_op c.held y.is_in;
           flies = stays_flying y.held_op (record { request = number; place = place }) (place_of y.held_op.version chosen) refl y.is_in y.flies;
           write = launched_write (length rs) y.held_op (place_of y.held_op.version chosen) ∙ y.write;
         })
@@ -229,8 +229,8 @@ module _ (g : Config) (c : Core) (facts : CoreFacts g none_past c) (k : Counted 
         let h = map-at write_of chosen place w at' in
         let m = (may.eligible h.0 (at-Mem chosen place h.0 h.1)).is_held in
         record {
-          held_op = launched (length rs) chosen h.0;
-          is_in = map-Mem (launched (length rs) chosen) h.0 c.held m;
+          held_op = after_launch (length rs) chosen h.0;
+          is_in = map-Mem (after_launch (length rs) chosen) h.0 c.held m;
           flies = new_flies h.0 place (place_of h.0.version chosen) refl m h.1 ∙ (λ i. Some (record { request = sym r.0 i; place = place }));
           write = launched_write (length rs) h.0 (place_of h.0.version chosen) ∙ h.2;
         })
@@ -368,11 +368,11 @@ stays_head Retried h e = absurd (cc)
 stays_head (Halved cap) h e = absurd (cc)
 stays_head (Reported cause) h e = absurd (cc)
 
-pub stays_in : (g : Config) (number : ℕ) (ws : List Write) (a : Answer) (hs : List Held) (h : Held) → Mem h hs → turn g number ws a h ≡ Flies → Mem h (kept g number ws a hs)
+pub stays_in : (g : Config) (number : ℕ) (ws : List Write) (a : Answer) (hs : List Held) (h : Held) → Mem h hs → turn g number ws a h ≡ Flies → Mem h (still_held g number ws a hs)
 stays_in g number ws a [] h m e = elim m [ ]
-stays_in g number ws a (x ∷ hs) h m e = ⊎_elim {C = Mem h (kept g number ws a (x ∷ hs))}
-    (λ s. Mem-left h (kept_one (turn g number ws a x) x) (kept g number ws a hs) (subst (λ z. Mem z (kept_one (turn g number ws a x) x)) (sym s) (stays_head (turn g number ws a x) x (ap (turn g number ws a) (sym s) ∙ e))))
-    (λ l. Mem-right h (kept_one (turn g number ws a x) x) (kept g number ws a hs) (stays_in g number ws a hs h l e))
+stays_in g number ws a (x ∷ hs) h m e = ⊎_elim {C = Mem h (still_held g number ws a (x ∷ hs))}
+    (λ s. Mem-left h (kept_one (turn g number ws a x) x) (still_held g number ws a hs) (subst (λ z. Mem z (kept_one (turn g number ws a x) x)) (sym s) (stays_head (turn g number ws a x) x (ap (turn g number ws a) (sym s) ∙ e))))
+    (λ l. Mem-right h (kept_one (turn g number ws a x) x) (still_held g number ws a hs) (stays_in g number ws a hs h l e))
     m
 
 module _ (g : Config) (c : Core) (facts : CoreFacts g none_past c) (k : Counted c.outside.requests c.held c.applied c.already) (number : ℕ) (q : Request) (stands : slice_get c.outside.requests number ≡ Some q) (unanswered : q.answer ≡ Unanswered) (a : Answer) (answered : a ≡ Unanswered → ⊥) where
@@ -391,7 +391,7 @@ module _ (g : Config) (c : Core) (facts : CoreFacts g none_past c) (k : Counted 
       let f = from-answered test number requests [] q a stands unanswered in
       f ∙ ap (λ n. places_from test [] requests + n) (sym t)
 
-  settled_counted : Counted (update number (with_answer a) requests) (kept g number q.writes a c.held) (c.applied + how_many is_applied_fate g number q.writes a c.held) (c.already + how_many is_already_fate g number q.writes a c.held)
+  settled_counted : Counted (update number (with_answer a) requests) (still_held g number q.writes a c.held) (c.applied + how_many is_applied_fate g number q.writes a c.held) (c.already + how_many is_already_fate g number q.writes a c.held)
   settled_counted = record {
     applied_is = ap (λ n. n + how_many is_applied_fate g number q.writes a c.held) k.applied_is ∙ sym (added says_applied is_applied_fate of_applied);
     already_is = ap (λ n. n + how_many is_already_fate g number q.writes a c.held) k.already_is ∙ sym (added says_already is_already_fate of_already);
@@ -404,10 +404,10 @@ module _ (g : Config) (c : Core) (facts : CoreFacts g none_past c) (k : Counted 
         (λ y. let n = ap (λ (z : Held). z.flies) y.2 in absurd (cc (n, e)))
         s)
         x.2;
-    each_flies = λ m place p w s u at. ⊎_elim {C = IsAtPlace (kept g number q.writes a c.held) w (record { request = m; place = place })}
+    each_flies = λ m place p w s u at. ⊎_elim {C = IsAtPlace (still_held g number q.writes a c.held) w (record { request = m; place = place })}
         (λ l.
         let y = k.each_flies m place p w l.1 u at in
-        ⊎_elim {C = IsAtPlace (kept g number q.writes a c.held) w (record { request = m; place = place })}
+        ⊎_elim {C = IsAtPlace (still_held g number q.writes a c.held) w (record { request = m; place = place })}
         (λ z. record { held_op = y.held_op; is_in = stays_in g number q.writes a c.held y.held_op y.is_in z.stays; flies = y.flies; write = y.write })
         (λ z. absurd (l.0 (ap (λ (f : Place). f.request) (some_same (record { request = m; place = place }) (record { request = number; place = z.place }) (sym y.flies ∙ z.flies)))))
         (away_or_here g number q.writes a y.held_op))
@@ -422,7 +422,7 @@ CountedCore c = Counted c.outside.requests c.held c.applied c.already
 
 answer_counted : (g : Config) (c : Core) (facts : CoreFacts g none_past c) → CountedCore c → (number : ℕ) (a : Answer) → MayAnswer c.outside number a → CountedCore (settle g number a c)
 answer_counted g c facts k number a may =
-    subst (λ p. Counted (update number (with_answer a) c.outside.requests) (kept g number (writes_or p) a c.held) (c.applied + how_many is_applied_fate g number (writes_or p) a c.held) (c.already + how_many is_already_fate g number (writes_or p) a c.held)) (sym may.sent)
+    subst (λ p. Counted (update number (with_answer a) c.outside.requests) (still_held g number (writes_or p) a c.held) (c.applied + how_many is_applied_fate g number (writes_or p) a c.held) (c.already + how_many is_already_fate g number (writes_or p) a c.held)) (sym may.sent)
     (settled_counted g c facts k number may.request may.sent may.open_yet a (no_unanswered c.outside.runs number may.request.writes a may.honest))
 
 step_counted : (g : Config) (c : Core) (s : Step) → CoreFacts g none_past c → CountedCore c → MayStep s c → CountedCore (step g s c)
@@ -437,7 +437,7 @@ steps_counted g (s ∷ ss) c facts k may = steps_counted g ss (step g s c) (step
 
 fresh_counted : (g : Config) (c : Core) → IsFresh g c → CountedCore c
 fresh_counted g c s = record {
-  applied_is = s.applied ∙ sym (ap settled_applied s.opening.requests);
+  applied_is = s.applied ∙ sym (ap applied_answers s.opening.requests);
   already_is = s.already ∙ sym (ap settled_already s.opening.requests);
   last_sent = λ h f m e. absurd (none_in c.held h s.held m);
   each_flies = λ number place q w at u p. absurd (none_at c.outside.requests number q s.opening.requests at);
@@ -451,6 +451,6 @@ counts_always g c r =
 pub counts_where : CountsWhereItFits
 counts_where s taken out f =
     let k = counts_always s.config f.core f.came_about in (
-      f.is_of.applied ∙ k.0 ∙ ap (λ (o : Outside). settled_applied o.requests) f.outside,
+      f.is_of.applied ∙ k.0 ∙ ap (λ (o : Outside). applied_answers o.requests) f.outside,
       f.is_of.already ∙ k.1 ∙ ap (λ (o : Outside). settled_already o.requests) f.outside,
     )

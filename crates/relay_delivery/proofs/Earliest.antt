@@ -7,7 +7,7 @@ use Rattle.relay_results.specs.Words.{Mem}
 use Rattle.relay_results.specs.Documents.{document_of}
 use Rattle.relay_results.specs.Outside.{Answer}
 use Rattle.relay_results.proofs.Lists.{at-Mem, Mem-cases, Mem-map}
-use Rattle.relay_delivery.specs.Machine.{Config, Core, Held, Place, Step, Takes, Sends, Runs, Answers, held_if, place_of, launched_at, launched, kept, writes_or, step, steps_of, IsEligible, MayStep, AllMayStep}
+use Rattle.relay_delivery.specs.Machine.{Config, Core, Held, Place, Step, Takes, Sends, Runs, Answers, held_if, place_of, launched_at, after_launch, still_held, writes_or, step, steps_of, IsEligible, MayStep, AllMayStep}
 use Rattle.relay_delivery.specs.Delivery.{EarliestFlies, OneFlies}
 use Rattle.relay_delivery.proofs.Facts.{CoreFacts}
 use Rattle.relay_delivery.proofs.Dealt.{dealt_before}
@@ -47,10 +47,10 @@ module _ (hs chosen : List Held) (alone : (h j : Held) → Mem h hs → Mem j hs
       let l = launched_among hs chosen alone eligible h mh place e in
       (eligible h (at-Mem chosen place h l.stands)).first j mj doc
 
-  pub send_first : FliesFirst (map (launched n chosen) hs)
+  pub send_first : FliesFirst (map (after_launch n chosen) hs)
   send_first h j f mh mj flies doc =
-      let x = Mem-map (launched n chosen) h hs mh in
-      let y = Mem-map (launched n chosen) j hs mj in
+      let x = Mem-map (after_launch n chosen) h hs mh in
+      let y = Mem-map (after_launch n chosen) j hs mj in
       let vx : h.version ≡ x.0.version = ap (λ (z : Held). z.version) x.2 ∙ launched_version n x.0 (place_of x.0.version chosen) in
       let vy : j.version ≡ y.0.version = ap (λ (z : Held). z.version) y.2 ∙ launched_version n y.0 (place_of y.0.version chosen) in
       let ox : h.op ≡ x.0.op = ap (λ (z : Held). z.op) x.2 ∙ launched_op n x.0 (place_of x.0.version chosen) in
@@ -61,7 +61,7 @@ module _ (hs chosen : List Held) (alone : (h j : Held) → Mem h hs → Mem j hs
 
 -- ---- answer
 
-pub answer_first : (g : Config) (number : ℕ) (ws : List Write) (a : Answer) (hs : List Held) → FliesFirst hs → FliesFirst (kept g number ws a hs)
+pub answer_first : (g : Config) (number : ℕ) (ws : List Write) (a : Answer) (hs : List Held) → FliesFirst hs → FliesFirst (still_held g number ws a hs)
 answer_first g number ws a hs first h j f mh mj flies doc =
     let x = kept-from g number ws a hs h mh in
     let y = kept-from g number ws a hs j mj in

@@ -11,19 +11,19 @@ use Rattle.relay_results.specs.Outside.{Answer}
 use Rattle.relay_results.specs.Fates.{Fate, Flies, Applied, Already, Retried, Halved, Reported, fate}
 use Rattle.relay_results.proofs.Lists.{equal, equal_test, some_same, Mem-cases, Mem-left, Mem-right, Mem-one, count-append}
 use Rattle.relay_results.proofs.Fates.{retried_tries}
-use Rattle.relay_delivery.specs.Machine.{Config, Held, Place, Report, report_on, fate_of, landed, halved, kept_one, reported_one, kept, reported, is_applied_fate, is_already_fate, how_many}
+use Rattle.relay_delivery.specs.Machine.{Config, Held, Place, Report, report_on, fate_of, back_to_wait, with_cap, kept_one, reported_one, still_held, reports_of, is_applied_fate, is_already_fate, how_many}
 use Rattle.relay_delivery.proofs.Facts.{AreRising, is_held_as, is_report_as}
 
 -- what stays held of one: as it is, or waiting again, or waiting under a cap
 abbrev pub StaysAs : Fate → Held → Held → Type 0
-StaysAs t h k = ((t ≡ Flies) × (k ≡ h)) ⊎ (((t ≡ Retried) × (k ≡ landed h)) ⊎ ((cap : ℕ) × (t ≡ Halved cap) × (k ≡ halved cap h)))
+StaysAs t h k = ((t ≡ Flies) × (k ≡ h)) ⊎ (((t ≡ Retried) × (k ≡ back_to_wait h)) ⊎ ((cap : ℕ) × (t ≡ Halved cap) × (k ≡ with_cap cap h)))
 
 abbrev pub kept_as : Fate → Held → Held
 kept_as Flies h = h
 kept_as Applied h = h
 kept_as Already h = h
-kept_as Retried h = landed h
-kept_as (Halved cap) h = halved cap h
+kept_as Retried h = back_to_wait h
+kept_as (Halved cap) h = with_cap cap h
 kept_as (Reported e) h = h
 
 pub kept_is : (t : Fate) (h k : Held) → StaysAs t h k → k ≡ kept_as t h
@@ -58,20 +58,20 @@ kept_head : (t : Fate) (h k : Held) → Mem k (kept_one t h) → StaysAs t h k
 kept_head Flies h k m = inl (refl, Mem-one k h m)
 kept_head Applied h k m = elim m [ ]
 kept_head Already h k m = elim m [ ]
-kept_head Retried h k m = inr (inl (refl, Mem-one k (landed h) m))
-kept_head (Halved cap) h k m = inr (inr (cap, refl, Mem-one k (halved cap h) m))
+kept_head Retried h k m = inr (inl (refl, Mem-one k (back_to_wait h) m))
+kept_head (Halved cap) h k m = inr (inr (cap, refl, Mem-one k (with_cap cap h) m))
 kept_head (Reported e) h k m = elim m [ ]
 
 module _ (g : Config) (number : ℕ) (ws : List Write) (a : Answer) where
   abbrev pub turn : Held → Fate
   turn h = fate_of g number ws a h h.flies
 
-  pub kept-from : (hs : List Held) (k : Held) → Mem k (kept g number ws a hs) → (h : Held) × Mem h hs × StaysAs (turn h) h k
+  pub kept-from : (hs : List Held) (k : Held) → Mem k (still_held g number ws a hs) → (h : Held) × Mem h hs × StaysAs (turn h) h k
   kept-from [] k m = elim m [ ]
   kept-from (h ∷ hs) k m = ⊎_elim
       (λ l. (h, inl refl, kept_head (turn h) h k l))
       (λ r. let s = kept-from hs k r in (s.0, inr s.1, s.2))
-      (Mem-cases k (kept_one (turn h) h) (kept g number ws a hs) m)
+      (Mem-cases k (kept_one (turn h) h) (still_held g number ws a hs) m)
 
   reported_head : (t : Fate) (h : Held) (r : Report) → Mem r (reported_one t h) → (e : Cause) × (t ≡ Reported e) × (r ≡ report_on h.op e)
   reported_head Flies h r m = elim m [ ]
@@ -81,14 +81,14 @@ module _ (g : Config) (number : ℕ) (ws : List Write) (a : Answer) where
   reported_head (Halved cap) h r m = elim m [ ]
   reported_head (Reported e) h r m = (e, refl, Mem-one r (report_on h.op e) m)
 
-  pub reported-from : (hs : List Held) (r : Report) → Mem r (reported g number ws a hs) → (h : Held) × Mem h hs × ((e : Cause) × (turn h ≡ Reported e) × (r ≡ report_on h.op e))
+  pub reported-from : (hs : List Held) (r : Report) → Mem r (reports_of g number ws a hs) → (h : Held) × Mem h hs × ((e : Cause) × (turn h ≡ Reported e) × (r ≡ report_on h.op e))
   reported-from [] r m = elim m [ ]
   reported-from (h ∷ hs) r m = ⊎_elim
       (λ l. (h, inl refl, reported_head (turn h) h r l))
       (λ y. let s = reported-from hs r y in (s.0, inr s.1, s.2))
-      (Mem-cases r (reported_one (turn h) h) (reported g number ws a hs) m)
+      (Mem-cases r (reported_one (turn h) h) (reports_of g number ws a hs) m)
 
-  -- it stays held, or it is done, or it is reported
+  -- it stays held, or it is done, or it is reports_of
   abbrev pub GoesTo : Held → List Held → List Report → Type 0
   GoesTo h ks rs = ((k : Held) × Mem k ks × (k.version ≡ h.version)) ⊎ (((turn h ≡ Applied) ⊎ (turn h ≡ Already)) ⊎ ((e : Cause) × Mem (report_on h.op e) rs))
 
@@ -96,8 +96,8 @@ module _ (g : Config) (number : ℕ) (ws : List Write) (a : Answer) where
   goes_head Flies h e = inl (h, inl refl, refl)
   goes_head Applied h e = inr (inl (inl e))
   goes_head Already h e = inr (inl (inr e))
-  goes_head Retried h e = inl (landed h, inl refl, refl)
-  goes_head (Halved cap) h e = inl (halved cap h, inl refl, refl)
+  goes_head Retried h e = inl (back_to_wait h, inl refl, refl)
+  goes_head (Halved cap) h e = inl (with_cap cap h, inl refl, refl)
   goes_head (Reported cause) h e = inr (inr (cause, inl refl))
 
   goes_left : (h : Held) (ks ks' : List Held) (rs rs' : List Report) → GoesTo h ks rs → GoesTo h (ks ++ ks') (rs ++ rs')
@@ -106,12 +106,12 @@ module _ (g : Config) (number : ℕ) (ws : List Write) (a : Answer) where
   goes_right : (h : Held) (ks ks' : List Held) (rs rs' : List Report) → GoesTo h ks' rs' → GoesTo h (ks ++ ks') (rs ++ rs')
   goes_right h ks ks' rs rs' w = ⊎_elim (λ m. inl (m.0, Mem-right m.0 ks ks' m.1, m.2)) (λ r. inr (⊎_elim (λ e. inl e) (λ m. inr (m.0, Mem-right (report_on h.op m.0) rs rs' m.1)) r)) w
 
-  pub goes_to : (hs : List Held) (h : Held) → Mem h hs → GoesTo h (kept g number ws a hs) (reported g number ws a hs)
+  pub goes_to : (hs : List Held) (h : Held) → Mem h hs → GoesTo h (still_held g number ws a hs) (reports_of g number ws a hs)
   goes_to [] h m = elim m [ ]
   goes_to (k ∷ hs) h m = ⊎_elim
-      (λ e. subst (λ x. GoesTo x (kept g number ws a (k ∷ hs)) (reported g number ws a (k ∷ hs))) (sym e)
-      (goes_left k (kept_one (turn k) k) (kept g number ws a hs) (reported_one (turn k) k) (reported g number ws a hs) (goes_head (turn k) k refl)))
-      (λ r. goes_right h (kept_one (turn k) k) (kept g number ws a hs) (reported_one (turn k) k) (reported g number ws a hs) (goes_to hs h r))
+      (λ e. subst (λ x. GoesTo x (still_held g number ws a (k ∷ hs)) (reports_of g number ws a (k ∷ hs))) (sym e)
+      (goes_left k (kept_one (turn k) k) (still_held g number ws a hs) (reported_one (turn k) k) (reports_of g number ws a hs) (goes_head (turn k) k refl)))
+      (λ r. goes_right h (kept_one (turn k) k) (still_held g number ws a hs) (reported_one (turn k) k) (reports_of g number ws a hs) (goes_to hs h r))
       m
 
   count_head : (n : OpName) (t : Fate) (h : Held) → count (is_held_as n) (kept_one t h) + count (is_report_as n) (reported_one t h) ≤ one_if (same_name n (name_of h.op))
@@ -122,14 +122,14 @@ module _ (g : Config) (number : ℕ) (ws : List Write) (a : Answer) where
   count_head n (Halved cap) h = omega arith
   count_head n (Reported e) h = omega arith
 
-  -- none is held or reported twice for it
-  pub count-settled : (n : OpName) (hs : List Held) → count (is_held_as n) (kept g number ws a hs) + count (is_report_as n) (reported g number ws a hs) ≤ count (is_held_as n) hs
+  -- none is held or reports_of twice for it
+  pub count-settled : (n : OpName) (hs : List Held) → count (is_held_as n) (still_held g number ws a hs) + count (is_report_as n) (reports_of g number ws a hs) ≤ count (is_held_as n) hs
   count-settled n [] = omega arith
   count-settled n (h ∷ hs) =
       let r = count-settled n hs in
       let e = count_head n (turn h) h in
-      let k = count-append (is_held_as n) (kept_one (turn h) h) (kept g number ws a hs) in
-      let p = count-append (is_report_as n) (reported_one (turn h) h) (reported g number ws a hs) in
+      let k = count-append (is_held_as n) (kept_one (turn h) h) (still_held g number ws a hs) in
+      let p = count-append (is_report_as n) (reported_one (turn h) h) (reports_of g number ws a hs) in
       omega arith
 
   rising_head : (t : Fate) (h : Held) (ks : List Held) → ((k : Held) → Mem k ks → h.version < k.version) → AreRising ks → AreRising (kept_one t h ++ ks)
@@ -140,9 +140,9 @@ module _ (g : Config) (number : ℕ) (ws : List Write) (a : Answer) where
   rising_head (Halved cap) h ks above r = (above, r)
   rising_head (Reported e) h ks above r = r
 
-  pub rising-settled : (hs : List Held) → AreRising hs → AreRising (kept g number ws a hs)
+  pub rising-settled : (hs : List Held) → AreRising hs → AreRising (still_held g number ws a hs)
   rising-settled [] r = tt
-  rising-settled (h ∷ hs) r = rising_head (turn h) h (kept g number ws a hs)
+  rising-settled (h ∷ hs) r = rising_head (turn h) h (still_held g number ws a hs)
       (λ k m.
       let j = kept-from hs k m in
       let v = kept_version (turn j.0) j.0 k j.2 in
@@ -157,14 +157,14 @@ module _ (g : Config) (number : ℕ) (ws : List Write) (a : Answer) where
   totals_head (Halved cap) h = refl
   totals_head (Reported e) h = refl
 
-  -- each operation stays held, is done or is reported
-  pub totals-settled : (hs : List Held) → length (kept g number ws a hs) + (how_many is_applied_fate g number ws a hs + how_many is_already_fate g number ws a hs) + length (reported g number ws a hs) ≡ length hs
+  -- each operation stays held, is done or is reports_of
+  pub totals-settled : (hs : List Held) → length (still_held g number ws a hs) + (how_many is_applied_fate g number ws a hs + how_many is_already_fate g number ws a hs) + length (reports_of g number ws a hs) ≡ length hs
   totals-settled [] = refl
   totals-settled (h ∷ hs) =
       let r = totals-settled hs in
       let e = totals_head (turn h) h in
-      let k = length-append (kept_one (turn h) h) (kept g number ws a hs) in
-      let p = length-append (reported_one (turn h) h) (reported g number ws a hs) in
+      let k = length-append (kept_one (turn h) h) (still_held g number ws a hs) in
+      let p = length-append (reported_one (turn h) h) (reports_of g number ws a hs) in
       omega arith
 
   -- it does not fly in this request; or it flies there, and the answer has its fate

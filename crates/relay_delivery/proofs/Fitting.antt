@@ -14,9 +14,9 @@ use Rattle.relay_results.specs.Outside as outside
 use Rattle.relay_results.specs.Fates.{Fate, Flies, Applied, Already, Retried, Halved, Reported}
 use Rattle.relay_results.proofs.Same.{same_document-self}
 use Rattle.relay_results.proofs.Steps.{step_runs_item}
-use Rattle.relay_delivery.specs.Machine.{Config, Core, Held, Place, Step, Takes, Sends, Runs, Answers, held_if, spent_if, launched, fate_of, kept_one, kept, reported, how_many, is_applied_fate, is_already_fate, writes_or, step, KeepsCaps, IsEligible, MaySend, MayStep, CameAbout}
-use Rattle.relay_delivery.specs.Lane.{Entry, Flying, State, held_of, entry_if, taken_op, waits, is_candidate, candidates, launched_entry, writes_of_all, sent, kept_entry, kept_entries, is_other, settled, IsOf, writes_at, is_flying, answered, Fits, FreshFits, ClockFits, TakeFits, SendFits, RunFits, AnswerFits, SoundWhereItFits, CompleteWhereItFits, TotalWhereItFits, WritesWhereItFits, EarliestWhereItFits, OneFliesWhereItFits, tries_of, SendTakesTry, AnswerGivesNoTry}
-use Rattle.relay_delivery.specs.Delivery.{attributed, IsSound, IsComplete, IsDealtWrite}
+use Rattle.relay_delivery.specs.Machine.{Config, Core, Held, Place, Step, Takes, Sends, Runs, Answers, held_if, spent_if, after_launch, fate_of, kept_one, still_held, reports_of, how_many, is_applied_fate, is_already_fate, writes_or, step, KeepsCaps, IsEligible, MaySend, MayStep, CameAbout}
+use Rattle.relay_delivery.specs.Lane.{Entry, Flying, State, held_of, entry_if, taken_op, waits, is_candidate, candidates, launched_entry, writes_of_all, with_request, kept_entry, kept_entries, is_other, after_settling, IsOf, writes_at, is_flying, with_answer, Fits, FreshFits, ClockFits, TakeFits, SendFits, RunFits, AnswerFits, SoundWhereItFits, CompleteWhereItFits, TotalWhereItFits, WritesWhereItFits, EarliestWhereItFits, OneFliesWhereItFits, tries_of, SendTakesTry, AnswerGivesNoTry}
+use Rattle.relay_delivery.specs.Delivery.{applied_ops, IsSound, IsComplete, IsDealtWrite}
 use Rattle.relay_delivery.specs.Bound.{tries_left}
 use Rattle.relay_delivery.proofs.Bounded.{within_tries_left, left-kept, all_tries}
 use Rattle.relay_delivery.proofs.Earliest.{earliest_flies, one_flies}
@@ -109,16 +109,16 @@ module _ (past : Write → Type 0) (s : State) (c : Core) (chosen : List Entry) 
     caps = within;
   }
 
-pub held_launched : (n : ℕ) (hs : List Held) (es : List Entry) → held_of (map (launched_entry n hs) es) ≡ map (launched n hs) (held_of es)
+pub held_launched : (n : ℕ) (hs : List Held) (es : List Entry) → held_of (map (launched_entry n hs) es) ≡ map (after_launch n hs) (held_of es)
 held_launched n hs [] = refl
-held_launched n hs (e ∷ es) = ap (λ xs. launched n hs e.held ∷ xs) (held_launched n hs es)
+held_launched n hs (e ∷ es) = ap (λ xs. after_launch n hs e.held ∷ xs) (held_launched n hs es)
 
-pub send_is_of : (s : State) (c : Core) (chosen : List Entry) → IsOf s c → IsOf (sent s chosen) (step s.config (Sends (held_of chosen)) c)
+pub send_is_of : (s : State) (c : Core) (chosen : List Entry) → IsOf s c → IsOf (with_request s chosen) (step s.config (Sends (held_of chosen)) c)
 send_is_of s c chosen is =
     let new : Request = record { writes = writes_of_all chosen; answer = Unanswered } in
     record {
       taken = is.taken;
-      held = held_launched s.requests (held_of chosen) s.held ∙ (λ i. map (launched (is.requests i) (held_of chosen)) (is.held i));
+      held = held_launched s.requests (held_of chosen) s.held ∙ (λ i. map (after_launch (is.requests i) (held_of chosen)) (is.held i));
       reports = is.reports;
       applied = is.applied;
       already = is.already;
@@ -136,7 +136,7 @@ send_is_of s c chosen is =
 
 pub send_fits : SendFits
 send_fits s chosen taken out part within f =
-    next s (sent s chosen) taken taken out (after (outside.Sends (writes_of_all chosen)) out) f (Sends (held_of chosen)) refl
+    next s (with_request s chosen) taken taken out (after (outside.Sends (writes_of_all chosen)) out) f (Sends (held_of chosen)) refl
     (may_send none_past s f.core chosen part within f.is_of (facts_of s.config f.core f.came_about)) (send_is_of s f.core chosen f.is_of) f.took
     (ap (after (outside.Sends (writes_of_all chosen))) f.outside)
 
@@ -170,20 +170,20 @@ held_kept_one clock Retried e = refl
 held_kept_one clock (Halved cap) e = refl
 held_kept_one clock (Reported cause) e = refl
 
-pub held_kept : (g : Config) (clock number : ℕ) (ws : List Write) (a : Answer) (es : List Entry) → held_of (kept_entries g clock number ws a es) ≡ kept g number ws a (held_of es)
+pub held_kept : (g : Config) (clock number : ℕ) (ws : List Write) (a : Answer) (es : List Entry) → held_of (kept_entries g clock number ws a es) ≡ still_held g number ws a (held_of es)
 held_kept g clock number ws a [] = refl
 held_kept g clock number ws a (e ∷ es) =
     map-append (λ (x : Entry). x.held) (kept_entry clock (fate_of g number ws a e.held e.held.flies) e) (kept_entries g clock number ws a es)
     ∙ (λ i. held_kept_one clock (fate_of g number ws a e.held e.held.flies) e i ++ held_kept g clock number ws a es i)
 
 -- an answer to a request in flight, counted from 0, that carried these writes
-settle_is_of : (s : State) (c : Core) (number : ℕ) (ws : List Write) (a : Answer) → Mem (record { request = number; writes = ws }) s.flying → IsOf s c → IsOf (settled s number ws a) (step s.config (Answers number a) c)
+settle_is_of : (s : State) (c : Core) (number : ℕ) (ws : List Write) (a : Answer) → Mem (record { request = number; writes = ws }) s.flying → IsOf s c → IsOf (after_settling s number ws a) (step s.config (Answers number a) c)
 settle_is_of s c number ws a flies is =
     let here : ws ≡ writes_or (slice_get c.outside.requests number) = sym (ap writes_or (is.flying (record { request = number; writes = ws }) flies)) in
     record {
       taken = is.taken;
-      held = held_kept s.config s.clock number ws a s.held ∙ (λ i. kept s.config number (here i) a (is.held i));
-      reports = λ i. is.reports i ++ reported s.config number (here i) a (is.held i);
+      held = held_kept s.config s.clock number ws a s.held ∙ (λ i. still_held s.config number (here i) a (is.held i));
+      reports = λ i. is.reports i ++ reports_of s.config number (here i) a (is.held i);
       applied = λ i. is.applied i + how_many is_applied_fate s.config number (here i) a (is.held i);
       already = λ i. is.already i + how_many is_already_fate s.config number (here i) a (is.held i);
       requests = is.requests ∙ sym (length-update number (with_answer a) c.outside.requests);
@@ -204,18 +204,18 @@ flies_at (x ∷ xs) n t = ⊎_elim {C = Mem (record { request = n - 1; writes = 
     inr (subst (λ ws. Mem (record { request = n - 1; writes = ws }) xs) (sym (ap (λ b. if b then x.writes else writes_at (n - 1) xs) u)) (flies_at xs n rest)))
     (true_or_false (x.request == n - 1))
 
--- a request in flight was not answered
+-- a request in flight was not with_answer
 pub flies_unanswered : (s : State) (c : Core) (number : ℕ) → is_flying number s ≡ true → IsOf s c
     → slice_get c.outside.requests (from_zero number) ≡ Some (record { writes = writes_at (from_zero number) s.flying; answer = Unanswered })
 flies_unanswered s c number flies is = is.flying (record { request = from_zero number; writes = writes_at (from_zero number) s.flying }) (flies_at s.flying number flies)
 
-pub answer_is_of : (s : State) (c : Core) (number : ℕ) (a : Answer) → is_flying number s ≡ true → IsOf s c → IsOf (answered s number a) (step s.config (Answers (from_zero number) a) c)
+pub answer_is_of : (s : State) (c : Core) (number : ℕ) (a : Answer) → is_flying number s ≡ true → IsOf s c → IsOf (with_answer s number a) (step s.config (Answers (from_zero number) a) c)
 answer_is_of s c number a flies is = settle_is_of s c (from_zero number) (writes_at (from_zero number) s.flying) a (flies_at s.flying number flies) is
 
 pub answer_fits : AnswerFits
 answer_fits s number a taken out flies may f =
     let may' : MayAnswer f.core.outside (from_zero number) a = subst (λ o. MayAnswer o (from_zero number) a) (sym f.outside) may in
-    next s (answered s number a) taken taken out (after (outside.Answers (from_zero number) a) out) f (Answers (from_zero number) a) refl may'
+    next s (with_answer s number a) taken taken out (after (outside.Answers (from_zero number) a) out) f (Answers (from_zero number) a) refl may'
     (answer_is_of s f.core number a flies f.is_of) f.took (ap (after (outside.Answers (from_zero number) a)) f.outside)
 
 -- ---- at the start, and what is promised
@@ -247,18 +247,18 @@ sound_where s taken out f distinct =
     let c = f.core in
     let facts = facts_of s.config f.core f.came_about in
     let d = subst (λ os. AllDistinct (map name_of os)) (sym f.took) distinct in
-    subst (λ os. IsSound s.config os s.reports out (attributed s.config os out)) f.took
-    (subst (λ o. IsSound s.config c.taken s.reports o (attributed s.config c.taken o)) f.outside
-    (subst (λ rs. IsSound s.config c.taken rs c.outside (attributed s.config c.taken c.outside)) (sym f.is_of.reports) (sound s.config c facts d)))
+    subst (λ os. IsSound s.config os s.reports out (applied_ops s.config os out)) f.took
+    (subst (λ o. IsSound s.config c.taken s.reports o (applied_ops s.config c.taken o)) f.outside
+    (subst (λ rs. IsSound s.config c.taken rs c.outside (applied_ops s.config c.taken c.outside)) (sym f.is_of.reports) (sound s.config c facts d)))
 
 pub complete_where : CompleteWhereItFits
 complete_where s taken out f distinct none =
     let c = f.core in
     let facts = facts_of s.config f.core f.came_about in
     let d = subst (λ os. AllDistinct (map name_of os)) (sym f.took) distinct in
-    subst (λ os. IsComplete os s.reports (attributed s.config os out)) f.took
-    (subst (λ o. IsComplete c.taken s.reports (attributed s.config c.taken o)) f.outside
-    (subst (λ rs. IsComplete c.taken rs (attributed s.config c.taken c.outside)) (sym f.is_of.reports) (complete s.config c facts d (sym f.is_of.held ∙ ap held_of none))))
+    subst (λ os. IsComplete os s.reports (applied_ops s.config os out)) f.took
+    (subst (λ o. IsComplete c.taken s.reports (applied_ops s.config c.taken o)) f.outside
+    (subst (λ rs. IsComplete c.taken rs (applied_ops s.config c.taken c.outside)) (sym f.is_of.reports) (complete s.config c facts d (sym f.is_of.held ∙ ap held_of none))))
 
 pub total_where : TotalWhereItFits
 total_where s taken out f =
@@ -306,8 +306,8 @@ send_takes_try s chosen taken out some ne part within f =
     let longer = length-append f.core.outside.requests (record { writes = writes_of_all chosen; answer = Unanswered } ∷ []) in
     let new : List Request = record { writes = writes_of_all chosen; answer = Unanswered } ∷ [] in
     let one : length new ≡ 1 = refl in
-    let now : tries_of (sent s chosen) ≡ tries_left s.config.max (map (launched (length f.core.outside.requests) (held_of chosen)) f.core.held) =
-    ap (tries_left s.config.max) (held_launched s.requests (held_of chosen) s.held ∙ (λ i. map (launched (is.requests i) (held_of chosen)) (is.held i))) in
+    let now : tries_of (with_request s chosen) ≡ tries_left s.config.max (map (after_launch (length f.core.outside.requests) (held_of chosen)) f.core.held) =
+    ap (tries_left s.config.max) (held_launched s.requests (held_of chosen) s.held ∙ (λ i. map (after_launch (is.requests i) (held_of chosen)) (is.held i))) in
     let before : tries_of s ≡ tries_left s.config.max f.core.held = ap (tries_left s.config.max) is.held in
     omega (arith, n, longer, one, now, before)
 
@@ -316,7 +316,7 @@ answer_gives_no_try s number a taken out some flies f =
     let c = f.core in
     let is = f.is_of in
     let ws = writes_at (from_zero number) s.flying in
-    let e = ap (tries_left s.config.max) (held_kept s.config s.clock (from_zero number) ws a s.held ∙ ap (kept s.config (from_zero number) ws a) is.held) in
+    let e = ap (tries_left s.config.max) (held_kept s.config s.clock (from_zero number) ws a s.held ∙ ap (still_held s.config (from_zero number) ws a) is.held) in
     let q : Request = record { writes = ws; answer = Unanswered } in
     let le = left-kept s.config c.outside.requests (from_zero number) q (flies_unanswered s c number flies is) a c.held (all_tries s.config c some f.came_about) in
     let before = ap (tries_left s.config.max) is.held in

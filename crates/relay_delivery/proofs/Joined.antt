@@ -10,7 +10,7 @@ use Rattle.relay_delivery.specs.Attribution.{is_from}
 use Rattle.relay_delivery.specs.Causes.{IsAssignment, IsTrueCause}
 use Rattle.relay_delivery.specs.Machine.{Config, Report}
 use Rattle.relay_delivery.specs.Delivery.{terms_of, names_of}
-use Rattle.relay_delivery.specs.Lanes.{Lanes, Move, Puts, Closes, Fetches, Steps, fetched, move, MayMove, IsFinished, NothingAfterClose}
+use Rattle.relay_delivery.specs.Lanes.{Lanes, Move, Puts, Closes, Fetches, Steps, after_fetch, move, MayMove, IsFinished, NothingAfterClose}
 use Rattle.relay_delivery.proofs.Versions.{version_in, is_assignment}
 use Rattle.relay_delivery.proofs.Whole.{IsAppliedAs, reports_true, reports_once, accounted}
 use Rattle.relay_delivery.proofs.Queues.{LanesFacts, is_for, taken_distinct, was_accepted, one_name}
@@ -92,7 +92,7 @@ put_not : (w : Lanes) (o : Op) (p : ℕ) (b : Bool) → (p == o.producer) ≡ b 
 put_not w o p true e c n = let same = ap w.closed (equal p o.producer e) in absurd (cc (c, same, n))
 put_not w o p false e c n = refl
 
-fetched_same : (g : Config) (l : ℕ) (w : Lanes) (q : List Op) (p : ℕ) → ((fetched g l w q).accepted p ≡ w.accepted p) × ((fetched g l w q).closed p ≡ w.closed p)
+fetched_same : (g : Config) (l : ℕ) (w : Lanes) (q : List Op) (p : ℕ) → ((after_fetch g l w q).accepted p ≡ w.accepted p) × ((after_fetch g l w q).closed p ≡ w.closed p)
 fetched_same g l w [] p = (refl, refl)
 fetched_same g l w (o ∷ os) p = (refl, refl)
 

@@ -8,9 +8,9 @@ use Rattle.relay_results.specs.Documents.{Document}
 use Rattle.relay_results.specs.Outside.{Outside}
 use Rattle.relay_results.proofs.Lists.{equal}
 use Rattle.relay_delivery.specs.Machine.{Config, Core, Takes, Sends, Answers, step}
-use Rattle.relay_delivery.specs.Lanes.{Lanes, Move, Puts, Closes, Fetches, Steps, fetched, move}
+use Rattle.relay_delivery.specs.Lanes.{Lanes, Move, Puts, Closes, Fetches, Steps, after_fetch, move}
 use Rattle.relay_delivery.specs.Together.{Together, Plain, SendsFrom, RunsAt, AnswersAt, IsPlain, act, outside_of}
-use Rattle.relay_delivery.specs.Restarts.{Incarnation, incarnation_of, with_running, restarted}
+use Rattle.relay_delivery.specs.Restarts.{Incarnation, incarnation_of, with_running, after_restart}
 use Rattle.relay_delivery.specs.Accounted.{deals_version, op_dealt, ops_over, attributed_together, ActsKeepNames, RestartsKeepNames}
 use Rattle.relay_delivery.proofs.Sharing.{plain_outside}
 use Rattle.relay_delivery.proofs.Lives.{LifeFacts, facts_of_life}
@@ -76,7 +76,7 @@ lane_by : {A : Type 0} (see : Core → A) (w : Lanes) (l m : ℕ) (c : Core) (b 
 lane_by see w l m c true e same = same ∙ ap (λ n. see (w.lane n)) (sym (equal m l e))
 lane_by see w l m c false e same = refl
 
-fetched_more : (g : Config) (l : ℕ) (w : Lanes) (q : List Op) (m : ℕ) → (more : List Op) × (((fetched g l w q).lane m).taken ≡ (w.lane m).taken ++ more)
+fetched_more : (g : Config) (l : ℕ) (w : Lanes) (q : List Op) (m : ℕ) → (more : List Op) × (((after_fetch g l w q).lane m).taken ≡ (w.lane m).taken ++ more)
 fetched_more g l w [] m = ([], sym (append-nil (w.lane m).taken))
 fetched_more g l w (o ∷ os) m = by (m == l) refl
   where
@@ -108,5 +108,5 @@ pub restarts_keep_names : RestartsKeepNames
 restarts_keep_names g new lane_of ended s k c =
     let f = facts_of_life g lane_of ended s c in
     let is = with_running ended g s in
-    ops_same_over is (with_running is new (restarted s)) (lane_of k) ((outside_of lane_of s).applied k)
-    (λ x m. let o = all_found g lane_of ended s f k x m in dealt_push is (incarnation_of new (restarted s)) (lane_of k) x.version o.0 o.1)
+    ops_same_over is (with_running is new (after_restart s)) (lane_of k) ((outside_of lane_of s).applied k)
+    (λ x m. let o = all_found g lane_of ended s f k x m in dealt_push is (incarnation_of new (after_restart s)) (lane_of k) x.version o.0 o.1)

@@ -17,7 +17,7 @@ use Rattle.relay_results.specs.Outside.{is_above, Answer, Unanswered, Items, Who
 use Rattle.relay_delivery.specs.Attribution.{IsAttribution, is_from}
 use Rattle.relay_delivery.specs.Causes.{carries, CarriedAt, IsAnswered, IsTrueOf, IsTrueDealt}
 use Rattle.relay_results.specs.Fates.{IsRetried}
-use Rattle.relay_delivery.specs.Schedules.{op, accepted_of, ran, failed, entry, failed_entry, conflict, busy, refusal, Plays, LostThenAlready, LateRunChangesNothing, RunTwice, answered_whole, RefusedOrRejected, BusyThenNext, GivenUpAndApplied, ThreeThenOne, HalvedThenAlone}
+use Rattle.relay_delivery.specs.Schedules.{op, accepted_of, ran, failed_run, entry, failed_entry, conflict, busy, refusal, Plays, LostThenAlready, LateRunChangesNothing, RunTwice, answered_whole, RefusedOrRejected, BusyThenNext, GivenUpAndApplied, ThreeThenOne, HalvedThenAlone}
 use Rattle.relay_results.proofs.Lists.{apart_tests, none_some, some_same, sub_itself}
 use Rattle.relay_results.proofs.Same.{bytes_eq-self, same_document-self, same_write-self, same_kind-Decides, and-true}
 
@@ -122,7 +122,7 @@ already key source =
                 (
                   record { write = w; sent = refl; outcome = inr (inr (ap (λ o. is_above o 1) (stored_self (document_of key) 1 None), conflict_of conflict)) },
                   (
-                    record { request = one_request w; sent = refl; open_yet = refl; honest = λ _. (was _ (failed 1 0 409 conflict) _ (inr (inl refl)) refl refl, tt) },
+                    record { request = one_request w; sent = refl; open_yet = refl; honest = λ _. (was _ (failed_run 1 0 409 conflict) _ (inr (inl refl)) refl refl, tt) },
                     tt,
                   ),
                 ),
@@ -191,7 +191,7 @@ twice key =
             (
               record { write = w; sent = refl; outcome = inr (inr (ap (λ o. is_above o 1) (stored_self (document_of key) 1 None), conflict_of conflict)) },
               (
-                record { request = one_request w; sent = refl; open_yet = refl; honest = λ _. (was _ (failed 0 0 409 conflict) _ (inr (inl refl)) refl refl, tt) },
+                record { request = one_request w; sent = refl; open_yet = refl; honest = λ _. (was _ (failed_run 0 0 409 conflict) _ (inr (inl refl)) refl refl, tt) },
                 tt,
               ),
             ),
@@ -205,7 +205,7 @@ twice key =
       inl (dealt_one (record {
         once = ap (λ b. one_if b + 0) (carries_self w (Items (failed_entry w 409 conflict ∷ [])));
         outcome = failed_entry w 409 conflict;
-        answered = answered_once w _ (failed_entry w 409 conflict) _ _ (failed_entry-self w 409 conflict) (was _ (failed 0 0 409 conflict) _ (inr (inl refl)) refl refl);
+        answered = answered_once w _ (failed_entry w 409 conflict) _ _ (failed_entry-self w 409 conflict) (was _ (failed_run 0 0 409 conflict) _ (inr (inl refl)) refl refl);
         conflict = refl;
       })),
       record {
@@ -247,7 +247,7 @@ rejected key source =
           (
             record { write = w; sent = refl; outcome = inl (refusal_of 400 refusal (lit≤ tt) (lit≤ tt) (λ e. apart 400 409 e (lit< tt))) },
             (
-              record { request = one_request w; sent = refl; open_yet = refl; honest = λ _. (was _ (failed 0 0 400 refusal) _ (inl refl) refl refl, tt) },
+              record { request = one_request w; sent = refl; open_yet = refl; honest = λ _. (was _ (failed_run 0 0 400 refusal) _ (inl refl) refl refl, tt) },
               tt,
             ),
           ),
@@ -259,7 +259,7 @@ rejected key source =
       rw (bytes_eq-self key.id) refl,
       inl (dealt_one (record {
         outcome = failed_entry w 400 refusal;
-        answered = answered_once w _ (failed_entry w 400 refusal) _ _ (failed_entry-self w 400 refusal) (was _ (failed 0 0 400 refusal) _ (inl refl) refl refl);
+        answered = answered_once w _ (failed_entry w 400 refusal) _ _ (failed_entry-self w 400 refusal) (was _ (failed_run 0 0 400 refusal) _ (inl refl) refl refl);
         refused = λ sends attempts max. refl;
         status_is = refl;
         error_is = refl;
@@ -293,7 +293,7 @@ busy_next key source other =
           (
             record { write = w; sent = refl; outcome = inl (refusal_of 429 busy (lit≤ tt) (lit≤ tt) (λ e. apart 409 429 (sym e) (lit< tt))) },
             (
-              record { request = one_request w; sent = refl; open_yet = refl; honest = λ _. (was _ (failed 0 0 429 busy) _ (inl refl) refl refl, tt) },
+              record { request = one_request w; sent = refl; open_yet = refl; honest = λ _. (was _ (failed_run 0 0 429 busy) _ (inl refl) refl refl, tt) },
               (
                 tt,
                 (
@@ -425,7 +425,7 @@ three k l m source other kl lm km =
                     request = record { writes = w ∷ x ∷ y ∷ []; answer = Unanswered };
                     sent = refl;
                     open_yet = refl;
-                    honest = λ _. (was _ (ran 0 0 201) _ (inl refl) refl refl, (was _ (failed 0 1 429 busy) _ (inr (inl refl)) refl refl, (was _ (ran 0 2 404) _ (inr (inr (inl refl))) refl refl, tt)));
+                    honest = λ _. (was _ (ran 0 0 201) _ (inl refl) refl refl, (was _ (failed_run 0 1 429 busy) _ (inr (inl refl)) refl refl, (was _ (ran 0 2 404) _ (inr (inr (inl refl))) refl refl, tt)));
                   },
                   (
                     tt,

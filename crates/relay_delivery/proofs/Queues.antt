@@ -9,7 +9,7 @@ use Rattle.relay_results.specs.Words.{Mem, AllDistinct}
 use Rattle.relay_results.specs.Documents.{Document, document_of, name_of}
 use Rattle.relay_delivery.specs.Attribution.{is_from}
 use Rattle.relay_delivery.specs.Machine.{Config, Core, Step, Takes, Sends, Runs, Answers, step, MayStep}
-use Rattle.relay_delivery.specs.Lanes.{Lanes, Move, Puts, Closes, Fetches, Steps, fetched, move, IsInner, MayPut, MayMove, IsStart}
+use Rattle.relay_delivery.specs.Lanes.{Lanes, Move, Puts, Closes, Fetches, Steps, after_fetch, move, IsInner, MayPut, MayMove, IsStart}
 use Rattle.relay_results.proofs.Lists.{true_or_false, equal, equal_test, at-cases, Mem-at, Mem-left, Mem-map, map-Mem, Mem-filter, filter-Mem, distinct_places, at-map, some_same, filter_sub, AllDistinct-sub, sub-map, none_at}
 use Rattle.relay_delivery.proofs.Facts.{CoreFacts}
 use Rattle.relay_delivery.proofs.Keeps.{fresh_facts, step_keeps}
@@ -126,7 +126,7 @@ module _ (g : Config) (lane_of : Document → ℕ) (past : ℕ → Write → Typ
       ∙ f.order l p ∙ ap (λ n. filter (is_for lane_of n) (w.accepted p)) (sym em)
   fetch_order o os q m p false e = f.order m p
 
-  pub fetch_keeps : (q : List Op) → w.queue l ≡ q → LanesFacts g lane_of past (fetched g l w q)
+  pub fetch_keeps : (q : List Op) → w.queue l ≡ q → LanesFacts g lane_of past (after_fetch g l w q)
   fetch_keeps [] e = f
   fetch_keeps (o ∷ os) e = record {
     lane = λ m. lane_by (step g (Takes o) (w.lane l)) (step_keeps g (past l) (w.lane l) (f.lane l) (Takes o) tt) m (m == l) refl;

@@ -1,4 +1,4 @@
--- What holds of a lane whatever it is answered.
+-- What holds of a lane whatever it is with_answer.
 use Rattle.std.proofs.Common.{◌≡◌, ◌≢◌, ℕ, true, zero, suc, ◌+◌, ◌<◌, List, [], ◌∷◌, ◌++◌, length, Option, Some, None, ◌==◌, refl, sym, ap, ◌∙◌, subst, ⊎_elim, inl, inr, arith, length-append, append-nil, append_assoc}
 use Rattle.std.specs.Prelude.{slice_get, nat_lt, map, filter, not}
 use Rattle.std.proofs.lemmas.List.{map-append, length-map}
@@ -13,8 +13,8 @@ use Rattle.relay_action.specs.Actions.{kind_of}
 use Rattle.relay_results.specs.Fates.{Flies}
 use Rattle.relay_results.proofs.Fates.{says_as}
 use Rattle.relay_results.proofs.Lists.{true_or_false, equal, equal_test, not_true, some_same, filter-Mem, Mem-last, at-Mem, at-last, at-map, map-at, Mem-at, Mem-cases, Mem-left, Mem-one, Mem-map, map-Mem, Mem-filter, filter_sub, AllDistinct-sub, sub-map, distinct_places}
-use Rattle.relay_delivery.specs.Machine.{Config, Held, Place, write_of, held_if, spent_if, place_of, launched_at, launched, kept, reported}
-use Rattle.relay_delivery.specs.Lane.{Entry, Flying, State, held_of, entry_if, taken_op, candidates, launched_entry, writes_of_all, sent, is_other, settled, writes_at, answered, fresh_state}
+use Rattle.relay_delivery.specs.Machine.{Config, Held, Place, write_of, held_if, spent_if, place_of, launched_at, after_launch, still_held, reports_of}
+use Rattle.relay_delivery.specs.Lane.{Entry, Flying, State, held_of, entry_if, taken_op, candidates, launched_entry, writes_of_all, with_request, is_other, after_settling, writes_at, with_answer, fresh_state}
 use Rattle.relay_delivery.specs.Reached.{Call, Takes, Ticks, Sends, Answers, call, MayCall, calls_of, AllMayCall, taken_by, taken_in, Reached, place_at, IsInFlight, documents_of, ReachedHolds, FreshReached, CallReached}
 use Rattle.relay_delivery.proofs.Facts.{IsDealt, AreRising}
 use Rattle.relay_delivery.proofs.Dealt.{dealt_before, dealt-more}
@@ -132,7 +132,7 @@ module _ (s : State) (chosen : List Entry) (part : IsSubsequence chosen (candida
   abbrev new : Flying
   new = record { request = s.requests; writes = writes_of_all chosen }
 
-  now : held_of (sent s chosen).held ≡ map (launched s.requests cs) hs
+  now : held_of (with_request s chosen).held ≡ map (after_launch s.requests cs) hs
   now = held_launched s.requests cs s.held
 
   distinct : AllDistinct (map (λ (h : Held). h.version) cs)
@@ -154,13 +154,13 @@ module _ (s : State) (chosen : List Entry) (part : IsSubsequence chosen (candida
       let same = distinct_places (map (λ (j : Held). j.version) cs) p place h.version distinct (at-map (λ (j : Held). j.version) cs p h l.stands) (at-map (λ (j : Held). j.version) cs place h at) in
       λ i. Some (place_at s.requests (same i))
 
-  each_sent : EachFlies (map (launched s.requests cs) hs) (s.flying ++ new ∷ [])
-  each_sent f place w m at = ⊎_elim {C = IsAtPlace (map (launched s.requests cs) hs) w (place_at f.request place)}
+  each_sent : EachFlies (map (after_launch s.requests cs) hs) (s.flying ++ new ∷ [])
+  each_sent f place w m at = ⊎_elim {C = IsAtPlace (map (after_launch s.requests cs) hs) w (place_at f.request place)}
       (λ old.
       let y = k.each f place w old at in
       record {
-        held_op = launched s.requests cs y.held_op;
-        is_in = map-Mem (launched s.requests cs) y.held_op hs y.is_in;
+        held_op = after_launch s.requests cs y.held_op;
+        is_in = map-Mem (after_launch s.requests cs) y.held_op hs y.is_in;
         flies = stays_flying y.held_op (place_at f.request place) (place_of y.held_op.version cs) refl y.is_in y.flies;
         write = launched_write y.held_op (place_of y.held_op.version cs) ∙ y.write;
       })
@@ -170,8 +170,8 @@ module _ (s : State) (chosen : List Entry) (part : IsSubsequence chosen (candida
       let h = map-at write_of cs place w at' in
       let held = (eligible_here s chosen part h.0 (at-Mem cs place h.0 h.1)).is_held in
       record {
-        held_op = launched s.requests cs h.0;
-        is_in = map-Mem (launched s.requests cs) h.0 hs held;
+        held_op = after_launch s.requests cs h.0;
+        is_in = map-Mem (after_launch s.requests cs) h.0 hs held;
         flies = new_flies h.0 place (place_of h.0.version cs) refl held h.1 ∙ (λ i. Some (place_at (number_of (sym e i)) place));
         write = launched_write h.0 (place_of h.0.version cs) ∙ h.2;
       })
@@ -191,11 +191,11 @@ module _ (s : State) (chosen : List Entry) (part : IsSubsequence chosen (candida
         stands = ap (λ (z : Place). slice_get (map write_of cs) z.place) (sym same) ∙ at-map write_of cs place h l.stands;
       }
 
-  send_keeps : Keeps (sent s chosen) taken
+  send_keeps : Keeps (with_request s chosen) taken
   send_keeps = record {
     rising = subst (λ xs. AreRising xs) (sym now) (rising-sent s.requests cs hs k.rising);
     dealt = λ h m.
-        let x = Mem-map (launched s.requests cs) h hs (subst (λ xs. Mem h xs) now m) in
+        let x = Mem-map (after_launch s.requests cs) h hs (subst (λ xs. Mem h xs) now m) in
         let v : h.version ≡ x.0.version = ap (λ (z : Held). z.version) x.2 ∙ launched_version s.requests x.0 (place_of x.0.version cs) in
         let o : h.op ≡ x.0.op = ap (λ (z : Held). z.op) x.2 ∙ launched_op s.requests x.0 (place_of x.0.version cs) in
         let d = k.dealt x.0 x.1 in
@@ -203,7 +203,7 @@ module _ (s : State) (chosen : List Entry) (part : IsSubsequence chosen (candida
     first = subst (λ xs. FliesFirst xs) (sym now) (send_first hs cs (alone_in hs k.rising) (eligible_here s chosen part) s.requests k.first);
     each = subst (λ xs. EachFlies xs (s.flying ++ new ∷ [])) (sym now) each_sent;
     stands = λ h p m fl.
-        let x = Mem-map (launched s.requests cs) h hs (subst (λ xs. Mem h xs) now m) in
+        let x = Mem-map (after_launch s.requests cs) h hs (subst (λ xs. Mem h xs) now m) in
         let y = launched_stands x.0 p (place_of x.0.version cs) refl x.1 (sym (ap (λ (z : Held). z.flies) x.2) ∙ fl) in
         subst (λ (z : Held). IsInFlight (s.flying ++ new ∷ []) (write_of z) p) (sym x.2) y;
     below = λ f m. ⊎_elim {C = f.request < s.requests + 1}
@@ -220,9 +220,9 @@ module _ (s : State) (chosen : List Entry) (part : IsSubsequence chosen (candida
 
 module _ (s : State) (n : ℕ) (ws : List Write) (a : Answer) (given : a ≢ Unanswered) (taken : List Op) (k : Keeps s taken) where
   abbrev left : List Held
-  left = kept s.config n ws a (held_of s.held)
+  left = still_held s.config n ws a (held_of s.held)
 
-  left_is : held_of (settled s n ws a).held ≡ left
+  left_is : held_of (after_settling s n ws a).held ≡ left
   left_is = held_kept s.config s.clock n ws a s.held
 
   each_left : EachFlies left (filter (is_other n) s.flying)
@@ -249,7 +249,7 @@ module _ (s : State) (n : ℕ) (ws : List Write) (a : Answer) (given : a ≢ Una
       (λ z. absurd (given (says_as (record { sends = h.sends; attempts = h.attempts; max = s.config.max }) ws z.place (kind_of h.op.action) a Flies (sym z.fate_is ∙ t))))
       (away_or_here s.config n ws a h)
 
-  settle_keeps : Keeps (settled s n ws a) taken
+  settle_keeps : Keeps (after_settling s n ws a) taken
   settle_keeps = record {
     rising = subst (λ xs. AreRising xs) (sym left_is) (rising-settled s.config n ws a (held_of s.held) k.rising);
     dealt = λ h m.
@@ -275,9 +275,9 @@ module _ (s : State) (n : ℕ) (ws : List Write) (a : Answer) (given : a ≢ Una
     totals =
         let t = k.totals in
         let e = totals-settled s.config n ws a (held_of s.held) in
-        let r = length-append s.reports (reported s.config n ws a (held_of s.held)) in
+        let r = length-append s.reports (reports_of s.config n ws a (held_of s.held)) in
         let l = length-map s.held (λ (x : Entry). x.held) in
-        let m = length-map (settled s n ws a).held (λ (x : Entry). x.held) in
+        let m = length-map (after_settling s n ws a).held (λ (x : Entry). x.held) in
         let now = ap length left_is in
         omega (arith, t, e, r, l, m, now);
   }
@@ -301,8 +301,8 @@ call_keeps : (c : Call) (s : State) (taken : List Op) → Keeps s taken → MayC
 call_keeps (Takes o bytes) s taken k may = take_keeps s o bytes taken k
 call_keeps (Ticks clock) s taken k may = subst (λ os. Keeps (call (Ticks clock) s) os) (sym (append-nil taken))
     (record { rising = k.rising; dealt = k.dealt; first = k.first; each = k.each; stands = k.stands; below = k.below; numbers = k.numbers; count = k.count; totals = k.totals })
-call_keeps (Sends chosen) s taken k may = subst (λ os. Keeps (sent s chosen) os) (sym (append-nil taken)) (send_keeps s chosen may.0 taken k)
-call_keeps (Answers number a) s taken k may = subst (λ os. Keeps (answered s number a) os) (sym (append-nil taken))
+call_keeps (Sends chosen) s taken k may = subst (λ os. Keeps (with_request s chosen) os) (sym (append-nil taken)) (send_keeps s chosen may.0 taken k)
+call_keeps (Answers number a) s taken k may = subst (λ os. Keeps (with_answer s number a) os) (sym (append-nil taken))
     (settle_keeps s (from_zero number) (writes_at (from_zero number) s.flying) a may.1 taken k)
 
 calls_keep : (cs : List Call) (s : State) (taken : List Op) → Keeps s taken → AllMayCall cs s → Keeps (calls_of cs s) (taken ++ taken_in cs)

@@ -12,7 +12,7 @@ use Rattle.relay_results.specs.declared.cause.Cause.{Cause}
 use Rattle.relay_results.specs.declared.cause.Cause.TheVariants as cause
 use Rattle.relay_delivery.specs.Causes.{carries, is_try, CarriedAt, IsAnswered, IsTrueOf}
 use Rattle.relay_results.proofs.Same.{same_write-true}
-use Rattle.relay_delivery.specs.Machine.{Config, Core, Held, write_of, place_of, launched_at, launched, send, IsEligible, MaySend}
+use Rattle.relay_delivery.specs.Machine.{Config, Core, Held, write_of, place_of, launched_at, after_launch, send, IsEligible, MaySend}
 use Rattle.relay_results.proofs.Lists.{true_or_false, equal, equal_test, at-left, at-last, at-cases, at-Mem, at-map, map-at, Mem-map, map-Mem, count-push, distinct_places, some_same}
 use Rattle.relay_delivery.proofs.Facts.{IsOfOne, IsSent, IsFlying, HeldFact, RunFact, IndexFact, AreRising, CoreFacts, is_held_as}
 use Rattle.relay_delivery.proofs.Dealt.{of_held, carried_at, carries_at, carries_its, sent-push_cases}
@@ -70,18 +70,18 @@ length-map : {A B : Type 0} (f : A → B) (xs : List A) → length (map f xs) �
 length-map f [] = refl
 length-map f (x ∷ xs) = ap suc (length-map f xs)
 
-pub rising-sent : (n : ℕ) (chosen hs : List Held) → AreRising hs → AreRising (map (launched n chosen) hs)
+pub rising-sent : (n : ℕ) (chosen hs : List Held) → AreRising hs → AreRising (map (after_launch n chosen) hs)
 rising-sent n chosen [] r = tt
 rising-sent n chosen (h ∷ hs) r = (
   (λ z m.
-      let k = Mem-map (launched n chosen) z hs m in
+      let k = Mem-map (after_launch n chosen) z hs m in
       let v = ap (λ (x : Held). x.version) k.2 ∙ launched_version n k.0 (place_of k.0.version chosen) in
       let w = launched_version n h (place_of h.version chosen) in
       let lt = r.0 k.0 k.1 in omega (arith, v, w, lt)),
   rising-sent n chosen hs r.1,
 )
 
-count-sent : (o : OpName) (n : ℕ) (chosen hs : List Held) → count (is_held_as o) (map (launched n chosen) hs) ≡ count (is_held_as o) hs
+count-sent : (o : OpName) (n : ℕ) (chosen hs : List Held) → count (is_held_as o) (map (after_launch n chosen) hs) ≡ count (is_held_as o) hs
 count-sent o n chosen [] = refl
 count-sent o n chosen (h ∷ hs) =
     let e = ap (λ (x : Op). one_if (is_held_as o (record { op = x; version = h.version; sends = 0; attempts = 0; cap = 0; flies = None }))) (launched_op n h (place_of h.version chosen)) in
@@ -269,15 +269,15 @@ module _ (g : Config) (past : Write → Type 0) (c : Core) (f : CoreFacts g past
   send_keeps = record {
     past_below = f.past_below;
     held = λ h m.
-        let k = Mem-map (launched (length requests) chosen) h c.held m in
+        let k = Mem-map (after_launch (length requests) chosen) h c.held m in
         subst (λ j. HeldFact g c.taken (requests ++ new ∷ []) j) (sym k.2) (held-one k.0 k.1 (place_of k.0.version chosen) refl);
     alone = λ h j mh mj e.
-        let k = Mem-map (launched (length requests) chosen) h c.held mh in
-        let l = Mem-map (launched (length requests) chosen) j c.held mj in
+        let k = Mem-map (after_launch (length requests) chosen) h c.held mh in
+        let l = Mem-map (after_launch (length requests) chosen) j c.held mj in
         let vh = ap (λ (x : Held). x.version) k.2 ∙ launched_version (length requests) k.0 (place_of k.0.version chosen) in
         let vj = ap (λ (x : Held). x.version) l.2 ∙ launched_version (length requests) l.0 (place_of l.0.version chosen) in
         let same = f.alone k.0 l.0 k.1 l.1 (sym vh ∙ e ∙ vj) in
-        k.2 ∙ ap (launched (length requests) chosen) same ∙ sym l.2;
+        k.2 ∙ ap (after_launch (length requests) chosen) same ∙ sym l.2;
     in_rise = rising-sent (length requests) chosen c.held f.in_rise;
     sent = λ w s. ⊎_elim
         (λ old. f.sent w old)
@@ -297,16 +297,16 @@ module _ (g : Config) (past : Write → Type 0) (c : Core) (f : CoreFacts g past
           version = s.version;
           dealt = s.dealt;
           settled = λ h mh e.
-              let k = Mem-map (launched (length requests) chosen) h c.held mh in
+              let k = Mem-map (after_launch (length requests) chosen) h c.held mh in
               let v = ap (λ (x : Held). x.version) k.2 ∙ launched_version (length requests) k.0 (place_of k.0.version chosen) in
               s.settled k.0 k.1 (sym v ∙ e);
           cause = cause-sent g.max (write_for s.op s.version) p.cause (carries_none (write_for s.op s.version) (λ h mh v. s.settled h (may.eligible h mh).is_held v)) s.cause;
         }))
         (f.reports p m);
     apart = λ o. let e = count-sent o (length requests) chosen c.held in let a = f.apart o in omega arith;
-    totals = let e = length-map (launched (length requests) chosen) c.held in let t = f.totals in omega (arith, e, t);
+    totals = let e = length-map (after_launch (length requests) chosen) c.held in let t = f.totals in omega (arith, e, t);
     nothing_lost = λ place o s. ⊎_elim
-        (λ h. inl (record { held_op = launched (length requests) chosen h.held_op; is_in = map-Mem (launched (length requests) chosen) h.held_op c.held h.is_in; version = launched_version (length requests) h.held_op (place_of h.held_op.version chosen) ∙ h.version }))
+        (λ h. inl (record { held_op = after_launch (length requests) chosen h.held_op; is_in = map-Mem (after_launch (length requests) chosen) h.held_op c.held h.is_in; version = launched_version (length requests) h.held_op (place_of h.held_op.version chosen) ∙ h.version }))
         (λ y. inr y)
         (f.nothing_lost place o s);
   }

@@ -14,7 +14,7 @@ use Rattle.relay_delivery.specs.Causes.{Terms, carries, is_try, CarriedAt, IsAns
 use Rattle.relay_results.proofs.Same.{same_write-true}
 use Rattle.relay_results.proofs.Steps.{step_runs_item}
 use Rattle.relay_delivery.specs.Machine.{Config, Core, Held, Takes, Sends, Runs, Answers, write_of, step, MaySend}
-use Rattle.relay_delivery.specs.Lanes.{Lanes, Move, Puts, Closes, Fetches, Steps, fetched, move}
+use Rattle.relay_delivery.specs.Lanes.{Lanes, Move, Puts, Closes, Fetches, Steps, after_fetch, move}
 use Rattle.relay_delivery.specs.Together.{Origin, Together, Act, Plain, SendsFrom, RunsAt, AnswersAt, run_at, act, IsPlain, MayAct, IsFreshTogether, outside_of}
 use Rattle.relay_delivery.specs.Accounted.{HappensInLanes}
 use Rattle.relay_results.proofs.Lists.{true_or_false, equal, equal_test, equal_or_not, at-left, at-last, at-cases, at-within, at-Mem, Mem-left, Mem-last, Mem-map, Mem-push_cases, at-update-cases, at-update_same, at-update_other, length-update, none_at, count-push, count-update_at, some_same, and_left}
@@ -90,7 +90,7 @@ lane_same : (w : Lanes) (l m : ℕ) (c : Core) (b : Bool) → (m == l) ≡ b →
 lane_same w l m c true e same = same ∙ ap (λ n. (w.lane n).outside) (sym (equal m l e))
 lane_same w l m c false e same = refl
 
-fetched_outside : (g : Config) (l : ℕ) (w : Lanes) (q : List Op) (m : ℕ) → ((fetched g l w q).lane m).outside ≡ (w.lane m).outside
+fetched_outside : (g : Config) (l : ℕ) (w : Lanes) (q : List Op) (m : ℕ) → ((after_fetch g l w q).lane m).outside ≡ (w.lane m).outside
 fetched_outside g l w [] m = refl
 fetched_outside g l w (o ∷ os) m = lane_same w l m (step g (Takes o) (w.lane l)) (m == l) refl refl
 

@@ -9,7 +9,7 @@ use Rattle.relay_results.specs.Outside.{Outside, Event, Continues}
 use Rattle.relay_results.specs.Outside as outside
 use Rattle.relay_delivery.specs.Attribution.{IsAttribution, IsInProducerOrder, is_from}
 use Rattle.relay_delivery.specs.Machine.{Config, Core, Report, Takes, Sends, Runs, Answers, Step, step, steps_of, MayStep, AllMayStep, write_of}
-use Rattle.relay_delivery.specs.Delivery.{taken_of, attributed, IsTrueReport, IsSound, IsComplete, SoundAlways, CompleteAtTheEnd, TotalAlways, WritesAreDealt, ContinuesAlways, FreshCameAbout, StepCameAbout}
+use Rattle.relay_delivery.specs.Delivery.{taken_of, applied_ops, IsTrueReport, IsSound, IsComplete, SoundAlways, CompleteAtTheEnd, TotalAlways, WritesAreDealt, ContinuesAlways, FreshCameAbout, StepCameAbout}
 use Rattle.relay_results.proofs.Lists.{equal_test, at-Mem, at-within, Mem-at, map-Mem, filter-Mem, some_same, sub-filter, sub-map, Mem-sub, AllDistinct-sub}
 use Rattle.relay_delivery.proofs.Facts.{IsDealt, IsOfOne, SpentFact, CauseFact, CoreFacts}
 use Rattle.relay_delivery.proofs.Ordered.{ops-in_order, ops-same, op-of, of-op}
@@ -80,23 +80,23 @@ module _ (g : Config) (c : Core) (f : CoreFacts g none_past c) (distinct : AllDi
   of_one : (k : Document) (w : Write) → Mem w (c.outside.applied k) → IsOfOne g c.taken w
   of_one k w m = own_sent g c f w ((f.index k).sent w m)
 
-  ops_sub : (k : Document) → IsSubsequence (attributed g c.taken c.outside k) c.taken
+  ops_sub : (k : Document) → IsSubsequence (applied_ops g c.taken c.outside k) c.taken
   ops_sub k = ops-in_order g c.taken (c.outside.applied k) (f.index k).rising (of_one k)
 
-  attribution : (k : Document) → IsAttribution (taken_of c.taken) k (c.outside.applied k) (attributed g c.taken c.outside k)
+  attribution : (k : Document) → IsAttribution (taken_of c.taken) k (c.outside.applied k) (applied_ops g c.taken c.outside k)
   attribution k = record {
     actions = ops-same g c.taken (c.outside.applied k) (of_one k);
-    distinct = AllDistinct-sub (map name_of (attributed g c.taken c.outside k)) (map name_of c.taken) distinct (sub-map name_of (attributed g c.taken c.outside k) c.taken (ops_sub k));
-    accepted_each = λ o m. (o.producer, filter-Mem (is_from o.producer) o c.taken (Mem-sub o (attributed g c.taken c.outside k) c.taken (ops_sub k) m) (equal_test o.producer o.producer refl));
+    distinct = AllDistinct-sub (map name_of (applied_ops g c.taken c.outside k)) (map name_of c.taken) distinct (sub-map name_of (applied_ops g c.taken c.outside k) c.taken (ops_sub k));
+    accepted_each = λ o m. (o.producer, filter-Mem (is_from o.producer) o c.taken (Mem-sub o (applied_ops g c.taken c.outside k) c.taken (ops_sub k) m) (equal_test o.producer o.producer refl));
     of_document = λ o m.
         let w = op-of g c.taken (c.outside.applied k) (of_one k) o m in
         ap (λ (x : Op). document_of x.key) w.2.1 ∙ sym (ap (λ (x : Write). document_of x.key) w.2.0.write) ∙ (f.index k).document w.0 w.1;
   }
 
-  in_order : (k : Document) → IsInProducerOrder (taken_of c.taken) (attributed g c.taken c.outside k)
-  in_order k p = sub-filter (is_from p) (attributed g c.taken c.outside k) c.taken (ops_sub k)
+  in_order : (k : Document) → IsInProducerOrder (taken_of c.taken) (applied_ops g c.taken c.outside k)
+  in_order k p = sub-filter (is_from p) (applied_ops g c.taken c.outside k) c.taken (ops_sub k)
 
-  pub sound : IsSound g c.taken c.reports c.outside (attributed g c.taken c.outside)
+  pub sound : IsSound g c.taken c.reports c.outside (applied_ops g c.taken c.outside)
   sound = record {
     attribution = attribution;
     in_order = in_order;
@@ -107,9 +107,9 @@ module _ (g : Config) (c : Core) (f : CoreFacts g none_past c) (distinct : AllDi
     once = reports_once g none_past c f distinct;
   }
 
-  pub complete : c.held ≡ [] → IsComplete c.taken c.reports (attributed g c.taken c.outside)
+  pub complete : c.held ≡ [] → IsComplete c.taken c.reports (applied_ops g c.taken c.outside)
   complete none o m = ⊎_elim
-      (λ y. inl (subst (λ p. Mem p (attributed g c.taken c.outside (document_of o.key))) y.op (of-op g c.taken (c.outside.applied (document_of o.key)) y.write y.is_in y.one)))
+      (λ y. inl (subst (λ p. Mem p (applied_ops g c.taken c.outside (document_of o.key))) y.op (of-op g c.taken (c.outside.applied (document_of o.key)) y.write y.is_in y.one)))
       (λ p. inr p)
       (accounted g none_past c f distinct none o m)
 

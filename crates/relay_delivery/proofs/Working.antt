@@ -6,7 +6,7 @@ use Rattle.relay_action.specs.declared.write.Write.{Write}
 use Rattle.relay_results.specs.Words.{Mem}
 use Rattle.relay_results.specs.Documents.{Document, document_of, name_of, write_for}
 use Rattle.relay_results.specs.Outside.{is_above, Unanswered, Request}
-use Rattle.relay_delivery.specs.Schedules.{op, accepted_of, ran, failed, conflict}
+use Rattle.relay_delivery.specs.Schedules.{op, accepted_of, ran, failed_run, conflict}
 use Rattle.relay_results.proofs.Lists.{none_in, Mem-one, Mem-filter}
 use Rattle.relay_delivery.specs.Attribution.{IsAttribution, is_from}
 use Rattle.relay_results.proofs.Same.{bytes_eq-self}
@@ -51,7 +51,7 @@ machine_works key source =
                 (
                   record { write = w; sent = refl; outcome = inr (inr (ap (λ o. is_above o 1) (stored_self (document_of key) 1 None), conflict_of conflict)) },
                   (
-                    record { request = one_request w; sent = refl; open_yet = refl; honest = λ _. (was _ (failed 1 0 409 conflict) _ (inr (inl refl)) refl refl, tt) },
+                    record { request = one_request w; sent = refl; open_yet = refl; honest = λ _. (was _ (failed_run 1 0 409 conflict) _ (inr (inl refl)) refl refl, tt) },
                     tt,
                   ),
                 ),
@@ -97,7 +97,7 @@ stored_below key source =
               (
                 record { write = w; sent = refl; outcome = inr (inr (refl, conflict_of conflict)) },
                 (
-                  record { request = one_request w; sent = refl; open_yet = refl; honest = λ _. (was _ (failed 1 0 409 conflict) _ (inl refl) refl refl, tt) },
+                  record { request = one_request w; sent = refl; open_yet = refl; honest = λ _. (was _ (failed_run 1 0 409 conflict) _ (inl refl) refl refl, tt) },
                   tt,
                 ),
               ),
@@ -162,7 +162,7 @@ earlier_first key source other =
               (
                 record { write = w; sent = refl; outcome = inr (inr (ap (λ o. is_above o 1) (stored_self (document_of key) 2 None), conflict_of conflict)) },
                 (
-                  record { request = one_request w; sent = refl; open_yet = refl; honest = λ _. (was _ (failed 2 0 409 conflict) _ (inr (inl refl)) refl refl, tt) },
+                  record { request = one_request w; sent = refl; open_yet = refl; honest = λ _. (was _ (failed_run 2 0 409 conflict) _ (inr (inl refl)) refl refl, tt) },
                   tt,
                 ),
               ),

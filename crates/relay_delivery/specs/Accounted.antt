@@ -12,7 +12,7 @@ use Rattle.relay_delivery.specs.Machine.{Config, Report}
 use Rattle.relay_delivery.specs.Delivery.{terms_of, names_of, assigned_at}
 use Rattle.relay_delivery.specs.Lanes.{IsFinished}
 use Rattle.relay_delivery.specs.Together.{Origin, Together, Act, Plain, SendsFrom, RunsAt, AnswersAt, run_at, act, MayAct, IsFreshTogether, outside_of}
-use Rattle.relay_delivery.specs.Restarts.{Incarnation, with_running, restarted, IsOfNow, IsAbove, CameAboutTogether}
+use Rattle.relay_delivery.specs.Restarts.{Incarnation, with_running, after_restart, IsOfNow, IsAbove, CameAboutTogether}
 
 -- ---- what was accepted
 
@@ -107,7 +107,7 @@ ActTogether =
 abbrev pub RestartTogether : Type 0
 RestartTogether =
     (g new : Config) (lane_of : Document → ℕ) (ended : List Incarnation) (s : Together) → CameAboutTogether g lane_of ended s →
-    IsAbove g new → CameAboutTogether new lane_of (with_running ended g s) (restarted s)
+    IsAbove g new → CameAboutTogether new lane_of (with_running ended g s) (after_restart s)
 
 -- each request has an origin, and what may happen outside all lanes may happen in the lane of its origin
 pub record HappensInLanes (g : Config) (lane_of : Document → ℕ) (s : Together) : Type 0 where
@@ -167,4 +167,4 @@ abbrev pub RestartsKeepNames : Type 0
 RestartsKeepNames =
     (g new : Config) (lane_of : Document → ℕ) (ended : List Incarnation) (s : Together) (k : Document) →
     CameAboutTogether g lane_of ended s →
-    attributed_together new lane_of (with_running ended g s) (restarted s) k ≡ attributed_together g lane_of ended s k
+    attributed_together new lane_of (with_running ended g s) (after_restart s) k ≡ attributed_together g lane_of ended s k

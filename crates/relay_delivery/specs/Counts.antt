@@ -47,8 +47,8 @@ places_from test before [] = 0
 places_from test before (q ∷ qs) = places_that test (before ++ q ∷ []) q.writes q.answer + places_from test (before ++ q ∷ []) qs
 
 -- the number of items that were answered as applied
-abbrev pub settled_applied : List Request → ℕ
-settled_applied requests = places_from says_applied [] requests
+abbrev pub applied_answers : List Request → ℕ
+applied_answers requests = places_from says_applied [] requests
 
 -- the number of items that were answered with a conflict after at least two requests had carried the write, including
 -- the answered one; sends are counted in the order of sending, in whatever order the answers arrived
@@ -61,9 +61,9 @@ settled_already requests = places_from says_already [] requests
 abbrev pub CountsAlways : Type 0
 CountsAlways =
     (g : Config) (c : Core) → CameAbout g c →
-    (c.applied ≡ settled_applied c.outside.requests) × (c.already ≡ settled_already c.outside.requests)
+    (c.applied ≡ applied_answers c.outside.requests) × (c.already ≡ settled_already c.outside.requests)
 
 abbrev pub CountsWhereItFits : Type 0
 CountsWhereItFits =
     (s : State) (taken : List Op) (out : Outside) → Fits s taken out →
-    (s.applied ≡ settled_applied out.requests) × (s.already ≡ settled_already out.requests)
+    (s.applied ≡ applied_answers out.requests) × (s.already ≡ settled_already out.requests)

@@ -60,8 +60,8 @@ ops_of first taken [] = []
 ops_of first taken (w ∷ ws) = option_to_list (slice_get taken (w.version - first)) ++ ops_of first taken ws
 
 -- those of the writes applied to a document
-abbrev pub attributed : Config → List Op → Outside → Document → List Op
-attributed g taken s k = ops_of g.first taken (s.applied k)
+abbrev pub applied_ops : Config → List Op → Outside → Document → List Op
+applied_ops g taken s k = ops_of g.first taken (s.applied k)
 
 -- no two operations that were taken have the same name
 abbrev pub HasDistinctNames : List Op → Type 0
@@ -71,13 +71,13 @@ HasDistinctNames taken = AllDistinct (map name_of taken)
 abbrev pub SoundAlways : Type 0
 SoundAlways =
     (g : Config) (c : Core) → CameAbout g c → HasDistinctNames c.taken →
-    IsSound g c.taken c.reports c.outside (attributed g c.taken c.outside)
+    IsSound g c.taken c.reports c.outside (applied_ops g c.taken c.outside)
 
 -- and by the same attribution it is complete if nothing is held
 abbrev pub CompleteAtTheEnd : Type 0
 CompleteAtTheEnd =
     (g : Config) (c : Core) → CameAbout g c → HasDistinctNames c.taken → c.held ≡ [] →
-    IsComplete c.taken c.reports (attributed g c.taken c.outside)
+    IsComplete c.taken c.reports (applied_ops g c.taken c.outside)
 
 -- each operation that was taken is held, ended as applied, or was reported
 abbrev pub HasTotals : Core → Type 0

@@ -14,12 +14,12 @@ pub record Lanes : Type 0 where
   pub lane : ℕ → Core
 
 -- a function of numbers, with one more element at the end of this list
-abbrev pub added : {A : Type 0} → (ℕ → List A) → ℕ → A → ℕ → List A
-added f n x m = if m == n then f m ++ x ∷ [] else f m
+abbrev pub with_added : {A : Type 0} → (ℕ → List A) → ℕ → A → ℕ → List A
+with_added f n x m = if m == n then f m ++ x ∷ [] else f m
 
 -- a function of numbers, with another value for this one
-abbrev pub changed : {A : Type 0} → (ℕ → A) → ℕ → A → ℕ → A
-changed f n x m = if m == n then x else f m
+abbrev pub with_value : {A : Type 0} → (ℕ → A) → ℕ → A → ℕ → A
+with_value f n x m = if m == n then x else f m
 
 -- an operation is put into the queue of its document's lane, a producer closes, a lane takes the front of its queue,
 -- or makes another step
@@ -29,25 +29,25 @@ pub data Move : Type 0 where
   Fetches : ℕ → Move
   Steps : ℕ → Step → Move
 
-abbrev pub fetched : Config → ℕ → Lanes → List Op → Lanes
-fetched g l w [] = w
-fetched g l w (o ∷ os) = record {
+abbrev pub after_fetch : Config → ℕ → Lanes → List Op → Lanes
+after_fetch g l w [] = w
+after_fetch g l w (o ∷ os) = record {
   accepted = w.accepted;
   closed = w.closed;
-  queue = changed w.queue l os;
-  lane = changed w.lane l (step g (Takes o) (w.lane l));
+  queue = with_value w.queue l os;
+  lane = with_value w.lane l (step g (Takes o) (w.lane l));
 }
 
 abbrev pub move : Config → (Document → ℕ) → Move → Lanes → Lanes
 move g lane_of (Puts o) w = record {
-  accepted = added w.accepted o.producer o;
+  accepted = with_added w.accepted o.producer o;
   closed = w.closed;
-  queue = added w.queue (lane_of (document_of o.key)) o;
+  queue = with_added w.queue (lane_of (document_of o.key)) o;
   lane = w.lane;
 }
-move g lane_of (Closes p) w = record { accepted = w.accepted; closed = changed w.closed p true; queue = w.queue; lane = w.lane }
-move g lane_of (Fetches l) w = fetched g l w (w.queue l)
-move g lane_of (Steps l s) w = record { accepted = w.accepted; closed = w.closed; queue = w.queue; lane = changed w.lane l (step g s (w.lane l)) }
+move g lane_of (Closes p) w = record { accepted = w.accepted; closed = with_value w.closed p true; queue = w.queue; lane = w.lane }
+move g lane_of (Fetches l) w = after_fetch g l w (w.queue l)
+move g lane_of (Steps l s) w = record { accepted = w.accepted; closed = w.closed; queue = w.queue; lane = with_value w.lane l (step g s (w.lane l)) }
 
 -- the next operation of a producer that has not closed, in the current epoch
 pub record MayPut (g : Config) (w : Lanes) (o : Op) : Type 0 where

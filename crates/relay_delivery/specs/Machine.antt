@@ -1,4 +1,4 @@
--- A lane as delivery sees it, and the outside: what it took, what it holds and what it reported. It has no clock,
+-- A lane as delivery sees it, and the outside: what it took, what it holds and what it reports_of. It has no clock,
 -- batch or queue, and of all limits only the caps: the others only decide which of these steps are made, and when.
 use Rattle.std.specs.Prelude.{◌≡◌, ℕ, suc, ◌+◌, ◌-◌, ◌*◌, ◌^◌, ◌<◌, ◌≤◌, List, [], ◌∷◌, ◌++◌, Option, Some, None, option_map, slice_get, Bool, true, false, ◌==◌, nat_lt, if◌then◌else◌, map, length}
 use Rattle.relay_action.specs.Actions.{kind_of}
@@ -41,7 +41,7 @@ pub record Place : Type 0 where
   pub request : ℕ
   pub place : ℕ
 
--- an operation that is neither done nor reported: the version that it was assigned, how many requests carried it, how
+-- an operation that is neither done nor reports_of: the version that it was assigned, how many requests carried it, how
 -- many of them count as tries, the cap, and where it is in flight, if it is
 pub record Held : Type 0 where
   pub op : Op
@@ -77,7 +77,7 @@ pub record Core : Type 0 where
 abbrev pub held_at : Config → ℕ → Op → Held
 held_at g place o = record { op = o; version = version_at g place; sends = 0; attempts = 0; cap = g.cap; flies = None }
 
--- it is held if a version is left for it, otherwise reported
+-- it is held if a version is left for it, otherwise reports_of
 abbrev pub held_if : Bool → Config → ℕ → Op → List Held
 held_if true g place o = held_at g place o ∷ []
 held_if false g place o = []
@@ -131,13 +131,13 @@ launched_at number h (Some place) = record {
   flies = Some (record { request = number; place = place });
 }
 
-abbrev pub launched : ℕ → List Held → Held → Held
-launched number chosen h = launched_at number h (place_of h.version chosen)
+abbrev pub after_launch : ℕ → List Held → Held → Held
+after_launch number chosen h = launched_at number h (place_of h.version chosen)
 
 abbrev pub send : List Held → Core → Core
 send chosen c = record {
   taken = c.taken;
-  held = map (launched (length c.outside.requests) chosen) c.held;
+  held = map (after_launch (length c.outside.requests) chosen) c.held;
   reports = c.reports;
   applied = c.applied;
   already = c.already;
@@ -155,19 +155,19 @@ fate_of g number ws a h (Some f) =
     else Flies
 
 -- it waits to be sent again
-abbrev pub landed : Held → Held
-landed h = record { op = h.op; version = h.version; sends = h.sends; attempts = h.attempts; cap = h.cap; flies = None }
+abbrev pub back_to_wait : Held → Held
+back_to_wait h = record { op = h.op; version = h.version; sends = h.sends; attempts = h.attempts; cap = h.cap; flies = None }
 
 -- it waits to be sent under this cap, and its try is given back
-abbrev pub halved : ℕ → Held → Held
-halved cap h = record { op = h.op; version = h.version; sends = h.sends; attempts = h.attempts - 1; cap = cap; flies = None }
+abbrev pub with_cap : ℕ → Held → Held
+with_cap cap h = record { op = h.op; version = h.version; sends = h.sends; attempts = h.attempts - 1; cap = cap; flies = None }
 
 abbrev pub kept_one : Fate → Held → List Held
 kept_one Flies h = h ∷ []
 kept_one Applied h = []
 kept_one Already h = []
-kept_one Retried h = landed h ∷ []
-kept_one (Halved cap) h = halved cap h ∷ []
+kept_one Retried h = back_to_wait h ∷ []
+kept_one (Halved cap) h = with_cap cap h ∷ []
 kept_one (Reported cause) h = []
 
 abbrev pub reported_one : Fate → Held → List Report
@@ -178,13 +178,13 @@ reported_one Retried h = []
 reported_one (Halved cap) h = []
 reported_one (Reported cause) h = report_on h.op cause ∷ []
 
-abbrev pub kept : Config → ℕ → List Write → Answer → List Held → List Held
-kept g number ws a [] = []
-kept g number ws a (h ∷ hs) = kept_one (fate_of g number ws a h h.flies) h ++ kept g number ws a hs
+abbrev pub still_held : Config → ℕ → List Write → Answer → List Held → List Held
+still_held g number ws a [] = []
+still_held g number ws a (h ∷ hs) = kept_one (fate_of g number ws a h h.flies) h ++ still_held g number ws a hs
 
-abbrev pub reported : Config → ℕ → List Write → Answer → List Held → List Report
-reported g number ws a [] = []
-reported g number ws a (h ∷ hs) = reported_one (fate_of g number ws a h h.flies) h ++ reported g number ws a hs
+abbrev pub reports_of : Config → ℕ → List Write → Answer → List Held → List Report
+reports_of g number ws a [] = []
+reports_of g number ws a (h ∷ hs) = reported_one (fate_of g number ws a h h.flies) h ++ reports_of g number ws a hs
 
 abbrev pub is_applied_fate : Fate → Bool
 is_applied_fate Flies = false
@@ -212,8 +212,8 @@ writes_or (Some q) = writes_of q
 abbrev pub settle : Config → ℕ → Answer → Core → Core
 settle g number a c = record {
   taken = c.taken;
-  held = kept g number (writes_or (slice_get c.outside.requests number)) a c.held;
-  reports = c.reports ++ reported g number (writes_or (slice_get c.outside.requests number)) a c.held;
+  held = still_held g number (writes_or (slice_get c.outside.requests number)) a c.held;
+  reports = c.reports ++ reports_of g number (writes_or (slice_get c.outside.requests number)) a c.held;
   applied = c.applied + how_many is_applied_fate g number (writes_or (slice_get c.outside.requests number)) a c.held;
   already = c.already + how_many is_already_fate g number (writes_or (slice_get c.outside.requests number)) a c.held;
   outside = after (outside.Answers number a) c.outside;

@@ -1,11 +1,11 @@
 -- A lane that starts afresh after a restart numbers its requests from the beginning again. With their numbers counted
--- on from those that it had sent before, it is the lane beside its outside, and each call is the same call there.
+-- on from those that it had with_request before, it is the lane beside its outside, and each call is the same call there.
 use Rattle.std.specs.Prelude.{◌≡◌, true, ℕ, ◌+◌, List, Option, Some, None, map}
 use Rattle.relay_action.specs.declared.operation.Op.{Op}
 use Rattle.relay_action.specs.declared.write.Write.{Write}
 use Rattle.relay_results.specs.Outside.{Answer}
 use Rattle.relay_delivery.specs.Machine.{Held, Place}
-use Rattle.relay_delivery.specs.Lane.{Entry, Flying, State, taken_op, candidates, sent, settled, writes_at, is_flying, answered}
+use Rattle.relay_delivery.specs.Lane.{Entry, Flying, State, taken_op, candidates, with_request, after_settling, writes_at, is_flying, with_answer}
 
 abbrev pub place_on : ℕ → Option Place → Option Place
 place_on n None = None
@@ -31,7 +31,7 @@ abbrev pub CandidatesOn : Type 0
 CandidatesOn = (n : ℕ) (s : State) → candidates (numbered_on n s) ≡ map (entry_on n) (candidates s)
 
 abbrev pub SendsOn : Type 0
-SendsOn = (n : ℕ) (s : State) (chosen : List Entry) → sent (numbered_on n s) (map (entry_on n) chosen) ≡ numbered_on n (sent s chosen)
+SendsOn = (n : ℕ) (s : State) (chosen : List Entry) → with_request (numbered_on n s) (map (entry_on n) chosen) ≡ numbered_on n (with_request s chosen)
 
 abbrev pub WritesOn : Type 0
 WritesOn = (n request : ℕ) (fs : List Flying) → writes_at (n + request) (map (flying_on n) fs) ≡ writes_at request fs
@@ -39,7 +39,7 @@ WritesOn = (n request : ℕ) (fs : List Flying) → writes_at (n + request) (map
 abbrev pub SettlesOn : Type 0
 SettlesOn =
     (n : ℕ) (s : State) (request : ℕ) (ws : List Write) (a : Answer) →
-    settled (numbered_on n s) (n + request) ws a ≡ numbered_on n (settled s request ws a)
+    after_settling (numbered_on n s) (n + request) ws a ≡ numbered_on n (after_settling s request ws a)
 
 abbrev pub FliesOn : Type 0
 FliesOn = (n number : ℕ) (s : State) → is_flying (n + number) (numbered_on n s) ≡ is_flying number s
@@ -47,4 +47,4 @@ FliesOn = (n number : ℕ) (s : State) → is_flying (n + number) (numbered_on n
 abbrev pub AnswersOn : Type 0
 AnswersOn =
     (n : ℕ) (s : State) (number : ℕ) (a : Answer) → is_flying number s ≡ true →
-    answered (numbered_on n s) (n + number) a ≡ numbered_on n (answered s number a)
+    with_answer (numbered_on n s) (n + number) a ≡ numbered_on n (with_answer s number a)

@@ -43,8 +43,8 @@ abbrev pub restarted_lanes : Lanes → Lanes
 restarted_lanes w = record { accepted = λ p. []; closed = λ p. false; queue = λ l. []; lane = λ l. restarted_core (w.lane l) }
 
 -- requests keep their numbers and their origins, and the runs are unchanged
-abbrev pub restarted : Together → Together
-restarted s = record { lanes = restarted_lanes s.lanes; sent = s.sent; origins = s.origins; runs = s.runs }
+abbrev pub after_restart : Together → Together
+after_restart s = record { lanes = restarted_lanes s.lanes; sent = s.sent; origins = s.origins; runs = s.runs }
 
 -- ---- what happens
 
@@ -55,7 +55,7 @@ pub data Happening : Type 0 where
 
 abbrev pub happen : (Document → ℕ) → Happening → Life → Life
 happen lane_of (Acts a) l = record { ended = l.ended; config = l.config; together = act l.config lane_of a l.together }
-happen lane_of (Restarts g) l = record { ended = with_running l.ended l.config l.together; config = g; together = restarted l.together }
+happen lane_of (Restarts g) l = record { ended = with_running l.ended l.config l.together; config = g; together = after_restart l.together }
 
 -- only answers to requests of the current incarnation are taken
 abbrev pub IsOfNow : List Incarnation → Act → Type 0
@@ -78,9 +78,9 @@ MayBe (Acts a) l = MayAct l.config a l.together × IsOfNow l.ended a
 MayBe (Restarts g) l = IsAbove l.config g
 
 -- after a sequence of them
-abbrev pub lived : (Document → ℕ) → List Happening → Life → Life
-lived lane_of [] l = l
-lived lane_of (h ∷ hs) l = lived lane_of hs (happen lane_of h l)
+abbrev pub after_all : (Document → ℕ) → List Happening → Life → Life
+after_all lane_of [] l = l
+after_all lane_of (h ∷ hs) l = after_all lane_of hs (happen lane_of h l)
 
 abbrev pub AllMayBe : (Document → ℕ) → List Happening → Life → Type 0
 AllMayBe lane_of [] l = Unit {0}
@@ -94,4 +94,4 @@ pub record CameAboutTogether (g : Config) (lane_of : Document → ℕ) (ended : 
   pub fresh : IsFreshTogether first start
   pub happenings : List Happening
   pub may : AllMayBe lane_of happenings (born first start)
-  pub reached : lived lane_of happenings (born first start) ≡ record { ended = ended; config = g; together = s }
+  pub reached : after_all lane_of happenings (born first start) ≡ record { ended = ended; config = g; together = s }

@@ -12,8 +12,8 @@ use Rattle.relay_results.specs.Outside.{Outside, IsOpening, Items, Lost, Event, 
 use Rattle.relay_results.specs.Outside as outside
 use Rattle.relay_delivery.specs.Attribution.{IsAttribution}
 use Rattle.relay_delivery.specs.Machine.{Config, Core, Held, Step, Takes, Sends, Runs, Answers, steps_of, AllMayStep, send, IsFresh}
-use Rattle.relay_delivery.specs.Delivery.{taken_of, attributed, IsComplete}
-use Rattle.relay_delivery.specs.Schedules.{op, accepted_of, nothing, end_of, ran, failed, entry, failed_entry, conflict}
+use Rattle.relay_delivery.specs.Delivery.{taken_of, applied_ops, IsComplete}
+use Rattle.relay_delivery.specs.Schedules.{op, accepted_of, nothing, end_of, ran, failed_run, entry, failed_entry, conflict}
 
 -- ---- the words of a schedule
 
@@ -37,13 +37,13 @@ lost_then_conflict o =
     ∷ Runs (ran 0 0 201)
     ∷ Answers 0 Lost
     ∷ Sends (waiting o 1 1 ∷ [])
-    ∷ Runs (failed 1 0 409 conflict)
+    ∷ Runs (failed_run 1 0 409 conflict)
     ∷ Answers 1 (Items (failed_entry (write_for o 1) 409 conflict ∷ []))
     ∷ []
 
 -- ---- one that meets the promises
 
--- this may happen, starting from a fresh lane; then nothing is held or reported, and the one write is attributed to
+-- this may happen, starting from a fresh lane; then nothing is held or reported, and the one write is applied_ops to
 -- the operation
 pub record EndsAlready (key : DocKey) (o : Op) : Type 0 where
   pub fresh : IsFresh config (begun nothing)
@@ -51,14 +51,14 @@ pub record EndsAlready (key : DocKey) (o : Op) : Type 0 where
   pub none_held : (steps_of config (lost_then_conflict o) (begun nothing)).held ≡ []
   pub none_reported : (steps_of config (lost_then_conflict o) (begun nothing)).reports ≡ []
   pub already : (steps_of config (lost_then_conflict o) (begun nothing)).already ≡ 1
-  pub attributed_to : attributed config (o ∷ []) (steps_of config (lost_then_conflict o) (begun nothing)).outside (document_of key) ≡ o ∷ []
+  pub attributed_to : applied_ops config (o ∷ []) (steps_of config (lost_then_conflict o) (begun nothing)).outside (document_of key) ≡ o ∷ []
 
 abbrev pub MachineWorks : Type 0
 MachineWorks = (key : DocKey) (source : Source) → EndsAlready key (op 1 key (Index source))
 
 -- ---- none may be left out
 
--- Whatever operations the applied writes are attributed to, one that was taken is not accounted for, though nothing
+-- Whatever operations the applied writes are applied_ops to, one that was taken is not accounted for, though nothing
 -- is held.
 pub record LosesOperation (c : Core) : Type 0 where
   pub none_held : c.held ≡ []
@@ -76,7 +76,7 @@ lost_and_stale o =
     ∷ Sends (waiting o 1 0 ∷ [])
     ∷ Answers 0 Lost
     ∷ Sends (waiting o 1 1 ∷ [])
-    ∷ Runs (failed 1 0 409 conflict)
+    ∷ Runs (failed_run 1 0 409 conflict)
     ∷ Answers 1 (Items (failed_entry (write_for o 1) 409 conflict ∷ []))
     ∷ []
 
@@ -104,7 +104,7 @@ second_applied o p =
     ∷ Answers 1 (Items (entry (write_for p 2) 201 ∷ []))
     ∷ Answers 0 Lost
     ∷ Sends (waiting o 1 1 ∷ [])
-    ∷ Runs (failed 2 0 409 conflict)
+    ∷ Runs (failed_run 2 0 409 conflict)
     ∷ Answers 2 (Items (failed_entry (write_for o 1) 409 conflict ∷ []))
     ∷ []
 

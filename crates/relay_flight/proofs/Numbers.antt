@@ -8,7 +8,7 @@ use Rattle.std.proofs.lemmas.List.Quantifiers.{position-Some}
 use Rattle.std.specs.List.{remove, position, position_or_len, filter, find}
 use Rattle.std.specs.Map.{lookup}
 use Rattle.relay_flight.specs.declared.request.Request.{Request}
-use Rattle.relay_flight.specs.Flying.{Items, entered, settled}
+use Rattle.relay_flight.specs.Flying.{Items, with_batch, without_batch}
 use Rattle.relay_flight.specs.InFlight.{InFlight, AreNumbered, IsOldest, has_number, others, numbered_batch, batches_of, with_request, without_request}
 
 -- ---- none has the number
@@ -182,7 +182,7 @@ batches_more [] x = refl
 batches_more (r ∷ rs) x = ap (λ bs. numbered_batch r ∷ bs) (batches_more rs x)
 
 -- a request enters with its batch
-pub batches_entered : (x : Request) (f : InFlight) → x.number ≡ f.next → batches_of (with_request x f) ≡ entered x.batch (batches_of f)
+pub batches_entered : (x : Request) (f : InFlight) → x.number ≡ f.next → batches_of (with_request x f) ≡ with_batch x.batch (batches_of f)
 batches_entered x f e = (λ i. record { max = f.max; next = f.next + 1; batches = batches_more f.requests x i }) ∙ (λ i. record { max = f.max; next = f.next + 1; batches = map numbered_batch f.requests ++ (e i, x.batch) ∷ [] })
 
 batches_others : (n : ℕ) (rs : List Request) → map numbered_batch (others n rs) ≡ filter (λ (e : ℕ × Items). not (e.0 == n)) (map numbered_batch rs)
@@ -192,6 +192,6 @@ batches_others n (r ∷ rs) = elim (eqb_tells r.number n) [
   | inr stays ↦ let kept = stays.0 in rw kept (ap (λ bs. numbered_batch r ∷ bs) (batches_others n rs))
 ]
 
--- and is settled with it
-pub batches_settled : (n : ℕ) (f : InFlight) → batches_of (without_request n f) ≡ settled n (batches_of f)
+-- and is without_batch with it
+pub batches_settled : (n : ℕ) (f : InFlight) → batches_of (without_request n f) ≡ without_batch n (batches_of f)
 batches_settled n f = λ i. record { max = f.max; next = f.next; batches = batches_others n f.requests i }

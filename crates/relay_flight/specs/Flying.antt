@@ -19,9 +19,9 @@ abbrev pub batch_at : ℕ → Flying → Option Items
 batch_at number f = lookup (λ k. k == number) f.batches
 
 -- after a batch was added under the next number
-abbrev pub entered : Items → Flying → Flying
-entered batch f = record { max = f.max; next = f.next + 1; batches = f.batches ++ (f.next, batch) ∷ [] }
+abbrev pub with_batch : Items → Flying → Flying
+with_batch batch f = record { max = f.max; next = f.next + 1; batches = f.batches ++ (f.next, batch) ∷ [] }
 
 -- without the batch of this number
-abbrev pub settled : ℕ → Flying → Flying
-settled number f = record f { batches = filter (λ e. not (e.0 == number)) f.batches }
+abbrev pub without_batch : ℕ → Flying → Flying
+without_batch number f = record f { batches = filter (λ e. not (e.0 == number)) f.batches }

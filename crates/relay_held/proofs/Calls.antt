@@ -10,7 +10,7 @@ use Rattle.relay_delay.specs.Waiting.{Delays, without}
 use Rattle.relay_results.proofs.Lists.{apart_tests, none_some, some_same}
 use Rattle.relay_held.specs.declared.kept.Kept.{Kept}
 use Rattle.relay_held.specs.Kept.{waits_here, launch_one}
-use Rattle.relay_held.specs.Queues.{AllUnder, AllWait, same_key, first_of, with_first, without_first, on_first, merged, queue_of, first_name, Changes}
+use Rattle.relay_held.specs.Queues.{AllUnder, AllWait, same_key, first_of, with_first, without_first, on_first, merge_of, queue_of, first_name, Changes}
 use Rattle.relay_held.specs.Shelf.{Shelf, IsHeld, slot_of, KeepsSlots, entry_at, entry_after}
 use Rattle.relay_held.proofs.Merging.{same_self}
 use Rattle.relay_held.proofs.Changing.{Keeps}
@@ -29,7 +29,7 @@ head_after v w key q c = ap (λ p. slice_get p 0) (c.queues key ∙ ap (λ b. co
 abbrev pub Flies : List Kept → DocKey → Type 0
 Flies hs key = (h : Kept) → first_of key hs ≡ Some h → waits_here h.flies ≡ false
 
-none_waits : (v : Shelf) (n : ℕ) (d : Delays) (key : DocKey) → IsHeld v n d → Flies (merged v.queues) key → (y : Kept) → WaitsFirst (queue_of v.queues key) y → ⊥
+none_waits : (v : Shelf) (n : ℕ) (d : Delays) (key : DocKey) → IsHeld v n d → Flies (merge_of v.queues) key → (y : Kept) → WaitsFirst (queue_of v.queues key) y → ⊥
 none_waits v n d key a f y w = apart_tests (sym (f y (sym (first_here v.queues n key a.holding) ∙ w.0)) ∙ w.1)
 
 -- ---- it waits again
@@ -41,7 +41,7 @@ land_joins v w key f o (h ∷ hs) e waits is none = inr (f h, is, (refl, waits h
 
 pub landed : (v w : Shelf) (n : ℕ) (d : Delays) (key : DocKey) (f : Kept → Kept) (o : Option Entry) → IsHeld v n d → Keeps f → ((h : Kept) → waits_here (f h).flies ≡ true)
     → Changes v.queues w.queues key (on_first f (queue_of v.queues key)) → w.slots ≡ v.slots → keys_of w.queues ≡ keys_of v.queues → IsDistinct same_key (keys_of w.queues)
-    → o ≡ option_map (entry_at (slot_of v.slots key)) (slice_get (queue_of w.queues key) 0) → Flies (merged v.queues) key → Moved w n d o (with_first key f (merged v.queues))
+    → o ≡ option_map (entry_at (slot_of v.slots key)) (slice_get (queue_of w.queues key) 0) → Flies (merge_of v.queues) key → Moved w n d o (with_first key f (merge_of v.queues))
 landed v w n d key f o a p waits c slots keys unique is flies =
     let b = with_becomes v.queues w.queues n key f p a.holding unique c in
     record {
@@ -63,9 +63,9 @@ push_joins v w x o (h ∷ hs) e waits is = inl (is, (λ y u. (ap (λ q. slice_ge
 pub roomier : (v : Shelf) (n : ℕ) (d e : Delays) → IsHeld v n d → d.room ≤ e.room → e.entries ≡ d.entries → IsHeld v n e
 roomier v n d e a le same = record { holding = a.holding; entries = same ∙ a.entries; room = let r = a.room in omega (arith, r, le) }
 
-pub pushed : (v w : Shelf) (n : ℕ) (d : Delays) (x : Kept) (o : Option Entry) → IsHeld v n d → AllUnder x.version (merged v.queues) → x.flies ≡ None
+pub pushed : (v w : Shelf) (n : ℕ) (d : Delays) (x : Kept) (o : Option Entry) → IsHeld v n d → AllUnder x.version (merge_of v.queues) → x.flies ≡ None
     → Changes v.queues w.queues x.key (queue_of v.queues x.key ++ x ∷ []) → KeepsSlots v w → length (keys_of w.queues) ≤ d.room → IsDistinct same_key (keys_of w.queues)
-    → o ≡ entry_after (queue_of v.queues x.key) (slot_of w.slots x.key) x → Moved w (n + 1) d o (merged v.queues ++ x ∷ [])
+    → o ≡ entry_after (queue_of v.queues x.key) (slot_of w.slots x.key) x → Moved w (n + 1) d o (merge_of v.queues ++ x ∷ [])
 pushed v w n d x o a under waits c slots room unique is =
     let b = push_becomes v.queues w.queues n x a.holding unique under waits c in
     record {
@@ -85,7 +85,7 @@ take_joins v w key x o (h ∷ (y ∷ ys)) e c slots first wait is none =
 
 one_taken : (v w : Shelf) (n : ℕ) (d : Delays) (key : DocKey) (x : Kept) (o : Option Entry) → IsHeld v n d → Changes v.queues w.queues key (drop 1 (queue_of v.queues key)) → KeepsSlots v w
     → length (keys_of w.queues) ≤ length (keys_of v.queues) → IsDistinct same_key (keys_of w.queues) → slice_get (queue_of v.queues key) 0 ≡ Some x
-    → o ≡ option_map (entry_at (slot_of v.slots key)) (slice_get (drop 1 (queue_of v.queues key)) 0) → Flies (merged v.queues) key → Moved w (n - 1) d o (without_first key (merged v.queues))
+    → o ≡ option_map (entry_at (slot_of v.slots key)) (slice_get (drop 1 (queue_of v.queues key)) 0) → Flies (merge_of v.queues) key → Moved w (n - 1) d o (without_first key (merge_of v.queues))
 one_taken v w n d key x o a c slots fewer unique first is flies =
     let b = take_becomes v.queues w.queues n key x a.holding unique c first in
     record {
@@ -104,7 +104,7 @@ no_first (h ∷ hs) e = absurd (cc)
 
 pub taken : (v w : Shelf) (n : ℕ) (d : Delays) (key : DocKey) (name : OpName) (o : Option Entry) → IsHeld v n d → Changes v.queues w.queues key (drop 1 (queue_of v.queues key)) → KeepsSlots v w
     → length (keys_of w.queues) ≤ length (keys_of v.queues) → IsDistinct same_key (keys_of w.queues) → Some name ≡ first_name (queue_of v.queues key)
-    → o ≡ option_map (entry_at (slot_of v.slots key)) (slice_get (drop 1 (queue_of v.queues key)) 0) → Flies (merged v.queues) key → Moved w (n - 1) d o (without_first key (merged v.queues))
+    → o ≡ option_map (entry_at (slot_of v.slots key)) (slice_get (drop 1 (queue_of v.queues key)) 0) → Flies (merge_of v.queues) key → Moved w (n - 1) d o (without_first key (merge_of v.queues))
 taken v w n d key name o a c slots fewer unique first is flies =
     let x = named_first (queue_of v.queues key) name first in
     one_taken v w n d key x.0 o a c slots fewer unique x.1 is flies
@@ -114,7 +114,7 @@ none_joins v w key [] e first = inl (refl, (λ y u. absurd (none_some y u.0)), (
 none_joins v w key (h ∷ hs) e first = absurd (none_some h (sym first))
 
 pub none_taken : (v w : Shelf) (n : ℕ) (d : Delays) (key : DocKey) → IsHeld v n d → Changes v.queues w.queues key (drop 1 (queue_of v.queues key)) → KeepsSlots v w
-    → length (keys_of w.queues) ≤ length (keys_of v.queues) → IsDistinct same_key (keys_of w.queues) → None ≡ first_name (queue_of v.queues key) → Moved w n d None (without_first key (merged v.queues))
+    → length (keys_of w.queues) ≤ length (keys_of v.queues) → IsDistinct same_key (keys_of w.queues) → None ≡ first_name (queue_of v.queues key) → Moved w n d None (without_first key (merge_of v.queues))
 none_taken v w n d key a c slots fewer unique no_name =
     let first = no_first (queue_of v.queues key) no_name in
     let b = none_becomes v.queues w.queues n key a.holding unique c first in
@@ -126,7 +126,7 @@ none_taken v w n d key a c slots fewer unique no_name =
 -- ---- the first is sent
 
 pub record Launched (v w : Shelf) (n : ℕ) (d : Delays) (e : Entry) (number place : ℕ) (x : Kept) : Type 0 where
-  pub becomes : Becomes w.queues n (with_first x.key (launch_one number place) (merged v.queues))
+  pub becomes : Becomes w.queues n (with_first x.key (launch_one number place) (merge_of v.queues))
   pub held : IsHeld w n (record d { entries = without e.version d.entries })
 
 flies_now : (p : List Kept) (number place : ℕ) (y : Kept) → WaitsFirst (on_first (launch_one number place) p) y → ⊥

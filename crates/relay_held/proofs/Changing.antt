@@ -8,7 +8,7 @@ use Rattle.indexmap.specs.IndexMap.{IndexMap, Updates}
 use Rattle.relay_action.specs.declared.key.DocKey.{DocKey}
 use Rattle.relay_results.proofs.Lists.{true_or_false}
 use Rattle.relay_held.specs.declared.kept.Kept.{Kept}
-use Rattle.relay_held.specs.Queues.{AllAbove, AllUnder, Rises, same_key, is_of, first_of, with_first, without_first, on_first, merged, queue_of, IsMerge, Changes}
+use Rattle.relay_held.specs.Queues.{AllAbove, AllUnder, Rises, same_key, is_of, first_of, with_first, without_first, on_first, merge_of, queue_of, IsMerge, Changes}
 use Rattle.relay_held.proofs.Merging.{same_self, same_along, same_back, apart_back, none_twice, merge_is}
 
 -- ---- a change of a map
@@ -163,8 +163,8 @@ without_merges es fs hs k0 m c = record {
 -- ---- so it is what is held afterwards
 
 pub record Holds (fs : List (DocKey × List Kept)) (hs : List Kept) : Type 0 where
-  pub list : merged fs ≡ hs
-  pub merge : IsMerge fs (merged fs)
+  pub list : merge_of fs ≡ hs
+  pub merge : IsMerge fs (merge_of fs)
 
 pub holds_of : (fs : List (DocKey × List Kept)) (hs : List Kept) → IsDistinct same_key (keys_of fs) → IsMerge fs hs → Holds fs hs
 holds_of fs hs d m = let e = merge_is fs hs (none_twice fs d) m in record { list = e; merge = subst (IsMerge fs) (sym e) m }

@@ -8,7 +8,7 @@ use Rattle.relay_action.specs.declared.write.Write.{Write}
 use Rattle.relay_results.proofs.Lists.{true_or_false, none_some}
 use Rattle.relay_held.specs.declared.kept.Kept.{Kept}
 use Rattle.relay_held.specs.Kept.{launch_one, back_at, halved_at}
-use Rattle.relay_held.specs.Queues.{AllUnder, same_key, is_of, first_of, with_first, without_first, on_first, merged, queue_of, AllWait, OnlyFirstsFly, IsHolding, Changes}
+use Rattle.relay_held.specs.Queues.{AllUnder, same_key, is_of, first_of, with_first, without_first, on_first, merge_of, queue_of, AllWait, OnlyFirstsFly, IsHolding, Changes}
 use Rattle.relay_held.proofs.Changing.{Keeps, push_merges, with_merges, without_merges, holds_of, first_is, filter_push, filter_with_same, filter_with_apart, filter_without_same, filter_without_apart}
 
 pub launch_keeps : (number place : ℕ) → Keeps (launch_one number place)
@@ -79,36 +79,36 @@ without_behind k0 hs o = λ k. ⊎_elim {C = AllWait (drop 1 (filter (is_of k) (
 -- what is held afterwards, and how many
 pub record Becomes (fs : List (DocKey × List Kept)) (n : ℕ) (hs : List Kept) : Type 0 where
   pub holding : IsHolding fs n
-  pub list : merged fs ≡ hs
+  pub list : merge_of fs ≡ hs
 
 pub with_becomes : (es fs : List (DocKey × List Kept)) (n : ℕ) (k : DocKey) (f : Kept → Kept) → Keeps f → IsHolding es n → IsDistinct same_key (keys_of fs)
-    → Changes es fs k (on_first f (queue_of es k)) → Becomes fs n (with_first k f (merged es))
+    → Changes es fs k (on_first f (queue_of es k)) → Becomes fs n (with_first k f (merge_of es))
 with_becomes es fs n k f p a d c =
-    let h = holds_of fs (with_first k f (merged es)) d (with_merges es fs (merged es) k f p a.merge c) in
-    record { holding = record { merge = h.merge; counted = a.counted ∙ sym (ap length h.list ∙ length_with k f (merged es)); behind = subst OnlyFirstsFly (sym h.list) (with_behind k f (merged es) p a.behind) }; list = h.list }
+    let h = holds_of fs (with_first k f (merge_of es)) d (with_merges es fs (merge_of es) k f p a.merge c) in
+    record { holding = record { merge = h.merge; counted = a.counted ∙ sym (ap length h.list ∙ length_with k f (merge_of es)); behind = subst OnlyFirstsFly (sym h.list) (with_behind k f (merge_of es) p a.behind) }; list = h.list }
 
-pub push_becomes : (es fs : List (DocKey × List Kept)) (n : ℕ) (x : Kept) → IsHolding es n → IsDistinct same_key (keys_of fs) → AllUnder x.version (merged es) → x.flies ≡ None
-    → Changes es fs x.key (queue_of es x.key ++ x ∷ []) → Becomes fs (n + 1) (merged es ++ x ∷ [])
+pub push_becomes : (es fs : List (DocKey × List Kept)) (n : ℕ) (x : Kept) → IsHolding es n → IsDistinct same_key (keys_of fs) → AllUnder x.version (merge_of es) → x.flies ≡ None
+    → Changes es fs x.key (queue_of es x.key ++ x ∷ []) → Becomes fs (n + 1) (merge_of es ++ x ∷ [])
 push_becomes es fs n x a d u w c =
-    let h = holds_of fs (merged es ++ x ∷ []) d (push_merges es fs (merged es) x a.merge u c) in
-    record { holding = record { merge = h.merge; counted = ap (λ m. m + 1) a.counted ∙ sym (ap length h.list ∙ length-append (merged es) (x ∷ [])); behind = subst OnlyFirstsFly (sym h.list) (push_behind (merged es) x w a.behind) }; list = h.list }
+    let h = holds_of fs (merge_of es ++ x ∷ []) d (push_merges es fs (merge_of es) x a.merge u c) in
+    record { holding = record { merge = h.merge; counted = ap (λ m. m + 1) a.counted ∙ sym (ap length h.list ∙ length-append (merge_of es) (x ∷ [])); behind = subst OnlyFirstsFly (sym h.list) (push_behind (merge_of es) x w a.behind) }; list = h.list }
 
-pub first_here : (es : List (DocKey × List Kept)) (n : ℕ) (k : DocKey) → IsHolding es n → slice_get (queue_of es k) 0 ≡ first_of k (merged es)
-first_here es n k a = ap (λ q. slice_get q 0) (a.merge.queues k) ∙ sym (first_is k (merged es))
+pub first_here : (es : List (DocKey × List Kept)) (n : ℕ) (k : DocKey) → IsHolding es n → slice_get (queue_of es k) 0 ≡ first_of k (merge_of es)
+first_here es n k a = ap (λ q. slice_get q 0) (a.merge.queues k) ∙ sym (first_is k (merge_of es))
 
 pub take_becomes : (es fs : List (DocKey × List Kept)) (n : ℕ) (k : DocKey) (x : Kept) → IsHolding es n → IsDistinct same_key (keys_of fs)
-    → Changes es fs k (drop 1 (queue_of es k)) → slice_get (queue_of es k) 0 ≡ Some x → Becomes fs (n - 1) (without_first k (merged es))
+    → Changes es fs k (drop 1 (queue_of es k)) → slice_get (queue_of es k) 0 ≡ Some x → Becomes fs (n - 1) (without_first k (merge_of es))
 take_becomes es fs n k x a d c e =
-    let h = holds_of fs (without_first k (merged es)) d (without_merges es fs (merged es) k a.merge c) in
-    let l = length_without k (merged es) x (sym (first_here es n k a) ∙ e) in
+    let h = holds_of fs (without_first k (merge_of es)) d (without_merges es fs (merge_of es) k a.merge c) in
+    let l = length_without k (merge_of es) x (sym (first_here es n k a) ∙ e) in
     let m = ap length h.list in
-    record { holding = record { merge = h.merge; counted = let g = a.counted in omega (arith, l, m, g); behind = subst OnlyFirstsFly (sym h.list) (without_behind k (merged es) a.behind) }; list = h.list }
+    record { holding = record { merge = h.merge; counted = let g = a.counted in omega (arith, l, m, g); behind = subst OnlyFirstsFly (sym h.list) (without_behind k (merge_of es) a.behind) }; list = h.list }
 
 pub none_becomes : (es fs : List (DocKey × List Kept)) (n : ℕ) (k : DocKey) → IsHolding es n → IsDistinct same_key (keys_of fs)
-    → Changes es fs k (drop 1 (queue_of es k)) → slice_get (queue_of es k) 0 ≡ None → Becomes fs n (without_first k (merged es))
+    → Changes es fs k (drop 1 (queue_of es k)) → slice_get (queue_of es k) 0 ≡ None → Becomes fs n (without_first k (merge_of es))
 none_becomes es fs n k a d c e =
-    let h = holds_of fs (without_first k (merged es)) d (without_merges es fs (merged es) k a.merge c) in
-    record { holding = record { merge = h.merge; counted = a.counted ∙ sym (ap length (h.list ∙ without_none k (merged es) (sym (first_here es n k a) ∙ e))); behind = subst OnlyFirstsFly (sym h.list) (without_behind k (merged es) a.behind) }; list = h.list }
+    let h = holds_of fs (without_first k (merge_of es)) d (without_merges es fs (merge_of es) k a.merge c) in
+    record { holding = record { merge = h.merge; counted = a.counted ∙ sym (ap length (h.list ∙ without_none k (merge_of es) (sym (first_here es n k a) ∙ e))); behind = subst OnlyFirstsFly (sym h.list) (without_behind k (merge_of es) a.behind) }; list = h.list }
 
 pub some_held : (es : List (DocKey × List Kept)) (n : ℕ) (k : DocKey) (x : Kept) → IsHolding es n → slice_get (queue_of es k) 0 ≡ Some x → 1 ≤ n
-some_held es n k x a e = let l = length_without k (merged es) x (sym (first_here es n k a) ∙ e) in let g = a.counted in omega (arith, l, g)
+some_held es n k x a e = let l = length_without k (merge_of es) x (sym (first_here es n k a) ∙ e) in let g = a.counted in omega (arith, l, g)

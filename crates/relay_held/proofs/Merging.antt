@@ -9,7 +9,7 @@ use Rattle.relay_results.specs.Documents.{Document, document_of, same_document}
 use Rattle.relay_results.proofs.Same.{same_document-true, same_document-self}
 use Rattle.relay_results.proofs.Lists.{apart_tests, true_or_false}
 use Rattle.relay_held.specs.declared.kept.Kept.{Kept}
-use Rattle.relay_held.specs.Queues.{AllAbove, Rises, same_key, is_of, insert_one, inserted, merged, queue_of, IsMerge}
+use Rattle.relay_held.specs.Queues.{AllAbove, Rises, same_key, is_of, insert_one, insert_all, merge_of, queue_of, IsMerge}
 
 -- ---- documents
 
@@ -55,14 +55,14 @@ insert_front x (h ∷ hs) a = rw (lt-ltb x.version h.version a.0) refl
 insert_past : (x h : Kept) (hs : List Kept) → h.version < x.version → insert_one x (h ∷ hs) ≡ h ∷ insert_one x hs
 insert_past x h hs lt = rw (no_lt x.version h.version (omega (arith, lt))) refl
 
-inserted_past : (xs : List Kept) (h : Kept) (hs : List Kept) → AllAbove h.version xs → inserted xs (h ∷ hs) ≡ h ∷ inserted xs hs
+inserted_past : (xs : List Kept) (h : Kept) (hs : List Kept) → AllAbove h.version xs → insert_all xs (h ∷ hs) ≡ h ∷ insert_all xs hs
 inserted_past [] h hs a = refl
-inserted_past (x ∷ xs) h hs a = ap (insert_one x) (inserted_past xs h hs a.1) ∙ insert_past x h (inserted xs hs) a.0
+inserted_past (x ∷ xs) h hs a = ap (insert_one x) (inserted_past xs h hs a.1) ∙ insert_past x h (insert_all xs hs) a.0
 
--- what passes a test and what does not, merged
-pub parted : (p : Kept → Bool) (hs : List Kept) → Rises hs → inserted (filter p hs) (filter (λ h. not (p h)) hs) ≡ hs
+-- what passes a test and what does not, merge_of
+pub parted : (p : Kept → Bool) (hs : List Kept) → Rises hs → insert_all (filter p hs) (filter (λ h. not (p h)) hs) ≡ hs
 parted p [] r = refl
-parted p (h ∷ hs) r = ⊎_elim {C = inserted (filter p (h ∷ hs)) (filter (λ x. not (p x)) (h ∷ hs)) ≡ h ∷ hs}
+parted p (h ∷ hs) r = ⊎_elim {C = insert_all (filter p (h ∷ hs)) (filter (λ x. not (p x)) (h ∷ hs)) ≡ h ∷ hs}
     (λ t. rw t (ap (insert_one h) (parted p hs r.1) ∙ insert_front h hs r.0))
     (λ t. rw t (inserted_past (filter p hs) h (filter (λ x. not (p x)) hs) (above_filter p h.version hs r.0) ∙ ap (λ ys. h ∷ ys) (parted p hs r.1)))
     (true_or_false (p h))
@@ -121,8 +121,8 @@ none_held : (hs : List Kept) → IsMerge [] hs → [] ≡ hs
 none_held [] m = refl
 none_held (h ∷ hs) m = let e : [] ≡ h ∷ filter (is_of h.key) hs = m.queues h.key ∙ ap (λ b. if b then h ∷ filter (is_of h.key) hs else filter (is_of h.key) hs) (same_self h.key) in absurd (cc)
 
-pub merge_is : (es : List (DocKey × List Kept)) (hs : List Kept) → NoneTwice es → IsMerge es hs → merged es ≡ hs
+pub merge_is : (es : List (DocKey × List Kept)) (hs : List Kept) → NoneTwice es → IsMerge es hs → merge_of es ≡ hs
 merge_is [] hs n m = none_held hs m
 merge_is (e ∷ es) hs n m =
-    (λ i. inserted (first_queue e es hs m i) (merge_is es (filter (λ h. not (is_of e.0 h)) hs) n.1 (rest_merge e es hs n m) i))
+    (λ i. insert_all (first_queue e es hs m i) (merge_is es (filter (λ h. not (is_of e.0 h)) hs) n.1 (rest_merge e es hs n m) i))
     ∙ parted (is_of e.0) hs m.rises

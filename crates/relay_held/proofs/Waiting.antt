@@ -11,7 +11,7 @@ use Rattle.relay_results.specs.Words.{Mem}
 use Rattle.relay_results.proofs.Lists.{apart_tests, true_or_false, none_some, some_same, equal, equal_test, Mem-filter, filter-Mem, Mem-map, any_true, at-Mem}
 use Rattle.relay_held.specs.declared.kept.Kept.{Kept}
 use Rattle.relay_held.specs.Kept.{waits_here}
-use Rattle.relay_held.specs.Queues.{AllAbove, Rises, same_key, is_of, first_of, candidates_kept, eligible, first_due_kept, insert_one, merged, queue_of, IsMerge, IsHolding, Changes}
+use Rattle.relay_held.specs.Queues.{AllAbove, Rises, same_key, is_of, first_of, candidates_kept, eligible, first_due_kept, insert_one, merge_of, queue_of, IsMerge, IsHolding, Changes}
 use Rattle.relay_held.specs.Shelf.{Shelf, IsHeld, slot_of, KeepsSlots, entry_at, entry_of, with_entry}
 use Rattle.relay_held.proofs.Merging.{same_self, rises_filter}
 use Rattle.relay_held.proofs.Changing.{first_is, same_queue}
@@ -264,8 +264,8 @@ joined v w n l d key q o a b c slots room j = ⊎_elim {C = Joined w l d o} same
   where
     same : (o ≡ None) × ((x : Kept) → WaitsFirst q x → WaitsFirst (queue_of v.queues key) x) × ((x : Kept) → WaitsFirst (queue_of v.queues key) x → WaitsFirst q x) → Joined w l d o
     same s =
-        let hs = merged v.queues in
-        let gs = merged w.queues in
+        let hs = merge_of v.queues in
+        let gs = merge_of w.queues in
         let is = eligible_same v.queues w.queues hs gs key q a.holding.merge b.merge c s.1 s.2 in
         subst (Joined w l d) (sym s.0) (record {
           free = tt;
@@ -278,8 +278,8 @@ joined v w n l d key q o a b c slots room j = ⊎_elim {C = Joined w l d o} same
 
     more : (x : Kept) × (o ≡ Some (entry_at (slot_of w.slots key) x)) × WaitsFirst q x × ((y : Kept) → WaitsFirst (queue_of v.queues key) y → ⊥) → Joined w l d o
     more (x, s, waits, none) =
-        let hs = merged v.queues in
-        let gs = merged w.queues in
+        let hs = merge_of v.queues in
+        let gs = merge_of w.queues in
         let is = eligible_more v.queues w.queues hs gs key q x a.holding.merge b.merge c waits none in
         let now = waits_after v.queues w.queues key q key x c (same_self key) waits in
         let fresh = fresh_one v.queues w.queues hs gs key q x a.holding.merge b.merge c waits none in
@@ -302,48 +302,48 @@ joined v w n l d key q o a b c slots room j = ⊎_elim {C = Joined w l d o} same
 pub left : (v w : Shelf) (n : ℕ) (d : Delays) (key : DocKey) (q : List Kept) (x : Kept) → IsHeld v n d → IsHolding w.queues n → Changes v.queues w.queues key q → w.slots ≡ v.slots
     → keys_of w.queues ≡ keys_of v.queues → WaitsFirst (queue_of v.queues key) x → ((y : Kept) → WaitsFirst q y → ⊥) → IsHeld w n (record d { entries = without x.version d.entries })
 left v w n d key q x a b c slots keys waits none =
-    let hs = merged v.queues in
-    let is = eligible_less v.queues w.queues hs (merged w.queues) key q x a.holding.merge b.merge c waits none in
+    let hs = merge_of v.queues in
+    let is = eligible_less v.queues w.queues hs (merge_of w.queues) key q x a.holding.merge b.merge c waits none in
     record {
       holding = b;
-      entries = ap (without x.version) a.entries ∙ sym (map_without v.slots x.version (eligible hs)) ∙ ap (map (entry_of v.slots)) (sym is) ∙ ap (λ ss. map (entry_of ss) (eligible (merged w.queues))) (sym slots);
+      entries = ap (without x.version) a.entries ∙ sym (map_without v.slots x.version (eligible hs)) ∙ ap (map (entry_of v.slots)) (sym is) ∙ ap (λ ss. map (entry_of ss) (eligible (merge_of w.queues))) (sym slots);
       room = subst (λ ks. length ks ≤ d.room) (sym keys) a.room;
     }
 
 -- ---- which are due
 
-pub due_now : (v : Shelf) (n : ℕ) (d : Delays) → IsHeld v n d → due_entries d ≡ map (entry_of v.slots) (candidates_kept (merged v.queues) d.clock)
+pub due_now : (v : Shelf) (n : ℕ) (d : Delays) → IsHeld v n d → due_entries d ≡ map (entry_of v.slots) (candidates_kept (merge_of v.queues) d.clock)
 due_now v n d a =
-    ap (filter (is_due d.clock)) a.entries ∙ map_due v.slots d.clock (eligible (merged v.queues)) ∙ ap (map (entry_of v.slots)) (sym (due_eligible (merged v.queues) d.clock))
+    ap (filter (is_due d.clock)) a.entries ∙ map_due v.slots d.clock (eligible (merge_of v.queues)) ∙ ap (map (entry_of v.slots)) (sym (due_eligible (merge_of v.queues) d.clock))
 
-pub due_count : (v : Shelf) (n : ℕ) (d : Delays) → IsHeld v n d → length (due_entries d) ≡ length (candidates_kept (merged v.queues) d.clock)
-due_count v n d a = ap length (due_now v n d a) ∙ length-map (candidates_kept (merged v.queues) d.clock) (entry_of v.slots)
+pub due_count : (v : Shelf) (n : ℕ) (d : Delays) → IsHeld v n d → length (due_entries d) ≡ length (candidates_kept (merge_of v.queues) d.clock)
+due_count v n d a = ap length (due_now v n d a) ∙ length-map (candidates_kept (merge_of v.queues) d.clock) (entry_of v.slots)
 
-pub due_place : (v : Shelf) (n : ℕ) (d : Delays) (at : ℕ) → IsHeld v n d → slice_get (due_entries d) at ≡ option_map (entry_of v.slots) (slice_get (candidates_kept (merged v.queues) d.clock) at)
-due_place v n d at a = ap (λ es. slice_get es at) (due_now v n d a) ∙ slice_map (entry_of v.slots) (candidates_kept (merged v.queues) d.clock) at
+pub due_place : (v : Shelf) (n : ℕ) (d : Delays) (at : ℕ) → IsHeld v n d → slice_get (due_entries d) at ≡ option_map (entry_of v.slots) (slice_get (candidates_kept (merge_of v.queues) d.clock) at)
+due_place v n d at a = ap (λ es. slice_get es at) (due_now v n d a) ∙ slice_map (entry_of v.slots) (candidates_kept (merge_of v.queues) d.clock) at
 
 pub record IsDueAt (v : Shelf) (d : Delays) (at : ℕ) (e : Entry) : Type 0 where
   pub one : Kept
-  pub here : slice_get (candidates_kept (merged v.queues) d.clock) at ≡ Some one
+  pub here : slice_get (candidates_kept (merge_of v.queues) d.clock) at ≡ Some one
   pub entry : e ≡ entry_of v.slots one
   pub waits : WaitsFirst (queue_of v.queues one.key) one
 
 pub is_due_at : (v : Shelf) (n : ℕ) (d : Delays) (at : ℕ) (e : Entry) → IsHeld v n d → Some e ≡ slice_get (due_entries d) at → IsDueAt v d at e
-is_due_at v n d at e a l = by (slice_get (candidates_kept (merged v.queues) d.clock) at) refl (l ∙ due_place v n d at a)
+is_due_at v n d at e a l = by (slice_get (candidates_kept (merge_of v.queues) d.clock) at) refl (l ∙ due_place v n d at a)
   where
-    by : (o : Option Kept) → slice_get (candidates_kept (merged v.queues) d.clock) at ≡ o → Some e ≡ option_map (entry_of v.slots) o → IsDueAt v d at e
+    by : (o : Option Kept) → slice_get (candidates_kept (merge_of v.queues) d.clock) at ≡ o → Some e ≡ option_map (entry_of v.slots) o → IsDueAt v d at e
     by None is f = absurd (cc)
     by (Some h) is f = record {
       one = h;
       here = is;
       entry = some_same e (entry_of v.slots h) f;
       waits =
-          let m = Mem-filter (λ (y : Kept). nat_le y.due d.clock) h (eligible (merged v.queues)) (subst (Mem h) (due_eligible (merged v.queues) d.clock) (at-Mem (candidates_kept (merged v.queues) d.clock) at h is)) in
-          mem_head v.queues (merged v.queues) h a.holding.merge m.0;
+          let m = Mem-filter (λ (y : Kept). nat_le y.due d.clock) h (eligible (merge_of v.queues)) (subst (Mem h) (due_eligible (merge_of v.queues) d.clock) (at-Mem (candidates_kept (merge_of v.queues) d.clock) at h is)) in
+          mem_head v.queues (merge_of v.queues) h a.holding.merge m.0;
     }
 
-pub none_due : (v : Shelf) (n : ℕ) (d : Delays) (at : ℕ) → IsHeld v n d → None ≡ slice_get (due_entries d) at → slice_get (candidates_kept (merged v.queues) d.clock) at ≡ None
-none_due v n d at a l = by (slice_get (candidates_kept (merged v.queues) d.clock) at) (l ∙ due_place v n d at a)
+pub none_due : (v : Shelf) (n : ℕ) (d : Delays) (at : ℕ) → IsHeld v n d → None ≡ slice_get (due_entries d) at → slice_get (candidates_kept (merge_of v.queues) d.clock) at ≡ None
+none_due v n d at a l = by (slice_get (candidates_kept (merge_of v.queues) d.clock) at) (l ∙ due_place v n d at a)
   where
     by : (o : Option Kept) → None ≡ option_map (entry_of v.slots) o → o ≡ None
     by None f = refl
@@ -353,5 +353,5 @@ pub none_there : (cs : List Kept) → slice_get cs 0 ≡ None → 0 < length cs 
 none_there [] e lt = omega (arith, lt)
 none_there (c ∷ cs) e lt = none_some c (sym e)
 
-pub due_is : (v : Shelf) (n : ℕ) (d : Delays) → IsHeld v n d → first_due d.entries ≡ first_due_kept (eligible (merged v.queues))
-due_is v n d a = ap first_due a.entries ∙ map_first_due v.slots (eligible (merged v.queues))
+pub due_is : (v : Shelf) (n : ℕ) (d : Delays) → IsHeld v n d → first_due d.entries ≡ first_due_kept (eligible (merge_of v.queues))
+due_is v n d a = ap first_due a.entries ∙ map_first_due v.slots (eligible (merge_of v.queues))

@@ -114,14 +114,14 @@ abbrev pub insert_one : Kept → List Kept → List Kept
 insert_one x [] = x ∷ []
 insert_one x (h ∷ hs) = if nat_lt x.version h.version then x ∷ h ∷ hs else h ∷ insert_one x hs
 
-abbrev pub inserted : List Kept → List Kept → List Kept
-inserted [] hs = hs
-inserted (x ∷ xs) hs = insert_one x (inserted xs hs)
+abbrev pub insert_all : List Kept → List Kept → List Kept
+insert_all [] hs = hs
+insert_all (x ∷ xs) hs = insert_one x (insert_all xs hs)
 
 -- all queues together, in rising version
-abbrev pub merged : List (DocKey × List Kept) → List Kept
-merged [] = []
-merged (e ∷ es) = inserted e.1 (merged es)
+abbrev pub merge_of : List (DocKey × List Kept) → List Kept
+merge_of [] = []
+merge_of (e ∷ es) = insert_all e.1 (merge_of es)
 
 abbrev pub queue_of : List (DocKey × List Kept) → DocKey → List Kept
 queue_of es k = unwrap_or (lookup (same_key k) es) []
@@ -136,9 +136,9 @@ pub record NoneEmpty (es : List (DocKey × List Kept)) : Type 0 where
   pub filled : (k : DocKey) (q : List Kept) → lookup (same_key k) es ≡ Some q → 0 < length q
 
 pub record IsHolding (es : List (DocKey × List Kept)) (n : ℕ) : Type 0 where
-  pub merge : IsMerge es (merged es)
-  pub counted : n ≡ length (merged es)
-  pub behind : OnlyFirstsFly (merged es)
+  pub merge : IsMerge es (merge_of es)
+  pub counted : n ≡ length (merge_of es)
+  pub behind : OnlyFirstsFly (merge_of es)
 
 -- the queue of one document is another one now, and each other document has the queue that it had
 pub record Changes (es fs : List (DocKey × List Kept)) (key : DocKey) (q : List Kept) : Type 0 where

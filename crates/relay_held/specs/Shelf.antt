@@ -7,7 +7,7 @@ use Rattle.relay_action.specs.declared.key.DocKey.{DocKey}
 use Rattle.relay_delay.specs.declared.entry.Entry.{Entry}
 use Rattle.relay_delay.specs.Waiting.{Delays, insert}
 use Rattle.relay_held.specs.declared.kept.Kept.{Kept}
-use Rattle.relay_held.specs.Queues.{same_key, eligible, merged, queue_of, IsHolding}
+use Rattle.relay_held.specs.Queues.{same_key, eligible, merge_of, queue_of, IsHolding}
 
 -- ---- the queues, each in its slot
 
@@ -15,9 +15,9 @@ use Rattle.relay_held.specs.Queues.{same_key, eligible, merged, queue_of, IsHold
 abbrev pub queue_in : Slab (List Kept) → ℕ → List Kept
 queue_in s slot = unwrap_or (get s slot) []
 
-abbrev pub shelved : Slab (List Kept) → List (DocKey × ℕ) → List (DocKey × List Kept)
-shelved s [] = []
-shelved s (e ∷ es) = (e.0, queue_in s e.1) ∷ shelved s es
+abbrev pub queues_of : Slab (List Kept) → List (DocKey × ℕ) → List (DocKey × List Kept)
+queues_of s [] = []
+queues_of s (e ∷ es) = (e.0, queue_in s e.1) ∷ queues_of s es
 
 -- the queues of the documents, and the slot of each
 pub record Shelf : Type 0 where
@@ -63,5 +63,5 @@ with_entry (Some e) es = insert e es
 -- the delay queue has an entry for each of them, and room for one of each document
 pub record IsHeld (v : Shelf) (n : ℕ) (d : Delays) : Type 0 where
   pub holding : IsHolding v.queues n
-  pub entries : d.entries ≡ map (entry_of v.slots) (eligible (merged v.queues))
+  pub entries : d.entries ≡ map (entry_of v.slots) (eligible (merge_of v.queues))
   pub room : length (keys_of v.queues) ≤ d.room

@@ -36,12 +36,12 @@ pub struct Held {
 }
 
 impl Model for Held {
-    ghost use Rattle.relay_held.specs.Queues.{Holding, merged};
+    ghost use Rattle.relay_held.specs.Queues.{Holding, merge_of};
     ghost use Rattle.relay_held.specs.Shelf.{IsHeld};
 
     ghost Value = { Holding };
 
-    ghost view = { λ h. record { list = merged h.documents.queues; clock = h.waiting.clock } };
+    ghost view = { λ h. record { list = merge_of h.documents.queues; clock = h.waiting.clock } };
 
     ghost invariant = { λ h. IsHeld h.documents h.count h.waiting };
 }

@@ -15,7 +15,7 @@ use Rattle.std.proofs.lemmas.List.{map-append}
 use Rattle.std.specs.Prelude.{Result, Ok, Err, nat_le}
 use Rattle.httparse.specs.Grammar.{trim_ows}
 use Rattle.relay_http.specs.Fields.{number}
-use Rattle.relay_http.specs.Framing.{sized}
+use Rattle.relay_http.specs.Framing.{framing_by_length}
 use Rattle.relay_http.specs.declared.fault.HttpFault.{HttpFault}
 use Rattle.relay_http.specs.declared.fault.HttpFault.TheVariants as fault
 use Rattle.relay_http.specs.declared.framing.Framing.{Framing}
@@ -194,8 +194,8 @@ elements_split name f xs i d inside none named =
 pub sized_first : (limit : ℕ) (o : Framing) (all : Bool) (r : Result Framing HttpFault) (value first : List ℕ) (rest more es : List (List ℕ))
     → elements value ≡ first ∷ rest → es ≡ elements value ++ more → all ≡ list_all (agrees first) es
     → ((tail : List (List ℕ)) → all ≡ list_all (agrees first) (first ∷ tail) → r ≡ cond all (cond (nat_le (number first) limit) (Ok (framing.Sized (number first))) (Err fault.BodyLong)) (Err fault.Malformed))
-    → r ≡ sized limit o es
+    → r ≡ framing_by_length limit o es
 sized_first limit o all r value first rest more es e f a h =
     let whole : es ≡ first ∷ (rest ++ more) = f ∙ ap (λ l. l ++ more) e in
     let same : all ≡ list_all (agrees first) (first ∷ (rest ++ more)) = a ∙ ap (list_all (agrees first)) whole in
-    h (rest ++ more) same ∙ ap (λ b. cond b (cond (nat_le (number first) limit) (Ok (framing.Sized (number first))) (Err fault.BodyLong)) (Err fault.Malformed)) same ∙ sym (ap (sized limit o) whole)
+    h (rest ++ more) same ∙ ap (λ b. cond b (cond (nat_le (number first) limit) (Ok (framing.Sized (number first))) (Err fault.BodyLong)) (Err fault.Malformed)) same ∙ sym (ap (framing_by_length limit o) whole)

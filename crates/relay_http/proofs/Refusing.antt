@@ -15,7 +15,7 @@ use Rattle.relay_http.specs.Body.{IsLongBody, IsLongRest}
 use Rattle.relay_http.specs.Chunked.{IsSizeLine, FitsLine, Chunk, IsChunk, print_chunk, IsLongChunked}
 use Rattle.relay_http.specs.Forms.{Form, Begins, Took, IsOutside, IsThatOrOutside}
 use Rattle.relay_http.specs.Fields.{Header, agrees, elements_named, has_field, number, values_named}
-use Rattle.relay_http.specs.Framing.{framing_of_fields, framing_of_request, is_chunked, is_interim, is_plain, reply_limit, request_limit, sized}
+use Rattle.relay_http.specs.Framing.{framing_of_fields, framing_of_request, is_chunked, is_interim, is_plain, reply_limit, request_limit, framing_by_length}
 use Rattle.relay_http.specs.Refusals.{OverrunsHead, OverrunsRequestHead, OverrunsTrailer, OverrunsLine, OverrunsNever, NeverHasCrlf, PieceFault, AfterChunks, AfterSizeLine, HasNoChunkEnd, BreaksAfterLine, OverrunsAfterLine, BreaksChunk, OverrunsChunk, BreaksBody, OverrunsBody, BodyFault, AfterInterim, AfterHeads, ReplyFault, AfterRequestHead, RequestFault}
 use Rattle.relay_http.specs.Reply.{IsHead, IsHeads, IsInterim, ReplyStates}
 use Rattle.relay_http.specs.Request.{IsRequestInfo, RequestStates, request_headers}
@@ -344,7 +344,7 @@ no_interim_length true true g h = cc
 no_interim_length true false g h = cc
 no_interim_length false b g h = cc
 
-no_interim_sized : (limit : ℕ) (o : Framing) (es : List (List ℕ)) → sized limit o es ≡ Err fault.TooManyInterim → ⊥
+no_interim_sized : (limit : ℕ) (o : Framing) (es : List (List ℕ)) → framing_by_length limit o es ≡ Err fault.TooManyInterim → ⊥
 no_interim_sized limit o [] h = cc
 no_interim_sized limit o (e ∷ es) h = no_interim_length (list_all (agrees e) (e ∷ es)) (nat_le (number e) limit) (framing.Sized (number e)) h
 
@@ -354,7 +354,7 @@ no_interim_fields limit o fields h =
     let lengths = elements_named (codes "content-length") fields in
     let coded = has_field (codes "transfer-encoding") fields in
     no_interim_chosen (coded && has_field (codes "content-length") fields) ((coded && not (is_chunked codings)) || not (list_all is_plain (values_named (codes "content-encoding") fields))) coded
-    (sized limit o lengths) (no_interim_sized limit o lengths) h
+    (framing_by_length limit o lengths) (no_interim_sized limit o lengths) h
 
 request_states_no_interim : (t : List ℕ) (e : Bool) (info : RequestInfo) → IsRequestInfo t e info → (f : HttpFault) → info.framing ≡ Err f → f ≢ fault.TooManyInterim
 request_states_no_interim t e info m f is same =

@@ -5,7 +5,7 @@ use Rattle.std.specs.List.{AllByRecursion, list_all}
 use Rattle.httparse.specs.Grammar.{ResponseHead, print_response, status_code}
 use Rattle.httparse.proofs.GrammarLemmas.{response_unique}
 use Rattle.relay_http.specs.Fields.{Header, has_field, values_named, elements_named, agrees, number}
-use Rattle.relay_http.specs.Framing.{framing_of, framing_of_fields, is_chunked, is_interim, is_plain, sized, is_to_end, reply_limit}
+use Rattle.relay_http.specs.Framing.{framing_of, framing_of_fields, is_chunked, is_interim, is_plain, framing_by_length, is_to_end, reply_limit}
 use Rattle.relay_http.specs.Body.{IsBody}
 use Rattle.relay_http.specs.Forms.{Form, Begins, Gives, IsUnique}
 use Rattle.relay_http.proofs.Leading.{IsStated, Leads}
@@ -174,7 +174,7 @@ chosen_sized true true g f h = absurd (cc)
 chosen_sized true false g f h = inr (inl (sym (err_is fault.BodyLong f h)))
 chosen_sized false c g f h = inl (sym (err_is fault.Malformed f h))
 
-sized_stated : (limit : ℕ) (o : Framing) (es : List (List ℕ)) (f : HttpFault) → sized limit o es ≡ Err f → IsStated f
+sized_stated : (limit : ℕ) (o : Framing) (es : List (List ℕ)) (f : HttpFault) → framing_by_length limit o es ≡ Err f → IsStated f
 sized_stated limit o [] f h = absurd (cc)
 sized_stated limit o (e ∷ es) f h = chosen_sized (list_all (agrees e) (e ∷ es)) (nat_le (number e) limit) (framing.Sized (number e)) f h
 
@@ -183,10 +183,10 @@ fields_stated limit o fields =
     let codings = values_named (codes "transfer-encoding") fields in
     let lengths = elements_named (codes "content-length") fields in
     let coded = has_field (codes "transfer-encoding") fields in
-    let last = chosen_ok (coded) framing.Chunked (sized limit o lengths) (sized_stated limit o lengths) in
+    let last = chosen_ok (coded) framing.Chunked (framing_by_length limit o lengths) (sized_stated limit o lengths) in
     let refused = (coded && not (is_chunked codings)) || not (list_all is_plain (values_named (codes "content-encoding") fields)) in
-    let middle = chosen_stated refused fault.CodedBody (cond (coded) (Ok framing.Chunked) (sized limit o lengths)) (inr (inr (inl refl))) last in
-    chosen_stated (coded && has_field (codes "content-length") fields) fault.BothLengths (cond refused (Err fault.CodedBody) (cond (coded) (Ok framing.Chunked) (sized limit o lengths))) (inr (inr (inr (inl refl)))) middle
+    let middle = chosen_stated refused fault.CodedBody (cond (coded) (Ok framing.Chunked) (framing_by_length limit o lengths)) (inr (inr (inl refl))) last in
+    chosen_stated (coded && has_field (codes "content-length") fields) fault.BothLengths (cond refused (Err fault.CodedBody) (cond (coded) (Ok framing.Chunked) (framing_by_length limit o lengths))) (inr (inr (inr (inl refl)))) middle
 
 framing_stated : (status : ℕ) (fields : List Header) (f : HttpFault) → framing_of status fields ≡ Err f → IsStated f
 framing_stated status fields =

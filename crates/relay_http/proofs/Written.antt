@@ -13,7 +13,7 @@ use Rattle.std.proofs.lemmas.List.Sums.{AllPass-from_list_all, list_all-from_All
 use Rattle.httparse.specs.Grammar.{is_ows, is_value_byte, skip_ows, trim_ows}
 use Rattle.httparse.proofs.TrimLemmas.{AllPass-reverse}
 use Rattle.relay_http.specs.Fields.{elements, pieces, in_front, is_number, number, agrees}
-use Rattle.relay_http.specs.Framing.{sized}
+use Rattle.relay_http.specs.Framing.{framing_by_length}
 use Rattle.relay_http.specs.declared.fault.HttpFault.{HttpFault}
 use Rattle.relay_http.specs.declared.fault.HttpFault.TheVariants as fault
 use Rattle.relay_http.specs.declared.framing.Framing.{Framing}
@@ -74,7 +74,7 @@ value_digits (c ∷ cs) d =
 pub digits_written : (n : ℕ) → n < 2 ^ 64 → list_all is_ascii_digit (decimal n) ≡ true
 digits_written n small = decimal_digits (decimal n) (decimal_is_IsNumeral n small).0.1
 
-pub sized_written : (limit n : ℕ) (o : Framing) → n < 2 ^ 64 → n ≤ limit → sized limit o (decimal n ∷ []) ≡ Ok (framing.Sized n)
+pub sized_written : (limit n : ℕ) (o : Framing) → n < 2 ^ 64 → n ≤ limit → framing_by_length limit o (decimal n ∷ []) ≡ Ok (framing.Sized n)
 sized_written limit n o small fits =
     let some = decimal_nonempty n small in
     let value : number (decimal n) ≡ n = (decimal_is_IsNumeral n small).1 in

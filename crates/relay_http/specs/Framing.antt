@@ -17,9 +17,9 @@ request_limit = 16777216
 
 -- the length on which the elements of the Content-Length fields agree, within a limit; the open framing if there are
 -- none
-abbrev pub sized : ℕ → Framing → List (List ℕ) → Result Framing HttpFault
-sized limit open_framing [] = Ok open_framing
-sized limit open_framing (e ∷ es) =
+abbrev pub framing_by_length : ℕ → Framing → List (List ℕ) → Result Framing HttpFault
+framing_by_length limit open_framing [] = Ok open_framing
+framing_by_length limit open_framing (e ∷ es) =
     if list_all (agrees e) (e ∷ es)
     then (if nat_le (number e) limit then Ok (Sized (number e)) else Err BodyLong)
     else Err Malformed
@@ -43,7 +43,7 @@ framing_of_fields limit open_framing fields =
     let coded = has_field (codes "transfer-encoding") fields in
     if coded && has_field (codes "content-length") fields then Err BothLengths
     else (if (coded && not (is_chunked codings)) || not (list_all is_plain (values_named (codes "content-encoding") fields)) then Err CodedBody
-    else (if coded then Ok Chunked else sized limit open_framing lengths))
+    else (if coded then Ok Chunked else framing_by_length limit open_framing lengths))
 
 -- a head with this status precedes the final one, and is dropped (RFC 9110, section 15.2)
 abbrev pub is_interim : ℕ → Bool

@@ -8,8 +8,8 @@ pub record Shown : Type 0 where
   pub written : Option (List ℕ)
   pub failed : ℕ
 
-abbrev pub shown : Option (List ℕ) → Option (List ℕ) → ℕ → Shown
-shown left written failed = record { left = left; written = written; failed = failed }
+abbrev pub shown_by : Option (List ℕ) → Option (List ℕ) → ℕ → Shown
+shown_by left written failed = record { left = left; written = written; failed = failed }
 
 -- The connections that it will hand out, and those that it took back, each in their order; a listener that shows none
 -- has None. And how many it handed out, and how many of its calls failed; at 2^64 - 1 a count stays.
@@ -35,8 +35,8 @@ pub record HandsOut (old : Listening) (s : Shown) (new : Listening) : Type 0 whe
   pub failed : new.failed ≡ old.failed
 
 -- none was, since the call failed
-abbrev pub refused : Listening → Listening
-refused l = record l { failed = one_more l.failed }
+abbrev pub after_failure : Listening → Listening
+after_failure l = record l { failed = one_more l.failed }
 
 -- this connection was taken back
 abbrev pub with_done : Listening → Shown → Listening

@@ -1,6 +1,6 @@
 //! Where connections come from.
 ghost use Rattle.std.specs.Prelude.{◌≡◌, IfOk, OnErr};
-ghost use Rattle.relay_http.specs.Listening.{Listening, shown, HandsOut, refused, with_done};
+ghost use Rattle.relay_http.specs.Listening.{Listening, shown_by, HandsOut, after_failure, with_done};
 
 use relay_action::ByteStream;
 use thiserror::Error;
@@ -19,13 +19,13 @@ pub trait Listen<S: ByteStream> {
     /// The stream of the next connection. After [`AcceptFailed`] there is none.
     fn accept(&mut self) -> Result<S, AcceptFailed>
         ensures ok { IfOk result
-            (λ s. HandsOut (shows self.old) (shown (S.left s) (S.written s) (S.failed s))
+            (λ s. HandsOut (shows self.old) (shown_by (S.left s) (S.written s) (S.failed s))
             (shows self.new)) }
-        ensures err { OnErr result (shows self.new ≡ refused (shows self.old)) };
+        ensures err { OnErr result (shows self.new ≡ after_failure (shows self.old)) };
 
     /// Takes back the stream of a connection that is over.
     fn close(&mut self, stream: S)
         ensures { shows self.new
             ≡ with_done (shows self.old)
-            (shown (S.left stream) (S.written stream) (S.failed stream)) };
+            (shown_by (S.left stream) (S.written stream) (S.failed stream)) };
 }

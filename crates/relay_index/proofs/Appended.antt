@@ -8,8 +8,8 @@ use Rattle.relay_action.specs.declared.write.Write.{Write}
 use Rattle.relay_results.specs.Documents.{Document, document_of, same_document}
 use Rattle.relay_results.specs.Outside.{is_above}
 use Rattle.relay_results.proofs.Same.{same_document-true, same_document-self}
-use Rattle.relay_index.specs.States.{State, applied, applied_among, last_of, stored, total, NoneEmpty, AreOf, RiseFrom, IsIndex, IsHighest}
-use Rattle.relay_index.specs.Lists.{with_write, appended}
+use Rattle.relay_index.specs.States.{State, applied_writes, applied_among, last_of, stored_version, total, NoneEmpty, AreOf, RiseFrom, IsIndex, IsHighest}
+use Rattle.relay_index.specs.Lists.{with_write, after_write}
 use Rattle.relay_index.specs.Runs.{is_newer}
 
 -- ---- documents
@@ -112,7 +112,7 @@ total-with_write (e ∷ es) w = by (same_document (document_of w.key) (document_
     by true f rest = rw f (omega (arith, length-append e.1 (w ∷ [])))
     by false f rest = rw f (omega (arith, rest))
 
-pub IsIndex-appended : (s : State) (w : Write) → IsIndex s → is_newer s w ≡ true → IsIndex (appended s w)
+pub IsIndex-appended : (s : State) (w : Write) → IsIndex s → is_newer s w ≡ true → IsIndex (after_write s w)
 IsIndex-appended s w h newer = record {
   begun = NoneEmpty-with_write s.documents w h.begun;
   of_document = λ k. subst (AreOf k) (sym (applied-with_write s.documents w k)) (of_at k (same_document k (document_of w.key)) refl);
@@ -120,25 +120,25 @@ IsIndex-appended s w h newer = record {
   counted = rw (total-with_write s.documents w) (omega (arith, h.counted));
 }
   where
-    of_at : (k : Document) (b : Bool) → same_document k (document_of w.key) ≡ b → AreOf k (more_if b (applied s k) w)
-    of_at k true e = AreOf-push k (applied s k) w (h.of_document k) (sym (same_document-true k (document_of w.key) e))
+    of_at : (k : Document) (b : Bool) → same_document k (document_of w.key) ≡ b → AreOf k (more_if b (applied_writes s k) w)
+    of_at k true e = AreOf-push k (applied_writes s k) w (h.of_document k) (sym (same_document-true k (document_of w.key) e))
     of_at k false e = subst (AreOf k) (sym (more_none _ w)) (h.of_document k)
 
-    rise_at : (k : Document) (b : Bool) → same_document k (document_of w.key) ≡ b → RiseFrom None (more_if b (applied s k) w)
+    rise_at : (k : Document) (b : Bool) → same_document k (document_of w.key) ≡ b → RiseFrom None (more_if b (applied_writes s k) w)
     rise_at k true e =
         let place : document_of w.key ≡ k = sym (same_document-true k (document_of w.key) e) in
-        RiseFrom-push None (applied s k) w (h.rising k) (rw top-stored (subst (λ j. is_above (stored s j) w.version ≡ true) place newer))
+        RiseFrom-push None (applied_writes s k) w (h.rising k) (rw top-stored (subst (λ j. is_above (stored_version s j) w.version ≡ true) place newer))
     rise_at k false e = subst (RiseFrom None) (sym (more_none _ w)) (h.rising k)
 
--- the version that is stored is the write's, where the document is its own
+-- the version that is stored_version is the write's, where the document is its own
 pub stored-appended : (s : State) (w : Write) (k : Document)
-    → stored (appended s w) k ≡ (if same_document k (document_of w.key) then Some w.version else stored s k)
+    → stored_version (after_write s w) k ≡ (if same_document k (document_of w.key) then Some w.version else stored_version s k)
 stored-appended s w k = rw (applied-with_write s.documents w k) (by (same_document k (document_of w.key)) refl)
   where
     by : (b : Bool) → same_document k (document_of w.key) ≡ b
-        → option_map (λ (v : Write). v.version) (last_of (more_if b (applied s k) w)) ≡ (if b then Some w.version else stored s k)
-    by true e = ap (option_map (λ (v : Write). v.version)) (last_of-push (applied s k) w)
-    by false e = ap (λ ws. option_map (λ (v : Write). v.version) (last_of ws)) (more_none (applied s k) w)
+        → option_map (λ (v : Write). v.version) (last_of (more_if b (applied_writes s k) w)) ≡ (if b then Some w.version else stored_version s k)
+    by true e = ap (option_map (λ (v : Write). v.version)) (last_of-push (applied_writes s k) w)
+    by false e = ap (λ ws. option_map (λ (v : Write). v.version) (last_of ws)) (more_none (applied_writes s k) w)
 
 -- ---- the greatest version
 
@@ -147,12 +147,12 @@ abbrev pub highest_with : Option ℕ → ℕ → ℕ
 highest_with highest version = max (unwrap_or highest 0) version
 
 -- the document of the write has its version
-own_version : (s : State) (w : Write) → stored (appended s w) (document_of w.key) ≡ Some w.version
+own_version : (s : State) (w : Write) → stored_version (after_write s w) (document_of w.key) ≡ Some w.version
 own_version s w = stored-appended s w (document_of w.key) ∙ rw (same_document-self (document_of w.key)) refl
 
--- no version is above a bound that the write's version and the versions stored before keep
-within : (s : State) (w : Write) (n : ℕ) → w.version ≤ n → ((k : Document) (v : ℕ) → stored s k ≡ Some v → v ≤ n)
-    → (k : Document) (v : ℕ) → stored (appended s w) k ≡ Some v → v ≤ n
+-- no version is above a bound that the write's version and the versions stored_version before keep
+within : (s : State) (w : Write) (n : ℕ) → w.version ≤ n → ((k : Document) (v : ℕ) → stored_version s k ≡ Some v → v ≤ n)
+    → (k : Document) (v : ℕ) → stored_version (after_write s w) k ≡ Some v → v ≤ n
 within s w n own others k v e = by (same_document k (document_of w.key)) refl
   where
     by : (b : Bool) → same_document k (document_of w.key) ≡ b → v ≤ n
@@ -160,17 +160,17 @@ within s w n own others k v e = by (same_document k (document_of w.key)) refl
     by false f = others k v (rw f at (sym (stored-appended s w k) ∙ e))
 
 -- the greatest version before, where the write's is not above it, is still that of its document
-still : (s : State) (w : Write) (k : Document) (n : ℕ) → is_newer s w ≡ true → w.version ≤ n → stored s k ≡ Some n → stored (appended s w) k ≡ Some n
+still : (s : State) (w : Write) (k : Document) (n : ℕ) → is_newer s w ≡ true → w.version ≤ n → stored_version s k ≡ Some n → stored_version (after_write s w) k ≡ Some n
 still s w k n newer below e = stored-appended s w k ∙ by (same_document k (document_of w.key)) refl
   where
-    by : (b : Bool) → same_document k (document_of w.key) ≡ b → (if same_document k (document_of w.key) then Some w.version else stored s k) ≡ Some n
+    by : (b : Bool) → same_document k (document_of w.key) ≡ b → (if same_document k (document_of w.key) then Some w.version else stored_version s k) ≡ Some n
     by false f = rw f e
     by true f =
         let place : document_of w.key ≡ k = sym (same_document-true k (document_of w.key) f) in
-        let above : is_above (Some n) w.version ≡ true = ap (λ o. is_above o w.version) (sym e ∙ ap (stored s) (sym place)) ∙ newer in
+        let above : is_above (Some n) w.version ≡ true = ap (λ o. is_above o w.version) (sym e ∙ ap (stored_version s) (sym place)) ∙ newer in
         absurd (omega (arith, ltb-true n w.version above))
 
-pub IsHighest-appended : (s : State) (w : Write) (highest : Option ℕ) → IsHighest s highest → is_newer s w ≡ true → IsHighest (appended s w) (Some (highest_with highest w.version))
+pub IsHighest-appended : (s : State) (w : Write) (highest : Option ℕ) → IsHighest s highest → is_newer s w ≡ true → IsHighest (after_write s w) (Some (highest_with highest w.version))
 IsHighest-appended s w None h newer =
     let is : max 0 w.version ≡ w.version = omega arith in (
       (document_of w.key, rw is (own_version s w)),
@@ -181,7 +181,7 @@ IsHighest-appended s w None h newer =
     none_some v e = cc
 IsHighest-appended s w (Some n) h newer = by (ltb n w.version) refl
   where
-    by : (b : Bool) → ltb n w.version ≡ b → IsHighest (appended s w) (Some (max n w.version))
+    by : (b : Bool) → ltb n w.version ≡ b → IsHighest (after_write s w) (Some (max n w.version))
     by true e =
         let above : n < w.version = ltb-true n w.version e in
         let is : max n w.version ≡ w.version = omega arith in (

@@ -11,7 +11,7 @@ use Rattle.relay_results.specs.Verdicts.{is_success}
 use Rattle.relay_results.specs.Outside.{Outside, Ran, IsOutcomeOf, is_applied, ran_of}
 use Rattle.relay_index.specs.declared.choice.Choice.{Choice}
 use Rattle.relay_index.specs.declared.choice.Choice.TheVariants.{Run, Refuse}
-use Rattle.relay_index.specs.States.{State, applied, stored, last_of, is_live}
+use Rattle.relay_index.specs.States.{State, applied_writes, stored_version, last_of, is_live}
 use Rattle.relay_index.specs.Runs.{is_newer, is_run, applied_result, status_of, done_of, outcome_of_run, Effect, Shows}
 use Rattle.relay_index.specs.Choices.{MayChoose}
 use Rattle.relay_index.specs.Laws.{RunIsOfOutside}
@@ -36,7 +36,7 @@ success_of kind.Index false = refl
 success_of kind.Delete true = refl
 success_of kind.Delete false = refl
 
--- the outcome says that the write was applied exactly where it was
+-- the outcome says that the write was applied_writes exactly where it was
 pub is_applied-done_of : (s : State) (w : Write) (choice : Choice) → is_applied w (outcome_of_run (done_of s w choice)) ≡ is_run s w choice
 is_applied-done_of s w (Refuse status) = refl
 is_applied-done_of s w Run = by (is_newer s w) refl
@@ -63,17 +63,17 @@ Shows-after_run s w choice o r shows is = by (is_run s w choice) refl
 
 -- ---- as a run of the outside
 
--- the outcome is one that the stored version leaves the write
-pub IsOutcomeOf-done_of : (s : State) (w : Write) (choice : Choice) → MayChoose choice → IsOutcomeOf (stored s (document_of w.key)) w (outcome_of_run (done_of s w choice))
+-- the outcome is one that the stored_version version leaves the write
+pub IsOutcomeOf-done_of : (s : State) (w : Write) (choice : Choice) → MayChoose choice → IsOutcomeOf (stored_version s (document_of w.key)) w (outcome_of_run (done_of s w choice))
 IsOutcomeOf-done_of s w (Refuse status) may = inl (record { least = may.least; most = may.most; no_conflict = may.no_conflict; has_error = refl })
 IsOutcomeOf-done_of s w Run may = by (is_newer s w) refl
   where
-    by : (b : Bool) → is_newer s w ≡ b → IsOutcomeOf (stored s (document_of w.key)) w (outcome_of_run (done_of s w Run))
+    by : (b : Bool) → is_newer s w ≡ b → IsOutcomeOf (stored_version s (document_of w.key)) w (outcome_of_run (done_of s w Run))
     by true e = inr (inl (e, is_applied-done_of s w Run ∙ e))
     by false e = inr (inr (e, record { status = rw e refl; has_error = rw e refl }))
 
 -- an outside shows each of two indexes with the same lists
-Shows-alike : (o : Outside) (s t : State) → ((k : Document) → applied t k ≡ applied s k) → Shows o s → Shows o t
+Shows-alike : (o : Outside) (s t : State) → ((k : Document) → applied_writes t k ≡ applied_writes s k) → Shows o s → Shows o t
 Shows-alike o s t same shows = record {
   versions = λ k. shows.versions k ∙ ap (λ ws. option_map (λ (v : Write). v.version) (last_of ws)) (sym (same k));
   lists = λ k. shows.lists k ∙ sym (same k);

@@ -12,17 +12,17 @@ use Rattle.relay_index.specs.declared.choice.Choice.TheVariants.{Run}
 use Rattle.relay_index.specs.declared.refusal.Refusal.{Refusal}
 use Rattle.relay_index.specs.Choices.{MayChoose}
 use Rattle.relay_action.specs.Streams.{one_more}
-use Rattle.relay_index.specs.States.{State, applied, last_of, stored}
+use Rattle.relay_index.specs.States.{State, applied_writes, last_of, stored_version}
 use Rattle.relay_index.specs.Runs.{is_newer, is_run, result_of, status_by, RunsOne}
 use Rattle.relay_index.specs.Plans.{choice_by}
 use Rattle.relay_index.specs.Laws.{AppliedIsStored, DeletedKeepsVersion, RepeatIsConflict, ScriptsMay}
 use Rattle.relay_index.proofs.Appended.{last_of-push}
 
--- the last write of its document is the one that was applied
+-- the last write of its document is the one that was applied_writes
 last_is : (old new : State) (w : Write) (choice : Choice) (item : ItemDone) → RunsOne old w choice item new → is_run old w choice ≡ true
-    → last_of (applied new (document_of w.key)) ≡ Some w
+    → last_of (applied_writes new (document_of w.key)) ≡ Some w
 last_is old new w choice item run e =
-    ap last_of (run.effect.lists (document_of w.key)) ∙ rw (e, same_document-self (document_of w.key)) (last_of-push (applied old (document_of w.key)) w)
+    ap last_of (run.effect.lists (document_of w.key)) ∙ rw (e, same_document-self (document_of w.key)) (last_of-push (applied_writes old (document_of w.key)) w)
 
 pub applied_is_stored : AppliedIsStored
 applied_is_stored old new w choice item run e =
@@ -35,8 +35,8 @@ pub deleted_keeps_version : DeletedKeepsVersion
 deleted_keeps_version old new w choice item run e delete =
     let both = applied_is_stored old new w choice item run e in (both.0, both.1 ∙ ap source_of delete)
 
--- a version that is stored is not above itself
-not_newer : (s : State) (w : Write) → stored s (document_of w.key) ≡ Some w.version → is_newer s w ≡ false
+-- a version that is stored_version is not above itself
+not_newer : (s : State) (w : Write) → stored_version s (document_of w.key) ≡ Some w.version → is_newer s w ≡ false
 not_newer s w e = ap (λ o. is_above o w.version) e ∙ ltb-self w.version
   where
     ltb-self : (n : ℕ) → ltb n n ≡ false

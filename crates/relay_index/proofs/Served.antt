@@ -12,7 +12,7 @@ use Rattle.relay_index.specs.declared.choice.Choice.TheVariants.{Run, Refuse}
 use Rattle.relay_index.specs.Choices.{MayChoose}
 use Rattle.relay_index.specs.States.{State, is_live}
 use Rattle.relay_index.specs.Runs.{is_newer, applied_result, status_of, status_by, RunsOne}
-use Rattle.relay_index.specs.Plans.{choice_at, stepped}
+use Rattle.relay_index.specs.Plans.{choice_at, after_item}
 use Rattle.relay_index.specs.Serving.{Server, under, RunsAll}
 use Rattle.relay_index.proofs.Repeated.{scripts_may}
 
@@ -20,11 +20,11 @@ use Rattle.relay_index.proofs.Repeated.{scripts_may}
 
 pub RunsAll-push : (old : Server) (ws : List Write) (items : List ItemDone) (mid : Server) (w : Write) (item : ItemDone) (new : State)
     → RunsAll old ws items mid → RunsOne mid.index w (choice_at mid.script) item new
-    → RunsAll old (ws ++ w ∷ []) (items ++ item ∷ []) (under new (stepped mid.script))
+    → RunsAll old (ws ++ w ∷ []) (items ++ item ∷ []) (under new (after_item mid.script))
 RunsAll-push old [] items mid w item new h run =
-    (item, [], new, subst (λ (s : Server). RunsOne s.index w (choice_at s.script) item new) h.1 run, (refl, ap (λ (s : Server). under new (stepped s.script)) h.1), ap (λ l. l ++ item ∷ []) h.0)
+    (item, [], new, subst (λ (s : Server). RunsOne s.index w (choice_at s.script) item new) h.1 run, (refl, ap (λ (s : Server). under new (after_item s.script)) h.1), ap (λ l. l ++ item ∷ []) h.0)
 RunsAll-push old (x ∷ xs) items mid w item new h run =
-    (h.0, h.1 ++ item ∷ [], h.2, h.3, RunsAll-push (under h.2 (stepped old.script)) xs h.1 mid w item new h.4 run, ap (λ l. l ++ item ∷ []) h.5)
+    (h.0, h.1 ++ item ∷ [], h.2, h.3, RunsAll-push (under h.2 (after_item old.script)) xs h.1 mid w item new h.4 run, ap (λ l. l ++ item ∷ []) h.5)
 
 -- ---- the statuses
 
@@ -52,4 +52,4 @@ HaveStatuses-RunsAll old [] items new h = rw h.0 tt
 HaveStatuses-RunsAll old (w ∷ ws) items new h =
     let status = run_status old.index w (choice_at old.script) (scripts_may old.script) in
     let is : h.0.status ≡ status_by old.index w (choice_at old.script) = ap (λ (d : ItemDone). d.status) h.3.item_of in
-    rw h.5 (rw is status.0, rw is status.1, HaveStatuses-RunsAll (under h.2 (stepped old.script)) ws h.1 new h.4)
+    rw h.5 (rw is status.0, rw is status.1, HaveStatuses-RunsAll (under h.2 (after_item old.script)) ws h.1 new h.4)

@@ -7,7 +7,7 @@ use Rattle.std.specs.List.{list_any}
 use Rattle.std.specs.List.Sorted.{IsStrictlySortedBy}
 use Rattle.relay_action.specs.declared.key.DocKey.{DocKey}
 use Rattle.relay_results.specs.Documents.{Document, document_of, same_document}
-use Rattle.relay_index.specs.States.{State, stored}
+use Rattle.relay_index.specs.States.{State, stored_version}
 
 -- the order of documents: by the bytes of their index names, then of their ids
 abbrev pub document_order : Document → Document → Ordering
@@ -28,4 +28,4 @@ is_among k keys = list_any (λ key. same_document k (document_of key)) keys
 -- twice, and in order.
 pub record AreKeys (s : State) (keys : List DocKey) : Type 0 where
   pub rising : IsStrictlySortedBy key_order keys
-  pub written : (k : Document) → is_among k keys ≡ is_some (stored s k)
+  pub written : (k : Document) → is_among k keys ≡ is_some (stored_version s k)

@@ -15,8 +15,8 @@ pub record Plan : Type 0 where
   pub limit : Option ℕ
 
 -- no item is refused, and none was run
-abbrev pub unscripted : Plan
-unscripted = record { refusals = []; ran = 0; limit = None }
+abbrev pub no_script : Plan
+no_script = record { refusals = []; ran = 0; limit = None }
 
 -- the status with which the item at a place is refused, if it is
 abbrev pub refusal_at : Plan → ℕ → Option ℕ
@@ -39,9 +39,9 @@ abbrev pub takes : Plan → ℕ → Bool
 takes plan bytes = takes_by plan.limit bytes
 
 -- from now on a body has at most this many bytes
-abbrev pub limited : ℕ → Plan → Plan
-limited most plan = record plan { limit = Some most }
+abbrev pub with_limit : ℕ → Plan → Plan
+with_limit most plan = record plan { limit = Some most }
 
 -- one more item was run
-abbrev pub stepped : Plan → Plan
-stepped plan = record plan { ran = one_more plan.ran }
+abbrev pub after_item : Plan → Plan
+after_item plan = record plan { ran = one_more plan.ran }

@@ -13,7 +13,7 @@ use Rattle.relay_results.specs.Done.{outcomes_of, reply_text}
 use Rattle.relay_results.specs.Replies.{IsBulkReply}
 use Rattle.relay_index.specs.States.{State}
 use Rattle.relay_index.specs.Runs.{RunsOne}
-use Rattle.relay_index.specs.Plans.{Plan, choice_at, takes, stepped}
+use Rattle.relay_index.specs.Plans.{Plan, choice_at, takes, after_item}
 
 -- An index and the script under which it runs items.
 pub record Server : Type 0 where
@@ -37,7 +37,7 @@ abbrev pub RunsAll : Server → List Write → List ItemDone → Server → Type
 RunsAll old [] items new = (items ≡ []) × (new ≡ old)
 RunsAll old (w ∷ ws) items new =
     (item : ItemDone) × (rest : List ItemDone) × (next : State) × RunsOne old.index w (choice_at old.script) item next
-    × RunsAll (under next (stepped old.script)) ws rest new × (items ≡ item ∷ rest)
+    × RunsAll (under next (after_item old.script)) ws rest new × (items ≡ item ∷ rest)
 
 -- exactly the first `ran` writes were run
 pub record RunsFirst (ran : ℕ) (old : Server) (ws : List Write) (new : Server) : Type 0 where

@@ -4,12 +4,12 @@ ghost use Rattle.std.specs.Prelude.{OnOk, OnErr};
 ghost use Rattle.std.specs.List.{IsDistinct};
 ghost use Rattle.relay_results.specs.Documents.{document_of};
 ghost use Rattle.relay_results.specs.Outside.{Outside, Ran, IsOutcomeOf, ran_of};
-ghost use Rattle.relay_index.specs.States.{fresh, applied, stored, live, is_live, IsHighest};
+ghost use Rattle.relay_index.specs.States.{fresh, applied_writes, stored_version, live, is_live, IsHighest};
 ghost use Rattle.relay_index.specs.States.{IsIndex};
 ghost use Rattle.relay_index.specs.Choices.{MayChoose};
 ghost use Rattle.relay_index.specs.Keys.{document_order, same_key, AreKeys};
 ghost use Rattle.indexmap.specs.IndexMap.{keys as keys_of};
-ghost use Rattle.relay_index.specs.Lists.{with_write, appended, after_run};
+ghost use Rattle.relay_index.specs.Lists.{with_write, after_write, after_run};
 ghost use Rattle.relay_index.specs.Runs.{is_newer, is_run, status_by, result_of, applied_result};
 ghost use Rattle.relay_index.specs.Runs.{status_of, done_of, outcome_of_run, Effect, Shows};
 
@@ -111,7 +111,7 @@ impl Index {
     /// The stored version of a document, even if it was deleted, or `None` if no write was applied
     /// to it.
     pub fn version(&self, key: &DocKey) -> Option<u64>
-        ensures { result ≡ stored self.now (document_of key.now) }
+        ensures { result ≡ stored_version self.now (document_of key.now) }
     {
         Some(self.applied(key).last()?.version)
     }
@@ -129,7 +129,7 @@ impl Index {
 
     /// The writes that were applied to a document, in order.
     pub fn applied(&self, key: &DocKey) -> &[Write]
-        ensures applied { result.now ≡ applied self.now (document_of key.now) }
+        ensures applied { result.now ≡ applied_writes self.now (document_of key.now) }
         ensures kept { IsIndex self.now }
     {
         match self.documents.get(key) {
@@ -181,7 +181,7 @@ impl Index {
     // unchanged.
     fn apply(&mut self, write: &Write) -> Result<(), AllocError>
         requires { IsTrue (is_newer self.old write.now) }
-        ensures ok { OnOk result (self.new ≡ appended self.old write.now) }
+        ensures ok { OnOk result (self.new ≡ after_write self.old write.now) }
         ensures err { OnErr result (self.new ≡ self.old) }
     {
         append(&mut self.documents, write)?;
@@ -233,7 +233,7 @@ impl Index {
         ensures effect { OnOk result (Effect self.old write.now choice self.new) }
         ensures err { OnErr result (self.new ≡ self.old) }
         ensures versioned { IfOk result (λ done.
-            IsOutcomeOf (stored self.old (document_of write.now.key)) write.now
+            IsOutcomeOf (stored_version self.old (document_of write.now.key)) write.now
             (outcome_of_run done)) }
         ensures outside { IfOk result (λ done. (o : Outside) (r : Ran) → Shows o self.old
             → r.outcome ≡ outcome_of_run done → Shows (ran_of o r (Some write.now)) self.new) }

@@ -1,8 +1,8 @@
 //! Scripts of refusals.
 ghost use Rattle.std.specs.Prelude.{◌≡◌, ◌==◌, ℕ, Some, OnOk, OnErr, if◌then◌else◌};
 ghost use Rattle.relay_index.specs.Choices.{MayRefuse, MayChoose};
-ghost use Rattle.relay_index.specs.Plans.{unscripted, refusal_at, choice_at, limited, takes};
-ghost use Rattle.relay_index.specs.Plans.{stepped};
+ghost use Rattle.relay_index.specs.Plans.{no_script, refusal_at, choice_at, with_limit, takes};
+ghost use Rattle.relay_index.specs.Plans.{after_item};
 
 use crate::choice::Choice;
 use crate::refusal::Refusal;
@@ -31,7 +31,7 @@ impl Model for Script {
 impl Script {
     /// A script that refuses nothing, before any item was run. It does not allocate.
     pub fn new(alloc: Global) -> Script
-        ensures { result ≡ unscripted }
+        ensures { result ≡ no_script }
     {
         Script {
             refusals: IndexMap::new(alloc),
@@ -61,7 +61,7 @@ impl Script {
     /// From now on a body of more than `max` bytes gets 413, and no line of it is read. It does not
     /// allocate.
     pub fn too_large(&mut self, max: u64)
-        ensures { self.new ≡ limited max self.old }
+        ensures { self.new ≡ with_limit max self.old }
     {
         self.limit = Some(max);
     }
@@ -88,7 +88,7 @@ impl Script {
     }
 
     pub(crate) fn step(&mut self)
-        ensures { self.new ≡ stepped self.old }
+        ensures { self.new ≡ after_item self.old }
     {
         self.ran = self.ran.saturating_add(1);
     }

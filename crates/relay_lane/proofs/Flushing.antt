@@ -1,4 +1,4 @@
--- A lane that was flushed, and how far its config goes.
+-- A lane that was after_flush, and how far its config goes.
 use Rattle.std.proofs.Common.{◌≡◌, ℕ, ◌+◌, ◌-◌, ◌<◌, List, [], ◌∷◌, length, Option, Some, None, Bool, true, refl, sym, ap, ◌∙◌, subst, ⊎_elim, inr, arith}
 use Rattle.std.specs.Prelude.{◌==◌, min, if◌then◌else◌}
 use Rattle.relay_batch.specs.declared.item.BatchItem.{BatchItem}
@@ -6,7 +6,7 @@ use Rattle.relay_results.proofs.Lists.{true_or_false, equal}
 use Rattle.relay_core.specs.declared.config.RelayConfig.{RelayConfig}
 use Rattle.relay_results.specs.Words.{Mem}
 use Rattle.relay_delivery.specs.Lane.{Entry}
-use Rattle.relay_core.specs.State.{State, IsLane, next_batch, after_request, flushed, mark_of}
+use Rattle.relay_core.specs.State.{State, IsLane, next_batch, after_request, after_flush, mark_of}
 use Rattle.relay_lane.specs.Turns.{Turn, Sends, Fails, Settles, Pauses, after_turn, after_turns, AllMayTurn, Worked, holds, holds_some, is_full}
 use Rattle.relay_lane.specs.Steps.{IsPressed}
 
@@ -20,7 +20,7 @@ not_empty : (e : Entry) (es : List Entry) → Mem e es → 0 < length es
 not_empty e [] m = absurd m
 not_empty e (x ∷ es) m = omega arith
 
-pub flushed_pressed : (s : State) → IsLane s → IsPressed (flushed s)
+pub flushed_pressed : (s : State) → IsLane s → IsPressed (after_flush s)
 flushed_pressed s l e m =
     let d = (l.in_order e m).assigned in
     let some = l.assigned in

@@ -25,7 +25,7 @@ use Rattle.relay_delivery.specs.Machine.{Config, write_of}
 use Rattle.relay_delivery.specs.Lane.{Entry, held_of, is_candidate, candidates, writes_of_all}
 use Rattle.relay_core.specs.declared.config.RelayConfig.{RelayConfig}
 use Rattle.relay_core.specs.Limits.{is_from_to, are_valid_limits, is_valid}
-use Rattle.relay_core.specs.Rule.{by_answer, chosen, item_of, with_item}
+use Rattle.relay_core.specs.Rule.{by_answer, chosen_entries, item_of, with_item}
 use Rattle.relay_core.specs.State.{State, gathering, next_entries, IsLane}
 use Rattle.relay_core.proofs.Tying.{chosen_sub}
 use Rattle.relay_core.proofs.Flights.{earlier_ones_settled}
@@ -111,10 +111,10 @@ chosen_by Busy e busy added g k b a = b
 chosen_by Closed e busy added g k b a = subst (Keeps g.limits) (sym (none_more g.items)) k
 chosen_by Added e busy added g k b a = subst (Keeps g.limits) (append_assoc g.items (item_of e ∷ []) (map item_of added)) (a refl)
 
-pub chosen_keeps : (es : List Entry) (g : Gathering) → Keeps g.limits g.items → Keeps g.limits (g.items ++ map item_of (chosen es g))
+pub chosen_keeps : (es : List Entry) (g : Gathering) → Keeps g.limits g.items → Keeps g.limits (g.items ++ map item_of (chosen_entries es g))
 chosen_keeps [] g k = subst (Keeps g.limits) (sym (none_more g.items)) k
 chosen_keeps (e ∷ es) g k =
-    chosen_by (answer_to (item_of e) g) e (chosen es g) (chosen es (with_item (item_of e) g)) g k (chosen_keeps es g k)
+    chosen_by (answer_to (item_of e) g) e (chosen_entries es g) (chosen_entries es (with_item (item_of e) g)) g k (chosen_keeps es g k)
     (λ a. chosen_keeps es (with_item (item_of e) g) (one_more_keeps g (item_of e) k a))
 
 -- ---- its text

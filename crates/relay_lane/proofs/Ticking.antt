@@ -3,7 +3,7 @@ use Rattle.std.proofs.Common.{◌≡◌, ℕ, ◌+◌, ◌<◌, Option, Some, tr
 use Rattle.std.specs.Prelude.{IfSome, nat_lt, if◌then◌else◌}
 use borrow.Author.Tests.{ltb-false}
 use Rattle.relay_results.proofs.Lists.{true_or_false}
-use Rattle.relay_core.specs.State.{State, last_tick, ticked}
+use Rattle.relay_core.specs.State.{State, last_tick, after_tick}
 use Rattle.relay_lane.specs.Turns.{after_ticks}
 
 at_clock : State → ℕ → State
@@ -13,12 +13,12 @@ pub tick_none : (s : State) → s ≡ after_ticks 0 s
 unfolding at_clock
 tick_none s = let e : s.core.clock ≡ s.core.clock + 0 = omega arith in ap (at_clock s) e
 
-pub tick_more : (s t : State) (n : ℕ) → t ≡ after_ticks n s → s.core.clock + n < last_tick → ticked t ≡ after_ticks (n + 1) s
+pub tick_more : (s t : State) (n : ℕ) → t ≡ after_ticks n s → s.core.clock + n < last_tick → after_tick t ≡ after_ticks (n + 1) s
 unfolding at_clock
 tick_more s t n e lt =
     let below : nat_lt (s.core.clock + n) last_tick ≡ true = ⊎_elim {C = nat_lt (s.core.clock + n) last_tick ≡ true} (λ y. y) (λ y. let k = ltb-false _ _ y in absurd (omega (arith, k, lt))) (true_or_false (nat_lt (s.core.clock + n) last_tick)) in
     let one : s.core.clock + n + 1 ≡ s.core.clock + (n + 1) = omega arith in
-    ap ticked e
+    ap after_tick e
     ∙ ap (λ b. at_clock s (if b then s.core.clock + n + 1 else s.core.clock + n)) below
     ∙ ap (at_clock s) one
 

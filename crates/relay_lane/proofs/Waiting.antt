@@ -11,7 +11,7 @@ use Rattle.relay_results.specs.Documents.{document_of, same_document}
 use Rattle.relay_results.proofs.Lists.{true_or_false, and_left, and_right, and_both, or_left, or_right, Mem-filter, filter-Mem, Mem-map}
 use Rattle.relay_delivery.specs.Machine.{Held, Place}
 use Rattle.relay_delivery.specs.Lane.{Entry, Flying, held_of, waits, is_candidate, candidates}
-use Rattle.relay_core.specs.Rule.{by_answer, offered, closes, chosen, item_of, with_item, is_marked, goes, batch_if}
+use Rattle.relay_core.specs.Rule.{by_answer, gathering_after, closes, chosen_entries, item_of, with_item, is_marked, goes, batch_if}
 use Rattle.relay_core.specs.State.{State, all_closed, gathering, next_batch, is_eligible, sooner, first_due, IsLane}
 use Rattle.relay_core.proofs.Launching.{offered_chosen}
 use Rattle.relay_lane.specs.Steps.{IsPressed, IsDueLater}
@@ -127,12 +127,12 @@ module _ (s : State) (l : IsLane s) (still : length s.core.flying ≡ 0) (presse
       let v = valid_limits s.config l.valid in
       let g = gathering s in
       let all = map item_of (candidates s.core) in
-      let o = offered all g in
+      let o = gathering_after all g in
       let added = first_added s (item_of c) in
-      let items : o.items ≡ item_of c ∷ map item_of (chosen cs (with_item (item_of c) g)) =
+      let items : o.items ≡ item_of c ∷ map item_of (chosen_entries cs (with_item (item_of c) g)) =
       offered_chosen (candidates s.core) g
-      ∙ ap (λ es. map item_of (chosen es g)) are
-      ∙ ap (λ x. map item_of (by_answer x (chosen cs g) [] (c ∷ chosen cs (with_item (item_of c) g)))) added in
+      ∙ ap (λ es. map item_of (chosen_entries es g)) are
+      ∙ ap (λ x. map item_of (by_answer x (chosen_entries cs g) [] (c ∷ chosen_entries cs (with_item (item_of c) g)))) added in
       let some : nat_lt 0 (length o.items) ≡ true = ap (λ is. nat_lt 0 (length is)) items ∙ below_test 0 _ (omega arith) in
       let due : (is_ready s.core.clock o || (closes all g || (is_marked s.mark o.items || all_closed s))) ≡ true =
       or_right (is_ready s.core.clock o) _ (or_right (closes all g) _

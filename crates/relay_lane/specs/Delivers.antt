@@ -2,8 +2,8 @@
 use Rattle.std.specs.Prelude.{◌≡◌, List, [], Bool, IsTrue}
 use Rattle.relay_action.specs.declared.operation.Op.{Op}
 use Rattle.relay_results.specs.Outside.{Outside, Continues}
-use Rattle.relay_delivery.specs.Counts.{settled_applied, settled_already}
-use Rattle.relay_delivery.specs.Delivery.{HasDistinctNames, IsSound, IsComplete, attributed}
+use Rattle.relay_delivery.specs.Counts.{applied_answers, settled_already}
+use Rattle.relay_delivery.specs.Delivery.{HasDistinctNames, IsSound, IsComplete, applied_ops}
 use Rattle.relay_core.specs.State.{State}
 use Rattle.relay_core.specs.Ties.{Fits}
 
@@ -11,9 +11,9 @@ use Rattle.relay_core.specs.Ties.{Fits}
 -- the lane took have the same name; and what the lane counts as applied, and as already applied, is what the answers
 -- to its requests say.
 pub record IsDelivered (s : State) (taken : List Op) (o : Outside) : Type 0 where
-  pub sound : HasDistinctNames taken → IsSound s.core.config taken s.core.reports o (attributed s.core.config taken o)
-  pub complete : s.core.held ≡ [] → HasDistinctNames taken → IsComplete taken s.core.reports (attributed s.core.config taken o)
-  pub applied : s.core.applied ≡ settled_applied o.requests
+  pub sound : HasDistinctNames taken → IsSound s.core.config taken s.core.reports o (applied_ops s.core.config taken o)
+  pub complete : s.core.held ≡ [] → HasDistinctNames taken → IsComplete taken s.core.reports (applied_ops s.core.config taken o)
+  pub applied : s.core.applied ≡ applied_answers o.requests
   pub already : s.core.already ≡ settled_already o.requests
 
 -- there is an outside that fits the wire now and continues the one before; the lane and it came about by the same steps,

@@ -1,7 +1,7 @@
 //! A lane sends, repeats and settles over a wire.
 ghost use Rattle.std.specs.Prelude.{◌≡◌, ◌+◌, ◌*◌, ◌-◌, ◌<◌, ◌≤◌, [], None, true, length, nat_lt};
 ghost use Rattle.std.specs.Prelude.{IfOk, OnOk, OnErr};
-ghost use Rattle.relay_core.specs.State.{next_batch, all_closed, flushed};
+ghost use Rattle.relay_core.specs.State.{next_batch, all_closed, after_flush};
 ghost use Rattle.relay_lane.specs.Out.{out_of};
 ghost use Rattle.relay_lane.specs.Turns.{Worked, Stays, pumps, sends_only, collects, holds};
 ghost use Rattle.relay_lane.specs.Turns.{holds_some, is_full, Paused, sends_left};
@@ -178,7 +178,7 @@ pub fn make_room<W: Wire, P: Pace>(
     ensures done { OnOk result (length lane.new.state.core.held < lane.new.state.config.max_held) }
     ensures memory { OnErr result
         (lane.new.state.config.max_held ≤ length lane.new.state.core.held) }
-    ensures worked { Worked is_full (flushed lane.old.state) lane.new.state }
+    ensures worked { Worked is_full (after_flush lane.old.state) lane.new.state }
     ensures bound { lane.new.state.core.requests + sends_left lane.new.state
         ≤ lane.old.state.core.requests + sends_left lane.old.state }
     ensures paused { Paused (lane.new.state.core.clock - lane.old.state.core.clock)

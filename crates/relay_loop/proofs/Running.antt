@@ -17,9 +17,9 @@ use Rattle.relay_results.specs.Replies.{IsBulkReply}
 use Rattle.relay_results.proofs.OneReading.{one_reply, no_fault}
 use Rattle.relay_results.proofs.Lists.{Mem-left, Mem-last}
 use Rattle.relay_results.proofs.Steps.{step_runs_item}
-use Rattle.relay_index.specs.States.{State, stored}
+use Rattle.relay_index.specs.States.{State, stored_version}
 use Rattle.relay_index.specs.Runs.{Shows, outcome_of_run}
-use Rattle.relay_index.specs.Plans.{choice_at, takes, stepped}
+use Rattle.relay_index.specs.Plans.{choice_at, takes, after_item}
 use Rattle.relay_index.specs.Serving.{Server, Answer, under, too_large_text, RunsAll, RunsFirst, Replies, Answers, StopsAfter}
 use Rattle.relay_index.proofs.Ran.{run_is_of_outside}
 use Rattle.relay_index.proofs.Repeated.{scripts_may}
@@ -82,7 +82,7 @@ ran_none : (n place : ℕ) (s : State) (o : Outside) → Shows o s → RanItems 
 ran_none n place s o shows = record { after = o; runs = no_runs o; shows = shows; same = refl; keeps = λ r m. m; each = tt }
 
 ran_item : (n place : ℕ) (s t : State) (o : Outside) (w : Write) (d : ItemDone) → write_at o.requests n place ≡ Some w
-    → IsOutcomeOf (stored s (document_of w.key)) w (outcome_of_run d)
+    → IsOutcomeOf (stored_version s (document_of w.key)) w (outcome_of_run d)
     → ((q : Outside) (r : Ran) → Shows q s → r.outcome ≡ outcome_of_run d → Shows (ran_of q r (Some w)) t)
     → Shows o s → RanItems n place t o (outcome_of d ∷ [])
 ran_item n place s t o w d at may step shows =
@@ -124,7 +124,7 @@ ran_all (w ∷ ws) old new items n place o at shows r =
     let run = run_is_of_outside old.index r.2 w (choice_at old.script) r.0 (scripts_may old.script) r.3 in
     let here : write_at o.requests n place ≡ Some w = (let zero_more : place + 0 ≡ place = omega arith in subst (λ k. write_at o.requests n k ≡ Some w) zero_more (at 0 w refl)) in
     let a = ran_item n place old.index r.2 o w r.0 here run.outcome run.shows shows in
-    let b = ran_all ws (under r.2 (stepped old.script)) new r.1 n (suc place) a.after (sent_next n place w ws o a.after a.same at) a.shows r.4 in
+    let b = ran_all ws (under r.2 (after_item old.script)) new r.1 n (suc place) a.after (sent_next n place w ws o a.after a.same at) a.shows r.4 in
     subst (λ ds. RanItems n place new.index o (outcomes_of ds)) (sym r.5) (ran_then n place r.2 new.index o (outcome_of r.0) (outcomes_of r.1) a b)
 
 -- ---- a request

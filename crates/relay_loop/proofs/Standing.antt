@@ -10,7 +10,7 @@ use Rattle.relay_results.specs.Numbers.{from_zero}
 use Rattle.relay_results.specs.Done.{outcomes_of}
 use Rattle.relay_results.specs.Outside.{Request, Unanswered, writes_of, Answer, Items, Whole, Lost, Outside, Sends, Answers, IsHonest, EachWasRun, MayAnswer, after}
 use Rattle.relay_results.proofs.Lists.{at-left, at-last, at-within, at-update_other}
-use Rattle.relay_index.specs.States.{State, applied, stored}
+use Rattle.relay_index.specs.States.{State, applied_writes, stored_version}
 use Rattle.relay_index.specs.Plans.{Plan}
 use Rattle.relay_lane.specs.declared.wire.WireReply.{WireReply}
 use Rattle.relay_lane.specs.declared.wire.WireReply.TheVariants as reply
@@ -195,8 +195,8 @@ receives w v inside number ws lost taken carried result same asked there as_take
 
 pub opens : (index : State) (script : Plan) → Opens (begun index script)
 opens index script = record {
-  opening = record { requests = []; runs = []; stored = stored index; before = applied index; applied = λ k. [] };
+  opening = record { requests = []; runs = []; stored = stored_version index; before = applied_writes index; applied = λ k. [] };
   opens = record { requests = refl; runs = refl; applied = λ k. refl };
-  fits = record { shows = record { versions = λ k. refl; lists = λ k. append-nil (applied index k) }; out = tt };
+  fits = record { shows = record { versions = λ k. refl; lists = λ k. append-nil (applied_writes index k) }; out = tt };
   each = λ o opening shows. record { shows = shows; out = tt };
 }

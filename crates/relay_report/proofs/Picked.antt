@@ -10,7 +10,7 @@ use Rattle.relay_ndjson.specs.declared.kind.LineKind.{LineKind}
 use Rattle.relay_ndjson.specs.declared.kind.LineKind.TheVariants as kind
 use Rattle.relay_ndjson.proofs.Pieces.{prepend_nothing}
 use Rattle.relay_report.specs.Operations.{TakesLines}
-use Rattle.relay_report.specs.Picks.{NoneAfter, Picks, ReadsFail, Stops, TakesAll, Writes, WritesFail, WritesFront, is_named, picked}
+use Rattle.relay_report.specs.Picks.{NoneAfter, Picks, ReadsFail, Stops, TakesAll, Writes, WritesFail, WritesFront, is_named, picked_lines}
 use Rattle.relay_report.specs.Picking.{Closes, ClosesOrFails, Moves, PicksNext, PicksTo, pick_fault_by, is_over}
 use Rattle.relay_report.specs.declared.names.Named.{Named}
 use Rattle.relay_report.specs.declared.picking.PickFault.{PickFault}
@@ -68,17 +68,17 @@ takes_more default old mid new count n (x ∷ xs) lines t s =
     let c = t.5 in
     (t.0, t.1, t.2 + n, t.3, takes_more default t.0 mid new t.2 n xs lines t.4 s, omega (arith, c))
 
-picked-push : (wanted : ℕ → Bool) (k : ℕ) (items : List (List ℕ)) (lines : List ℕ) → picked wanted k (items ++ lines ∷ []) ≡ picked wanted k items ++ (if wanted (k + length items) then lines else [])
+picked-push : (wanted : ℕ → Bool) (k : ℕ) (items : List (List ℕ)) (lines : List ℕ) → picked_lines wanted k (items ++ lines ∷ []) ≡ picked_lines wanted k items ++ (if wanted (k + length items) then lines else [])
 picked-push wanted k [] lines =
     let e : k + 0 ≡ k = omega arith in append-nil (if wanted k then lines else []) ∙ ap (λ n. if wanted n then lines else []) (sym e)
 picked-push wanted k (x ∷ xs) lines =
     let e : suc k + length xs ≡ k + length (x ∷ xs) = omega arith in
-    ap (λ t. (if wanted k then x else []) ++ t) (picked-push wanted (suc k) xs lines ∙ ap (λ n. picked wanted (suc k) xs ++ (if wanted n then lines else [])) e)
-    ∙ sym (append_assoc (if wanted k then x else []) (picked wanted (suc k) xs) (if wanted (k + length (x ∷ xs)) then lines else []))
+    ap (λ t. (if wanted k then x else []) ++ t) (picked-push wanted (suc k) xs lines ∙ ap (λ n. picked_lines wanted (suc k) xs ++ (if wanted n then lines else [])) e)
+    ∙ sym (append_assoc (if wanted k then x else []) (picked_lines wanted (suc k) xs) (if wanted (k + length (x ∷ xs)) then lines else []))
 
-picked-same : (f g : ℕ → Bool) → ((k : ℕ) → f k ≡ g k) → (n : ℕ) (items : List (List ℕ)) → picked f n items ≡ picked g n items
+picked-same : (f g : ℕ → Bool) → ((k : ℕ) → f k ≡ g k) → (n : ℕ) (items : List (List ℕ)) → picked_lines f n items ≡ picked_lines g n items
 picked-same f g h n [] = refl
-picked-same f g h n (x ∷ xs) = ap (λ b. (if b then x else []) ++ picked f (suc n) xs) (h n) ∙ ap (λ t. (if g n then x else []) ++ t) (picked-same f g h (suc n) xs)
+picked-same f g h n (x ∷ xs) = ap (λ b. (if b then x else []) ++ picked_lines f (suc n) xs) (h n) ∙ ap (λ t. (if g n then x else []) ++ t) (picked-same f g h (suc n) xs)
 
 -- ---- under way: so many operations were taken, and of their text this is still to be written
 
@@ -88,7 +88,7 @@ pub record Underway (wanted : ℕ → Bool) (default old now before written : Op
   pub all : TakesAll default old now count items
   pub many : taken ≡ length items
   pub lines_are : lines ≡ counted count
-  pub moves : Moves (picked wanted 1 items) text before written
+  pub moves : Moves (picked_lines wanted 1 items) text before written
 
 pub underway_none : (wanted : ℕ → Bool) (default left before : Option (List ℕ)) (held text : List ℕ) (count : ℕ) → held ≡ [] → count ≡ 0 → text ≡ [] → Underway wanted default left (prepend_known held left) before before text 0 count
 underway_none wanted default left before held text count h c t = record {
@@ -113,7 +113,7 @@ underway_next wanted default old before written left left' held held' text text'
       all = takes_more default old (prepend_known held left) (prepend_known held' left') u.count p.1 u.items p.0 u.all p.2;
       many = omega (arith, m, n);
       lines_are = omega (arith, l, c);
-      moves = moves_more (picked wanted 1 u.items) text (if wanted (taken + 1) then p.0 else []) (picked wanted 1 (u.items ++ p.0 ∷ [])) text' before written u.moves p.4 (picked-push wanted 1 u.items p.0 ∙ ap (λ k. picked wanted 1 u.items ++ (if wanted k then p.0 else [])) e);
+      moves = moves_more (picked_lines wanted 1 u.items) text (if wanted (taken + 1) then p.0 else []) (picked_lines wanted 1 (u.items ++ p.0 ∷ [])) text' before written u.moves p.4 (picked-push wanted 1 u.items p.0 ∙ ap (λ k. picked_lines wanted 1 u.items ++ (if wanted k then p.0 else [])) e);
     }
 
 pub underway_moved : (wanted : ℕ → Bool) (default old now before written written' : Option (List ℕ)) (text text' : List ℕ) (taken lines : ℕ) → Underway wanted default old now before written text taken lines → Moves text text' written written' → Underway wanted default old now before written' text' taken lines
@@ -123,7 +123,7 @@ underway_moved wanted default old now before written written' text text' taken l
   all = u.all;
   many = u.many;
   lines_are = u.lines_are;
-  moves = moves_on (picked wanted 1 u.items) text text' before written written' u.moves m;
+  moves = moves_on (picked_lines wanted 1 u.items) text text' before written written' u.moves m;
 }
 
 -- ---- how it stops
@@ -145,7 +145,7 @@ stops_at_end wanted default old left left' before written held held' text text' 
   count = u.count;
   taken = u.all;
   stops = (u.many, inr p.0);
-  written = subst (λ (t : List ℕ). Moves (picked wanted 1 u.items) t before written) (sym p.1) u.moves;
+  written = subst (λ (t : List ℕ). Moves (picked_lines wanted 1 u.items) t before written) (sym p.1) u.moves;
 }
 
 pub stops_at_fault : (wanted : ℕ → Bool) (default old left left' before written : Option (List ℕ)) (held held' text text' : List ℕ) (taken last lines lines' : ℕ) (e : PickFault) → Underway wanted default old (prepend_known held left) before written text taken lines → PicksNext wanted (taken + 1) default (position left held lines) (position left' held' lines') text text' (Err e) → PicksTo wanted last default old before written text' (Err e)
@@ -155,7 +155,7 @@ stops_at_fault wanted default old left left' before written held held' text text
   count = u.count;
   taken = u.all;
   stops = (let l = u.lines_are in rw l at p.0, p.1);
-  written = subst (λ (t : List ℕ). Moves (picked wanted 1 u.items) t before written) (sym p.2) u.moves;
+  written = subst (λ (t : List ℕ). Moves (picked_lines wanted 1 u.items) t before written) (sym p.2) u.moves;
 }
 stops_at_fault wanted default old left left' before written held held' text text' taken last lines lines' fault.Write u p = absurd p
 stops_at_fault wanted default old left left' before written held held' text text' taken last lines lines' fault.Memory u p = record {
@@ -164,7 +164,7 @@ stops_at_fault wanted default old left left' before written held held' text text
   count = u.count;
   taken = u.all;
   stops = tt;
-  written = front_here (picked wanted 1 u.items) text before written u.moves;
+  written = front_here (picked_lines wanted 1 u.items) text before written u.moves;
 }
 
 pub stops_at_write : (wanted : ℕ → Bool) (default old now before written written' : Option (List ℕ)) (text text' : List ℕ) (taken last lines : ℕ) → Underway wanted default old now before written text taken lines → WritesFront written written' text → PicksTo wanted last default old before written' text' (Err fault.Write)
@@ -174,7 +174,7 @@ stops_at_write wanted default old now before written written' text text' taken l
   count = u.count;
   taken = u.all;
   stops = tt;
-  written = front_of (picked wanted 1 u.items) text before written written' u.moves f;
+  written = front_of (picked_lines wanted 1 u.items) text before written written' u.moves f;
 }
 
 -- which calls failed, where the fault is that of an input
@@ -209,17 +209,17 @@ closes_over (Err fault.Memory) text before failed o = (refl, refl, refl)
 
 -- ---- the whole
 
-picks_with : (names : List Named) (producer : ℕ) (wanted : ℕ → Bool) (last : ℕ) (default old before mid after : Option (List ℕ)) (text : List ℕ) (so_far result : Result ℕ PickFault) → (p : PicksTo wanted last default old before mid text so_far) → Stops (is_named names producer) default p.rest p.count p.items result → Writes before after (picked (is_named names producer) 1 p.items) result → Picks names producer default old before after result
+picks_with : (names : List Named) (producer : ℕ) (wanted : ℕ → Bool) (last : ℕ) (default old before mid after : Option (List ℕ)) (text : List ℕ) (so_far result : Result ℕ PickFault) → (p : PicksTo wanted last default old before mid text so_far) → Stops (is_named names producer) default p.rest p.count p.items result → Writes before after (picked_lines (is_named names producer) 1 p.items) result → Picks names producer default old before after result
 picks_with names producer wanted last default old before mid after text so_far result p s w =
     record { items = p.items; rest = p.rest; count = p.count; taken = p.taken; stops = s; written = w }
 
-done_or_failed : (names : List Named) (producer : ℕ) (wanted : ℕ → Bool) (last : ℕ) (default old before mid after : Option (List ℕ)) (text : List ℕ) (so_far result : Result ℕ PickFault) (failed count : ℕ) → (p : PicksTo wanted last default old before mid text so_far) → Stops (is_named names producer) default p.rest p.count p.items so_far → Moves (picked (is_named names producer) 1 p.items) text before mid → (after ≡ append_known before (picked (is_named names producer) 1 p.items) → Writes before after (picked (is_named names producer) 1 p.items) so_far) → ClosesOrFails so_far text mid failed after count result → Picks names producer default old before after result
+done_or_failed : (names : List Named) (producer : ℕ) (wanted : ℕ → Bool) (last : ℕ) (default old before mid after : Option (List ℕ)) (text : List ℕ) (so_far result : Result ℕ PickFault) (failed count : ℕ) → (p : PicksTo wanted last default old before mid text so_far) → Stops (is_named names producer) default p.rest p.count p.items so_far → Moves (picked_lines (is_named names producer) 1 p.items) text before mid → (after ≡ append_known before (picked_lines (is_named names producer) 1 p.items) → Writes before after (picked_lines (is_named names producer) 1 p.items) so_far) → ClosesOrFails so_far text mid failed after count result → Picks names producer default old before after result
 done_or_failed names producer wanted last default old before mid after text so_far result failed count p s m base (inl c) =
     subst (λ (r : Result ℕ PickFault). Picks names producer default old before after r) (sym c.0)
-    (picks_with names producer wanted last default old before mid after text so_far so_far p s (base (written_all (picked (is_named names producer) 1 p.items) text before mid after m c.1)))
+    (picks_with names producer wanted last default old before mid after text so_far so_far p s (base (written_all (picked_lines (is_named names producer) 1 p.items) text before mid after m c.1)))
 done_or_failed names producer wanted last default old before mid after text so_far result failed count p s m base (inr c) =
     subst (λ (r : Result ℕ PickFault). Picks names producer default old before after r) (sym c.0)
-    (picks_with names producer wanted last default old before mid after text so_far (Err fault.Write) p tt (front_of (picked (is_named names producer) 1 p.items) text before mid after m c.1))
+    (picks_with names producer wanted last default old before mid after text so_far (Err fault.Write) p tt (front_of (picked_lines (is_named names producer) 1 p.items) text before mid after m c.1))
 
 none_or_end : (named : ℕ → Bool) (n last : ℕ) (rest : Option (List ℕ)) → NoneAfter named last → (n ≡ last) ⊎ HoldsNoMore rest → NoneAfter named n ⊎ HoldsNoMore rest
 none_or_end named n last rest none (inl e) = inl (subst (λ (m : ℕ). NoneAfter named m) (sym e) none)
@@ -239,12 +239,12 @@ picks_of names producer wanted last default old before mid after text (Err fault
     let e = picked-same wanted (is_named names producer) same 1 p.items in
     subst (λ (r : Result ℕ PickFault). Picks names producer default old before after r) (sym c.0)
     (picks_with names producer wanted last default old before mid after text (Err fault.Write) (Err fault.Write) p tt
-    (subst (λ (a : Option (List ℕ)). WritesFront before a (picked (is_named names producer) 1 p.items)) (sym c.1) (subst (λ (t : List ℕ). WritesFront before mid t) e p.written)))
+    (subst (λ (a : Option (List ℕ)). WritesFront before a (picked_lines (is_named names producer) 1 p.items)) (sym c.1) (subst (λ (t : List ℕ). WritesFront before mid t) e p.written)))
 picks_of names producer wanted last default old before mid after text (Err fault.Memory) result failed count same none p c =
     let e = picked-same wanted (is_named names producer) same 1 p.items in
     subst (λ (r : Result ℕ PickFault). Picks names producer default old before after r) (sym c.0)
     (picks_with names producer wanted last default old before mid after text (Err fault.Memory) (Err fault.Memory) p tt
-    (subst (λ (a : Option (List ℕ)). WritesFront before a (picked (is_named names producer) 1 p.items)) (sym c.1) (subst (λ (t : List ℕ). WritesFront before mid t) e p.written)))
+    (subst (λ (a : Option (List ℕ)). WritesFront before a (picked_lines (is_named names producer) 1 p.items)) (sym c.1) (subst (λ (t : List ℕ). WritesFront before mid t) e p.written)))
 
 pub picks_nothing : (names : List Named) (producer : ℕ) (default old before : Option (List ℕ)) → Picks names producer default old before before (Err fault.Memory)
 picks_nothing names producer default old before = record {

@@ -16,7 +16,7 @@ use Rattle.relay_ndjson.specs.Operations.{IsFault, Position, TakesAction, TakesO
 use Rattle.relay_ndjson.specs.Steps.{SkipsBlank}
 use Rattle.relay_ndjson.proofs.Taking.{action_fault, source_fault}
 use Rattle.relay_action.specs.declared.action.Action.{Action}
-use Rattle.relay_report.specs.Operations.{HasLines, TakesLines, closed}
+use Rattle.relay_report.specs.Operations.{HasLines, TakesLines, whole_line}
 use Rattle.relay_report.specs.Steps.{Asks, IsSource, SkipsTo, KeepsSource, Reads}
 
 pub text_of : (old new : Option (List ℕ)) (text : List ℕ) (end : LineEnd) → TakesBytes old new text end → TakesText old new text
@@ -43,14 +43,14 @@ pub source_breaks : (default : Option (List ℕ)) (old mid new : Position) (text
 source_breaks default old mid new text before after end line e s a l f =
     source_fault default old mid new text a.0 e (skips old mid text end s) a.1 (rw l at f)
 
-pub delete_taken : (default : Option (List ℕ)) (old new : Position) (text lines : List ℕ) (end : LineEnd) → SkipsTo old new text end (Ok true) → Asks default text action.Delete → lines ≡ closed text end → Reads default old new lines (Ok true)
+pub delete_taken : (default : Option (List ℕ)) (old new : Position) (text lines : List ℕ) (end : LineEnd) → SkipsTo old new text end (Ok true) → Asks default text action.Delete → lines ≡ whole_line text end → Reads default old new lines (Ok true)
 delete_taken default old new text lines end s a e = (
   s.0 + 1,
   record { blank = s.0; front = s.1; op = (a.0, Delete); few = s.2; skipped = s.3; own = (text, end, s.4, a.1, e); count_is = refl },
   omega (arith, s.6),
 )
 
-pub index_taken : (default : Option (List ℕ)) (old mid new : Position) (text before lines : List ℕ) (end : LineEnd) (line : ℕ) → SkipsTo old mid text end (Ok true) → Asks default text action.Index → before ≡ closed text end → KeepsSource {U = Unit {0}} mid new line before lines (Ok tt) → Reads default old new lines (Ok true)
+pub index_taken : (default : Option (List ℕ)) (old mid new : Position) (text before lines : List ℕ) (end : LineEnd) (line : ℕ) → SkipsTo old mid text end (Ok true) → Asks default text action.Index → before ≡ whole_line text end → KeepsSource {U = Unit {0}} mid new line before lines (Ok tt) → Reads default old new lines (Ok true)
 index_taken default old mid new text before lines end line s a e k = (
   s.0 + 2,
   record {
@@ -59,7 +59,7 @@ index_taken default old mid new text before lines end line s a e k = (
     op = (a.0, Index k.0);
     few = s.2;
     skipped = s.3;
-    own = (text, mid.ahead, end, k.1, s.4, a.1, k.2, k.4 ∙ ap (λ b. b ++ closed k.0.text k.1) e);
+    own = (text, mid.ahead, end, k.1, s.4, a.1, k.2, k.4 ∙ ap (λ b. b ++ whole_line k.0.text k.1) e);
     count_is = refl;
   },
   omega (arith, s.6, k.3),
@@ -71,7 +71,7 @@ pub source_of : (line : List ℕ) (a : Action) → IsIndexOf line a → IsSource
 source_of line (Index source) h = (source, h)
 source_of line Delete h = absurd h
 
-pub source_kept : (old new : Position) (text before after : List ℕ) (end : LineEnd) (line : ℕ) (r : Result (Unit {0}) InputFault) → TakesBytes old.ahead new.ahead text end → new.count ≡ one_more old.count → IsSource text → OnOk r (after ≡ before ++ closed text end) → IfErr r (λ e. e.kind ≡ kind.Memory) → KeepsSource old new line before after r
+pub source_kept : (old new : Position) (text before after : List ℕ) (end : LineEnd) (line : ℕ) (r : Result (Unit {0}) InputFault) → TakesBytes old.ahead new.ahead text end → new.count ≡ one_more old.count → IsSource text → OnOk r (after ≡ before ++ whole_line text end) → IfErr r (λ e. e.kind ≡ kind.Memory) → KeepsSource old new line before after r
 source_kept old new text before after end line (Ok u) t c s k m =
-    (s.0, end, subst (λ (x : List ℕ). TakesBytes old.ahead new.ahead x end) (sym s.1) t, c, subst (λ (x : List ℕ). after ≡ before ++ closed x end) (sym s.1) k)
+    (s.0, end, subst (λ (x : List ℕ). TakesBytes old.ahead new.ahead x end) (sym s.1) t, c, subst (λ (x : List ℕ). after ≡ before ++ whole_line x end) (sym s.1) k)
 source_kept old new text before after end line (Err e) t c s k m = inr (inl m)

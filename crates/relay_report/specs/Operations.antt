@@ -12,20 +12,20 @@ use Rattle.relay_ndjson.specs.declared.lines.LineEnd.{LineEnd}
 use Rattle.relay_ndjson.specs.declared.lines.LineEnd.TheVariants as end
 
 -- a line byte for byte, with a line feed after a last line that has none
-abbrev pub closed : List ℕ → LineEnd → List ℕ
-closed text end.Open = text ++ 10 ∷ []
-closed text end.Feed = text ++ end_bytes end.Feed
-closed text end.ReturnFeed = text ++ end_bytes end.ReturnFeed
+abbrev pub whole_line : List ℕ → LineEnd → List ℕ
+whole_line text end.Open = text ++ 10 ∷ []
+whole_line text end.Feed = text ++ end_bytes end.Feed
+whole_line text end.ReturnFeed = text ++ end_bytes end.ReturnFeed
 
 -- the lines of an operation at the front: an action line, and for an index action its source
 abbrev pub HasLines : Option (List ℕ) → Option (List ℕ) → Option (List ℕ) → DocKey → Action → List ℕ → Type 0
 HasLines default old new key (Index source) lines =
     (text : List ℕ) × (rest : Option (List ℕ)) × (first : LineEnd) × (last : LineEnd) × TakesBytes old rest text first
     × Says default text action.Index key.index key.id × TakesBytes rest new source.text last
-    × (lines ≡ closed text first ++ closed source.text last)
+    × (lines ≡ whole_line text first ++ whole_line source.text last)
 HasLines default old new key Delete lines =
     (text : List ℕ) × (first : LineEnd) × TakesBytes old new text first
-    × Says default text action.Delete key.index key.id × (lines ≡ closed text first)
+    × Says default text action.Delete key.index key.id × (lines ≡ whole_line text first)
 
 -- these many lines were taken: blank lines, and then those of an operation
 pub record TakesLines (default old new : Option (List ℕ)) (count : ℕ) (lines : List ℕ) : Type 0 where

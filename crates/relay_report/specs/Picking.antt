@@ -7,7 +7,7 @@ use Rattle.relay_ndjson.specs.declared.kind.InputFault.{InputFault}
 use Rattle.relay_ndjson.specs.declared.kind.LineKind.{LineKind}
 use Rattle.relay_ndjson.specs.declared.kind.LineKind.TheVariants as kind
 use Rattle.relay_report.specs.Operations.{TakesLines}
-use Rattle.relay_report.specs.Picks.{TakesAll, WritesFront, picked}
+use Rattle.relay_report.specs.Picks.{TakesAll, WritesFront, picked_lines}
 use Rattle.relay_report.specs.declared.picking.PickFault.{PickFault}
 use Rattle.relay_report.specs.declared.picking.PickFault.TheVariants as fault
 
@@ -56,7 +56,7 @@ pub record PicksTo (wanted : ℕ → Bool) (last : ℕ) (default old before now 
   pub count : ℕ
   pub taken : TakesAll default old rest count items
   pub stops : StopsAt last default rest count items result
-  pub written : Leaves before now (picked wanted 1 items) text result
+  pub written : Leaves before now (picked_lines wanted 1 items) text result
 
 -- nothing more is written
 abbrev pub is_over : Result ℕ PickFault → Bool

@@ -22,9 +22,9 @@ TakesAll default old new count (lines ∷ more) =
     (mid : Option (List ℕ)) × (n : ℕ) × (m : ℕ) × TakesLines default old mid n lines × TakesAll default mid new m more × (count ≡ n + m)
 
 -- the lines of the operations that are wanted, where the first has this number
-abbrev pub picked : (ℕ → Bool) → ℕ → List (List ℕ) → List ℕ
-picked wanted k [] = []
-picked wanted k (lines ∷ more) = (if wanted k then lines else []) ++ picked wanted (suc k) more
+abbrev pub picked_lines : (ℕ → Bool) → ℕ → List (List ℕ) → List ℕ
+picked_lines wanted k [] = []
+picked_lines wanted k (lines ∷ more) = (if wanted k then lines else []) ++ picked_lines wanted (suc k) more
 
 -- no operation above this number is wanted
 abbrev pub NoneAfter : (ℕ → Bool) → ℕ → Type 0
@@ -55,7 +55,7 @@ pub record Picks (names : List Named) (producer : ℕ) (default old before after
   pub count : ℕ
   pub taken : TakesAll default old rest count items
   pub stops : Stops (is_named names producer) default rest count items result
-  pub written : Writes before after (picked (is_named names producer) 1 items) result
+  pub written : Writes before after (picked_lines (is_named names producer) 1 items) result
 
 -- the number of failed calls of the input; it is left open after a failed write or allocation
 abbrev pub ReadsFail : {U : Type 0} → ℕ → ℕ → Result U PickFault → Type 0

@@ -12,7 +12,7 @@ use Rattle.relay_ndjson.specs.Operations.{BreaksSource, HoldsNoMore, IsFault, Po
 use Rattle.relay_action.specs.declared.action.ActionKind.{ActionKind}
 use Rattle.relay_action.specs.declared.action.Source.{Source}
 use Rattle.relay_action.specs.declared.key.DocKey.{DocKey}
-use Rattle.relay_report.specs.Operations.{TakesLines, closed}
+use Rattle.relay_report.specs.Operations.{TakesLines, whole_line}
 
 -- the text asks for an action of this kind on some document
 abbrev pub Asks : Option (List ℕ) → List ℕ → ActionKind → Type 0
@@ -34,7 +34,7 @@ SkipsTo old new text end (Err e) = (default : Option (List ℕ)) → IsFault def
 abbrev pub KeepsSource : {U : Type 0} → Position → Position → ℕ → List ℕ → List ℕ → Result U InputFault → Type 0
 KeepsSource old new line before after (Ok _) =
     (source : Source) × (end : LineEnd) × TakesBytes old.ahead new.ahead source.text end × (new.count ≡ one_more old.count)
-    × (after ≡ before ++ closed source.text end)
+    × (after ≡ before ++ whole_line source.text end)
 KeepsSource old new line before after (Err e) =
     (e.kind ≡ kind.Read) ⊎ (e.kind ≡ kind.Memory)
     ⊎ (IsAtEnd old.ahead × (e.kind ≡ kind.SourceMissing) × (e.line ≡ line))

@@ -2,7 +2,7 @@
 ghost use Rattle.std.specs.Prelude.{◌≡◌, ◌⊎◌, ◌++◌, ℕ, List, [], Some, IfOk, IfErr, OnOk};
 ghost use Rattle.relay_ndjson.specs.Metadata.{shown, line_fault, source_line_fault};
 ghost use Rattle.relay_ndjson.specs.Operations.{failed_after, position};
-ghost use Rattle.relay_report.specs.Operations.{closed};
+ghost use Rattle.relay_report.specs.Operations.{whole_line};
 ghost use Rattle.relay_report.specs.Steps.{Asks, IsSource, SkipsTo, KeepsSource, Reads};
 
 use relay_action::{ActionKind, ByteIn};
@@ -62,7 +62,7 @@ impl OperationReader {
     // it.
     fn keep(&mut self) -> Result<(), InputFault>
         ensures ok { OnOk result (self.new.taken.items
-            ≡ self.old.taken.items ++ closed self.old.lines.text self.old.lines.end) }
+            ≡ self.old.taken.items ++ whole_line self.old.lines.text self.old.lines.end) }
         ensures lines { self.new.lines ≡ self.old.lines }
         ensures err { IfErr result (λ e. e.kind ≡ LineKind.Memory) }
     {
@@ -78,7 +78,7 @@ impl OperationReader {
     // The allocation in `keep`.
     fn add_line(&mut self) -> Result<(), AllocError>
         ensures ok { OnOk result (self.new.taken.items
-            ≡ self.old.taken.items ++ closed self.old.lines.text self.old.lines.end) }
+            ≡ self.old.taken.items ++ whole_line self.old.lines.text self.old.lines.end) }
         ensures lines { self.new.lines ≡ self.old.lines }
     {
         self.taken.extend_from_slice(self.lines.text())?;
@@ -178,7 +178,7 @@ fn check_source(alloc: Global, line: &[u8]) -> Result<(), LineKind>
 // What ends a line when it is written: what ended it when it was read, or a line feed if the input
 // ended after it.
 fn closing(end: LineEnd) -> &'static [u8]
-    ensures { (text : List ℕ) → text ++ result.now ≡ closed text end }
+    ensures { (text : List ℕ) → text ++ result.now ≡ whole_line text end }
 {
     match end {
         LineEnd::Open => b"\n",

@@ -24,20 +24,20 @@ use Rattle.relay_run.specs.declared.producing.FedProducer.{FedProducer}
 use Rattle.relay_run.specs.declared.producing.FedPromise.{FedPromise}
 use Rattle.relay_run.specs.Feeding.{after_puts, Stops}
 use Rattle.relay_run.specs.Identities.{identity_of, identity_of_closed}
-use Rattle.relay_run.specs.Readers.{named, answer_of, first_reader, other_readers, IsFedFrom, IsFed, AreFedFrom}
+use Rattle.relay_run.specs.Readers.{named_ops, answer_of, first_reader, other_readers, IsFedFrom, IsFed, AreFedFrom}
 use Rattle.relay_run.specs.Handles.{Given, given_to, all_given, EndsFed, AllEndFed}
 
 -- ---- one producer
 
 -- the operations that it was fed join what it had put, under their names
 put_on : (s : ProducerState) (done : List Op) (ops : List Operation) → HasPut s.producer s.put (open_puts s.ends) done
-    → HasPut s.producer (after_puts s ops).put (open_puts (after_puts s ops).ends) (done ++ named s.epoch s.producer (s.put + 1) ops)
+    → HasPut s.producer (after_puts s ops).put (open_puts (after_puts s ops).ends) (done ++ named_ops s.epoch s.producer (s.put + 1) ops)
 put_on s done [] h = subst (HasPut s.producer s.put (open_puts s.ends)) (sym (append-nil done)) h
 put_on s done (op ∷ ops) h =
     let next = next_op op.0 op.1 s in
     let t = after_put op.0 op.1 s in
     let more : HasPut t.producer t.put (open_puts t.ends) (done ++ next ∷ []) = put_more s.producer s.put s.ends done next refl refl h in
-    subst (HasPut s.producer (after_puts t ops).put (open_puts (after_puts t ops).ends)) (append_assoc done (next ∷ []) (named s.epoch s.producer (t.put + 1) ops)) (put_on t (done ++ next ∷ []) ops more)
+    subst (HasPut s.producer (after_puts t ops).put (open_puts (after_puts t ops).ends)) (append_assoc done (next ∷ []) (named_ops s.epoch s.producer (t.put + 1) ops)) (put_on t (done ++ next ∷ []) ops more)
 
 same_producer : (s : ProducerState) (ops : List Operation) → (after_puts s ops).producer ≡ s.producer
 same_producer s [] = refl
@@ -83,21 +83,21 @@ stopped rest new fed after (Some fault.LaneGone) h =
 
 module _ {S : Type 0} (left : S → Option (List ℕ)) (failed : S → ℕ) (index : Option (List ℕ)) where
   fed_put : (queues : List Queue) (epoch p : ℕ) (reader : Option S) (ops : List Operation) (after : ProducerState) (f : Option FeedFault) → IsFedFrom left failed index reader ops (new_producer queues epoch p) after f
-      → HasPut p after.put (open_puts after.ends) (named epoch p 1 ops)
+      → HasPut p after.put (open_puts after.ends) (named_ops epoch p 1 ops)
   fed_put queues epoch p None ops after f h =
-      let P : List Operation × ProducerState → Type 0 = λ x. HasPut p x.1.put (open_puts x.1.ends) (named epoch p 1 x.0) in
+      let P : List Operation × ProducerState → Type 0 = λ x. HasPut p x.1.put (open_puts x.1.ends) (named_ops epoch p 1 x.0) in
       subst P (λ i. (sym h.0 i, sym h.1 i)) (new_none queues epoch p)
   fed_put queues epoch p (Some reader) ops after f h =
       let x = h.1 in
       let all = put_on (new_producer queues epoch p) [] x.ops (new_none queues epoch p) in
       let s = stopped x.rest h.0 (after_puts (new_producer queues epoch p) x.ops) after f x.stops in
-      let P : ℕ × List SenderEnd × List Operation → Type 0 = λ y. HasPut p y.0 y.1 (named epoch p 1 y.2) in
+      let P : ℕ × List SenderEnd × List Operation → Type 0 = λ y. HasPut p y.0 y.1 (named_ops epoch p 1 y.2) in
       subst P (λ i. (sym s.put i, sym s.ends i, h.2 i)) all
 
-  closed_put : (queues : List Queue) (epoch p : ℕ) (reader : Option S) (c : ClosedProducerState) (f : Option FeedFault) (x : IsFed left failed index reader (new_producer queues epoch p) c f) → HasPut p c.put (closed_puts c.ends) (named epoch p 1 x.ops)
+  closed_put : (queues : List Queue) (epoch p : ℕ) (reader : Option S) (c : ClosedProducerState) (f : Option FeedFault) (x : IsFed left failed index reader (new_producer queues epoch p) c f) → HasPut p c.put (closed_puts c.ends) (named_ops epoch p 1 x.ops)
   closed_put queues epoch p reader c f x =
-      subst (λ n. HasPut p n (closed_puts c.ends) (named epoch p 1 x.ops)) (sym x.same.1)
-      (put_kept p x.after.put x.after.ends c.ends (named epoch p 1 x.ops) x.closes (fed_put queues epoch p reader x.ops x.after f x.fed))
+      subst (λ n. HasPut p n (closed_puts c.ends) (named_ops epoch p 1 x.ops)) (sym x.same.1)
+      (put_kept p x.after.put x.after.ends c.ends (named_ops epoch p 1 x.ops) x.closes (fed_put queues epoch p reader x.ops x.after f x.fed))
 
   -- ---- all of them
 
@@ -124,15 +124,15 @@ abbrev pub HavePutAs : ℕ → ℕ → List (List Operation) → List ClosedProd
 HavePutAs epoch p [] [] = Unit {0}
 HavePutAs epoch p [] (c ∷ cs) = ⊥
 HavePutAs epoch p (o ∷ os) [] = ⊥
-HavePutAs epoch p (o ∷ os) (c ∷ cs) = HasPut p c.put (closed_puts c.ends) (named epoch p 1 o) × HavePutAs epoch (p + 1) os cs
+HavePutAs epoch p (o ∷ os) (c ∷ cs) = HasPut p c.put (closed_puts c.ends) (named_ops epoch p 1 o) × HavePutAs epoch (p + 1) os cs
 
-put_at : (epoch p : ℕ) (all : ℕ → List Operation) (os : List (List Operation)) (cs : List ClosedProducerState) → ((k : ℕ) → all (p + k) ≡ get_or os k []) → HavePutAs epoch p os cs → HavePut (λ q. named epoch q 1 (all q)) p cs
+put_at : (epoch p : ℕ) (all : ℕ → List Operation) (os : List (List Operation)) (cs : List ClosedProducerState) → ((k : ℕ) → all (p + k) ≡ get_or os k []) → HavePutAs epoch p os cs → HavePut (λ q. named_ops epoch q 1 (all q)) p cs
 put_at epoch p all [] [] e h = tt
 put_at epoch p all [] (c ∷ cs) e h = absurd h
 put_at epoch p all (o ∷ os) [] e h = absurd h
 put_at epoch p all (o ∷ os) (c ∷ cs) e h =
     let here : all p ≡ o = ap all (let z : p ≡ p + 0 = omega arith in z) ∙ e 0 in
-    (subst (λ x. HasPut p c.put (closed_puts c.ends) (named epoch p 1 x)) (sym here) h.0, put_at epoch (p + 1) all os cs (λ k. ap all (let z : p + 1 + k ≡ p + suc k = omega arith in z) ∙ e (suc k)) h.1)
+    (subst (λ x. HasPut p c.put (closed_puts c.ends) (named_ops epoch p 1 x)) (sym here) h.0, put_at epoch (p + 1) all os cs (λ k. ap all (let z : p + 1 + k ≡ p + suc k = omega arith in z) ∙ e (suc k)) h.1)
 
 module _ {S : Type 0} (left : S → Option (List ℕ)) (failed : S → ℕ) where
   -- what is known of all that have ended
@@ -167,7 +167,7 @@ module _ {S : Type 0} (left : S → Option (List ℕ)) (failed : S → ℕ) wher
   pub record FedAndPut (index : Option (List ℕ)) (queues : List Queue) (epoch : ℕ) (readers : List (Option S)) (cs : List ClosedProducerState) (fs : List (Option FeedFault)) : Type 0 where
     pub ops : ℕ → List Operation
     pub fed : AreFedFrom left failed index queues epoch ops 0 readers fs
-    pub put : HavePut (λ p. named epoch p 1 (ops p)) 0 cs
+    pub put : HavePut (λ p. named_ops epoch p 1 (ops p)) 0 cs
 
   pub fed_and_put : (index : Option (List ℕ)) (queues : List Queue) (epoch : ℕ) (readers : List (Option S)) (ps : List ProducerState) (cs : List ClosedProducerState) (fs : List (Option FeedFault)) → AllFed index queues epoch 0 readers ps cs fs → FedAndPut index queues epoch readers cs fs
   fed_and_put index queues epoch readers ps cs fs h =

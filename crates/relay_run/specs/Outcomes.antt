@@ -12,7 +12,7 @@ use Rattle.relay_threads.specs.declared.fault.FinishFault.{FinishFault}
 use Rattle.relay_threads.specs.declared.fault.FinishFaultKind.{FinishFaultKind}
 use Rattle.relay_threads.specs.declared.fault.FinishFaultKind.TheVariants as kind
 use Rattle.relay_threads.specs.declared.summary.LaneSummary.{LaneSummary}
-use Rattle.relay_words.specs.Texts.{spaced, name_text, document_text, cause_text}
+use Rattle.relay_words.specs.Texts.{spaced_number, name_text, document_text, cause_text}
 
 -- `report P:N INDEX/ID CAUSE` and a line end
 abbrev pub report_line : Report → List ℕ
@@ -21,7 +21,7 @@ report_line r = codes "report " ++ name_text r.name ++ codes " " ++ document_tex
 -- `applied A already B reported C` and a line end
 abbrev pub counts_line : ℕ → ℕ → ℕ → List ℕ
 counts_line applied already reported =
-    codes "applied" ++ spaced applied ++ codes " already" ++ spaced already ++ codes " reported" ++ spaced reported ++ codes "\n"
+    codes "applied" ++ spaced_number applied ++ codes " already" ++ spaced_number already ++ codes " reported" ++ spaced_number reported ++ codes "\n"
 
 -- the lines of the reports, and then the counts
 abbrev pub outcome_text : List Report → ℕ → ℕ → List ℕ

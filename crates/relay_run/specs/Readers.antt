@@ -12,9 +12,9 @@ use Rattle.relay_run.specs.Feeding.{Feeds}
 use Rattle.relay_run.specs.Identities.{identity_of, identity_of_closed}
 
 -- operations under the names of this producer in an epoch, with the numbers n, n + 1 and so on
-abbrev pub named : ℕ → ℕ → ℕ → List Operation → List Op
-named epoch producer n [] = []
-named epoch producer n (op ∷ ops) = record { epoch = epoch; producer = producer; number = n; key = op.0; action = op.1 } ∷ named epoch producer (n + 1) ops
+abbrev pub named_ops : ℕ → ℕ → ℕ → List Operation → List Op
+named_ops epoch producer n [] = []
+named_ops epoch producer n (op ∷ ops) = record { epoch = epoch; producer = producer; number = n; key = op.0; action = op.1 } ∷ named_ops epoch producer (n + 1) ops
 
 -- the result of `feed` with this fault, if there is one
 abbrev pub answer_of : Option FeedFault → Result Unit FeedFault

@@ -7,7 +7,7 @@ ghost use Rattle.relay_ndjson.specs.Operations.{Operation};
 ghost use Rattle.relay_queue.specs.Ends.{Queue};
 ghost use Rattle.relay_threads.specs.Relay.{NoneOut};
 ghost use Rattle.relay_threads.specs.Delivered.{AllDelivered};
-ghost use Rattle.relay_run.specs.Readers.{named, AreFedFrom};
+ghost use Rattle.relay_run.specs.Readers.{named_ops, AreFedFrom};
 
 use crate::feed::FeedFault;
 use crate::producing::{join_producers, spawn_producers};
@@ -69,7 +69,7 @@ where
         × AreFedFrom S.left S.failed (shown index.entry) queues config.epoch ops 0 readers.items
         r.faults.items
         × IfOk r.end (λ s. AllDelivered W.describes W.fits config
-        (λ p. named config.epoch p 1 (ops p)) 0
+        (λ p. named_ops config.epoch p 1 (ops p)) 0
         wires.items s.lanes.items)) }
 {
     let (relay, producers, mut control) = Relay::start(rt, alloc, config, wires, paces)?;

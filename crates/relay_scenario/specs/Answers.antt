@@ -4,7 +4,7 @@ use Rattle.std.specs.List.{flat_map}
 use Rattle.relay_action.specs.declared.key.DocKey.{DocKey}
 use Rattle.relay_ndjson.specs.Bulk.{line_end}
 use Rattle.relay_core.specs.declared.settled.Settled.{Settled}
-use Rattle.relay_words.specs.Texts.{spaced, name_text, document_text}
+use Rattle.relay_words.specs.Texts.{spaced_number, name_text, document_text}
 use Rattle.relay_world.specs.declared.event.Refusal.{Refusal}
 use Rattle.relay_world.specs.declared.event.Refusal.TheVariants as no
 use Rattle.relay_world.specs.declared.event.StepAnswer.{StepAnswer}
@@ -28,7 +28,7 @@ refusal_name no.NotAbove = codes "NotAbove"
 
 -- how the operations of a request ended: applied by it, already applied, reported, to be sent again
 abbrev pub counts_text : Settled → List ℕ
-counts_text counts = spaced counts.applied ++ spaced counts.already ++ spaced counts.reported ++ spaced counts.retried
+counts_text counts = spaced_number counts.applied ++ spaced_number counts.already ++ spaced_number counts.reported ++ spaced_number counts.retried
 
 -- the document and the version of an item, ` INDEX/ID@VERSION`
 abbrev pub item_text : DocKey × ℕ → List ℕ
@@ -44,8 +44,8 @@ abbrev pub IsAnswer : World → StepAnswer → List ℕ → Type 0
 IsAnswer w (answer.Refused refusal) text = text ≡ codes "no " ++ refusal_name refusal
 IsAnswer w (answer.Put name) text = text ≡ codes "ok " ++ name_text name
 IsAnswer w (answer.Sent request) text =
-    (items : List (DocKey × ℕ)) × AreItems w request 1 items × (text ≡ codes "ok" ++ spaced request ++ flat_map item_text items)
-IsAnswer w (answer.Ran status) text = text ≡ codes "ok" ++ spaced status
+    (items : List (DocKey × ℕ)) × AreItems w request 1 items × (text ≡ codes "ok" ++ spaced_number request ++ flat_map item_text items)
+IsAnswer w (answer.Ran status) text = text ≡ codes "ok" ++ spaced_number status
 IsAnswer w (answer.Settled counts) text = text ≡ codes "ok" ++ counts_text counts
 IsAnswer w answer.Done text = text ≡ codes "ok"
 

@@ -1,7 +1,7 @@
 //! The lines that answer events.
 ghost use Rattle.std.specs.Prelude.{◌≡◌, [], ◌++◌, codes, OnOk};
 ghost use Rattle.relay_scenario.specs.Answers.{AddsItems, IsAnswer, IsAnswerLine, counts_text, item_text, refusal_name};
-ghost use Rattle.relay_words.specs.Texts.{name_text, spaced};
+ghost use Rattle.relay_words.specs.Texts.{name_text, spaced_number};
 
 use relay_action::{DocKey, OpName};
 use relay_core::Settled;
@@ -69,7 +69,7 @@ fn add_accepted(line: &mut Vec<u8>, name: OpName) -> Result<(), AllocError>
 }
 
 fn add_ran(line: &mut Vec<u8>, status: u16) -> Result<(), AllocError>
-    ensures { OnOk result (line.new.items ≡ line.old.items ++ codes "ok" ++ spaced status) }
+    ensures { OnOk result (line.new.items ≡ line.old.items ++ codes "ok" ++ spaced_number status) }
 {
     line.extend_from_slice(b"ok")?;
     add_spaced(line, status as u64)
@@ -88,7 +88,7 @@ fn add_settled(line: &mut Vec<u8>, settled: Settled) -> Result<(), AllocError>
 
 // Adds the request that was sent, and its items.
 fn add_sent(line: &mut Vec<u8>, world: &World, request: u64) -> Result<(), AllocError>
-    ensures { OnOk result (AddsItems world.now request (line.old.items ++ codes "ok" ++ spaced request) line.new.items) }
+    ensures { OnOk result (AddsItems world.now request (line.old.items ++ codes "ok" ++ spaced_number request) line.new.items) }
 {
     line.extend_from_slice(b"ok")?;
     add_spaced(line, request)?;

@@ -12,7 +12,7 @@ use Rattle.relay_http.specs.WrittenRequest.{WritesText}
 use Rattle.relay_http.specs.declared.fault.HttpFault.{HttpFault}
 use Rattle.relay_http.specs.declared.fault.HttpFault.TheVariants as fault
 use Rattle.relay_http.specs.declared.request.HttpRequest.{HttpRequest}
-use Rattle.relay_http.specs.Listening.{Shown, shown, Listening, HandsOut, refused, with_done}
+use Rattle.relay_http.specs.Listening.{Shown, shown_by, Listening, HandsOut, after_failure, with_done}
 use Rattle.relay_stub.specs.declared.stub.ServeError.{ServeError}
 use Rattle.relay_stub.specs.declared.stub.ServeError.TheVariants as error
 
@@ -24,7 +24,7 @@ opened s = fresh s.left s.written s.failed
 
 -- what the stream of a connection shows
 abbrev pub stream_of : Connection → Shown
-stream_of c = shown c.left c.written c.failed
+stream_of c = shown_by c.left c.written c.failed
 
 -- the result of reading a request from a connection, and the connection afterwards
 pub record ReadsRequest (c d : Connection) (r : Result (Option HttpRequest) HttpFault) : Type 0 where
@@ -129,12 +129,12 @@ VisitsAll (suc n) from old to new =
 abbrev pub Serves : ℕ → Listening → Server → Listening → Server → Result (Unit {0}) ServeError → Type 0
 Serves n from old to new (Ok u) = VisitsAll n from old to new
 Serves n from old to new (Err error.Accept) =
-    (k : ℕ) × (k < n) × ((at : Listening) × VisitsAll k from old at new × (to ≡ refused at))
+    (k : ℕ) × (k < n) × ((at : Listening) × VisitsAll k from old at new × (to ≡ after_failure at))
 Serves n from old to new (Err error.Memory) =
     (k : ℕ) × (k < n) × ((at : Listening) × (later : Server) × (e : ServeFault) × VisitsAll k from old at later × Visits at later to new (Err e))
 
 -- the next connection was served; or a call of the listener or an allocation failed
 abbrev pub ServesNext : Listening → Server → Listening → Server → Result (Unit {0}) ServeError → Type 0
 ServesNext from old to new (Ok u) = Visits from old to new (Ok tt)
-ServesNext from old to new (Err error.Accept) = (to ≡ refused from) × (new ≡ old)
+ServesNext from old to new (Err error.Accept) = (to ≡ after_failure from) × (new ≡ old)
 ServesNext from old to new (Err error.Memory) = (e : ServeFault) × Visits from old to new (Err e)

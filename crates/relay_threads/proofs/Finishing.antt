@@ -7,7 +7,7 @@ use Rattle.std.specs.declared.thread.PromisedHandle.{PromisedHandle}
 use Rattle.relay_action.specs.declared.mail.Mail.{Mail}
 use Rattle.relay_action.specs.declared.operation.Op.{Op}
 use Rattle.relay_results.specs.Outside.{Outside, IsOpening}
-use Rattle.relay_delivery.specs.Delivery.{HasDistinctNames, IsSound, IsComplete, attributed}
+use Rattle.relay_delivery.specs.Delivery.{HasDistinctNames, IsSound, IsComplete, applied_ops}
 use Rattle.relay_delivery.specs.Machine.{Config, Report}
 use Rattle.relay_delivery.specs.Lane as delivery
 use Rattle.relay_delivery.specs.Reached.{Reached}
@@ -150,8 +150,8 @@ module _ {W : Type 0} (describes : W → Bool) (fits : W → Outside → Type 0)
         requests = sum.requests ∙ g.lane.is_of.requests ∙ ap (λ (x : Outside). length x.requests) g.lane.outside;
         applied = sum.applied ∙ g.delivered.applied;
         already = sum.already ∙ g.delivered.already;
-        sound = subst (λ (z : Config × List Report). IsSound z.0 ops z.1 g.outside (attributed z.0 ops g.outside)) (λ i. (conf i, sym reports i)) (g.delivered.sound distinct);
-        complete = subst (λ (z : Config × List Report). IsComplete ops z.1 (attributed z.0 ops g.outside)) (λ i. (conf i, sym reports i)) (g.delivered.complete none distinct);
+        sound = subst (λ (z : Config × List Report). IsSound z.0 ops z.1 g.outside (applied_ops z.0 ops g.outside)) (λ i. (conf i, sym reports i)) (g.delivered.sound distinct);
+        complete = subst (λ (z : Config × List Report). IsComplete ops z.1 (applied_ops z.0 ops g.outside)) (λ i. (conf i, sym reports i)) (g.delivered.complete none distinct);
       }
 
   one_finished : (rows : List (List ClosedEnd)) (lane : ℕ) (q : Queue) (w : W) (e : LaneEnd W) (s : LaneSummary W) → length rows ≡ c.producers + 1 → e.kind ≡ Finished → EndsOn describes fits c q w e → AreMetAt lane 0 e.taken.taken rows → SumsUp e s → FinishedLane describes fits c rows lane w s

@@ -5,7 +5,7 @@ use Rattle.relay_action.specs.declared.mail.Mail.{Mail}
 use Rattle.relay_results.specs.Outside.{Outside}
 use Rattle.relay_results.proofs.Steps.{continues_itself, continues_on}
 use Rattle.relay_core.specs.declared.config.RelayConfig.{RelayConfig}
-use Rattle.relay_core.specs.State.{State, fresh, flushed, after_take}
+use Rattle.relay_core.specs.State.{State, fresh, after_flush, after_take}
 use Rattle.relay_core.specs.Ties.{Fits, ops_of}
 use Rattle.relay_core.proofs.Tying.{fresh_fits, take_fits}
 use Rattle.relay_lane.specs.Turns.{Turn, Worked, Stays}
@@ -70,15 +70,15 @@ module _ {S : Type 0} (d : Bool) (fits : S → Outside → Type 0) where
   }
 
   -- the same after a flush
-  pub works_flushed : (going : Turn → State → Bool) (v w : S) (s t : State) (heard : List Mail) → Worked going (flushed s) t → Stays s t → Delivers d fits v w s t → KeepsOn d fits v w s t heard heard
+  pub works_flushed : (going : Turn → State → Bool) (v w : S) (s t : State) (heard : List Mail) → Worked going (after_flush s) t → Stays s t → Delivers d fits v w s t → KeepsOn d fits v w s t heard heard
   works_flushed going v w s t heard worked stays delivers start c k = record {
     config = stays.config ∙ k.config;
     taken = stays.taken ∙ k.taken;
     senders = ap length stays.closed ∙ k.senders;
     closed = subst (λ l. KnowsClosed l heard) (sym stays.closed) k.closed;
     not_closed = subst (λ l. KnowsOpen l heard) (sym stays.closed) k.not_closed;
-    totals = worked_totals going (flushed s) t worked k.totals;
-    reached = work_is_reached going (flushed s) t (puts_of heard) worked (record { core = k.reached.core; next = k.reached.next });
+    totals = worked_totals going (after_flush s) t worked k.totals;
+    reached = work_is_reached going (after_flush s) t (puts_of heard) worked (record { core = k.reached.core; next = k.reached.next });
     delivers = further start v w s t c heard delivers k.delivers;
   }
 

@@ -14,7 +14,7 @@ use Rattle.relay_results.specs.Outside.{Outside}
 use Rattle.relay_results.proofs.Lists.{some_same, Mem-filter, filter-Mem, at-Mem, sub_joined}
 use Rattle.relay_delivery.specs.Attribution.{SameActions, IsAttribution, IsInProducerOrder, is_from}
 use Rattle.relay_delivery.specs.Causes.{IsTrueCause}
-use Rattle.relay_delivery.specs.Delivery.{taken_of, terms_of, names_of, assigned_at, HasDistinctNames, IsSound, IsComplete, attributed}
+use Rattle.relay_delivery.specs.Delivery.{taken_of, terms_of, names_of, assigned_at, HasDistinctNames, IsSound, IsComplete, applied_ops}
 use Rattle.relay_delivery.specs.Machine.{Report}
 use Rattle.relay_delivery.proofs.Reported.{IsOnTaken, reports_taken, reports_once}
 use Rattle.relay_core.specs.declared.config.RelayConfig.{RelayConfig}
@@ -199,9 +199,9 @@ module _ {W : Type 0} (describes : W → Bool) (fits : W → Outside → Type 0)
               after = x.outside;
               ends = λ t e. subst (λ (y : LaneSummary W). EndsBeside fits y before x.outside) (some_same s t (sym at ∙ e))
                   (record { fitting = x.fitting; continues = x.continues; requests = x.requests; applied = x.applied; already = x.already });
-              ops = attributed (config_of c) d.taken x.outside;
-              sound = subst (λ (rs : List Report). IsSound (config_of c) d.taken rs x.outside (attributed (config_of c) d.taken x.outside)) (sym is) x.sound;
-              complete = subst (λ (rs : List Report). IsComplete d.taken rs (attributed (config_of c) d.taken x.outside)) (sym is) x.complete;
+              ops = applied_ops (config_of c) d.taken x.outside;
+              sound = subst (λ (rs : List Report). IsSound (config_of c) d.taken rs x.outside (applied_ops (config_of c) d.taken x.outside)) (sym is) x.sound;
+              complete = subst (λ (rs : List Report). IsComplete d.taken rs (applied_ops (config_of c) d.taken x.outside)) (sym is) x.complete;
             };
       }
 

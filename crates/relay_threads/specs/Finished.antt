@@ -3,8 +3,8 @@ use Rattle.std.specs.Prelude.{◌≡◌, ◌+◌, ◌<◌, ◌≤◌, ℕ, Bool,
 use Rattle.relay_action.specs.declared.operation.Op.{Op}
 use Rattle.relay_action.specs.declared.mail.Mail.{Mail}
 use Rattle.relay_results.specs.Outside.{Outside, IsOpening, Continues}
-use Rattle.relay_delivery.specs.Counts.{settled_applied, settled_already}
-use Rattle.relay_delivery.specs.Delivery.{HasDistinctNames, IsSound, IsComplete, attributed}
+use Rattle.relay_delivery.specs.Counts.{applied_answers, settled_already}
+use Rattle.relay_delivery.specs.Delivery.{HasDistinctNames, IsSound, IsComplete, applied_ops}
 use Rattle.relay_delivery.specs.Lane as delivery
 use Rattle.relay_delivery.specs.Reached.{Reached}
 use Rattle.relay_queue.specs.Ends.{Queue}
@@ -59,10 +59,10 @@ module _ {W : Type 0} (describes : W → Bool) (fits : W → Outside → Type 0)
     pub fitting : fits s.wire outside
     pub continues : Continues before outside
     pub requests : s.requests ≡ length outside.requests
-    pub applied : s.applied ≡ settled_applied outside.requests
+    pub applied : s.applied ≡ applied_answers outside.requests
     pub already : s.already ≡ settled_already outside.requests
-    pub sound : IsSound (config_of c) ops (map report_of s.reports.items) outside (attributed (config_of c) ops outside)
-    pub complete : IsComplete ops (map report_of s.reports.items) (attributed (config_of c) ops outside)
+    pub sound : IsSound (config_of c) ops (map report_of s.reports.items) outside (applied_ops (config_of c) ops outside)
+    pub complete : IsComplete ops (map report_of s.reports.items) (applied_ops (config_of c) ops outside)
 
   -- The lane reached this summary by calls that it may make, which took these operations, whatever its wire returned:
   -- nothing is held, and the counts and the reports are those to which the calls led.

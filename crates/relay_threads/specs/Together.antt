@@ -7,7 +7,7 @@ use Rattle.relay_results.specs.Documents.{Document, document_of, lane_of, name_o
 use Rattle.relay_results.specs.Outside.{Outside, IsOpening, Continues}
 use Rattle.relay_delivery.specs.Attribution.{IsAttribution, IsInProducerOrder}
 use Rattle.relay_delivery.specs.Causes.{IsAssignment, IsTrueCause}
-use Rattle.relay_delivery.specs.Counts.{settled_applied, settled_already}
+use Rattle.relay_delivery.specs.Counts.{applied_answers, settled_already}
 use Rattle.relay_delivery.specs.Delivery.{taken_of, terms_of, names_of, assigned_at}
 use Rattle.relay_delivery.specs.Machine.{Report, first_in}
 use Rattle.relay_core.specs.declared.config.RelayConfig.{RelayConfig}
@@ -61,7 +61,7 @@ pub record EndsBeside {W : Type 0} (fits : W → Outside → Type 0) (s : LaneSu
   pub fitting : fits s.wire after
   pub continues : Continues before after
   pub requests : s.requests ≡ length after.requests
-  pub applied : s.applied ≡ settled_applied after.requests
+  pub applied : s.applied ≡ applied_answers after.requests
   pub already : s.already ≡ settled_already after.requests
 
 -- ---- what is promised

@@ -6,8 +6,8 @@ use Rattle.relay_results.specs.declared.cause.Cause.{Cause}
 use Rattle.relay_results.specs.declared.cause.Cause.TheVariants as cause
 
 -- a space and a number
-abbrev pub spaced : ℕ → List ℕ
-spaced n = codes " " ++ decimal n
+abbrev pub spaced_number : ℕ → List ℕ
+spaced_number n = codes " " ++ decimal n
 
 -- nothing in epoch 0, and `E.` in any other
 abbrev pub epoch_text : ℕ → List ℕ
@@ -23,8 +23,8 @@ document_text key = key.index ++ codes "/" ++ key.id
 
 -- the cause of a report: its name, and its details
 abbrev pub cause_text : Cause → List ℕ
-cause_text (cause.Refused status kind) = codes "Refused" ++ spaced status ++ codes " " ++ kind
-cause_text (cause.Request status) = codes "Request" ++ spaced status
+cause_text (cause.Refused status kind) = codes "Refused" ++ spaced_number status ++ codes " " ++ kind
+cause_text (cause.Request status) = codes "Request" ++ spaced_number status
 cause_text cause.Conflict = codes "Conflict"
-cause_text (cause.GaveUp sends) = codes "GaveUp" ++ spaced sends
+cause_text (cause.GaveUp sends) = codes "GaveUp" ++ spaced_number sends
 cause_text cause.Spent = codes "Spent"

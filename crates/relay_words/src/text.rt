@@ -1,7 +1,7 @@
 //! Texts that are appended to a vector.
 ghost use Rattle.std.specs.Prelude.{◌≡◌, ◌++◌, OnOk, OnErr, decimal};
 ghost use Rattle.relay_ndjson.specs.Bulk.{Begins};
-ghost use Rattle.relay_words.specs.Texts.{cause_text, document_text, epoch_text, name_text, spaced};
+ghost use Rattle.relay_words.specs.Texts.{cause_text, document_text, epoch_text, name_text, spaced_number};
 
 use itoa::Buffer;
 use relay_action::{DocKey, OpName};
@@ -19,7 +19,7 @@ pub fn add_number(text: &mut Vec<u8>, number: u64) -> Result<(), AllocError>
 
 /// Adds a space and a number.
 pub fn add_spaced(text: &mut Vec<u8>, number: u64) -> Result<(), AllocError>
-    ensures ok { OnOk result (text.new.items ≡ text.old.items ++ spaced number) }
+    ensures ok { OnOk result (text.new.items ≡ text.old.items ++ spaced_number number) }
     ensures err { OnErr result (text.new.items ≡ text.old.items) }
 {
     let length = text.len();
@@ -73,7 +73,7 @@ pub fn add_cause(text: &mut Vec<u8>, cause: &Cause) -> Result<(), AllocError>
 
 // Appends a space and a number. After an error, part of it may be there; so with the functions below.
 fn append_spaced(text: &mut Vec<u8>, number: u64) -> Result<(), AllocError>
-    ensures ok { OnOk result (text.new.items ≡ text.old.items ++ spaced number) }
+    ensures ok { OnOk result (text.new.items ≡ text.old.items ++ spaced_number number) }
     ensures front { Begins text.old.items text.new.items }
 {
     text.extend_from_slice(b" ")?;

@@ -68,7 +68,7 @@ highest_is_below first i (Some v) h above k u e =
 
 module _ (c : RelayConfig) (i : index.State) (few : c.deal < 2 ^ 40) (below : IsBelow (first_in c.epoch) i) where
   abbrev opening : Outside
-  opening = record { requests = []; runs = []; stored = index.stored i; before = index.applied i; applied = λ k. [] }
+  opening = record { requests = []; runs = []; stored = index.stored_version i; before = index.applied_writes i; applied = λ k. [] }
 
   abbrev core : Core
   core = record { taken = []; held = []; reports = []; applied = 0; already = 0; outside = opening }
@@ -96,10 +96,10 @@ module _ (c : RelayConfig) (i : index.State) (few : c.deal < 2 ^ 40) (below : Is
     };
     requests = record { sent = refl; origins = λ k s at. absurd (cc); grown = λ p m. absurd m; runs = λ request place. refl; found = λ s m. absurd m };
     index = record {
-      applied = λ k. sym (drop-all (index.applied i k));
-      before = λ k. take-all (index.applied i k);
+      applied = λ k. sym (drop-all (index.applied_writes i k));
+      before = λ k. take-all (index.applied_writes i k);
       within = λ k. omega arith;
-      shows = record { versions = λ k. refl; lists = λ k. append-nil (index.applied i k) };
+      shows = record { versions = λ k. refl; lists = λ k. append-nil (index.applied_writes i k) };
       names = λ k. refl;
     };
   }

@@ -11,7 +11,7 @@ use Rattle.relay_core.specs.declared.config.RelayConfig.{RelayConfig}
 use Rattle.relay_delivery.specs.Machine.{first_in}
 use Rattle.relay_delivery.specs.Accounted.{op_dealt}
 use Rattle.relay_world.specs.State.{Desk, Item, Sent, Past, World, desk_at, running, incarnations, incarnation, is_version_in, op_among, op_with, writes_from, writes_of, taken_of}
-use Rattle.relay_world.specs.Changes.{restarted}
+use Rattle.relay_world.specs.Changes.{after_restart}
 use Rattle.relay_world.specs.Headline.{request_of}
 use Rattle.relay_world.specs.Ties.{versions_of}
 
@@ -116,8 +116,8 @@ keeps w new config ended more l v o e =
     (taken_at new.desks l ∙ (more l).1 ∙ ap (λ os. os ++ (more l).0) (sym (taken_at w.desks l))) e
 
 -- what was dealt before a restart
-pub keeps_restart : (w : World) (epoch : ℕ) → Keeps w (restarted w epoch)
-keeps_restart w epoch l v o e = op_push w.config.deal (incarnations w) (running (restarted w epoch)) l v o e
+pub keeps_restart : (w : World) (epoch : ℕ) → Keeps w (after_restart w epoch)
+keeps_restart w epoch l v o e = op_push w.config.deal (incarnations w) (running (after_restart w epoch)) l v o e
 
 pub found_kept : (w new : World) → Keeps w new → (l : ℕ) (vs : List ℕ) → AllFound (op_with w l) vs → AllFound (op_with new l) vs
 found_kept w new k l vs found v m = let p = found v m in (p.0, k l v p.0 p.1)

@@ -19,8 +19,8 @@ use Rattle.relay_world.specs.declared.sender.Sender.{Sender}
 use Rattle.relay_world.specs.State.{Desk, Sent, World, lane_of, has_closed, is_closed}
 use Rattle.relay_world.specs.Headline.{StaysClosed}
 use Rattle.relay_world.specs.Refusals.{is_above, refusal}
-use Rattle.relay_world.specs.Changes.{is_done_mail, after_mail, posted, took_front, sent_request, answered_desk, op_of_put, after_put, after_send, after_answer, Changes}
-use Rattle.relay_world.specs.Steps.{StepsBy, Steps, counted, Plays}
+use Rattle.relay_world.specs.Changes.{is_done_mail, after_mail, after_post, took_front, sent_request, answered_desk, op_of_put, after_put, after_send, after_answer, Changes}
+use Rattle.relay_world.specs.Steps.{StepsBy, Steps, counts_after, Plays}
 use Rattle.relay_world.proofs.Events.{unrefused, not_false}
 use Rattle.relay_world.proofs.Posting.{closed_in}
 use Rattle.relay_world.proofs.Fetching.{closed_front}
@@ -46,7 +46,7 @@ closed_more f more zero (x ∷ xs) (suc p) t = t
 closed_more f more (suc s) (x ∷ xs) zero t = t
 closed_more f more (suc s) (x ∷ xs) (suc p) t = closed_more f more s xs p t
 
-posted_more : (p s : ℕ) (b : Body) (d : Desk) → has_closed p d ≡ true → has_closed p (posted s b d) ≡ true
+posted_more : (p s : ℕ) (b : Body) (d : Desk) → has_closed p d ≡ true → has_closed p (after_post s b d) ≡ true
 posted_more p s b d t = closed_more (after_mail b) (λ y e. or_left y.closed (is_done_mail b) e) s d.senders p t
 
 -- a desk was changed at which what was closed stays so
@@ -58,7 +58,7 @@ put_closed w o open_yet = record {
   epoch = (let z : w.config.epoch ≤ w.config.epoch = omega arith in z);
   closed = λ same p t. (
     ap (λ x. unwrap_or x []) (at-update_other o.producer (λ os. os ++ o ∷ []) w.accepted p (λ e. cc (ap (is_closed w) e, t, open_yet))),
-    any_more (has_closed p) (posted o.producer (body.Put o)) (lane_of w (document_of o.key)) w.desks (λ d. posted_more p o.producer (body.Put o) d) t,
+    any_more (has_closed p) (after_post o.producer (body.Put o)) (lane_of w (document_of o.key)) w.desks (λ d. posted_more p o.producer (body.Put o) d) t,
   );
 }
 
@@ -69,9 +69,9 @@ closed_same w = record { epoch = (let z : w.config.epoch ≤ w.config.epoch = om
 changes_closed : (w new : World) (e : Event) (x : StepAnswer) → refusal w e ≡ None → Changes w e x new → StaysClosed w new
 changes_closed w new (event.Put p key action) x q c =
     subst (StaysClosed w) (sym c.1) (put_closed w (op_of_put w p key action) (unrefused (is_closed w p) _ _ (unrefused _ _ _ q).1).0)
-changes_closed w new (event.Close p l) x q c = subst (StaysClosed w) (sym c.1) (desk_closed w l (posted p body.Done) w.sent (λ s d. posted_more s p body.Done d))
-changes_closed w new (event.Tick l) x q c = subst (StaysClosed w) (sym c.1) (desk_closed w l (posted w.config.producers body.Tick) w.sent (λ s d. posted_more s w.config.producers body.Tick d))
-changes_closed w new (event.Flush l) x q c = subst (StaysClosed w) (sym c.1) (desk_closed w l (posted w.config.producers body.Flush) w.sent (λ s d. posted_more s w.config.producers body.Flush d))
+changes_closed w new (event.Close p l) x q c = subst (StaysClosed w) (sym c.1) (desk_closed w l (after_post p body.Done) w.sent (λ s d. posted_more s p body.Done d))
+changes_closed w new (event.Tick l) x q c = subst (StaysClosed w) (sym c.1) (desk_closed w l (after_post w.config.producers body.Tick) w.sent (λ s d. posted_more s w.config.producers body.Tick d))
+changes_closed w new (event.Flush l) x q c = subst (StaysClosed w) (sym c.1) (desk_closed w l (after_post w.config.producers body.Flush) w.sent (λ s d. posted_more s w.config.producers body.Flush d))
 changes_closed w new (event.Take l) x q c = subst (StaysClosed w) (sym c.1) (desk_closed w l took_front w.sent (λ p d t. closed_front p d.queue d ∙ t))
 changes_closed w new (event.Send l) x q c = subst (StaysClosed w) (sym c.1) (desk_closed w l sent_request (after_send w l).sent (λ p d t. t))
 changes_closed w new (event.Run request item choice) x q c = subst (StaysClosed w) (sym c.after) (record { epoch = (let z : w.config.epoch ≤ w.config.epoch = omega arith in z); closed = λ same p t. (refl, t) })
@@ -103,4 +103,4 @@ closed_on a b c f g =
 
 pub plays_closed : (w : World) (n : RunEnd) (es : List Event) (end : RunEnd) (new : World) → Plays w n es end new → StaysClosed w new
 plays_closed w n [] end new c = subst (StaysClosed w) (sym c.1) (closed_same w)
-plays_closed w n (e ∷ es) end new c = closed_on w c.1 new (step_closed w c.1 e c.0 c.2) (plays_closed c.1 (counted c.0 n) es end new c.3)
+plays_closed w n (e ∷ es) end new c = closed_on w c.1 new (step_closed w c.1 e c.0 c.2) (plays_closed c.1 (counts_after c.0 n) es end new c.3)

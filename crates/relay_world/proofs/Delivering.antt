@@ -26,7 +26,7 @@ use Rattle.relay_delivery.proofs.Sharing.{TogetherFacts, true_all}
 use Rattle.relay_delivery.proofs.Lives.{IsOfThese, facts_together}
 use Rattle.relay_world.proofs.Past.{running_seen, epochs_rise}
 use Rattle.relay_core.specs.State.{config_of}
-use Rattle.relay_world.specs.State.{Desk, World, ended_of, desk_at, lane_of, accepted_from, applied, reports_of, reports, all_closed, is_done, is_finished, taken}
+use Rattle.relay_world.specs.State.{Desk, World, ended_of, desk_at, lane_of, accepted_from, applied_writes, reports_of, reports, all_closed, is_done, is_finished, taken_ops}
 use Rattle.relay_world.specs.Headline.{outside_of, terms_at, version_at, IsTrueReport, Delivered}
 use Rattle.relay_world.specs.Ties.{puts_of, queue_of, core_of, IsTied, WorldsDeliver}
 
@@ -88,7 +88,7 @@ module _ (w : World) (t : Together) (b : ℕ → ℕ) (i : IsTied w t b) where
   abbrev versions : Op → Option ℕ
   versions o = version_in g.first g.deals (t.lanes.lane (lane_of w (document_of o.key))).taken o
 
-  assigned : (l place : ℕ) (o : Op) → slice_get (taken w l) place ≡ Some o → versions o ≡ version_at w place
+  assigned : (l place : ℕ) (o : Op) → slice_get (taken_ops w l) place ≡ Some o → versions o ≡ version_at w place
   assigned l place o at = ap (λ n. version_in g.first g.deals (t.lanes.lane n).taken o) its_lane ∙ by (nat_lt place g.deals) refl
     where
       os : List Op
@@ -134,7 +134,7 @@ module _ (w : World) (t : Together) (b : ℕ → ℕ) (i : IsTied w t b) where
         ran = i.requests.runs;
         ops = attributed_together g (lane_of w) (ended_of w) t;
         named = i.index.names;
-        attribution = λ k. subst (λ is. IsAttribution (accepted_over is) k (applied w k) (attributed_together g (lane_of w) (ended_of w) t k)) (running_seen w t b i)
+        attribution = λ k. subst (λ is. IsAttribution (accepted_over is) k (applied_writes w k) (attributed_together g (lane_of w) (ended_of w) t k)) (running_seen w t b i)
             (subst (λ ws. IsAttribution (accepted_over (with_running (ended_of w) g t)) k ws (attributed_together g (lane_of w) (ended_of w) t k)) (i.index.applied k) (s.attribution k));
         in_order = λ k e. subst (λ is. IsInProducerOrder (accepted_in is e) (filter (is_in e) (attributed_together g (lane_of w) (ended_of w) t k))) (running_seen w t b i) (s.in_order k e);
         by_epoch = s.by_epoch;

@@ -18,7 +18,7 @@ use Rattle.relay_core.proofs.Forming.{items_of_operations as items_are}
 use Rattle.relay_delivery.specs.Lane as delivery
 use Rattle.relay_world.specs.declared.sender.Sender.{Sender}
 use Rattle.relay_world.specs.State.{Desk}
-use Rattle.relay_world.specs.Changes.{after_mail, mail_of, posted, front_taken, took_front, sent_request, answered_desk}
+use Rattle.relay_world.specs.Changes.{after_mail, mail_of, after_post, front_taken, took_front, sent_request, answered_desk}
 use Rattle.relay_world.specs.Memory.{AllKnown, AllBelow, IsDesk, IsOpenAt}
 use Rattle.relay_world.proofs.Places.{either, set-update, length-set, length-sub}
 
@@ -32,7 +32,7 @@ open_within [] n e = absurd (cc)
 open_within (s ∷ ss) zero e = omega arith
 open_within (s ∷ ss) (suc n) e = let lt = open_within ss n e in omega (arith, lt)
 
-pub posted_keeps : (sender : ℕ) (b : Body) (d : Desk) → IsDesk d → IsOpenAt sender d → IsDesk (posted sender b d)
+pub posted_keeps : (sender : ℕ) (b : Body) (d : Desk) → IsDesk d → IsOpenAt sender d → IsDesk (after_post sender b d)
 posted_keeps sender b d i open_there = record {
   known = known-push (length d.lane.closed) d.queue (mail_of d sender b) i.known (let lt = open_within d.senders sender open_there in let e = i.senders in omega (arith, lt, e));
   senders = length-update sender (after_mail b) d.senders ∙ i.senders;
@@ -130,10 +130,10 @@ pub answered_keeps : (number : ℕ) (a : Answer) (d : Desk) → IsDesk d → IsD
 answered_keeps number a d i = record { known = i.known; senders = i.senders; fresh = below-filter d.lane.flights.next number d.lane.flights.batches i.fresh }
 
 -- by whether the lane took the answer
-pub answer_keeps : {A E : Type 0} (r : Result A E) (number : ℕ) (a : Answer) (d : Desk) (l : lane.State) → OnOk r (l ≡ lane.answered d.lane number a) → OnErr r (l ≡ d.lane)
+pub answer_keeps : {A E : Type 0} (r : Result A E) (number : ℕ) (a : Answer) (d : Desk) (l : lane.State) → OnOk r (l ≡ lane.with_answer d.lane number a) → OnErr r (l ≡ d.lane)
     → IsDesk d → IsDesk (record d { lane = l })
 answer_keeps r number a d l ok err i =
-    either r (l ≡ lane.answered d.lane number a) (l ≡ d.lane) (IsDesk (record d { lane = l })) ok err
+    either r (l ≡ lane.with_answer d.lane number a) (l ≡ d.lane) (IsDesk (record d { lane = l })) ok err
     (λ e. subst (λ x. IsDesk (record d { lane = x })) (sym e) (answered_keeps number a d i))
     (λ e. subst (λ x. IsDesk (record d { lane = x })) (sym e) i)
 
@@ -142,7 +142,7 @@ answer_keeps r number a d l ok err i =
 -- the parts of a desk after a message was put there
 pub posted_is : (d : Desk) (sender : ℕ) (b : Body) (s next : Sender) (queue : List Mail) → slice_get d.senders sender ≡ Some s → next ≡ after_mail b s
     → queue ≡ d.queue ++ record { sender = sender; number = next.count; body = b } ∷ []
-    → record d { queue = queue; senders = slice_set d.senders sender next } ≡ posted sender b d
+    → record d { queue = queue; senders = slice_set d.senders sender next } ≡ after_post sender b d
 posted_is d sender b s next queue there same q =
     let count : next.count ≡ one_more (unwrap_or (option_map (λ (x : Sender). x.count) (slice_get d.senders sender)) 0) =
     ap (λ (x : Sender). x.count) same ∙ ap (λ o. one_more (unwrap_or (option_map (λ (x : Sender). x.count) o) 0)) (sym there) in

@@ -20,7 +20,7 @@ use Rattle.relay_world.specs.declared.event.Event.TheVariants as event
 use Rattle.relay_world.specs.declared.event.Refusal.{Refusal}
 use Rattle.relay_world.specs.declared.event.StepAnswer.{StepAnswer}
 use Rattle.relay_world.specs.declared.sender.Sender.{Sender}
-use Rattle.relay_world.specs.State.{Desk, Item, Sent, World, desk_at, numbered, request_at, op_with, write_at, writes_of, is_closed}
+use Rattle.relay_world.specs.State.{Desk, Item, Sent, World, desk_at, element_at, request_at, op_with, write_at, writes_of, is_closed}
 use Rattle.relay_world.specs.Headline.{runs_of, runs_at}
 use Rattle.relay_world.specs.Refusals.{cause_if, at_desk, is_spent, may_choose, flies_at, is_flying, run_by, entry_for, entry_at, and_more, entries_from, entries, are_picks, at_request, is_whole, front_refusal, is_above, refusal}
 use Rattle.relay_world.specs.Changes.{op_of_put, Answers, Changes}
@@ -55,7 +55,7 @@ some_is None e = absurd (cc)
 some_is (Some x) e = (x, refl)
 
 -- the element with a number stands one place before it
-at_number : {A : Type 0} (xs : List A) (n : ℕ) (x : A) → numbered xs n ≡ Some x → slice_get xs (n - 1) ≡ Some x
+at_number : {A : Type 0} (xs : List A) (n : ℕ) (x : A) → element_at xs n ≡ Some x → slice_get xs (n - 1) ≡ Some x
 at_number xs n x e = by (n == 0) e
   where
     by : (b : Bool) → (if b then None else slice_get xs (n - 1)) ≡ Some x → slice_get xs (n - 1) ≡ Some x

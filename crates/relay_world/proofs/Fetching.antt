@@ -9,7 +9,7 @@ use Rattle.relay_results.specs.Words.{update}
 use Rattle.relay_results.proofs.Lists.{equal_or_not, at-update_same, at-update_other}
 use Rattle.relay_delivery.specs.Machine.{Config, Core, Takes, step}
 use Rattle.relay_delivery.specs.Lane as delivery
-use Rattle.relay_delivery.specs.Lanes.{Lanes, Fetches, fetched}
+use Rattle.relay_delivery.specs.Lanes.{Lanes, Fetches, after_fetch}
 use Rattle.relay_delivery.specs.Together.{Together, Plain}
 use Rattle.relay_delivery.specs.Restarts.{CameAboutTogether}
 use Rattle.relay_delivery.specs.Numbered.{numbered_on}
@@ -100,14 +100,14 @@ module _ (w : World) (t : Together) (b : ℕ → ℕ) (i : IsTied w t b) (l : �
     with_lanes ls = record { lanes = ls; sent = t.sent; origins = t.origins; runs = t.runs }
 
     abbrev fetched_now : Together
-    fetched_now = with_lanes (fetched g l t.lanes (o ∷ puts_of ms))
+    fetched_now = with_lanes (after_fetch g l t.lanes (o ∷ puts_of ms))
 
     came : CameAboutTogether g (lane_of w) (ended_of w) fetched_now
-    came = subst (λ q. CameAboutTogether g (lane_of w) (ended_of w) (with_lanes (fetched g l t.lanes q))) queue_is
+    came = subst (λ q. CameAboutTogether g (lane_of w) (ended_of w) (with_lanes (after_fetch g l t.lanes q))) queue_is
         (act_together g (lane_of w) (ended_of w) t (Plain (Fetches l)) i.came_about (tt, tt) tt)
 
     left : Desk
-    left = record { queue = ms; senders = d.senders; taken = d.taken ++ o ∷ []; lane = lane.taken d.lane o }
+    left = record { queue = ms; senders = d.senders; taken = d.taken ++ o ∷ []; lane = lane.after_put d.lane o }
 
     left_is : front_taken (m ∷ ms) d ≡ left
     unfolding left
@@ -121,8 +121,8 @@ module _ (w : World) (t : Together) (b : ℕ → ℕ) (i : IsTied w t b) (l : �
         record {
           queue_is = refl;
           taken = ap (λ os. os ++ o ∷ []) now.taken;
-          lane = subst (λ x. delivery.IsOf (numbered_on (b l) (lane.taken d.lane o).core) (step x (Takes o) (t.lanes.lane l))) old.config (take_on (b l) d.lane.core (t.lanes.lane l) o (lane.bytes_of d.lane o) now.lane);
-          works = λ x e. let one : record { queue = ms; senders = d.senders; taken = d.taken ++ o ∷ []; lane = lane.taken d.lane o } ≡ x = cc in subst (IsLaneOf w.config) one (record { config = old.config; senders = old.senders; next = old.next });
+          lane = subst (λ x. delivery.IsOf (numbered_on (b l) (lane.after_put d.lane o).core) (step x (Takes o) (t.lanes.lane l))) old.config (take_on (b l) d.lane.core (t.lanes.lane l) o (lane.bytes_of d.lane o) now.lane);
+          works = λ x e. let one : record { queue = ms; senders = d.senders; taken = d.taken ++ o ∷ []; lane = lane.after_put d.lane o } ≡ x = cc in subst (IsLaneOf w.config) one (record { config = old.config; senders = old.senders; next = old.next });
         }
 
     same_outside : (n : ℕ) → (fetched_now.lanes.lane n).outside ≡ (t.lanes.lane n).outside
@@ -151,13 +151,13 @@ take_tied w t n i l d there m ms front = by m.body refl
     by (body.Put o) e = (fetched_now w t n i l d there m ms front o e, put_taken_tied w t n i l d there m ms front o e)
     by body.Tick e = (
       t,
-      quiet_tied w t n i l d there m ms front (ap ops_of e) (lane.ticked d.lane) (ap (lane.after_take d.lane m.sender) e)
+      quiet_tied w t n i l d there m ms front (ap ops_of e) (lane.after_tick d.lane) (ap (lane.after_take d.lane m.sender) e)
           (λ c x. record { taken = x.taken; held = x.held; reports = x.reports; applied = x.applied; already = x.already; requests = x.requests; flying = x.flying })
           (λ x. record { config = x.config; senders = x.senders; next = x.next }),
     )
     by body.Flush e = (
       t,
-      quiet_tied w t n i l d there m ms front (ap ops_of e) (lane.flushed d.lane) (ap (lane.after_take d.lane m.sender) e)
+      quiet_tied w t n i l d there m ms front (ap ops_of e) (lane.after_flush d.lane) (ap (lane.after_take d.lane m.sender) e)
           (λ c x. x)
           (λ x. record { config = x.config; senders = x.senders; next = x.next }),
     )

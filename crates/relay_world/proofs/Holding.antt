@@ -17,7 +17,7 @@ use Rattle.relay_world.specs.declared.event.Refusal.TheVariants as no
 use borrow.Author.Tests.{ltb-false, leb-false}
 use Rattle.relay_world.specs.State.{Desk, Sent, World, desk_at, lane_of, has_closed, is_closed}
 use Rattle.relay_world.specs.Refusals.{cause_if, at_desk, front_refusal, put_refusal, close_refusal, control_refusal, take_refusal, is_full}
-use Rattle.relay_world.specs.Changes.{at_lane, posted, front_taken, took_front, sent_request, answered_desk, after_mail, after_put, request_of, sent_by}
+use Rattle.relay_world.specs.Changes.{at_lane, after_post, front_taken, took_front, sent_request, answered_desk, after_mail, after_put, request_of, sent_by}
 use Rattle.relay_world.specs.Memory.{WorksAs, ArePartsOf, IsOpenAt, IsOpenIn, IsThere, Forms, FormsBy, batch_at}
 use Rattle.relay_world.proofs.Places.{either, on_ok, on_ok_two, on_err, on_err_two, set-update, set-same, length-set}
 use Rattle.relay_world.proofs.Desks.{took_config}
@@ -57,7 +57,7 @@ module _ {A E : Type 0} (r : Result A E) (w : World) (l : ℕ) (f : Desk → Des
 
 -- ---- desks work on
 
-pub posted_works : (w : World) (sender : ℕ) (b : Body) → Works w (posted sender b)
+pub posted_works : (w : World) (sender : ℕ) (b : Body) → Works w (after_post sender b)
 posted_works w sender b d k = record { config = k.config; senders = length-update sender (after_mail b) d.senders ∙ k.senders }
 
 front_works : (w : World) (q : List Mail) (d : Desk) → WorksAs w.config d → WorksAs w.config (front_taken q d)
@@ -148,18 +148,18 @@ take_there w l n = by (desk_at w l) refl n
 -- ---- an operation is accepted
 
 module _ {A E : Type 0} (r : Result A E) (w : World) (o : Op) (l : ℕ) (d e : Desk) where
-  pub accepted_parts : (list : List Op) → desk_at w l ≡ Some d → OnOk r (e ≡ posted o.producer (body.Put o) d) → OnErr r (e ≡ d) → ArePartsOf w → ArePartsOf (record w { desks = slice_set w.desks l e; accepted = slice_set w.accepted o.producer list })
+  pub accepted_parts : (list : List Op) → desk_at w l ≡ Some d → OnOk r (e ≡ after_post o.producer (body.Put o) d) → OnErr r (e ≡ d) → ArePartsOf w → ArePartsOf (record w { desks = slice_set w.desks l e; accepted = slice_set w.accepted o.producer list })
   accepted_parts list there ok err p =
-      let k = parts_result r w l (posted o.producer (body.Put o)) d e there ok err (posted_works w o.producer (body.Put o)) p in
+      let k = parts_result r w l (after_post o.producer (body.Put o)) d e there ok err (posted_works w o.producer (body.Put o)) p in
       record { valid = k.valid; lanes = k.lanes; producers = length-set w.accepted o.producer list ∙ k.producers; works = k.works }
 
   pub accepted_view : (old list : List Op) → desk_at w l ≡ Some d → slice_get w.accepted o.producer ≡ Some old → l ≡ lane_of w (document_of o.key)
-      → OnOk r (e ≡ posted o.producer (body.Put o) d) → OnOk r (list ≡ old ++ o ∷ [])
+      → OnOk r (e ≡ after_post o.producer (body.Put o) d) → OnOk r (list ≡ old ++ o ∷ [])
       → OnOk r (record w { desks = slice_set w.desks l e; accepted = slice_set w.accepted o.producer list } ≡ after_put w o)
   accepted_view old list there at at_lane_of queue more =
-      on_ok_two r (e ≡ posted o.producer (body.Put o) d) (list ≡ old ++ o ∷ []) (record w { desks = slice_set w.desks l e; accepted = slice_set w.accepted o.producer list } ≡ after_put w o)
+      on_ok_two r (e ≡ after_post o.producer (body.Put o) d) (list ≡ old ++ o ∷ []) (record w { desks = slice_set w.desks l e; accepted = slice_set w.accepted o.producer list } ≡ after_put w o)
       (λ q m.
-      let ds = set-update (posted o.producer (body.Put o)) w.desks l d e there q ∙ ap (λ n. update n (posted o.producer (body.Put o)) w.desks) at_lane_of in
+      let ds = set-update (after_post o.producer (body.Put o)) w.desks l d e there q ∙ ap (λ n. update n (after_post o.producer (body.Put o)) w.desks) at_lane_of in
       let ls = set-update (λ os. os ++ o ∷ []) w.accepted o.producer old list at m in
       λ i. record w { desks = ds i; accepted = ls i })
       queue more

@@ -6,7 +6,7 @@ use Rattle.relay_world.specs.declared.event.StepAnswer.{StepAnswer}
 use Rattle.relay_world.specs.declared.event.RunEnd.{RunEnd}
 use Rattle.relay_world.specs.State.{World}
 use Rattle.relay_world.specs.Headline.{StaysClosed}
-use Rattle.relay_world.specs.Steps.{Steps, Plays, none_yet, counted}
+use Rattle.relay_world.specs.Steps.{Steps, Plays, none_yet, counts_after}
 use Rattle.relay_world.specs.Ties.{IsWorld}
 use Rattle.relay_world.proofs.Events.{steps_keep_tied}
 use Rattle.relay_world.proofs.Closing.{closed_same, step_closed, plays_closed}
@@ -23,7 +23,7 @@ step_stays_closed (Err x) w new e ok err = subst (StaysClosed w) (sym err) (clos
 
 plays_world : (w : World) (n : RunEnd) (es : List Event) (end : RunEnd) (new : World) → Plays w n es end new → IsWorld w → IsWorld new
 plays_world w n [] end new c k = subst IsWorld (sym c.1) k
-plays_world w n (e ∷ es) end new c k = plays_world c.1 (counted c.0 n) es end new c.3 (steps_keep_tied w c.1 e c.0 k c.2)
+plays_world w n (e ∷ es) end new c k = plays_world c.1 (counts_after c.0 n) es end new c.3 (steps_keep_tied w c.1 e c.0 k c.2)
 
 module _ {E : Type 0} (r : Result RunEnd (ℕ × E)) (w new : World) (es : List Event) where
   abbrev ends : RunEnd → Type 0

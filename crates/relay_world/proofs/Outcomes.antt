@@ -272,8 +272,8 @@ module _ (w : World) (t : Together) (b : ℕ → ℕ) (i : IsTied w t b) (k n : 
   grown : (d : Document) → (is_run w.index x c && same_document d (document_of op.key)) ≡ grows d
   grown d = ap (λ b. b && same_document d (document_of op.key)) (sym (is_applied-done_of w.index x c))
 
-  list_now : (d : Document) → index.applied new_index d ≡ index.applied w.index d ++ write_if (grows d) x
-  list_now d = effect.lists d ∙ ap (λ b. index.applied w.index d ++ write_if b x) (grown d)
+  list_now : (d : Document) → index.applied_writes new_index d ≡ index.applied_writes w.index d ++ write_if (grows d) x
+  list_now d = effect.lists d ∙ ap (λ b. index.applied_writes w.index d ++ write_if b x) (grown d)
 
   shown : Shows (ran_of (outside_of (lane_of w) t) (run_at k n o) (Some x)) new_index
   shown = of_outside.shows (outside_of (lane_of w) t) (run_at k n o) i.index.shows refl
@@ -302,17 +302,17 @@ module _ (w : World) (t : Together) (b : ℕ → ℕ) (i : IsTied w t b) (k n : 
     index_now = record {
       applied = λ d.
           applied_now d ∙ ap (λ ws. ws ++ write_if (grows d) x) (i.index.applied d)
-          ∙ sym (drop-left (before_at w d) (index.applied w.index d) (write_if (grows d) x) (i.index.within d))
+          ∙ sym (drop-left (before_at w d) (index.applied_writes w.index d) (write_if (grows d) x) (i.index.within d))
           ∙ (let back = sym (before d) in let list = sym (list_now d) in λ j. drop (back j) (list j));
       before = λ d.
           before_now d ∙ i.index.before d
-          ∙ sym (take-left (before_at w d) (index.applied w.index d) (write_if (grows d) x) (i.index.within d))
+          ∙ sym (take-left (before_at w d) (index.applied_writes w.index d) (write_if (grows d) x) (i.index.within d))
           ∙ (let back = sym (before d) in let list = sym (list_now d) in λ j. take (back j) (list j));
       within = λ d.
           let n1 = before d in
           let n2 = i.index.within d in
           let n3 = ap length (list_now d) in
-          let n4 = length-append (index.applied w.index d) (write_if (grows d) x) in
+          let n4 = length-append (index.applied_writes w.index d) (write_if (grows d) x) in
           omega (arith, n1, n2, n3, n4);
       shows = record {
         versions = λ d. stored_now d ∙ sym (ran_stored (outside_of (lane_of w) t) (run_at k n o) x d) ∙ shown.versions d;

@@ -3,7 +3,7 @@ use Rattle.std.proofs.Common.{◌≡◌, ℕ, zero, suc, ◌-◌, ◌<◌, ◌�
 use Rattle.std.specs.Prelude.{◌==◌, slice_get, slice_set, OnOk, OnErr, Ok, Err, Result, option_map, is_some, IsSome, IsOk, IfOk}
 use Rattle.relay_results.specs.Words.{IsSubsequence, update}
 use Rattle.relay_results.proofs.Lists.{equal, true_or_false}
-use Rattle.relay_world.specs.State.{numbered}
+use Rattle.relay_world.specs.State.{element_at}
 
 -- numbers that differ test false
 pub not_equal : (m n : ℕ) → m ≢ n → (m == n) ≡ false
@@ -66,10 +66,10 @@ ok_fact (Ok x) P i p = p
 ok_fact (Err x) P i p = absurd (cc)
 
 -- a number that is not 0 is that of the element before it
-pub minus_one : {A : Type 0} (xs : List A) (n : ℕ) → (n ≡ 0 → ⊥) → numbered xs n ≡ slice_get xs (n - 1)
+pub minus_one : {A : Type 0} (xs : List A) (n : ℕ) → (n ≡ 0 → ⊥) → element_at xs n ≡ slice_get xs (n - 1)
 minus_one xs n ne = by (n == 0) refl
   where
-    by : (b : Bool) → (n == 0) ≡ b → numbered xs n ≡ slice_get xs (n - 1)
+    by : (b : Bool) → (n == 0) ≡ b → element_at xs n ≡ slice_get xs (n - 1)
     by true e = absurd (ne (equal n 0 e))
     by false e = rw e refl
 
@@ -81,7 +81,7 @@ pub if_ok_two : {A E : Type 0} (r : Result A E) (P Q R : A → Type 0) → ((x :
 if_ok_two (Ok x) P Q R f p q = f x p q
 if_ok_two (Err x) P Q R f p q = p
 
-pub numbered_at : {A : Type 0} (xs : List A) (n : ℕ) (x : A) → numbered xs n ≡ Some x → slice_get xs (n - 1) ≡ Some x
+pub numbered_at : {A : Type 0} (xs : List A) (n : ℕ) (x : A) → element_at xs n ≡ Some x → slice_get xs (n - 1) ≡ Some x
 numbered_at xs n x e = by (n == 0) refl
   where
     by : (b : Bool) → (n == 0) ≡ b → slice_get xs (n - 1) ≡ Some x

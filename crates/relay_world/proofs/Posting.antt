@@ -17,7 +17,7 @@ use Rattle.relay_core.specs.State.{config_of}
 use Rattle.relay_core.specs.Ties.{ops_of}
 use Rattle.relay_world.specs.declared.sender.Sender.{Sender}
 use Rattle.relay_world.specs.State.{Desk, World, ended_of, desk_at, lane_of, accepted_from, has_closed, is_closed}
-use Rattle.relay_world.specs.Changes.{is_done_mail, after_mail, mail_of, posted, at_lane, after_put}
+use Rattle.relay_world.specs.Changes.{is_done_mail, after_mail, mail_of, after_post, at_lane, after_put}
 use Rattle.relay_world.specs.Ties.{puts_of, IsLaneOf, IsTied}
 use Rattle.relay_world.proofs.Carried.{TakesMore, keeps}
 use Rattle.relay_world.proofs.Indexed.{over_same, index_kept}
@@ -37,36 +37,36 @@ abbrev pub closed_in : Option Sender → Bool
 closed_in o = unwrap_or (option_map (λ (s : Sender). s.closed) o) false
 
 -- only a Done closes
-pub closed_posted : (p s : ℕ) (b : Body) (d : Desk) → is_done_mail b ≡ false → has_closed p (posted s b d) ≡ has_closed p d
+pub closed_posted : (p s : ℕ) (b : Body) (d : Desk) → is_done_mail b ≡ false → has_closed p (after_post s b d) ≡ has_closed p d
 closed_posted p s b d stays = seen_unmoved closed_in (after_mail b) s d.senders p (λ x. ap (λ t. x.closed || t) stays ∙ or_false x.closed)
 
 -- its sender, and no other
-pub closed_done : (p s : ℕ) (d : Desk) → p ≢ s → has_closed p (posted s body.Done d) ≡ has_closed p d
+pub closed_done : (p s : ℕ) (d : Desk) → p ≢ s → has_closed p (after_post s body.Done d) ≡ has_closed p d
 closed_done p s d ne = ap closed_in (at-update_other s (after_mail body.Done) d.senders p ne)
 
-pub closed_now : (s : ℕ) (d : Desk) (x : Sender) → slice_get d.senders s ≡ Some x → has_closed s (posted s body.Done d) ≡ true
+pub closed_now : (s : ℕ) (d : Desk) (x : Sender) → slice_get d.senders s ≡ Some x → has_closed s (after_post s body.Done d) ≡ true
 closed_now s d x at = ap closed_in (at-update_same s (after_mail body.Done) d.senders x at) ∙ or_right x.closed true refl
 
 -- ---- ties
 
 module _ (w : World) (t : Together) (n : ℕ → ℕ) (i : IsTied w t n) (l s : ℕ) (b : Body) (d : Desk) (there : desk_at w l ≡ Some d) where
-  desk_posted : IsDeskOf w.config (n l) (Some (posted s b d)) (t.lanes.queue l ++ ops_of b) (t.lanes.lane l)
+  desk_posted : IsDeskOf w.config (n l) (Some (after_post s b d)) (t.lanes.queue l ++ ops_of b) (t.lanes.lane l)
   desk_posted =
       let now = desk_there w t n i.lanes l d there in
       record {
         queue_is = ap (λ os. os ++ ops_of b) now.queue_is ∙ sym (puts-push d.queue (mail_of d s b));
         taken = now.taken;
         lane = now.lane;
-        works = λ x e. let same : posted s b d ≡ x = cc in let old = now.works d refl in subst (λ y. IsLaneOf w.config y) same (record { config = old.config; senders = length-update s (after_mail b) d.senders ∙ old.senders; next = old.next });
+        works = λ x e. let same : after_post s b d ≡ x = cc in let old = now.works d refl in subst (λ y. IsLaneOf w.config y) same (record { config = old.config; senders = length-update s (after_mail b) d.senders ∙ old.senders; next = old.next });
       }
 
   abbrev desks_now : List Desk
-  desks_now = update l (posted s b) w.desks
+  desks_now = update l (after_post s b) w.desks
 
   more_posted : (accepted : List (List Op)) → TakesMore w (over_same w desks_now accepted w.sent)
-  more_posted accepted = takes_none w l (posted s b) accepted w.sent (λ x. refl)
+  more_posted accepted = takes_none w l (after_post s b) accepted w.sent (λ x. refl)
 
-  -- the machines of a world to which a message was posted, where a put's operation stands at the back of its queue and a Done
+  -- the machines of a world to which a message was after_post, where a put's operation stands at the back of its queue and a Done
   -- has closed its sender
   pub posted_tied : (accepted : List (List Op)) (u : Together) → length accepted ≡ w.config.producers → CameAboutTogether (config_of w.config) (lane_of w) (ended_of w) u
       → ((p : ℕ) → u.lanes.accepted p ≡ accepted_from (over_same w desks_now accepted w.sent) p)
@@ -76,10 +76,10 @@ module _ (w : World) (t : Together) (n : ℕ → ℕ) (i : IsTied w t n) (l s : 
       → IsTied (over_same w desks_now accepted w.sent) u n
   posted_tied accepted u producers came accepted_is closed_is here others cores sent origins runs =
       let new = over_same w desks_now accepted w.sent in
-      let now = subst (λ q. IsDeskOf w.config (n l) (Some (posted s b d)) q (u.lanes.lane l)) (sym here)
-      (subst (λ f. IsDeskOf w.config (n l) (Some (posted s b d)) (t.lanes.queue l ++ ops_of b) (f l)) (sym cores) desk_posted) in
+      let now = subst (λ q. IsDeskOf w.config (n l) (Some (after_post s b d)) q (u.lanes.lane l)) (sym here)
+      (subst (λ f. IsDeskOf w.config (n l) (Some (after_post s b d)) (t.lanes.queue l ++ ops_of b) (f l)) (sym cores) desk_posted) in
       let lanes = lanes_from new u n producers accepted_is closed_is
-      (desks_after w t n i.lanes l d there (posted s b) u.lanes.queue u.lanes.lane now (λ m ne. (others m ne, ap (λ f. f m) cores))) in
+      (desks_after w t n i.lanes l d there (after_post s b) u.lanes.queue u.lanes.lane now (λ m ne. (others m ne, ap (λ f. f m) cores))) in
       record {
         few = i.few;
         came_about = came;
@@ -92,10 +92,10 @@ module _ (w : World) (t : Together) (n : ℕ → ℕ) (i : IsTied w t n) (l s : 
 
 -- ---- a tick, a flush: nothing of it reaches the machines
 
-pub control_tied : (w : World) (t : Together) (n : ℕ → ℕ) → IsTied w t n → (l s : ℕ) (b : Body) (d : Desk) → desk_at w l ≡ Some d → is_done_mail b ≡ false → ops_of b ≡ [] → IsTied (at_lane l (posted s b) w) t n
+pub control_tied : (w : World) (t : Together) (n : ℕ → ℕ) → IsTied w t n → (l s : ℕ) (b : Body) (d : Desk) → desk_at w l ≡ Some d → is_done_mail b ≡ false → ops_of b ≡ [] → IsTied (at_lane l (after_post s b) w) t n
 control_tied w t n i l s b d there stays none =
     posted_tied w t n i l s b d there w.accepted t i.lanes.producers i.came_about i.lanes.accepted
-    (λ p. i.lanes.closed p ∙ sym (any_unmoved (has_closed p) (posted s b) l w.desks (λ x. closed_posted p s b x stays)))
+    (λ p. i.lanes.closed p ∙ sym (any_unmoved (has_closed p) (after_post s b) l w.desks (λ x. closed_posted p s b x stays)))
     (sym (append-nil (t.lanes.queue l)) ∙ ap (λ os. t.lanes.queue l ++ os) (sym none))
     (λ m ne. refl) refl refl refl refl
 
@@ -105,18 +105,18 @@ module _ (w : World) (t : Together) (n : ℕ → ℕ) (i : IsTied w t n) (l s : 
   abbrev after_close : Together
   after_close = act (config_of w.config) (lane_of w) (Plain (Closes s)) t
 
-  closed_after : (p : ℕ) → after_close.lanes.closed p ≡ list_any (has_closed p) (update l (posted s body.Done) w.desks)
+  closed_after : (p : ℕ) → after_close.lanes.closed p ≡ list_any (has_closed p) (update l (after_post s body.Done) w.desks)
   closed_after p = ⊎_elim
       (λ e.
       ap after_close.lanes.closed e ∙ changed_same t.lanes.closed s true
-      ∙ sym (any_now (has_closed s) (posted s body.Done) l w.desks d there (closed_now s d x known))
-      ∙ ap (λ q. list_any (has_closed q) (update l (posted s body.Done) w.desks)) (sym e))
+      ∙ sym (any_now (has_closed s) (after_post s body.Done) l w.desks d there (closed_now s d x known))
+      ∙ ap (λ q. list_any (has_closed q) (update l (after_post s body.Done) w.desks)) (sym e))
       (λ ne.
       changed_other t.lanes.closed s true p ne ∙ i.lanes.closed p
-      ∙ sym (any_unmoved (has_closed p) (posted s body.Done) l w.desks (λ y. closed_done p s y ne)))
+      ∙ sym (any_unmoved (has_closed p) (after_post s body.Done) l w.desks (λ y. closed_done p s y ne)))
       (equal_or_not p s)
 
-  pub close_tied : IsTied (at_lane l (posted s body.Done) w) after_close n
+  pub close_tied : IsTied (at_lane l (after_post s body.Done) w) after_close n
   close_tied =
       posted_tied w t n i l s body.Done d there w.accepted after_close i.lanes.producers
       (act_together (config_of w.config) (lane_of w) (ended_of w) t (Plain (Closes s)) i.came_about (tt, tt) tt)
@@ -154,5 +154,5 @@ module _ (w : World) (t : Together) (n : ℕ → ℕ) (i : IsTied w t n) (o : Op
       (act_together (config_of w.config) (lane_of w) (ended_of w) t (Plain (Puts o)) i.came_about
       (tt, record { epoch = epoch; open_yet = i.lanes.closed o.producer ∙ open_yet; number = number ∙ ap (λ xs. length xs + 1) (sym (i.lanes.accepted o.producer ∙ accepted_before)) }) tt)
       accepted_after
-      (λ p. i.lanes.closed p ∙ sym (any_unmoved (has_closed p) (posted o.producer (body.Put o)) l w.desks (λ x. closed_posted p o.producer (body.Put o) x refl)))
+      (λ p. i.lanes.closed p ∙ sym (any_unmoved (has_closed p) (after_post o.producer (body.Put o)) l w.desks (λ x. closed_posted p o.producer (body.Put o) x refl)))
       (added_same t.lanes.queue l o) (λ m ne. added_other t.lanes.queue l o m ne) refl refl refl refl

@@ -19,7 +19,7 @@ use Rattle.relay_delivery.proofs.Numbered.{fresh_on}
 use Rattle.relay_core.specs.State.{config_of}
 use Rattle.relay_world.specs.State.{Desk, World, fresh_desk, has_closed, lane_of, ended_of, running, incarnation, incarnations_of, taken_of}
 use Rattle.relay_world.specs.Headline.{request_of}
-use Rattle.relay_world.specs.Changes.{in_new_epoch, restarted}
+use Rattle.relay_world.specs.Changes.{in_new_epoch, after_restart}
 use Rattle.relay_world.specs.Ties.{queue_of, core_of, versions_of, IsLaneOf, IsTied, IsWorld}
 use Rattle.relay_world.proofs.Starting.{at-all}
 use Rattle.relay_world.proofs.Beginning.{none_at_all, open_at_all, none_passes, at_fresh, length-same}
@@ -28,7 +28,7 @@ use Rattle.relay_world.proofs.Past.{running_seen}
 
 module _ (w : World) (t : Together) (b : ℕ → ℕ) (i : IsTied w t b) (epoch : ℕ) (up : w.config.epoch < epoch) where
   abbrev new : World
-  new = restarted w epoch
+  new = after_restart w epoch
 
   abbrev c : RelayConfig
   c = in_new_epoch w.config epoch
@@ -37,7 +37,7 @@ module _ (w : World) (t : Together) (b : ℕ → ℕ) (i : IsTied w t b) (epoch 
   g = config_of w.config
 
   abbrev u : Together
-  u = restarts.restarted t
+  u = restarts.after_restart t
 
   -- how many requests each lane had sent
   abbrev counts : ℕ → ℕ
@@ -96,9 +96,9 @@ module _ (w : World) (t : Together) (b : ℕ → ℕ) (i : IsTied w t b) (epoch 
     };
   }
 
-pub restart_world : (w : World) → IsWorld w → (epoch : ℕ) → w.config.epoch < epoch → IsWorld (restarted w epoch)
+pub restart_world : (w : World) → IsWorld w → (epoch : ℕ) → w.config.epoch < epoch → IsWorld (after_restart w epoch)
 restart_world w k epoch up = record {
-  machines = restarts.restarted k.machines;
+  machines = restarts.after_restart k.machines;
   before = λ l. length (k.machines.lanes.lane l).outside.requests;
   tied = restart_tied w k.machines k.before k.tied epoch up;
 }

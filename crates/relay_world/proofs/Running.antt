@@ -19,7 +19,7 @@ pub ran : {E : Type 0} (r : Result ℕ E) (w : World) (request item : ℕ) (c : 
     → slice_get w.sent place ≡ Some d → (i : index.State) (kept : List (DocKey × Named)) → IfOk r (λ s. s ≡ (done_of w.index x c).status)
     → OnOk r (e ≡ ran_item item (outcome_of_run (done_of w.index x c)) d) → OnOk r (Effect w.index x c i)
     → OnOk r ((k : Document) → names_of (kept_among kept k) ≡ names_of (kept_among w.kept k) ++ (if is_run w.index x c && same_document k (document_of x.key) then name ∷ [] else []))
-    → OnOk r ((k : Document) → before_of (length (index.applied i k)) (kept_among kept k) ≡ before_of (length (index.applied w.index k)) (kept_among w.kept k))
+    → OnOk r ((k : Document) → before_of (length (index.applied_writes i k)) (kept_among kept k) ≡ before_of (length (index.applied_writes w.index k)) (kept_among w.kept k))
     → IfOk r (λ s. RunsItem w request item c (answer.Ran s) (record w { sent = slice_set w.sent place e; index = i; kept = kept }))
 ran (Ok s) w request item c name x f d e place at there i kept status is effect names before =
     let o = outcome_of_run (done_of w.index x c) in

@@ -6,7 +6,7 @@ use Rattle.relay_results.proofs.Lists.{and_left, and_right, and_both}
 use Rattle.relay_core.specs.declared.config.RelayConfig.{RelayConfig}
 use Rattle.relay_core.specs.Limits.{is_from_to, are_valid_limits, is_valid}
 use Rattle.relay_world.specs.State.{Desk, Past, World, fresh_desk}
-use Rattle.relay_world.specs.Changes.{in_new_epoch, restarted}
+use Rattle.relay_world.specs.Changes.{in_new_epoch, after_restart}
 use Rattle.relay_world.specs.Memory.{WorksAs, ArePartsOf}
 
 pub length-all : {A : Type 0} (n : ℕ) (x : A) → length (replicate n x) ≡ n
@@ -54,7 +54,7 @@ valid_in c epoch within v =
 pub restarts_so : (w : World) (epoch sent : ℕ) (c : RelayConfig) (desks : List Desk) (accepted taken : List (List Op)) (ended : List Past)
     → c ≡ in_new_epoch w.config epoch → desks ≡ replicate c.lanes (fresh_desk c) → accepted ≡ replicate c.producers [] → taken ≡ map (λ (d : Desk). d.taken) w.desks → sent ≡ length w.sent
     → ended ≡ w.ended ++ record { epoch = w.config.epoch; accepted = w.accepted; taken = taken; sent = sent } ∷ []
-    → record { config = c; desks = desks; accepted = accepted; ended = ended; sent = w.sent; index = w.index; kept = w.kept } ≡ restarted w epoch
+    → record { config = c; desks = desks; accepted = accepted; ended = ended; sent = w.sent; index = w.index; kept = w.kept } ≡ after_restart w epoch
 restarts_so w epoch sent c desks accepted taken ended new ds os ts n es =
     let all : ended ≡ w.ended ++ record { epoch = w.config.epoch; accepted = w.accepted; taken = map (λ (d : Desk). d.taken) w.desks; sent = length w.sent } ∷ [] =
     es ∙ (λ j. w.ended ++ record { epoch = w.config.epoch; accepted = w.accepted; taken = ts j; sent = n j } ∷ []) in

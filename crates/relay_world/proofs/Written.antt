@@ -39,5 +39,5 @@ written_keys w keys k = record {
   written = λ d.
       any-filter_same (λ key. same_document d (document_of key)) (λ key. is_written w (document_of key)) (is_written w d) (λ key t. ap (is_written w) (sym (same_document-true d (document_of key) t))) keys
       ∙ ap (λ b. is_written w d && b) (k.written d)
-      ∙ stored_by (index.applied w.index d) (before_at w d);
+      ∙ stored_by (index.applied_writes w.index d) (before_at w d);
 }

@@ -26,7 +26,7 @@ use Rattle.relay_world.specs.declared.event.Event.TheVariants as event
 use Rattle.relay_world.specs.declared.event.StepAnswer.{StepAnswer}
 use Rattle.relay_world.specs.declared.event.StepAnswer.TheVariants as answer
 use Rattle.relay_world.specs.declared.sender.Sender.{Sender}
-use Rattle.relay_world.specs.State.{Desk, Item, Sent, World, fresh_desk, incarnations, lane_of, desk_at, accepted_from, numbered, request_at, op_with, Named, names_at, before_at}
+use Rattle.relay_world.specs.State.{Desk, Item, Sent, World, fresh_desk, incarnations, lane_of, desk_at, accepted_from, element_at, request_at, op_with, Named, names_at, before_at}
 use Rattle.relay_world.specs.Refusals.{entries}
 
 -- the desk of a lane is changed
@@ -49,15 +49,15 @@ after_mail b s = record { count = one_more s.count; closed = s.closed || is_done
 abbrev pub mail_of : Desk → ℕ → Body → Mail
 mail_of d sender b = record { sender = sender; number = one_more (unwrap_or (option_map (λ (s : Sender). s.count) (slice_get d.senders sender)) 0); body = b }
 
-abbrev pub posted : ℕ → Body → Desk → Desk
-posted sender b d = record d { queue = d.queue ++ mail_of d sender b ∷ []; senders = update sender (after_mail b) d.senders }
+abbrev pub after_post : ℕ → Body → Desk → Desk
+after_post sender b d = record d { queue = d.queue ++ mail_of d sender b ∷ []; senders = update sender (after_mail b) d.senders }
 
 -- the operation of a put: it has the next number of its producer
 abbrev pub op_of_put : World → ℕ → DocKey → Action → Op
 op_of_put w p key action = record { epoch = w.config.epoch; producer = p; number = length (accepted_from w p) + 1; key = key; action = action }
 
 abbrev pub after_put : World → Op → World
-after_put w o = record (at_lane (lane_of w (document_of o.key)) (posted o.producer (body.Put o)) w) {
+after_put w o = record (at_lane (lane_of w (document_of o.key)) (after_post o.producer (body.Put o)) w) {
   accepted = update o.producer (λ os. os ++ o ∷ []) w.accepted;
 }
 
@@ -118,7 +118,7 @@ pub record RunsItem (w : World) (request item : ℕ) (c : Choice) (x : StepAnswe
   pub sent : Sent
   pub was_sent : request_at w request ≡ Some sent
   pub its_item : Item
-  pub stands : numbered sent.items item ≡ Some its_item
+  pub stands : element_at sent.items item ≡ Some its_item
   pub op : Op
   pub its_op : op_with w sent.lane its_item.version ≡ Some op
   pub effect : Effect w.index (write_for op its_item.version) c new.index
@@ -134,7 +134,7 @@ abbrev pub with_answer : Answer → Sent → Sent
 with_answer a s = record s { answer = a }
 
 abbrev pub answered_desk : ℕ → Answer → Desk → Desk
-answered_desk number a d = record d { lane = lane.answered d.lane number a }
+answered_desk number a d = record d { lane = lane.with_answer d.lane number a }
 
 abbrev pub after_answer : World → ℕ → Sent → Answer → World
 after_answer w request s a = record (at_lane s.lane (answered_desk s.number a) w) { sent = update (request - 1) (with_answer a) w.sent }
@@ -173,8 +173,8 @@ in_new_epoch c epoch = record c { epoch = epoch }
 -- Queues, lanes, reports and producers start afresh; requests with their runs and answers, the index and the kept
 -- names are unchanged; and what was accepted and taken since the last restart is kept with that of earlier
 -- incarnations.
-abbrev pub restarted : World → ℕ → World
-restarted w epoch = record {
+abbrev pub after_restart : World → ℕ → World
+after_restart w epoch = record {
   config = in_new_epoch w.config epoch;
   desks = replicate w.config.lanes (fresh_desk (in_new_epoch w.config epoch));
   accepted = replicate w.config.producers [];
@@ -190,13 +190,13 @@ restarted w epoch = record {
 abbrev pub Changes : World → Event → StepAnswer → World → Type 0
 Changes w (event.Put p key action) x new =
     (x ≡ answer.Put (name_of (op_of_put w p key action))) × (new ≡ after_put w (op_of_put w p key action))
-Changes w (event.Close p l) x new = (x ≡ answer.Done) × (new ≡ at_lane l (posted p body.Done) w)
-Changes w (event.Tick l) x new = (x ≡ answer.Done) × (new ≡ at_lane l (posted w.config.producers body.Tick) w)
-Changes w (event.Flush l) x new = (x ≡ answer.Done) × (new ≡ at_lane l (posted w.config.producers body.Flush) w)
+Changes w (event.Close p l) x new = (x ≡ answer.Done) × (new ≡ at_lane l (after_post p body.Done) w)
+Changes w (event.Tick l) x new = (x ≡ answer.Done) × (new ≡ at_lane l (after_post w.config.producers body.Tick) w)
+Changes w (event.Flush l) x new = (x ≡ answer.Done) × (new ≡ at_lane l (after_post w.config.producers body.Flush) w)
 Changes w (event.Take l) x new = (x ≡ answer.Done) × (new ≡ at_lane l took_front w)
 Changes w (event.Send l) x new = (x ≡ answer.Sent (length w.sent + 1)) × (new ≡ after_send w l)
 Changes w (event.Run request item c) x new = RunsItem w request item c x new
 Changes w (event.Reply request picks) x new = RepliesBy w request picks x new
 Changes w (event.Whole request status) x new = AnswersBy w request (Whole status) x new
 Changes w (event.Lost request) x new = AnswersBy w request Lost x new
-Changes w (event.Restart epoch) x new = (x ≡ answer.Done) × (new ≡ restarted w epoch)
+Changes w (event.Restart epoch) x new = (x ≡ answer.Done) × (new ≡ after_restart w epoch)

@@ -10,7 +10,7 @@ use Rattle.relay_delivery.specs.Accounted.{accepted_over, accepted_in}
 use Rattle.relay_delivery.specs.Causes.{Terms, IsAssignment, IsTrueCause}
 use Rattle.relay_delivery.specs.Machine.{Report, first_in}
 use Rattle.relay_delivery.specs.Delivery.{names_of}
-use Rattle.relay_world.specs.State.{Item, Sent, Past, World, incarnations, incarnations_of, lane_of, taken, accepted_from, applied, names_at, before_at, reports, writes_of, is_closed, is_finished}
+use Rattle.relay_world.specs.State.{Item, Sent, Past, World, incarnations, incarnations_of, lane_of, taken_ops, accepted_from, applied_writes, names_at, before_at, reports, writes_of, is_closed, is_finished}
 
 -- ---- outside the lanes
 
@@ -39,15 +39,15 @@ abbrev pub outside_of : World → List Ran → Outside
 outside_of w log = record {
   requests = map (request_of w) w.sent;
   runs = log;
-  stored = λ k. index.stored w.index k;
-  before = λ k. take (before_at w k) (index.applied w.index k);
-  applied = λ k. applied w k;
+  stored = λ k. index.stored_version w.index k;
+  before = λ k. take (before_at w k) (index.applied_writes w.index k);
+  applied = λ k. applied_writes w k;
 }
 
 -- ---- true reports
 
 abbrev pub terms_at : World → ℕ → Terms
-terms_at w l = record { max = w.config.attempts; deals = w.config.deal; taken = length (taken w l) }
+terms_at w l = record { max = w.config.attempts; deals = w.config.deal; taken = length (taken_ops w l) }
 
 -- The version of the operation at a place of what a lane took: `deal` versions of the epoch are assigned in order,
 -- and then none.
@@ -71,7 +71,7 @@ abbrev pub AreRising : List ℕ → Type 0
 AreRising [] = Unit {0}
 AreRising (n ∷ ns) = ((m : ℕ) → Mem m ns → n < m) × AreRising ns
 
--- The kept names of a document are those of operations (`named`). These are the operations whose writes the index applied
+-- The kept names of a document are those of operations (`named`). These are the operations whose writes the index applied_writes
 -- to it, over all incarnations: distinct accepted operations for this document, one for each write and with its action
 -- (`attribution`); within each epoch each producer's in the order in which it put them (`in_order`); and those of an
 -- earlier epoch before all those of a later one (`by_epoch`). Each incarnation has a higher epoch than those before it
@@ -79,19 +79,19 @@ AreRising (n ∷ ns) = ((m : ℕ) → Mem m ns → n < m) × AreRising ns
 -- Of the current incarnation: one assignment of versions, no two operations of one document the same (`assignment`), is what
 -- all lanes assigned (`assigned`), and by it the cause of each report is true, which names an accepted operation
 -- (`true_reports`); none is reported twice, by one lane or by two (`once`, `in_one_lane`); and when the world is
--- finished, each accepted operation was applied or is reported (`complete`).
+-- finished, each accepted operation was applied_writes or is reported (`complete`).
 pub record Delivered (w : World) : Type 0 where
   pub log : List Ran
   pub ran : IsLog w log
   pub ops : Document → List Op
   pub named : (k : Document) → map name_of (ops k) ≡ names_at w k
-  pub attribution : (k : Document) → IsAttribution (accepted_over (incarnations_of w)) k (applied w k) (ops k)
+  pub attribution : (k : Document) → IsAttribution (accepted_over (incarnations_of w)) k (applied_writes w k) (ops k)
   pub in_order : (k : Document) (e : ℕ) → IsInProducerOrder (accepted_in (incarnations_of w) e) (filter (is_in e) (ops k))
   pub by_epoch : (k : Document) → AreByEpoch (ops k)
   pub rising : AreRising (map (λ (p : Past). p.epoch) (incarnations w))
   pub versions : Op → Option ℕ
   pub assignment : IsAssignment versions
-  pub assigned : (l place : ℕ) (o : Op) → slice_get (taken w l) place ≡ Some o → versions o ≡ version_at w place
+  pub assigned : (l place : ℕ) (o : Op) → slice_get (taken_ops w l) place ≡ Some o → versions o ≡ version_at w place
   pub true_reports : (l : ℕ) (r : Report) → Mem r (reports w l) → IsTrueReport w log versions l r
   pub once : (l : ℕ) → AllDistinct (names_of (reports w l))
   pub in_one_lane : (l m : ℕ) (r q : Report) → Mem r (reports w l) → Mem q (reports w m) → r.name ≡ q.name → l ≡ m

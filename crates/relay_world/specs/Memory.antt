@@ -17,7 +17,7 @@ use Rattle.relay_world.specs.declared.request.RunDone.{RunDone}
 use Rattle.relay_world.specs.declared.request.Given.{Given}
 use Rattle.relay_world.specs.declared.request.Given.TheVariants.{Nothing, Entries, Status, Loss}
 use Rattle.relay_world.specs.declared.sender.Sender.{Sender}
-use Rattle.relay_world.specs.State.{Desk, Item, Sent, World, desk_at, numbered, request_at, op_with, write_at}
+use Rattle.relay_world.specs.State.{Desk, Item, Sent, World, desk_at, element_at, request_at, op_with, write_at}
 use Rattle.relay_world.specs.Changes.{after_send, matched_by}
 
 -- ---- requests
@@ -36,7 +36,7 @@ pub record IsItemOf (w : World) (request item : ℕ) (name : OpName) (x : Write)
   pub sent : Sent
   pub was_sent : request_at w request ≡ Some sent
   pub its_item : Item
-  pub stands : numbered sent.items item ≡ Some its_item
+  pub stands : element_at sent.items item ≡ Some its_item
   pub op : Op
   pub its_op : op_with w sent.lane its_item.version ≡ Some op
   pub name_is : name ≡ name_of op

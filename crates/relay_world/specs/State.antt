@@ -1,5 +1,5 @@
 -- The world as its callers see it: lanes with their queues over one index, what was accepted, sent, run and answered, and
--- whose writes the index applied.
+-- whose writes the index applied_writes.
 use Rattle.std.specs.Prelude.{◌≡◌, ◌<◌, ℕ, ◌+◌, ◌-◌, ◌==◌, List, [], ◌∷◌, ◌++◌, Option, Some, None, option_map, option_and_then, option_to_list, unwrap_or, slice_get, Bool, false, ◌&&◌, nat_le, nat_lt, length, drop, replicate, not, map, if◌then◌else◌}
 use Rattle.std.specs.List.{list_any, list_all}
 use Rattle.std.specs.List.Sorted.{IsStrictlySortedBy}
@@ -45,7 +45,7 @@ pub record Sent : Type 0 where
   pub answer : Answer
 
 -- what is kept of a document: how many writes the index had of it at the start, and the names of the operations whose
--- writes were applied since
+-- writes were applied_writes since
 pub record Named : Type 0 where
   pub before : ℕ
   pub names : List OpName
@@ -92,7 +92,7 @@ fresh c i = record {
 
 -- every version that the index has is below this one
 abbrev pub IsBelow : ℕ → index.State → Type 0
-IsBelow first i = (k : Document) (u : ℕ) → index.stored i k ≡ Some u → u < first
+IsBelow first i = (k : Document) (u : ℕ) → index.stored_version i k ≡ Some u → u < first
 
 -- ---- what callers ask
 
@@ -108,8 +108,8 @@ abbrev pub taken_of : Option Desk → List Op
 taken_of None = []
 taken_of (Some d) = d.taken
 
-abbrev pub taken : World → ℕ → List Op
-taken w l = taken_of (desk_at w l)
+abbrev pub taken_ops : World → ℕ → List Op
+taken_ops w l = taken_of (desk_at w l)
 
 -- what was accepted from a producer
 abbrev pub accepted_from : World → ℕ → List Op
@@ -123,7 +123,7 @@ abbrev pub names_of : Option Named → List OpName
 names_of None = []
 names_of (Some n) = n.names
 
--- the names of the operations whose writes were applied to a document since the start
+-- the names of the operations whose writes were applied_writes to a document since the start
 abbrev pub names_at : World → Document → List OpName
 names_at w k = names_of (kept_among w.kept k)
 
@@ -133,17 +133,17 @@ before_of now None = now
 before_of now (Some n) = n.before
 
 abbrev pub before_at : World → Document → ℕ
-before_at w k = before_of (length (index.applied w.index k)) (kept_among w.kept k)
+before_at w k = before_of (length (index.applied_writes w.index k)) (kept_among w.kept k)
 
--- the writes that were applied to a document since the start
-abbrev pub applied : World → Document → List Write
-applied w k = drop (before_at w k) (index.applied w.index k)
+-- the writes that were applied_writes to a document since the start
+abbrev pub applied_writes : World → Document → List Write
+applied_writes w k = drop (before_at w k) (index.applied_writes w.index k)
 
--- a write was applied to the document since the start
+-- a write was applied_writes to the document since the start
 abbrev pub is_written : World → Document → Bool
-is_written w k = not (length (applied w k) == 0)
+is_written w k = not (length (applied_writes w k) == 0)
 
--- The keys are exactly those of the documents to which a write was applied since the start, including deleted ones:
+-- The keys are exactly those of the documents to which a write was applied_writes since the start, including deleted ones:
 -- no other, none twice, and in order.
 pub record AreKeysOf (w : World) (keys : List DocKey) : Type 0 where
   pub rising : IsStrictlySortedBy key_order keys
@@ -158,16 +158,16 @@ abbrev pub reports : World → ℕ → List Report
 reports w l = reports_of (desk_at w l)
 
 -- the element with a number, from 1
-abbrev pub numbered : {A : Type 0} → List A → ℕ → Option A
-numbered xs number = if number == 0 then None else slice_get xs (number - 1)
+abbrev pub element_at : {A : Type 0} → List A → ℕ → Option A
+element_at xs number = if number == 0 then None else slice_get xs (number - 1)
 
 -- a sent request, by number
 abbrev pub request_at : World → ℕ → Option Sent
-request_at w number = numbered w.sent number
+request_at w number = element_at w.sent number
 
 -- an item of a sent request, both by number
 abbrev pub item_at : World → ℕ → ℕ → Option Item
-item_at w request item = option_and_then (λ (s : Sent). numbered s.items item) (request_at w request)
+item_at w request item = option_and_then (λ (s : Sent). element_at s.items item) (request_at w request)
 
 -- the current incarnation, and all of them, the current one last
 abbrev pub running : World → Past
@@ -213,7 +213,7 @@ write_of w s i = option_map (λ o. write_for o i.version) (op_with w s.lane i.ve
 
 -- the write of an item of a request, both by number
 abbrev pub write_at : World → ℕ → ℕ → Option Write
-write_at w request item = option_and_then (λ s. option_and_then (write_of w s) (numbered s.items item)) (request_at w request)
+write_at w request item = option_and_then (λ s. option_and_then (write_of w s) (element_at s.items item)) (request_at w request)
 
 -- the writes of a request, in order
 abbrev pub writes_from : (Item → Option Write) → List Item → List Write

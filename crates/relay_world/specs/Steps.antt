@@ -30,16 +30,16 @@ abbrev pub none_yet : RunEnd
 none_yet = record { done = 0; refused = 0 }
 
 -- the counts after one more event
-abbrev pub counted : StepAnswer → RunEnd → RunEnd
-counted (answer.Refused r) n = record n { refused = n.refused + 1 }
-counted (answer.Put name) n = record n { done = n.done + 1 }
-counted (answer.Sent number) n = record n { done = n.done + 1 }
-counted (answer.Ran status) n = record n { done = n.done + 1 }
-counted (answer.Settled counts) n = record n { done = n.done + 1 }
-counted answer.Done n = record n { done = n.done + 1 }
+abbrev pub counts_after : StepAnswer → RunEnd → RunEnd
+counts_after (answer.Refused r) n = record n { refused = n.refused + 1 }
+counts_after (answer.Put name) n = record n { done = n.done + 1 }
+counts_after (answer.Sent number) n = record n { done = n.done + 1 }
+counts_after (answer.Ran status) n = record n { done = n.done + 1 }
+counts_after (answer.Settled counts) n = record n { done = n.done + 1 }
+counts_after answer.Done n = record n { done = n.done + 1 }
 
 -- The events were played one after another, going on after refused ones; these are the counts of accepted and refused
 -- events, added to those before, and this is the world after them.
 abbrev pub Plays : World → RunEnd → List Event → RunEnd → World → Type 0
 Plays w n [] end new = (end ≡ n) × (new ≡ w)
-Plays w n (e ∷ es) end new = (x : StepAnswer) × (next : World) × Steps w e x next × Plays next (counted x n) es end new
+Plays w n (e ∷ es) end new = (x : StepAnswer) × (next : World) × Steps w e x next × Plays next (counts_after x n) es end new

@@ -21,7 +21,7 @@ use Rattle.relay_core.specs.State.{config_of}
 use Rattle.relay_core.specs.Ties.{ops_of}
 use Rattle.relay_world.specs.declared.event.Event.{Event}
 use Rattle.relay_world.specs.declared.event.StepAnswer.{StepAnswer}
-use Rattle.relay_world.specs.State.{Desk, Item, Sent, World, fresh, ended_of, desk_at, lane_of, accepted_from, op_with, applied, names_at, before_at, is_closed, taken_of, IsBelow}
+use Rattle.relay_world.specs.State.{Desk, Item, Sent, World, fresh, ended_of, desk_at, lane_of, accepted_from, op_with, applied_writes, names_at, before_at, is_closed, taken_of, IsBelow}
 use Rattle.relay_world.specs.Headline.{request_of, IsLog, Delivered}
 use Rattle.relay_world.specs.Steps.{Steps}
 
@@ -78,11 +78,11 @@ pub record AreRequests (w : World) (t : Together) (n : ℕ → ℕ) : Type 0 whe
   pub runs : IsLog w t.runs
   pub found : (s : Sent) → Mem s w.sent → (v : ℕ) → Mem v (versions_of s) → (o : Op) × (op_with w s.lane v ≡ Some o)
 
--- the index is what their outside shows, and the kept names are those of the operations whose writes it applied
+-- the index is what their outside shows, and the kept names are those of the operations whose writes it applied_writes
 pub record IsIndexOf (w : World) (t : Together) : Type 0 where
-  pub applied : (k : Document) → (together.outside_of (lane_of w) t).applied k ≡ applied w k
-  pub before : (k : Document) → (together.outside_of (lane_of w) t).before k ≡ take (before_at w k) (index.applied w.index k)
-  pub within : (k : Document) → before_at w k ≤ length (index.applied w.index k)
+  pub applied : (k : Document) → (together.outside_of (lane_of w) t).applied k ≡ applied_writes w k
+  pub before : (k : Document) → (together.outside_of (lane_of w) t).before k ≡ take (before_at w k) (index.applied_writes w.index k)
+  pub within : (k : Document) → before_at w k ≤ length (index.applied_writes w.index k)
   pub shows : Shows (together.outside_of (lane_of w) t) w.index
   pub names : (k : Document) → map name_of (attributed_together (config_of w.config) (lane_of w) (ended_of w) t k) ≡ names_at w k
 

@@ -3,8 +3,8 @@ use Rattle.relay_world.specs.declared.parts.Parts.TheInside.{Inside}
 use Rattle.relay_world.specs.State.{World}
 use Rattle.relay_world.specs.Memory.{ArePartsOf}
 
-abbrev pub seen : Inside → World
-seen a = record {
+abbrev pub world_of : Inside → World
+world_of a = record {
   config = a.config;
   desks = a.desks.items;
   accepted = a.accepted.items;
@@ -15,4 +15,4 @@ seen a = record {
 }
 
 abbrev pub IsSound : Inside → Type 0
-IsSound a = ArePartsOf (seen a)
+IsSound a = ArePartsOf (world_of a)

@@ -2,7 +2,7 @@
 ghost use Rattle.std.specs.Prelude.{◌≡◌, [], ◌∷◌, ◌++◌, IfOk, OnOk, OnErr, length, option_map};
 ghost use Rattle.std.specs.Prelude.{replicate, slice_get};
 ghost use Rattle.relay_action.specs.declared.mail.Body.TheVariants as body;
-ghost use Rattle.relay_world.specs.Changes.{posted};
+ghost use Rattle.relay_world.specs.Changes.{after_post};
 ghost use Rattle.relay_world.specs.Memory.{IsOpenAt};
 
 use crate::desk::Desk;
@@ -73,7 +73,7 @@ impl Accepted {
     pub(crate) fn accept(&mut self, op: Op, desk: &mut Desk) -> Result<(), AllocError>
         requires { IsOpenAt op.producer desk.old }
         ensures list { OnOk result (self.new ≡ self.old ++ op ∷ []) }
-        ensures queue { OnOk result (desk.new ≡ posted op.producer (body.Put op) desk.old) }
+        ensures queue { OnOk result (desk.new ≡ after_post op.producer (body.Put op) desk.old) }
         ensures unchanged { OnErr result (self.new ≡ self.old) }
         ensures same_queue { OnErr result (desk.new ≡ desk.old) }
     {

@@ -12,7 +12,7 @@ ghost use Rattle.relay_results.specs.Outside.{Items, Whole, Lost};
 ghost use Rattle.relay_results.specs.Matching.{matches};
 ghost use Rattle.relay_world.specs.State.{fresh_desk, has_closed, is_done};
 ghost use Rattle.relay_world.specs.Refusals.{cause_if, front_refusal};
-ghost use Rattle.relay_world.specs.Changes.{after_mail, posted, took_front, sent_request};
+ghost use Rattle.relay_world.specs.Changes.{after_mail, after_post, took_front, sent_request};
 ghost use Rattle.relay_world.specs.Changes.{request_of, answered_desk, item_of, items_of};
 ghost use Rattle.relay_world.specs.Memory.{AllBelow, IsOpenAt};
 
@@ -222,7 +222,7 @@ impl Desk {
     // changed.
     pub(crate) fn post(&mut self, sender: u32, body: Body) -> Result<(), AllocError>
         requires { IsOpenAt sender self.old }
-        ensures ok { OnOk result (self.new ≡ posted sender body self.old) }
+        ensures ok { OnOk result (self.new ≡ after_post sender body self.old) }
         ensures unchanged { OnErr result (self.new ≡ self.old) }
     {
         self.queue.reserve(1)?;

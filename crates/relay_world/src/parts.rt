@@ -8,15 +8,15 @@ ghost use Rattle.relay_results.specs.Documents.{document_of};
 ghost use Rattle.relay_core.specs.Limits.{is_valid};
 ghost use Rattle.relay_core.specs.Walk.{report_of};
 ghost use Rattle.relay_world.specs.declared.event.Event.TheVariants as event;
-ghost use Rattle.relay_world.specs.State.{fresh, desk_at, lane_of, accepted_from, applied};
+ghost use Rattle.relay_world.specs.State.{fresh, desk_at, lane_of, accepted_from, applied_writes};
 ghost use Rattle.relay_world.specs.State.{names_at, reports, request_at, item_at, is_closed};
 ghost use Rattle.relay_world.specs.State.{is_finished, is_written, AreKeysOf, op_among, op_with};
 ghost use Rattle.relay_world.specs.State.{running, write_at, place_dealt, incarnations_of};
 ghost use Rattle.relay_world.specs.Refusals.{entries_from, flies_at, put_refusal, close_refusal};
 ghost use Rattle.relay_world.specs.Refusals.{control_refusal, take_refusal, may_choose, is_flying};
 ghost use Rattle.relay_world.specs.Refusals.{entry_at, entries, is_above};
-ghost use Rattle.relay_world.specs.Changes.{after_put, at_lane, posted, took_front, with_answer};
-ghost use Rattle.relay_world.specs.Changes.{answered_desk, restarted, RunsItem};
+ghost use Rattle.relay_world.specs.Changes.{after_put, at_lane, after_post, took_front, with_answer};
+ghost use Rattle.relay_world.specs.Changes.{answered_desk, after_restart, RunsItem};
 ghost use Rattle.relay_delivery.specs.Accounted.{accepted_in};
 ghost use Rattle.relay_world.specs.Steps.{Steps};
 ghost use Rattle.relay_world.specs.Memory.{answer_of, IsItemOf, IsWriteAt, IsThere, IsOpenIn};
@@ -57,11 +57,11 @@ pub(crate) struct Parts {
 
 impl Model for Parts {
     ghost use Rattle.relay_world.specs.State.{World};
-    ghost use Rattle.relay_world.specs.View.{seen, IsSound};
+    ghost use Rattle.relay_world.specs.View.{world_of, IsSound};
 
     ghost Value = { World };
 
-    ghost view = { seen };
+    ghost view = { world_of };
 
     ghost invariant = { IsSound };
 }
@@ -128,7 +128,7 @@ impl Parts {
 
     // The writes that were applied to a document since the start.
     pub(crate) fn applied(&self, key: &DocKey) -> &[Write]
-        ensures { result.now ≡ applied self.now (document_of key.now) }
+        ensures { result.now ≡ applied_writes self.now (document_of key.now) }
     {
         let all = self.index.applied(key);
         let before = self.names.before(key, all.len());
@@ -257,7 +257,7 @@ impl Parts {
     // allocation failed; nothing changed.
     fn begin(&mut self, epoch: u32) -> Result<(), AllocError>
         requires { is_above self.old epoch ≡ true }
-        ensures ok { OnOk result (self.new ≡ restarted self.old epoch) }
+        ensures ok { OnOk result (self.new ≡ after_restart self.old epoch) }
         ensures unchanged { OnErr result (self.new ≡ self.old) }
     {
         let config = in_new_epoch(self.config, epoch);
@@ -383,7 +383,7 @@ impl Parts {
     // Puts a message of a sender that has not closed there into the queue of a lane.
     fn post(&mut self, sender: u32, lane: u32, body: Body) -> Result<(), AllocError>
         requires { IsOpenIn self.old sender lane }
-        ensures ok { OnOk result (self.new ≡ at_lane lane (posted sender body) self.old) }
+        ensures ok { OnOk result (self.new ≡ at_lane lane (after_post sender body) self.old) }
         ensures unchanged { OnErr result (self.new ≡ self.old) }
     {
         self.desks[lane as usize].post(sender, body)

@@ -4,7 +4,7 @@ ghost use Rattle.std.specs.Prelude.{IfOk, length, if◌then◌else◌};
 ghost use Rattle.relay_results.specs.Documents.{Document, document_of, same_document};
 ghost use Rattle.relay_results.specs.Outside.{Unanswered};
 ghost use Rattle.relay_index.specs.Choices.{MayChoose};
-ghost use Rattle.relay_index.specs.States.{applied};
+ghost use Rattle.relay_index.specs.States.{applied_writes};
 ghost use Rattle.relay_index.specs.Runs.{is_run, done_of, outcome_of_run, Effect};
 ghost use Rattle.relay_world.specs.State.{kept_among, names_of, before_of};
 ghost use Rattle.relay_world.specs.Refusals.{run_by};
@@ -233,8 +233,8 @@ impl SentRequest {
             ≡ names_of (kept_among names.old k) ++ (if is_run index.old write.now choice
             && same_document k (document_of write.now.key) then name ∷ [] else [])) }
         ensures before { OnOk result ((k : Document) →
-            before_of (length (applied index.new k)) (kept_among names.new k)
-            ≡ before_of (length (applied index.old k)) (kept_among names.old k)) }
+            before_of (length (applied_writes index.new k)) (kept_among names.new k)
+            ≡ before_of (length (applied_writes index.old k)) (kept_among names.old k)) }
         ensures same_sent { OnErr result (self.new ≡ self.old) }
         ensures same_index { OnErr result (index.new ≡ index.old) }
         ensures same_names { OnErr result (names.new ≡ names.old) }

@@ -4,14 +4,14 @@ ghost use Rattle.std.specs.Prelude.{length, IfOk, IfErr, IfSome, OnOk, OnErr};
 ghost use Rattle.relay_results.specs.Documents.{document_of};
 ghost use Rattle.relay_core.specs.Limits.{is_valid};
 ghost use Rattle.relay_core.specs.Walk.{report_of};
-ghost use Rattle.relay_world.specs.State.{fresh, accepted_from, applied, names_at, reports};
+ghost use Rattle.relay_world.specs.State.{fresh, accepted_from, applied_writes, names_at, reports};
 ghost use Rattle.relay_world.specs.State.{write_at, is_finished, incarnations_of, AreKeysOf};
 ghost use Rattle.relay_world.specs.State.{IsBelow};
 ghost use Rattle.relay_delivery.specs.Accounted.{accepted_in};
 ghost use Rattle.relay_delivery.specs.Machine.{first_in};
 ghost use Rattle.relay_world.specs.Headline.{Delivered, StaysClosed};
 ghost use Rattle.relay_world.specs.Memory.{IsWriteAt};
-ghost use Rattle.relay_world.specs.Steps.{Steps, Plays, none_yet, counted, may_allocate};
+ghost use Rattle.relay_world.specs.Steps.{Steps, Plays, none_yet, counts_after, may_allocate};
 
 use crate::event::{Event, RunEnd, StepAnswer};
 use crate::parts::Parts;
@@ -43,7 +43,7 @@ impl Model for World {
 // The counts after one more event.
 fn counted(answer: StepAnswer, end: RunEnd) -> RunEnd
     requires { end.done + end.refused < 2 ^ 63 }
-    ensures { result ≡ counted answer end }
+    ensures { result ≡ counts_after answer end }
 {
     let mut now = end;
     match answer {
@@ -165,7 +165,7 @@ impl World {
 
     /// The writes that the index applied to a document since the start, in order.
     pub fn applied(&self, key: &DocKey) -> &[Write]
-        ensures { result.now ≡ applied self.now (document_of key.now) }
+        ensures { result.now ≡ applied_writes self.now (document_of key.now) }
     {
         self.parts.applied(key)
     }

@@ -7,7 +7,7 @@ use Rattle.relay_held.specs.declared.kept.Candidate.{Candidate}
 use Rattle.relay_held.specs.declared.kept.Kept.{Kept}
 use Rattle.relay_held.specs.Kept.{candidate_of}
 use Rattle.relay_held.specs.Queues.{Holding, candidates_kept}
-use Rattle.relay_core.specs.Rule.{offered, closes}
+use Rattle.relay_core.specs.Rule.{gathering_after, closes}
 use Rattle.relay_core.specs.Walk.{item_of_kept}
 use Rattle.relay_core.proofs.Going.{Asked, asked_for, none_left, drop_none, offer_closed, offer_on, one_more_at_most}
 use Rattle.relay_core.proofs.gather.gather.Goals as goal
@@ -26,7 +26,7 @@ returns-in-Closed-clause-batch c =
     let item = c.item_of.ensures ∙ a.item in
     let closed = offer_closed (item_of_kept a.one) (map item_of_kept (drop (c.candidates.at + 1) cs)) c.candidates.batcher (ap (λ j. answer_to j c.candidates.batcher) (sym item) ∙ sym c.in_ok-offer.ensures.answer ∙ c.in-Closed.is) in
     c.in_ok-offer.ensures.after ∙ ap (λ o. after_offer {E = Unit {0}} c.item_of.result c.candidates.batcher (Rattle.std.specs.Prelude.Ok o)) c.in-Closed.is
-    ∙ sym closed.0 ∙ ap (λ is. offered is c.candidates.batcher) (sym (items_next cs c.candidates.at a.one a.here)) ∙ c.candidates.invariant.batch
+    ∙ sym closed.0 ∙ ap (λ is. gathering_after is c.candidates.batcher) (sym (items_next cs c.candidates.at a.one a.here)) ∙ c.candidates.invariant.batch
 
 pub returns-in-Closed-clause-closed : goal.returns-in-Closed-clause-closed
 returns-in-Closed-clause-closed c =
@@ -63,7 +63,7 @@ candidates-preserved c =
       looks = omega (arith, n.most, l);
       rise = omega (arith, n.rise, r);
       looked = (let m = one_more_at_most c.item_of.result c.candidates.batcher c.offer.new.self c.in_ok-offer.field-0 c.in_ok-offer.ensures.after in let k = v.looked in omega (arith, n.one, k, m));
-      batch = sym on.0 ∙ ap (λ is. offered is c.candidates.batcher) (sym items) ∙ v.batch;
+      batch = sym on.0 ∙ ap (λ is. gathering_after is c.candidates.batcher) (sym items) ∙ v.batch;
       closed = sym on.1 ∙ ap (λ is. closes is c.candidates.batcher) (sym items) ∙ v.closed;
     }
 
@@ -77,7 +77,7 @@ all_asked c =
     ]
 
 pub returns-clause-batch : goal.returns-clause-batch
-returns-clause-batch c = ap (λ xs. offered (map item_of_kept xs) c.candidates.batcher) (sym (all_asked c)) ∙ c.candidates.invariant.batch
+returns-clause-batch c = ap (λ xs. gathering_after (map item_of_kept xs) c.candidates.batcher) (sym (all_asked c)) ∙ c.candidates.invariant.batch
 
 pub returns-clause-closed : goal.returns-clause-closed
 returns-clause-closed c = ap (λ xs. closes (map item_of_kept xs) c.candidates.batcher) (sym (all_asked c)) ∙ c.candidates.invariant.closed

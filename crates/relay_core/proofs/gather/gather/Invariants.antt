@@ -2,7 +2,7 @@ use Rattle.std.proofs.Common.{◌≡◌, ◌+◌, ◌≤◌, [], drop, length}
 use Rattle.std.specs.Prelude.{map, min}
 use Rattle.relay_held.specs.Queues.{candidates_kept}
 use Rattle.relay_core.specs.Walk.{items_of_kept, item_of_kept}
-use Rattle.relay_core.specs.Rule.{offered, closes}
+use Rattle.relay_core.specs.Rule.{gathering_after, closes}
 use Rattle.relay_core.proofs.gather.gather.Given as goal
 
 abbrev pub invariant-candidates : goal.invariant-candidates
@@ -12,6 +12,6 @@ invariant-candidates l = record {
   looks : l.looks ≤ l.fn.looks + l.at;
   rise : l.fn.looks ≤ l.looks;
   looked : min (l.fn.looks + length l.batcher.items) 18446744073709551615 ≤ l.looks;
-  batch : offered (map item_of_kept (drop l.at (candidates_kept l.fn.held.list l.fn.held.clock))) l.batcher ≡ offered (items_of_kept l.fn.held.list l.fn.held.clock l.fn.held.list) (record { limits = l.fn.limits; items = [] });
+  batch : gathering_after (map item_of_kept (drop l.at (candidates_kept l.fn.held.list l.fn.held.clock))) l.batcher ≡ gathering_after (items_of_kept l.fn.held.list l.fn.held.clock l.fn.held.list) (record { limits = l.fn.limits; items = [] });
   closed : closes (map item_of_kept (drop l.at (candidates_kept l.fn.held.list l.fn.held.clock))) l.batcher ≡ closes (items_of_kept l.fn.held.list l.fn.held.clock l.fn.held.list) (record { limits = l.fn.limits; items = [] });
 }

@@ -1,6 +1,6 @@
 use Rattle.std.proofs.Common.{◌++◌, length, ap, ◌∙◌, subst, arith}
 use Rattle.relay_delay.specs.Waiting.{Rises}
-use Rattle.relay_delay.specs.Heaps.{inserted}
+use Rattle.relay_delay.specs.Heaps.{insert_all}
 use Rattle.relay_delay.proofs.Sorting.{length_insert}
 use Rattle.relay_delay.proofs.Delaying.{inserted_rises, more_fresh, one_moves}
 use Rattle.relay_delay.proofs.queue.come_due.Goals as goal
@@ -11,7 +11,7 @@ add-requires-clause-rises c = inserted_rises c.due.later.entries (c.due.front.it
 pub add-requires-clause-fresh : goal.add-requires-clause-fresh
 add-requires-clause-fresh c =
     let es = c.due.front.items ++ c.due.ready.entries in
-    (more_fresh c.in-Some.one c.pop_due.new.self.entries es (subst (λ xs. Rises (inserted xs es)) c.in-Some.ensures.2 c.due.invariant.moving.rises)).1
+    (more_fresh c.in-Some.one c.pop_due.new.self.entries es (subst (λ xs. Rises (insert_all xs es)) c.in-Some.ensures.2 c.due.invariant.moving.rises)).1
 
 pub add-requires-clause-room : goal.add-requires-clause-room
 add-requires-clause-room c =

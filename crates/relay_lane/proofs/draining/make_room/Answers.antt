@@ -1,7 +1,7 @@
 use Rattle.std.proofs.Common.{◌≡◌, ℕ, ◌<◌, ◌≤◌, sym, ap, ◌∙◌, subst, length}
 use Rattle.std.specs.Prelude.{OnOk, OnErr}
 use Rattle.relay_core.specs.declared.config.RelayConfig.{RelayConfig}
-use Rattle.relay_core.specs.State.{State, flushed}
+use Rattle.relay_core.specs.State.{State, after_flush}
 use Rattle.relay_lane.specs.Turns.{Worked, holds}
 use Rattle.relay_lane.specs.Steps.{IsPressed}
 use Rattle.relay_lane.proofs.Flushing.{flushed_pressed, worked_config, worked_full}
@@ -11,7 +11,7 @@ pub work-requires-clause-pressed : goal.work-requires-clause-pressed
 work-requires-clause-pressed g c = subst IsPressed (sym c.flush.ensures.flushed) (flushed_pressed c.args.lane.now.state c.totals.ensures.lane)
 
 -- the config of a lane that worked is the one that it had
-the_same : (n : ℕ) (s u t : State) → n ≡ s.config.max_held → u ≡ flushed s → Worked (holds n) u t → n ≡ t.config.max_held
+the_same : (n : ℕ) (s u t : State) → n ≡ s.config.max_held → u ≡ after_flush s → Worked (holds n) u t → n ≡ t.config.max_held
 the_same n s u t most flush w = most ∙ ap (λ (c : RelayConfig). c.max_held) (sym (worked_config (holds n) u t w ∙ ap (λ (x : State). x.config) flush))
 
 pub returns-clause-done : goal.returns-clause-done
@@ -24,5 +24,5 @@ returns-clause-memory g c =
 
 pub returns-clause-worked : goal.returns-clause-worked
 returns-clause-worked g c =
-    worked_full c.max_held-most.result (flushed c.args.lane.now.state) c.work.new.lane.state c.max_held-most.ensures
+    worked_full c.max_held-most.result (after_flush c.args.lane.now.state) c.work.new.lane.state c.max_held-most.ensures
     (subst (λ s. Worked (holds c.max_held-most.result) s c.work.new.lane.state) c.flush.ensures.flushed c.work.ensures.worked)

@@ -1,7 +1,7 @@
 use Rattle.std.proofs.Common.{List, ap, sym, subst, ◌∙◌}
 use Rattle.relay_core.specs.declared.config.RelayConfig.{RelayConfig}
 use Rattle.relay_ndjson.specs.Metadata.{shown}
-use Rattle.relay_run.specs.Readers.{named}
+use Rattle.relay_run.specs.Readers.{named_ops}
 use Rattle.relay_run.specs.Handles.{Given, AllEndFed}
 use Rattle.relay_run.proofs.Handing.{rows_of_all, count_back, control_back}
 use Rattle.relay_run.proofs.Ending.{all_fed, fed_and_put, delivered_as}
@@ -51,5 +51,5 @@ returns-clause-delivered g c =
       queues,
       x.ops,
       x.fed,
-      delivered_as g.W.Wire.describes g.W.Wire.fits c.in-Ok.started.0.config c.args.config c.in-Ok.started.0.wires c.args.wires.items (λ p. named c.args.config.epoch p 1 (x.ops p)) c.in_ok-closed.closed.items c.finish.result c.in-Ok.ensures.config c.in-Ok.ensures.wires x.put c.finish.ensures.delivered,
+      delivered_as g.W.Wire.describes g.W.Wire.fits c.in-Ok.started.0.config c.args.config c.in-Ok.started.0.wires c.args.wires.items (λ p. named_ops c.args.config.epoch p 1 (x.ops p)) c.in_ok-closed.closed.items c.finish.result c.in-Ok.ensures.config c.in-Ok.ensures.wires x.put c.finish.ensures.delivered,
     )

@@ -10,7 +10,7 @@ use Rattle.relay_flight.proofs.Numbers.{lacks_next, batches_entered}
 use Rattle.relay_core.specs.Walk.{item_of_kept, launched_kept, freight}
 use Rattle.relay_core.specs.State.{State, next_batch, next_entries, after_request}
 use Rattle.relay_core.specs.Memory.{entries, writes_in, flying_of, is_in, Carries, HasRoom, AllUnder, tries_left, IsReadable}
-use Rattle.relay_core.specs.View.{seen, IsSound}
+use Rattle.relay_core.specs.View.{state_of, IsSound}
 use Rattle.relay_core.specs.declared.lane.Lane.TheInside.{Inside}
 use Rattle.relay_batch.specs.declared.item.Room.{Room}
 use Rattle.std.specs.List.{list_all}
@@ -49,19 +49,19 @@ pub returns-then-is_roomy-clause-when : goal.returns-then-is_roomy-clause-when
 returns-then-is_roomy-clause-when c =
     let i = c.self.inside in
     let roomy = sym c.is_roomy.ensures ∙ c.if-is_roomy.true in
-    ap is_some (none_now (seen i) (writes_in i.flight.requests) i.held.list i.room refl roomy (c.self.invariant.quiet roomy) ∙ ap next_batch (ap (λ (v : Seen). v.state) c.self.view_is))
+    ap is_some (none_now (state_of i) (writes_in i.flight.requests) i.held.list i.room refl roomy (c.self.invariant.quiet roomy) ∙ ap next_batch (ap (λ (v : Seen). v.state) c.self.view_is))
 
 pub returns-then-is_roomy-clause-after : goal.returns-then-is_roomy-clause-after
 returns-then-is_roomy-clause-after c =
     let i = c.self.inside in
     let roomy = sym c.is_roomy.ensures ∙ c.if-is_roomy.true in
-    ap (after_request c.args.self.now.state) (none_now (seen i) (writes_in i.flight.requests) i.held.list i.room refl roomy (c.self.invariant.quiet roomy) ∙ ap next_batch (ap (λ (v : Seen). v.state) c.self.view_is))
+    ap (after_request c.args.self.now.state) (none_now (state_of i) (writes_in i.flight.requests) i.held.list i.room refl roomy (c.self.invariant.quiet roomy) ∙ ap next_batch (ap (λ (v : Seen). v.state) c.self.view_is))
 
 pub returns-in_err-batch-clause-candidates : goal.returns-in_err-batch-clause-candidates
 returns-in_err-batch-clause-candidates c =
     let a = c.self.inside in
-    let n = length-map (candidates (seen a).core) Rattle.relay_core.specs.Rule.item_of in
-    let m = ap length (offers_seen (seen a).core (writes_in a.flight.requests) a.held.list refl) in
+    let n = length-map (candidates (state_of a).core) Rattle.relay_core.specs.Rule.item_of in
+    let m = ap length (offers_seen (state_of a).core (writes_in a.flight.requests) a.held.list refl) in
     err_holds c.from_residual.result _ (subst (λ (s : State). 0 < length (candidates s.core)) (ap (λ (v : Seen). v.state) c.self.view_is) (let some = c.in_err-batch.ensures.err in omega (arith, some, n, m)))
 
 -- what is held is the same, and only the looks and the room are others
@@ -100,21 +100,21 @@ pub returns-in_default-clause-when : goal.returns-in_default-clause-when
 returns-in_default-clause-when c =
     let i = c.self.inside in
     let closed = c.closed-all_closed.ensures ∙ ap all_closed (sym (ap (λ (v : Seen). v.state) c.self.view_is)) in
-    let batch = batch_now (seen i) (writes_in i.flight.requests) i.held.list c.closed-all_closed.result c.in_ok-batch.field-0.batch refl closed (omega (arith, c.flying.ensures, c.if-flying-self.false, length-map i.flight.requests numbered_batch)) c.in_ok-batch.ensures.batch in
+    let batch = batch_now (state_of i) (writes_in i.flight.requests) i.held.list c.closed-all_closed.result c.in_ok-batch.field-0.batch refl closed (omega (arith, c.flying.ensures, c.if-flying-self.false, length-map i.flight.requests numbered_batch)) c.in_ok-batch.ensures.batch in
     ap is_some (sym c.in_default.is ∙ batch ∙ ap next_batch (ap (λ (v : Seen). v.state) c.self.view_is))
 
 pub returns-in_default-clause-after : goal.returns-in_default-clause-after
 returns-in_default-clause-after c =
     let i = c.self.inside in
     let closed = c.closed-all_closed.ensures ∙ ap all_closed (sym (ap (λ (v : Seen). v.state) c.self.view_is)) in
-    let batch = batch_now (seen i) (writes_in i.flight.requests) i.held.list c.closed-all_closed.result c.in_ok-batch.field-0.batch refl closed (omega (arith, c.flying.ensures, c.if-flying-self.false, length-map i.flight.requests numbered_batch)) c.in_ok-batch.ensures.batch in
-    (λ j. seen (record i { held = c.in_ok-batch.ensures.held j })) ∙ (ap (λ (v : Seen). v.state) c.self.view_is) ∙ ap (after_request c.args.self.now.state) (sym c.in_default.is ∙ batch ∙ ap next_batch (ap (λ (v : Seen). v.state) c.self.view_is))
+    let batch = batch_now (state_of i) (writes_in i.flight.requests) i.held.list c.closed-all_closed.result c.in_ok-batch.field-0.batch refl closed (omega (arith, c.flying.ensures, c.if-flying-self.false, length-map i.flight.requests numbered_batch)) c.in_ok-batch.ensures.batch in
+    (λ j. state_of (record i { held = c.in_ok-batch.ensures.held j })) ∙ (ap (λ (v : Seen). v.state) c.self.view_is) ∙ ap (after_request c.args.self.now.state) (sym c.in_default.is ∙ batch ∙ ap next_batch (ap (λ (v : Seen). v.state) c.self.view_is))
 
 pub returns-in_err-writes-clause-candidates : goal.returns-in_err-writes-clause-candidates
 returns-in_err-writes-clause-candidates c =
     let i = c.self.inside in
     let closed = c.closed-all_closed.ensures ∙ ap all_closed (sym (ap (λ (v : Seen). v.state) c.self.view_is)) in
-    let batch = batch_now (seen i) (writes_in i.flight.requests) i.held.list c.closed-all_closed.result c.in_ok-batch.field-0.batch refl closed (omega (arith, c.flying.ensures, c.if-flying-self.false, length-map i.flight.requests numbered_batch)) c.in_ok-batch.ensures.batch in
+    let batch = batch_now (state_of i) (writes_in i.flight.requests) i.held.list c.closed-all_closed.result c.in_ok-batch.field-0.batch refl closed (omega (arith, c.flying.ensures, c.if-flying-self.false, length-map i.flight.requests numbered_batch)) c.in_ok-batch.ensures.batch in
     err_holds c.from_residual-in_err-writes.result _ (candidates_of_batch c.args.self.now.state c.in-Some.batch (sym (batch ∙ ap next_batch (ap (λ (v : Seen). v.state) c.self.view_is)) ∙ c.in-Some.is))
 
 pub launch-requires-clause-count : goal.launch-requires-clause-count
@@ -122,8 +122,8 @@ launch-requires-clause-count c =
     let i = c.self.inside in
     let v = c.self.invariant in
     let closed = c.closed-all_closed.ensures ∙ ap all_closed (sym (ap (λ (v : Seen). v.state) c.self.view_is)) in
-    let batch = batch_now (seen i) (writes_in i.flight.requests) i.held.list c.closed-all_closed.result c.in_ok-batch.field-0.batch refl closed (omega (arith, c.flying.ensures, c.if-flying-self.false, length-map i.flight.requests numbered_batch)) c.in_ok-batch.ensures.batch in
-    let front = front_of (seen i) (writes_in i.flight.requests) i.held.list c.in-Some.batch refl v.readable.rises (sym batch ∙ c.in-Some.is) in
+    let batch = batch_now (state_of i) (writes_in i.flight.requests) i.held.list c.closed-all_closed.result c.in_ok-batch.field-0.batch refl closed (omega (arith, c.flying.ensures, c.if-flying-self.false, length-map i.flight.requests numbered_batch)) c.in_ok-batch.ensures.batch in
+    let front = front_of (state_of i) (writes_in i.flight.requests) i.held.list c.in-Some.batch refl v.readable.rises (sym batch ∙ c.in-Some.is) in
     let few = front.few in
     let n = ap length c.items-2.ensures.items in
     let same = ap (λ (h : Holding). length (candidates_kept h.list h.clock)) c.in_ok-batch.ensures.held in
@@ -136,7 +136,7 @@ pub returns-clause-when : goal.returns-clause-when
 returns-clause-when c =
     let i = c.self.inside in
     let closed = c.closed-all_closed.ensures ∙ ap all_closed (sym (ap (λ (v : Seen). v.state) c.self.view_is)) in
-    let batch = batch_now (seen i) (writes_in i.flight.requests) i.held.list c.closed-all_closed.result c.in_ok-batch.field-0.batch refl closed (omega (arith, c.flying.ensures, c.if-flying-self.false, length-map i.flight.requests numbered_batch)) c.in_ok-batch.ensures.batch in
+    let batch = batch_now (state_of i) (writes_in i.flight.requests) i.held.list c.closed-all_closed.result c.in_ok-batch.field-0.batch refl closed (omega (arith, c.flying.ensures, c.if-flying-self.false, length-map i.flight.requests numbered_batch)) c.in_ok-batch.ensures.batch in
     ap is_some (sym c.in-Some.is ∙ batch ∙ ap next_batch (ap (λ (v : Seen). v.state) c.self.view_is))
 
 pub returns-clause-after : goal.returns-clause-after
@@ -144,13 +144,13 @@ returns-clause-after c =
     let i = c.self.inside in
     let v = c.self.invariant in
     let closed = c.closed-all_closed.ensures ∙ ap all_closed (sym (ap (λ (v : Seen). v.state) c.self.view_is)) in
-    let batch = batch_now (seen i) (writes_in i.flight.requests) i.held.list c.closed-all_closed.result c.in_ok-batch.field-0.batch refl closed (omega (arith, c.flying.ensures, c.if-flying-self.false, length-map i.flight.requests numbered_batch)) c.in_ok-batch.ensures.batch in
+    let batch = batch_now (state_of i) (writes_in i.flight.requests) i.held.list c.closed-all_closed.result c.in_ok-batch.field-0.batch refl closed (omega (arith, c.flying.ensures, c.if-flying-self.false, length-map i.flight.requests numbered_batch)) c.in_ok-batch.ensures.batch in
     let fs = i.flight.requests in
     let hs = i.held.list in
     let f = writes_in fs in
     let n = i.flight.next in
     let max = i.config.attempts in
-    let s = seen i in
+    let s = state_of i in
     let next : next_batch s ≡ Some c.in-Some.batch = sym batch ∙ c.in-Some.is in
     let x = formed s f hs c.in-Some.batch refl next in
     let ps = x.ops in
@@ -186,13 +186,13 @@ invariant_of-self-2 c =
     let i = c.self.inside in
     let v = c.self.invariant in
     let closed = c.closed-all_closed.ensures ∙ ap all_closed (sym (ap (λ (v : Seen). v.state) c.self.view_is)) in
-    let batch = batch_now (seen i) (writes_in i.flight.requests) i.held.list c.closed-all_closed.result c.in_ok-batch.field-0.batch refl closed (omega (arith, c.flying.ensures, c.if-flying-self.false, length-map i.flight.requests numbered_batch)) c.in_ok-batch.ensures.batch in
+    let batch = batch_now (state_of i) (writes_in i.flight.requests) i.held.list c.closed-all_closed.result c.in_ok-batch.field-0.batch refl closed (omega (arith, c.flying.ensures, c.if-flying-self.false, length-map i.flight.requests numbered_batch)) c.in_ok-batch.ensures.batch in
     let fs = i.flight.requests in
     let hs = i.held.list in
     let f = writes_in fs in
     let n = i.flight.next in
     let max = i.config.attempts in
-    let s = seen i in
+    let s = state_of i in
     let sends : next_batch s ≡ Some c.in-Some.batch = sym batch ∙ c.in-Some.is in
     let x = formed s f hs c.in-Some.batch refl sends in
     let ps = x.ops in
@@ -289,7 +289,7 @@ pub returns-clause-looks_sent : goal.returns-clause-looks_sent
 returns-clause-looks_sent c =
     let i = c.self.inside in
     let closed = c.closed-all_closed.ensures ∙ ap all_closed (sym (ap (λ (v : Seen). v.state) c.self.view_is)) in
-    let batch = batch_now (seen i) (writes_in i.flight.requests) i.held.list c.closed-all_closed.result c.in_ok-batch.field-0.batch refl closed (omega (arith, c.flying.ensures, c.if-flying-self.false, length-map i.flight.requests numbered_batch)) c.in_ok-batch.ensures.batch in
+    let batch = batch_now (state_of i) (writes_in i.flight.requests) i.held.list c.closed-all_closed.result c.in_ok-batch.field-0.batch refl closed (omega (arith, c.flying.ensures, c.if-flying-self.false, length-map i.flight.requests numbered_batch)) c.in_ok-batch.ensures.batch in
     let next : Some c.in-Some.batch ≡ next_batch c.args.self.now.state = sym c.in-Some.is ∙ batch ∙ ap next_batch (ap (λ (v : Seen). v.state) c.self.view_is) in
     let least : min (i.looks + length c.in-Some.batch) 18446744073709551615 ≤ c.due_batch.new.looks = subst (λ o. IfSome o (λ (b : List BatchItem). min (i.looks + length b) 18446744073709551615 ≤ c.due_batch.new.looks)) c.in-Some.is c.in_ok-batch.ensures.looked in
     let same : looked_at_least c.args.self.now ≡ min (i.looks + length c.in-Some.batch) 18446744073709551615 = λ j. min (sym (ap (λ (v : Seen). v.looks) c.self.view_is) j + length (unwrap_or (sym next j) [])) 18446744073709551615 in

@@ -9,9 +9,9 @@ use Rattle.relay_held.specs.declared.kept.Kept.{Kept}
 use Rattle.relay_core.specs.Quiet.{is_roomy, IsQuiet}
 use Rattle.relay_core.proofs.Quiet.{quiet_taken}
 use Rattle.relay_core.specs.Walk.{report_of, items_of_kept}
-use Rattle.relay_core.specs.State.{State, bytes_of, taken}
+use Rattle.relay_core.specs.State.{State, bytes_of, after_put}
 use Rattle.relay_core.specs.Memory.{entries, writes_in, kept_new, AllUnder, tries_left}
-use Rattle.relay_core.specs.View.{seen}
+use Rattle.relay_core.specs.View.{state_of}
 use Rattle.relay_core.proofs.Taken.{entries_new, under_more, under_same, readable_more, left_more, entries_length, on_ok, with_none}
 use Rattle.relay_core.proofs.Valid.{valid_facts}
 use Rattle.relay_delivery.proofs.Halving.{halvings_few}
@@ -25,21 +25,21 @@ invariant_of-self-in-Ok-push c =
     let m = c.make_room.ensures in
     let p = c.in-Ok-push.ensures.ok in
     let room = on_ok _ _ c.if-is_err.ensures.negation m.reports_room in
-    let lt : length (seen i).core.held < (seen i).config.max_held = subst (λ (s : State). length s.core.held < s.config.max_held) (sym (ap (λ (v : Seen). v.state) c.self.view_is)) c.requires in
+    let lt : length (state_of i).core.held < (state_of i).config.max_held = subst (λ (s : State). length s.core.held < s.config.max_held) (sym (ap (λ (v : Seen). v.state) c.self.view_is)) c.requires in
     let n = entries_length i.held.list (writes_in i.flight.requests) in
     let hs = i.held.list in
     let count = (valid_facts i.config v.config).count.1 in
     let p14 : 2 ^ 14 ≡ 16384 = refl in
     let low : i.config.limits.count < 2 ^ 14 = omega (arith, count, p14) in
-    let made = c.kept_of-kept.ensures ∙ (λ j. kept_new c.args.op (i.first + i.taken) (bytes_of (seen c.self.inside) c.args.op) (c.clock.ensures j) i.config.limits.count) in
-    let items : c.push.new.self.list ≡ hs ++ kept_new c.args.op (i.first + i.taken) (bytes_of (seen c.self.inside) c.args.op) i.held.clock i.config.limits.count ∷ [] = p ∙ (λ j. hs ++ made j ∷ []) in
-    let one = kept_new c.args.op (i.first + i.taken) (bytes_of (seen c.self.inside) c.args.op) i.held.clock i.config.limits.count in
+    let made = c.kept_of-kept.ensures ∙ (λ j. kept_new c.args.op (i.first + i.taken) (bytes_of (state_of c.self.inside) c.args.op) (c.clock.ensures j) i.config.limits.count) in
+    let items : c.push.new.self.list ≡ hs ++ kept_new c.args.op (i.first + i.taken) (bytes_of (state_of c.self.inside) c.args.op) i.held.clock i.config.limits.count ∷ [] = p ∙ (λ j. hs ++ made j ∷ []) in
+    let one = kept_new c.args.op (i.first + i.taken) (bytes_of (state_of c.self.inside) c.args.op) i.held.clock i.config.limits.count in
     let len : length c.push.new.self.list ≡ length hs + 1 = ap length items ∙ length-append hs (one ∷ []) in
     record {
-      readable = readable_more i.config.attempts i.flight.next (i.first + i.taken) (bytes_of (seen c.self.inside) c.args.op) i.held.clock i.config.limits.count hs _ i.flight.requests c.args.op v.tries.0 low (omega (arith, c.self.ranges)) refl items
+      readable = readable_more i.config.attempts i.flight.next (i.first + i.taken) (bytes_of (state_of c.self.inside) c.args.op) i.held.clock i.config.limits.count hs _ i.flight.requests c.args.op v.tries.0 low (omega (arith, c.self.ranges)) refl items
           (under_same (i.first + min i.taken i.config.deal) (i.first + i.taken) hs (omega arith) v.under) v.readable;
       under = subst (λ xs. AllUnder (i.first + min (i.taken + 1) i.config.deal) xs) (sym items)
-          (under_more (i.first + min i.taken i.config.deal) (i.first + min (i.taken + 1) i.config.deal) hs (kept_new c.args.op (i.first + i.taken) (bytes_of (seen c.self.inside) c.args.op) i.held.clock i.config.limits.count) (omega arith) (omega (arith, c.if-self.false)) v.under);
+          (under_more (i.first + min i.taken i.config.deal) (i.first + min (i.taken + 1) i.config.deal) hs (kept_new c.args.op (i.first + i.taken) (bytes_of (state_of c.self.inside) c.args.op) i.held.clock i.config.limits.count) (omega arith) (omega (arith, c.if-self.false)) v.under);
       flight = v.flight;
       most = v.most;
       room = omega (arith, len, room);
@@ -53,7 +53,7 @@ invariant_of-self-in-Ok-push c =
       counted = (let a = c.if-self.false in omega arith);
       done = (let d = v.done in let e = c.if-self.false in omega (arith, len, d, e));
       left = (let a = ap (tries_left i.config.attempts) items in
-          let b = left_more i.config.attempts hs (kept_new c.args.op (i.first + i.taken) (bytes_of (seen c.self.inside) c.args.op) i.held.clock i.config.limits.count) in
+          let b = left_more i.config.attempts hs (kept_new c.args.op (i.first + i.taken) (bytes_of (state_of c.self.inside) c.args.op) i.held.clock i.config.limits.count) in
           let l = v.left in let t = v.tries in let e = c.if-self.false in let h = halvings_few 14 i.config.limits.count low in omega arith);
       config = v.config;
       begins = v.begins;
@@ -73,13 +73,13 @@ returns-in-Ok-push-clause-ok c =
     let m = c.make_room.ensures in
     let fs = i.flight.requests in
     let hs = i.held.list in
-    let s = (seen i).core in
+    let s = (state_of i).core in
     let o = c.args.op in
-    let made = c.kept_of-kept.ensures ∙ (λ j. kept_new o (i.first + i.taken) (bytes_of (seen c.self.inside) o) (c.clock.ensures j) i.config.limits.count) in
-    let items : c.push.new.self.list ≡ hs ++ kept_new o (i.first + i.taken) (bytes_of (seen c.self.inside) c.args.op) i.held.clock i.config.limits.count ∷ [] = c.in-Ok-push.ensures.ok ∙ (λ j. hs ++ made j ∷ []) in
-    let held = ap (λ xs. entries xs (writes_in fs)) items ∙ entries_new s hs (writes_in fs) o (bytes_of (seen c.self.inside) c.args.op) in
+    let made = c.kept_of-kept.ensures ∙ (λ j. kept_new o (i.first + i.taken) (bytes_of (state_of c.self.inside) o) (c.clock.ensures j) i.config.limits.count) in
+    let items : c.push.new.self.list ≡ hs ++ kept_new o (i.first + i.taken) (bytes_of (state_of c.self.inside) c.args.op) i.held.clock i.config.limits.count ∷ [] = c.in-Ok-push.ensures.ok ∙ (λ j. hs ++ made j ∷ []) in
+    let held = ap (λ xs. entries xs (writes_in fs)) items ∙ entries_new s hs (writes_in fs) o (bytes_of (state_of c.self.inside) c.args.op) in
     let reports = ap (map report_of) m.reports ∙ with_none (map report_of i.reports.items) in
     let t : nat_lt i.taken i.config.deal ≡ true = lt-ltb _ _ (omega (arith, c.if-self.false)) in
-    (λ j. record (seen i) { core = record s { clock = c.in-Ok-push.ensures.clock j; taken = i.taken + 1; held = held j; reports = reports j } })
-    ∙ (λ j. record (seen i) { core = record s { taken = i.taken + 1; held = s.held ++ entry_if (sym t j) s o (bytes_of (seen c.self.inside) c.args.op); reports = s.reports ++ spent_if (sym t j) o } })
-    ∙ ap (λ (x : State). taken x o) (ap (λ (v : Seen). v.state) c.self.view_is)
+    (λ j. record (state_of i) { core = record s { clock = c.in-Ok-push.ensures.clock j; taken = i.taken + 1; held = held j; reports = reports j } })
+    ∙ (λ j. record (state_of i) { core = record s { taken = i.taken + 1; held = s.held ++ entry_if (sym t j) s o (bytes_of (state_of c.self.inside) c.args.op); reports = s.reports ++ spent_if (sym t j) o } })
+    ∙ ap (λ (x : State). after_put x o) (ap (λ (v : Seen). v.state) c.self.view_is)

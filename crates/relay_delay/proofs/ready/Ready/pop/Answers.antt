@@ -1,6 +1,6 @@
 use Rattle.std.proofs.Common.{◌++◌, drop, sym, ap, ◌∙◌, subst}
 use Rattle.std.specs.Prelude.{slice_get}
-use Rattle.relay_delay.specs.Heaps.{Heap, sorted, ready_items, IsReady}
+use Rattle.relay_delay.specs.Heaps.{Heap, sort, ready_items, IsReady}
 use Rattle.relay_delay.proofs.Heaping.{heap_popped, heap_pop_entries, line_popped, line_pop_entries, popped_is}
 use Rattle.relay_delay.proofs.ready.Ready.pop.Goals as goal
 
@@ -20,7 +20,7 @@ returns-then-not-top_is_first-clause-one c =
 pub returns-then-not-top_is_first-clause-entries : goal.returns-then-not-top_is_first-clause-entries
 returns-then-not-top_is_first-clause-entries c =
     let heap = c.self.inside.heap in let line = c.self.inside.line in
-    ap (λ es. sorted (ready_items heap.data.items ++ es)) c.pop_front.ensures.rest
+    ap (λ es. sort (ready_items heap.data.items ++ es)) c.pop_front.ensures.rest
     ∙ (line_pop_entries heap.data.items line.items c.self.invariant (c.top_is_first.ensures.line c.if-not-top_is_first.true c.self.invariant.order)).rest
     ∙ ap (λ (h : Heap). drop 1 h.entries) c.self.view_is
 

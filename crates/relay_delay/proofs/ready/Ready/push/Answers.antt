@@ -1,6 +1,6 @@
 use Rattle.std.proofs.Common.{◌<◌, ◌++◌, length, ap, ◌∙◌, arith}
 use Rattle.relay_delay.specs.Waiting.{insert}
-use Rattle.relay_delay.specs.Heaps.{Heap, sorted, ready_items}
+use Rattle.relay_delay.specs.Heaps.{Heap, sort, ready_items}
 use Rattle.relay_delay.proofs.Heaping.{on_ok, heap_pushed, heap_push_entries, line_pushed, line_push_entries, ready_length, none_has}
 use Rattle.relay_delay.proofs.ready.Ready.push.Goals as goal
 
@@ -44,6 +44,6 @@ invariant_of-self-else-reaches c =
 pub returns-else-reaches-clause-entries : goal.returns-else-reaches-clause-entries
 returns-else-reaches-clause-entries c =
     let heap = c.self.inside.heap in let line = c.self.inside.line in
-    ap (λ es. sorted (ready_items heap.data.items ++ es)) c.push_back_reserved.ensures.items
+    ap (λ es. sort (ready_items heap.data.items ++ es)) c.push_back_reserved.ensures.items
     ∙ line_push_entries c.args.one heap.data.items line.items c.self.invariant (none_has c.args.one.version c.self.view_is c.requires.fresh)
     ∙ ap (λ (h : Heap). insert c.args.one h.entries) c.self.view_is

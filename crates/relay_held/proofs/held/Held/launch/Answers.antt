@@ -4,7 +4,7 @@ use Rattle.relay_delay.specs.declared.entry.Entry.{Entry}
 use Rattle.relay_results.proofs.Lists.{some_same}
 use Rattle.relay_held.specs.declared.kept.Kept.{Kept}
 use Rattle.relay_held.specs.Kept.{launch_one}
-use Rattle.relay_held.specs.Queues.{Holding, with_first, candidates_kept, merged}
+use Rattle.relay_held.specs.Queues.{Holding, with_first, candidates_kept, merge_of}
 use Rattle.relay_held.specs.Shelf.{IsHeld}
 use Rattle.relay_held.proofs.Waiting.{is_due_at, none_due, none_there}
 use Rattle.relay_held.proofs.Calls.{launched}
@@ -28,7 +28,7 @@ returns-clause-list c = λ h e.
     let is = some_same x.one h (sym x.here ∙ ap (λ (s : Holding). slice_get (candidates_kept s.list s.clock) 0) c.self.view_is ∙ e) in
     (launched c.self.inside.documents c.launch.new.self c.self.inside.count c.self.inside.waiting c.in-Some.entry c.args.number c.args.place c.self.invariant x
     (c.launch.ensures.sent x.one.key x.one x.waits.0 (sym (ap (λ (e : Entry). e.slot) x.entry))) c.launch.ensures.slots c.launch.ensures.keys c.launch.ensures.unique).becomes.list
-    ∙ ap (λ (y : Kept). with_first y.key (launch_one c.args.number c.args.place) (merged c.self.inside.documents.queues)) is
+    ∙ ap (λ (y : Kept). with_first y.key (launch_one c.args.number c.args.place) (merge_of c.self.inside.documents.queues)) is
     ∙ ap (λ (s : Holding). with_first h.key (launch_one c.args.number c.args.place) s.list) c.self.view_is
 
 pub returns-clause-write : goal.returns-clause-write

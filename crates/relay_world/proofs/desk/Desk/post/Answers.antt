@@ -1,6 +1,6 @@
 use Rattle.std.proofs.Common.{◌∷◌, [], ◌++◌, sym, ap, ◌∙◌, subst}
 use Rattle.relay_world.specs.State.{Desk}
-use Rattle.relay_world.specs.Changes.{posted}
+use Rattle.relay_world.specs.Changes.{after_post}
 use Rattle.relay_world.specs.Memory.{IsDesk, IsOpenAt}
 use Rattle.relay_world.proofs.Places.{at_index}
 use Rattle.relay_world.proofs.Desks.{open_within, posted_keeps, posted_is}
@@ -24,4 +24,4 @@ returns-clause-ok c =
     let there = at_index i.senders.items c.args.sender c.index.result.now (open_within i.senders.items c.args.sender open_there) c.index.ensures in
     let q = c.push_back_reserved.ensures.items ∙ ap (λ ms. ms ++ record { sender = c.args.sender; number = c.next_of-next.result.count; body = c.args.body } ∷ []) c.reserve.ensures.items in
     posted_is d c.args.sender c.args.body c.index.result.now c.next_of-next.result c.push_back_reserved.new.self.items there c.next_of-next.ensures q
-    ∙ ap (posted c.args.sender c.args.body) c.self.view_is
+    ∙ ap (after_post c.args.sender c.args.body) c.self.view_is

@@ -6,7 +6,7 @@ use Rattle.std.specs.Map.{lookup, set_value}
 use Rattle.indexmap.specs.IndexMap.{insert_entry}
 use Rattle.relay_index.specs.Keys.{same_key}
 use Rattle.relay_world.specs.State.{Named}
-use Rattle.relay_index.specs.States.{applied}
+use Rattle.relay_index.specs.States.{applied_writes}
 use Rattle.relay_index.specs.Runs.{is_run}
 use Rattle.relay_world.specs.State.{kept_among, names_of, before_of}
 use Rattle.relay_world.proofs.Places.{ok_fact, on_ok, on_ok_two, on_err}
@@ -33,10 +33,10 @@ returns-in-Some-clause-before c =
     let held = (c.get_mut.follows.holds c.run.new.self).0 in
     on_ok_two c.run.result _ _ _
     (λ is f k.
-    ap (λ xs. before_of (length (applied c.run.new.index k)) (kept_among xs k)) held
-    ∙ before-set es w.key k c.in-Some.named.now c.run.new.self (length (applied c.args.index.now k)) (length (applied c.run.new.index k)) e (ap (λ (n : Named). n.before) is)
+    ap (λ xs. before_of (length (applied_writes c.run.new.index k)) (kept_among xs k)) held
+    ∙ before-set es w.key k c.in-Some.named.now c.run.new.self (length (applied_writes c.args.index.now k)) (length (applied_writes c.run.new.index k)) e (ap (λ (n : Named). n.before) is)
     (λ d. same_length c.args.index.now c.run.new.index w c.args.choice k f d)
-    ∙ ap (λ xs. before_of (length (applied c.args.index.now k)) (kept_among xs k)) c.self.view_is)
+    ∙ ap (λ xs. before_of (length (applied_writes c.args.index.now k)) (kept_among xs k)) c.self.view_is)
     c.run.ensures.names c.run.ensures.effect
 
 pub returns-in-Some-clause-same_names : goal.returns-in-Some-clause-same_names
@@ -70,9 +70,9 @@ returns-clause-before c = λ k.
     let room = c.insert.ensures.succeeds (omega (arith, c.in_ok-reserve.ensures.ok)) in
     let made = ok_fact c.insert.result _ room c.insert.ensures.entries in
     let entries : c.insert.new.self.entries ≡ insert_entry same_key es w.key c.run-2.new.self = rw (made, c.in_ok-reserve.ensures.entries, c.get_mut.follows.holds-at-none, c.in_ok-key.ensures) refl in
-    ap (λ xs. before_of (length (applied c.run-2.new.index k)) (kept_among xs k)) entries
-    ∙ before-insert es w.key k c.run-2.new.self (length (applied c.args.index.now k)) (length (applied c.run-2.new.index k)) e
+    ap (λ xs. before_of (length (applied_writes c.run-2.new.index k)) (kept_among xs k)) entries
+    ∙ before-insert es w.key k c.run-2.new.self (length (applied_writes c.args.index.now k)) (length (applied_writes c.run-2.new.index k)) e
     (λ d. ap (λ (n : Named). n.before) (c.in_ok-status.ensures.names ∙ ap (λ (n : Named). record n { names = n.names ++ (if is_run c.args.index.now w c.args.choice then c.args.name ∷ [] else []) }) c.new-named.ensures)
-    ∙ ap length c.applied-before.ensures.applied ∙ ap (λ j. length (applied c.args.index.now j)) (sym (same_document-true k (document_of w.key) d)))
+    ∙ ap length c.applied-before.ensures.applied ∙ ap (λ j. length (applied_writes c.args.index.now j)) (sym (same_document-true k (document_of w.key) d)))
     (λ d. same_length c.args.index.now c.run-2.new.index w c.args.choice k c.in_ok-status.ensures.effect d)
-    ∙ ap (λ xs. before_of (length (applied c.args.index.now k)) (kept_among xs k)) c.self.view_is
+    ∙ ap (λ xs. before_of (length (applied_writes c.args.index.now k)) (kept_among xs k)) c.self.view_is

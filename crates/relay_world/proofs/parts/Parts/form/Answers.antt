@@ -2,7 +2,7 @@ use Rattle.std.proofs.Common.{sym, subst}
 use Rattle.std.specs.Prelude.{IfOk}
 use Rattle.relay_results.proofs.Lists.{at-within}
 use Rattle.relay_world.specs.Memory.{IsThere}
-use Rattle.relay_world.specs.View.{seen}
+use Rattle.relay_world.specs.View.{world_of}
 use Rattle.relay_world.proofs.Places.{at_index}
 use Rattle.relay_world.proofs.Holding.{formed, formed_parts}
 use Rattle.relay_world.specs.Memory.{Forms}
@@ -12,7 +12,7 @@ use Rattle.relay_world.proofs.parts.Parts.form.Goals as goal
 pub invariant_of-self : goal.invariant_of-self
 invariant_of-self c =
     let i = c.self.inside in
-    let w = seen i in
+    let w = world_of i in
     let o : IsThere w c.args.lane = subst (λ x. IsThere x c.args.lane) (sym c.self.view_is) c.requires in
     let there = at_index i.desks.items c.args.lane c.index_mut.result.now (at-within i.desks.items c.args.lane o.desk o.there) c.index_mut.ensures.value in
     formed_parts c.send_from.result w c.args.lane c.index_mut.result.now c.send_from.new.desk c.send_from.new.sent.items there c.send_from.ensures.desk c.send_from.ensures.same_desk c.self.invariant
@@ -20,7 +20,7 @@ invariant_of-self c =
 pub returns-clause-ok : goal.returns-clause-ok
 returns-clause-ok c =
     let i = c.self.inside in
-    let w = seen i in
+    let w = world_of i in
     let o : IsThere w c.args.lane = subst (λ x. IsThere x c.args.lane) (sym c.self.view_is) c.requires in
     let there = at_index i.desks.items c.args.lane c.index_mut.result.now (at-within i.desks.items c.args.lane o.desk o.there) c.index_mut.ensures.value in
     subst (λ x. IfOk c.send_from.result (λ b. Forms x c.args.lane b (record w { desks = slice_set w.desks c.args.lane c.send_from.new.desk; sent = c.send_from.new.sent.items }))) c.self.view_is

@@ -3,7 +3,7 @@ use Rattle.relay_results.specs.Words.{update}
 use Rattle.relay_results.proofs.Lists.{at-within}
 use Rattle.relay_world.specs.State.{World}
 use Rattle.relay_world.specs.Changes.{with_answer}
-use Rattle.relay_world.specs.View.{seen}
+use Rattle.relay_world.specs.View.{world_of}
 use Rattle.relay_world.proofs.Places.{at_index}
 use Rattle.relay_world.specs.Memory.{answer_of, IsSent}
 use Rattle.relay_world.proofs.Places.{numbered_at, set-update}
@@ -12,7 +12,7 @@ use Rattle.relay_world.proofs.parts.Parts.note.Goals as goal
 pub returns : goal.returns
 returns c =
     let i = c.self.inside in
-    let w = seen i in
+    let w = world_of i in
     let r : IsSent w c.args.request = subst (λ x. IsSent x c.args.request) (sym c.self.view_is) c.requires in
     let s : c.saturating_sub.result ≡ c.args.request - 1 = omega (arith, c.saturating_sub.ensures) in
     let lt = at-within i.sent.items (c.args.request - 1) r.sent (numbered_at i.sent.items c.args.request r.sent r.was_sent) in

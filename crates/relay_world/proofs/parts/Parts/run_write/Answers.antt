@@ -2,7 +2,7 @@ use Rattle.std.proofs.Common.{◌≡◌, ◌-◌, sym, subst, arith}
 use Rattle.std.specs.Prelude.{IfOk}
 use Rattle.relay_results.proofs.Lists.{at-within}
 use Rattle.relay_world.specs.State.{World}
-use Rattle.relay_world.specs.View.{seen}
+use Rattle.relay_world.specs.View.{world_of}
 use Rattle.relay_world.proofs.Places.{at_index}
 use Rattle.std.specs.Prelude.{slice_set}
 use Rattle.relay_world.specs.declared.event.StepAnswer.TheVariants as answer
@@ -15,7 +15,7 @@ use Rattle.relay_world.proofs.parts.Parts.run_write.Goals as goal
 pub returns-clause-ok : goal.returns-clause-ok
 returns-clause-ok c =
     let i = c.self.inside in
-    let w = seen i in
+    let w = world_of i in
     let f : IsItemOf w c.args.request c.args.item c.args.name c.args.write.now = subst (λ x. IsItemOf x c.args.request c.args.item c.args.name c.args.write.now) (sym c.self.view_is) c.requires.item in
     let s : c.saturating_sub.result ≡ c.args.request - 1 = omega (arith, c.saturating_sub.ensures) in
     let lt = at-within i.sent.items (c.args.request - 1) f.sent (numbered_at i.sent.items c.args.request f.sent f.was_sent) in

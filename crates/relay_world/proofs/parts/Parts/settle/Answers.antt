@@ -3,7 +3,7 @@ use Rattle.relay_results.proofs.Lists.{at-within}
 use Rattle.relay_world.specs.State.{desk_at}
 use Rattle.relay_world.specs.Changes.{at_lane, answered_desk}
 use Rattle.relay_world.specs.Memory.{IsThere}
-use Rattle.relay_world.specs.View.{seen}
+use Rattle.relay_world.specs.View.{world_of}
 use Rattle.relay_world.proofs.Places.{at_index, on_ok}
 use Rattle.relay_world.proofs.Holding.{parts_result, view_result, answered_works}
 use Rattle.relay_results.specs.Outside.{Items}
@@ -14,7 +14,7 @@ use Rattle.relay_world.proofs.parts.Parts.settle.Goals as goal
 pub invariant_of-self : goal.invariant_of-self
 invariant_of-self c =
     let i = c.self.inside in
-    let w = seen i in
+    let w = world_of i in
     let o : IsThere w c.args.lane = subst (λ x. IsThere x c.args.lane) (sym c.self.view_is) c.requires in
     let there = at_index i.desks.items c.args.lane c.index_mut.result.now (at-within i.desks.items c.args.lane o.desk o.there) c.index_mut.ensures.value in
     parts_result c.reply.result w c.args.lane (answered_desk c.args.number (Items c.args.entries.items)) c.index_mut.result.now c.reply.new.self there c.reply.ensures.ok c.reply.ensures.unchanged (answered_works w c.args.number (Items c.args.entries.items)) c.self.invariant
@@ -22,7 +22,7 @@ invariant_of-self c =
 pub returns-clause-flies : goal.returns-clause-flies
 returns-clause-flies c =
     let i = c.self.inside in
-    let w = seen i in
+    let w = world_of i in
     let o : IsThere w c.args.lane = subst (λ x. IsThere x c.args.lane) (sym c.self.view_is) c.requires in
     let there = at_index i.desks.items c.args.lane c.index_mut.result.now (at-within i.desks.items c.args.lane o.desk o.there) c.index_mut.ensures.value in
     c.reply.ensures.flies ∙ ap (flies_at c.args.number) (sym there ∙ ap (λ x. desk_at x c.args.lane) c.self.view_is)
@@ -30,7 +30,7 @@ returns-clause-flies c =
 pub returns-clause-ok : goal.returns-clause-ok
 returns-clause-ok c =
     let i = c.self.inside in
-    let w = seen i in
+    let w = world_of i in
     let o : IsThere w c.args.lane = subst (λ x. IsThere x c.args.lane) (sym c.self.view_is) c.requires in
     let there = at_index i.desks.items c.args.lane c.index_mut.result.now (at-within i.desks.items c.args.lane o.desk o.there) c.index_mut.ensures.value in
     on_ok c.reply.result _ _ (λ e. e ∙ ap (at_lane c.args.lane (answered_desk c.args.number (Items c.args.entries.items))) c.self.view_is)
@@ -39,7 +39,7 @@ returns-clause-ok c =
 pub returns-clause-counts : goal.returns-clause-counts
 returns-clause-counts c =
     let i = c.self.inside in
-    let w = seen i in
+    let w = world_of i in
     let o : IsThere w c.args.lane = subst (λ x. IsThere x c.args.lane) (sym c.self.view_is) c.requires in
     let there = at_index i.desks.items c.args.lane c.index_mut.result.now (at-within i.desks.items c.args.lane o.desk o.there) c.index_mut.ensures.value in
     if_ok_two c.reply.result _ _ _ (λ x are m. record { desk = c.index_mut.result.now; there = ap (λ y. desk_at y c.args.lane) (sym c.self.view_is) ∙ there; are = are; matched = m })

@@ -1,5 +1,5 @@
 use Rattle.std.proofs.Common.{◌≡◌, Some, sym, ap, ◌∙◌}
-use Rattle.relay_world.specs.State.{Sent, request_at, item_at, op_with, numbered}
+use Rattle.relay_world.specs.State.{Sent, request_at, item_at, op_with, element_at}
 use Rattle.std.specs.Prelude.{option_and_then}
 use Rattle.relay_world.proofs.parts.Parts.write.Goals as goal
 
@@ -12,7 +12,7 @@ returns-clause-write c =
       sent = c.in-Some.sent.now;
       was_sent = was;
       its_item = c.in-Some-item.item.now;
-      stands = sym (ap (option_and_then (λ (s : Sent). numbered s.items c.args.item)) was) ∙ item;
+      stands = sym (ap (option_and_then (λ (s : Sent). element_at s.items c.args.item)) was) ∙ item;
       op = c.in-Some-op_with.op.now;
       its_op = (λ i. op_with w (sym c.lane.ensures i) (sym c.version.ensures i)) ∙ sym c.in-Some-op_with.ensures;
       name_is = c.name.ensures;
