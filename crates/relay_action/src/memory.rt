@@ -2,8 +2,10 @@
 ghost use Rattle.std.specs.Prelude.{◌≡◌, ◌++◌, ◌-◌, ◌<◌, ◌≤◌, min, [], length, take, drop, not};
 ghost use Rattle.std.specs.Prelude.{None, Some, IfOk, OnErr, is_ok, if◌then◌else◌};
 ghost use Rattle.std.specs.Io.KnownBytes.{append_known, prepend_known, IsAtEnd};
-ghost use Rattle.relay_action.specs.Streams.{fresh, is_call, is_full, after_call, after_failure, after_read};
-ghost use Rattle.relay_action.specs.Streams.{after_write, given_count, taken_count, one_more, takes_some};
+ghost use Rattle.relay_action.specs.Streams.{fresh, is_call, is_full, after_call, after_failure};
+ghost use Rattle.relay_action.specs.Streams.{after_read};
+ghost use Rattle.relay_action.specs.Streams.{after_write, given_count, taken_count, one_more};
+ghost use Rattle.relay_action.specs.Streams.{takes_some};
 
 use crate::stream::{ByteIn, ByteOut, ByteStream, StreamFailed};
 use std::alloc::{AllocError, Global};
@@ -165,7 +167,8 @@ impl ByteOut for MemStream {
         // When the call fails, how many bytes it moves, and what was written.
         ensures fails { is_ok result ≡ not (is_full self.old) }
         ensures moves { IfOk result (λ n. n ≡ taken_count self.old (length bytes.now)) }
-        ensures after { IfOk result (λ n. self.new ≡ after_write (after_call self.old) (take n bytes.now)) }
+        ensures after { IfOk result
+            (λ n. self.new ≡ after_write (after_call self.old) (take n bytes.now)) }
         ensures kept { OnErr result (self.new ≡ after_failure (after_call self.old)) }
     {
         if self.begin() || self.output.len() == self.room {

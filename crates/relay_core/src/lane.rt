@@ -13,8 +13,10 @@ ghost use Rattle.relay_delivery.specs.Lane.{candidates};
 ghost use Rattle.relay_core.specs.Limits.{is_valid};
 ghost use Rattle.relay_core.specs.Walk.{report_of};
 ghost use Rattle.relay_core.specs.Memory.{SaysAs, IsHalf};
-ghost use Rattle.relay_core.specs.State.{fresh, after_put, after_take, take_fault, is_put, all_closed};
-ghost use Rattle.relay_core.specs.State.{after_tick, after_flush, is_flying, oldest, writes_of, with_answer};
+ghost use Rattle.relay_core.specs.State.{fresh, after_put, after_take, take_fault, is_put};
+ghost use Rattle.relay_core.specs.State.{all_closed};
+ghost use Rattle.relay_core.specs.State.{after_tick, after_flush, is_flying, oldest, writes_of};
+ghost use Rattle.relay_core.specs.State.{with_answer};
 ghost use Rattle.relay_core.specs.State.{AreCounts, next_batch, after_request, looks_after};
 ghost use Rattle.relay_core.specs.State.{looked_at_least, due_in, is_finished, IsLane};
 
@@ -497,7 +499,8 @@ impl Lane {
     pub fn whole(&mut self, number: u64, status: u16) -> Result<Settled, NotFlying>
         requires { status ≢ 200 }
         ensures flies { is_ok result ≡ is_flying number self.old.state }
-        ensures ok { OnOk result (self.new.state ≡ with_answer self.old.state number (Whole status)) }
+        ensures ok { OnOk result
+            (self.new.state ≡ with_answer self.old.state number (Whole status)) }
         ensures counts { IfOk result (λ c. AreCounts self.old.state number (Whole status) c) }
         ensures matched { IfOk result (λ c. c.matched ≡ true) }
         ensures unchanged { OnErr result (self.new ≡ self.old) }

@@ -7,7 +7,8 @@ ghost use Rattle.relay_http.specs.Fields.{Header, same_word, has_field, values_n
 ghost use Rattle.relay_http.specs.Fields.{elements_named, elements, number, agrees};
 ghost use Rattle.relay_http.specs.Codings.{coding_of, next_coding};
 ghost use Rattle.relay_http.specs.Framing.{framing_of, framing_of_fields, framing_of_request};
-ghost use Rattle.relay_http.specs.Framing.{is_chunked, is_interim, is_plain, framing_by_length, keeps};
+ghost use Rattle.relay_http.specs.Framing.{is_chunked, is_interim, is_plain, framing_by_length};
+ghost use Rattle.relay_http.specs.Framing.{keeps};
 
 use crate::elements::{all_agree, lists_word};
 use crate::fault::HttpFault;

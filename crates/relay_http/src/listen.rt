@@ -1,6 +1,7 @@
 //! Where connections come from.
 ghost use Rattle.std.specs.Prelude.{◌≡◌, IfOk, OnErr};
-ghost use Rattle.relay_http.specs.Listening.{Listening, shown_by, HandsOut, after_failure, with_done};
+ghost use Rattle.relay_http.specs.Listening.{Listening, shown_by, HandsOut, after_failure};
+ghost use Rattle.relay_http.specs.Listening.{with_done};
 
 use relay_action::ByteStream;
 use thiserror::Error;

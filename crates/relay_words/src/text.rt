@@ -1,7 +1,8 @@
 //! Texts that are appended to a vector.
 ghost use Rattle.std.specs.Prelude.{◌≡◌, ◌++◌, OnOk, OnErr, decimal};
 ghost use Rattle.relay_ndjson.specs.Bulk.{Begins};
-ghost use Rattle.relay_words.specs.Texts.{cause_text, document_text, epoch_text, name_text, spaced_number};
+ghost use Rattle.relay_words.specs.Texts.{cause_text, document_text, epoch_text, name_text};
+ghost use Rattle.relay_words.specs.Texts.{spaced_number};
 
 use itoa::Buffer;
 use relay_action::{DocKey, OpName};
@@ -30,8 +31,8 @@ pub fn add_spaced(text: &mut Vec<u8>, number: u64) -> Result<(), AllocError>
     done
 }
 
-/// Adds the name of an operation, `P:N` in epoch 0 and `E.P:N` in any other: its epoch, its producer, from 0,
-/// and its number, from 1.
+/// Adds the name of an operation, `P:N` in epoch 0 and `E.P:N` in any other: its epoch, its
+/// producer, from 0, and its number, from 1.
 pub fn add_name(text: &mut Vec<u8>, name: OpName) -> Result<(), AllocError>
     ensures ok { OnOk result (text.new.items ≡ text.old.items ++ name_text name) }
     ensures err { OnErr result (text.new.items ≡ text.old.items) }
@@ -71,7 +72,8 @@ pub fn add_cause(text: &mut Vec<u8>, cause: &Cause) -> Result<(), AllocError>
     done
 }
 
-// Appends a space and a number. After an error, part of it may be there; so with the functions below.
+// Appends a space and a number. After an error, part of it may be there; so with the functions
+// below.
 fn append_spaced(text: &mut Vec<u8>, number: u64) -> Result<(), AllocError>
     ensures ok { OnOk result (text.new.items ≡ text.old.items ++ spaced_number number) }
     ensures front { Begins text.old.items text.new.items }

@@ -15,7 +15,8 @@ ghost use Rattle.relay_world.specs.State.{running, write_at, place_dealt, incarn
 ghost use Rattle.relay_world.specs.Refusals.{entries_from, flies_at, put_refusal, close_refusal};
 ghost use Rattle.relay_world.specs.Refusals.{control_refusal, take_refusal, may_choose, is_flying};
 ghost use Rattle.relay_world.specs.Refusals.{entry_at, entries, is_above};
-ghost use Rattle.relay_world.specs.Changes.{after_put, at_lane, after_post, took_front, with_answer};
+ghost use Rattle.relay_world.specs.Changes.{after_put, at_lane, after_post, took_front};
+ghost use Rattle.relay_world.specs.Changes.{with_answer};
 ghost use Rattle.relay_world.specs.Changes.{answered_desk, after_restart, RunsItem};
 ghost use Rattle.relay_delivery.specs.Accounted.{accepted_in};
 ghost use Rattle.relay_world.specs.Steps.{Steps};
