@@ -60,5 +60,5 @@ taken_count s bytes = min bytes (min s.piece (s.room - length s.written))
 abbrev pub after_read : Memory → ℕ → Memory
 after_read s n = record s { left = drop n s.left }
 
-abbrev pub after_write : Memory → List ℕ → Memory
-after_write s bytes = record s { written = s.written ++ bytes }
+abbrev pub with_written : Memory → List ℕ → Memory
+with_written s bytes = record s { written = s.written ++ bytes }

@@ -4,7 +4,7 @@ ghost use Rattle.std.specs.Prelude.{None, Some, IfOk, OnErr, is_ok, if◌then◌
 ghost use Rattle.std.specs.Io.KnownBytes.{append_known, prepend_known, IsAtEnd};
 ghost use Rattle.relay_action.specs.Streams.{fresh, is_call, is_full, after_call, after_failure};
 ghost use Rattle.relay_action.specs.Streams.{after_read};
-ghost use Rattle.relay_action.specs.Streams.{after_write, given_count, taken_count, one_more};
+ghost use Rattle.relay_action.specs.Streams.{with_written, given_count, taken_count, one_more};
 ghost use Rattle.relay_action.specs.Streams.{takes_some};
 
 use crate::stream::{ByteIn, ByteOut, ByteStream, StreamFailed};
@@ -110,7 +110,7 @@ impl MemStream {
     // Appends a piece of the bytes to the output.
     fn take(&mut self, bytes: &[u8]) -> usize
         ensures count { result ≡ taken_count self.old (length bytes.now) }
-        ensures stream { self.new ≡ after_write self.old (take result bytes.now) }
+        ensures stream { self.new ≡ with_written self.old (take result bytes.now) }
     {
         let count = bytes
             .len()
@@ -168,7 +168,7 @@ impl ByteOut for MemStream {
         ensures fails { is_ok result ≡ not (is_full self.old) }
         ensures moves { IfOk result (λ n. n ≡ taken_count self.old (length bytes.now)) }
         ensures after { IfOk result
-            (λ n. self.new ≡ after_write (after_call self.old) (take n bytes.now)) }
+            (λ n. self.new ≡ with_written (after_call self.old) (take n bytes.now)) }
         ensures kept { OnErr result (self.new ≡ after_failure (after_call self.old)) }
     {
         if self.begin() || self.output.len() == self.room {

@@ -12,7 +12,7 @@ use Rattle.relay_results.specs.Documents.{document_of}
 use Rattle.relay_results.specs.Outside.{Answer}
 use Rattle.relay_results.specs.declared.cause.Cause.TheVariants as cause
 use Rattle.relay_results.specs.Fates.{Fate, Flies, Applied, Already, Retried, Halved, Reported, Tries, tried_again, fate, fate_of_entry, fate_of_verdict}
-use Rattle.relay_delivery.specs.Machine.{Config, fate_of, reported_one, reports_of, how_many}
+use Rattle.relay_delivery.specs.Machine.{Config, fate_of, reported_one, reports_from, how_many}
 use Rattle.relay_delivery.specs.Lane.{Entry, held_of, kept_entry, kept_entries}
 use Rattle.relay_results.proofs.Lists.{true_or_false, equal_test}
 use Rattle.relay_held.specs.declared.kept.Kept.{Kept}
@@ -200,21 +200,21 @@ module _ (g : Config) (clock n next : ℕ) (whole : Way) (all : List Write) (giv
       (true_or_false (flies_here n h.flies))
 
   pub reported_seen : (hs : List Kept) (p : ℕ) (ws : List Write) (os : List Outcome) → ws ≡ drop p all → os ≡ drop p given → Carries n p hs ws → AllKept g.max next hs
-      → reports_walk hs g.max n whole ws os ≡ reports_of g (n - 1) all a (held_of (entries hs f))
+      → reports_walk hs g.max n whole ws os ≡ reports_from g (n - 1) all a (held_of (entries hs f))
   reported_seen [] p ws os e o c k = refl
-  reported_seen (h ∷ hs) p ws os e o c k = ⊎_elim {C = reports_walk (h ∷ hs) g.max n whole ws os ≡ reports_of g (n - 1) all a (held_of (entries (h ∷ hs) f))}
+  reported_seen (h ∷ hs) p ws os e o c k = ⊎_elim {C = reports_walk (h ∷ hs) g.max n whole ws os ≡ reports_from g (n - 1) all a (held_of (entries (h ∷ hs) f))}
       (λ t.
       let m = met_here h hs p ws t c in
       let x = fate_met g.max whole h os in
       let ih = reported_seen hs (p + 1) (drop 1 ws) (drop 1 os) (ap (drop 1) e ∙ drop_more p all) (ap (drop 1) o ∙ drop_more p given) (met_rest h hs p ws t c) k.1 in
       ap (λ b. if b then reports_maybe x (slice_get ws 0) (h ∷ []) ++ reports_walk hs g.max n whole (drop 1 ws) (drop 1 os) else reports_walk hs g.max n whole ws os) t
       ∙ (λ i. reports_maybe x (got p h ws m i) (h ∷ []) ++ ih i)
-      ∙ ap (λ rs. rs ++ reports_of g (n - 1) all a (held_of (entries hs f))) (one_reported h m.write x m.matches.key ∙ ap (λ y. reported_one y (held_seen f h)) (sym (fate_met_here h p ws os e o m k.0))))
+      ∙ ap (λ rs. rs ++ reports_from g (n - 1) all a (held_of (entries hs f))) (one_reported h m.write x m.matches.key ∙ ap (λ y. reported_one y (held_seen f h)) (sym (fate_met_here h p ws os e o m k.0))))
       (λ t.
       let ih = reported_seen hs p ws os e o (past_rest h hs p ws t c) k.1 in
       ap (λ b. if b then reports_maybe (fate_met g.max whole h os) (slice_get ws 0) (h ∷ []) ++ reports_walk hs g.max n whole (drop 1 ws) (drop 1 os) else reports_walk hs g.max n whole ws os) t
       ∙ ih
-      ∙ sym (ap (λ y. reported_one y (held_seen f h) ++ reports_of g (n - 1) all a (held_of (entries hs f))) (fate_there h h.write h.flies k.0.home t)))
+      ∙ sym (ap (λ y. reported_one y (held_seen f h) ++ reports_from g (n - 1) all a (held_of (entries hs f))) (fate_there h h.write h.flies k.0.home t)))
       (true_or_false (flies_here n h.flies))
 
   pub tally_seen : (q : Fate → Bool) → q Flies ≡ false → (hs : List Kept) (p : ℕ) (ws : List Write) (os : List Outcome) → ws ≡ drop p all → os ≡ drop p given → Carries n p hs ws → AllKept g.max next hs

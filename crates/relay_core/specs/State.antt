@@ -85,11 +85,11 @@ after_flush s = record s { mark = mark_of s }
 abbrev pub bytes_of : State → Op → ℕ
 bytes_of s o = length (write_text (write_for o (version_at s.core.config s.core.taken)))
 
-abbrev pub after_put : State → Op → State
-after_put s o = record s { core = delivery.taken_op s.core o (bytes_of s o) }
+abbrev pub after_op : State → Op → State
+after_op s o = record s { core = delivery.taken_op s.core o (bytes_of s o) }
 
 abbrev pub after_take : State → ℕ → Body → State
-after_take s sender (body.Put o) = after_put s o
+after_take s sender (body.Put o) = after_op s o
 after_take s sender body.Tick = after_tick s
 after_take s sender body.Flush = after_flush s
 after_take s sender body.Done = record s { closed = slice_set s.closed sender true }
@@ -107,7 +107,7 @@ is_put body.Tick = false
 is_put body.Flush = false
 is_put body.Done = false
 
--- why a message is not after_put: the first cause that applies
+-- why a message is not after_op: the first cause that applies
 abbrev pub take_fault : State → ℕ → Body → Option TakeFault
 take_fault s sender b =
     if slice_index_or s.closed sender false then Some AfterClose
@@ -132,7 +132,7 @@ next_batch s =
 
 abbrev pub after_request : State → Option (List BatchItem) → State
 after_request s None = s
-after_request s (Some items) = record s { core = delivery.with_request s.core (next_entries s); flights = flight.with_batch items s.flights }
+after_request s (Some items) = record s { core = delivery.after_request_of s.core (next_entries s); flights = flight.with_batch items s.flights }
 
 -- the number of documents with held operations
 abbrev pub documents_of : State → ℕ
@@ -164,8 +164,8 @@ first_number (f ∷ fs) = Some (from_one f.request)
 abbrev pub oldest : State → Option ℕ
 oldest s = first_number s.core.flying
 
-abbrev pub with_answer : State → ℕ → Answer → State
-with_answer s number a = record s { core = delivery.with_answer s.core number a; flights = flight.without_batch number s.flights }
+abbrev pub after_answer_to : State → ℕ → Answer → State
+after_answer_to s number a = record s { core = delivery.after_answer_to s.core number a; flights = flight.without_batch number s.flights }
 
 abbrev pub is_reported_fate : fates.Fate → Bool
 is_reported_fate fates.Flies = false
@@ -184,15 +184,15 @@ is_retried_fate (fates.Halved cap) = true
 is_retried_fate (fates.Reported cause) = false
 
 -- the number of operations for which an answer has this fate
-abbrev pub count_of : (fates.Fate → Bool) → State → ℕ → Answer → ℕ
-count_of test s number a = how_many test s.core.config (from_zero number) (writes_of number s) a (delivery.held_of s.core.held)
+abbrev pub count_fates : (fates.Fate → Bool) → State → ℕ → Answer → ℕ
+count_fates test s number a = how_many test s.core.config (from_zero number) (writes_of number s) a (delivery.held_of s.core.held)
 
 -- the counts are those of the operations with these fates
 pub record AreCounts (s : State) (number : ℕ) (a : Answer) (c : Settled) : Type 0 where
-  pub applied : c.applied ≡ count_of is_applied_fate s number a
-  pub already : c.already ≡ count_of is_already_fate s number a
-  pub reported : c.reported ≡ count_of is_reported_fate s number a
-  pub retried : c.retried ≡ count_of is_retried_fate s number a
+  pub applied : c.applied ≡ count_fates is_applied_fate s number a
+  pub already : c.already ≡ count_fates is_already_fate s number a
+  pub reported : c.reported ≡ count_fates is_reported_fate s number a
+  pub retried : c.retried ≡ count_fates is_retried_fate s number a
 
 -- ---- looks
 

@@ -11,7 +11,7 @@ use Rattle.relay_delivery.specs.Machine.{first_in}
 use Rattle.relay_delivery.specs.Lane as delivery
 use Rattle.relay_delivery.specs.Lane.{writes_of_all}
 use Rattle.relay_core.specs.declared.config.RelayConfig.{RelayConfig}
-use Rattle.relay_core.specs.State.{State, fresh, after_take, is_flying, with_answer, next_batch, next_entries, after_request}
+use Rattle.relay_core.specs.State.{State, fresh, after_take, is_flying, after_answer_to, next_batch, next_entries, after_request}
 
 -- a lane that took these operations, and an outside, that came about by the same steps
 abbrev pub Fits : State → List Op → Outside → Type 0
@@ -51,4 +51,4 @@ abbrev pub AnswerFits : Type 0
 AnswerFits =
     (s : State) (number : ℕ) (a : Answer) (taken : List Op) (out : Outside) → is_flying number s ≡ true →
     MayAnswer out (from_zero number) a → Fits s taken out →
-    Fits (with_answer s number a) taken (after (Answers (from_zero number) a) out)
+    Fits (after_answer_to s number a) taken (after (Answers (from_zero number) a) out)

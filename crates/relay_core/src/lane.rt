@@ -13,10 +13,10 @@ ghost use Rattle.relay_delivery.specs.Lane.{candidates};
 ghost use Rattle.relay_core.specs.Limits.{is_valid};
 ghost use Rattle.relay_core.specs.Walk.{report_of};
 ghost use Rattle.relay_core.specs.Memory.{SaysAs, IsHalf};
-ghost use Rattle.relay_core.specs.State.{fresh, after_put, after_take, take_fault, is_put};
+ghost use Rattle.relay_core.specs.State.{fresh, after_op, after_take, take_fault, is_put};
 ghost use Rattle.relay_core.specs.State.{all_closed};
 ghost use Rattle.relay_core.specs.State.{after_tick, after_flush, is_flying, oldest, writes_of};
-ghost use Rattle.relay_core.specs.State.{with_answer};
+ghost use Rattle.relay_core.specs.State.{after_answer_to};
 ghost use Rattle.relay_core.specs.State.{AreCounts, next_batch, after_request, looks_after};
 ghost use Rattle.relay_core.specs.State.{looked_at_least, due_in, is_finished, IsLane};
 
@@ -238,7 +238,7 @@ impl Lane {
     // Takes an operation into a lane that has room for it.
     fn take_put(&mut self, op: Op) -> Result<(), NoRoom>
         requires { length self.old.state.core.held < self.old.state.config.max_held }
-        ensures ok { OnOk result (self.new.state ≡ after_put self.old.state op) }
+        ensures ok { OnOk result (self.new.state ≡ after_op self.old.state op) }
         ensures unchanged { OnErr result (self.new ≡ self.old) }
         ensures back { IfErr result (λ e. e.op ≡ op) }
         ensures looks { self.new.looks ≡ self.old.looks }
@@ -444,7 +444,7 @@ impl Lane {
         ensures flies { is_some result ≡ is_flying number self.old.state }
         ensures settled { OnSome result ((a : Answer)
             → SaysAs a (writes_of number self.old.state) whole outcomes.items
-            → self.new.state ≡ with_answer self.old.state number a) }
+            → self.new.state ≡ after_answer_to self.old.state number a) }
         ensures counts { IfSome result (λ c. (a : Answer)
             → SaysAs a (writes_of number self.old.state) whole outcomes.items
             → AreCounts self.old.state number a c) }
@@ -478,7 +478,7 @@ impl Lane {
     /// not allocate.
     pub fn lost(&mut self, number: u64) -> Result<Settled, NotFlying>
         ensures flies { is_ok result ≡ is_flying number self.old.state }
-        ensures ok { OnOk result (self.new.state ≡ with_answer self.old.state number Lost) }
+        ensures ok { OnOk result (self.new.state ≡ after_answer_to self.old.state number Lost) }
         ensures counts { IfOk result (λ c. AreCounts self.old.state number Lost c) }
         ensures matched { IfOk result (λ c. c.matched ≡ true) }
         ensures unchanged { OnErr result (self.new ≡ self.old) }
@@ -500,7 +500,7 @@ impl Lane {
         requires { status ≢ 200 }
         ensures flies { is_ok result ≡ is_flying number self.old.state }
         ensures ok { OnOk result
-            (self.new.state ≡ with_answer self.old.state number (Whole status)) }
+            (self.new.state ≡ after_answer_to self.old.state number (Whole status)) }
         ensures counts { IfOk result (λ c. AreCounts self.old.state number (Whole status) c) }
         ensures matched { IfOk result (λ c. c.matched ≡ true) }
         ensures unchanged { OnErr result (self.new ≡ self.old) }
@@ -525,7 +525,7 @@ impl Lane {
     pub fn reply(&mut self, number: u64, outcomes: Vec<Outcome>) -> Result<Settled, NotFlying>
         ensures flies { is_ok result ≡ is_flying number self.old.state }
         ensures ok { OnOk result
-            (self.new.state ≡ with_answer self.old.state number (Items outcomes.items)) }
+            (self.new.state ≡ after_answer_to self.old.state number (Items outcomes.items)) }
         ensures counts { IfOk result
             (λ c. AreCounts self.old.state number (Items outcomes.items) c) }
         ensures matched { IfOk result

@@ -11,7 +11,7 @@ use Rattle.relay_delivery.specs.Attribution.{IsAttribution}
 use Rattle.relay_delivery.specs.Machine.{Config}
 use Rattle.relay_delivery.specs.Delivery.{terms_of}
 use Rattle.relay_delivery.specs.Together.{Together, act, outside_of}
-use Rattle.relay_delivery.specs.Restarts.{Incarnation, incarnation_of, Life, born, Happening, Acts, Restarts, happen, EpochsAreAbove, MayBe, after_all, AllMayBe}
+use Rattle.relay_delivery.specs.Restarts.{Incarnation, incarnation_of, Life, born, Happening, Acts, Restarts, happen, EpochsAreAbove, MayBe, after_happenings, AllMayBe}
 use Rattle.relay_delivery.specs.Accounted.{accepted_over, op_dealt, ops_over, attributed_together, SoundTogether, CompleteTogether, FreshTogether, ActTogether, RestartTogether, TogetherMay, TogetherRuns, TogetherContinues, first_of}
 use Rattle.relay_delivery.proofs.Queues.{taken_distinct, was_accepted}
 use Rattle.relay_delivery.proofs.Versions.{version_in, version_there}
@@ -137,11 +137,11 @@ together_runs g lane_of ended s i place o from c may =
 pub fresh_together : FreshTogether
 fresh_together g lane_of s fresh = record { first = g; start = s; fresh = fresh; happenings = []; may = tt; reached = refl }
 
-lived_more : (lane_of : Document → ℕ) (hs : List Happening) (h : Happening) (l : Life) → after_all lane_of (hs ++ h ∷ []) l ≡ happen lane_of h (after_all lane_of hs l)
+lived_more : (lane_of : Document → ℕ) (hs : List Happening) (h : Happening) (l : Life) → after_happenings lane_of (hs ++ h ∷ []) l ≡ happen lane_of h (after_happenings lane_of hs l)
 lived_more lane_of [] h l = refl
 lived_more lane_of (x ∷ hs) h l = lived_more lane_of hs h (happen lane_of x l)
 
-may_more : (lane_of : Document → ℕ) (hs : List Happening) (h : Happening) (l : Life) → AllMayBe lane_of hs l → MayBe h (after_all lane_of hs l) → AllMayBe lane_of (hs ++ h ∷ []) l
+may_more : (lane_of : Document → ℕ) (hs : List Happening) (h : Happening) (l : Life) → AllMayBe lane_of hs l → MayBe h (after_happenings lane_of hs l) → AllMayBe lane_of (hs ++ h ∷ []) l
 may_more lane_of [] h l before may = (may, tt)
 may_more lane_of (x ∷ hs) h l before may = (before.0, may_more lane_of hs h (happen lane_of x l) before.1 may)
 
@@ -170,10 +170,10 @@ epochs_are_above e f deals more max least cap other lt few = record { epoch = lt
 
 -- ---- the one outside
 
-life_continues : (lane_of : Document → ℕ) (hs : List Happening) (l : Life) → LifeFacts lane_of l → AllMayBe lane_of hs l → Continues (outside_of lane_of l.together) (outside_of lane_of (after_all lane_of hs l).together)
+life_continues : (lane_of : Document → ℕ) (hs : List Happening) (l : Life) → LifeFacts lane_of l → AllMayBe lane_of hs l → Continues (outside_of lane_of l.together) (outside_of lane_of (after_happenings lane_of hs l).together)
 life_continues lane_of [] l f may = continues_itself (outside_of lane_of l.together)
 life_continues lane_of (Acts a ∷ hs) l f may =
-    continues_on (outside_of lane_of l.together) (outside_of lane_of (act l.config lane_of a l.together)) (outside_of lane_of (after_all lane_of hs (happen lane_of (Acts a) l)).together)
+    continues_on (outside_of lane_of l.together) (outside_of lane_of (act l.config lane_of a l.together)) (outside_of lane_of (after_happenings lane_of hs (happen lane_of (Acts a) l)).together)
     (act_continues l.config lane_of (IsOfThese l.ended) l.together f.together a may.0.0)
     (life_continues lane_of hs (happen lane_of (Acts a) l) (happen_keeps lane_of l f (Acts a) may.0) may.1)
 life_continues lane_of (Restarts g ∷ hs) l f may = life_continues lane_of hs (happen lane_of (Restarts g) l) (happen_keeps lane_of l f (Restarts g) may.0) may.1
@@ -183,7 +183,7 @@ first_push : (ps : List Incarnation) (p : Incarnation) (g : Config) → first_of
 first_push [] p g = refl
 first_push (q ∷ ps) p g = refl
 
-first_same : (lane_of : Document → ℕ) (hs : List Happening) (l : Life) → first_of (after_all lane_of hs l).ended (after_all lane_of hs l).config ≡ first_of l.ended l.config
+first_same : (lane_of : Document → ℕ) (hs : List Happening) (l : Life) → first_of (after_happenings lane_of hs l).ended (after_happenings lane_of hs l).config ≡ first_of l.ended l.config
 first_same lane_of [] l = refl
 first_same lane_of (Acts a ∷ hs) l = first_same lane_of hs (happen lane_of (Acts a) l)
 first_same lane_of (Restarts g ∷ hs) l = first_same lane_of hs (happen lane_of (Restarts g) l) ∙ first_push l.ended (incarnation_of l.config l.together) g

@@ -15,7 +15,7 @@ use Rattle.relay_results.specs.Laws.{Says}
 use Rattle.relay_results.specs.declared.cause.Cause.TheVariants as cause
 use Rattle.relay_delivery.specs.Causes.{carries, is_try, CarriedAt, IsAnswered, IsTrueOf}
 use Rattle.relay_results.proofs.Same.{same_write-self}
-use Rattle.relay_delivery.specs.Machine.{Config, Core, Held, Place, Report, write_of, report_on, back_to_wait, with_cap, still_held, reports_of, writes_or, settle, how_many, is_applied_fate, is_already_fate}
+use Rattle.relay_delivery.specs.Machine.{Config, Core, Held, Place, Report, write_of, report_on, back_to_wait, with_cap, still_held, reports_from, writes_or, settle, how_many, is_applied_fate, is_already_fate}
 use Rattle.relay_results.proofs.Fates.{says_as, halved_retried, honest_entry}
 use Rattle.relay_results.proofs.Lists.{equal, equal_or_not, at-Mem, Mem-cases, Mem-left, Mem-right, at-update-cases, at-update_same, at-update_other, true_or_false, count-update, count-update_at, count-append, count_some, some_same}
 use Rattle.relay_delivery.proofs.Facts.{IsSent, HeldFact, RunFact, IndexFact, ReportFact, IsSomewhere, CoreFacts, is_report_as}
@@ -323,7 +323,7 @@ module _ (g : Config) (past : Write → Type 0) (c : Core) (f : CoreFacts g past
       let h = kept-from g number q.writes a c.held k m in
       (h.0, h.1, h.2, kept_version (turn g number q.writes a h.0) h.0 k h.2)
 
-  -- what stays held is not reports_of
+  -- what stays held is not reports_from
   not_reported : (t : Fate) (h k : Held) (e : Cause) → StaysAs t h k → t ≡ Reported e → ⊥
   not_reported t h k e s r = ⊎_elim {C = ⊥} (λ y. let z = y.0 in cc (z, r)) (λ s. ⊎_elim {C = ⊥} (λ y. let z = y.0 in cc (z, r)) (λ y. let z = y.1 in cc (z, r)) s) s
 
@@ -379,7 +379,7 @@ module _ (g : Config) (past : Write → Type 0) (c : Core) (f : CoreFacts g past
   index-stays k h = record { sent = λ w m. sent-stays w (h.sent w m); document = h.document; rising = h.rising; above = h.above; from = h.from }
 
   abbrev settled_core : Core
-  settled_core = record { taken = c.taken; held = still_held g number q.writes a c.held; reports = c.reports ++ reports_of g number q.writes a c.held; applied = c.applied + how_many is_applied_fate g number q.writes a c.held; already = c.already + how_many is_already_fate g number q.writes a c.held; outside = later }
+  settled_core = record { taken = c.taken; held = still_held g number q.writes a c.held; reports = c.reports ++ reports_from g number q.writes a c.held; applied = c.applied + how_many is_applied_fate g number q.writes a c.held; already = c.already + how_many is_already_fate g number q.writes a c.held; outside = later }
 
   held_kept : (k : Held) → Mem k (still_held g number q.writes a c.held) → HeldFact g c.taken new k
   held_kept k m =
@@ -423,12 +423,12 @@ module _ (g : Config) (past : Write → Type 0) (c : Core) (f : CoreFacts g past
       (λ y. inl (record { held_op = y.0; is_in = y.1; version = y.2 ∙ h.version }))
       (λ z. ⊎_elim
       (λ y. inr (inl (record { write = write_of h.held_op; is_in = subst (λ p. Mem (write_of h.held_op) (c.outside.applied (document_of p.key))) same (ended h.held_op h.is_in y); version = h.version })))
-      (λ y. inr (inr (record { report = report_on h.held_op.op y.0; is_in = Mem-right (report_on h.held_op.op y.0) c.reports (reports_of g number q.writes a c.held) y.1; name = ap (λ p. (report_on p y.0).name) same })))
+      (λ y. inr (inr (record { report = report_on h.held_op.op y.0; is_in = Mem-right (report_on h.held_op.op y.0) c.reports (reports_from g number q.writes a c.held) y.1; name = ap (λ p. (report_on p y.0).name) same })))
       z)
       (goes_to g number q.writes a c.held h.held_op h.is_in))
       (λ z. ⊎_elim
       (λ y. inr (inl y))
-      (λ p. inr (inr (record { report = p.report; is_in = Mem-left p.report c.reports (reports_of g number q.writes a c.held) p.is_in; name = p.name })))
+      (λ p. inr (inr (record { report = p.report; is_in = Mem-left p.report c.reports (reports_from g number q.writes a c.held) p.is_in; name = p.name })))
       z)
       x
 
@@ -446,15 +446,15 @@ module _ (g : Config) (past : Write → Type 0) (c : Core) (f : CoreFacts g past
         (λ y.
         let h = reported-from g number q.writes a c.held r y in
         subst (λ z. ReportFact g c.taken (still_held g number q.writes a c.held) later z) (sym h.2.2) (new_report h.0 h.1 h.2.0 h.2.1))
-        (Mem-cases r c.reports (reports_of g number q.writes a c.held) m);
+        (Mem-cases r c.reports (reports_from g number q.writes a c.held) m);
     apart = λ n.
-        let e = count-append (is_report_as n) c.reports (reports_of g number q.writes a c.held) in
+        let e = count-append (is_report_as n) c.reports (reports_from g number q.writes a c.held) in
         let s = count-settled g number q.writes a n c.held in
         let b = f.apart n in omega arith;
     totals =
         let t = f.totals in
         let e = totals-settled g number q.writes a c.held in
-        let r = length-append c.reports (reports_of g number q.writes a c.held) in
+        let r = length-append c.reports (reports_from g number q.writes a c.held) in
         omega (arith, t, r, e);
     nothing_lost = λ place o s. somewhere place o s (f.nothing_lost place o s);
   }
@@ -467,7 +467,7 @@ answer_keeps g past c f number a may =
     subst (λ p. CoreFacts g past (record {
       taken = c.taken;
       held = still_held g number (writes_or p) a c.held;
-      reports = c.reports ++ reports_of g number (writes_or p) a c.held;
+      reports = c.reports ++ reports_from g number (writes_or p) a c.held;
       applied = c.applied + how_many is_applied_fate g number (writes_or p) a c.held;
       already = c.already + how_many is_already_fate g number (writes_or p) a c.held;
       outside = record { requests = update number (with_answer a) c.outside.requests; runs = c.outside.runs; stored = c.outside.stored; before = c.outside.before; applied = c.outside.applied };

@@ -11,7 +11,7 @@ use Rattle.relay_results.specs.Outside.{Answer}
 use Rattle.relay_results.specs.Fates.{Fate, Flies, Applied, Already, Retried, Halved, Reported, fate}
 use Rattle.relay_results.proofs.Lists.{equal, equal_test, some_same, Mem-cases, Mem-left, Mem-right, Mem-one, count-append}
 use Rattle.relay_results.proofs.Fates.{retried_tries}
-use Rattle.relay_delivery.specs.Machine.{Config, Held, Place, Report, report_on, fate_of, back_to_wait, with_cap, kept_one, reported_one, still_held, reports_of, is_applied_fate, is_already_fate, how_many}
+use Rattle.relay_delivery.specs.Machine.{Config, Held, Place, Report, report_on, fate_of, back_to_wait, with_cap, kept_one, reported_one, still_held, reports_from, is_applied_fate, is_already_fate, how_many}
 use Rattle.relay_delivery.proofs.Facts.{AreRising, is_held_as, is_report_as}
 
 -- what stays held of one: as it is, or waiting again, or waiting under a cap
@@ -81,14 +81,14 @@ module _ (g : Config) (number : ℕ) (ws : List Write) (a : Answer) where
   reported_head (Halved cap) h r m = elim m [ ]
   reported_head (Reported e) h r m = (e, refl, Mem-one r (report_on h.op e) m)
 
-  pub reported-from : (hs : List Held) (r : Report) → Mem r (reports_of g number ws a hs) → (h : Held) × Mem h hs × ((e : Cause) × (turn h ≡ Reported e) × (r ≡ report_on h.op e))
+  pub reported-from : (hs : List Held) (r : Report) → Mem r (reports_from g number ws a hs) → (h : Held) × Mem h hs × ((e : Cause) × (turn h ≡ Reported e) × (r ≡ report_on h.op e))
   reported-from [] r m = elim m [ ]
   reported-from (h ∷ hs) r m = ⊎_elim
       (λ l. (h, inl refl, reported_head (turn h) h r l))
       (λ y. let s = reported-from hs r y in (s.0, inr s.1, s.2))
-      (Mem-cases r (reported_one (turn h) h) (reports_of g number ws a hs) m)
+      (Mem-cases r (reported_one (turn h) h) (reports_from g number ws a hs) m)
 
-  -- it stays held, or it is done, or it is reports_of
+  -- it stays held, or it is done, or it is reports_from
   abbrev pub GoesTo : Held → List Held → List Report → Type 0
   GoesTo h ks rs = ((k : Held) × Mem k ks × (k.version ≡ h.version)) ⊎ (((turn h ≡ Applied) ⊎ (turn h ≡ Already)) ⊎ ((e : Cause) × Mem (report_on h.op e) rs))
 
@@ -106,12 +106,12 @@ module _ (g : Config) (number : ℕ) (ws : List Write) (a : Answer) where
   goes_right : (h : Held) (ks ks' : List Held) (rs rs' : List Report) → GoesTo h ks' rs' → GoesTo h (ks ++ ks') (rs ++ rs')
   goes_right h ks ks' rs rs' w = ⊎_elim (λ m. inl (m.0, Mem-right m.0 ks ks' m.1, m.2)) (λ r. inr (⊎_elim (λ e. inl e) (λ m. inr (m.0, Mem-right (report_on h.op m.0) rs rs' m.1)) r)) w
 
-  pub goes_to : (hs : List Held) (h : Held) → Mem h hs → GoesTo h (still_held g number ws a hs) (reports_of g number ws a hs)
+  pub goes_to : (hs : List Held) (h : Held) → Mem h hs → GoesTo h (still_held g number ws a hs) (reports_from g number ws a hs)
   goes_to [] h m = elim m [ ]
   goes_to (k ∷ hs) h m = ⊎_elim
-      (λ e. subst (λ x. GoesTo x (still_held g number ws a (k ∷ hs)) (reports_of g number ws a (k ∷ hs))) (sym e)
-      (goes_left k (kept_one (turn k) k) (still_held g number ws a hs) (reported_one (turn k) k) (reports_of g number ws a hs) (goes_head (turn k) k refl)))
-      (λ r. goes_right h (kept_one (turn k) k) (still_held g number ws a hs) (reported_one (turn k) k) (reports_of g number ws a hs) (goes_to hs h r))
+      (λ e. subst (λ x. GoesTo x (still_held g number ws a (k ∷ hs)) (reports_from g number ws a (k ∷ hs))) (sym e)
+      (goes_left k (kept_one (turn k) k) (still_held g number ws a hs) (reported_one (turn k) k) (reports_from g number ws a hs) (goes_head (turn k) k refl)))
+      (λ r. goes_right h (kept_one (turn k) k) (still_held g number ws a hs) (reported_one (turn k) k) (reports_from g number ws a hs) (goes_to hs h r))
       m
 
   count_head : (n : OpName) (t : Fate) (h : Held) → count (is_held_as n) (kept_one t h) + count (is_report_as n) (reported_one t h) ≤ one_if (same_name n (name_of h.op))
@@ -122,14 +122,14 @@ module _ (g : Config) (number : ℕ) (ws : List Write) (a : Answer) where
   count_head n (Halved cap) h = omega arith
   count_head n (Reported e) h = omega arith
 
-  -- none is held or reports_of twice for it
-  pub count-settled : (n : OpName) (hs : List Held) → count (is_held_as n) (still_held g number ws a hs) + count (is_report_as n) (reports_of g number ws a hs) ≤ count (is_held_as n) hs
+  -- none is held or reports_from twice for it
+  pub count-settled : (n : OpName) (hs : List Held) → count (is_held_as n) (still_held g number ws a hs) + count (is_report_as n) (reports_from g number ws a hs) ≤ count (is_held_as n) hs
   count-settled n [] = omega arith
   count-settled n (h ∷ hs) =
       let r = count-settled n hs in
       let e = count_head n (turn h) h in
       let k = count-append (is_held_as n) (kept_one (turn h) h) (still_held g number ws a hs) in
-      let p = count-append (is_report_as n) (reported_one (turn h) h) (reports_of g number ws a hs) in
+      let p = count-append (is_report_as n) (reported_one (turn h) h) (reports_from g number ws a hs) in
       omega arith
 
   rising_head : (t : Fate) (h : Held) (ks : List Held) → ((k : Held) → Mem k ks → h.version < k.version) → AreRising ks → AreRising (kept_one t h ++ ks)
@@ -157,14 +157,14 @@ module _ (g : Config) (number : ℕ) (ws : List Write) (a : Answer) where
   totals_head (Halved cap) h = refl
   totals_head (Reported e) h = refl
 
-  -- each operation stays held, is done or is reports_of
-  pub totals-settled : (hs : List Held) → length (still_held g number ws a hs) + (how_many is_applied_fate g number ws a hs + how_many is_already_fate g number ws a hs) + length (reports_of g number ws a hs) ≡ length hs
+  -- each operation stays held, is done or is reports_from
+  pub totals-settled : (hs : List Held) → length (still_held g number ws a hs) + (how_many is_applied_fate g number ws a hs + how_many is_already_fate g number ws a hs) + length (reports_from g number ws a hs) ≡ length hs
   totals-settled [] = refl
   totals-settled (h ∷ hs) =
       let r = totals-settled hs in
       let e = totals_head (turn h) h in
       let k = length-append (kept_one (turn h) h) (still_held g number ws a hs) in
-      let p = length-append (reported_one (turn h) h) (reports_of g number ws a hs) in
+      let p = length-append (reported_one (turn h) h) (reports_from g number ws a hs) in
       omega arith
 
   -- it does not fly in this request; or it flies there, and the answer has its fate

@@ -14,8 +14,8 @@ use Rattle.relay_results.specs.Outside as outside
 use Rattle.relay_results.specs.Fates.{Fate, Flies, Applied, Already, Retried, Halved, Reported}
 use Rattle.relay_results.proofs.Same.{same_document-self}
 use Rattle.relay_results.proofs.Steps.{step_runs_item}
-use Rattle.relay_delivery.specs.Machine.{Config, Core, Held, Place, Step, Takes, Sends, Runs, Answers, held_if, spent_if, after_launch, fate_of, kept_one, still_held, reports_of, how_many, is_applied_fate, is_already_fate, writes_or, step, KeepsCaps, IsEligible, MaySend, MayStep, CameAbout}
-use Rattle.relay_delivery.specs.Lane.{Entry, Flying, State, held_of, entry_if, taken_op, waits, is_candidate, candidates, launched_entry, writes_of_all, with_request, kept_entry, kept_entries, is_other, after_settling, IsOf, writes_at, is_flying, with_answer, Fits, FreshFits, ClockFits, TakeFits, SendFits, RunFits, AnswerFits, SoundWhereItFits, CompleteWhereItFits, TotalWhereItFits, WritesWhereItFits, EarliestWhereItFits, OneFliesWhereItFits, tries_of, SendTakesTry, AnswerGivesNoTry}
+use Rattle.relay_delivery.specs.Machine.{Config, Core, Held, Place, Step, Takes, Sends, Runs, Answers, held_if, spent_if, after_launch, fate_of, kept_one, still_held, reports_from, how_many, is_applied_fate, is_already_fate, writes_or, step, KeepsCaps, IsEligible, MaySend, MayStep, CameAbout}
+use Rattle.relay_delivery.specs.Lane.{Entry, Flying, State, held_of, entry_if, taken_op, waits, is_candidate, candidates, launched_entry, writes_of_all, after_request_of, kept_entry, kept_entries, is_other, after_settling, IsOf, writes_at, is_flying, after_answer_to, Fits, FreshFits, ClockFits, TakeFits, SendFits, RunFits, AnswerFits, SoundWhereItFits, CompleteWhereItFits, TotalWhereItFits, WritesWhereItFits, EarliestWhereItFits, OneFliesWhereItFits, tries_of, SendTakesTry, AnswerGivesNoTry}
 use Rattle.relay_delivery.specs.Delivery.{applied_ops, IsSound, IsComplete, IsDealtWrite}
 use Rattle.relay_delivery.specs.Bound.{tries_left}
 use Rattle.relay_delivery.proofs.Bounded.{within_tries_left, left-kept, all_tries}
@@ -113,7 +113,7 @@ pub held_launched : (n : ℕ) (hs : List Held) (es : List Entry) → held_of (ma
 held_launched n hs [] = refl
 held_launched n hs (e ∷ es) = ap (λ xs. after_launch n hs e.held ∷ xs) (held_launched n hs es)
 
-pub send_is_of : (s : State) (c : Core) (chosen : List Entry) → IsOf s c → IsOf (with_request s chosen) (step s.config (Sends (held_of chosen)) c)
+pub send_is_of : (s : State) (c : Core) (chosen : List Entry) → IsOf s c → IsOf (after_request_of s chosen) (step s.config (Sends (held_of chosen)) c)
 send_is_of s c chosen is =
     let new : Request = record { writes = writes_of_all chosen; answer = Unanswered } in
     record {
@@ -136,7 +136,7 @@ send_is_of s c chosen is =
 
 pub send_fits : SendFits
 send_fits s chosen taken out part within f =
-    next s (with_request s chosen) taken taken out (after (outside.Sends (writes_of_all chosen)) out) f (Sends (held_of chosen)) refl
+    next s (after_request_of s chosen) taken taken out (after (outside.Sends (writes_of_all chosen)) out) f (Sends (held_of chosen)) refl
     (may_send none_past s f.core chosen part within f.is_of (facts_of s.config f.core f.came_about)) (send_is_of s f.core chosen f.is_of) f.took
     (ap (after (outside.Sends (writes_of_all chosen))) f.outside)
 
@@ -183,7 +183,7 @@ settle_is_of s c number ws a flies is =
     record {
       taken = is.taken;
       held = held_kept s.config s.clock number ws a s.held ∙ (λ i. still_held s.config number (here i) a (is.held i));
-      reports = λ i. is.reports i ++ reports_of s.config number (here i) a (is.held i);
+      reports = λ i. is.reports i ++ reports_from s.config number (here i) a (is.held i);
       applied = λ i. is.applied i + how_many is_applied_fate s.config number (here i) a (is.held i);
       already = λ i. is.already i + how_many is_already_fate s.config number (here i) a (is.held i);
       requests = is.requests ∙ sym (length-update number (with_answer a) c.outside.requests);
@@ -204,18 +204,18 @@ flies_at (x ∷ xs) n t = ⊎_elim {C = Mem (record { request = n - 1; writes = 
     inr (subst (λ ws. Mem (record { request = n - 1; writes = ws }) xs) (sym (ap (λ b. if b then x.writes else writes_at (n - 1) xs) u)) (flies_at xs n rest)))
     (true_or_false (x.request == n - 1))
 
--- a request in flight was not with_answer
+-- a request in flight was not after_answer_to
 pub flies_unanswered : (s : State) (c : Core) (number : ℕ) → is_flying number s ≡ true → IsOf s c
     → slice_get c.outside.requests (from_zero number) ≡ Some (record { writes = writes_at (from_zero number) s.flying; answer = Unanswered })
 flies_unanswered s c number flies is = is.flying (record { request = from_zero number; writes = writes_at (from_zero number) s.flying }) (flies_at s.flying number flies)
 
-pub answer_is_of : (s : State) (c : Core) (number : ℕ) (a : Answer) → is_flying number s ≡ true → IsOf s c → IsOf (with_answer s number a) (step s.config (Answers (from_zero number) a) c)
+pub answer_is_of : (s : State) (c : Core) (number : ℕ) (a : Answer) → is_flying number s ≡ true → IsOf s c → IsOf (after_answer_to s number a) (step s.config (Answers (from_zero number) a) c)
 answer_is_of s c number a flies is = settle_is_of s c (from_zero number) (writes_at (from_zero number) s.flying) a (flies_at s.flying number flies) is
 
 pub answer_fits : AnswerFits
 answer_fits s number a taken out flies may f =
     let may' : MayAnswer f.core.outside (from_zero number) a = subst (λ o. MayAnswer o (from_zero number) a) (sym f.outside) may in
-    next s (with_answer s number a) taken taken out (after (outside.Answers (from_zero number) a) out) f (Answers (from_zero number) a) refl may'
+    next s (after_answer_to s number a) taken taken out (after (outside.Answers (from_zero number) a) out) f (Answers (from_zero number) a) refl may'
     (answer_is_of s f.core number a flies f.is_of) f.took (ap (after (outside.Answers (from_zero number) a)) f.outside)
 
 -- ---- at the start, and what is promised
@@ -306,7 +306,7 @@ send_takes_try s chosen taken out some ne part within f =
     let longer = length-append f.core.outside.requests (record { writes = writes_of_all chosen; answer = Unanswered } ∷ []) in
     let new : List Request = record { writes = writes_of_all chosen; answer = Unanswered } ∷ [] in
     let one : length new ≡ 1 = refl in
-    let now : tries_of (with_request s chosen) ≡ tries_left s.config.max (map (after_launch (length f.core.outside.requests) (held_of chosen)) f.core.held) =
+    let now : tries_of (after_request_of s chosen) ≡ tries_left s.config.max (map (after_launch (length f.core.outside.requests) (held_of chosen)) f.core.held) =
     ap (tries_left s.config.max) (held_launched s.requests (held_of chosen) s.held ∙ (λ i. map (after_launch (is.requests i) (held_of chosen)) (is.held i))) in
     let before : tries_of s ≡ tries_left s.config.max f.core.held = ap (tries_left s.config.max) is.held in
     omega (arith, n, longer, one, now, before)

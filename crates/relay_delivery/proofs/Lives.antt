@@ -9,7 +9,7 @@ use Rattle.relay_results.proofs.Lists.{at-Mem, Mem-at, Mem-left, Mem-last, Mem-p
 use Rattle.relay_delivery.specs.Attribution.{is_from}
 use Rattle.relay_delivery.specs.Machine.{Config}
 use Rattle.relay_delivery.specs.Together.{Together}
-use Rattle.relay_delivery.specs.Restarts.{Incarnation, incarnation_of, Life, born, restarted_core, restarted_lanes, Happening, Acts, Restarts, happen, IsAbove, MayBe, after_all, AllMayBe, CameAboutTogether}
+use Rattle.relay_delivery.specs.Restarts.{Incarnation, incarnation_of, Life, born, restarted_core, restarted_lanes, Happening, Acts, Restarts, happen, IsAbove, MayBe, after_happenings, AllMayBe, CameAboutTogether}
 use Rattle.relay_delivery.proofs.Facts.{IsOfOne, IsSent, CoreFacts}
 use Rattle.relay_delivery.proofs.Queues.{LanesFacts, taken_distinct, was_accepted}
 use Rattle.relay_delivery.proofs.Joined.{taken_order}
@@ -166,7 +166,7 @@ pub happen_keeps : (lane_of : Document → ℕ) (l : Life) → LifeFacts lane_of
 happen_keeps lane_of l f (Acts a) may = record { together = act_keeps l.config lane_of (IsOfThese l.ended) l.together f.together a may.0; above = f.above; each = f.each }
 happen_keeps lane_of l f (Restarts g) may = restart_keeps lane_of l f g may
 
-all_keep : (lane_of : Document → ℕ) (hs : List Happening) (l : Life) → LifeFacts lane_of l → AllMayBe lane_of hs l → LifeFacts lane_of (after_all lane_of hs l)
+all_keep : (lane_of : Document → ℕ) (hs : List Happening) (l : Life) → LifeFacts lane_of l → AllMayBe lane_of hs l → LifeFacts lane_of (after_happenings lane_of hs l)
 all_keep lane_of [] l f may = f
 all_keep lane_of (h ∷ hs) l f may = all_keep lane_of hs (happen lane_of h l) (happen_keeps lane_of l f h may.0) may.1
 

@@ -12,8 +12,8 @@ use Rattle.relay_results.specs.Numbers.{from_one, from_zero}
 use Rattle.relay_results.specs.Fates.{Fate, Flies, Applied, Already, Retried, Halved, Reported, fate}
 use Rattle.relay_action.specs.Actions.{kind_of}
 use Rattle.relay_results.proofs.Lists.{true_or_false, equal, equal_test, any_true, sub-map}
-use Rattle.relay_delivery.specs.Machine.{Config, Core, Held, Place, Takes, Sends, Answers, step, write_of, KeepsCaps, MaySend, place_of, launched_at, fate_of, reported_one, reports_of, how_many, is_applied_fate, is_already_fate}
-use Rattle.relay_delivery.specs.Lane.{Entry, Flying, State, held_of, entry_if, taken_op, waits, is_later, is_candidate, candidates, launched_entry, writes_of_all, with_request, kept_entry, kept_entries, is_other, after_settling, writes_at, is_flying, with_answer, fresh_state, IsOf}
+use Rattle.relay_delivery.specs.Machine.{Config, Core, Held, Place, Takes, Sends, Answers, step, write_of, KeepsCaps, MaySend, place_of, launched_at, fate_of, reported_one, reports_from, how_many, is_applied_fate, is_already_fate}
+use Rattle.relay_delivery.specs.Lane.{Entry, Flying, State, held_of, entry_if, taken_op, waits, is_later, is_candidate, candidates, launched_entry, writes_of_all, after_request_of, kept_entry, kept_entries, is_other, after_settling, writes_at, is_flying, after_answer_to, fresh_state, IsOf}
 use Rattle.relay_delivery.specs.Restarts.{restarted_core}
 use Rattle.relay_delivery.proofs.Facts.{CoreFacts}
 use Rattle.relay_delivery.proofs.Fitting.{take_is_of, may_send, send_is_of, flies_unanswered, answer_is_of}
@@ -142,7 +142,7 @@ reported_on n Retried h = refl
 reported_on n (Halved cap) h = refl
 reported_on n (Reported cause) h = refl
 
-reported_all : (g : Config) (n request : ℕ) (ws : List Write) (a : Answer) (es : List Entry) → reports_of g (n + request) ws a (held_of (map (entry_on n) es)) ≡ reports_of g request ws a (held_of es)
+reported_all : (g : Config) (n request : ℕ) (ws : List Write) (a : Answer) (es : List Entry) → reports_from g (n + request) ws a (held_of (map (entry_on n) es)) ≡ reports_from g request ws a (held_of es)
 reported_all g n request ws a [] = refl
 reported_all g n request ws a (e ∷ es) =
     let x = fate_on g n request ws a e.held e.held.flies in
@@ -210,7 +210,7 @@ answers_on n s number a t =
 
 -- ---- the core that a lane numbered on stands for
 
--- a lane that begins anew, beside what it had with_request
+-- a lane that begins anew, beside what it had after_request_of
 pub fresh_on : (g : Config) (c : Core) → IsOf (numbered_on (length c.outside.requests) (fresh_state g)) (restarted_core c)
 fresh_on g c = record {
   taken = refl;
@@ -225,7 +225,7 @@ fresh_on g c = record {
 pub take_on : (n : ℕ) (s : State) (c : Core) (o : Op) (bytes : ℕ) → IsOf (numbered_on n s) c → IsOf (numbered_on n (taken_op s o bytes)) (step s.config (Takes o) c)
 take_on n s c o bytes is = subst (λ t. IsOf t (step s.config (Takes o) c)) (takes_on n s o bytes) (take_is_of (numbered_on n s) c o bytes is)
 
--- what is with_request, numbered on
+-- what is after_request_of, numbered on
 abbrev pub chosen_on : ℕ → List Entry → List Held
 chosen_on n chosen = held_of (map (entry_on n) chosen)
 
@@ -252,7 +252,7 @@ caps_on n chosen caps more h m =
 pub may_send_on : (past : Write → Type 0) (n : ℕ) (s : State) (c : Core) (chosen : List Entry) → IsSubsequence chosen (candidates s) → KeepsCaps (held_of chosen) → IsOf (numbered_on n s) c → CoreFacts s.config past c → MaySend c (chosen_on n chosen)
 may_send_on past n s c chosen part caps is facts = may_send past (numbered_on n s) c (map (entry_on n) chosen) (part_on n s chosen part) (caps_on n chosen caps) is facts
 
-pub send_on : (n : ℕ) (s : State) (c : Core) (chosen : List Entry) → IsOf (numbered_on n s) c → IsOf (numbered_on n (with_request s chosen)) (step s.config (Sends (chosen_on n chosen)) c)
+pub send_on : (n : ℕ) (s : State) (c : Core) (chosen : List Entry) → IsOf (numbered_on n s) c → IsOf (numbered_on n (after_request_of s chosen)) (step s.config (Sends (chosen_on n chosen)) c)
 send_on n s c chosen is = subst (λ t. IsOf t (step s.config (Sends (chosen_on n chosen)) c)) (sends_on n s chosen) (send_is_of (numbered_on n s) c (map (entry_on n) chosen) is)
 
 -- the writes are the same
@@ -269,7 +269,7 @@ unanswered_on n s c number t is =
     ∙ ap (λ ws. Some (record { writes = ws; answer = Unanswered })) (writes_on n (number - 1) s.flying)
 
 pub answer_on : (n : ℕ) (s : State) (c : Core) (number : ℕ) (a : Answer) → is_flying number s ≡ true → IsOf (numbered_on n s) c
-    → IsOf (numbered_on n (with_answer s number a)) (step s.config (Answers (from_zero (n + number)) a) c)
+    → IsOf (numbered_on n (after_answer_to s number a)) (step s.config (Answers (from_zero (n + number)) a) c)
 answer_on n s c number a t is =
     subst (λ x. IsOf x (step s.config (Answers (from_zero (n + number)) a) c)) (answers_on n s number a t)
     (answer_is_of (numbered_on n s) c (n + number) a (flies_on n number s ∙ t) is)

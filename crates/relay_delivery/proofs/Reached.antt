@@ -1,4 +1,4 @@
--- What holds of a lane whatever it is with_answer.
+-- What holds of a lane whatever it is after_answer_to.
 use Rattle.std.proofs.Common.{◌≡◌, ◌≢◌, ℕ, true, zero, suc, ◌+◌, ◌<◌, List, [], ◌∷◌, ◌++◌, length, Option, Some, None, ◌==◌, refl, sym, ap, ◌∙◌, subst, ⊎_elim, inl, inr, arith, length-append, append-nil, append_assoc}
 use Rattle.std.specs.Prelude.{slice_get, nat_lt, map, filter, not}
 use Rattle.std.proofs.lemmas.List.{map-append, length-map}
@@ -13,8 +13,8 @@ use Rattle.relay_action.specs.Actions.{kind_of}
 use Rattle.relay_results.specs.Fates.{Flies}
 use Rattle.relay_results.proofs.Fates.{says_as}
 use Rattle.relay_results.proofs.Lists.{true_or_false, equal, equal_test, not_true, some_same, filter-Mem, Mem-last, at-Mem, at-last, at-map, map-at, Mem-at, Mem-cases, Mem-left, Mem-one, Mem-map, map-Mem, Mem-filter, filter_sub, AllDistinct-sub, sub-map, distinct_places}
-use Rattle.relay_delivery.specs.Machine.{Config, Held, Place, write_of, held_if, spent_if, place_of, launched_at, after_launch, still_held, reports_of}
-use Rattle.relay_delivery.specs.Lane.{Entry, Flying, State, held_of, entry_if, taken_op, candidates, launched_entry, writes_of_all, with_request, is_other, after_settling, writes_at, with_answer, fresh_state}
+use Rattle.relay_delivery.specs.Machine.{Config, Held, Place, write_of, held_if, spent_if, place_of, launched_at, after_launch, still_held, reports_from}
+use Rattle.relay_delivery.specs.Lane.{Entry, Flying, State, held_of, entry_if, taken_op, candidates, launched_entry, writes_of_all, after_request_of, is_other, after_settling, writes_at, after_answer_to, fresh_state}
 use Rattle.relay_delivery.specs.Reached.{Call, Takes, Ticks, Sends, Answers, call, MayCall, calls_of, AllMayCall, taken_by, taken_in, Reached, place_at, IsInFlight, documents_of, ReachedHolds, FreshReached, CallReached}
 use Rattle.relay_delivery.proofs.Facts.{IsDealt, AreRising}
 use Rattle.relay_delivery.proofs.Dealt.{dealt_before, dealt-more}
@@ -132,7 +132,7 @@ module _ (s : State) (chosen : List Entry) (part : IsSubsequence chosen (candida
   abbrev new : Flying
   new = record { request = s.requests; writes = writes_of_all chosen }
 
-  now : held_of (with_request s chosen).held ≡ map (after_launch s.requests cs) hs
+  now : held_of (after_request_of s chosen).held ≡ map (after_launch s.requests cs) hs
   now = held_launched s.requests cs s.held
 
   distinct : AllDistinct (map (λ (h : Held). h.version) cs)
@@ -191,7 +191,7 @@ module _ (s : State) (chosen : List Entry) (part : IsSubsequence chosen (candida
         stands = ap (λ (z : Place). slice_get (map write_of cs) z.place) (sym same) ∙ at-map write_of cs place h l.stands;
       }
 
-  send_keeps : Keeps (with_request s chosen) taken
+  send_keeps : Keeps (after_request_of s chosen) taken
   send_keeps = record {
     rising = subst (λ xs. AreRising xs) (sym now) (rising-sent s.requests cs hs k.rising);
     dealt = λ h m.
@@ -275,7 +275,7 @@ module _ (s : State) (n : ℕ) (ws : List Write) (a : Answer) (given : a ≢ Una
     totals =
         let t = k.totals in
         let e = totals-settled s.config n ws a (held_of s.held) in
-        let r = length-append s.reports (reports_of s.config n ws a (held_of s.held)) in
+        let r = length-append s.reports (reports_from s.config n ws a (held_of s.held)) in
         let l = length-map s.held (λ (x : Entry). x.held) in
         let m = length-map (after_settling s n ws a).held (λ (x : Entry). x.held) in
         let now = ap length left_is in
@@ -301,8 +301,8 @@ call_keeps : (c : Call) (s : State) (taken : List Op) → Keeps s taken → MayC
 call_keeps (Takes o bytes) s taken k may = take_keeps s o bytes taken k
 call_keeps (Ticks clock) s taken k may = subst (λ os. Keeps (call (Ticks clock) s) os) (sym (append-nil taken))
     (record { rising = k.rising; dealt = k.dealt; first = k.first; each = k.each; stands = k.stands; below = k.below; numbers = k.numbers; count = k.count; totals = k.totals })
-call_keeps (Sends chosen) s taken k may = subst (λ os. Keeps (with_request s chosen) os) (sym (append-nil taken)) (send_keeps s chosen may.0 taken k)
-call_keeps (Answers number a) s taken k may = subst (λ os. Keeps (with_answer s number a) os) (sym (append-nil taken))
+call_keeps (Sends chosen) s taken k may = subst (λ os. Keeps (after_request_of s chosen) os) (sym (append-nil taken)) (send_keeps s chosen may.0 taken k)
+call_keeps (Answers number a) s taken k may = subst (λ os. Keeps (after_answer_to s number a) os) (sym (append-nil taken))
     (settle_keeps s (from_zero number) (writes_at (from_zero number) s.flying) a may.1 taken k)
 
 calls_keep : (cs : List Call) (s : State) (taken : List Op) → Keeps s taken → AllMayCall cs s → Keeps (calls_of cs s) (taken ++ taken_in cs)

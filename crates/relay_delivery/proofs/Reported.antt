@@ -1,4 +1,4 @@
--- What a lane has reports_of whatever it was with_answer.
+-- What a lane has reports_from whatever it was after_answer_to.
 use Rattle.std.proofs.Common.{◌≡◌, ℕ, ◌+◌, ◌≤◌, List, [], ◌∷◌, ◌++◌, Option, Some, None, Bool, true, false, refl, sym, ap, ◌∙◌, subst, ⊎_elim, arith, append-nil, append_assoc}
 use Rattle.std.specs.Prelude.{nat_lt, map}
 use Rattle.std.proofs.lemmas.List.{map-append}
@@ -11,9 +11,9 @@ use Rattle.relay_results.specs.Numbers.{from_zero}
 use Rattle.relay_results.specs.Documents.{document_of, name_of, same_name}
 use Rattle.relay_results.specs.Outside.{Answer}
 use Rattle.relay_results.proofs.Lists.{Mem-left, Mem-last, Mem-one, Mem-cases, Mem-map, count-append}
-use Rattle.relay_delivery.specs.Machine.{Config, Held, Report, report_on, held_if, spent_if, place_of, after_launch, launched_at, still_held, reports_of}
+use Rattle.relay_delivery.specs.Machine.{Config, Held, Report, report_on, held_if, spent_if, place_of, after_launch, launched_at, still_held, reports_from}
 use Rattle.relay_delivery.specs.Delivery.{HasDistinctNames, names_of}
-use Rattle.relay_delivery.specs.Lane.{Entry, State, held_of, entry_if, taken_op, with_request, writes_at, with_answer, fresh_state}
+use Rattle.relay_delivery.specs.Lane.{Entry, State, held_of, entry_if, taken_op, after_request_of, writes_at, after_answer_to, fresh_state}
 use Rattle.relay_delivery.specs.Reached.{Call, Takes, Ticks, Sends, Answers, call, calls_of, taken_by, taken_in, Reached}
 use Rattle.relay_delivery.proofs.Facts.{is_held_as, is_report_as, is_taken_as}
 use Rattle.relay_delivery.proofs.Take.{is_new_held}
@@ -29,7 +29,7 @@ pub record IsOnTaken (taken : List Op) (r : Report) : Type 0 where
   pub name : r.name ≡ name_of op
   pub document : r.document ≡ document_of op.key
 
--- What is held and what is reports_of was taken, and a name is held and reports_of at most as often as it was taken.
+-- What is held and what is reports_from was taken, and a name is held and reports_from at most as often as it was taken.
 record Names (held : List Held) (reports : List Report) (taken : List Op) : Type 0 where
   held_op : (h : Held) → Mem h held → Mem h.op taken
   report_on : (r : Report) → Mem r reports → IsOnTaken taken r
@@ -91,7 +91,7 @@ send_names request chosen held reports taken y = record {
 
 -- ---- answer
 
-settle_names : (g : Config) (n : ℕ) (ws : List Write) (a : Answer) (held : List Held) (reports : List Report) (taken : List Op) → Names held reports taken → Names (still_held g n ws a held) (reports ++ reports_of g n ws a held) taken
+settle_names : (g : Config) (n : ℕ) (ws : List Write) (a : Answer) (held : List Held) (reports : List Report) (taken : List Op) → Names held reports taken → Names (still_held g n ws a held) (reports ++ reports_from g n ws a held) taken
 settle_names g n ws a held reports taken y = record {
   held_op = λ h m.
       let x = kept-from g n ws a held h m in
@@ -101,10 +101,10 @@ settle_names g n ws a held reports taken y = record {
       (λ new.
       let x = reported-from g n ws a held r new in
       record { op = x.0.op; was_taken = y.held_op x.0 x.1; name = ap (λ (z : Report). z.name) x.2.2; document = ap (λ (z : Report). z.document) x.2.2 })
-      (Mem-cases r reports (reports_of g n ws a held) m);
+      (Mem-cases r reports (reports_from g n ws a held) m);
   apart = λ name.
       let b = y.apart name in
-      let r = count-append (is_report_as name) reports (reports_of g n ws a held) in
+      let r = count-append (is_report_as name) reports (reports_from g n ws a held) in
       let e = count-settled g n ws a name held in
       omega (arith, b, r, e);
 }
@@ -124,12 +124,12 @@ call_names (Takes o bytes) s taken y =
     map-append (λ (e : Entry). e.held) s.held (entry_if b s o bytes) ∙ ap (λ xs. held_of s.held ++ xs) (held_new b s o bytes) in
     with_held _ _ _ _ now (take_names b s.config s.taken o (held_of s.held) s.reports taken y)
 call_names (Ticks clock) s taken y = subst (λ os. NamesOf s os) (sym (append-nil taken)) y
-call_names (Sends chosen) s taken y = subst (λ os. NamesOf (with_request s chosen) os) (sym (append-nil taken))
+call_names (Sends chosen) s taken y = subst (λ os. NamesOf (after_request_of s chosen) os) (sym (append-nil taken))
     (with_held _ _ _ _ (held_launched s.requests (held_of chosen) s.held) (send_names s.requests (held_of chosen) (held_of s.held) s.reports taken y))
 call_names (Answers number a) s taken y =
     let n = from_zero number in
     let ws = writes_at n s.flying in
-    subst (λ os. NamesOf (with_answer s number a) os) (sym (append-nil taken))
+    subst (λ os. NamesOf (after_answer_to s number a) os) (sym (append-nil taken))
     (with_held _ _ _ _ (held_kept s.config s.clock n ws a s.held) (settle_names s.config n ws a (held_of s.held) s.reports taken y))
 
 calls_names : (cs : List Call) (s : State) (taken : List Op) → NamesOf s taken → NamesOf (calls_of cs s) (taken ++ taken_in cs)

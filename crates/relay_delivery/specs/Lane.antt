@@ -9,11 +9,11 @@ use Rattle.relay_results.specs.Numbers.{from_one, from_zero}
 use Rattle.relay_results.specs.Documents.{Document, document_of, same_document}
 use Rattle.relay_results.specs.Outside.{Answer, Unanswered, Request, Ran, Outside, Sends, Runs, Answers, IsOpening, MayRun, MayAnswer, after}
 use Rattle.relay_results.specs.Fates.{Fate, Flies, Applied, Already, Retried, Halved, Reported}
-use Rattle.relay_delivery.specs.Machine.{Config, Core, Held, Place, Report, write_of, held_at, spent_if, after_launch, back_to_wait, with_cap, KeepsCaps, fate_of, reports_of, how_many, is_applied_fate, is_already_fate, CameAbout}
+use Rattle.relay_delivery.specs.Machine.{Config, Core, Held, Place, Report, write_of, held_at, spent_if, after_launch, back_to_wait, with_cap, KeepsCaps, fate_of, reports_from, how_many, is_applied_fate, is_already_fate, CameAbout}
 use Rattle.relay_delivery.specs.Delivery.{HasDistinctNames, IsSound, IsComplete, applied_ops, IsDealtWrite}
 use Rattle.relay_delivery.specs.Bound.{tries_left}
 
--- a held operation, the length of its lines, the clock when it was taken, and the first tick at which it may be with_request
+-- a held operation, the length of its lines, the clock when it was taken, and the first tick at which it may be after_request_of
 pub record Entry : Type 0 where
   pub held : Held
   pub bytes : ℕ
@@ -25,7 +25,7 @@ pub record Flying : Type 0 where
   pub request : ℕ
   pub writes : List Write
 
--- the clock, how many Puts were taken and how many requests were with_request, what is held and what is in flight, the
+-- the clock, how many Puts were taken and how many requests were after_request_of, what is held and what is in flight, the
 -- reports, and how many operations ended as applied
 pub record State : Type 0 where
   pub config : Config
@@ -80,9 +80,9 @@ launched_entry request chosen e = record { held = after_launch request chosen e.
 abbrev pub writes_of_all : List Entry → List Write
 writes_of_all es = map write_of (held_of es)
 
--- these entries are with_request as one request
-abbrev pub with_request : State → List Entry → State
-with_request s chosen = record s {
+-- these entries are after_request_of as one request
+abbrev pub after_request_of : State → List Entry → State
+after_request_of s chosen = record s {
   requests = s.requests + 1;
   held = map (launched_entry s.requests (held_of chosen)) s.held;
   flying = s.flying ++ record { request = s.requests; writes = writes_of_all chosen } ∷ [];
@@ -114,7 +114,7 @@ abbrev pub after_settling : State → ℕ → List Write → Answer → State
 after_settling s request ws a = record s {
   held = kept_entries s.config s.clock request ws a s.held;
   flying = filter (is_other request) s.flying;
-  reports = s.reports ++ reports_of s.config request ws a (held_of s.held);
+  reports = s.reports ++ reports_from s.config request ws a (held_of s.held);
   applied = s.applied + how_many is_applied_fate s.config request ws a (held_of s.held);
   already = s.already + how_many is_already_fate s.config request ws a (held_of s.held);
 }
@@ -129,8 +129,8 @@ writes_at request [] = []
 writes_at request (f ∷ fs) = if f.request == request then f.writes else writes_at request fs
 
 -- an answer to the request with this number
-abbrev pub with_answer : State → ℕ → Answer → State
-with_answer s number a = after_settling s (from_zero number) (writes_at (from_zero number) s.flying) a
+abbrev pub after_answer_to : State → ℕ → Answer → State
+after_answer_to s number a = after_settling s (from_zero number) (writes_at (from_zero number) s.flying) a
 
 -- ---- the outside that a lane fits
 
@@ -144,7 +144,7 @@ pub record IsOf (s : State) (c : Core) : Type 0 where
   pub requests : s.requests ≡ length c.outside.requests
   pub flying : (f : Flying) → Mem f s.flying → slice_get c.outside.requests f.request ≡ Some (record { writes = f.writes; answer = Unanswered })
 
--- it took these operations, its requests are those that were with_request, in order, and it was after_settling by their answers
+-- it took these operations, its requests are those that were after_request_of, in order, and it was after_settling by their answers
 -- alone: both came about by the same steps, from a fresh lane and an opening
 pub record Fits (s : State) (taken : List Op) (out : Outside) : Type 0 where
   pub core : Core
@@ -158,7 +158,7 @@ pub record Fits (s : State) (taken : List Op) (out : Outside) : Type 0 where
 abbrev pub fresh_state : Config → State
 fresh_state g = record { config = g; clock = 0; taken = 0; requests = 0; held = []; flying = []; reports = []; applied = 0; already = 0 }
 
--- a lane that took nothing fits an outside in which nothing was with_request and every stored version is below its first
+-- a lane that took nothing fits an outside in which nothing was after_request_of and every stored version is below its first
 abbrev pub FreshFits : Type 0
 FreshFits =
     (g : Config) (out : Outside) → IsOpening out → ((k : Document) (u : ℕ) → out.stored k ≡ Some u → u < g.first) →
@@ -171,12 +171,12 @@ ClockFits = (s : State) (clock : ℕ) (taken : List Op) (out : Outside) → Fits
 abbrev pub TakeFits : Type 0
 TakeFits = (s : State) (o : Op) (bytes : ℕ) (taken : List Op) (out : Outside) → Fits s taken out → Fits (taken_op s o bytes) (taken ++ o ∷ []) out
 
--- some of the candidates, which keep their caps, are with_request
+-- some of the candidates, which keep their caps, are after_request_of
 abbrev pub SendFits : Type 0
 SendFits =
     (s : State) (chosen : List Entry) (taken : List Op) (out : Outside) → IsSubsequence chosen (candidates s) →
     KeepsCaps (held_of chosen) → Fits s taken out →
-    Fits (with_request s chosen) taken (after (Sends (writes_of_all chosen)) out)
+    Fits (after_request_of s chosen) taken (after (Sends (writes_of_all chosen)) out)
 
 -- an item is run meanwhile
 abbrev pub RunFits : Type 0
@@ -186,7 +186,7 @@ abbrev pub AnswerFits : Type 0
 AnswerFits =
     (s : State) (number : ℕ) (a : Answer) (taken : List Op) (out : Outside) → is_flying number s ≡ true →
     MayAnswer out (from_zero number) a → Fits s taken out →
-    Fits (with_answer s number a) taken (after (Answers (from_zero number) a) out)
+    Fits (after_answer_to s number a) taken (after (Answers (from_zero number) a) out)
 
 -- ---- what is promised of a lane and an outside that it fits
 
@@ -200,14 +200,14 @@ CompleteWhereItFits =
     (s : State) (taken : List Op) (out : Outside) → Fits s taken out → HasDistinctNames taken → s.held ≡ [] →
     IsComplete taken s.reports (applied_ops s.config taken out)
 
--- each operation is held, done or reports_of, and the counts are those of what was taken and with_request
+-- each operation is held, done or reports_from, and the counts are those of what was taken and after_request_of
 abbrev pub TotalWhereItFits : Type 0
 TotalWhereItFits =
     (s : State) (taken : List Op) (out : Outside) → Fits s taken out →
     (s.taken ≡ length taken) × (s.requests ≡ length out.requests)
     × (length s.held + (s.applied + s.already) + length s.reports ≡ s.taken)
 
--- each write that was with_request is that of an operation that it took, under the version assigned when it was taken
+-- each write that was after_request_of is that of an operation that it took, under the version assigned when it was taken
 abbrev pub WritesWhereItFits : Type 0
 WritesWhereItFits =
     (s : State) (taken : List Op) (out : Outside) → Fits s taken out → (q : Request) → Mem q out.requests → (w : Write) →
@@ -235,9 +235,9 @@ tries_of s = tries_left s.config.max (held_of s.held)
 abbrev pub SendTakesTry : Type 0
 SendTakesTry =
     (s : State) (chosen : List Entry) (taken : List Op) (out : Outside) → 0 < s.config.max → chosen ≢ [] →
-    IsSubsequence chosen (candidates s) → KeepsCaps (held_of chosen) → Fits s taken out → tries_of (with_request s chosen) + 1 ≤ tries_of s
+    IsSubsequence chosen (candidates s) → KeepsCaps (held_of chosen) → Fits s taken out → tries_of (after_request_of s chosen) + 1 ≤ tries_of s
 
 abbrev pub AnswerGivesNoTry : Type 0
 AnswerGivesNoTry =
     (s : State) (number : ℕ) (a : Answer) (taken : List Op) (out : Outside) → 0 < s.config.max → is_flying number s ≡ true →
-    Fits s taken out → tries_of (with_answer s number a) ≤ tries_of s
+    Fits s taken out → tries_of (after_answer_to s number a) ≤ tries_of s

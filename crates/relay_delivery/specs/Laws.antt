@@ -45,9 +45,9 @@ NoneOutOfOrder =
     (accepted : ℕ → List Op) (a b : Op) → a.producer ≡ b.producer → accepted a.producer ≡ a ∷ b ∷ [] →
     name_of a ≢ name_of b → IsInProducerOrder accepted (b ∷ a ∷ []) → ⊥
 
--- the requests that were outside_of, if nothing else of the outside matters
-abbrev pub outside_of : List Request → List Ran → Outside
-outside_of requests runs = record {
+-- the requests that were outside_with, if nothing else of the outside matters
+abbrev pub outside_with : List Request → List Ran → Outside
+outside_with requests runs = record {
   requests = requests;
   runs = runs;
   stored = λ k. None;
@@ -62,20 +62,20 @@ request ws answer = record { writes = ws; answer = answer }
 abbrev pub NotGivenUpAfterOne : Type 0
 NotGivenUpAfterOne = (o : Op) (v deals taken sends : ℕ) (runs : List Ran) →
     let requests = request (write_for o v ∷ []) Lost ∷ [] in
-    IsTrueCause (terms 3 deals taken) (outside_of requests runs) o (Some v) (cause.GaveUp sends) → ⊥
+    IsTrueCause (terms 3 deals taken) (outside_with requests runs) o (Some v) (cause.GaveUp sends) → ⊥
 
 -- the last of three answers settled it
 abbrev pub NotGivenUpWhenSettled : Type 0
 NotGivenUpWhenSettled = (o : Op) (v sends : ℕ) (t : Terms) (runs : List Ran) →
     let ws = write_for o v ∷ [] in
     let applied = Items (entry (write_for o v) 200 ∷ []) in
-    IsTrueCause t (outside_of (request ws Lost ∷ request ws Lost ∷ request ws applied ∷ []) runs) o (Some v) (cause.GaveUp sends) → ⊥
+    IsTrueCause t (outside_with (request ws Lost ∷ request ws Lost ∷ request ws applied ∷ []) runs) o (Some v) (cause.GaveUp sends) → ⊥
 
 -- two requests carried it
 abbrev pub NoConflictAfterTwo : Type 0
 NoConflictAfterTwo = (o : Op) (v : ℕ) (t : Terms) (first second : Answer) (runs : List Ran) →
     let ws = write_for o v ∷ [] in
-    IsTrueCause t (outside_of (request ws first ∷ request ws second ∷ []) runs) o (Some v) cause.Conflict → ⊥
+    IsTrueCause t (outside_with (request ws first ∷ request ws second ∷ []) runs) o (Some v) cause.Conflict → ⊥
 
 -- no run had this status; none had an error of this type
 abbrev pub NotRefusedWithoutStatus : Type 0
@@ -117,7 +117,7 @@ abbrev pub NotGivenUpForHalves : Type 0
 NotGivenUpForHalves = (o : Op) (v deals taken sends : ℕ) (x y : Write) (runs : List Ran) →
     let w = write_for o v in
     let requests = request (w ∷ x ∷ y ∷ []) (Whole 413) ∷ request (w ∷ x ∷ []) (Whole 413) ∷ request (w ∷ []) Lost ∷ [] in
-    IsTrueCause (terms 2 deals taken) (outside_of requests runs) o (Some v) (cause.GaveUp sends) → ⊥
+    IsTrueCause (terms 2 deals taken) (outside_with requests runs) o (Some v) (cause.GaveUp sends) → ⊥
 
 -- no request had it alone
 abbrev pub NotRejectedWhenHalved : Type 0
@@ -171,7 +171,7 @@ AssignsTwo =
 
 -- ---- schedules
 
--- before a schedule nothing was outside_of, and its end continues that
+-- before a schedule nothing was outside_with, and its end continues that
 abbrev pub PlaysFromOpening : Type 0
 PlaysFromOpening =
     (accepted : List Op) (events : List Event) (k : Document) (ws : List Write) (ops : List Op) →

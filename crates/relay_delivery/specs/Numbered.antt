@@ -1,11 +1,11 @@
 -- A lane that starts afresh after a restart numbers its requests from the beginning again. With their numbers counted
--- on from those that it had with_request before, it is the lane beside its outside, and each call is the same call there.
+-- on from those that it had after_request_of before, it is the lane beside its outside, and each call is the same call there.
 use Rattle.std.specs.Prelude.{◌≡◌, true, ℕ, ◌+◌, List, Option, Some, None, map}
 use Rattle.relay_action.specs.declared.operation.Op.{Op}
 use Rattle.relay_action.specs.declared.write.Write.{Write}
 use Rattle.relay_results.specs.Outside.{Answer}
 use Rattle.relay_delivery.specs.Machine.{Held, Place}
-use Rattle.relay_delivery.specs.Lane.{Entry, Flying, State, taken_op, candidates, with_request, after_settling, writes_at, is_flying, with_answer}
+use Rattle.relay_delivery.specs.Lane.{Entry, Flying, State, taken_op, candidates, after_request_of, after_settling, writes_at, is_flying, after_answer_to}
 
 abbrev pub place_on : ℕ → Option Place → Option Place
 place_on n None = None
@@ -31,7 +31,7 @@ abbrev pub CandidatesOn : Type 0
 CandidatesOn = (n : ℕ) (s : State) → candidates (numbered_on n s) ≡ map (entry_on n) (candidates s)
 
 abbrev pub SendsOn : Type 0
-SendsOn = (n : ℕ) (s : State) (chosen : List Entry) → with_request (numbered_on n s) (map (entry_on n) chosen) ≡ numbered_on n (with_request s chosen)
+SendsOn = (n : ℕ) (s : State) (chosen : List Entry) → after_request_of (numbered_on n s) (map (entry_on n) chosen) ≡ numbered_on n (after_request_of s chosen)
 
 abbrev pub WritesOn : Type 0
 WritesOn = (n request : ℕ) (fs : List Flying) → writes_at (n + request) (map (flying_on n) fs) ≡ writes_at request fs
@@ -47,4 +47,4 @@ FliesOn = (n number : ℕ) (s : State) → is_flying (n + number) (numbered_on n
 abbrev pub AnswersOn : Type 0
 AnswersOn =
     (n : ℕ) (s : State) (number : ℕ) (a : Answer) → is_flying number s ≡ true →
-    with_answer (numbered_on n s) (n + number) a ≡ numbered_on n (with_answer s number a)
+    after_answer_to (numbered_on n s) (n + number) a ≡ numbered_on n (after_answer_to s number a)

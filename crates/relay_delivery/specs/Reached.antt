@@ -7,12 +7,12 @@ use Rattle.relay_results.specs.Documents.{Document, document_of}
 use Rattle.relay_results.specs.Outside.{Answer, Unanswered}
 use Rattle.relay_delivery.specs.Machine.{Config, Held, Place, version_at, write_of, KeepsCaps}
 use Rattle.relay_delivery.specs.Delivery.{IsDealtWrite}
-use Rattle.relay_delivery.specs.Lane.{Entry, Flying, State, held_of, taken_op, candidates, with_request, is_flying, with_answer, fresh_state}
+use Rattle.relay_delivery.specs.Lane.{Entry, Flying, State, held_of, taken_op, candidates, after_request_of, is_flying, after_answer_to, fresh_state}
 
 -- ---- calls
 
--- an operation is taken, with the length of its lines; the clock is set; entries are with_request as one request; or the
--- request with this number, from 1, is with_answer
+-- an operation is taken, with the length of its lines; the clock is set; entries are after_request_of as one request; or the
+-- request with this number, from 1, is after_answer_to
 pub data Call : Type 0 where
   Takes : Op → ℕ → Call
   Ticks : ℕ → Call
@@ -22,10 +22,10 @@ pub data Call : Type 0 where
 abbrev pub call : Call → State → State
 call (Takes o bytes) s = taken_op s o bytes
 call (Ticks clock) s = record s { clock = clock }
-call (Sends chosen) s = with_request s chosen
-call (Answers number a) s = with_answer s number a
+call (Sends chosen) s = after_request_of s chosen
+call (Answers number a) s = after_answer_to s number a
 
--- Any operation may be taken, and the clock set, at any time; candidates that keep their caps may be with_request; and a
+-- Any operation may be taken, and the clock set, at any time; candidates that keep their caps may be after_request_of; and a
 -- request in flight may get any answer.
 abbrev pub MayCall : Call → State → Type 0
 MayCall (Takes o bytes) s = Unit {0}

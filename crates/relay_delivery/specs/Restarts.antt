@@ -78,9 +78,9 @@ MayBe (Acts a) l = MayAct l.config a l.together × IsOfNow l.ended a
 MayBe (Restarts g) l = IsAbove l.config g
 
 -- after a sequence of them
-abbrev pub after_all : (Document → ℕ) → List Happening → Life → Life
-after_all lane_of [] l = l
-after_all lane_of (h ∷ hs) l = after_all lane_of hs (happen lane_of h l)
+abbrev pub after_happenings : (Document → ℕ) → List Happening → Life → Life
+after_happenings lane_of [] l = l
+after_happenings lane_of (h ∷ hs) l = after_happenings lane_of hs (happen lane_of h l)
 
 abbrev pub AllMayBe : (Document → ℕ) → List Happening → Life → Type 0
 AllMayBe lane_of [] l = Unit {0}
@@ -94,4 +94,4 @@ pub record CameAboutTogether (g : Config) (lane_of : Document → ℕ) (ended : 
   pub fresh : IsFreshTogether first start
   pub happenings : List Happening
   pub may : AllMayBe lane_of happenings (born first start)
-  pub reached : after_all lane_of happenings (born first start) ≡ record { ended = ended; config = g; together = s }
+  pub reached : after_happenings lane_of happenings (born first start) ≡ record { ended = ended; config = g; together = s }

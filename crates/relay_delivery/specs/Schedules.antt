@@ -63,8 +63,8 @@ abbrev pub refusal : List ℕ
 refusal = codes "mapper_parsing_exception"
 
 -- an operation that this many requests carried, all of them tries, and the number of tries that it may have
-abbrev pub tries_of : ℕ → ℕ → Tries
-tries_of sends max = record { sends = sends; attempts = sends; max = max }
+abbrev pub tries_after : ℕ → ℕ → Tries
+tries_after sends max = record { sends = sends; attempts = sends; max = max }
 
 -- this many tries, this many versions that the lane assigns, and this many Puts that it took
 abbrev pub terms : ℕ → ℕ → ℕ → Terms
@@ -95,8 +95,8 @@ abbrev pub LostThenAlready : Type 0
 LostThenAlready = (key : DocKey) (source : Source) →
     let o = op 1 key (Index source) in let w = write_for o 1 in
     Plays (o ∷ []) (lost_then_conflict w) (document_of key) (w ∷ []) (o ∷ [])
-    × becomes (tries_of 1 3) (w ∷ []) 0 (Index source) Lost of.Retried
-    × becomes (tries_of 2 3) (w ∷ []) 0 (Index source) (Items (failed_entry w 409 conflict ∷ [])) of.Already
+    × becomes (tries_after 1 3) (w ∷ []) 0 (Index source) Lost of.Retried
+    × becomes (tries_after 2 3) (w ∷ []) 0 (Index source) (Items (failed_entry w 409 conflict ∷ [])) of.Already
 
 -- the first request is lost before it is run; the second is applied, and then the first is run late
 abbrev pub lost_then_late : Write → List Event
@@ -109,7 +109,7 @@ abbrev pub LateRunChangesNothing : Type 0
 LateRunChangesNothing = (key : DocKey) (source : Source) →
     let o = op 1 key (Index source) in let w = write_for o 1 in
     Plays (o ∷ []) (lost_then_late w) (document_of key) (w ∷ []) (o ∷ [])
-    × becomes (tries_of 2 3) (w ∷ []) 0 (Index source) (Items (entry w 201 ∷ [])) of.Applied
+    × becomes (tries_after 2 3) (w ∷ []) 0 (Index source) (Items (entry w 201 ∷ [])) of.Applied
 
 -- one request is run twice: its answer decides which of the runs counts
 abbrev pub run_twice : Write → Answer → List Event
@@ -120,14 +120,14 @@ RunTwice = (key : DocKey) →
     let o = op 1 key Delete in let w = write_for o 1 in
     let second = Items (failed_entry w 409 conflict ∷ []) in let first = Items (entry w 404 ∷ []) in
     Plays (o ∷ []) (run_twice w second) (document_of key) (w ∷ []) (o ∷ [])
-    × becomes (tries_of 1 3) (w ∷ []) 0 Delete second (of.Reported cause.Conflict)
+    × becomes (tries_after 1 3) (w ∷ []) 0 Delete second (of.Reported cause.Conflict)
     × IsTrueCause (terms 3 1000 1) (end_of (run_twice w second)) o (Some 1) cause.Conflict
     × Plays (o ∷ []) (run_twice w first) (document_of key) (w ∷ []) (o ∷ [])
-    × becomes (tries_of 1 3) (w ∷ []) 0 Delete first of.Applied
+    × becomes (tries_after 1 3) (w ∷ []) 0 Delete first of.Applied
 
 -- a request whose item the index refuses, and one that is answered as a whole
-abbrev pub refusal_of : Write → List Event
-refusal_of w = Sends (w ∷ []) ∷ Runs (failed_run 0 0 400 refusal) ∷ Answers 0 (Items (failed_entry w 400 refusal ∷ [])) ∷ []
+abbrev pub item_refusal : Write → List Event
+item_refusal w = Sends (w ∷ []) ∷ Runs (failed_run 0 0 400 refusal) ∷ Answers 0 (Items (failed_entry w 400 refusal ∷ [])) ∷ []
 
 abbrev pub answered_whole : Write → ℕ → List Event
 answered_whole w status = Sends (w ∷ []) ∷ Answers 0 (Whole status) ∷ []
@@ -135,14 +135,14 @@ answered_whole w status = Sends (w ∷ []) ∷ Answers 0 (Whole status) ∷ []
 abbrev pub RefusedOrRejected : Type 0
 RefusedOrRejected = (key : DocKey) (source : Source) →
     let o = op 1 key (Index source) in let w = write_for o 1 in
-    Plays (o ∷ []) (refusal_of w) (document_of key) [] []
-    × becomes (tries_of 1 3) (w ∷ []) 0 (Index source) (Items (failed_entry w 400 refusal ∷ [])) (of.Reported (cause.Refused 400 refusal))
-    × IsTrueCause (terms 3 1000 1) (end_of (refusal_of w)) o (Some 1) (cause.Refused 400 refusal)
+    Plays (o ∷ []) (item_refusal w) (document_of key) [] []
+    × becomes (tries_after 1 3) (w ∷ []) 0 (Index source) (Items (failed_entry w 400 refusal ∷ [])) (of.Reported (cause.Refused 400 refusal))
+    × IsTrueCause (terms 3 1000 1) (end_of (item_refusal w)) o (Some 1) (cause.Refused 400 refusal)
     × Plays (o ∷ []) (answered_whole w 401) (document_of key) [] []
-    × becomes (tries_of 1 3) (w ∷ []) 0 (Index source) (Whole 401) (of.Reported (cause.Request 401))
+    × becomes (tries_after 1 3) (w ∷ []) 0 (Index source) (Whole 401) (of.Reported (cause.Request 401))
     × IsTrueCause (terms 3 1000 1) (end_of (answered_whole w 401)) o (Some 1) (cause.Request 401)
     × Plays (o ∷ []) (answered_whole w 503) (document_of key) [] []
-    × becomes (tries_of 1 3) (w ∷ []) 0 (Index source) (Whole 503) of.Retried
+    × becomes (tries_after 1 3) (w ∷ []) 0 (Index source) (Whole 503) of.Retried
 
 -- no version was left for it, and it was never sent
 abbrev pub NoVersionLeft : Type 0
@@ -151,7 +151,7 @@ NoVersionLeft = (key : DocKey) →
 
 -- ---- two operations of one document
 
--- the first is refusal_of once, since the index is busy, and sent again; the second is sent after it
+-- the first is item_refusal once, since the index is busy, and sent again; the second is sent after it
 abbrev pub busy_then_next : Write → Write → List Event
 busy_then_next w x =
     Sends (w ∷ []) ∷ Runs (failed_run 0 0 429 busy) ∷ Answers 0 (Items (failed_entry w 429 busy ∷ []))
@@ -164,9 +164,9 @@ BusyThenNext = (key : DocKey) (source other : Source) →
     let o = op 1 key (Index source) in let p = op 2 key (Index other) in
     let w = write_for o 1 in let x = write_for p 2 in
     Plays (o ∷ p ∷ []) (busy_then_next w x) (document_of key) (w ∷ x ∷ []) (o ∷ p ∷ [])
-    × becomes (tries_of 1 3) (w ∷ []) 0 (Index source) (Items (failed_entry w 429 busy ∷ [])) of.Retried
-    × becomes (tries_of 2 3) (w ∷ []) 0 (Index source) (Items (entry w 201 ∷ [])) of.Applied
-    × becomes (tries_of 1 3) (x ∷ []) 0 (Index other) (Items (entry x 200 ∷ [])) of.Applied
+    × becomes (tries_after 1 3) (w ∷ []) 0 (Index source) (Items (failed_entry w 429 busy ∷ [])) of.Retried
+    × becomes (tries_after 2 3) (w ∷ []) 0 (Index source) (Items (entry w 201 ∷ [])) of.Applied
+    × becomes (tries_after 1 3) (x ∷ []) 0 (Index other) (Items (entry x 200 ∷ [])) of.Applied
 
 -- both replies of the first are lost, and it is given up after two tries; its first request is run late, before the
 -- second operation, and its second request after it
@@ -182,15 +182,15 @@ GivenUpAndApplied = (key : DocKey) (source : Source) →
     let o = op 1 key (Index source) in let p = op 2 key Delete in
     let w = write_for o 1 in let x = write_for p 2 in
     Plays (o ∷ p ∷ []) (given_up_then_next w x) (document_of key) (w ∷ x ∷ []) (o ∷ p ∷ [])
-    × becomes (tries_of 1 2) (w ∷ []) 0 (Index source) Lost of.Retried
-    × becomes (tries_of 2 2) (w ∷ []) 0 (Index source) Lost (of.Reported (cause.GaveUp 2))
+    × becomes (tries_after 1 2) (w ∷ []) 0 (Index source) Lost of.Retried
+    × becomes (tries_after 2 2) (w ∷ []) 0 (Index source) Lost (of.Reported (cause.GaveUp 2))
     × IsTrueCause (terms 2 1000 2) (end_of (given_up_then_next w x)) o (Some 1) (cause.GaveUp 2)
-    × becomes (tries_of 1 2) (x ∷ []) 0 Delete (Items (entry x 200 ∷ [])) of.Applied
+    × becomes (tries_after 1 2) (x ∷ []) 0 Delete (Items (entry x 200 ∷ [])) of.Applied
 
 -- ---- three documents
 
--- of three items one is applied, one is refusal_of since the index is busy, and one finds no document to delete; the
--- refusal_of one is sent again
+-- of three items one is applied, one is item_refusal since the index is busy, and one finds no document to delete; the
+-- item_refusal one is sent again
 abbrev pub three_then_one : Write → Write → Write → List Event
 three_then_one w x y =
     Sends (w ∷ x ∷ y ∷ []) ∷ Runs (ran 0 0 201) ∷ Runs (failed_run 0 1 429 busy) ∷ Runs (ran 0 2 404)
@@ -207,10 +207,10 @@ ThreeThenOne = (k l m : DocKey) (source other : Source) →
     let w = write_for o 1 in let x = write_for p 2 in let y = write_for q 3 in
     let three = Items (entry w 201 ∷ failed_entry x 429 busy ∷ entry y 404 ∷ []) in
     Plays (o ∷ p ∷ q ∷ []) (three_then_one w x y) (document_of k) (w ∷ []) (o ∷ [])
-    × becomes (tries_of 1 3) (w ∷ x ∷ y ∷ []) 0 (Index source) three of.Applied
-    × becomes (tries_of 1 3) (w ∷ x ∷ y ∷ []) 1 (Index other) three of.Retried
-    × becomes (tries_of 1 3) (w ∷ x ∷ y ∷ []) 2 Delete three of.Applied
-    × becomes (tries_of 2 3) (x ∷ []) 0 (Index other) (Items (entry x 201 ∷ [])) of.Applied
+    × becomes (tries_after 1 3) (w ∷ x ∷ y ∷ []) 0 (Index source) three of.Applied
+    × becomes (tries_after 1 3) (w ∷ x ∷ y ∷ []) 1 (Index other) three of.Retried
+    × becomes (tries_after 1 3) (w ∷ x ∷ y ∷ []) 2 Delete three of.Applied
+    × becomes (tries_after 2 3) (x ∷ []) 0 (Index other) (Items (entry x 201 ∷ [])) of.Applied
 
 -- ---- a request that is too large
 
@@ -229,8 +229,8 @@ HalvedThenAlone = (k l : DocKey) →
     let w = write_for o 1 in let x = write_for p 2 in
     let second : Tries = record { sends = 2; attempts = 1; max = 1 } in
     Plays (o ∷ p ∷ []) (halved_then_alone w x) (document_of k) [] []
-    × becomes (tries_of 1 1) (w ∷ x ∷ []) 0 Delete (Whole 413) (of.Halved 1)
-    × becomes (tries_of 1 1) (w ∷ x ∷ []) 1 Delete (Whole 413) (of.Halved 1)
+    × becomes (tries_after 1 1) (w ∷ x ∷ []) 0 Delete (Whole 413) (of.Halved 1)
+    × becomes (tries_after 1 1) (w ∷ x ∷ []) 1 Delete (Whole 413) (of.Halved 1)
     × becomes second (w ∷ []) 0 Delete (Whole 413) (of.Reported (cause.Request 413))
     × becomes second (x ∷ []) 0 Delete Lost (of.Reported (cause.GaveUp 2))
     × IsTrueCause (terms 1 1000 2) (end_of (halved_then_alone w x)) o (Some 1) (cause.Request 413)

@@ -11,30 +11,30 @@ use Rattle.relay_results.proofs.Lists.{apart_tests, true_or_false, none_some, so
 use Rattle.relay_held.specs.declared.kept.Kept.{Kept}
 use Rattle.relay_held.specs.declared.documents.Taken.{Taken}
 use Rattle.relay_held.specs.Queues.{same_key, on_first, queue_of, first_name, Changes, NoneEmpty}
-use Rattle.relay_held.specs.Shelf.{queue_in, queues_of, Shelf, IsShelf, Sets, slot_of, KeepsSlots, entry_at, entry_after}
+use Rattle.relay_held.specs.Shelf.{queue_in, queues_in, Shelf, IsShelf, Sets, slot_of, KeepsSlots, entry_at, entry_after}
 use Rattle.relay_held.proofs.Merging.{same_along}
 use Rattle.relay_held.proofs.Changing.{changes_none, same_queue}
 
 -- ---- what is shown
 
-pub keys_shelved : (s : Slab (List Kept)) (ss : List (DocKey × ℕ)) → keys_of (queues_of s ss) ≡ keys_of ss
+pub keys_shelved : (s : Slab (List Kept)) (ss : List (DocKey × ℕ)) → keys_of (queues_in s ss) ≡ keys_of ss
 keys_shelved s [] = refl
 keys_shelved s (e ∷ es) = ap (λ ks. e.0 ∷ ks) (keys_shelved s es)
 
-pub lookup_shelved : (s : Slab (List Kept)) (ss : List (DocKey × ℕ)) (k : DocKey) → lookup (same_key k) (queues_of s ss) ≡ option_map (queue_in s) (lookup (same_key k) ss)
+pub lookup_shelved : (s : Slab (List Kept)) (ss : List (DocKey × ℕ)) (k : DocKey) → lookup (same_key k) (queues_in s ss) ≡ option_map (queue_in s) (lookup (same_key k) ss)
 lookup_shelved s [] k = refl
-lookup_shelved s (e ∷ es) k = ⊎_elim {C = lookup (same_key k) (queues_of s (e ∷ es)) ≡ option_map (queue_in s) (lookup (same_key k) (e ∷ es))}
+lookup_shelved s (e ∷ es) k = ⊎_elim {C = lookup (same_key k) (queues_in s (e ∷ es)) ≡ option_map (queue_in s) (lookup (same_key k) (e ∷ es))}
     (λ t. rw t refl)
     (λ f. rw f (lookup_shelved s es k))
     (true_or_false (same_key k e.0))
 
-pub queue_shelved : (s : Slab (List Kept)) (ss : List (DocKey × ℕ)) (k : DocKey) → queue_of (queues_of s ss) k ≡ unwrap_or (option_map (queue_in s) (lookup (same_key k) ss)) []
+pub queue_shelved : (s : Slab (List Kept)) (ss : List (DocKey × ℕ)) (k : DocKey) → queue_of (queues_in s ss) k ≡ unwrap_or (option_map (queue_in s) (lookup (same_key k) ss)) []
 queue_shelved s ss k = ap (λ o. unwrap_or o []) (lookup_shelved s ss k)
 
-pub queue_here : (s : Slab (List Kept)) (ss : List (DocKey × ℕ)) (k : DocKey) (slot : ℕ) → lookup (same_key k) ss ≡ Some slot → queue_of (queues_of s ss) k ≡ queue_in s slot
+pub queue_here : (s : Slab (List Kept)) (ss : List (DocKey × ℕ)) (k : DocKey) (slot : ℕ) → lookup (same_key k) ss ≡ Some slot → queue_of (queues_in s ss) k ≡ queue_in s slot
 queue_here s ss k slot e = queue_shelved s ss k ∙ ap (λ o. unwrap_or (option_map (queue_in s) o) []) e
 
-pub queue_none : (s : Slab (List Kept)) (ss : List (DocKey × ℕ)) (k : DocKey) → lookup (same_key k) ss ≡ None → queue_of (queues_of s ss) k ≡ []
+pub queue_none : (s : Slab (List Kept)) (ss : List (DocKey × ℕ)) (k : DocKey) → lookup (same_key k) ss ≡ None → queue_of (queues_in s ss) k ≡ []
 queue_none s ss k e = queue_shelved s ss k ∙ ap (λ o. unwrap_or (option_map (queue_in s) o) []) e
 
 pub found_along : (ss : List (DocKey × ℕ)) (a b : DocKey) → same_key a b ≡ true → lookup (same_key a) ss ≡ lookup (same_key b) ss
@@ -42,18 +42,18 @@ found_along [] a b t = refl
 found_along (e ∷ es) a b t = λ i. cond (same_along a b e.0 t i) (Some e.1) (found_along es a b t i)
 
 -- no queue is empty
-pub none_empty : (s : Slab (List Kept)) (ss : List (DocKey × ℕ)) → IsShelf ss s → NoneEmpty (queues_of s ss)
+pub none_empty : (s : Slab (List Kept)) (ss : List (DocKey × ℕ)) → IsShelf ss s → NoneEmpty (queues_in s ss)
 none_empty s ss a = record { filled = λ k q e. by k q (lookup (same_key k) ss) refl (sym (lookup_shelved s ss k) ∙ e) }
   where
     by : (k : DocKey) (q : List Kept) (o : Option ℕ) → lookup (same_key k) ss ≡ o → option_map (queue_in s) o ≡ Some q → 0 < length q
     by k q None is e = absurd (cc)
     by k q (Some slot) is e = subst (λ x. 0 < length x) (some_same (queue_in s slot) q e) (a.filled k slot is)
 
-pub unique_shelved : (s : Slab (List Kept)) (ss : List (DocKey × ℕ)) → IsShelf ss s → IsDistinct same_key (keys_of (queues_of s ss))
+pub unique_shelved : (s : Slab (List Kept)) (ss : List (DocKey × ℕ)) → IsShelf ss s → IsDistinct same_key (keys_of (queues_in s ss))
 unique_shelved s ss a = subst (IsDistinct same_key) (sym (keys_shelved s ss)) a.unique
 
 -- a document of which something is held has a slot
-pub a_slot : (s : Slab (List Kept)) (ss : List (DocKey × ℕ)) (k : DocKey) (h : Kept) → slice_get (queue_of (queues_of s ss) k) 0 ≡ Some h → lookup (same_key k) ss ≡ Some (slot_of ss k)
+pub a_slot : (s : Slab (List Kept)) (ss : List (DocKey × ℕ)) (k : DocKey) (h : Kept) → slice_get (queue_of (queues_in s ss) k) 0 ≡ Some h → lookup (same_key k) ss ≡ Some (slot_of ss k)
 a_slot s ss k h e = by (lookup (same_key k) ss) (sym (ap (λ q. slice_get q 0) (queue_shelved s ss k)) ∙ e)
   where
     by : (o : Option ℕ) → slice_get (unwrap_or (option_map (queue_in s) o) []) 0 ≡ Some h → o ≡ Some (unwrap_or o 0)
@@ -70,9 +70,9 @@ pub record Moves (s t : Slab (List Kept)) (ss rs : List (DocKey × ℕ)) (key : 
   pub others : (i : ℕ) → i ≢ slot → queue_in t i ≡ queue_in s i
 
 pub moves_changes : (s t : Slab (List Kept)) (ss rs : List (DocKey × ℕ)) (key : DocKey) (slot : ℕ) (w : Option ℕ) → Moves s t ss rs key slot w
-    → Changes (queues_of s ss) (queues_of t rs) key (unwrap_or (option_map (queue_in t) w) [])
+    → Changes (queues_in s ss) (queues_in t rs) key (unwrap_or (option_map (queue_in t) w) [])
 moves_changes s t ss rs key slot w m = record {
-  queues = λ k. queue_shelved t rs k ∙ ⊎_elim {C = unwrap_or (option_map (queue_in t) (lookup (same_key k) rs)) [] ≡ cond (same_key key k) (unwrap_or (option_map (queue_in t) w) []) (queue_of (queues_of s ss) k)}
+  queues = λ k. queue_shelved t rs k ∙ ⊎_elim {C = unwrap_or (option_map (queue_in t) (lookup (same_key k) rs)) [] ≡ cond (same_key key k) (unwrap_or (option_map (queue_in t) w) []) (queue_of (queues_in s ss) k)}
       (λ u. rw (m.slots k) (rw u refl))
       (λ f. rw (m.slots k) (rw f (apart k f (lookup (same_key k) ss) refl ∙ sym (queue_shelved s ss k))))
       (true_or_false (same_key key k));
@@ -122,8 +122,8 @@ set_moves s t ss key slot q a e c = record {
 }
 
 pub set_changes : (s t : Slab (List Kept)) (ss : List (DocKey × ℕ)) (key : DocKey) (slot : ℕ) (q : List Kept) → IsShelf ss s → lookup (same_key key) ss ≡ Some slot → Sets s t slot q
-    → Changes (queues_of s ss) (queues_of t ss) key q
-set_changes s t ss key slot q a e c = subst (Changes (queues_of s ss) (queues_of t ss) key) c.here (moves_changes s t ss ss key slot (Some slot) (set_moves s t ss key slot q a e c))
+    → Changes (queues_in s ss) (queues_in t ss) key q
+set_changes s t ss key slot q a e c = subst (Changes (queues_in s ss) (queues_in t ss) key) c.here (moves_changes s t ss ss key slot (Some slot) (set_moves s t ss key slot q a e c))
 
 pub set_shelf : (s t : Slab (List Kept)) (ss : List (DocKey × ℕ)) (slot : ℕ) (q : List Kept) → IsShelf ss s → Sets s t slot q → (0 < length (queue_in s slot) → 0 < length q) → IsShelf ss t
 set_shelf s t ss slot q a c some = record {
@@ -154,8 +154,8 @@ add_moves s t ss rs key slot q a c e u = record {
 }
 
 pub add_changes : (s t : Slab (List Kept)) (ss rs : List (DocKey × ℕ)) (key : DocKey) (slot : ℕ) (q : List Kept) → IsShelf ss s → Sets s t slot q → get s slot ≡ None
-    → ((k : DocKey) → lookup (same_key k) rs ≡ cond (same_key key k) (Some slot) (lookup (same_key k) ss)) → Changes (queues_of s ss) (queues_of t rs) key q
-add_changes s t ss rs key slot q a c e u = subst (Changes (queues_of s ss) (queues_of t rs) key) c.here (moves_changes s t ss rs key slot (Some slot) (add_moves s t ss rs key slot q a c e u))
+    → ((k : DocKey) → lookup (same_key k) rs ≡ cond (same_key key k) (Some slot) (lookup (same_key k) ss)) → Changes (queues_in s ss) (queues_in t rs) key q
+add_changes s t ss rs key slot q a c e u = subst (Changes (queues_in s ss) (queues_in t rs) key) c.here (moves_changes s t ss rs key slot (Some slot) (add_moves s t ss rs key slot q a c e u))
 
 pub add_shelf : (s t : Slab (List Kept)) (ss rs : List (DocKey × ℕ)) (key : DocKey) (slot : ℕ) (q : List Kept) → IsShelf ss s → Sets s t slot q → get s slot ≡ None
     → ((k : DocKey) → lookup (same_key k) rs ≡ cond (same_key key k) (Some slot) (lookup (same_key k) ss)) → IsDistinct same_key (keys_of rs) → 0 < length q → IsShelf rs t
@@ -173,7 +173,7 @@ remove_moves s t ss rs key slot q a c e u = record {
 }
 
 pub remove_changes : (s t : Slab (List Kept)) (ss rs : List (DocKey × ℕ)) (key : DocKey) (slot : ℕ) (q : List Kept) → IsShelf ss s → Sets s t slot q → lookup (same_key key) ss ≡ Some slot
-    → ((k : DocKey) → lookup (same_key k) rs ≡ cond (same_key key k) None (lookup (same_key k) ss)) → Changes (queues_of s ss) (queues_of t rs) key []
+    → ((k : DocKey) → lookup (same_key k) rs ≡ cond (same_key key k) None (lookup (same_key k) ss)) → Changes (queues_in s ss) (queues_in t rs) key []
 remove_changes s t ss rs key slot q a c e u = moves_changes s t ss rs key slot None (remove_moves s t ss rs key slot q a c e u)
 
 pub remove_shelf : (s t : Slab (List Kept)) (ss rs : List (DocKey × ℕ)) (key : DocKey) (slot : ℕ) (q : List Kept) → IsShelf ss s → Sets s t slot q → lookup (same_key key) ss ≡ Some slot
@@ -184,7 +184,7 @@ remove_shelf s t ss rs key slot q a c e u unique =
 -- ---- the same, as the contracts say it
 
 abbrev pub Shows : Slab (List Kept) → List (DocKey × ℕ) → Shelf → Type 0
-Shows s ss v = ◌≡◌ {A = Shelf} (record { queues = queues_of s ss; slots = ss }) v
+Shows s ss v = ◌≡◌ {A = Shelf} (record { queues = queues_in s ss; slots = ss }) v
 
 pub lookup_shown : (s : Slab (List Kept)) (ss : List (DocKey × ℕ)) (key : DocKey) (o : Option ℕ) (v : Shelf) → Shows s ss v → o ≡ lookup (same_key key) v.slots → lookup (same_key key) ss ≡ o
 lookup_shown s ss key o v e l = ap (λ (v : Shelf). lookup (same_key key) v.slots) e ∙ sym l
@@ -205,23 +205,23 @@ pub head_shown : (s : Slab (List Kept)) (ss : List (DocKey × ℕ)) (k : DocKey)
     → slice_get (queue_in s slot) 0 ≡ Some h
 head_shown s ss k h slot v e is at = ap (λ q. slice_get q 0) (sym (queue_shown s ss k slot v e (slot_shown s ss k h slot v e is at))) ∙ is
 
-pub keys_shown : (s t : Slab (List Kept)) (ss : List (DocKey × ℕ)) (v : Shelf) → Shows s ss v → keys_of (queues_of t ss) ≡ keys_of v.queues
+pub keys_shown : (s t : Slab (List Kept)) (ss : List (DocKey × ℕ)) (v : Shelf) → Shows s ss v → keys_of (queues_in t ss) ≡ keys_of v.queues
 keys_shown s t ss v e = keys_shelved t ss ∙ sym (keys_shelved s ss) ∙ ap (λ (v : Shelf). keys_of v.queues) e
 
 pub set_shown : (s t : Slab (List Kept)) (ss : List (DocKey × ℕ)) (key : DocKey) (slot : ℕ) (q : List Kept) (v : Shelf) → Shows s ss v → IsShelf ss s → Some slot ≡ lookup (same_key key) v.slots
-    → Sets s t slot q → Changes v.queues (queues_of t ss) key q
-set_shown s t ss key slot q v e a l c = subst (λ (v : Shelf). Changes v.queues (queues_of t ss) key q) e (set_changes s t ss key slot q a (lookup_shown s ss key (Some slot) v e l) c)
+    → Sets s t slot q → Changes v.queues (queues_in t ss) key q
+set_shown s t ss key slot q v e a l c = subst (λ (v : Shelf). Changes v.queues (queues_in t ss) key q) e (set_changes s t ss key slot q a (lookup_shown s ss key (Some slot) v e l) c)
 
 pub on_shown : (f : Kept → Kept) (s t : Slab (List Kept)) (ss : List (DocKey × ℕ)) (key : DocKey) (slot : ℕ) (v : Shelf) → Shows s ss v → IsShelf ss s → Some slot ≡ lookup (same_key key) v.slots
-    → Sets s t slot (on_first f (queue_in s slot)) → Changes v.queues (queues_of t ss) key (on_first f (queue_of v.queues key))
-on_shown f s t ss key slot v e a l c = subst (λ q. Changes v.queues (queues_of t ss) key (on_first f q)) (sym (queue_shown s ss key slot v e l)) (set_shown s t ss key slot (on_first f (queue_in s slot)) v e a l c)
+    → Sets s t slot (on_first f (queue_in s slot)) → Changes v.queues (queues_in t ss) key (on_first f (queue_of v.queues key))
+on_shown f s t ss key slot v e a l c = subst (λ q. Changes v.queues (queues_in t ss) key (on_first f q)) (sym (queue_shown s ss key slot v e l)) (set_shown s t ss key slot (on_first f (queue_in s slot)) v e a l c)
 
 pub on_none : (f : Kept → Kept) (s : Slab (List Kept)) (ss : List (DocKey × ℕ)) (key : DocKey) (v : Shelf) → Shows s ss v → None ≡ lookup (same_key key) v.slots
     → Changes v.queues v.queues key (on_first f (queue_of v.queues key))
 on_none f s ss key v e l = let is = none_shown s ss key v e l in changes_none v.queues key (on_first f (queue_of v.queues key)) (ap (on_first f) is ∙ sym is)
 
 pub entry_shown : (s t : Slab (List Kept)) (ss : List (DocKey × ℕ)) (key : DocKey) (slot : ℕ) (v : Shelf) (o : Option Entry) → Shows s ss v → Some slot ≡ lookup (same_key key) v.slots
-    → o ≡ option_map (entry_at slot) (slice_get (queue_in t slot) 0) → o ≡ option_map (entry_at (slot_of v.slots key)) (slice_get (queue_of (queues_of t ss) key) 0)
+    → o ≡ option_map (entry_at slot) (slice_get (queue_in t slot) 0) → o ≡ option_map (entry_at (slot_of v.slots key)) (slice_get (queue_of (queues_in t ss) key) 0)
 entry_shown s t ss key slot v o e l is =
     is ∙ ap (λ n. option_map (entry_at n) (slice_get (queue_in t slot) 0)) (ap (λ o. unwrap_or o 0) l)
     ∙ ap (λ q. option_map (entry_at (slot_of v.slots key)) (slice_get q 0)) (sym (queue_here t ss key slot (lookup_shown s ss key (Some slot) v e l)))
@@ -232,20 +232,20 @@ no_entry s ss key slot v e l = ap (λ q. option_map (entry_at slot) (slice_get q
 
 -- ---- a document comes, or goes, as the contracts say it
 
-pub count_shelved : (s : Slab (List Kept)) (ss : List (DocKey × ℕ)) → length (keys_of (queues_of s ss)) ≡ length ss
+pub count_shelved : (s : Slab (List Kept)) (ss : List (DocKey × ℕ)) → length (keys_of (queues_in s ss)) ≡ length ss
 count_shelved s ss = ap length (keys_shelved s ss) ∙ length-map ss (λ (e : DocKey × ℕ). e.0)
 
 pub new_shown : (s t : Slab (List Kept)) (ss rs : List (DocKey × ℕ)) (key : DocKey) (one : Kept) (v : Shelf) → Shows s ss v → None ≡ lookup (same_key key) v.slots
-    → Changes (queues_of s ss) (queues_of t rs) key (one ∷ []) → Changes v.queues (queues_of t rs) key (queue_of v.queues key ++ one ∷ [])
+    → Changes (queues_in s ss) (queues_in t rs) key (one ∷ []) → Changes v.queues (queues_in t rs) key (queue_of v.queues key ++ one ∷ [])
 new_shown s t ss rs key one v e l c =
-    subst (λ q. Changes v.queues (queues_of t rs) key (q ++ one ∷ [])) (sym (none_shown s ss key v e l)) (subst (λ (v : Shelf). Changes v.queues (queues_of t rs) key (one ∷ [])) e c)
+    subst (λ q. Changes v.queues (queues_in t rs) key (q ++ one ∷ [])) (sym (none_shown s ss key v e l)) (subst (λ (v : Shelf). Changes v.queues (queues_in t rs) key (one ∷ [])) e c)
 
 pub new_entry : (s : Slab (List Kept)) (ss : List (DocKey × ℕ)) (key : DocKey) (slot : ℕ) (one : Kept) (v : Shelf) → Shows s ss v → None ≡ lookup (same_key key) v.slots
     → Some (entry_at slot one) ≡ entry_after (queue_of v.queues key) slot one
 new_entry s ss key slot one v e l = ap (λ q. entry_after q slot one) (sym (none_shown s ss key v e l))
 
 pub new_slots : (s t : Slab (List Kept)) (ss rs : List (DocKey × ℕ)) (key : DocKey) (v : Shelf) → Shows s ss v → None ≡ lookup (same_key key) v.slots
-    → ((k : DocKey) → same_key key k ≡ false → lookup (same_key k) rs ≡ lookup (same_key k) ss) → KeepsSlots v (record { queues = queues_of t rs; slots = rs })
+    → ((k : DocKey) → same_key key k ≡ false → lookup (same_key k) rs ≡ lookup (same_key k) ss) → KeepsSlots v (record { queues = queues_in t rs; slots = rs })
 new_slots s t ss rs key v e l others = λ k g h is at. ⊎_elim {C = slot_of rs k ≡ slot_of v.slots k}
     (λ u. absurd (none_some g (sym (ap (λ q. slice_get q 0) (sym (same_queue v.queues key k u) ∙ none_shown s ss key v e l)) ∙ is)))
     (λ f. ap (λ o. unwrap_or o 0) (others k f) ∙ ap (λ (v : Shelf). slot_of v.slots k) e)
@@ -262,10 +262,10 @@ old_entry s ss key slot at one v e a l = by (queue_of v.queues key) (subst (λ q
     by [] lt = absurd (omega (arith, lt))
     by (x ∷ xs) lt = refl
 
-pub unique_keys : (t : Slab (List Kept)) (ss : List (DocKey × ℕ)) → IsDistinct same_key (keys_of ss) → IsDistinct same_key (keys_of (queues_of t ss))
+pub unique_keys : (t : Slab (List Kept)) (ss : List (DocKey × ℕ)) → IsDistinct same_key (keys_of ss) → IsDistinct same_key (keys_of (queues_in t ss))
 unique_keys t ss d = subst (IsDistinct same_key) (sym (keys_shelved t ss)) d
 
-pub unique_shown : (s t : Slab (List Kept)) (ss : List (DocKey × ℕ)) → IsShelf ss s → IsDistinct same_key (keys_of (queues_of t ss))
+pub unique_shown : (s t : Slab (List Kept)) (ss : List (DocKey × ℕ)) → IsShelf ss s → IsDistinct same_key (keys_of (queues_in t ss))
 unique_shown s t ss a = unique_keys t ss a.unique
 
 -- after the first of a queue came out, and a next one is there
@@ -293,9 +293,9 @@ kept_removed es rs ss fs key c others k h e = ⊎_elim {C = lookup (same_key k) 
     (true_or_false (same_key key k))
 
 pub taken_shown : (s t : Slab (List Kept)) (ss rs : List (DocKey × ℕ)) (key : DocKey) (slot : ℕ) (v : Shelf) → Shows s ss v → Some slot ≡ lookup (same_key key) v.slots
-    → Changes (queues_of s ss) (queues_of t rs) key (drop 1 (queue_in s slot)) → Changes v.queues (queues_of t rs) key (drop 1 (queue_of v.queues key))
+    → Changes (queues_in s ss) (queues_in t rs) key (drop 1 (queue_in s slot)) → Changes v.queues (queues_in t rs) key (drop 1 (queue_of v.queues key))
 taken_shown s t ss rs key slot v e l c =
-    subst (λ q. Changes v.queues (queues_of t rs) key (drop 1 q)) (sym (queue_shown s ss key slot v e l)) (subst (λ (v : Shelf). Changes v.queues (queues_of t rs) key (drop 1 (queue_in s slot))) e c)
+    subst (λ q. Changes v.queues (queues_in t rs) key (drop 1 q)) (sym (queue_shown s ss key slot v e l)) (subst (λ (v : Shelf). Changes v.queues (queues_in t rs) key (drop 1 (queue_in s slot))) e c)
 
 pub next_shown : (s : Slab (List Kept)) (ss : List (DocKey × ℕ)) (key : DocKey) (slot : ℕ) (v : Shelf) (o : Option Entry) → Shows s ss v → Some slot ≡ lookup (same_key key) v.slots
     → o ≡ option_map (entry_at slot) (slice_get (drop 1 (queue_in s slot)) 0) → o ≡ option_map (entry_at (slot_of v.slots key)) (slice_get (drop 1 (queue_of v.queues key)) 0)
@@ -304,5 +304,5 @@ next_shown s ss key slot v o e l is =
     ∙ ap (λ q. option_map (entry_at (slot_of v.slots key)) (slice_get (drop 1 q) 0)) (sym (queue_shown s ss key slot v e l))
 
 pub kept_shown : (s t : Slab (List Kept)) (ss rs : List (DocKey × ℕ)) (v : Shelf) → Shows s ss v
-    → ((k : DocKey) (h : Kept) → slice_get (queue_of (queues_of t rs) k) 0 ≡ Some h → lookup (same_key k) rs ≡ lookup (same_key k) ss) → KeepsSlots v (record { queues = queues_of t rs; slots = rs })
+    → ((k : DocKey) (h : Kept) → slice_get (queue_of (queues_in t rs) k) 0 ≡ Some h → lookup (same_key k) rs ≡ lookup (same_key k) ss) → KeepsSlots v (record { queues = queues_in t rs; slots = rs })
 kept_shown s t ss rs v e kept = λ k g h is at. ap (λ o. unwrap_or o 0) (kept k h at) ∙ ap (λ (v : Shelf). slot_of v.slots k) e

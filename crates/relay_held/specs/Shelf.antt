@@ -15,9 +15,9 @@ use Rattle.relay_held.specs.Queues.{same_key, eligible, merge_of, queue_of, IsHo
 abbrev pub queue_in : Slab (List Kept) → ℕ → List Kept
 queue_in s slot = unwrap_or (get s slot) []
 
-abbrev pub queues_of : Slab (List Kept) → List (DocKey × ℕ) → List (DocKey × List Kept)
-queues_of s [] = []
-queues_of s (e ∷ es) = (e.0, queue_in s e.1) ∷ queues_of s es
+abbrev pub queues_in : Slab (List Kept) → List (DocKey × ℕ) → List (DocKey × List Kept)
+queues_in s [] = []
+queues_in s (e ∷ es) = (e.0, queue_in s e.1) ∷ queues_in s es
 
 -- the queues of the documents, and the slot of each
 pub record Shelf : Type 0 where

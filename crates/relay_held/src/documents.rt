@@ -13,7 +13,7 @@ ghost use Rattle.relay_held.specs.declared.documents.Taken.{Taken};
 ghost use Rattle.relay_held.specs.Kept.{launch_one, back_at, halved_at, candidate_of};
 ghost use Rattle.relay_held.specs.Queues.{same_key, on_first, first_name, queue_of, Changes};
 ghost use Rattle.relay_held.specs.Queues.{NoneEmpty};
-ghost use Rattle.relay_held.specs.Shelf.{queue_in, queues_of, IsShelf, Sets, slot_of, KeepsSlots};
+ghost use Rattle.relay_held.specs.Shelf.{queue_in, queues_in, IsShelf, Sets, slot_of, KeepsSlots};
 ghost use Rattle.relay_held.specs.Shelf.{entry_at, entry_after};
 
 use crate::held::NotHeld;
@@ -34,12 +34,12 @@ pub struct Documents {
 }
 
 impl Model for Documents {
-    ghost use Rattle.relay_held.specs.Shelf.{Shelf, queues_of, IsShelf};
+    ghost use Rattle.relay_held.specs.Shelf.{Shelf, queues_in, IsShelf};
 
     ghost Value = { Shelf };
 
     ghost view = { λ d. record
-        { queues = queues_of d.queues d.slots.entries; slots = d.slots.entries } };
+        { queues = queues_in d.queues d.slots.entries; slots = d.slots.entries } };
 
     ghost invariant = { λ d. IsShelf d.slots.entries d.queues };
 }
@@ -170,8 +170,8 @@ fn add(
     requires slot { HasRoomFor queues.old 1 }
     requires none { lookup (same_key key) slots.old.entries ≡ None }
     requires shelf { IsShelf slots.old.entries queues.old }
-    ensures added { Changes (queues_of queues.old slots.old.entries)
-        (queues_of queues.new slots.new.entries) key (one ∷ []) }
+    ensures added { Changes (queues_in queues.old slots.old.entries)
+        (queues_in queues.new slots.new.entries) key (one ∷ []) }
     ensures shelf { IsShelf slots.new.entries queues.new }
     ensures entry { result ≡ entry_at (slot_of slots.new.entries key) one }
     ensures others { (k : DocKey) → same_key key k ≡ false
@@ -207,8 +207,8 @@ fn push_new(
 ) -> Result<Entry, NotHeld>
     requires none { lookup (same_key one.key) slots.old.entries ≡ None }
     requires shelf { IsShelf slots.old.entries queues.old }
-    ensures ok { OnOk result (Changes (queues_of queues.old slots.old.entries)
-        (queues_of queues.new slots.new.entries) one.key (one ∷ [])) }
+    ensures ok { OnOk result (Changes (queues_in queues.old slots.old.entries)
+        (queues_in queues.new slots.new.entries) one.key (one ∷ [])) }
     ensures entry { IfOk result (λ e. e ≡ entry_at (slot_of slots.new.entries one.key) one) }
     ensures shelf { IsShelf slots.new.entries queues.new }
     ensures others { OnOk result ((k : DocKey) → same_key one.key k ≡ false
@@ -238,8 +238,8 @@ fn remove(
     requires slot { lookup (same_key key.now) slots.old.entries ≡ Some slot }
     requires last { drop 1 (queue_in queues.old slot) ≡ [] }
     requires shelf { IsShelf slots.old.entries queues.old }
-    ensures removed { Changes (queues_of queues.old slots.old.entries)
-        (queues_of queues.new slots.new.entries) key.now [] }
+    ensures removed { Changes (queues_in queues.old slots.old.entries)
+        (queues_in queues.new slots.new.entries) key.now [] }
     ensures shelf { IsShelf slots.new.entries queues.new }
     ensures name { option_map (λ (t : Taken). t.name) result
         ≡ first_name (queue_in queues.old slot) }
@@ -266,15 +266,15 @@ fn take_in(
 ) -> Option<Taken>
     requires slot { lookup (same_key key.now) slots.old.entries ≡ Some slot }
     requires shelf { IsShelf slots.old.entries queues.old }
-    ensures taken { Changes (queues_of queues.old slots.old.entries)
-        (queues_of queues.new slots.new.entries) key.now (drop 1 (queue_in queues.old slot)) }
+    ensures taken { Changes (queues_in queues.old slots.old.entries)
+        (queues_in queues.new slots.new.entries) key.now (drop 1 (queue_in queues.old slot)) }
     ensures shelf { IsShelf slots.new.entries queues.new }
     ensures name { option_map (λ (t : Taken). t.name) result
         ≡ first_name (queue_in queues.old slot) }
     ensures next { IfSome result (λ t. t.next
         ≡ option_map (entry_at slot) (slice_get (drop 1 (queue_in queues.old slot)) 0)) }
     ensures kept { (k : DocKey) (h : Kept)
-        → slice_get (queue_of (queues_of queues.new slots.new.entries) k) 0 ≡ Some h
+        → slice_get (queue_of (queues_in queues.new slots.new.entries) k) 0 ≡ Some h
         → lookup (same_key k) slots.new.entries ≡ lookup (same_key k) slots.old.entries }
     ensures fewer { length slots.new.entries ≤ length slots.old.entries }
 {

@@ -9,7 +9,7 @@ use Rattle.relay_results.specs.Documents.{Document, document_of, same_document}
 use Rattle.relay_results.specs.Outside.{is_above}
 use Rattle.relay_results.proofs.Same.{same_document-true, same_document-self}
 use Rattle.relay_index.specs.States.{State, applied_writes, applied_among, last_of, stored_version, total, NoneEmpty, AreOf, RiseFrom, IsIndex, IsHighest}
-use Rattle.relay_index.specs.Lists.{with_write, after_write}
+use Rattle.relay_index.specs.Lists.{with_write, index_after}
 use Rattle.relay_index.specs.Runs.{is_newer}
 
 -- ---- documents
@@ -112,7 +112,7 @@ total-with_write (e ∷ es) w = by (same_document (document_of w.key) (document_
     by true f rest = rw f (omega (arith, length-append e.1 (w ∷ [])))
     by false f rest = rw f (omega (arith, rest))
 
-pub IsIndex-appended : (s : State) (w : Write) → IsIndex s → is_newer s w ≡ true → IsIndex (after_write s w)
+pub IsIndex-appended : (s : State) (w : Write) → IsIndex s → is_newer s w ≡ true → IsIndex (index_after s w)
 IsIndex-appended s w h newer = record {
   begun = NoneEmpty-with_write s.documents w h.begun;
   of_document = λ k. subst (AreOf k) (sym (applied-with_write s.documents w k)) (of_at k (same_document k (document_of w.key)) refl);
@@ -132,7 +132,7 @@ IsIndex-appended s w h newer = record {
 
 -- the version that is stored_version is the write's, where the document is its own
 pub stored-appended : (s : State) (w : Write) (k : Document)
-    → stored_version (after_write s w) k ≡ (if same_document k (document_of w.key) then Some w.version else stored_version s k)
+    → stored_version (index_after s w) k ≡ (if same_document k (document_of w.key) then Some w.version else stored_version s k)
 stored-appended s w k = rw (applied-with_write s.documents w k) (by (same_document k (document_of w.key)) refl)
   where
     by : (b : Bool) → same_document k (document_of w.key) ≡ b
@@ -147,12 +147,12 @@ abbrev pub highest_with : Option ℕ → ℕ → ℕ
 highest_with highest version = max (unwrap_or highest 0) version
 
 -- the document of the write has its version
-own_version : (s : State) (w : Write) → stored_version (after_write s w) (document_of w.key) ≡ Some w.version
+own_version : (s : State) (w : Write) → stored_version (index_after s w) (document_of w.key) ≡ Some w.version
 own_version s w = stored-appended s w (document_of w.key) ∙ rw (same_document-self (document_of w.key)) refl
 
 -- no version is above a bound that the write's version and the versions stored_version before keep
 within : (s : State) (w : Write) (n : ℕ) → w.version ≤ n → ((k : Document) (v : ℕ) → stored_version s k ≡ Some v → v ≤ n)
-    → (k : Document) (v : ℕ) → stored_version (after_write s w) k ≡ Some v → v ≤ n
+    → (k : Document) (v : ℕ) → stored_version (index_after s w) k ≡ Some v → v ≤ n
 within s w n own others k v e = by (same_document k (document_of w.key)) refl
   where
     by : (b : Bool) → same_document k (document_of w.key) ≡ b → v ≤ n
@@ -160,7 +160,7 @@ within s w n own others k v e = by (same_document k (document_of w.key)) refl
     by false f = others k v (rw f at (sym (stored-appended s w k) ∙ e))
 
 -- the greatest version before, where the write's is not above it, is still that of its document
-still : (s : State) (w : Write) (k : Document) (n : ℕ) → is_newer s w ≡ true → w.version ≤ n → stored_version s k ≡ Some n → stored_version (after_write s w) k ≡ Some n
+still : (s : State) (w : Write) (k : Document) (n : ℕ) → is_newer s w ≡ true → w.version ≤ n → stored_version s k ≡ Some n → stored_version (index_after s w) k ≡ Some n
 still s w k n newer below e = stored-appended s w k ∙ by (same_document k (document_of w.key)) refl
   where
     by : (b : Bool) → same_document k (document_of w.key) ≡ b → (if same_document k (document_of w.key) then Some w.version else stored_version s k) ≡ Some n
@@ -170,7 +170,7 @@ still s w k n newer below e = stored-appended s w k ∙ by (same_document k (doc
         let above : is_above (Some n) w.version ≡ true = ap (λ o. is_above o w.version) (sym e ∙ ap (stored_version s) (sym place)) ∙ newer in
         absurd (omega (arith, ltb-true n w.version above))
 
-pub IsHighest-appended : (s : State) (w : Write) (highest : Option ℕ) → IsHighest s highest → is_newer s w ≡ true → IsHighest (after_write s w) (Some (highest_with highest w.version))
+pub IsHighest-appended : (s : State) (w : Write) (highest : Option ℕ) → IsHighest s highest → is_newer s w ≡ true → IsHighest (index_after s w) (Some (highest_with highest w.version))
 IsHighest-appended s w None h newer =
     let is : max 0 w.version ≡ w.version = omega arith in (
       (document_of w.key, rw is (own_version s w)),
@@ -181,7 +181,7 @@ IsHighest-appended s w None h newer =
     none_some v e = cc
 IsHighest-appended s w (Some n) h newer = by (ltb n w.version) refl
   where
-    by : (b : Bool) → ltb n w.version ≡ b → IsHighest (after_write s w) (Some (max n w.version))
+    by : (b : Bool) → ltb n w.version ≡ b → IsHighest (index_after s w) (Some (max n w.version))
     by true e =
         let above : n < w.version = ltb-true n w.version e in
         let is : max n w.version ≡ w.version = omega arith in (

@@ -15,9 +15,9 @@ with_write (e ∷ es) w =
     if same_document (document_of w.key) (document_of e.0) then (e.0, e.1 ++ w ∷ []) ∷ es else e ∷ with_write es w
 
 -- the index after the write was applied
-abbrev pub after_write : State → Write → State
-after_write s w = record { documents = with_write s.documents w; count = one_more s.count }
+abbrev pub index_after : State → Write → State
+index_after s w = record { documents = with_write s.documents w; count = one_more s.count }
 
 -- the index after it ran or refused the write
 abbrev pub after_run : State → Write → Choice → State
-after_run s w choice = if is_run s w choice then after_write s w else s
+after_run s w choice = if is_run s w choice then index_after s w else s

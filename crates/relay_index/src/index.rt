@@ -10,7 +10,7 @@ ghost use Rattle.relay_index.specs.States.{IsIndex};
 ghost use Rattle.relay_index.specs.Choices.{MayChoose};
 ghost use Rattle.relay_index.specs.Keys.{document_order, same_key, AreKeys};
 ghost use Rattle.indexmap.specs.IndexMap.{keys as keys_of};
-ghost use Rattle.relay_index.specs.Lists.{with_write, after_write, after_run};
+ghost use Rattle.relay_index.specs.Lists.{with_write, index_after, after_run};
 ghost use Rattle.relay_index.specs.Runs.{is_newer, is_run, status_by, result_of, applied_result};
 ghost use Rattle.relay_index.specs.Runs.{status_of, done_of, outcome_of_run, Effect, Shows};
 
@@ -182,7 +182,7 @@ impl Index {
     // unchanged.
     fn apply(&mut self, write: &Write) -> Result<(), AllocError>
         requires { IsTrue (is_newer self.old write.now) }
-        ensures ok { OnOk result (self.new ≡ after_write self.old write.now) }
+        ensures ok { OnOk result (self.new ≡ index_after self.old write.now) }
         ensures err { OnErr result (self.new ≡ self.old) }
     {
         append(&mut self.documents, write)?;

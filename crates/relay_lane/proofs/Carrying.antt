@@ -9,7 +9,7 @@ use Rattle.relay_results.proofs.Steps.{continues_itself, continues_on, event_con
 use Rattle.relay_delivery.specs.Lane.{writes_of_all}
 use Rattle.relay_delivery.proofs.Counts.{counts_where}
 use Rattle.relay_delivery.proofs.Fitting.{sound_where, complete_where, total_where}
-use Rattle.relay_core.specs.State.{State, next_batch, next_entries, with_answer, is_flying, IsLane}
+use Rattle.relay_core.specs.State.{State, next_batch, next_entries, after_answer_to, is_flying, IsLane}
 use Rattle.relay_core.specs.Ties.{Fits}
 use Rattle.relay_core.proofs.Tying.{request_fits, run_fits, answer_fits}
 use Rattle.relay_lane.proofs.Out.{request_flies}
@@ -104,9 +104,9 @@ module _ {S : Type 0} (d : Bool) (fits : S → Outside → Type 0) (v w : S) (s 
       (subst (Fits (after_fail s) taken) (sym e.answers.reached) (answer_fits (after_send s) s.flights.next Lost taken e.answers.before (request_flies s l items some) e.answers.may ran))
 
 -- the answer to a request
-pub delivers_answer : {S : Type 0} (d : Bool) (fits : S → Outside → Type 0) (v w : S) (s : State) (number : ℕ) (a : Answer) → is_flying number s ≡ true → Shows d fits v w (AnswersOn number a) → Delivers d fits v w s (with_answer s number a)
+pub delivers_answer : {S : Type 0} (d : Bool) (fits : S → Outside → Type 0) (v w : S) (s : State) (number : ℕ) (a : Answer) → is_flying number s ≡ true → Shows d fits v w (AnswersOn number a) → Delivers d fits v w s (after_answer_to s number a)
 delivers_answer d fits v w s number a flies shows d_true taken o f fit =
     let x = shows d_true o f in
     let ran = runs_on s taken o x.2.before x.2.runs fit in
-    goes_on fits w (with_answer s number a) taken o x.0 x.1 (answers_continue number a o x.0 x.2)
-    (subst (Fits (with_answer s number a) taken) (sym x.2.reached) (answer_fits s number a taken x.2.before flies x.2.may ran))
+    goes_on fits w (after_answer_to s number a) taken o x.0 x.1 (answers_continue number a o x.0 x.2)
+    (subst (Fits (after_answer_to s number a) taken) (sym x.2.reached) (answer_fits s number a taken x.2.before flies x.2.may ran))

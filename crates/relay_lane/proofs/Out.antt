@@ -1,4 +1,4 @@
--- Which numbers are out while requests are sent and with_answer.
+-- Which numbers are out while requests are sent and after_answer_to.
 use Rattle.std.proofs.Common.{◌≡◌, ℕ, ◌+◌, ◌<◌, ◌≤◌, List, [], ◌∷◌, ◌++◌, length, Some, None, Bool, true, false, ◌==◌, ◌||◌, refl, sym, ap, ◌∙◌, subst, ⊎_elim, inl, inr, arith}
 use Rattle.std.specs.Prelude.{not, filter, unwrap_or, if◌then◌else◌}
 use Rattle.std.specs.List.{list_any}
@@ -9,7 +9,7 @@ use Rattle.relay_results.specs.Numbers.{from_one, from_zero}
 use Rattle.relay_results.specs.Outside.{Answer}
 use Rattle.relay_results.proofs.Lists.{true_or_false, equal, equal_test, Mem-cases, Mem-one}
 use Rattle.relay_delivery.specs.Lane.{Flying, is_other, writes_at, writes_of_all}
-use Rattle.relay_core.specs.State.{State, AreNumbered, IsLane, first_number, oldest, next_batch, next_entries, after_request, with_answer, is_flying, writes_of}
+use Rattle.relay_core.specs.State.{State, AreNumbered, IsLane, first_number, oldest, next_batch, next_entries, after_request, after_answer_to, is_flying, writes_of}
 use Rattle.relay_lane.specs.Wires.{without}
 use Rattle.relay_lane.specs.Out.{numbers_of, out_of}
 use Rattle.relay_lane.specs.Turns.{after_send, after_fail, after_answer}
@@ -141,7 +141,7 @@ module _ (s : State) (l : IsLane s) (items : List BatchItem) (some : next_batch 
 pub next_is_new : (s : State) → IsLane s → Mem s.flights.next (out_of s) → ⊥
 next_is_new s l m = let r = (is_between 0 s.core.requests s.core.flying s.flights.next l.numbered m).1 in let n = l.next in absurd (omega (arith, r, n))
 
--- ---- the oldest is with_answer
+-- ---- the oldest is after_answer_to
 
 pub record Oldest (s : State) (number : ℕ) : Type 0 where
   pub first : Flying
@@ -180,15 +180,15 @@ module _ (s : State) (l : IsLane s) (n : ℕ) (o : Oldest s n) where
   pub oldest_out : Mem n (out_of s)
   oldest_out = subst (λ ns. Mem n ns) (sym (ap numbers_of o.are)) (subst (λ m. Mem n (numbers_of o.rest ++ m ∷ [])) o.is (at_end n (numbers_of o.rest)))
 
-  pub rest_flies : (a : Answer) → (with_answer s n a).core.flying ≡ o.rest
+  pub rest_flies : (a : Answer) → (after_answer_to s n a).core.flying ≡ o.rest
   rest_flies a =
       let zero : from_zero n ≡ o.first.request = (let k = o.is in omega (arith, k)) in
       ap (filter (is_other (from_zero n))) o.are ∙ ap (λ k. filter (is_other k) (o.first ∷ o.rest)) zero ∙ first_gone 0 s.core.requests o.first o.rest numbered
 
-  pub one_fewer : (a : Answer) → length s.core.flying ≡ length (with_answer s n a).core.flying + 1
+  pub one_fewer : (a : Answer) → length s.core.flying ≡ length (after_answer_to s n a).core.flying + 1
   one_fewer a = let k = ap length o.are in let r = ap length (rest_flies a) in omega (arith, k, r)
 
-  pub out_answered : (a : Answer) → without n (out_of s) ≡ out_of (with_answer s n a)
+  pub out_answered : (a : Answer) → without n (out_of s) ≡ out_of (after_answer_to s n a)
   out_answered a =
       ap (λ ns. without n ns) (ap numbers_of o.are) ∙ ap (λ m. without m (numbers_of (o.first ∷ o.rest))) o.is
       ∙ without_first 0 s.core.requests o.first o.rest numbered ∙ sym (ap numbers_of (rest_flies a))
@@ -205,7 +205,7 @@ pub one_gone : (s t : State) (a : Answer) → IsLane s → 0 < length s.core.fly
 one_gone s t a l some e =
     let n = flying_first s some in
     let o = oldest_is s n.0 n.1 in
-    let at : t ≡ with_answer s n.0 a = e ∙ ap (λ k. with_answer s k a) (oldest_number s l n.0 o) in
+    let at : t ≡ after_answer_to s n.0 a = e ∙ ap (λ k. after_answer_to s k a) (oldest_number s l n.0 o) in
     let fewer = one_fewer s l n.0 o a in
     let flying = ap (λ (x : State). length x.core.flying) at in
     omega (arith, fewer, flying)

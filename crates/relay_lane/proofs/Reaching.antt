@@ -11,7 +11,7 @@ use Rattle.relay_results.proofs.Lists.{equal_test, any_from, Mem-last}
 use Rattle.relay_delivery.specs.Lane.{Flying, candidates, writes_of_all}
 use Rattle.relay_delivery.specs.Reached.{Takes, Ticks, Sends, Answers, Reached}
 use Rattle.relay_delivery.proofs.Reached.{reached_holds, fresh_reached, call_reached}
-use Rattle.relay_core.specs.State.{State, config_of, later, bytes_of, gathering, next_entries, next_batch, after_request, is_flying, first_number, oldest, with_answer}
+use Rattle.relay_core.specs.State.{State, config_of, later, bytes_of, gathering, next_entries, next_batch, after_request, is_flying, first_number, oldest, after_answer_to}
 use Rattle.relay_core.proofs.Batched.{next_keeps}
 use Rattle.relay_core.proofs.Tying.{chosen_sub}
 use Rattle.relay_lane.specs.Turns.{Turn, Settles, Pauses, after_turn, MayTurn, after_turns, AllMayTurn, Worked}
@@ -30,9 +30,9 @@ take_is_reached s sender body.Done taken r = record { core = subst (λ os. Reach
 -- ---- turns
 
 -- an answer to a request in flight
-answer_reached : (s : State) (number : ℕ) (a : Answer) (taken : List Op) → is_flying number s ≡ true → a ≢ Unanswered → IsReached s taken → IsReached (with_answer s number a) taken
+answer_reached : (s : State) (number : ℕ) (a : Answer) (taken : List Op) → is_flying number s ≡ true → a ≢ Unanswered → IsReached s taken → IsReached (after_answer_to s number a) taken
 answer_reached s number a taken flies given r = record {
-  core = subst (λ os. Reached (with_answer s number a).core os) (append-nil taken) (call_reached s.core (Answers number a) taken r.core (flies, given));
+  core = subst (λ os. Reached (after_answer_to s number a).core os) (append-nil taken) (call_reached s.core (Answers number a) taken r.core (flies, given));
   next = r.next;
 }
 
@@ -53,7 +53,7 @@ sent_reached : (s : State) (b : Option (List BatchItem)) (taken : List Op) → n
 sent_reached s None taken e some r = absurd (cc)
 sent_reached s (Some items) taken e some r = send_reached s items taken e r
 
-failed_reached : (s : State) (b : Option (List BatchItem)) (taken : List Op) → next_batch s ≡ b → is_some b ≡ true → IsReached s taken → IsReached (with_answer (after_request s b) s.flights.next Lost) taken
+failed_reached : (s : State) (b : Option (List BatchItem)) (taken : List Op) → next_batch s ≡ b → is_some b ≡ true → IsReached s taken → IsReached (after_answer_to (after_request s b) s.flights.next Lost) taken
 failed_reached s None taken e some r = absurd (cc)
 failed_reached s (Some items) taken e some r = answer_reached (after_request s (Some items)) s.flights.next Lost taken (new_flies s items taken r) (λ n. absurd (cc)) (send_reached s items taken e r)
 

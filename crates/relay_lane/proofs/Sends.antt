@@ -17,7 +17,7 @@ use Rattle.relay_delivery.specs.Bound.{halvings}
 use Rattle.relay_delivery.proofs.Halving.{halvings-half}
 use Rattle.relay_delivery.specs.Lane.{Entry, held_of, candidates, launched_entry, kept_entry, kept_entries, writes_at}
 use Rattle.relay_core.specs.Rule.{item_of, gathering_after, closes, goes, batch_if}
-use Rattle.relay_core.specs.State.{State, IsLane, all_closed, gathering, next_batch, next_entries, after_request, with_answer}
+use Rattle.relay_core.specs.State.{State, IsLane, all_closed, gathering, next_batch, next_entries, after_request, after_answer_to}
 use Rattle.relay_core.proofs.Flights.{earlier_ones_settled}
 use Rattle.relay_core.proofs.Forming.{items_of_operations}
 use Rattle.relay_lane.proofs.Limits.{among}
@@ -178,7 +178,7 @@ module _ (g : Config) (clock n : ℕ) (ws : List Write) (a : Answer) (answers : 
       let r = all_at_most es (λ x m. room x (inr m)) in
       omega (arith, k, l, r)
 
-pub left_answered : (s : State) (number : ℕ) (a : Answer) → IsLane s → a ≢ Unanswered → sends_left (with_answer s number a) ≤ sends_left s
+pub left_answered : (s : State) (number : ℕ) (a : Answer) → IsLane s → a ≢ Unanswered → sends_left (after_answer_to s number a) ≤ sends_left s
 left_answered s number a l answers =
     all_at_most s.core.config s.core.clock (from_zero number) (writes_at (from_zero number) s.core.flying) a answers s.core.held
     (λ e m large p is here more.
@@ -187,7 +187,7 @@ left_answered s number a l answers =
     omega (arith, le, ws))
 
 -- what is lost is not halved
-pub left_lost : (s : State) (number : ℕ) → sends_left (with_answer s number Lost) ≤ sends_left s
+pub left_lost : (s : State) (number : ℕ) → sends_left (after_answer_to s number Lost) ≤ sends_left s
 left_lost s number =
     all_at_most s.core.config s.core.clock (from_zero number) (writes_at (from_zero number) s.core.flying) Lost (λ e. cc) s.core.held
     (λ e m large. absurd (cc))
@@ -221,9 +221,9 @@ from_kept g clock n ws a (e ∷ es) d m = ⊎_elim {C = (x : Entry) × Mem x (e 
     (λ later. let r = from_kept g clock n ws a es d later in (r.0, inr r.1, r.2))
     (Mem-cases d (kept_entry clock (fate_of g n ws a e.held e.held.flies) e) (kept_entries g clock n ws a es) m)
 
-pub from_answered : (s : State) (number : ℕ) (a : Answer) (d : Entry) → Mem d (with_answer s number a).core.held → (e : Entry) × Mem e s.core.held × (d.held.version ≡ e.held.version)
+pub from_answered : (s : State) (number : ℕ) (a : Answer) (d : Entry) → Mem d (after_answer_to s number a).core.held → (e : Entry) × Mem e s.core.held × (d.held.version ≡ e.held.version)
 from_answered s number a d m = from_kept s.core.config s.core.clock (from_zero number) (writes_at (from_zero number) s.core.flying) a s.core.held d m
 
 -- where nothing is held an answer leaves nothing
-pub none_left : (s : State) (number : ℕ) (a : Answer) → s.core.held ≡ [] → (with_answer s number a).core.held ≡ []
+pub none_left : (s : State) (number : ℕ) (a : Answer) → s.core.held ≡ [] → (after_answer_to s number a).core.held ≡ []
 none_left s number a none = ap (kept_entries s.core.config s.core.clock (from_zero number) (writes_at (from_zero number) s.core.flying) a) none

@@ -9,7 +9,7 @@ use Rattle.relay_results.specs.Words.{Mem}
 use Rattle.relay_results.proofs.Steps.{continues_itself}
 use Rattle.relay_delivery.proofs.Fitting.{clock_fits}
 use Rattle.relay_delivery.specs.Lane.{Entry}
-use Rattle.relay_core.specs.State.{State, IsLane, all_closed, next_batch, after_request, with_answer, due_in}
+use Rattle.relay_core.specs.State.{State, IsLane, all_closed, next_batch, after_request, after_answer_to, due_in}
 use Rattle.relay_core.specs.Ties.{Fits}
 use Rattle.relay_core.proofs.Valid.{valid_facts}
 use Rattle.relay_lane.specs.Turns.{Turn, Sends, Fails, Settles, Pauses, after_send, after_fail, after_answer, after_ticks, after_turn, MayTurn, Worked, Paused, sends_in, ticks_in, pumps, sends_only, sends_first, sends_left}
@@ -108,12 +108,12 @@ asked_sent b s t l some is asked = ⊎_elim {C = Sent s t}
 pub not_asked : (b : Bool) (s t : State) → b ≡ false → Asked b s t → t ≡ s
 not_asked b s t e x = subst (λ c. Asked c s t) e x
 
--- the oldest was with_answer
+-- the oldest was after_answer_to
 pub settles_turned : (s t : State) (a : Answer) → IsLane s → 0 < length s.core.flying → a ≢ Unanswered → t ≡ after_answer a s → Turned (Settles a) s t
 settles_turned s t a l some answers e =
     let n = flying_first s some in
     let o = oldest_is s n.0 n.1 in
-    let at : after_answer a s ≡ with_answer s n.0 a = ap (λ k. with_answer s k a) (oldest_number s l n.0 o) in
+    let at : after_answer a s ≡ after_answer_to s n.0 a = ap (λ k. after_answer_to s k a) (oldest_number s l n.0 o) in
     let k = left_answered s n.0 a l answers in
     let fewer = one_fewer s l n.0 o a in
     let left = ap sends_left (e ∙ at) in
@@ -124,7 +124,7 @@ settles_turned s t a l some answers e =
       keeps = keeps_as 0 0 s (after_answer a s) t e (turn_keeps (Settles a) s (some, answers));
       left = omega (arith, k, left);
       falls = omega (arith, k, left, fewer, flying);
-      pressed = λ p. subst IsPressed (sym (e ∙ at)) (pressed_as s (with_answer s n.0 a) refl refl (from_answered s n.0 a) p);
+      pressed = λ p. subst IsPressed (sym (e ∙ at)) (pressed_as s (after_answer_to s n.0 a) refl refl (from_answered s n.0 a) p);
     }
 
 pub turned_worked : (going : Turn → State → Bool) (s0 s t : State) (x : Turn) → Worked going s0 s → going x s ≡ true → Turned x s t → Worked going s0 t

@@ -4,11 +4,11 @@ use Rattle.relay_results.specs.Outside.{Answer, Unanswered, Lost}
 use Rattle.relay_delivery.specs.Bound.{halvings}
 use Rattle.relay_delivery.specs.Machine.{Place}
 use Rattle.relay_delivery.specs.Lane.{Entry}
-use Rattle.relay_core.specs.State.{State, last_tick, next_batch, after_request, with_answer, oldest, due_in}
+use Rattle.relay_core.specs.State.{State, last_tick, next_batch, after_request, after_answer_to, oldest, due_in}
 
 -- ---- turns
 
--- its next request is sent; or it cannot be sent, and counts as lost; the oldest request in flight is with_answer; or
+-- its next request is sent; or it cannot be sent, and counts as lost; the oldest request in flight is after_answer_to; or
 -- ticks pass
 pub data Turn : Type 0 where
   Sends : Turn
@@ -20,10 +20,10 @@ abbrev pub after_send : State → State
 after_send s = after_request s (next_batch s)
 
 abbrev pub after_fail : State → State
-after_fail s = with_answer (after_send s) s.flights.next Lost
+after_fail s = after_answer_to (after_send s) s.flights.next Lost
 
 abbrev pub after_answer : Answer → State → State
-after_answer a s = with_answer s (unwrap_or (oldest s) 0) a
+after_answer a s = after_answer_to s (unwrap_or (oldest s) 0) a
 
 abbrev pub after_ticks : ℕ → State → State
 after_ticks n s = record s { core = record s.core { clock = s.core.clock + n } }
@@ -34,7 +34,7 @@ after_turn Fails s = after_fail s
 after_turn (Settles a) s = after_answer a s
 after_turn (Pauses n) s = after_ticks n s
 
--- if a batch is to be sent it is sent, if a request is in flight it is with_answer, and if neither is possible, it
+-- if a batch is to be sent it is sent, if a request is in flight it is after_answer_to, and if neither is possible, it
 -- pauses until the first operation is due
 abbrev pub MayTurn : Turn → State → Type 0
 MayTurn Sends s = is_some (next_batch s) ≡ true

@@ -1,6 +1,6 @@
 //! One request over a wire.
 ghost use Rattle.std.specs.Prelude.{◌≡◌, true};
-ghost use Rattle.relay_core.specs.State.{is_flying, with_answer};
+ghost use Rattle.relay_core.specs.State.{is_flying, after_answer_to};
 ghost use Rattle.relay_lane.specs.Wires.{answer_of, IsWireReply};
 
 use crate::wire::{WireFault, WireReply};
@@ -10,7 +10,7 @@ use relay_core::Lane;
 pub(crate) fn settle(lane: &mut Lane, number: u64, answer: Result<WireReply, WireFault>)
     requires flies { is_flying number lane.old.state ≡ true }
     requires reply { IsWireReply answer }
-    ensures { lane.new.state ≡ with_answer lane.old.state number (answer_of answer) }
+    ensures { lane.new.state ≡ after_answer_to lane.old.state number (answer_of answer) }
 {
     let _ = match answer {
         Ok(WireReply::Items(outcomes)) => lane.reply(number, outcomes),

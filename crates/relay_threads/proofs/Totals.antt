@@ -1,4 +1,4 @@
--- Each operation that was taken is held, was applied or is reports_of, whatever a lane does.
+-- Each operation that was taken is held, was applied or is reports_from, whatever a lane does.
 use Rattle.std.proofs.Common.{◌≡◌, ℕ, ◌+◌, List, [], ◌∷◌, ◌++◌, Option, Some, None, Bool, true, false, refl, sym, ap, ◌∙◌, subst, arith, length, length-append}
 use Rattle.std.specs.Prelude.{nat_lt, map, unwrap_or}
 use Rattle.relay_action.specs.declared.write.Write.{Write}
@@ -9,12 +9,12 @@ use Rattle.relay_batch.specs.declared.item.BatchItem.{BatchItem}
 use Rattle.relay_results.specs.Numbers.{from_zero}
 use Rattle.relay_results.specs.Outside.{Answer, Lost}
 use Rattle.relay_results.specs.Fates.{Fate, Flies, Applied, Already, Retried, Halved, Reported}
-use Rattle.relay_delivery.specs.Machine.{Config, spent_if, kept_one, still_held, reports_of, fate_of, how_many, is_applied_fate, is_already_fate}
+use Rattle.relay_delivery.specs.Machine.{Config, spent_if, kept_one, still_held, reports_from, fate_of, how_many, is_applied_fate, is_already_fate}
 use Rattle.relay_delivery.specs.Lane as delivery
 use Rattle.relay_delivery.specs.Lane.{Entry, held_of, entry_if, kept_entry, kept_entries, launched_entry, after_settling, writes_at}
 use Rattle.relay_delivery.proofs.Fates.{totals-settled}
 use Rattle.std.proofs.lemmas.List.{length-map}
-use Rattle.relay_core.specs.State.{State, after_take, after_request, next_batch, next_entries, with_answer, oldest, bytes_of}
+use Rattle.relay_core.specs.State.{State, after_take, after_request, next_batch, next_entries, after_answer_to, oldest, bytes_of}
 use Rattle.relay_core.specs.Ties.{ops_of}
 use Rattle.relay_lane.specs.Turns.{Turn, Sends, Fails, Settles, Pauses, after_send, after_turn, after_turns, Worked}
 use Rattle.relay_threads.specs.Course.{HasTotals}
@@ -47,7 +47,7 @@ settled_totals s number ws a t =
     let all = totals-settled s.config number ws a (held_of s.held) in
     let k = all_kept s.config s.clock number ws a s.held in
     let m = length-map s.held (λ (e : Entry). e.held) in
-    let r = length-append s.reports (reports_of s.config number ws a (held_of s.held)) in
+    let r = length-append s.reports (reports_from s.config number ws a (held_of s.held)) in
     omega (arith, t, all, k, m, r)
 
 asked_totals : (s : State) (b : Option (List BatchItem)) → HasTotals s → HasTotals (after_request s b)
@@ -56,7 +56,7 @@ asked_totals s (Some items) t =
     let m = length-map s.core.held (launched_entry s.core.requests (held_of (next_entries s))) in
     omega (arith, t, m)
 
-answered_totals : (s : State) (number : ℕ) (a : Answer) → HasTotals s → HasTotals (with_answer s number a)
+answered_totals : (s : State) (number : ℕ) (a : Answer) → HasTotals s → HasTotals (after_answer_to s number a)
 answered_totals s number a t = settled_totals s.core (from_zero number) (writes_at (from_zero number) s.core.flying) a t
 
 -- ---- turns

@@ -81,7 +81,7 @@ module _ (w : World) (t : Together) (b : ℕ → ℕ) (i : IsTied w t b) (k : �
   desk_now = record {
     queue_is = desk_is.queue_is;
     taken = desk_is.taken;
-    lane = subst (λ x. delivery.IsOf (numbered_on (b s.lane) (delivery.with_answer d.lane.core s.number a)) (step x (Answers from.number a) (t.lanes.lane s.lane))) works.config
+    lane = subst (λ x. delivery.IsOf (numbered_on (b s.lane) (delivery.after_answer_to d.lane.core s.number a)) (step x (Answers from.number a) (t.lanes.lane s.lane))) works.config
         (answer_on (b s.lane) d.lane.core (t.lanes.lane s.lane) s.number a flies desk_is.lane);
     works = λ x e. let one : answered d ≡ x = cc in subst (IsLaneOf w.config) one (record { config = works.config; senders = works.senders; next = works.next });
   }

@@ -130,10 +130,10 @@ pub answered_keeps : (number : ℕ) (a : Answer) (d : Desk) → IsDesk d → IsD
 answered_keeps number a d i = record { known = i.known; senders = i.senders; fresh = below-filter d.lane.flights.next number d.lane.flights.batches i.fresh }
 
 -- by whether the lane took the answer
-pub answer_keeps : {A E : Type 0} (r : Result A E) (number : ℕ) (a : Answer) (d : Desk) (l : lane.State) → OnOk r (l ≡ lane.with_answer d.lane number a) → OnErr r (l ≡ d.lane)
+pub answer_keeps : {A E : Type 0} (r : Result A E) (number : ℕ) (a : Answer) (d : Desk) (l : lane.State) → OnOk r (l ≡ lane.after_answer_to d.lane number a) → OnErr r (l ≡ d.lane)
     → IsDesk d → IsDesk (record d { lane = l })
 answer_keeps r number a d l ok err i =
-    either r (l ≡ lane.with_answer d.lane number a) (l ≡ d.lane) (IsDesk (record d { lane = l })) ok err
+    either r (l ≡ lane.after_answer_to d.lane number a) (l ≡ d.lane) (IsDesk (record d { lane = l })) ok err
     (λ e. subst (λ x. IsDesk (record d { lane = x })) (sym e) (answered_keeps number a d i))
     (λ e. subst (λ x. IsDesk (record d { lane = x })) (sym e) i)
 

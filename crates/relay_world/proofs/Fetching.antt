@@ -107,7 +107,7 @@ module _ (w : World) (t : Together) (b : ℕ → ℕ) (i : IsTied w t b) (l : �
         (act_together g (lane_of w) (ended_of w) t (Plain (Fetches l)) i.came_about (tt, tt) tt)
 
     left : Desk
-    left = record { queue = ms; senders = d.senders; taken = d.taken ++ o ∷ []; lane = lane.after_put d.lane o }
+    left = record { queue = ms; senders = d.senders; taken = d.taken ++ o ∷ []; lane = lane.after_op d.lane o }
 
     left_is : front_taken (m ∷ ms) d ≡ left
     unfolding left
@@ -121,8 +121,8 @@ module _ (w : World) (t : Together) (b : ℕ → ℕ) (i : IsTied w t b) (l : �
         record {
           queue_is = refl;
           taken = ap (λ os. os ++ o ∷ []) now.taken;
-          lane = subst (λ x. delivery.IsOf (numbered_on (b l) (lane.after_put d.lane o).core) (step x (Takes o) (t.lanes.lane l))) old.config (take_on (b l) d.lane.core (t.lanes.lane l) o (lane.bytes_of d.lane o) now.lane);
-          works = λ x e. let one : record { queue = ms; senders = d.senders; taken = d.taken ++ o ∷ []; lane = lane.after_put d.lane o } ≡ x = cc in subst (IsLaneOf w.config) one (record { config = old.config; senders = old.senders; next = old.next });
+          lane = subst (λ x. delivery.IsOf (numbered_on (b l) (lane.after_op d.lane o).core) (step x (Takes o) (t.lanes.lane l))) old.config (take_on (b l) d.lane.core (t.lanes.lane l) o (lane.bytes_of d.lane o) now.lane);
+          works = λ x e. let one : record { queue = ms; senders = d.senders; taken = d.taken ++ o ∷ []; lane = lane.after_op d.lane o } ≡ x = cc in subst (IsLaneOf w.config) one (record { config = old.config; senders = old.senders; next = old.next });
         }
 
     same_outside : (n : ℕ) → (fetched_now.lanes.lane n).outside ≡ (t.lanes.lane n).outside

@@ -121,7 +121,7 @@ module _ (w : World) (t : Together) (b : ℕ → ℕ) (i : IsTied w t b) (l : �
   desk_left = record {
     queue_is = desk_is.queue_is;
     taken = desk_is.taken;
-    lane = subst (λ x. delivery.IsOf (numbered_on (b l) (delivery.with_request d.lane.core entries)) (step x (Sends chosen) (t.lanes.lane l))) works.config (send_on (b l) d.lane.core (t.lanes.lane l) entries desk_is.lane);
+    lane = subst (λ x. delivery.IsOf (numbered_on (b l) (delivery.after_request_of d.lane.core entries)) (step x (Sends chosen) (t.lanes.lane l))) works.config (send_on (b l) d.lane.core (t.lanes.lane l) entries desk_is.lane);
     works = λ x e.
         let one : record { queue = d.queue; senders = d.senders; taken = d.taken; lane = lane.after_request d.lane (Some items) } ≡ x = cc in
         subst (IsLaneOf w.config) one (record { config = works.config; senders = works.senders; next = ap (λ n. n + 1) works.next });

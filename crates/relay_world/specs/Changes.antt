@@ -134,7 +134,7 @@ abbrev pub with_answer : Answer → Sent → Sent
 with_answer a s = record s { answer = a }
 
 abbrev pub answered_desk : ℕ → Answer → Desk → Desk
-answered_desk number a d = record d { lane = lane.with_answer d.lane number a }
+answered_desk number a d = record d { lane = lane.after_answer_to d.lane number a }
 
 abbrev pub after_answer : World → ℕ → Sent → Answer → World
 after_answer w request s a = record (at_lane s.lane (answered_desk s.number a) w) { sent = update (request - 1) (with_answer a) w.sent }

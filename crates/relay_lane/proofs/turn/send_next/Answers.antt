@@ -4,7 +4,7 @@ use Rattle.relay_ndjson.specs.Bulk.{text_of}
 use Rattle.relay_results.specs.Words.{Mem}
 use Rattle.relay_results.specs.Outside.{Lost}
 use Rattle.relay_delivery.specs.Lane.{writes_of_all}
-use Rattle.relay_core.specs.State.{State, next_entries, with_answer, is_flying, writes_of}
+use Rattle.relay_core.specs.State.{State, next_entries, after_answer_to, is_flying, writes_of}
 use Rattle.relay_lane.specs.Delivers.{Delivers}
 use Rattle.relay_lane.specs.Out.{out_of}
 use Rattle.relay_lane.specs.Wires.{SendsOn, ExchangesOn, ShowsNext}
@@ -89,8 +89,8 @@ returns-in-Ok-clause-delivers g c =
     (delivers_send d g.W.Wire.fits v w s c.totals.ensures.lane items.0 items.1 ws same (subst (λ n. ShowsNext d g.W.Wire.fits v w n (SendsOn ws)) number c.in-Ok.ensures.outside))
 
 -- a request that could not be sent is settled as lost
-lost_is : (s t u : State) (n : _) → n ≡ s.flights.next → t ≡ after_send s → u ≡ with_answer t n Lost → u ≡ after_fail s
-lost_is s t u n number after settled = settled ∙ (λ i. with_answer (after i) (number i) Lost)
+lost_is : (s t u : State) (n : _) → n ≡ s.flights.next → t ≡ after_send s → u ≡ after_answer_to t n Lost → u ≡ after_fail s
+lost_is s t u n number after settled = settled ∙ (λ i. after_answer_to (after i) (number i) Lost)
 
 pub returns-in-Err-clause-turn : goal.returns-in-Err-clause-turn
 returns-in-Err-clause-turn g c =

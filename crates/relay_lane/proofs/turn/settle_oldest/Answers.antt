@@ -1,6 +1,6 @@
 use Rattle.std.proofs.Common.{sym, ap, ◌∙◌, subst}
 use Rattle.relay_results.specs.Words.{Mem}
-use Rattle.relay_core.specs.State.{with_answer}
+use Rattle.relay_core.specs.State.{after_answer_to}
 use Rattle.relay_lane.specs.Delivers.{Delivers}
 use Rattle.relay_lane.specs.Out.{out_of}
 use Rattle.relay_lane.specs.Wires.{answer_of, without}
@@ -25,7 +25,7 @@ returns-in-Some-clause-turn g c =
     let s = c.args.lane.now.state in
     let o = oldest_is s c.in-Some.number (sym c.oldest.ensures ∙ c.in-Some.is) in
     let a = answer_of c.receive-answer.result in
-    (a, answers c.receive-answer.result, c.settle.ensures ∙ sym (ap (λ n. with_answer s n a) (oldest_number s c.totals.ensures.lane c.in-Some.number o)))
+    (a, answers c.receive-answer.result, c.settle.ensures ∙ sym (ap (λ n. after_answer_to s n a) (oldest_number s c.totals.ensures.lane c.in-Some.number o)))
 
 pub returns-in-Some-clause-out : goal.returns-in-Some-clause-out
 returns-in-Some-clause-out g c =

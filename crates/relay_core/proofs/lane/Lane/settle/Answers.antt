@@ -9,7 +9,7 @@ use Rattle.relay_flight.proofs.Numbers.{batches_settled}
 use Rattle.relay_results.proofs.Lists.{apart_tests}
 use Rattle.relay_core.specs.Quiet.{is_roomy}
 use Rattle.relay_core.specs.Walk.{report_of, kept_walk, reports_walk, tally_walk}
-use Rattle.relay_core.specs.State.{State, is_flying, with_answer, writes_of, count_of, is_reported_fate, is_retried_fate}
+use Rattle.relay_core.specs.State.{State, is_flying, after_answer_to, writes_of, count_fates, is_reported_fate, is_retried_fate}
 use Rattle.relay_core.specs.Memory.{SaysAs, IsHalf, Carries, writes_in, entries, flying_of, AllUnder, tries_left}
 use Rattle.relay_core.specs.View.{state_of, IsSound}
 use Rattle.relay_core.proofs.Invariant.{readable_after, readable_by, under_walk, left_walk}
@@ -92,7 +92,7 @@ returns-clause-settled c a says =
       flights = flights j;
     })
     ∙ ap (λ vs. record (state_of i) { core = core.after_settling (state_of i).core (n - 1) vs a; flights = flight.without_batch n (batches_of i.flight) }) (sym of_all)
-    ∙ ap (λ (s : State). with_answer s n a) (ap (λ (v : Seen). v.state) c.self.view_is)
+    ∙ ap (λ (s : State). after_answer_to s n a) (ap (λ (v : Seen). v.state) c.self.view_is)
 
 pub returns-clause-counts : goal.returns-clause-counts
 returns-clause-counts c a says =
@@ -113,11 +113,11 @@ returns-clause-counts c a says =
     let of_all = writes_seen 1 next fs n (omega arith) v.flight.numbered from in
     let says' : SaysAs a all c.args.whole os = subst (λ vs. SaysAs a vs c.args.whole os) (ap (λ (s : State). writes_of n s) (sym (ap (λ (v : Seen). v.state) c.self.view_is)) ∙ of_all) says in
     let same : (m : ℕ) → (m == n) ≡ false → writes_in (others n fs) m ≡ writes_in fs m = without_other fs n in
-    let is : (q : Fate → Bool) → q Flies ≡ false → tally_walk q hs g.max n c.args.whole c.in-Some.request.writes.items os ≡ count_of q c.args.self.now.state n a =
+    let is : (q : Fate → Bool) → q Flies ≡ false → tally_walk q hs g.max n c.args.whole c.in-Some.request.writes.items os ≡ count_fates q c.args.self.now.state n a =
     (λ q z. (λ j. tally_walk q hs g.max n c.args.whole (ws j) os)
     ∙ tally_seen g i.held.clock n next c.args.whole all os a (writes_in fs) (writes_in (others n fs)) says' from refl same q z hs 0 all os refl refl (r.carries n) r.kept
     ∙ ap (λ vs. how_many q g (n - 1) vs a (core.held_of (entries hs (writes_in fs)))) (sym of_all)
-    ∙ ap (λ (s : State). count_of q s n a) (ap (λ (v : Seen). v.state) c.self.view_is)) in
+    ∙ ap (λ (s : State). count_fates q s n a) (ap (λ (v : Seen). v.state) c.self.view_is)) in
     record {
       applied = e.applied ∙ is is_applied_fate refl;
       already = e.already ∙ is is_already_fate refl;

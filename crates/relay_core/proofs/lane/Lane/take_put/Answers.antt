@@ -9,7 +9,7 @@ use Rattle.relay_held.specs.declared.kept.Kept.{Kept}
 use Rattle.relay_core.specs.Quiet.{is_roomy, IsQuiet}
 use Rattle.relay_core.proofs.Quiet.{quiet_taken}
 use Rattle.relay_core.specs.Walk.{report_of, items_of_kept}
-use Rattle.relay_core.specs.State.{State, bytes_of, after_put}
+use Rattle.relay_core.specs.State.{State, bytes_of, after_op}
 use Rattle.relay_core.specs.Memory.{entries, writes_in, kept_new, AllUnder, tries_left}
 use Rattle.relay_core.specs.View.{state_of}
 use Rattle.relay_core.proofs.Taken.{entries_new, under_more, under_same, readable_more, left_more, entries_length, on_ok, with_none}
@@ -82,4 +82,4 @@ returns-in-Ok-push-clause-ok c =
     let t : nat_lt i.taken i.config.deal ≡ true = lt-ltb _ _ (omega (arith, c.if-self.false)) in
     (λ j. record (state_of i) { core = record s { clock = c.in-Ok-push.ensures.clock j; taken = i.taken + 1; held = held j; reports = reports j } })
     ∙ (λ j. record (state_of i) { core = record s { taken = i.taken + 1; held = s.held ++ entry_if (sym t j) s o (bytes_of (state_of c.self.inside) c.args.op); reports = s.reports ++ spent_if (sym t j) o } })
-    ∙ ap (λ (x : State). after_put x o) (ap (λ (v : Seen). v.state) c.self.view_is)
+    ∙ ap (λ (x : State). after_op x o) (ap (λ (v : Seen). v.state) c.self.view_is)

@@ -1,7 +1,7 @@
 use Rattle.std.proofs.Common.{◌∙◌, ◌++◌, ◌∷◌, [], sym, ap, subst, arith, length}
 use Rattle.std.specs.Prelude.{Some}
 use Rattle.relay_held.specs.Queues.{Changes}
-use Rattle.relay_held.specs.Shelf.{queues_of, slot_of}
+use Rattle.relay_held.specs.Shelf.{queues_in, slot_of}
 use Rattle.relay_held.proofs.Shelving.{queue_shown, set_shown, count_shelved, count_shown, old_entry, new_shown, new_entry, new_slots, unique_shown, unique_shelved}
 use Rattle.relay_held.proofs.documents.Documents.push.Goals.{in-Ok, in-Err}
 use Rattle.relay_held.proofs.documents.Documents.push.Goals as goal
@@ -11,7 +11,7 @@ returns-in_err-push_in-clause-unique c = unique_shown c.self.inside.queues c.pus
 
 pub returns-in-Some-clause-ok : goal.returns-in-Some-clause-ok
 returns-in-Some-clause-ok c =
-    subst (λ q. Changes c.args.self.now.queues (queues_of c.push_in.new.queues c.self.inside.slots.entries) c.args.one.key (q ++ c.args.one ∷ []))
+    subst (λ q. Changes c.args.self.now.queues (queues_in c.push_in.new.queues c.self.inside.slots.entries) c.args.one.key (q ++ c.args.one ∷ []))
     (sym (queue_shown c.self.inside.queues c.self.inside.slots.entries c.args.one.key c.in-Some.slot c.args.self.now c.self.view_is c.in-Some.ensures))
     (set_shown c.self.inside.queues c.push_in.new.queues c.self.inside.slots.entries c.args.one.key c.in-Some.slot _ c.args.self.now c.self.view_is c.self.invariant c.in-Some.ensures c.in_ok-push_in.ensures.ok)
 
