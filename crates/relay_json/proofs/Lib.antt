@@ -3,6 +3,7 @@ pub mod Leaves
 pub mod Soles
 pub mod Results
 pub mod Turns
+pub mod Rests
 pub mod Numbers
 pub mod Digits
 pub mod PlainTexts

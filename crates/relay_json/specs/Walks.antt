@@ -1,5 +1,5 @@
 -- Values of a text, read where they begin (RFC 8259, section 2).
-use Rattle.std.specs.Prelude.{◌≡◌, ℕ, ◌+◌, List, ◌∷◌, Option, Some, None, MatchOption, Result, Ok, Err}
+use Rattle.std.specs.Prelude.{◌≡◌, ℕ, ◌+◌, ◌≤◌, List, ◌∷◌, ◌++◌, Option, Some, None, MatchOption, Result, Ok, Err}
 use Rattle.json.specs.Token.{Token}
 use Rattle.json.specs.Json.{value}
 use Rattle.serde_json.specs.Data.{Data, Num, null, boolean, number, string, array, object, Items, Members}
@@ -24,6 +24,14 @@ IsRead old d new = (new.depth ≡ old.depth) × Reads old.depth old.reader d new
 -- no value begins at the position of the walk
 abbrev pub IsRefused : Walk → Type 0
 IsRefused walk = Refuses walk.depth walk.reader
+
+-- these tokens are what is left of `tokens` after some of them, or none, were passed
+abbrev pub IsRestOf : List Token → List Token → Type 0
+IsRestOf rest tokens = (passed : List Token) × (tokens ≡ passed ++ rest)
+
+-- the walk only went forward in its text, and reads nothing deeper than it did
+abbrev pub IsPast : Walk → Walk → Type 0
+IsPast old new = IsRestOf new.reader old.reader × (new.depth ≤ old.depth)
 
 -- the walk went into the array or the object that this bracket opens
 abbrev pub Opens : Token → Walk → Walk → Type 0

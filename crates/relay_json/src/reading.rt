@@ -16,8 +16,9 @@ use json::Scratch;
 /// which is returned; otherwise the result is `None`. Of members with the same name the last
 /// counts.
 ///
-/// `scratch` is a buffer to be used for one text after another; it grows to the length of the
-/// longest. A refused text leaves nothing in it but that room.
+/// `scratch` is a buffer that serves one text after another. No result depends on what is in it,
+/// and it only grows, to the length of the longest text; no contract says that it keeps its room,
+/// since it is lent for as long as what was read is in use.
 pub fn read_object<'t, G: Gather<'t>>(
     text: &'t [u8],
     scratch: &'t mut Scratch,
@@ -36,7 +37,8 @@ pub fn read_object<'t, G: Gather<'t>>(
 
 /// Reads a text as [`read_object`] does, and returns the name of its only member, and what was
 /// gathered from that member's value. `None`: the value is not an object, it has no member or
-/// members with different names, or the value of the member is not an object.
+/// members with different names, or the value of the member is not an object. `scratch` is used as
+/// there.
 pub fn read_sole_object<'t, F: Fields<'t>>(
     text: &'t [u8],
     scratch: &'t mut Scratch,

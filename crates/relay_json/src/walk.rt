@@ -11,7 +11,7 @@ ghost use Rattle.serde_json.specs.Find.{as_array, as_object};
 ghost use Rattle.serde_json.specs.Read.{number_of, of_items, of_members, converted, max_depth};
 ghost use Rattle.relay_json.specs.Items.{and_item};
 ghost use Rattle.relay_json.specs.Sole.{SoleObject, HoldsSole};
-ghost use Rattle.relay_json.specs.Walks.{Reads, Refuses, IsRead, IsRefused, IsLeaf, NumberStands, IsNumberPassed, Opens, Gathered, GatheredOrLeaf, Collected};
+ghost use Rattle.relay_json.specs.Walks.{Reads, Refuses, IsRead, IsRefused, IsRestOf, IsPast, IsLeaf, NumberStands, IsNumberPassed, Opens, Gathered, GatheredOrLeaf, Collected};
 
 use crate::fault::ReadFault;
 use crate::leaf::Leaf;
@@ -49,6 +49,7 @@ fn pass_from<'t>(
     ensures opened { IfOk result (λ leaf. (leaf ≡ Leaf.Array → token.entry ≡ Token.BeginArray)
         × (leaf ≡ Leaf.Object → token.entry ≡ Token.BeginObject)) }
     ensures err { OnErr result (Refuses depth (token_of token.entry ∷ reader.old)) }
+    ensures past { IsRestOf reader.new reader.old }
 {
     match token {
         Token::String(text) => Ok(Leaf::String(text)),
@@ -80,6 +81,7 @@ fn pass<'t>(reader: &mut Reader<'t>, depth: usize) -> Result<Leaf<'t>, Invalid>
     ensures ok { IfOk result (λ leaf. (d : Data) × Reads depth reader.old d reader.new × IsLeaf leaf d) }
     ensures number { IfOk result (λ leaf. NumberStands reader.old leaf reader.new) }
     ensures err { OnErr result (Refuses depth reader.old) }
+    ensures past { IsRestOf reader.new reader.old }
 {
     let token = reader.next().ok_or(Invalid)?;
     pass_from(token, reader, depth)
@@ -93,6 +95,7 @@ fn pass_items(reader: &mut Reader<'_>, depth: usize) -> Result<(), Invalid>
         × (converted of_items (items (value depth) (length reader.old) reader.old) ≡ Some (ds, reader.new))) }
     ensures err { OnErr result
         (converted of_items (items (value depth) (length reader.old) reader.old) ≡ None) }
+    ensures past { IsRestOf reader.new reader.old }
 {
     'items: while !reader.take_end_array() {
         pass(reader, depth)?;
@@ -109,6 +112,7 @@ fn pass_members(reader: &mut Reader<'_>, depth: usize) -> Result<(), Invalid>
         ≡ Some (ms, reader.new))) }
     ensures err { OnErr result
         (converted (λ js. of_members js no_members) (members (value depth) (length reader.old) reader.old) ≡ None) }
+    ensures past { IsRestOf reader.new reader.old }
 {
     'members: while let Some(_) = reader.next_key()? {
         pass(reader, depth)?;
@@ -118,6 +122,10 @@ fn pass_members(reader: &mut Reader<'_>, depth: usize) -> Result<(), Invalid>
 
 /// A position in a text, before a value. Values are read one after another, and nothing is kept of
 /// them.
+///
+/// A walk only moves forward. An error ends the reading of its text: the walk is then at the value
+/// that could not be read, inside it or after it, and what a later call reads is the rest of that
+/// one, or of what follows it, and not a value of the text.
 #[derive(Drop)]
 pub struct Walk<'t> {
     reader: Reader<'t>,
@@ -133,12 +141,13 @@ pub trait Gather<'t>: Drop {
     /// Whether it may fail to allocate.
     ghost MayFail: { Type 0 };
 
-    /// Reads the value of the next member.
+    /// Reads the value of the next member. An error ends the reading of the text: no member follows.
     fn member(&mut self, name: &'t str, walk: &mut Walk<'t>) -> Result<(), ReadFault>
         ensures ok { OnOk result ((d : Data) × IsRead walk.old d walk.new
             × ((ms : Members) → Holds self.old ms → Holds self.new (put name.now d ms))) }
         ensures not_json { result ≡ Err ReadFault.NotJson → IsRefused walk.old }
-        ensures memory { result ≡ Err ReadFault.Memory → MayFail };
+        ensures memory { result ≡ Err ReadFault.Memory → MayFail }
+        ensures past { IsPast walk.old walk.new };
 }
 
 /// What is collected from the items of an array, which are passed to it one after another.
@@ -149,12 +158,13 @@ pub trait Collect<'t>: Drop {
     /// Whether it may fail to allocate.
     ghost MayFail: { Type 0 };
 
-    /// Reads the next item.
+    /// Reads the next item. An error ends the reading of the text: no item follows.
     fn item(&mut self, walk: &mut Walk<'t>) -> Result<(), ReadFault>
         ensures ok { OnOk result ((d : Data) × IsRead walk.old d walk.new
             × ((ds : Items) → Holds self.old ds → Holds self.new (and_item ds d))) }
         ensures not_json { result ≡ Err ReadFault.NotJson → IsRefused walk.old }
-        ensures memory { result ≡ Err ReadFault.Memory → MayFail };
+        ensures memory { result ≡ Err ReadFault.Memory → MayFail }
+        ensures past { IsPast walk.old walk.new };
 }
 
 impl<'t> Walk<'t> {
@@ -188,12 +198,14 @@ impl<'t> Walk<'t> {
         Ok(())
     }
 
-    /// The top level of the next value, which is passed.
+    /// The top level of the next value, which is passed. An error ends the reading: later calls
+    /// would read the rest of the value that was refused.
     #[inline(always)]
     pub fn leaf(&mut self) -> Result<Leaf<'t>, ReadFault>
         ensures ok { IfOk result (λ leaf. (d : Data) × IsRead self.old d self.new × IsLeaf leaf d) }
         ensures number { IfOk result (λ leaf. IsNumberPassed self.old leaf self.new) }
         ensures err { IfErr result (λ e. (e ≡ ReadFault.NotJson) × IsRefused self.old) }
+        ensures past { IsPast self.old self.new }
     {
         Ok(pass(&mut self.reader, self.depth)?)
     }
@@ -207,6 +219,7 @@ impl<'t> Walk<'t> {
         ensures not_json { result ≡ Err ReadFault.NotJson
             → converted (λ js. of_members js no_members) (members (value self.old.depth) (length self.old.reader) self.old.reader) ≡ None }
         ensures memory { result ≡ Err ReadFault.Memory → G.MayFail }
+        ensures past { IsPast self.old self.new }
     {
         let mut gathered = start;
         'members: while let Some(name) = self.reader.next_key()? {
@@ -223,6 +236,7 @@ impl<'t> Walk<'t> {
         ensures not_json { result ≡ Err ReadFault.NotJson
             → converted (λ js. of_members js no_members) (members (value self.old.depth) (length self.old.reader) self.old.reader) ≡ None }
         ensures memory { result ≡ Err ReadFault.Memory → F.MayFail }
+        ensures past { IsPast self.old self.new }
     {
         let mut found = Found::Nothing;
         'members: while let Some(name) = self.reader.next_key()? {
@@ -241,6 +255,7 @@ impl<'t> Walk<'t> {
         ensures not_json { result ≡ Err ReadFault.NotJson
             → converted of_items (items (value self.old.depth) (length self.old.reader) self.old.reader) ≡ None }
         ensures memory { result ≡ Err ReadFault.Memory → C.MayFail }
+        ensures past { IsPast self.old self.new }
     {
         let mut collected = start;
         'items: while !self.reader.take_end_array() {
@@ -256,6 +271,7 @@ impl<'t> Walk<'t> {
             (λ leaf. (d : Data) × IsRead self.old d self.new × (as_object d ≡ None) × IsLeaf leaf d)) }
         ensures number { IfOk result (λ found. IfSome found (λ leaf. IsNumberPassed self.old leaf self.new)) }
         ensures err { IfErr result (λ e. (e ≡ ReadFault.NotJson) × IsRefused self.old) }
+        ensures past { IsPast self.old self.new }
     {
         let token = self.reader.next().ok_or(Invalid)?;
         if let Token::BeginObject = token {
@@ -274,6 +290,7 @@ impl<'t> Walk<'t> {
         ensures ok { IfOk result (λ opened. MatchBool opened (Opens begin_array self.old self.new)
             ((d : Data) × IsRead self.old d self.new × (as_array d ≡ None))) }
         ensures err { IfErr result (λ e. (e ≡ ReadFault.NotJson) × IsRefused self.old) }
+        ensures past { IsPast self.old self.new }
     {
         let token = self.reader.next().ok_or(Invalid)?;
         if let Token::BeginArray = token {
@@ -288,7 +305,8 @@ impl<'t> Walk<'t> {
     }
 
     /// Reads the next value. If it is an object, its members are passed to `start`, which is
-    /// returned; otherwise the top level of the value is returned.
+    /// returned; otherwise the top level of the value is returned. An error ends the reading: later
+    /// calls would read the rest of the value that was refused.
     pub fn gather_or_leaf<G: Gather<'t>>(
         &mut self,
         start: G,
@@ -298,6 +316,7 @@ impl<'t> Walk<'t> {
         ensures number { IfOk result (λ found. IfErr found (λ leaf. IsNumberPassed self.old leaf self.new)) }
         ensures not_json { result ≡ Err ReadFault.NotJson → IsRefused self.old }
         ensures memory { result ≡ Err ReadFault.Memory → G.MayFail }
+        ensures past { IsPast self.old self.new }
     {
         let depth = self.depth;
         if let Some(leaf) = self.leaf_or_object()? {
@@ -309,22 +328,26 @@ impl<'t> Walk<'t> {
     }
 
     /// Reads the next value. If it is an object, its members are passed to `start`, which is
-    /// returned.
+    /// returned. An error ends the reading: later calls would read the rest of the value that was
+    /// refused.
     pub fn gather<G: Gather<'t>>(&mut self, start: G) -> Result<Option<G>, ReadFault>
         requires { G.Holds start no_members }
         ensures ok { IfOk result (λ found. (d : Data) × IsRead self.old d self.new × Gathered G.Holds d found) }
         ensures not_json { result ≡ Err ReadFault.NotJson → IsRefused self.old }
         ensures memory { result ≡ Err ReadFault.Memory → G.MayFail }
+        ensures past { IsPast self.old self.new }
     {
         Ok(self.gather_or_leaf(start)?.ok())
     }
 
     /// Reads the next value. If it is an array, its items are passed to `start`, which is returned.
+    /// An error ends the reading: later calls would read the rest of the value that was refused.
     pub fn collect<C: Collect<'t>>(&mut self, start: C) -> Result<Option<C>, ReadFault>
         requires { C.Holds start no_items }
         ensures ok { IfOk result (λ found. (d : Data) × IsRead self.old d self.new × Collected C.Holds d found) }
         ensures not_json { result ≡ Err ReadFault.NotJson → IsRefused self.old }
         ensures memory { result ≡ Err ReadFault.Memory → C.MayFail }
+        ensures past { IsPast self.old self.new }
     {
         let depth = self.depth;
         if !self.opens_array()? {
@@ -337,11 +360,13 @@ impl<'t> Walk<'t> {
 
     /// Reads the next value, and returns the name of its only member, and what was gathered from
     /// that member's value. `None`: the value is not an object, it has no member or members with
-    /// different names, or the value of the member is not an object.
+    /// different names, or the value of the member is not an object. An error ends the reading:
+    /// later calls would read the rest of the value that was refused.
     pub fn sole_object<F: Fields<'t>>(&mut self) -> Result<Option<(&'t str, F)>, ReadFault>
         ensures ok { IfOk result (λ found. (d : Data) × IsRead self.old d self.new × SoleObject F.Holds d found) }
         ensures not_json { result ≡ Err ReadFault.NotJson → IsRefused self.old }
         ensures memory { result ≡ Err ReadFault.Memory → F.MayFail }
+        ensures past { IsPast self.old self.new }
     {
         let depth = self.depth;
         if self.leaf_or_object()?.is_some() {

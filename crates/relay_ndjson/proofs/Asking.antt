@@ -42,6 +42,13 @@ source_kind text f e = grind (arith, e)
 pub source_line_kind : (line text : List ℕ) (f : ActionFault) → IsUtf8 line → text ≡ line → f ≡ unwrap_or (source_fault text) fault.Memory → (kind_of f ≡ kind.Memory) ⊎ (source_line_fault line ≡ Some (kind_of f))
 source_line_kind line text f u e h = let t = source_line_fault-text line u in let k = source_kind line f (rw e at h) in rw t k
 
+-- no allocation is tried for a source with a fault
+source_none : (text : List ℕ) (f : ActionFault) → f ≡ unwrap_or (source_fault text) fault.Memory → kind_of f ≡ kind.Memory → source_fault text ≡ None
+source_none text f e is = grind (arith, e, is)
+
+pub source_line_none : (line text : List ℕ) (f : ActionFault) → IsUtf8 line → text ≡ line → f ≡ unwrap_or (source_fault text) fault.Memory → kind_of f ≡ kind.Memory → source_line_fault line ≡ None
+source_line_none line text f u e h is = source_line_fault-text line u ∙ ap (option_map kind.Action) (source_none line f (rw e at h) is)
+
 -- ---- an action and its metadata
 
 action_of-sole : (d : Data) → action_of d ≡ sole_object d
@@ -69,3 +76,6 @@ of_one of_metadata text action.Delete ms u r = rw (u, r) refl
 -- the fault of a text that says an action is that of its metadata
 pub metadata_kind : (of_metadata : Data → Option LineKind) (text : List ℕ) (a : ActionKind) (m : Metadata) (k : LineKind) (s : SaysAction text a m) → (k ≡ kind.Memory) ⊎ (of_metadata (object s.3) ≡ Some k) → (k ≡ kind.Memory) ⊎ (action_fault of_metadata text ≡ Some k)
 metadata_kind of_metadata text a m k s h = rw (of_one of_metadata text a s.3 (is_utf8-from_IsUtf8 text s.0) (s.2 ∙ ap Some s.4)) h
+
+pub metadata_none : (of_metadata : Data → Option LineKind) (text : List ℕ) (a : ActionKind) (m : Metadata) (s : SaysAction text a m) → of_metadata (object s.3) ≡ None → action_fault of_metadata text ≡ None
+metadata_none of_metadata text a m s h = of_one of_metadata text a s.3 (is_utf8-from_IsUtf8 text s.0) (s.2 ∙ ap Some s.4) ∙ h

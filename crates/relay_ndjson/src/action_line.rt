@@ -1,5 +1,5 @@
 //! Reading action lines and source lines.
-ghost use Rattle.std.specs.Prelude.{◌≡◌, ◌<◌, ◌⊎◌, Option, Some, Err, IfOk, IfErr, length, IsUtf8};
+ghost use Rattle.std.specs.Prelude.{◌≡◌, ◌<◌, ◌⊎◌, Option, Some, None, Err, IfOk, IfErr, length, IsUtf8};
 ghost use Rattle.json.specs.Scratch.{room};
 ghost use Rattle.serde_json.specs.Data.{Data, Members, object};
 ghost use Rattle.relay_ndjson.specs.Metadata.{shown, IsDocument, Says, metadata_fault, line_fault, source_line_fault};
@@ -15,8 +15,9 @@ use relay_json::{ReadFault, Scratch, read_sole_object};
 use simdutf8::compat::from_utf8;
 use std::alloc::Global;
 
-/// The action of a line, and its metadata. The scratch is used for one line after another; the
-/// fault is `Memory` only if it had less room than the line has bytes.
+/// The action of a line, and its metadata. `scratch` is a buffer that serves one line after
+/// another: no result depends on what is in it, and it only grows. The fault is `Memory` only if it
+/// had less room than the line has bytes.
 pub fn action_of<'t>(
     line: &'t [u8],
     scratch: &'t mut Scratch,
@@ -38,7 +39,10 @@ pub fn action_of<'t>(
     }
 }
 
-/// The action and the document that a producer's action line asks for.
+/// The action and the document that a producer's action line asks for. `scratch` is a buffer that
+/// serves one line after another, as at [`action_of`]. The fault is `Memory` only if the scratch
+/// had less room than the line has bytes, or if the line has no fault: then an allocation for its
+/// document failed.
 pub fn read_action(
     alloc: Global,
     default_index: Option<&str>,
@@ -47,6 +51,8 @@ pub fn read_action(
 ) -> Result<(ActionKind, DocKey), LineKind>
     ensures ok { IfOk result (λ a. Says (shown default_index.entry) line.now a.0 a.1.index a.1.id) }
     ensures err { IfErr result (λ e. (e ≡ LineKind.Memory) ⊎ (line_fault (shown default_index.entry) line.now ≡ Some e)) }
+    ensures memory { result ≡ Err LineKind.Memory
+        → (room scratch.old < length line.now) ⊎ (line_fault (shown default_index.entry) line.now ≡ None) }
 {
     match read_usual(alloc, default_index, line) {
         Some(action) => Ok(action),
@@ -63,16 +69,20 @@ fn parse_action(
 ) -> Result<(ActionKind, DocKey), LineKind>
     ensures ok { IfOk result (λ a. Says (shown default_index.entry) line.now a.0 a.1.index a.1.id) }
     ensures err { IfErr result (λ e. (e ≡ LineKind.Memory) ⊎ (line_fault (shown default_index.entry) line.now ≡ Some e)) }
+    ensures memory { result ≡ Err LineKind.Memory
+        → (room scratch.old < length line.now) ⊎ (line_fault (shown default_index.entry) line.now ≡ None) }
 {
     let (kind, metadata) = action_of(line, scratch)?;
     let key = key_of(alloc, default_index, &metadata)?;
     Ok((kind, key))
 }
 
-/// The index action that stores the source on a line.
+/// The index action that stores the source on a line. The fault is `Memory` only if the line has
+/// no other.
 pub fn read_source(alloc: Global, line: &[u8]) -> Result<Action, LineKind>
     ensures ok { IfOk result (λ a. IsUtf8 line.now × IsIndexOf line.now a) }
     ensures err { IfErr result (λ e. (e ≡ LineKind.Memory) ⊎ (source_line_fault line.now ≡ Some e)) }
+    ensures memory { result ≡ Err LineKind.Memory → source_line_fault line.now ≡ None }
 {
     let Ok(text) = from_utf8(line) else {
         return Err(LineKind::NotJson);
@@ -93,6 +103,8 @@ fn key_of<'t>(
         → IfOk result (λ k. IsDocument (shown default_index.entry) (object ms) k.index k.id) }
     ensures err { (ms : Members) → HoldsMembers metadata.now ms
         → IfErr result (λ e. (e ≡ LineKind.Memory) ⊎ (metadata_fault (shown default_index.entry) (object ms) ≡ Some e)) }
+    ensures memory { (ms : Members) → HoldsMembers metadata.now ms → result ≡ Err LineKind.Memory
+        → metadata_fault (shown default_index.entry) (object ms) ≡ None }
 {
     if metadata.has_other {
         return Err(LineKind::UnsupportedField);

@@ -3,7 +3,7 @@ ghost use Rattle.std.specs.Prelude.{◌≡◌, ◌*◌, ◌^◌, ◌<◌, ◌≤
 ghost use Rattle.json.specs.Print.{escape, escape_byte};
 ghost use Rattle.relay_ndjson.specs.Bulk.{action_text, source_line, write_text, text_of};
 
-use itoa::Buffer;
+use crate::quoted::is_plain;
 use relay_action::{Action, Write};
 
 /// The length of a write's lines, in bytes: below 2^21. It does not allocate.
@@ -44,23 +44,42 @@ fn escape_len(byte: u8) -> u64
 }
 
 // The number of bytes that a text becomes in a JSON string, without the quotes.
+#[tactic(auto, using(crate::proofs::Plain::escape_plain))]
 fn escaped_len(text: &str) -> u64
     requires { length text.now < 2 ^ 32 }
     ensures value { result ≡ length (escape text.now) }
     ensures bound { result ≤ 6 * length text.now }
 {
+    let bytes = text.as_bytes();
+    if is_plain(bytes) {
+        return bytes.len() as u64;
+    }
+    sum_of_escapes(bytes)
+}
+
+// The same, byte by byte.
+fn sum_of_escapes(bytes: &[u8]) -> u64
+    requires { length bytes.now < 2 ^ 32 }
+    ensures value { result ≡ length (escape bytes.now) }
+    ensures bound { result ≤ 6 * length bytes.now }
+{
     let mut total = 0;
-    for byte in text.as_bytes() {
+    for byte in bytes {
         total += escape_len(*byte);
     }
     total
 }
 
+// The number of decimal digits.
+#[tactic(auto, using(crate::proofs::Parts::length_of_decimal))]
 fn digits(n: u64) -> u64
     ensures value { result ≡ length (decimal n) }
     ensures bound { result ≤ 20 }
 {
-    Buffer::new().format(n).len() as u64
+    match n.checked_ilog10() {
+        Some(power) => power as u64 + 1,
+        None => 1,
+    }
 }
 
 // The length of an action line, without its end.

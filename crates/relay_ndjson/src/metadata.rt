@@ -1,5 +1,5 @@
 //! The metadata of an action line.
-ghost use Rattle.std.specs.Prelude.{◌≡◌, ◌⊎◌, Some, IfOk, IfErr, option_map, option_and_then};
+ghost use Rattle.std.specs.Prelude.{◌≡◌, ◌⊎◌, Some, None, Err, IfOk, IfErr, option_map, option_and_then};
 ghost use Rattle.serde_json.specs.Data.{Data, Members, object, put};
 ghost use Rattle.serde_json.specs.Find.{as_number};
 ghost use Rattle.relay_json.specs.Walks.{IsLeaf};
@@ -76,6 +76,8 @@ pub fn document_of<'t>(
         → IfOk result (λ k. (index_of (shown default_index.entry) (object ms) ≡ Some k.index) × (id_of (object ms) ≡ Some k.id)) }
     ensures err { (ms : Members) → HoldsMembers metadata.now ms
         → IfErr result (λ e. (e ≡ LineKind.Memory) ⊎ (document_fault (shown default_index.entry) (object ms) ≡ Some e)) }
+    ensures memory { (ms : Members) → HoldsMembers metadata.now ms → result ≡ Err LineKind.Memory
+        → document_fault (shown default_index.entry) (object ms) ≡ None }
 {
     let Some(index) = index_of(default_index, metadata) else {
         return Err(LineKind::MissingIndex);
@@ -116,6 +118,8 @@ fn key_at(alloc: Global, index: &str, id: Leaf<'_>) -> Result<DocKey, LineKind>
         → IfOk result (λ k. (k.index ≡ index.now) × (id_text d ≡ Some k.id)) }
     ensures err { (d : Data) → IsLeaf id.entry d
         → IfErr result (λ e. (e ≡ LineKind.Memory) ⊎ (id_fault index.now (id_text d) ≡ Some e)) }
+    ensures memory { (d : Data) → IsLeaf id.entry d → result ≡ Err LineKind.Memory
+        → id_fault index.now (id_text d) ≡ None }
 {
     if let Some(text) = id.as_str() {
         return DocKey::new(alloc, index, text).map_err(|fault| kind_of(fault));

@@ -1,5 +1,6 @@
 //! Action lines on the index side.
-ghost use Rattle.std.specs.Prelude.{◌≡◌, ◌⊎◌, Some, None, IfOk, IfErr};
+ghost use Rattle.std.specs.Prelude.{◌≡◌, ◌<◌, ◌⊎◌, Some, None, Err, IfOk, IfErr, length};
+ghost use Rattle.json.specs.Scratch.{room};
 ghost use Rattle.serde_json.specs.Data.{Members, object};
 ghost use Rattle.relay_ndjson.specs.Versioned.{version_of, is_external, IsVersioned, SaysVersioned, versioned_fault, write_line_fault};
 ghost use Rattle.relay_ndjson.specs.Fields.{HoldsMembers};
@@ -19,7 +20,8 @@ pub struct ActionLine {
     pub version: u64,
 }
 
-/// What an action line asks for.
+/// What an action line asks for. The fault is `Memory` only if the scratch had less room than the
+/// line has bytes, or if the line has no fault: then an allocation for its document failed.
 pub fn read_versioned(
     alloc: Global,
     line: &[u8],
@@ -27,6 +29,8 @@ pub fn read_versioned(
 ) -> Result<ActionLine, LineKind>
     ensures ok { IfOk result (λ a. SaysVersioned line.now a.kind a.key.index a.key.id a.version) }
     ensures err { IfErr result (λ e. (e ≡ LineKind.Memory) ⊎ (write_line_fault line.now ≡ Some e)) }
+    ensures memory { result ≡ Err LineKind.Memory
+        → (room scratch.old < length line.now) ⊎ (write_line_fault line.now ≡ None) }
 {
     let (kind, metadata) = action_of(line, scratch)?;
     let (key, version) = versioned(alloc, &metadata)?;
@@ -61,6 +65,8 @@ fn versioned(alloc: Global, metadata: &Metadata<'_>) -> Result<(DocKey, u64), Li
         → IfOk result (λ v. IsVersioned (object ms) v.0.index v.0.id v.1) }
     ensures err { (ms : Members) → HoldsMembers metadata.now ms
         → IfErr result (λ e. (e ≡ LineKind.Memory) ⊎ (versioned_fault (object ms) ≡ Some e)) }
+    ensures memory { (ms : Members) → HoldsMembers metadata.now ms → result ≡ Err LineKind.Memory
+        → versioned_fault (object ms) ≡ None }
 {
     if metadata.has_other {
         return Err(LineKind::UnsupportedField);

@@ -3,7 +3,7 @@ ghost use Rattle.std.specs.Prelude.{◌≡◌, false, Option, Some, None, Err, I
 ghost use Rattle.serde_json.specs.Data.{Data, object, Items, no_items, Members, member, no_members, put};
 ghost use Rattle.relay_json.specs.Items.{and_item};
 ghost use Rattle.relay_json.specs.Sole.{SoleObject};
-ghost use Rattle.relay_json.specs.Walks.{IsLeaf, IsRead, IsRefused};
+ghost use Rattle.relay_json.specs.Walks.{IsLeaf, IsRead, IsRefused, IsPast};
 ghost use Rattle.relay_results.specs.Replies.{IsTruncated, error_limit, IsEntry, IsNoEntry, IsBulkReply, IsFaultOf};
 ghost use Rattle.relay_results.specs.Parts.{status_of, told_error, KeepsError, HoldsType, HoldsFields, HoldsEntries, HoldsReply};
 
@@ -60,6 +60,7 @@ fn read_error<'t>(walk: &mut Walk<'t>) -> Result<Option<&'t str>, ReadFault>
     ensures ok { IfOk result (λ e. (d : Data) × IsRead walk.old d walk.new
         × (option_map (λ t. t.now) e ≡ told_error d)) }
     ensures err { IfErr result (λ e. (e ≡ ReadFault.NotJson) × IsRefused walk.old) }
+    ensures past { IsPast walk.old walk.new }
 {
     match walk.gather_or_leaf(ErrorType { text: None })? {
         Ok(error) => Ok(Some(error.text.unwrap_or(""))),
@@ -165,6 +166,7 @@ fn read_entry(alloc: Global, walk: &mut Walk<'_>) -> Result<Option<Outcome>, Rea
     ensures ok { IfOk result (λ r. (d : Data) × IsRead walk.old d walk.new
         × MatchOption r (IsNoEntry d) (IsEntry d)) }
     ensures not_json { result ≡ Err ReadFault.NotJson → IsRefused walk.old }
+    ensures past { IsPast walk.old walk.new }
 {
     let Some((name, fields)) = walk.sole_object::<EntryFields<'_>>()? else {
         return Ok(None);

@@ -6,6 +6,7 @@ use Rattle.json.proofs.Grammar.{value_is, value-begin_array, value-begin_object,
 use Rattle.serde_json.specs.Data.{null, boolean, number, string, array, object, item, no_items, no_members, put}
 use Rattle.serde_json.specs.Read.{of_json, converted}
 use Rattle.relay_json.proofs.Turns.{converted-array, converted-object, item_read, item_refused, items_over, member_read, member_refused, key_refused, members_over, read-shorter}
+use Rattle.relay_json.proofs.Rests.{all_left, left_of_rest, left_behind, left_after_end, left_after_key, left_at_stop}
 use Rattle.relay_json.specs.Walks.{Refuses}
 use Rattle.relay_json.proofs.Rows.{mapped_twice, unmapped}
 use Rattle.relay_json.proofs.Results.{if_ok-map, on_err-map}
@@ -92,7 +93,7 @@ pass_from-returns-in_ok-pass_members-in-BeginObject-clause-ok t c =
     (object found.0, opened ∙ ap (parse_map object) found.1, (found.0, refl))
 
 pub pass_items-items-init : goal.pass_items-items-init
-pass_items-items-init t c = (length c.args.reader.now, λ ds. ds, omega arith, unmapped _)
+pass_items-items-init t c = (length c.args.reader.now, λ ds. ds, omega arith, unmapped _, all_left _)
 
 pub pass_items-items-smaller : goal.pass_items-items-smaller
 pass_items-items-smaller t c =
@@ -113,7 +114,7 @@ pass_items-items-preserved t c =
     let r = c.pass.new.reader in
     let less = read-shorter c.args.depth _ _ _ read.1 in
     let turn = item_read p n l.reader r read.0 (omega (arith, l.invariant.2, ap length going.1)) going.0 (rw (← going.1) read.1) in
-    (n - 1, λ ds. before (item read.0 ds), omega (arith, l.invariant.2, ap length going.1), l.invariant.3 ∙ ap (parse_map before) turn ∙ mapped_twice before (item read.0) _)
+    (n - 1, λ ds. before (item read.0 ds), omega (arith, l.invariant.2, ap length going.1), l.invariant.3 ∙ ap (parse_map before) turn ∙ mapped_twice before (item read.0) _, left_of_rest c.args.reader.now l.reader r l.invariant.4 (rw (← going.1) c.in_ok-pass.ensures.past))
 
 pub pass_items-returns-in_err-pass-clause-err : goal.pass_items-returns-in_err-pass-clause-err
 pass_items-returns-in_err-pass-clause-err t c =
@@ -129,7 +130,7 @@ pass_items-returns-clause-ok t c =
     (l.invariant.1 no_items, l.invariant.3 ∙ ap (parse_map l.invariant.1) (items_over (value c.args.depth) l.invariant.0 l.reader r l.invariant.2 (grind arith)))
 
 pub pass_members-members-init : goal.pass_members-members-init
-pass_members-members-init t c = (length c.args.reader.now, no_members, omega arith, refl)
+pass_members-members-init t c = (length c.args.reader.now, no_members, omega arith, refl, all_left _)
 
 pub pass_members-returns-in_err-next_key-clause-err : goal.pass_members-returns-in_err-next_key-clause-err
 pass_members-returns-in_err-next_key-clause-err t c =
@@ -161,7 +162,7 @@ pass_members-members-preserved t c =
     let read = c.in_ok-pass.ensures.ok in
     let r = c.pass.new.reader in
     let lesser = read-shorter c.args.depth _ _ _ read.1 in
-    (n - 1, put k read.0 found, omega (arith, l.invariant.2), l.invariant.3 ∙ member_read p found n k l.reader s r read.0 (omega (arith, l.invariant.2)) named read.1)
+    (n - 1, put k read.0 found, omega (arith, l.invariant.2), l.invariant.3 ∙ member_read p found n k l.reader s r read.0 (omega (arith, l.invariant.2)) named read.1, left_of_rest c.args.reader.now l.reader r l.invariant.4 (left_of_rest l.reader s r (left_after_key l.reader (Some k) s named) c.in_ok-pass.ensures.past))
 
 pub pass_members-returns-in_err-pass-clause-err : goal.pass_members-returns-in_err-pass-clause-err
 pass_members-returns-in_err-pass-clause-err t c =
@@ -176,3 +177,38 @@ pub pass_members-returns-clause-ok : goal.pass_members-returns-clause-ok
 pass_members-returns-clause-ok t c =
     let l = c.members in
     (l.invariant.1, l.invariant.3 ∙ members_over (value c.args.depth) l.invariant.1 l.invariant.0 l.reader c.next_key.new.self l.invariant.2 (grind arith))
+
+pub pass-returns-clause-past : goal.pass-returns-clause-past
+pass-returns-clause-past t c =
+    let ts = c.next.new.self in
+    let first : c.args.reader.now ≡ token_of c.in_ok-token.token ∷ ts = grind arith in
+    left_behind _ c.args.reader.now ts c.pass_from.new.reader first c.pass_from.ensures.past
+
+pub pass_items-returns-in_err-pass-clause-past : goal.pass_items-returns-in_err-pass-clause-past
+pass_items-returns-in_err-pass-clause-past t c =
+    let l = c.items in
+    let going : (after_end_array l.reader ≡ None) × (c.take_end_array.new.self ≡ l.reader) = grind arith in
+    left_of_rest c.args.reader.now l.reader c.pass.new.reader l.invariant.4 (rw (← going.1) c.in_err-pass.ensures.past)
+
+pub pass_items-returns-clause-past : goal.pass_items-returns-clause-past
+pass_items-returns-clause-past t c =
+    let l = c.items in
+    let r = c.take_end_array.new.self in
+    left_of_rest c.args.reader.now l.reader r l.invariant.4 (left_after_end l.reader r (grind arith))
+
+pub pass_members-returns-in_err-next_key-clause-past : goal.pass_members-returns-in_err-next_key-clause-past
+pass_members-returns-in_err-next_key-clause-past t c = left_at_stop c.args.reader.now c.next_key.new.self c.in_err-next_key.ensures.stops
+
+pub pass_members-returns-in_err-pass-clause-past : goal.pass_members-returns-in_err-pass-clause-past
+pass_members-returns-in_err-pass-clause-past t c =
+    let l = c.members in
+    let k = c.in-Some.field-0.now in
+    let s = c.next_key.new.self in
+    let named : read_key l.reader ≡ Some (Some k, s) = grind arith in
+    left_of_rest c.args.reader.now l.reader c.pass.new.reader l.invariant.4 (left_of_rest l.reader s c.pass.new.reader (left_after_key l.reader (Some k) s named) c.in_err-pass.ensures.past)
+
+pub pass_members-returns-clause-past : goal.pass_members-returns-clause-past
+pass_members-returns-clause-past t c =
+    let l = c.members in
+    let s = c.next_key.new.self in
+    left_of_rest c.args.reader.now l.reader s l.invariant.4 (left_after_key l.reader None s (grind arith))

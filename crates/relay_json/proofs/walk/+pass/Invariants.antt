@@ -2,6 +2,7 @@ use Rattle.std.proofs.Common.{◌≡◌, ℕ, ◌+◌, ◌*◌, ◌≤◌, lengt
 use Rattle.json.specs.Json.{items, members, value, parse_map}
 use Rattle.serde_json.specs.Data.{Items, Members, no_members}
 use Rattle.serde_json.specs.Read.{of_items, of_members, converted}
+use Rattle.relay_json.specs.Walks.{IsRestOf}
 use Rattle.relay_json.proofs.walk.+pass.Given as goal
 
 abbrev pub decreases-pass_from : goal.decreases-pass_from
@@ -20,6 +21,7 @@ abbrev pub invariant-pass_items-items : goal.invariant-pass_items-items
 invariant-pass_items-items l =
     (n : ℕ) × (before : Items → Items) × (length l.reader ≤ n)
     × (converted of_items (items (value l.depth) (length l.initial.reader) l.initial.reader) ≡ parse_map before (converted of_items (items (value l.depth) n l.reader)))
+    × IsRestOf l.reader l.initial.reader
 
 abbrev pub decreases-pass_items-items : goal.decreases-pass_items-items
 decreases-pass_items-items l = length l.reader
@@ -28,6 +30,7 @@ abbrev pub invariant-pass_members-members : goal.invariant-pass_members-members
 invariant-pass_members-members l =
     (n : ℕ) × (found : Members) × (length l.reader ≤ n)
     × (converted (λ ms. of_members ms no_members) (members (value l.depth) (length l.initial.reader) l.initial.reader) ≡ converted (λ ms. of_members ms found) (members (value l.depth) n l.reader))
+    × IsRestOf l.reader l.initial.reader
 
 abbrev pub decreases-pass_members-members : goal.decreases-pass_members-members
 decreases-pass_members-members l = length l.reader

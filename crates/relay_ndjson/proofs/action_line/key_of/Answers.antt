@@ -17,3 +17,6 @@ returns-clause-ok c ms h =
 
 pub returns-clause-err : goal.returns-clause-err
 returns-clause-err c ms h = rw (document_kind (shown c.args.default_index) c.args.metadata.now ms h c.if-metadata.false (sym c.if-is_some.ensures) (sym c.if-is_some-2.ensures)) (c.document_of.ensures.err ms h)
+
+pub returns-clause-memory : goal.returns-clause-memory
+returns-clause-memory c ms h = rw (document_kind (shown c.args.default_index) c.args.metadata.now ms h c.if-metadata.false (sym c.if-is_some.ensures) (sym c.if-is_some-2.ensures)) (c.document_of.ensures.memory ms h)

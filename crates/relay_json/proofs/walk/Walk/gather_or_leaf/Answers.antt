@@ -2,6 +2,7 @@ use Rattle.std.proofs.Common.{refl, arith}
 use Rattle.json.specs.Token.{begin_object}
 use Rattle.serde_json.specs.Data.{object}
 use Rattle.relay_json.specs.Walks.{Opens}
+use Rattle.relay_json.proofs.Rests.{left_behind}
 use Rattle.relay_json.proofs.Turns.{object_read, object_refused}
 use Rattle.relay_json.proofs.walk.Walk.gather_or_leaf.Goals as goal
 
@@ -15,3 +16,14 @@ returns-clause-ok g c =
     let opened : Opens begin_object c.args.self.now c.leaf_or_object.new.self = grind arith in
     let found = c.in_ok-gathered.ensures.ok in
     (object found.0, (refl, object_read _ _ _ _ opened.1 found.0 _ opened.0 found.1), (found.0, refl, found.3))
+
+pub returns-in_err-gathered-clause-past : goal.returns-in_err-gathered-clause-past
+returns-in_err-gathered-clause-past g c =
+    let opened : Opens begin_object c.args.self.now c.leaf_or_object.new.self = grind arith in
+    let past = c.in_err-gathered.ensures.past in
+    (left_behind _ _ _ _ opened.0 past.0, omega (arith, past.1, opened.1))
+
+pub returns-clause-past : goal.returns-clause-past
+returns-clause-past g c =
+    let opened : Opens begin_object c.args.self.now c.leaf_or_object.new.self = grind arith in
+    (left_behind _ _ _ _ opened.0 c.in_ok-gathered.ensures.past.0, omega arith)

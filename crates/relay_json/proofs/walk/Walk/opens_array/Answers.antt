@@ -5,6 +5,7 @@ use Rattle.json.proofs.Grammar.{value_is}
 use Rattle.serde_json.specs.Read.{of_json, converted}
 use Rattle.relay_json.specs.Walks.{IsRefused}
 use Rattle.relay_json.proofs.Leaves.{no_array}
+use Rattle.relay_json.proofs.Rests.{left_after, left_behind}
 use Rattle.relay_json.proofs.walk.Walk.opens_array.Goals as goal
 
 pub returns-in_err-token-clause-err : goal.returns-in_err-token-clause-err
@@ -24,4 +25,13 @@ pub returns : goal.returns
 returns c =
     let first : c.args.self.now.reader ≡ token_of c.in_ok-token.token ∷ c.next.new.self = grind arith in
     let passed = c.in_ok-pass_from.ensures in
-    record { ok = (passed.ok.0, (refl, ap (λ ts. converted of_json (value c.args.self.now.depth ts)) first ∙ passed.ok.1), no_array c.in_ok-pass_from.field-0 passed.ok.0 (λ is. c.in_default.not-BeginArray (passed.opened.0 is)) passed.ok.2); err = tt }
+    record { ok = (passed.ok.0, (refl, ap (λ ts. converted of_json (value c.args.self.now.depth ts)) first ∙ passed.ok.1), no_array c.in_ok-pass_from.field-0 passed.ok.0 (λ is. c.in_default.not-BeginArray (passed.opened.0 is)) passed.ok.2); err = tt; past = (left_behind _ _ _ _ first passed.past, omega arith) }
+
+pub returns-then-self-eq0-clause-past : goal.returns-then-self-eq0-clause-past
+returns-then-self-eq0-clause-past c = (left_after (token_of c.in_ok-token.token) _ _ (grind arith), omega arith)
+
+pub returns-in-BeginArray-clause-past : goal.returns-in-BeginArray-clause-past
+returns-in-BeginArray-clause-past c = (left_after (token_of c.in_ok-token.token) _ _ (grind arith), omega arith)
+
+pub returns-in_err-pass_from-clause-past : goal.returns-in_err-pass_from-clause-past
+returns-in_err-pass_from-clause-past c = (left_behind (token_of c.in_ok-token.token) _ c.next.new.self _ (grind arith) c.in_err-pass_from.ensures.past, omega arith)
