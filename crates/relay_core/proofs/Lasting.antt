@@ -71,8 +71,8 @@ place_in a v h m p e =
     let from : 1 ≤ n = s.2 in
     let here : flies_here n h.flies ≡ true = ap (flies_here n) s.1 ∙ equal_test n n refl in
     let some = carried n 0 h a.held.list (writes_in a.flight.requests n) (v.readable.carries n) m here in
-    let seen : writes_at p.request (map flying_of a.flight.requests) ≡ writes_in a.flight.requests n = ap (λ q. writes_at q (map flying_of a.flight.requests)) s.3 ∙ writes_seen 1 a.flight.next a.flight.requests n (omega arith) v.flight.numbered from in
-    let ws = ap length state_of in
+    let same : writes_at p.request (map flying_of a.flight.requests) ≡ writes_in a.flight.requests n = ap (λ q. writes_at q (map flying_of a.flight.requests)) s.3 ∙ writes_seen 1 a.flight.next a.flight.requests n (omega arith) v.flight.numbered from in
+    let ws = ap length same in
     let room = has_room n (length (writes_in a.flight.requests n)) h a.held.list (v.readable.caps n) m here in
     record {
       flies = ap (λ q. list_any (λ (f : Flying). f.request == q) (map flying_of a.flight.requests)) s.3 ∙ sym (any_seen 1 a.flight.next a.flight.requests n (omega arith) v.flight.numbered from) ∙ there_is a.flight.requests n some;
