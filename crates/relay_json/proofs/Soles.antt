@@ -8,8 +8,8 @@ use Rattle.std.proofs.lemmas.Bool.{false_from_ne_true}
 use Rattle.std.proofs.lemmas.Slice.Eq.{bytes_eq-Decides}
 use Rattle.serde_json.specs.Data.{Data, null, boolean, number, string, array, object, Members, member, no_members, put}
 use Rattle.serde_json.specs.Find.{as_object}
-use Rattle.relay_json.specs.Sole.{sole, sole_object, AreSeveral, HoldsSole, and_member, found_object, SoleObject}
-use Rattle.relay_json.specs.Walks.{Gathered}
+use Rattle.relay_json.specs.Sole.{sole, sole_object, AreSeveral, HoldsSole, and_member, found_object, IsSoleObject}
+use Rattle.relay_json.specs.Walks.{IsGathered}
 use Rattle.relay_json.specs.declared.sole.Found.{Found}
 use Rattle.relay_json.specs.declared.sole.Found.TheVariants as found
 
@@ -49,7 +49,7 @@ put_over k l d e Greater h = absurd (true≢false (sym h))
 -- ---- what is found
 
 module _ {F : Type 0} (Holds : F → Members → Type 0) where
-  one_more : (first name : Bor (List ℕ)) (g f : Option F) (d e : Data) (b : Bool) → bytes_eq first.now name.now ≡ b → Gathered Holds d f
+  one_more : (first name : Bor (List ℕ)) (g f : Option F) (d e : Data) (b : Bool) → bytes_eq first.now name.now ≡ b → IsGathered Holds d f
       → HoldsSole Holds (if b then found.One name f else found.Several) (put name.now d (member first.now e no_members))
   one_more first name g f d e true same h =
       let is : first.now ≡ name.now = (bytes_eq-Decides first.now name.now).0 same in
@@ -59,7 +59,7 @@ module _ {F : Type 0} (Holds : F → Members → Type 0) where
       let turned = false_from_ne_true (bytes_eq name.now first.now) (λ is. true≢false (sym ((bytes_eq-Decides first.now name.now).1 (sym ((bytes_eq-Decides name.now first.now).0 is))) ∙ other)) in
       put_beside name.now first.now d e _ (is_eq-slice_cmp name.now first.now ∙ turned)
 
-  pub HoldsSole-and_member : (was : Found F) (name : Bor (List ℕ)) (f : Option F) (d : Data) (ms : Members) → HoldsSole Holds was ms → Gathered Holds d f → HoldsSole Holds (and_member was name f) (put name.now d ms)
+  pub HoldsSole-and_member : (was : Found F) (name : Bor (List ℕ)) (f : Option F) (d : Data) (ms : Members) → HoldsSole Holds was ms → IsGathered Holds d f → HoldsSole Holds (and_member was name f) (put name.now d ms)
   HoldsSole-and_member found.Nothing name f d ms h g = (d, ap (put name.now d) h, g)
   HoldsSole-and_member (found.One first was) name f d ms h g =
       subst (λ m. HoldsSole Holds (and_member (found.One first was) name f) (put name.now d m)) (sym h.1) (one_more first name was f d h.0 _ refl g)
@@ -87,8 +87,8 @@ one_object name d ms inner is e =
 no_one : (name : List ℕ) (d : Data) (ms : Members) → ms ≡ member name d no_members → as_object d ≡ None → sole_object (object ms) ≡ None
 no_one name d ms is e = ap (λ x. sole_object (object x)) is ∙ rw e refl
 
-pub SoleObject-found_object : {F : Type 0} (Holds : F → Members → Type 0) (was : Found F) (ms : Members) → HoldsSole Holds was ms → SoleObject Holds (object ms) (found_object was)
-SoleObject-found_object Holds found.Nothing ms h = ap (λ x. sole_object (object x)) h
-SoleObject-found_object Holds (found.One name None) ms h = no_one name.now h.0 ms h.1 h.2
-SoleObject-found_object Holds (found.One name (Some f)) ms h = (h.2.0, one_object name.now h.0 ms h.2.0 h.1 h.2.1, h.2.2)
-SoleObject-found_object Holds found.Several ms h = ap (option_and_then (λ m. if is_some (as_object m.1) then Some m else None)) (several ms h)
+pub IsSoleObject-found_object : {F : Type 0} (Holds : F → Members → Type 0) (was : Found F) (ms : Members) → HoldsSole Holds was ms → IsSoleObject Holds (object ms) (found_object was)
+IsSoleObject-found_object Holds found.Nothing ms h = ap (λ x. sole_object (object x)) h
+IsSoleObject-found_object Holds (found.One name None) ms h = no_one name.now h.0 ms h.1 h.2
+IsSoleObject-found_object Holds (found.One name (Some f)) ms h = (h.2.0, one_object name.now h.0 ms h.2.0 h.1 h.2.1, h.2.2)
+IsSoleObject-found_object Holds found.Several ms h = ap (option_and_then (λ m. if is_some (as_object m.1) then Some m else None)) (several ms h)

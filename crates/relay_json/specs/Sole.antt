@@ -3,7 +3,7 @@ use Rattle.std.specs.Prelude.{◌≡◌, ℕ, List, if◌then◌else◌, bytes_e
 use denote.Ref.{Bor}
 use Rattle.serde_json.specs.Data.{Data, object, Members, member, no_members}
 use Rattle.serde_json.specs.Find.{as_object}
-use Rattle.relay_json.specs.Walks.{Gathered}
+use Rattle.relay_json.specs.Walks.{IsGathered}
 use Rattle.relay_json.specs.declared.sole.Found.{Found}
 use Rattle.relay_json.specs.declared.sole.Found.TheVariants as found
 
@@ -21,8 +21,8 @@ abbrev pub sole_object : Data → Option (List ℕ × Data)
 sole_object d = option_and_then (λ m. if is_some (as_object m.1) then Some m else None) (sole_member d)
 
 -- the name of the only member, and what was gathered from its value, if that is an object
-abbrev pub SoleObject : {F : Type 0} → (F → Members → Type 0) → Data → Option (Bor (List ℕ) × F) → Type 0
-SoleObject Holds d r = MatchOption r (sole_object d ≡ None) (λ r. (ms : Members) × (sole_object d ≡ Some (r.0.now, object ms)) × Holds r.1 ms)
+abbrev pub IsSoleObject : {F : Type 0} → (F → Members → Type 0) → Data → Option (Bor (List ℕ) × F) → Type 0
+IsSoleObject Holds d r = MatchOption r (sole_object d ≡ None) (λ r. (ms : Members) × (sole_object d ≡ Some (r.0.now, object ms)) × Holds r.1 ms)
 
 -- ---- for private clauses
 
@@ -34,7 +34,7 @@ AreSeveral (member k d (member l e ms)) = Unit {0}
 -- what was found of the members
 abbrev pub HoldsSole : {F : Type 0} → (F → Members → Type 0) → Found F → Members → Type 0
 HoldsSole Holds found.Nothing ms = ms ≡ no_members
-HoldsSole Holds (found.One name f) ms = (d : Data) × (ms ≡ member name.now d no_members) × Gathered Holds d f
+HoldsSole Holds (found.One name f) ms = (d : Data) × (ms ≡ member name.now d no_members) × IsGathered Holds d f
 HoldsSole Holds found.Several ms = AreSeveral ms
 
 -- after one more member

@@ -1,10 +1,10 @@
 -- Values of a text, read where they begin (RFC 8259, section 2).
-use Rattle.std.specs.Prelude.{◌≡◌, ℕ, ◌+◌, ◌≤◌, List, ◌∷◌, ◌++◌, Option, Some, None, MatchOption, Result, Ok, Err}
+use Rattle.std.specs.Prelude.{◌≡◌, ℕ, ◌+◌, ◌≤◌, List, ◌∷◌, ◌++◌, length, Option, Some, None, MatchOption, Result, Ok, Err}
 use Rattle.json.specs.Token.{Token}
-use Rattle.json.specs.Json.{value}
-use Rattle.serde_json.specs.Data.{Data, Num, null, boolean, number, string, array, object, Items, Members}
+use Rattle.json.specs.Json.{items, members, value}
+use Rattle.serde_json.specs.Data.{Data, Num, null, boolean, number, string, array, object, Items, Members, no_members}
 use Rattle.serde_json.specs.Find.{as_object, as_array}
-use Rattle.serde_json.specs.Read.{of_json, number_of, converted}
+use Rattle.serde_json.specs.Read.{of_json, of_items, of_members, number_of, converted}
 use Rattle.relay_json.specs.declared.leaf.Leaf.{Leaf}
 use Rattle.relay_json.specs.declared.leaf.Leaf.TheVariants as leaf
 use Rattle.relay_json.specs.declared.walk.Walk.{Walk}
@@ -33,6 +33,14 @@ IsRestOf rest tokens = (passed : List Token) × (tokens ≡ passed ++ rest)
 abbrev pub IsPast : Walk → Walk → Type 0
 IsPast old new = IsRestOf new.reader old.reader × (new.depth ≤ old.depth)
 
+-- the items of an array, after its opening bracket, and what follows its closing one
+abbrev pub items_of : ℕ → List Token → Option (Items × List Token)
+items_of depth tokens = converted of_items (items (value depth) (length tokens) tokens)
+
+-- the members of an object in the same way, of members with the same name the last
+abbrev pub members_of : ℕ → List Token → Option (Members × List Token)
+members_of depth tokens = converted (λ js. of_members js no_members) (members (value depth) (length tokens) tokens)
+
 -- the walk went into the array or the object that this bracket opens
 abbrev pub Opens : Token → Walk → Walk → Type 0
 Opens bracket old new = (old.reader ≡ bracket ∷ new.reader) × (old.depth ≡ new.depth + 1)
@@ -60,14 +68,14 @@ abbrev pub IsNumberPassed : Walk → Leaf → Walk → Type 0
 IsNumberPassed old leaf new = NumberStands old.reader leaf new.reader
 
 -- what was gathered from the members, if the data is an object
-abbrev pub Gathered : {G : Type 0} → (G → Members → Type 0) → Data → Option G → Type 0
-Gathered Holds d found = MatchOption found (as_object d ≡ None) (λ g. (ms : Members) × (as_object d ≡ Some ms) × Holds g ms)
+abbrev pub IsGathered : {G : Type 0} → (G → Members → Type 0) → Data → Option G → Type 0
+IsGathered Holds d found = MatchOption found (as_object d ≡ None) (λ g. (ms : Members) × (as_object d ≡ Some ms) × Holds g ms)
 
 -- the same, or the top level of the data
-abbrev pub GatheredOrLeaf : {G : Type 0} → (G → Members → Type 0) → Data → Result G Leaf → Type 0
-GatheredOrLeaf Holds d (Ok g) = (ms : Members) × (as_object d ≡ Some ms) × Holds g ms
-GatheredOrLeaf Holds d (Err leaf) = (as_object d ≡ None) × IsLeaf leaf d
+abbrev pub IsGatheredOrLeaf : {G : Type 0} → (G → Members → Type 0) → Data → Result G Leaf → Type 0
+IsGatheredOrLeaf Holds d (Ok g) = (ms : Members) × (as_object d ≡ Some ms) × Holds g ms
+IsGatheredOrLeaf Holds d (Err leaf) = (as_object d ≡ None) × IsLeaf leaf d
 
 -- what was collected from the items, if the data is an array
-abbrev pub Collected : {C : Type 0} → (C → Items → Type 0) → Data → Option C → Type 0
-Collected Holds d found = MatchOption found (as_array d ≡ None) (λ c. (ds : Items) × (as_array d ≡ Some ds) × Holds c ds)
+abbrev pub IsCollected : {C : Type 0} → (C → Items → Type 0) → Data → Option C → Type 0
+IsCollected Holds d found = MatchOption found (as_array d ≡ None) (λ c. (ds : Items) × (as_array d ≡ Some ds) × Holds c ds)

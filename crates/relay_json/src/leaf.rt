@@ -33,7 +33,8 @@ impl<'t> Leaf<'t> {
     /// The string, if it is one.
     #[inline(always)]
     pub fn as_str(self) -> Option<&'t str>
-        ensures value { (d : Data) → IsLeaf self.entry d → option_map (λ s. s.now) result ≡ as_str d }
+        ensures value { (d : Data) → IsLeaf self.entry d
+            → option_map (λ s. s.now) result ≡ as_str d }
         ensures variant { option_map (λ s. s.now) result ≡ text_shown self.entry }
     {
         match self {
@@ -44,7 +45,8 @@ impl<'t> Leaf<'t> {
 
     /// The integer, if it is from 0 to 2^64 - 1 and written without a point and an exponent.
     pub fn as_u64(self) -> Option<u64>
-        ensures value { (d : Data) → IsLeaf self.entry d → result ≡ option_and_then as_u64 (as_number d) }
+        ensures value { (d : Data) → IsLeaf self.entry d
+            → result ≡ option_and_then as_u64 (as_number d) }
         ensures variant { result ≡ option_and_then as_u64 (number_shown self.entry) }
     {
         match self {
@@ -56,7 +58,8 @@ impl<'t> Leaf<'t> {
     /// The integer, if it is from -2^63 to 2^63 - 1 and written without a point and an exponent.
     /// `-0` is not an integer.
     pub fn as_i64(self) -> Option<i64>
-        ensures value { (d : Data) → IsLeaf self.entry d → result ≡ option_and_then as_i64 (as_number d) }
+        ensures value { (d : Data) → IsLeaf self.entry d
+            → result ≡ option_and_then as_i64 (as_number d) }
         ensures variant { result ≡ option_and_then as_i64 (number_shown self.entry) }
     {
         match self {

@@ -1,5 +1,6 @@
 //! Numbers, from their texts.
-ghost use Rattle.std.specs.Prelude.{◌≡◌, ◌<◌, ◌==◌, ℕ, true, false, IsTrue, length, slice_index, Some, None, is_some, option_and_then, option_map};
+ghost use Rattle.std.specs.Prelude.{◌≡◌, ◌<◌, ◌==◌, ℕ, true, false, IsTrue, length, slice_index};
+ghost use Rattle.std.specs.Prelude.{Some, None, is_some, option_and_then, option_map};
 ghost use Rattle.std.specs.Str.Parse.{AllDigits};
 ghost use Rattle.fast_float.specs.Text.{Parts};
 ghost use Rattle.serde_json.specs.Data.{Num};

@@ -3,8 +3,8 @@ ghost use Rattle.std.specs.Prelude.{◌≡◌, ◌<◌, ◌⊎◌, None, Some, E
 ghost use Rattle.json.specs.Scratch.{room};
 ghost use Rattle.serde_json.specs.Data.{Data, no_members};
 ghost use Rattle.serde_json.specs.Read.{read};
-ghost use Rattle.relay_json.specs.Sole.{SoleObject};
-ghost use Rattle.relay_json.specs.Walks.{Gathered};
+ghost use Rattle.relay_json.specs.Sole.{IsSoleObject};
+ghost use Rattle.relay_json.specs.Walks.{IsGathered};
 
 use crate::fault::ReadFault;
 use crate::sole::Fields;
@@ -25,9 +25,11 @@ pub fn read_object<'t, G: Gather<'t>>(
     start: G,
 ) -> Result<Option<G>, ReadFault>
     requires { G.Holds start no_members }
-    ensures ok { IfOk result (λ found. IsUtf8 text.now × (d : Data) × (read text.now ≡ Some d) × Gathered G.Holds d found) }
+    ensures ok { IfOk result (λ found. IsUtf8 text.now × (d : Data) × (read text.now ≡ Some d)
+        × IsGathered G.Holds d found) }
     ensures not_json { result ≡ Err ReadFault.NotJson → IsUtf8 text.now → read text.now ≡ None }
-    ensures memory { result ≡ Err ReadFault.Memory → G.MayFail ⊎ (room scratch.old < length text.now) }
+    ensures memory { result ≡ Err ReadFault.Memory
+        → G.MayFail ⊎ (room scratch.old < length text.now) }
 {
     let mut walk = Walk::over(text, scratch)?;
     let found = walk.gather(start)?;
@@ -43,9 +45,11 @@ pub fn read_sole_object<'t, F: Fields<'t>>(
     text: &'t [u8],
     scratch: &'t mut Scratch,
 ) -> Result<Option<(&'t str, F)>, ReadFault>
-    ensures ok { IfOk result (λ found. IsUtf8 text.now × (d : Data) × (read text.now ≡ Some d) × SoleObject F.Holds d found) }
+    ensures ok { IfOk result (λ found. IsUtf8 text.now × (d : Data) × (read text.now ≡ Some d)
+        × IsSoleObject F.Holds d found) }
     ensures not_json { result ≡ Err ReadFault.NotJson → IsUtf8 text.now → read text.now ≡ None }
-    ensures memory { result ≡ Err ReadFault.Memory → F.MayFail ⊎ (room scratch.old < length text.now) }
+    ensures memory { result ≡ Err ReadFault.Memory
+        → F.MayFail ⊎ (room scratch.old < length text.now) }
 {
     let mut walk = Walk::over(text, scratch)?;
     let sole = walk.sole_object::<F>()?;

@@ -1,17 +1,20 @@
 //! Reading a text from front to back.
-ghost use Rattle.std.specs.Prelude.{◌≡◌, ◌≢◌, ◌+◌, ◌<◌, [], ◌∷◌, List, length, None, Some, Err, IfOk, IfErr, IfSome, OnOk, OnErr, MatchOption, IsUtf8};
+ghost use Rattle.std.specs.Prelude.{◌≡◌, ◌≢◌, ◌+◌, ◌<◌, [], ◌∷◌, List, length, None, Some, Err};
+ghost use Rattle.std.specs.Prelude.{IfOk, IfErr, IfSome, OnOk, OnErr, MatchOption, IsUtf8};
 ghost use Rattle.std.specs.Bool.{MatchBool};
 ghost use Rattle.json.specs.Token.{Token as SpecToken, begin_array, begin_object};
-ghost use Rattle.json.specs.Json.{items, members, value};
 ghost use Rattle.json.specs.Lex.{tokens};
 ghost use Rattle.json.specs.Reads.{token_of};
 ghost use Rattle.json.specs.Scratch.{room};
-ghost use Rattle.serde_json.specs.Data.{Data, Num, number, Items, Members, no_items, no_members, put};
+ghost use Rattle.serde_json.specs.Data.{Data, Num, number, Items, Members};
+ghost use Rattle.serde_json.specs.Data.{no_items, no_members, put};
 ghost use Rattle.serde_json.specs.Find.{as_array, as_object};
-ghost use Rattle.serde_json.specs.Read.{number_of, of_items, of_members, converted, max_depth};
+ghost use Rattle.serde_json.specs.Read.{number_of, max_depth};
 ghost use Rattle.relay_json.specs.Items.{and_item};
-ghost use Rattle.relay_json.specs.Sole.{SoleObject, HoldsSole};
-ghost use Rattle.relay_json.specs.Walks.{Reads, Refuses, IsRead, IsRefused, IsRestOf, IsPast, IsLeaf, NumberStands, IsNumberPassed, Opens, Gathered, GatheredOrLeaf, Collected};
+ghost use Rattle.relay_json.specs.Sole.{IsSoleObject, HoldsSole};
+ghost use Rattle.relay_json.specs.Walks.{Reads, Refuses, IsRead, IsRefused, IsRestOf, IsPast};
+ghost use Rattle.relay_json.specs.Walks.{IsLeaf, NumberStands, IsNumberPassed, Opens, items_of};
+ghost use Rattle.relay_json.specs.Walks.{members_of, IsGathered, IsGatheredOrLeaf, IsCollected};
 
 use crate::fault::ReadFault;
 use crate::leaf::Leaf;
@@ -24,7 +27,8 @@ const MAX_DEPTH: usize = 127;
 
 #[inline(always)]
 fn number<'t>(text: &'t str) -> Result<Leaf<'t>, Invalid>
-    ensures ok { IfOk result (λ leaf. (n : Num) × (number_of text.now ≡ Some n) × IsLeaf leaf (number n)) }
+    ensures ok { IfOk result
+        (λ leaf. (n : Num) × (number_of text.now ≡ Some n) × IsLeaf leaf (number n)) }
     ensures number { IfOk result (λ leaf. leaf ≡ Leaf.Number text.entry) }
     ensures err { OnErr result (number_of text.now ≡ None) }
 {
@@ -45,7 +49,8 @@ fn pass_from<'t>(
 ) -> Result<Leaf<'t>, Invalid>
     ensures ok { IfOk result (λ leaf. (d : Data)
         × Reads depth (token_of token.entry ∷ reader.old) d reader.new × IsLeaf leaf d) }
-    ensures number { IfOk result (λ leaf. NumberStands (token_of token.entry ∷ reader.old) leaf reader.new) }
+    ensures number { IfOk result
+        (λ leaf. NumberStands (token_of token.entry ∷ reader.old) leaf reader.new) }
     ensures opened { IfOk result (λ leaf. (leaf ≡ Leaf.Array → token.entry ≡ Token.BeginArray)
         × (leaf ≡ Leaf.Object → token.entry ≡ Token.BeginObject)) }
     ensures err { OnErr result (Refuses depth (token_of token.entry ∷ reader.old)) }
@@ -78,7 +83,8 @@ fn pass_from<'t>(
 #[cycle(pass)]
 #[inline(always)]
 fn pass<'t>(reader: &mut Reader<'t>, depth: usize) -> Result<Leaf<'t>, Invalid>
-    ensures ok { IfOk result (λ leaf. (d : Data) × Reads depth reader.old d reader.new × IsLeaf leaf d) }
+    ensures ok { IfOk result
+        (λ leaf. (d : Data) × Reads depth reader.old d reader.new × IsLeaf leaf d) }
     ensures number { IfOk result (λ leaf. NumberStands reader.old leaf reader.new) }
     ensures err { OnErr result (Refuses depth reader.old) }
     ensures past { IsRestOf reader.new reader.old }
@@ -92,9 +98,8 @@ fn pass<'t>(reader: &mut Reader<'t>, depth: usize) -> Result<Leaf<'t>, Invalid>
 #[inline(never)]
 fn pass_items(reader: &mut Reader<'_>, depth: usize) -> Result<(), Invalid>
     ensures ok { OnOk result ((ds : Items)
-        × (converted of_items (items (value depth) (length reader.old) reader.old) ≡ Some (ds, reader.new))) }
-    ensures err { OnErr result
-        (converted of_items (items (value depth) (length reader.old) reader.old) ≡ None) }
+        × (items_of depth reader.old ≡ Some (ds, reader.new))) }
+    ensures err { OnErr result (items_of depth reader.old ≡ None) }
     ensures past { IsRestOf reader.new reader.old }
 {
     'items: while !reader.take_end_array() {
@@ -108,10 +113,8 @@ fn pass_items(reader: &mut Reader<'_>, depth: usize) -> Result<(), Invalid>
 #[inline(never)]
 fn pass_members(reader: &mut Reader<'_>, depth: usize) -> Result<(), Invalid>
     ensures ok { OnOk result ((ms : Members)
-        × (converted (λ js. of_members js no_members) (members (value depth) (length reader.old) reader.old)
-        ≡ Some (ms, reader.new))) }
-    ensures err { OnErr result
-        (converted (λ js. of_members js no_members) (members (value depth) (length reader.old) reader.old) ≡ None) }
+        × (members_of depth reader.old ≡ Some (ms, reader.new))) }
+    ensures err { OnErr result (members_of depth reader.old ≡ None) }
     ensures past { IsRestOf reader.new reader.old }
 {
     'members: while let Some(_) = reader.next_key()? {
@@ -141,7 +144,8 @@ pub trait Gather<'t>: Drop {
     /// Whether it may fail to allocate.
     ghost MayFail: { Type 0 };
 
-    /// Reads the value of the next member. An error ends the reading of the text: no member follows.
+    /// Reads the value of the next member. An error ends the reading of the text, and no
+    /// member follows.
     fn member(&mut self, name: &'t str, walk: &mut Walk<'t>) -> Result<(), ReadFault>
         ensures ok { OnOk result ((d : Data) × IsRead walk.old d walk.new
             × ((ms : Members) → Holds self.old ms → Holds self.new (put name.now d ms))) }
@@ -158,7 +162,7 @@ pub trait Collect<'t>: Drop {
     /// Whether it may fail to allocate.
     ghost MayFail: { Type 0 };
 
-    /// Reads the next item. An error ends the reading of the text: no item follows.
+    /// Reads the next item. An error ends the reading of the text, and no item follows.
     fn item(&mut self, walk: &mut Walk<'t>) -> Result<(), ReadFault>
         ensures ok { OnOk result ((d : Data) × IsRead walk.old d walk.new
             × ((ds : Items) → Holds self.old ds → Holds self.new (and_item ds d))) }
@@ -214,10 +218,10 @@ impl<'t> Walk<'t> {
     fn members<G: Gather<'t>>(&mut self, start: G) -> Result<G, ReadFault>
         requires { G.Holds start no_members }
         ensures ok { IfOk result (λ g. (ms : Members)
-            × (converted (λ js. of_members js no_members) (members (value self.old.depth) (length self.old.reader) self.old.reader)
-            ≡ Some (ms, self.new.reader)) × (self.new.depth ≡ self.old.depth) × G.Holds g ms) }
+            × (members_of self.old.depth self.old.reader ≡ Some (ms, self.new.reader))
+            × (self.new.depth ≡ self.old.depth) × G.Holds g ms) }
         ensures not_json { result ≡ Err ReadFault.NotJson
-            → converted (λ js. of_members js no_members) (members (value self.old.depth) (length self.old.reader) self.old.reader) ≡ None }
+            → members_of self.old.depth self.old.reader ≡ None }
         ensures memory { result ≡ Err ReadFault.Memory → G.MayFail }
         ensures past { IsPast self.old self.new }
     {
@@ -231,10 +235,10 @@ impl<'t> Walk<'t> {
     // Looks for the only member of the object whose opening bracket was taken.
     fn sole_member<F: Fields<'t>>(&mut self) -> Result<Found<'t, F>, ReadFault>
         ensures ok { IfOk result (λ found. (ms : Members)
-            × (converted (λ js. of_members js no_members) (members (value self.old.depth) (length self.old.reader) self.old.reader)
-            ≡ Some (ms, self.new.reader)) × (self.new.depth ≡ self.old.depth) × HoldsSole F.Holds found ms) }
+            × (members_of self.old.depth self.old.reader ≡ Some (ms, self.new.reader))
+            × (self.new.depth ≡ self.old.depth) × HoldsSole F.Holds found ms) }
         ensures not_json { result ≡ Err ReadFault.NotJson
-            → converted (λ js. of_members js no_members) (members (value self.old.depth) (length self.old.reader) self.old.reader) ≡ None }
+            → members_of self.old.depth self.old.reader ≡ None }
         ensures memory { result ≡ Err ReadFault.Memory → F.MayFail }
         ensures past { IsPast self.old self.new }
     {
@@ -250,10 +254,10 @@ impl<'t> Walk<'t> {
     fn items<C: Collect<'t>>(&mut self, start: C) -> Result<C, ReadFault>
         requires { C.Holds start no_items }
         ensures ok { IfOk result (λ c. (ds : Items)
-            × (converted of_items (items (value self.old.depth) (length self.old.reader) self.old.reader)
-            ≡ Some (ds, self.new.reader)) × (self.new.depth ≡ self.old.depth) × C.Holds c ds) }
+            × (items_of self.old.depth self.old.reader ≡ Some (ds, self.new.reader))
+            × (self.new.depth ≡ self.old.depth) × C.Holds c ds) }
         ensures not_json { result ≡ Err ReadFault.NotJson
-            → converted of_items (items (value self.old.depth) (length self.old.reader) self.old.reader) ≡ None }
+            → items_of self.old.depth self.old.reader ≡ None }
         ensures memory { result ≡ Err ReadFault.Memory → C.MayFail }
         ensures past { IsPast self.old self.new }
     {
@@ -268,8 +272,10 @@ impl<'t> Walk<'t> {
     // its opening bracket was taken.
     pub(crate) fn leaf_or_object(&mut self) -> Result<Option<Leaf<'t>>, ReadFault>
         ensures ok { IfOk result (λ found. MatchOption found (Opens begin_object self.old self.new)
-            (λ leaf. (d : Data) × IsRead self.old d self.new × (as_object d ≡ None) × IsLeaf leaf d)) }
-        ensures number { IfOk result (λ found. IfSome found (λ leaf. IsNumberPassed self.old leaf self.new)) }
+            (λ leaf. (d : Data) × IsRead self.old d self.new × (as_object d ≡ None)
+            × IsLeaf leaf d)) }
+        ensures number { IfOk result
+            (λ found. IfSome found (λ leaf. IsNumberPassed self.old leaf self.new)) }
         ensures err { IfErr result (λ e. (e ≡ ReadFault.NotJson) × IsRefused self.old) }
         ensures past { IsPast self.old self.new }
     {
@@ -312,8 +318,10 @@ impl<'t> Walk<'t> {
         start: G,
     ) -> Result<Result<G, Leaf<'t>>, ReadFault>
         requires { G.Holds start no_members }
-        ensures ok { IfOk result (λ found. (d : Data) × IsRead self.old d self.new × GatheredOrLeaf G.Holds d found) }
-        ensures number { IfOk result (λ found. IfErr found (λ leaf. IsNumberPassed self.old leaf self.new)) }
+        ensures ok { IfOk result
+            (λ found. (d : Data) × IsRead self.old d self.new × IsGatheredOrLeaf G.Holds d found) }
+        ensures number { IfOk result
+            (λ found. IfErr found (λ leaf. IsNumberPassed self.old leaf self.new)) }
         ensures not_json { result ≡ Err ReadFault.NotJson → IsRefused self.old }
         ensures memory { result ≡ Err ReadFault.Memory → G.MayFail }
         ensures past { IsPast self.old self.new }
@@ -332,7 +340,8 @@ impl<'t> Walk<'t> {
     /// refused.
     pub fn gather<G: Gather<'t>>(&mut self, start: G) -> Result<Option<G>, ReadFault>
         requires { G.Holds start no_members }
-        ensures ok { IfOk result (λ found. (d : Data) × IsRead self.old d self.new × Gathered G.Holds d found) }
+        ensures ok { IfOk result
+            (λ found. (d : Data) × IsRead self.old d self.new × IsGathered G.Holds d found) }
         ensures not_json { result ≡ Err ReadFault.NotJson → IsRefused self.old }
         ensures memory { result ≡ Err ReadFault.Memory → G.MayFail }
         ensures past { IsPast self.old self.new }
@@ -344,7 +353,8 @@ impl<'t> Walk<'t> {
     /// An error ends the reading: later calls would read the rest of the value that was refused.
     pub fn collect<C: Collect<'t>>(&mut self, start: C) -> Result<Option<C>, ReadFault>
         requires { C.Holds start no_items }
-        ensures ok { IfOk result (λ found. (d : Data) × IsRead self.old d self.new × Collected C.Holds d found) }
+        ensures ok { IfOk result
+            (λ found. (d : Data) × IsRead self.old d self.new × IsCollected C.Holds d found) }
         ensures not_json { result ≡ Err ReadFault.NotJson → IsRefused self.old }
         ensures memory { result ≡ Err ReadFault.Memory → C.MayFail }
         ensures past { IsPast self.old self.new }
@@ -363,7 +373,8 @@ impl<'t> Walk<'t> {
     /// different names, or the value of the member is not an object. An error ends the reading:
     /// later calls would read the rest of the value that was refused.
     pub fn sole_object<F: Fields<'t>>(&mut self) -> Result<Option<(&'t str, F)>, ReadFault>
-        ensures ok { IfOk result (λ found. (d : Data) × IsRead self.old d self.new × SoleObject F.Holds d found) }
+        ensures ok { IfOk result
+            (λ found. (d : Data) × IsRead self.old d self.new × IsSoleObject F.Holds d found) }
         ensures not_json { result ≡ Err ReadFault.NotJson → IsRefused self.old }
         ensures memory { result ≡ Err ReadFault.Memory → F.MayFail }
         ensures past { IsPast self.old self.new }

@@ -59,4 +59,5 @@ length-decimal_zero = ap length (decimal_digit 0 (lit< tt))
 -- ---- for the tactics
 
 pub ruleset length_of_action_text = (length-action_text)
+
 pub ruleset length_of_decimal = (length-decimal, length-decimal_zero)

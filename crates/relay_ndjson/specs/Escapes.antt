@@ -9,8 +9,8 @@ abbrev pub hex_digit : ℕ → ℕ
 hex_digit n = if nat_lt n 10 then 48 + n else 87 + n
 
 -- what is written for a byte
-abbrev pub escaped : ℕ → List ℕ
-escaped b =
+abbrev pub escape_by_table : ℕ → List ℕ
+escape_by_table b =
     if b == 34 then codes "\\\""
     else if b == 92 then codes "\\\\"
     else if b == 8 then codes "\\b"
@@ -23,7 +23,7 @@ escaped b =
 
 -- texts are escaped by this table
 abbrev pub EscapesByTable : Type 0
-EscapesByTable = (b : ℕ) → escape_byte b ≡ escaped b
+EscapesByTable = (b : ℕ) → escape_byte b ≡ escape_by_table b
 
 -- a byte that stands for itself
 abbrev pub needs_no_escape : ℕ → Bool

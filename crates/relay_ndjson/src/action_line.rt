@@ -1,8 +1,10 @@
 //! Reading action lines and source lines.
-ghost use Rattle.std.specs.Prelude.{◌≡◌, ◌<◌, ◌⊎◌, Option, Some, None, Err, IfOk, IfErr, length, IsUtf8};
+ghost use Rattle.std.specs.Prelude.{◌≡◌, ◌<◌, ◌⊎◌, Option, Some, None};
+ghost use Rattle.std.specs.Prelude.{Err, IfOk, IfErr, length, IsUtf8};
 ghost use Rattle.json.specs.Scratch.{room};
 ghost use Rattle.serde_json.specs.Data.{Data, Members, object};
-ghost use Rattle.relay_ndjson.specs.Metadata.{shown, IsDocument, Says, metadata_fault, line_fault, source_line_fault};
+ghost use Rattle.relay_ndjson.specs.Metadata.{shown, IsDocument, Says, metadata_fault};
+ghost use Rattle.relay_ndjson.specs.Metadata.{line_fault, source_line_fault};
 ghost use Rattle.relay_ndjson.specs.Fields.{HoldsMembers, SaysAction, action_fault};
 ghost use Rattle.relay_ndjson.specs.declared.kind.LineKind.{LineKind};
 ghost use Rattle.relay_action.specs.Actions.{IsIndexOf};
@@ -50,9 +52,11 @@ pub fn read_action(
     scratch: &mut Scratch,
 ) -> Result<(ActionKind, DocKey), LineKind>
     ensures ok { IfOk result (λ a. Says (shown default_index.entry) line.now a.0 a.1.index a.1.id) }
-    ensures err { IfErr result (λ e. (e ≡ LineKind.Memory) ⊎ (line_fault (shown default_index.entry) line.now ≡ Some e)) }
+    ensures err { IfErr result
+        (λ e. (e ≡ LineKind.Memory) ⊎ (line_fault (shown default_index.entry) line.now ≡ Some e)) }
     ensures memory { result ≡ Err LineKind.Memory
-        → (room scratch.old < length line.now) ⊎ (line_fault (shown default_index.entry) line.now ≡ None) }
+        → (room scratch.old < length line.now)
+        ⊎ (line_fault (shown default_index.entry) line.now ≡ None) }
 {
     match read_usual(alloc, default_index, line) {
         Some(action) => Ok(action),
@@ -68,9 +72,11 @@ fn parse_action(
     scratch: &mut Scratch,
 ) -> Result<(ActionKind, DocKey), LineKind>
     ensures ok { IfOk result (λ a. Says (shown default_index.entry) line.now a.0 a.1.index a.1.id) }
-    ensures err { IfErr result (λ e. (e ≡ LineKind.Memory) ⊎ (line_fault (shown default_index.entry) line.now ≡ Some e)) }
+    ensures err { IfErr result
+        (λ e. (e ≡ LineKind.Memory) ⊎ (line_fault (shown default_index.entry) line.now ≡ Some e)) }
     ensures memory { result ≡ Err LineKind.Memory
-        → (room scratch.old < length line.now) ⊎ (line_fault (shown default_index.entry) line.now ≡ None) }
+        → (room scratch.old < length line.now)
+        ⊎ (line_fault (shown default_index.entry) line.now ≡ None) }
 {
     let (kind, metadata) = action_of(line, scratch)?;
     let key = key_of(alloc, default_index, &metadata)?;
@@ -81,7 +87,8 @@ fn parse_action(
 /// no other.
 pub fn read_source(alloc: Global, line: &[u8]) -> Result<Action, LineKind>
     ensures ok { IfOk result (λ a. IsUtf8 line.now × IsIndexOf line.now a) }
-    ensures err { IfErr result (λ e. (e ≡ LineKind.Memory) ⊎ (source_line_fault line.now ≡ Some e)) }
+    ensures err { IfErr result
+        (λ e. (e ≡ LineKind.Memory) ⊎ (source_line_fault line.now ≡ Some e)) }
     ensures memory { result ≡ Err LineKind.Memory → source_line_fault line.now ≡ None }
 {
     let Ok(text) = from_utf8(line) else {
@@ -102,7 +109,8 @@ fn key_of<'t>(
     ensures ok { (ms : Members) → HoldsMembers metadata.now ms
         → IfOk result (λ k. IsDocument (shown default_index.entry) (object ms) k.index k.id) }
     ensures err { (ms : Members) → HoldsMembers metadata.now ms
-        → IfErr result (λ e. (e ≡ LineKind.Memory) ⊎ (metadata_fault (shown default_index.entry) (object ms) ≡ Some e)) }
+        → IfErr result (λ e. (e ≡ LineKind.Memory)
+        ⊎ (metadata_fault (shown default_index.entry) (object ms) ≡ Some e)) }
     ensures memory { (ms : Members) → HoldsMembers metadata.now ms → result ≡ Err LineKind.Memory
         → metadata_fault (shown default_index.entry) (object ms) ≡ None }
 {

@@ -2,7 +2,8 @@
 ghost use Rattle.std.specs.Prelude.{◌≡◌, ◌≢◌, ◌⊎◌, ◌≤◌, ℕ, List, [], IfOk, IfErr};
 ghost use Rattle.relay_ndjson.specs.Lines.{IsRaw};
 ghost use Rattle.relay_ndjson.specs.Operations.{line_count};
-ghost use Rattle.relay_ndjson.specs.Bodies.{BeginsWithLine, LacksLine, IsNoSource, BreaksWriteAt, IsBulk, IsBulkFault, ReadsBack};
+ghost use Rattle.relay_ndjson.specs.Bodies.{BeginsWithLine, LacksLine, IsNoSource};
+ghost use Rattle.relay_ndjson.specs.Bodies.{BreaksWriteAt, IsBulk, IsBulkFault, ReadsBack};
 ghost use Rattle.relay_ndjson.specs.Steps.{BeginsWithSource, BeginsWithWrite};
 
 use crate::action_line::read_source;
@@ -87,7 +88,8 @@ fn front_line(bytes: &[u8]) -> Result<(&[u8], &[u8]), LineKind>
 // action line.
 fn take_source(alloc: Global, bytes: &[u8]) -> Result<(Action, &[u8]), BulkFault>
     ensures ok { IfOk result (λ t. BeginsWithSource bytes.now t.1.now t.0) }
-    ensures err { IfErr result (λ e. (e.kind ≡ LineKind.Memory) ⊎ IsNoSource bytes.now e.line e.kind) }
+    ensures err { IfErr result
+        (λ e. (e.kind ≡ LineKind.Memory) ⊎ IsNoSource bytes.now e.line e.kind) }
     ensures place { IfErr result (λ e. e.line ≤ 2) }
 {
     if bytes.is_empty() {
@@ -114,7 +116,8 @@ fn take_write<'b>(
 ) -> Result<(Write, &'b [u8]), BulkFault>
     requires { bytes.now ≢ [] }
     ensures ok { IfOk result (λ t. BeginsWithWrite bytes.now t.1.now t.0) }
-    ensures err { IfErr result (λ e. (e.kind ≡ LineKind.Memory) ⊎ BreaksWriteAt bytes.now e.line e.kind) }
+    ensures err { IfErr result
+        (λ e. (e.kind ≡ LineKind.Memory) ⊎ BreaksWriteAt bytes.now e.line e.kind) }
     ensures place { IfErr result (λ e. e.line ≤ 2) }
 {
     let (text, rest) = match front_line(bytes) {

@@ -1,6 +1,7 @@
 //! Bulk text of writes.
 ghost use Rattle.std.specs.Prelude.{◌≡◌, ◌++◌, IfOk, OnOk, OnErr, codes, decimal};
-ghost use Rattle.relay_ndjson.specs.Bulk.{action_text, line_end, source_line, write_text, text_of, opening, Begins, ActionLinesReadBack};
+ghost use Rattle.relay_ndjson.specs.Bulk.{action_text, line_end, source_line, write_text};
+ghost use Rattle.relay_ndjson.specs.Bulk.{text_of, opening, Begins, ActionLinesReadBack};
 ghost use Rattle.relay_ndjson.specs.Escapes.{EscapesByTable};
 ghost use Rattle.relay_ndjson.specs.Sends.{AppendsFirst, WritesText, FailsOnWrite};
 
@@ -47,7 +48,8 @@ pub fn append_action_line(
     text: &mut Vec<u8>,
     write: &Write,
 ) -> Result<(), AllocError>
-    ensures ok { OnOk result (text.new.items ≡ text.old.items ++ (action_text write.now ++ line_end)) }
+    ensures ok { OnOk result
+        (text.new.items ≡ text.old.items ++ (action_text write.now ++ line_end)) }
     ensures err { OnErr result (text.new.items ≡ text.old.items) }
 {
     let length = text.len();
@@ -82,7 +84,8 @@ pub fn bulk_text(alloc: Global, writes: &[Write]) -> Result<Vec<u8>, AllocError>
 
 /// Writes the lines of a write to a stream. The fault says how much was written.
 pub fn write_write<W: ByteOut>(alloc: Global, out: &mut W, write: &Write) -> Result<(), TextFault>
-    ensures text { WritesText (W.written out.old) (W.written out.new) (write_text write.now) result }
+    ensures text { WritesText (W.written out.old) (W.written out.new)
+        (write_text write.now) result }
     ensures failed { FailsOnWrite (W.failed out.old) (W.failed out.new) result }
     ensures left { W.left out.new ≡ W.left out.old }
 {
@@ -133,7 +136,8 @@ fn append_document(
 // Appends the rest of an action line and its line end.
 fn append_version(text: &mut Vec<u8>, version: u64) -> Result<(), AllocError>
     ensures ok { OnOk result (text.new.items ≡ text.old.items
-        ++ codes "\",\"version\":" ++ decimal version ++ codes ",\"version_type\":\"external\"}}\n") }
+        ++ codes "\",\"version\":" ++ decimal version
+        ++ codes ",\"version_type\":\"external\"}}\n") }
     ensures front { Begins text.old.items text.new.items }
 {
     let mut digits = Buffer::new();
@@ -157,7 +161,8 @@ fn append_source(text: &mut Vec<u8>, action: &Action) -> Result<(), AllocError>
 // Appends an action line and its line end. After an error, part of it may be there.
 #[tactic(auto, using(crate::proofs::Parts::line_in_parts))]
 fn append_line(alloc: Global, text: &mut Vec<u8>, write: &Write) -> Result<(), AllocError>
-    ensures ok { OnOk result (text.new.items ≡ text.old.items ++ (action_text write.now ++ line_end)) }
+    ensures ok { OnOk result
+        (text.new.items ≡ text.old.items ++ (action_text write.now ++ line_end)) }
     ensures front { Begins text.old.items text.new.items }
 {
     let id = escape_of(alloc, write.key.id())?;

@@ -1,5 +1,8 @@
 //! How the grammars and their faults relate.
-ghost use Rattle.relay_ndjson.specs.Laws.{TextDecides, NoOperationAtFault, NoEndAtFault, NoOperationAtEnd, OneFault, OneOperation, NoOperationAtRead, AlwaysDecided, VersionedTextDecides, BulkTextIsBulk, OneBulk, NoFaultInBulk, OneBulkFault};
+ghost use Rattle.relay_ndjson.specs.Laws.{TextDecides, NoOperationAtFault, NoEndAtFault};
+ghost use Rattle.relay_ndjson.specs.Laws.{NoOperationAtEnd, OneFault, OneOperation};
+ghost use Rattle.relay_ndjson.specs.Laws.{NoOperationAtRead, AlwaysDecided, VersionedTextDecides};
+ghost use Rattle.relay_ndjson.specs.Laws.{BulkTextIsBulk, OneBulk, NoFaultInBulk, OneBulkFault};
 
 /// Laws of a producer's input. A text has no fault exactly if it asks for an action on a valid
 /// document. Over known bytes, an operation, the end and a fault exclude each other, one of them

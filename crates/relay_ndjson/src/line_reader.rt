@@ -27,7 +27,12 @@ impl Model for LineReader {
 
     ghost Value = { LineReading };
 
-    ghost view = { λ r. record { held = r.lines.piece; text = r.lines.text.items; end = r.lines.end; count = r.lines.count } };
+    ghost view = { λ r. record {
+      held = r.lines.piece;
+      text = r.lines.text.items;
+      end = r.lines.end;
+      count = r.lines.count;
+    } };
 }
 
 impl LineReader {
@@ -46,11 +51,14 @@ impl LineReader {
     /// stream is somewhere inside it; a failed read is not retried within a call.
     pub fn next<R: ByteIn>(&mut self, reader: &mut R) -> Result<bool, InputFault>
         ensures line { TakesNext (prepend_known self.old.held (R.left reader.old))
-            (prepend_known self.new.held (R.left reader.new)) self.old.count self.new.count self.new.text result }
-        ensures stop { IfErr result (λ e. StopsInLine (prepend_known self.old.held (R.left reader.old))
+            (prepend_known self.new.held (R.left reader.new))
+            self.old.count self.new.count self.new.text result }
+        ensures stop { IfErr result (λ e. StopsInLine
+            (prepend_known self.old.held (R.left reader.old))
             (prepend_known self.new.held (R.left reader.new)) self.new.held e.kind) }
         ensures uncounted { OnErr result (self.new.count ≡ self.old.count) }
-        ensures bytes { IfOk result (λ found. OnTrue found (TakesBytes (prepend_known self.old.held (R.left reader.old))
+        ensures bytes { IfOk result (λ found. OnTrue found (TakesBytes
+            (prepend_known self.old.held (R.left reader.old))
             (prepend_known self.new.held (R.left reader.new)) self.new.text self.new.end)) }
         ensures failed { R.failed reader.new ≡ failed_after result (R.failed reader.old) }
         ensures held { length self.new.held ≤ piece_limit }

@@ -1,12 +1,16 @@
 //! The lines of a producer's input, and the operations on them.
-ghost use Rattle.std.specs.Prelude.{◌≡◌, ◌<◌, ◌≤◌, ◌↔◌, ◌∷◌, ◌++◌, ℕ, List, Option, [], true, false, OnOk, OnErr, IfOk, IfErr, IfSome, IfNone, IsTrue, length, slice_index};
+ghost use Rattle.std.specs.Prelude.{◌≡◌, ◌<◌, ◌≤◌, ◌↔◌, ◌∷◌, ◌++◌, ℕ, List, Option};
+ghost use Rattle.std.specs.Prelude.{[], true, false, OnOk, OnErr, IfOk, IfErr};
+ghost use Rattle.std.specs.Prelude.{IfSome, IfNone, IsTrue, length, slice_index};
 ghost use Rattle.std.specs.Bool.{OnTrue, OnFalse};
 ghost use Rattle.std.specs.Io.KnownBytes.{prepend_known};
 ghost use Rattle.relay_action.specs.Limits.{is_line_end};
 ghost use Rattle.relay_action.specs.Streams.{most};
-ghost use Rattle.relay_ndjson.specs.Lines.{IsUnbroken, IsRaw, IsPastLimit, StopsInLine, line_limit, piece_limit};
+ghost use Rattle.relay_ndjson.specs.Lines.{IsUnbroken, IsRaw, IsPastLimit};
+ghost use Rattle.relay_ndjson.specs.Lines.{StopsInLine, line_limit, piece_limit};
 ghost use Rattle.relay_ndjson.specs.LineReading.{TakesBytes, end_bytes};
-ghost use Rattle.relay_ndjson.specs.Steps.{IsStart, IsAddFault, TakesPart, TakesLine, EndsLine, PartHasBytes, LineHasBytes, failed_by};
+ghost use Rattle.relay_ndjson.specs.Steps.{IsStart, IsAddFault, TakesPart, TakesLine};
+ghost use Rattle.relay_ndjson.specs.Steps.{EndsLine, PartHasBytes, LineHasBytes, failed_by};
 ghost use Rattle.relay_ndjson.specs.Reading.{HoldsTwoLines};
 
 use crate::action_line::{read_action, read_source};
@@ -112,9 +116,11 @@ impl Lines {
     fn take_part(&mut self) -> Result<Part, LineKind>
         requires unbroken { IsUnbroken self.old.text.items }
         requires start { IsStart self.old.text.items }
-        ensures part { TakesPart self.old.text.items self.old.piece self.new.text.items self.new.piece result }
+        ensures part { TakesPart self.old.text.items self.old.piece
+            self.new.text.items self.new.piece result }
         ensures kept { OnErr result (self.new.piece ≡ self.old.piece) }
-        ensures bytes { PartHasBytes self.old.text.items self.old.piece self.new.text.items self.new.piece self.new.end result }
+        ensures bytes { PartHasBytes self.old.text.items self.old.piece
+            self.new.text.items self.new.piece self.new.end result }
         ensures count { self.new.count ≡ self.old.count }
     {
         match memchr(b'\n', self.piece.held()) {
@@ -140,7 +146,8 @@ impl Lines {
         ensures stop { IfErr result (StopsInLine (prepend_known self.old.piece (R.left reader.old))
             (prepend_known self.new.piece (R.left reader.new)) self.new.piece) }
         ensures bytes { LineHasBytes (prepend_known self.old.piece (R.left reader.old))
-            (prepend_known self.new.piece (R.left reader.new)) self.new.text.items self.new.end result }
+            (prepend_known self.new.piece (R.left reader.new))
+            self.new.text.items self.new.end result }
         ensures failed { R.failed reader.new ≡ failed_by result (R.failed reader.old) }
         ensures count { self.new.count ≡ self.old.count }
     {
@@ -160,11 +167,14 @@ impl Lines {
     /// Takes a line, if there is one.
     pub fn take_line<R: ByteIn>(&mut self, reader: &mut R) -> Result<bool, InputFault>
         ensures line { TakesNext (prepend_known self.old.piece (R.left reader.old))
-            (prepend_known self.new.piece (R.left reader.new)) self.old.count self.new.count self.new.text.items result }
-        ensures stop { IfErr result (λ e. StopsInLine (prepend_known self.old.piece (R.left reader.old))
+            (prepend_known self.new.piece (R.left reader.new))
+            self.old.count self.new.count self.new.text.items result }
+        ensures stop { IfErr result (λ e. StopsInLine
+            (prepend_known self.old.piece (R.left reader.old))
             (prepend_known self.new.piece (R.left reader.new)) self.new.piece e.kind) }
         ensures uncounted { OnErr result (self.new.count ≡ self.old.count) }
-        ensures bytes { IfOk result (λ found. OnTrue found (TakesBytes (prepend_known self.old.piece (R.left reader.old))
+        ensures bytes { IfOk result (λ found. OnTrue found (TakesBytes
+            (prepend_known self.old.piece (R.left reader.old))
             (prepend_known self.new.piece (R.left reader.new)) self.new.text.items self.new.end)) }
         ensures failed { R.failed reader.new ≡ failed_after result (R.failed reader.old) }
     {
@@ -184,7 +194,8 @@ impl Lines {
     // Takes blank lines and the action line after them, if there is one.
     fn skip_blank<R: ByteIn>(&mut self, reader: &mut R) -> Result<bool, InputFault>
         ensures line { SkipsBlank (position (R.left reader.old) self.old.piece self.old.count)
-            (position (R.left reader.new) self.new.piece self.new.count) self.new.text.items result }
+            (position (R.left reader.new) self.new.piece self.new.count)
+            self.new.text.items result }
         ensures stop { IfErr result (λ e. (default : Option (List ℕ))
             → Stops default (position (R.left reader.old) self.old.piece self.old.count)
             (position (R.left reader.new) self.new.piece self.new.count) e) }
@@ -214,7 +225,8 @@ impl Lines {
     ) -> Result<Action, InputFault>
         ensures line { TakesSource (position (R.left reader.old) self.old.piece self.old.count)
             (position (R.left reader.new) self.new.piece self.new.count) line result }
-        ensures stop { IfErr result (StopsInSource (position (R.left reader.old) self.old.piece self.old.count)
+        ensures stop { IfErr result (StopsInSource
+            (position (R.left reader.old) self.old.piece self.old.count)
             (position (R.left reader.new) self.new.piece self.new.count) line) }
         ensures failed { R.failed reader.new ≡ failed_after result (R.failed reader.old) }
     {
@@ -241,7 +253,8 @@ impl Lines {
         reader: &mut R,
         default_index: Option<&str>,
     ) -> Result<Option<NumberedOperation>, InputFault>
-        ensures lines { Reads (shown default_index.entry) (position (R.left reader.old) self.old.piece self.old.count)
+        ensures lines { Reads (shown default_index.entry)
+            (position (R.left reader.old) self.old.piece self.old.count)
             (position (R.left reader.new) self.new.piece self.new.count) result }
         ensures stop { IfErr result (Stops (shown default_index.entry)
             (position (R.left reader.old) self.old.piece self.old.count)
@@ -309,7 +322,8 @@ fn is_past_limit(line: &[u8], bytes: &[u8]) -> bool
 // Adds bytes to a line, unless it gets too long.
 fn add(line: &mut Vec<u8>, bytes: &[u8]) -> Result<(), LineKind>
     requires { IsStart line.old.items }
-    ensures ok { OnOk result ((line.new.items ≡ line.old.items ++ bytes.now) × IsStart line.new.items) }
+    ensures ok { OnOk result
+        ((line.new.items ≡ line.old.items ++ bytes.now) × IsStart line.new.items) }
     ensures err { IfErr result (IsAddFault (line.old.items ++ bytes.now)) }
 {
     if is_past_limit(line.as_slice(), bytes) {
@@ -348,9 +362,12 @@ fn end_of_line(line: &[u8]) -> Result<Line, LineKind>
 
 // The position of the first byte that is not a line end.
 fn text_start(bytes: &[u8]) -> Option<usize>
-    ensures some { IfSome result (λ start. (start < length bytes.now) × (is_line_end (slice_index bytes.now start) ≡ false)) }
-    ensures first { IfSome result (λ start. (k : ℕ) → k < start → is_line_end (slice_index bytes.now k) ≡ true) }
-    ensures none { IfNone result ((k : ℕ) → k < length bytes.now → is_line_end (slice_index bytes.now k) ≡ true) }
+    ensures some { IfSome result (λ start. (start < length bytes.now)
+        × (is_line_end (slice_index bytes.now start) ≡ false)) }
+    ensures first { IfSome result
+        (λ start. (k : ℕ) → k < start → is_line_end (slice_index bytes.now k) ≡ true) }
+    ensures none { IfNone result
+        ((k : ℕ) → k < length bytes.now → is_line_end (slice_index bytes.now k) ≡ true) }
 {
     bytes
         .iter()

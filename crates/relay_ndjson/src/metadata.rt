@@ -1,9 +1,11 @@
 //! The metadata of an action line.
-ghost use Rattle.std.specs.Prelude.{◌≡◌, ◌⊎◌, Some, None, Err, IfOk, IfErr, option_map, option_and_then};
+ghost use Rattle.std.specs.Prelude.{◌≡◌, ◌⊎◌, Some, None, Err, IfOk};
+ghost use Rattle.std.specs.Prelude.{IfErr, option_map, option_and_then};
 ghost use Rattle.serde_json.specs.Data.{Data, Members, object, put};
 ghost use Rattle.serde_json.specs.Find.{as_number};
 ghost use Rattle.relay_json.specs.Walks.{IsLeaf};
-ghost use Rattle.relay_ndjson.specs.Metadata.{shown, id_of, id_text, id_fault, number_text, index_of, document_fault};
+ghost use Rattle.relay_ndjson.specs.Metadata.{shown, id_of, id_text, id_fault};
+ghost use Rattle.relay_ndjson.specs.Metadata.{number_text, index_of, document_fault};
 ghost use Rattle.relay_ndjson.specs.Fields.{HoldsMembers};
 
 use crate::kind::{LineKind, kind_of};
@@ -73,9 +75,11 @@ pub fn document_of<'t>(
     metadata: &Metadata<'t>,
 ) -> Result<DocKey, LineKind>
     ensures ok { (ms : Members) → HoldsMembers metadata.now ms
-        → IfOk result (λ k. (index_of (shown default_index.entry) (object ms) ≡ Some k.index) × (id_of (object ms) ≡ Some k.id)) }
+        → IfOk result (λ k. (index_of (shown default_index.entry) (object ms) ≡ Some k.index)
+        × (id_of (object ms) ≡ Some k.id)) }
     ensures err { (ms : Members) → HoldsMembers metadata.now ms
-        → IfErr result (λ e. (e ≡ LineKind.Memory) ⊎ (document_fault (shown default_index.entry) (object ms) ≡ Some e)) }
+        → IfErr result (λ e. (e ≡ LineKind.Memory)
+        ⊎ (document_fault (shown default_index.entry) (object ms) ≡ Some e)) }
     ensures memory { (ms : Members) → HoldsMembers metadata.now ms → result ≡ Err LineKind.Memory
         → document_fault (shown default_index.entry) (object ms) ≡ None }
 {

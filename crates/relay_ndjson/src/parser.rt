@@ -75,7 +75,8 @@ impl<'a> Parser<'a> {
         &mut self,
         reader: &mut R,
     ) -> Result<Option<(DocKey, Action)>, InputFault>
-        ensures lines { Steps self.old.phase (reading (R.left reader.old) (R.failed reader.old) self.old)
+        ensures lines { Steps self.old.phase
+            (reading (R.left reader.old) (R.failed reader.old) self.old)
             (reading (R.left reader.new) (R.failed reader.new) self.new) result }
         ensures failed { R.failed reader.new ≡ failed_after result (R.failed reader.old) }
         ensures held { length self.new.held ≤ piece_limit }

@@ -1,5 +1,6 @@
 //! What was read ahead of a stream.
-ghost use Rattle.std.specs.Prelude.{◌≡◌, ◌≢◌, ◌<◌, ◌≤◌, ◌↔◌, [], length, drop, vec_len, IsTrue, IfOk, IfErr, OnOk, OnErr};
+ghost use Rattle.std.specs.Prelude.{◌≡◌, ◌≢◌, ◌<◌, ◌≤◌, ◌↔◌, [], length, drop};
+ghost use Rattle.std.specs.Prelude.{vec_len, IsTrue, IfOk, IfErr, OnOk, OnErr};
 ghost use Rattle.std.specs.Bool.{OnTrue, OnFalse};
 ghost use Rattle.std.specs.Io.KnownBytes.{prepend_known, IsAtEnd};
 ghost use Rattle.relay_ndjson.specs.Lines.{piece_limit, EndsLinesAt, HoldsFeedFrom};
@@ -35,8 +36,8 @@ impl Model for Piece {
 
     ghost use Rattle.relay_ndjson.specs.Lines.{piece_limit, EndsLinesAt};
 
-    ghost invariant = { λ p. (p.from ≤ p.to) × (p.to ≤ vec_len p.bytes) × (vec_len p.bytes ≤ piece_limit)
-        × EndsLinesAt p.ends p.to p.bytes.items };
+    ghost invariant = { λ p. (p.from ≤ p.to) × (p.to ≤ vec_len p.bytes)
+        × (vec_len p.bytes ≤ piece_limit) × EndsLinesAt p.ends p.to p.bytes.items };
 }
 
 fn make_room(alloc: Global) -> Result<Vec<u8>, AllocError>
@@ -133,9 +134,11 @@ impl Piece {
     /// has ended.
     pub fn refill<R: ByteIn>(&mut self, reader: &mut R) -> Result<bool, LineKind>
         requires { length self.old ≤ piece_limit }
-        ensures left { prepend_known self.old (R.left reader.old) ≡ prepend_known self.new (R.left reader.new) }
+        ensures left { prepend_known self.old (R.left reader.old)
+            ≡ prepend_known self.new (R.left reader.new) }
         ensures found { IfOk result (λ found. OnTrue found (self.new ≢ [])) }
-        ensures end { IfOk result (λ found. OnFalse found (IsAtEnd (prepend_known self.new (R.left reader.new)))) }
+        ensures end { IfOk result
+            (λ found. OnFalse found (IsAtEnd (prepend_known self.new (R.left reader.new)))) }
         ensures err { IfErr result IsFillFault }
         ensures none { OnErr result (self.new ≡ []) }
         ensures within { length self.new ≤ piece_limit }

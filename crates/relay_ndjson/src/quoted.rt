@@ -38,7 +38,8 @@ pub fn between_quotes<'t>(text: &'t str, string: &'t Option<String>) -> &'t [u8]
 /// Whether the id or the index name of a write's document needs an escape in its action line.
 /// Appending such a line allocates, even if the text it is appended to has room.
 pub fn has_escapes(write: &Write) -> bool
-    ensures { result ≡ not (list_all needs_no_escape write.now.key.id && list_all needs_no_escape write.now.key.index) }
+    ensures { result ≡ not (list_all needs_no_escape write.now.key.id
+        && list_all needs_no_escape write.now.key.index) }
 {
     !(is_plain(write.key.id().as_bytes()) && is_plain(write.key.index().as_bytes()))
 }

@@ -2,7 +2,8 @@
 ghost use Rattle.std.specs.Prelude.{◌≡◌, ◌++◌, codes, IfSome};
 ghost use Rattle.relay_json.specs.Plain.{IsPlain};
 ghost use Rattle.relay_ndjson.specs.Metadata.{shown, Says};
-ghost use Rattle.relay_ndjson.specs.Usual.{IsPlainIndex, usual_start, usual_id, usual_line, with_index};
+ghost use Rattle.relay_ndjson.specs.Usual.{IsPlainIndex, usual_start};
+ghost use Rattle.relay_ndjson.specs.Usual.{usual_id, usual_line, with_index};
 
 use relay_action::{ActionKind, DocKey};
 use relay_json::{after, plain_text, take_plain};

@@ -1,6 +1,11 @@
 //! What the definitions of `specs/` rule out, and what follows from them. These functions do
 //! nothing; their contracts are the laws.
-ghost use Rattle.relay_results.specs.Laws.{NotHonestWithoutRun, HonestEntryWasRun, FateSays, AnswersEndFlight, RetriedHasTries, RefusedWhateverSent, OneReply, NoFaultOfReply, OneFault, MayAlwaysRun, NotAppliedAgain, StepRunsItem, ContinuesItself, ContinuesOn, EventContinues, LaneOfKey, NamesEqual, NumbersFromOne};
+ghost use Rattle.relay_results.specs.Laws.{NotHonestWithoutRun, HonestEntryWasRun, FateSays};
+ghost use Rattle.relay_results.specs.Laws.{AnswersEndFlight, RetriedHasTries};
+ghost use Rattle.relay_results.specs.Laws.{RefusedWhateverSent, OneReply, NoFaultOfReply};
+ghost use Rattle.relay_results.specs.Laws.{OneFault, MayAlwaysRun, NotAppliedAgain, StepRunsItem};
+ghost use Rattle.relay_results.specs.Laws.{ContinuesItself, ContinuesOn, EventContinues};
+ghost use Rattle.relay_results.specs.Laws.{LaneOfKey, NamesEqual, NumbersFromOne};
 
 /// Any item of any sent request may be run at any time; a write that was applied is not applied
 /// again; and a step of the outside records its run and applies at most the item's own write.

@@ -1,9 +1,13 @@
 //! Replies in the usual form, which are read without a JSON reader.
-ghost use Rattle.std.specs.Prelude.{◌≡◌, ◌≤◌, ◌<◌, ◌∷◌, ◌++◌, [], length, codes, decimal, IsTrue, IfSome};
+ghost use Rattle.std.specs.Prelude.{◌≡◌, ◌≤◌, ◌<◌, ◌∷◌, ◌++◌, [], length};
+ghost use Rattle.std.specs.Prelude.{codes, decimal, IsTrue, IfSome};
 ghost use Rattle.relay_json.specs.Plain.{IsPlain};
 ghost use Rattle.relay_results.specs.declared.usual.Entry.{Entry as EntryModel};
 ghost use Rattle.relay_results.specs.Replies.{IsBulkReply};
-ghost use Rattle.relay_results.specs.Usual.{start_text, type_text, id_text, document_text, applied_text, shards_text, place_text, entry_text, head_text, outcome_of, IsPlainType, IsDocument, IsApplied, AreShards, IsPlace, IsUsual, HasRead};
+ghost use Rattle.relay_results.specs.Usual.{start_text, type_text, id_text, document_text};
+ghost use Rattle.relay_results.specs.Usual.{applied_text, shards_text, place_text, entry_text};
+ghost use Rattle.relay_results.specs.Usual.{head_text, outcome_of, IsPlainType, IsDocument};
+ghost use Rattle.relay_results.specs.Usual.{IsApplied, AreShards, IsPlace, IsUsual, HasRead};
 
 use crate::outcome::Outcome;
 use relay_action::{ActionKind, Text};
@@ -90,7 +94,8 @@ fn take_head(bytes: &[u8]) -> Option<(u64, &[u8])>
 
 // Takes the next entry, adds its outcome, and returns what follows.
 fn take_outcome<'t>(alloc: Global, bytes: &'t [u8], outcomes: &mut Vec<Outcome>) -> Option<&'t [u8]>
-    ensures entry { IfSome result (λ rest. (e : EntryModel) × IsUsual e × (bytes.now ≡ entry_text e rest.now)
+    ensures entry { IfSome result
+        (λ rest. (e : EntryModel) × IsUsual e × (bytes.now ≡ entry_text e rest.now)
         × (outcomes.new.items ≡ outcomes.old.items ++ outcome_of e ∷ [])) }
 {
     let (entry, rest) = take_entry(bytes)?;
@@ -102,7 +107,8 @@ fn take_outcome<'t>(alloc: Global, bytes: &'t [u8], outcomes: &mut Vec<Outcome>)
 // The outcome of an entry, if its status is valid.
 fn outcome(alloc: Global, entry: &Entry<'_>) -> Option<Outcome>
     ensures outcome { IfSome result (λ o. o ≡ outcome_of entry.now) }
-    ensures status { IfSome result (λ o. (100 ≤ entry.now.place.status) × (entry.now.place.status ≤ 599)) }
+    ensures status { IfSome result
+        (λ o. (100 ≤ entry.now.place.status) × (entry.now.place.status ≤ 599)) }
 {
     let status = entry.place.status;
     if status < 100 || status > 599 {
@@ -119,7 +125,9 @@ fn outcome(alloc: Global, entry: &Entry<'_>) -> Option<Outcome>
 // The next entry, and what follows it.
 fn take_entry(bytes: &[u8]) -> Option<(Entry<'_>, &[u8])>
     ensures text { IfSome result (λ e. bytes.now ≡ entry_text e.0 e.1.now) }
-    ensures parts { IfSome result (λ e. IsDocument e.0.document × IsApplied e.0.applied × AreShards e.0.shards × IsPlace e.0.place) }
+    ensures parts { IfSome result
+        (λ e. IsDocument e.0.document × IsApplied e.0.applied × AreShards e.0.shards
+        × IsPlace e.0.place) }
 {
     let (document, rest) = take_document(bytes)?;
     let (applied, rest) = take_applied(rest)?;

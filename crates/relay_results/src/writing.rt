@@ -3,7 +3,9 @@ ghost use Rattle.std.specs.Prelude.{◌≡◌, IfOk, string_bytes};
 ghost use Rattle.serde_json.specs.Data.{object, array};
 ghost use Rattle.serde_json.specs.View.{view, items_view};
 ghost use Rattle.std.specs.List.{list_any};
-ghost use Rattle.relay_results.specs.Done.{failure, result_name, fields_by, entry_data, entries_data, is_failure, reply_data, reply_text, outcomes_of, HaveStatuses};
+ghost use Rattle.relay_results.specs.Done.{failure, result_name, fields_by, entry_data};
+ghost use Rattle.relay_results.specs.Done.{entries_data, is_failure, reply_data};
+ghost use Rattle.relay_results.specs.Done.{reply_text, outcomes_of, HaveStatuses};
 ghost use Rattle.relay_results.specs.Replies.{IsBulkReply};
 
 use crate::done::{DoneResult, ItemDone};
@@ -32,13 +34,17 @@ fn fields_value(alloc: Global, done: &ItemDone) -> Result<Value, AllocError>
     let index = done.key.index();
     let status = done.status;
     match done.result.failure() {
-        Some(error) =>
-            json!(in alloc; {"_id": id, "_index": index, "error": {"type": error}, "status": status}),
+        Some(error) => json!(in alloc; {
+            "_id": id, "_index": index, "error": {"type": error}, "status": status
+        }),
         None => {
             let seq = done.seq;
             let version = done.version;
             let name = result_name(done.result);
-            json!(in alloc; {"_id": id, "_index": index, "_seq_no": seq, "_version": version, "result": name, "status": status})
+            json!(in alloc; {
+                "_id": id, "_index": index, "_seq_no": seq, "_version": version,
+                "result": name, "status": status
+            })
         }
     }
 }

@@ -1,4 +1,4 @@
-use Rattle.std.proofs.Common.{◌∙◌, rules, refl}
+use Rattle.std.proofs.Common.{rules}
 use Rattle.relay_ndjson.proofs.Appended.{one_appended, all_appended}
 use Rattle.relay_ndjson.proofs.bulk.append_bulk.Goals as goal
 

@@ -1,5 +1,5 @@
 use Rattle.std.proofs.Common.{◌≡◌, Result, Ok, Err, MatchOption, MatchResult, IfOk, refl, subst, sym}
-use Rattle.relay_json.specs.Sole.{SoleObject}
+use Rattle.relay_json.specs.Sole.{IsSoleObject}
 use Rattle.relay_results.specs.Parts.{HoldsFields}
 use Rattle.relay_results.specs.Replies.{IsEntry, IsNoEntry}
 use Rattle.relay_results.proofs.OneMore.{entry_is}
@@ -14,5 +14,5 @@ ok_stays (Err e) mapped x P Q is never h p = absurd (never e h)
 pub returns-clause-ok : goal.returns-clause-ok
 returns-clause-ok c =
     let read = c.in_ok-name.ensures.ok in
-    let one = subst (SoleObject HoldsFields read.0) c.in-Some.is read.2 in
+    let one = subst (IsSoleObject HoldsFields read.0) c.in-Some.is read.2 in
     (read.0, read.1, subst (λ d. MatchOption c.in_ok-map_err.field-0 (IsNoEntry d) (IsEntry d)) (sym (entry_is read.0 c.in-Some.name.now one.0 one.1)) (ok_stays _ _ c.in_ok-map_err.field-0 _ _ refl (λ e h. h) c.in_ok-map_err.ensures.cases c.outcome_of.ensures one.0 one.2))
