@@ -7,7 +7,7 @@ use Rattle.std.proofs.lemmas.List.Elements.{All-nil, All-cons, All-head, All-tai
 use Rattle.relay_action.specs.declared.operation.Op.{Op}
 use Rattle.relay_action.specs.declared.mail.Mail.{Mail}
 use Rattle.relay_action.specs.declared.mail.Body.TheVariants.{Done}
-use Rattle.relay_queue.specs.Sent.{message}
+use Rattle.relay_queue.specs.Messages.{message}
 use Rattle.relay_queue.specs.Ends.{Queue, SenderEnd}
 use Rattle.relay_producer.specs.declared.ends.OpenEnd.{OpenEnd}
 use Rattle.relay_producer.specs.declared.ends.ClosedEnd.{ClosedEnd}

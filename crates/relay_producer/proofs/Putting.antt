@@ -1,20 +1,19 @@
 -- An operation joins what a producer put.
 use Rattle.std.proofs.Common.{◌≡◌, ◌≢◌, ℕ, zero, suc, ◌+◌, ◌<◌, ◌≤◌, true, false, eqb, eq-eqb, ne_eqb, List, [], ◌∷◌, ◌++◌, length, set, get_or, sym, refl, ap, ◌∙◌, subst, ⊎_elim, inl, inr, arith, append-nil, ◌⊎◌}
-use Rattle.std.specs.Prelude.{Some, ◌^◌}
+use Rattle.std.specs.Prelude.{Some, ◌^◌, Result, Ok, Err, is_ok, OnOk, OnErr}
 use Rattle.std.specs.List.{All, slice_get}
 use Rattle.std.proofs.lemmas.List.{length-map, length_push}
 use Rattle.std.proofs.lemmas.Bool.Decides.{eqb_tells}
 use Rattle.std.proofs.lemmas.List.Elements.{All-nil, All-cons, All-head, All-tail}
 use Rattle.relay_action.specs.declared.key.DocKey.{DocKey}
 use Rattle.relay_action.specs.declared.operation.Op.{Op}
-use Rattle.relay_action.specs.declared.operation.OpName.{OpName}
 use Rattle.relay_action.specs.declared.mail.Body.{Body}
 use Rattle.relay_action.specs.declared.mail.Body.TheVariants.{Put}
 use Rattle.relay_action.specs.Lanes.{lane_of_document}
-use Rattle.relay_queue.specs.Sent.{message}
+use Rattle.relay_queue.specs.Messages.{message}
 use Rattle.relay_queue.specs.Ends.{SenderEnd}
 use Rattle.relay_producer.specs.declared.ends.OpenEnd.{OpenEnd}
-use Rattle.relay_producer.specs.Ends.{with_sent, one_more, marked, is_gone_at, open_puts, identity, identities, change_at}
+use Rattle.relay_producer.specs.Ends.{with_sent, one_more, with_mark, is_gone_at, open_puts, identity, identities, change_at}
 use Rattle.relay_producer.specs.Puts.{puts_of, ops_for, AreNumberedBy, HasPut}
 use Rattle.relay_producer.specs.States.{AreEndsOf, HasLanes, ProducerState, IsProducer}
 use Rattle.relay_producer.proofs.Closing.{puts_of-append}
@@ -42,26 +41,26 @@ same_identities lane f [] h = refl
 same_identities zero f (y ∷ ys) h = ap (λ p. p ∷ identities (open_puts ys)) (h y)
 same_identities (suc lane) f (y ∷ ys) h = ap (λ l. identity y.put ∷ l) (same_identities lane f ys h)
 
-pub same_marked : (lane : ℕ) (xs : List OpenEnd) → open_puts (change_at lane marked xs) ≡ open_puts xs
+pub same_marked : (lane : ℕ) (xs : List OpenEnd) → open_puts (change_at lane with_mark xs) ≡ open_puts xs
 same_marked lane [] = refl
 same_marked zero (y ∷ ys) = refl
 same_marked (suc lane) (y ∷ ys) = ap (λ l. y.put ∷ l) (same_marked lane ys)
 
 -- ---- an end at a lane after a change
 
-record Changed (f : OpenEnd → OpenEnd) (xs : List OpenEnd) (lane : ℕ) (put : SenderEnd) : Type 0 where
+record IsAfterChange (f : OpenEnd → OpenEnd) (xs : List OpenEnd) (lane : ℕ) (put : SenderEnd) : Type 0 where
   pub end : OpenEnd
   pub at : slice_get (open_puts xs) lane ≡ Some end.put
   pub now : put ≡ (f end).put
 
-changed_at : (k : ℕ) (f : OpenEnd → OpenEnd) (xs : List OpenEnd) (lane : ℕ) (put : SenderEnd) → slice_get (open_puts (change_at k f xs)) lane ≡ Some put → ((lane ≢ k) × (slice_get (open_puts xs) lane ≡ Some put)) ⊎ ((lane ≡ k) × Changed f xs lane put)
+changed_at : (k : ℕ) (f : OpenEnd → OpenEnd) (xs : List OpenEnd) (lane : ℕ) (put : SenderEnd) → slice_get (open_puts (change_at k f xs)) lane ≡ Some put → ((lane ≢ k) × (slice_get (open_puts xs) lane ≡ Some put)) ⊎ ((lane ≡ k) × IsAfterChange f xs lane put)
 changed_at k f [] lane put at = absurd (cc)
 changed_at zero f (y ∷ ys) zero put at = inr (refl, record { end = y; at = refl; now = cc })
 changed_at zero f (y ∷ ys) (suc lane) put at = inl ((λ e. omega arith), at)
 changed_at (suc k) f (y ∷ ys) zero put at = inl ((λ e. omega arith), at)
 changed_at (suc k) f (y ∷ ys) (suc lane) put at =
     ⊎_elim (λ (t : (lane ≢ k) × (slice_get (open_puts ys) lane ≡ Some put)). let n = t.0 in inl ((λ e. n (omega arith)), t.1))
-    (λ (t : (lane ≡ k) × Changed f ys lane put). inr (ap suc t.0, record { end = t.1.end; at = t.1.at; now = t.1.now })) (changed_at k f ys lane put at)
+    (λ (t : (lane ≡ k) × IsAfterChange f ys lane put). inr (ap suc t.0, record { end = t.1.end; at = t.1.at; now = t.1.now })) (changed_at k f ys lane put at)
 
 -- ---- one more operation
 
@@ -97,13 +96,13 @@ put_more producer count ends ops op named number h =
       numbered = numbered_push producer 1 ops op h.numbered named (omega arith);
       senders = λ lane put at.
           ⊎_elim (λ (t : (lane ≢ k) × (slice_get (open_puts ends) lane ≡ Some put)). h.senders lane put t.1)
-          (λ (t : (lane ≡ k) × Changed f ends lane put). ap (λ (p : SenderEnd). p.sender) t.1.now ∙ h.senders lane t.1.end.put t.1.at) (changed_at k f ends lane put at);
+          (λ (t : (lane ≡ k) × IsAfterChange f ends lane put). ap (λ (p : SenderEnd). p.sender) t.1.now ∙ h.senders lane t.1.end.put t.1.at) (changed_at k f ends lane put at);
       sent = λ lane put at.
           ⊎_elim
           (λ (t : (lane ≢ k) × (slice_get (open_puts ends) lane ≡ Some put)).
           let n = t.0 in
           h.sent lane put t.1 ∙ ap (λ j. ops_for j lane ops) old_len ∙ sym (ops_for-other (length ends) lane ops op (λ e. n (sym e))) ∙ ap (λ j. ops_for j lane (ops ++ op ∷ [])) (sym len))
-          (λ (t : (lane ≡ k) × Changed f ends lane put).
+          (λ (t : (lane ≡ k) × IsAfterChange f ends lane put).
           ap (λ (p : SenderEnd). puts_of p.sent) t.1.now ∙ puts_more op t.1.end.put
           ∙ ap (λ l. l ++ op ∷ []) (h.sent lane t.1.end.put t.1.at ∙ ap (λ j. ops_for j lane ops) old_len)
           ∙ sym (ops_for-own (length ends) lane ops op (sym t.0)) ∙ ap (λ j. ops_for j lane (ops ++ op ∷ [])) (sym len)) (changed_at k f ends lane put at);
@@ -124,12 +123,12 @@ own_more sender count k body ends h =
     let n = length_push x.put.sent (message x.put.sender (length x.put.sent + 1) body) in (p.0, omega arith) in
     all_changed P Q k (with_sent body) ends keep new h
 
-own_marked : (sender count k : ℕ) (ends : List OpenEnd) → AreEndsOf sender count ends → AreEndsOf sender count (change_at k marked ends)
+own_marked : (sender count k : ℕ) (ends : List OpenEnd) → AreEndsOf sender count ends → AreEndsOf sender count (change_at k with_mark ends)
 own_marked sender count k ends h =
     let P : OpenEnd → Type 0 = λ e. (e.put.sender ≡ sender) × (length e.put.sent ≤ count) in
     let keep : (x : OpenEnd) → P x → P x = λ x p. p in
-    let new : (x : OpenEnd) → P x → P (marked x) = λ x p. p in
-    all_changed P P k marked ends keep new h
+    let new : (x : OpenEnd) → P x → P (with_mark x) = λ x p. p in
+    all_changed P P k with_mark ends keep new h
 
 lanes_changed : (k : ℕ) (f : OpenEnd → OpenEnd) (ends : List OpenEnd) → HasLanes ends → HasLanes (change_at k f ends)
 lanes_changed k f ends h = let n = length-change_at k f ends in (omega arith, omega arith)
@@ -146,11 +145,11 @@ producer_puts epoch producer count ends new op named number room is p =
       shown = (p.shown.0 ++ op ∷ [], put_more producer count ends p.shown.0 op named number p.shown.1);
     })
 
-pub producer_marks : (epoch producer count k : ℕ) (ends new : List OpenEnd) → new ≡ change_at k marked ends → IsProducer (with_ends epoch producer count ends) → IsProducer (with_ends epoch producer count new)
+pub producer_marks : (epoch producer count k : ℕ) (ends new : List OpenEnd) → new ≡ change_at k with_mark ends → IsProducer (with_ends epoch producer count ends) → IsProducer (with_ends epoch producer count new)
 producer_marks epoch producer count k ends new is p =
     subst (λ (es : List OpenEnd). IsProducer (with_ends epoch producer count es)) (sym is)
     (record {
-      lanes = lanes_changed k marked ends p.lanes;
+      lanes = lanes_changed k with_mark ends p.lanes;
       limit = p.limit;
       own = own_marked producer count k ends p.own;
       shown = (p.shown.0, subst (λ (ps : List SenderEnd). HasPut producer count ps p.shown.0) (sym (same_marked k ends)) p.shown.1);
@@ -164,9 +163,15 @@ same_count k f ends new is = ap length is ∙ length-change_at k f ends
 pub at_lane : (key : DocKey) (f : OpenEnd → OpenEnd) (ends new : List OpenEnd) (lane count : ℕ) → new ≡ change_at lane f ends → lane ≡ lane_of_document key count → count ≡ length ends → new ≡ change_at (lane_of_document key (length ends)) f ends
 at_lane key f ends new lane count e at len = e ∙ ap (λ k. change_at k f ends) (at ∙ ap (lane_of_document key) len)
 
--- the name of its next operation
-abbrev pub next_name : ProducerState → OpName
-next_name s = record { epoch = s.epoch; producer = s.producer; number = s.put + 1 }
+-- ---- what a call says of an Ok and of an Err, for the one that came
+
+pub on_ok : {T E P : Type 0} (r : Result T E) → true ≡ is_ok r → OnOk r P → P
+on_ok (Ok x) e h = h
+on_ok (Err x) e h = absurd (cc)
+
+pub on_err : {T E P : Type 0} (r : Result T E) → false ≡ is_ok r → OnErr r P → P
+on_err (Ok x) e h = absurd (cc)
+on_err (Err x) e h = h
 
 -- ---- a lane that is marked
 
@@ -177,7 +182,7 @@ gone_here (y ∷ ys) zero x lt at = ap (λ (e : OpenEnd). e.gone) (sym at)
 gone_here (y ∷ ys) (suc lane) x lt at = gone_here ys lane x (omega arith) at
 
 -- to mark a lane that is marked changes nothing
-pub marked_already : (xs : List OpenEnd) (lane : ℕ) → is_gone_at xs lane ≡ true → xs ≡ change_at lane marked xs
+pub marked_already : (xs : List OpenEnd) (lane : ℕ) → is_gone_at xs lane ≡ true → xs ≡ change_at lane with_mark xs
 marked_already [] lane gone = refl
 marked_already (y ∷ ys) zero gone = λ i. record { put = y.put; gone = gone i } ∷ ys
 marked_already (y ∷ ys) (suc lane) gone = ap (λ l. y ∷ l) (marked_already ys lane gone)

@@ -7,14 +7,14 @@ use Rattle.std.proofs.lemmas.List.Sums.{sum_by-set}
 use Rattle.relay_action.specs.declared.mail.Body.{Body}
 use Rattle.relay_producer.specs.declared.ends.OpenEnd.{OpenEnd}
 use Rattle.relay_queue.specs.Ends.{Queue}
-use Rattle.relay_queue.specs.Sent.{message}
+use Rattle.relay_queue.specs.Messages.{message}
 use Rattle.relay_producer.specs.Puts.{puts_in, puts_of, HaveNoPuts}
 use Rattle.relay_producer.specs.States.{IsControl}
 use Rattle.relay_producer.proofs.Closing.{puts_of-append}
-use Rattle.relay_producer.specs.Ends.{Takes, IsSent, marked, count_sent, open_puts, identity, identities, IsSentToAll}
+use Rattle.relay_producer.specs.Ends.{Takes, IsSent, with_mark, count_sent, open_puts, identity, identities, IsSentToAll}
 
 -- the first lanes were sent the message, which so many took, and the others are as before
-pub record Sending (body : Body) (lane taken : ℕ) (old now : List OpenEnd) : Type 0 where
+pub record IsSentBelow (body : Body) (lane taken : ℕ) (old now : List OpenEnd) : Type 0 where
   pub lanes : length now ≡ length old
   pub done : (k : ℕ) (d : OpenEnd) → k < lane → IsSent body (get_or old k d) (get_or now k d)
   pub left : (k : ℕ) (d : OpenEnd) → lane ≤ k → get_or now k d ≡ get_or old k d
@@ -22,14 +22,14 @@ pub record Sending (body : Body) (lane taken : ℕ) (old now : List OpenEnd) : T
   pub same : identities (open_puts now) ≡ identities (open_puts old)
   pub most : taken ≤ lane
 
-pub begins : (body : Body) (old : List OpenEnd) → Sending body 0 0 old old
+pub begins : (body : Body) (old : List OpenEnd) → IsSentBelow body 0 0 old old
 begins body old = record { lanes = refl; done = λ k d lt. absurd (omega arith); left = λ k d le. refl; count = omega arith; same = refl; most = omega arith }
 
 -- a lane's end stays that of its queue and sender
 sent_identity : (body : Body) (x y : OpenEnd) → IsSent body x y → identity y.put ≡ identity x.put
 sent_identity body x y h =
     ⊎_elim (λ (t : Takes body x y). ap (λ (e : OpenEnd). identity e.put) t.sent)
-    (λ m. ⊎_elim (λ (e : y ≡ marked x). ap (λ (z : OpenEnd). identity z.put) e) (λ (e : (length x.put.sent ≡ 2 ^ 40) × (y ≡ x)). ap (λ (z : OpenEnd). identity z.put) e.1) m) h
+    (λ m. ⊎_elim (λ (e : y ≡ with_mark x). ap (λ (z : OpenEnd). identity z.put) e) (λ (e : (length x.put.sent ≡ 2 ^ 40) × (y ≡ x)). ap (λ (z : OpenEnd). identity z.put) e.1) m) h
 
 set_identity : (lane : ℕ) (xs : List OpenEnd) (x y : OpenEnd) → lane < length xs → x ≡ get_or xs lane x → identity y.put ≡ identity x.put → identities (open_puts (set xs lane y)) ≡ identities (open_puts xs)
 set_identity lane [] x y lt at e = refl
@@ -37,8 +37,8 @@ set_identity zero (z ∷ zs) x y lt at e = ap (λ p. p ∷ identities (open_puts
 set_identity (suc lane) (z ∷ zs) x y lt at e = ap (λ l. identity z.put ∷ l) (set_identity lane zs x y (omega arith) at e)
 
 -- one lane more
-pub goes_on : (body : Body) (lane taken more : ℕ) (old now : List OpenEnd) (x y : OpenEnd) → Sending body lane taken old now → lane < length now → x ≡ get_or now lane x → IsSent body x y → length y.put.sent ≡ length x.put.sent + more → more ≤ 1
-    → Sending body (lane + 1) (taken + more) old (set now lane y)
+pub goes_on : (body : Body) (lane taken more : ℕ) (old now : List OpenEnd) (x y : OpenEnd) → IsSentBelow body lane taken old now → lane < length now → x ≡ get_or now lane x → IsSent body x y → length y.put.sent ≡ length x.put.sent + more → more ≤ 1
+    → IsSentBelow body (lane + 1) (taken + more) old (set now lane y)
 goes_on body lane taken more old now x y h lt at sent grown most =
     let here : (d : OpenEnd) → IsSent body (get_or old lane d) (get_or (set now lane y) lane d) = λ d.
     subst (λ (z : OpenEnd × OpenEnd). IsSent body z.0 z.1) (λ i. ((get_or_read now lane x lt at d ∙ h.left lane d (omega arith)) i, sym (get_or-set_same now lane y d lt) i)) sent in
@@ -59,7 +59,7 @@ goes_on body lane taken more old now x y h lt at sent grown most =
       most = omega arith;
     }
 
-pub all_sent : (body : Body) (lane taken : ℕ) (old now : List OpenEnd) → Sending body lane taken old now → length old ≤ lane → IsSentToAll body old now
+pub all_sent : (body : Body) (lane taken : ℕ) (old now : List OpenEnd) → IsSentBelow body lane taken old now → length old ≤ lane → IsSentToAll body old now
 all_sent body lane taken old now h le = record { lanes = h.lanes; each = λ k d lt. h.done k d (omega arith) }
 
 -- ---- the control afterwards
@@ -70,7 +70,7 @@ no_put_sent body x y silent h none =
     ⊎_elim (λ (t : Takes body x y).
     ap (λ (e : OpenEnd). puts_of e.put.sent) t.sent ∙ puts_of-append x.put.sent (message x.put.sender (length x.put.sent + 1) body ∷ [])
     ∙ ap (λ l. l ++ (puts_in body ++ [])) none ∙ ap (λ l. l ++ []) silent)
-    (λ m. ⊎_elim (λ (e : y ≡ marked x). ap (λ (z : OpenEnd). puts_of z.put.sent) e ∙ none) (λ (e : (length x.put.sent ≡ 2 ^ 40) × (y ≡ x)). ap (λ (z : OpenEnd). puts_of z.put.sent) e.1 ∙ none) m) h
+    (λ m. ⊎_elim (λ (e : y ≡ with_mark x). ap (λ (z : OpenEnd). puts_of z.put.sent) e ∙ none) (λ (e : (length x.put.sent ≡ 2 ^ 40) × (y ≡ x)). ap (λ (z : OpenEnd). puts_of z.put.sent) e.1 ∙ none) m) h
 
 no_puts_sent : (body : Body) (old new : List OpenEnd) → puts_in body ≡ [] → IsSentToAll body old new → HaveNoPuts (open_puts old) → HaveNoPuts (open_puts new)
 no_puts_sent body [] [] silent h none = tt

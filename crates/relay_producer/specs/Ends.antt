@@ -4,7 +4,7 @@ use Rattle.std.specs.List.{sum_by, AllZip}
 use Rattle.relay_action.specs.declared.mail.Mail.{Mail}
 use Rattle.relay_action.specs.declared.mail.Body.{Body}
 use Rattle.relay_action.specs.declared.mail.Body.TheVariants.{Done}
-use Rattle.relay_queue.specs.Sent.{message}
+use Rattle.relay_queue.specs.Messages.{message}
 use Rattle.relay_queue.specs.Ends.{Queue, SenderEnd}
 use Rattle.relay_producer.specs.declared.ends.OpenEnd.{OpenEnd}
 use Rattle.relay_producer.specs.declared.ends.ClosedEnd.{ClosedEnd}
@@ -17,8 +17,8 @@ abbrev pub opened : SenderEnd → OpenEnd
 opened put = record { put = put; gone = false }
 
 -- the end of a lane that was found gone
-abbrev pub marked : OpenEnd → OpenEnd
-marked e = record { put = e.put; gone = true }
+abbrev pub with_mark : OpenEnd → OpenEnd
+with_mark e = record { put = e.put; gone = true }
 
 -- the end after its sender sent one more message
 abbrev pub one_more : Body → SenderEnd → SenderEnd
@@ -35,7 +35,7 @@ pub record Takes (body : Body) (old new : OpenEnd) : Type 0 where
 
 -- the lane took the message; or it is found gone, now or before; or its queue takes no more from this sender
 abbrev pub IsSent : Body → OpenEnd → OpenEnd → Type 0
-IsSent body old new = Takes body old new ⊎ ((new ≡ marked old) ⊎ ((length old.put.sent ≡ 2 ^ 40) × (new ≡ old)))
+IsSent body old new = Takes body old new ⊎ ((new ≡ with_mark old) ⊎ ((length old.put.sent ≡ 2 ^ 40) × (new ≡ old)))
 
 -- the end of a closed sender
 abbrev pub end_of : ClosedEnd → SenderEnd

@@ -9,7 +9,7 @@ use Rattle.relay_action.specs.Lanes.{lane_of_document}
 use Rattle.relay_queue.specs.Ends.{SenderEnd, fresh}
 use Rattle.relay_producer.specs.declared.ends.OpenEnd.{OpenEnd}
 use Rattle.relay_producer.specs.declared.ends.ClosedEnd.{ClosedEnd}
-use Rattle.relay_producer.specs.Ends.{with_sent, marked, is_gone_at, change_at, open_puts, closed_puts, IsClosedBy}
+use Rattle.relay_producer.specs.Ends.{with_sent, with_mark, is_gone_at, change_at, open_puts, closed_puts, IsClosedBy}
 use Rattle.relay_producer.specs.Puts.{HasPut, HaveNoPuts}
 
 -- a producer: the epoch in which it puts, its number, how many operations it put, and its ends of the queues, by lane
@@ -59,7 +59,7 @@ after_put key action s = record { epoch = s.epoch; producer = s.producer; put = 
 
 -- the document's lane was found gone, and nothing else changed
 abbrev pub after_gone : DocKey → ProducerState → ProducerState
-after_gone key s = record { epoch = s.epoch; producer = s.producer; put = s.put; ends = change_at (lane_for key s) marked s.ends }
+after_gone key s = record { epoch = s.epoch; producer = s.producer; put = s.put; ends = change_at (lane_for key s) with_mark s.ends }
 
 -- ---- what holds of each
 

@@ -2,7 +2,8 @@
 ghost use Rattle.std.specs.Prelude.{◌≡◌, ◌+◌, ◌↔◌, false, map, IfOk};
 ghost use Rattle.std.specs.List.{All, count_by};
 ghost use Rattle.relay_action.specs.declared.mail.Body.TheVariants.{Tick, Flush};
-ghost use Rattle.relay_producer.specs.Ends.{opened, open_puts, closed_puts, identities, is_gone, count_sent, IsSentToAll, IsClosedBy, ClosesAll};
+ghost use Rattle.relay_producer.specs.Ends.{opened, open_puts, closed_puts, identities, is_gone};
+ghost use Rattle.relay_producer.specs.Ends.{count_sent, IsSentToAll, IsClosedBy, ClosesAll};
 ghost use Rattle.relay_producer.specs.Puts.{HaveNoPuts};
 ghost use Rattle.relay_producer.specs.States.{AreFresh, HasLanes};
 
@@ -45,7 +46,8 @@ impl Control {
     pub fn new(alloc: Global, sender: u32, puts: Vec<LanePut>) -> Result<Control, AllocError>
         requires lanes { HasLanes puts.items }
         requires fresh { AreFresh sender puts.items }
-        ensures state { IfOk result (λ c. c ≡ record { sender = sender; ends = map opened puts.items }) }
+        ensures state { IfOk result
+            (λ c. c ≡ record { sender = sender; ends = map opened puts.items }) }
         ensures puts { IfOk result (λ c. open_puts c.ends ≡ puts.items) }
         ensures no_puts { IfOk result (λ c. HaveNoPuts (open_puts c.ends)) }
     {

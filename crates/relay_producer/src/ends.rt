@@ -24,7 +24,7 @@ pub enum ClosedEnd {
 }
 
 impl OpenEnd {
-    ghost use Rattle.relay_producer.specs.Ends.{Takes, IsSent, marked, Closes};
+    ghost use Rattle.relay_producer.specs.Ends.{Takes, IsSent, with_mark, Closes};
 
     // Sends a message other than Done, unless the lane was found gone before, and marks it if it is
     // found gone now. It waits while the queue is full. An error returns the body.
@@ -32,7 +32,7 @@ impl OpenEnd {
         requires { body ≢ Body.Done }
         ensures sent { OnOk result (Takes body self.old self.new) }
         ensures back { IfErr result (λ e. e.1 ≡ body) }
-        ensures gone { IfErr result (λ e. e.0 ≡ PutRefusal.Gone → self.new ≡ marked self.old) }
+        ensures gone { IfErr result (λ e. e.0 ≡ PutRefusal.Gone → self.new ≡ with_mark self.old) }
         ensures spent { IfErr result (λ e. e.0 ≡ PutRefusal.Spent
             → (length self.old.put.sent ≡ 2 ^ 40) × (self.new ≡ self.old)) }
     {
@@ -56,11 +56,7 @@ impl OpenEnd {
         ensures count { length self.new.put.sent
             ≡ length self.old.put.sent + (if result then 1 else 0) }
     {
-        match self.send(rt, body) {
-            Ok(()) => true,
-            Err((PutRefusal::Gone, _)) => false,
-            Err((PutRefusal::Spent, _)) => false,
-        }
+        self.send(rt, body).is_ok()
     }
 
     // Sends Done, unless the lane was found gone. It waits while the queue is full.

@@ -1,7 +1,11 @@
 //! A sender's ends of all lanes' queues.
-ghost use Rattle.std.specs.Prelude.{◌≡◌, ◌≢◌, ◌+◌, ◌<◌, ◌≤◌, ◌^◌, [], false, length, map, Some, IfOk, IfErr, OnOk, OnErr, vec_len, vec_capacity};
+ghost use Rattle.std.specs.Prelude.{◌≡◌, ◌≢◌, ◌+◌, ◌<◌, ◌≤◌, ◌^◌, []};
+ghost use Rattle.std.specs.Prelude.{false, length, map, Some, IfOk, IfErr};
+ghost use Rattle.std.specs.Prelude.{OnOk, OnErr, vec_len, vec_capacity};
 ghost use Rattle.std.specs.List.{All, count_by, slice_get};
-ghost use Rattle.relay_producer.specs.Ends.{opened, marked, with_sent, change_at, open_puts, identities, is_gone, count_sent, IsSentToAll, ClosesAll};
+ghost use Rattle.relay_producer.specs.Ends.{opened, with_mark, with_sent, change_at};
+ghost use Rattle.relay_producer.specs.Ends.{open_puts, identities, is_gone};
+ghost use Rattle.relay_producer.specs.Ends.{count_sent, IsSentToAll, ClosesAll};
 ghost use Rattle.relay_producer.specs.Signals.{body_of};
 
 use crate::ends::{ClosedEnd, OpenEnd};
@@ -55,7 +59,7 @@ pub(crate) fn send_op<R: Wait>(
     ensures reached { OnOk result
         ((e : OpenEnd) → slice_get ends.old.items lane ≡ Some e → e.gone ≡ false) }
     ensures back { IfErr result (λ o. o ≡ op) }
-    ensures gone { OnErr result (ends.new.items ≡ change_at lane marked ends.old.items) }
+    ensures gone { OnErr result (ends.new.items ≡ change_at lane with_mark ends.old.items) }
 {
     match ends[lane].send(rt, Body::Put(op)) {
         Ok(()) => Ok(()),

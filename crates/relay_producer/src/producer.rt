@@ -1,10 +1,14 @@
 //! A producer's handle, which puts operations, each to the lane of its document.
-ghost use Rattle.std.specs.Prelude.{◌≡◌, ◌+◌, ◌<◌, ◌^◌, ◌↔◌, List, [], ◌∷◌, ◌++◌, true, false, map, Some, IfOk, IfErr, OnOk, OnErr, IsErrAnd};
+ghost use Rattle.std.specs.Prelude.{◌≡◌, ◌+◌, ◌<◌, ◌^◌, ◌↔◌, [], ◌∷◌, ◌++◌};
+ghost use Rattle.std.specs.Prelude.{List, true, false, map, Some, IfOk};
+ghost use Rattle.std.specs.Prelude.{IfErr, OnOk, OnErr, IsErrAnd};
 ghost use Rattle.std.specs.List.{All, count_by};
 ghost use Rattle.relay_action.specs.declared.operation.Op.{Op};
-ghost use Rattle.relay_producer.specs.Ends.{opened, open_puts, closed_puts, identities, is_gone, IsClosedBy, ClosesAll};
+ghost use Rattle.relay_producer.specs.Ends.{opened, open_puts, closed_puts, identities};
+ghost use Rattle.relay_producer.specs.Ends.{is_gone, IsClosedBy, ClosesAll};
 ghost use Rattle.relay_producer.specs.Puts.{HasPut};
-ghost use Rattle.relay_producer.specs.States.{AreFresh, HasLanes, lane_for, is_lane_gone, next_op, after_put, after_gone};
+ghost use Rattle.relay_producer.specs.States.{AreFresh, HasLanes, lane_for, is_lane_gone};
+ghost use Rattle.relay_producer.specs.States.{next_op, after_put, after_gone};
 
 use crate::ends::{ClosedEnd, OpenEnd};
 use crate::fault::{PutFault, PutFaultKind};
@@ -44,9 +48,19 @@ impl Model for Producer {
 
     ghost Value = { ProducerState };
 
-    ghost view = { λ a. record { epoch = a.epoch; producer = a.producer; put = a.count; ends = a.ends.items } };
+    ghost view = { λ a. record {
+      epoch = a.epoch;
+      producer = a.producer;
+      put = a.count;
+      ends = a.ends.items;
+    } };
 
-    ghost invariant = { λ a. IsProducer (record { epoch = a.epoch; producer = a.producer; put = a.count; ends = a.ends.items })
+    ghost invariant = { λ a. IsProducer (record {
+      epoch = a.epoch;
+      producer = a.producer;
+      put = a.count;
+      ends = a.ends.items;
+    })
         × (a.closed.items ≡ [])
         × (length a.ends.items ≤ vec_capacity a.closed) };
 }
@@ -71,7 +85,12 @@ impl Producer {
         requires lanes { HasLanes puts.items }
         requires fresh { AreFresh producer puts.items }
         ensures state { IfOk result
-            (λ p. p ≡ record { epoch = epoch; producer = producer; put = 0; ends = map opened puts.items }) }
+            (λ p. p ≡ record {
+              epoch = epoch;
+              producer = producer;
+              put = 0;
+              ends = map opened puts.items;
+            }) }
         ensures puts { IfOk result (λ p. open_puts p.ends ≡ puts.items) }
         ensures none { IfOk result (λ p. HasPut producer 0 (open_puts p.ends) []) }
     {
@@ -95,7 +114,11 @@ impl Producer {
     /// No contract says when a lane is gone.
     pub fn put<R: Wait>(&mut self, rt: &R, key: DocKey, action: Action) -> Result<Receipt, PutFault>
         ensures name { IfOk result
-            (λ r. r.name ≡ record { epoch = self.old.epoch; producer = self.old.producer; number = self.old.put + 1 }) }
+            (λ r. r.name ≡ record {
+              epoch = self.old.epoch;
+              producer = self.old.producer;
+              number = self.old.put + 1;
+            }) }
         ensures lane { IfOk result (λ r. r.lane ≡ lane_for key self.old) }
         ensures added { OnOk result (self.new ≡ after_put key action self.old) }
         ensures limit { OnOk result (self.old.put < 2 ^ 40) }
@@ -138,17 +161,13 @@ impl Producer {
             key,
             action,
         };
-        match send_op(rt, &mut self.ends, lane as usize, op) {
-            Ok(()) => {
-                self.count = number;
-                Ok(Receipt { name, lane })
-            }
-            Err(op) => Err(PutFault {
-                kind: PutFaultKind::LaneGone,
-                key: op.key,
-                action: op.action,
-            }),
-        }
+        send_op(rt, &mut self.ends, lane as usize, op).map_err(|op| refused(
+            PutFaultKind::LaneGone,
+            op.key,
+            op.action,
+        ))?;
+        self.count = number;
+        Ok(Receipt { name, lane })
     }
 
     /// Sends Done to each lane that is not marked, in lane order, and marks those that are found
@@ -179,7 +198,8 @@ impl Producer {
     /// The number of marked lanes.
     pub fn gone(&self) -> u32
         ensures count { result ≡ count_by (λ e. e.gone) self.now.ends }
-        ensures shown { (ops : List Op) × HasPut self.now.producer self.now.put (open_puts self.now.ends) ops }
+        ensures shown { (ops : List Op)
+            × HasPut self.now.producer self.now.put (open_puts self.now.ends) ops }
     {
         count_gone(&self.ends)
     }
@@ -201,7 +221,11 @@ impl Model for ClosedProducer {
 
     ghost view = { λ a. record { producer = a.producer; put = a.count; ends = a.ends.items } };
 
-    ghost invariant = { λ a. IsClosedProducer (record { producer = a.producer; put = a.count; ends = a.ends.items }) };
+    ghost invariant = { λ a. IsClosedProducer (record {
+      producer = a.producer;
+      put = a.count;
+      ends = a.ends.items;
+    }) };
 }
 
 impl ClosedProducer {
@@ -210,7 +234,8 @@ impl ClosedProducer {
     pub fn gone(&self) -> u32
         ensures count { result ≡ count_by is_gone self.now.ends }
         ensures none { result ≡ 0 ↔ All (λ e. is_gone e ≡ false) self.now.ends }
-        ensures shown { (ops : List Op) × HasPut self.now.producer self.now.put (closed_puts self.now.ends) ops }
+        ensures shown { (ops : List Op)
+            × HasPut self.now.producer self.now.put (closed_puts self.now.ends) ops }
     {
         count_closed_gone(&self.ends)
     }
@@ -221,7 +246,8 @@ impl ClosedProducer {
         ensures ends { result.items ≡ self.ends }
         ensures lanes { HasLanes self.ends }
         ensures closed { All (IsClosedBy self.producer) self.ends }
-        ensures shown { (ops : List Op) × HasPut self.producer self.put (closed_puts self.ends) ops }
+        ensures shown { (ops : List Op)
+            × HasPut self.producer self.put (closed_puts self.ends) ops }
     {
         let ClosedProducer { ends, .. } = self;
         ends

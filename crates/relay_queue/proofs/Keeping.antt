@@ -8,7 +8,7 @@ use Rattle.relay_action.specs.declared.mail.Mail.{Mail}
 use Rattle.relay_queue.specs.declared.rule.SentList.{SentList}
 use Rattle.relay_queue.specs.declared.rule.Knowledge.{Knowledge}
 use Rattle.relay_queue.specs.declared.rule.Knowledge.TheVariants.{Sender, Taker, Met}
-use Rattle.relay_queue.specs.Sent.{mail_of, HasDone, ClosedAs, IsWellSent, IsWellTaken}
+use Rattle.relay_queue.specs.Messages.{mail_of, HasDone, HasDoneIff, IsWellSent, IsWellTaken}
 use Rattle.relay_queue.specs.Rule.{History, IsUnmade, WasMet, Fits, Delivers}
 use Rattle.relay_queue.specs.Log.{IsAllOf, HasLog}
 use Rattle.relay_queue.specs.Steps as step
@@ -71,11 +71,11 @@ log_send log x well unclosed number p =
     (λ (e : (eqb x.sender p ≡ false) × (x.sender ≢ p)). subst IsWellSent (sym (mail_of-other p log x e.1)) (well p)) (eqb_tells x.sender p)
 
 pub sends : (state : Bool) (n pass : ℕ) (v : Knowledge) (x : Mail) → IsSender false v → capacity_of v ≡ n → sender_of v ≡ x.sender → x.number ≡ length (sent_of v) + 1
-    → (¬ HasDone (sent_of v) → ClosedAs state (sent_of v ++ x ∷ [])) → Pushes Delivers n pass v x (step.SendsNext state v x)
+    → (¬ HasDone (sent_of v) → HasDoneIff state (sent_of v ++ x ∷ [])) → Pushes Delivers n pass v x (step.SendsNext state v x)
 sends state n pass (Sender capacity sender sent closed) x open_one places mine number now queued passes room h at =
     let history = h.history in
     let me : Fits history pass (Sender capacity sender sent closed) = h.known pass (Sender capacity sender sent closed) at in
-    let unclosed : ¬ HasDone sent = subst (λ (b : Bool). ClosedAs b sent) open_one me.done in
+    let unclosed : ¬ HasDone sent = subst (λ (b : Bool). HasDoneIff b sent) open_one me.done in
     let all : sent ≡ mail_of x.sender history.log = me.all ∙ ap (λ p. mail_of p history.log) mine in
     let own : history.pass_of x.sender ≡ some pass = ap history.pass_of (sym mine) ∙ me.own in
     let grown : sent ++ x ∷ [] ≡ mail_of sender (history.log ++ x ∷ []) = ap (λ l. l ++ x ∷ []) me.all ∙ sym (mail_of-own sender history.log x (sym mine)) in
@@ -239,7 +239,7 @@ meets pass (Taker capacity senders taken met) other (Sender c sender sent closed
     let theirs : Fits history other (Sender c sender sent closed) = h.known other theirs_at was in
     let late : senders ≤ sender → ⊥ = λ le. some-ne-none other (sym theirs.own ∙ (me.later sender le).no_pass) in
     let lt : sender < senders = omega arith in
-    let one : WasMet history' senders (record { sender = sender; sent = sent }) = record { made = lt; no_pass = pass_at-own history.pass_of sender none; all = theirs.all; done = subst (λ (b : Bool). ClosedAs b sent) is_closed theirs.done } in
+    let one : WasMet history' senders (record { sender = sender; sent = sent }) = record { made = lt; no_pass = pass_at-own history.pass_of sender none; all = theirs.all; done = subst (λ (b : Bool). HasDoneIff b sent) is_closed theirs.done } in
     let mine_now : Fits history' pass (Taker capacity senders taken (record { sender = sender; sent = sent } ∷ met)) = record {
       places = me.places;
       own = me.own;
@@ -260,7 +260,7 @@ meets pass (Taker capacity senders taken met) other (Sender c sender sent closed
 -- ---- a reading
 
 -- what the log holds of a sender, with the log as what was taken and what is queued
-all_of : (log taken queued : List Mail) (sender : ℕ) (sent : List Mail) (closed : Bool) → log ≡ taken ++ queued → ((p : ℕ) → IsWellSent (mail_of p log)) → sent ≡ mail_of sender log → ClosedAs closed sent → IsAllOf (taken ++ queued) sender sent closed
+all_of : (log taken queued : List Mail) (sender : ℕ) (sent : List Mail) (closed : Bool) → log ≡ taken ++ queued → ((p : ℕ) → IsWellSent (mail_of p log)) → sent ≡ mail_of sender log → HasDoneIff closed sent → IsAllOf (taken ++ queued) sender sent closed
 all_of log taken queued sender sent closed in_log well all done = record { all = all ∙ ap (mail_of sender) in_log; well_sent = subst IsWellSent (sym all) (well sender); done = done }
 
 pub reads : (pass : ℕ) (v : Knowledge) → IsTaker v → Learns Delivers pass v (step.Learns v)

@@ -2,7 +2,7 @@
 use Rattle.std.proofs.Common.{◌≡◌, ◌≢◌, ℕ, ◌+◌, ◌≤◌, true, false, eqb, eq-eqb, ne_eqb, List, [], ◌∷◌, ◌++◌, length, sym, refl, ap, ◌∙◌, ⊎_elim, inl, inr, append-nil, arith}
 use Rattle.std.proofs.lemmas.Bool.Decides.{eqb_tells}
 use Rattle.relay_action.specs.declared.mail.Mail.{Mail}
-use Rattle.relay_queue.specs.Sent.{mail_of, AreNumberedFrom, IsDone, HasDone, NothingAfterDone, IsWellSent}
+use Rattle.relay_queue.specs.Messages.{mail_of, AreNumberedFrom, IsDone, HasDone, NothingAfterDone, IsWellSent}
 
 pub mail_of-append : (p : ℕ) (a b : List Mail) → mail_of p (a ++ b) ≡ mail_of p a ++ mail_of p b
 mail_of-append p [] b = refl

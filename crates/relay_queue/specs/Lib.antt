@@ -1,4 +1,4 @@
-pub mod Sent
+pub mod Messages
 pub mod Rule
 pub mod Log
 pub mod Steps

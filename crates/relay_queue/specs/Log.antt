@@ -6,14 +6,14 @@ use Rattle.relay_action.specs.declared.mail.Mail.{Mail}
 use Rattle.relay_queue.specs.declared.rule.SentList.{SentList}
 use Rattle.relay_queue.specs.declared.rule.Knowledge.{Knowledge}
 use Rattle.relay_queue.specs.declared.rule.Knowledge.TheVariants.{Sender, Taker}
-use Rattle.relay_queue.specs.Sent.{mail_of, ClosedAs, IsWellSent}
+use Rattle.relay_queue.specs.Messages.{mail_of, HasDoneIff, IsWellSent}
 
 -- the log contains exactly the list that this sender sent, numbered from 1 and with nothing after a Done; it contains
 -- a Done exactly if the sender closed
 pub record IsAllOf (log : List Mail) (sender : ℕ) (sent : List Mail) (closed : Bool) : Type 0 where
   pub all : sent ≡ mail_of sender log
   pub well_sent : IsWellSent sent
-  pub done : ClosedAs closed sent
+  pub done : HasDoneIff closed sent
 
 -- there is a log: what each sender's end, and the taker's end for those it met, knows to be sent is all that the log
 -- has of that sender; the log has nothing of a sender that was not made; the taker's end knows what was taken; and no

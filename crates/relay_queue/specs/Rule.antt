@@ -6,7 +6,7 @@ use Rattle.relay_action.specs.declared.mail.Mail.{Mail}
 use Rattle.relay_queue.specs.declared.rule.SentList.{SentList}
 use Rattle.relay_queue.specs.declared.rule.Knowledge.{Knowledge}
 use Rattle.relay_queue.specs.declared.rule.Knowledge.TheVariants.{Sender, Taker, Met}
-use Rattle.relay_queue.specs.Sent.{mail_of, HasDone, ClosedAs, IsWellSent}
+use Rattle.relay_queue.specs.Messages.{mail_of, HasDone, HasDoneIff, IsWellSent}
 
 -- what the passes are about: the number of places, the number of the taker's pass, that of the pass of each sender
 -- that was not met, the messages taken, and the log
@@ -38,7 +38,7 @@ pub record FitsSender (history : History) (pass : ℕ) (known : OfSender) : Type
   pub places : known.capacity ≡ history.capacity
   pub own : history.pass_of known.sender ≡ some pass
   pub all : known.sent ≡ mail_of known.sender history.log
-  pub done : ClosedAs known.closed known.sent
+  pub done : HasDoneIff known.closed known.sent
 
 -- a sender that was not made yet has no pass and sent nothing
 pub record IsUnmade (history : History) (sender : ℕ) : Type 0 where

@@ -6,7 +6,7 @@ use Rattle.relay_action.specs.declared.mail.Mail.{Mail}
 use Rattle.relay_queue.specs.declared.rule.SentList.{SentList}
 use Rattle.relay_queue.specs.declared.rule.Knowledge.{Knowledge}
 use Rattle.relay_queue.specs.declared.rule.Knowledge.TheVariants.{Sender, Taker, Met}
-use Rattle.relay_queue.specs.Sent.{ClosedAs, IsWellSent, IsWellTaken}
+use Rattle.relay_queue.specs.Messages.{HasDoneIff, IsWellSent, IsWellTaken}
 use Rattle.relay_queue.specs.Log.{IsAllOf}
 
 -- ---- the parts of what a pass knows
@@ -93,7 +93,7 @@ with_met Met w = Met
 -- a send: the message was added to the sender's list, which is well sent, with a Done exactly if the sender has
 -- closed
 abbrev pub SendsNext : Bool → Knowledge → Mail → Knowledge → Type 0
-SendsNext state v m w = (w ≡ with_sent state v m) × IsWellSent (sent_of w) × ClosedAs state (sent_of w)
+SendsNext state v m w = (w ≡ with_sent state v m) × IsWellSent (sent_of w) × HasDoneIff state (sent_of w)
 
 -- a take: the message was added to what was taken; its sender is one of those that were made, and what was taken is
 -- well taken

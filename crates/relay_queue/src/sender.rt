@@ -1,6 +1,7 @@
 //! The senders' ends.
-ghost use Rattle.std.specs.Prelude.{◌≡◌, ◌≢◌, ◌+◌, ◌<◌, ◌≤◌, ◌^◌, ◌↔◌, [], ◌∷◌, ◌++◌, length, IfOk, IfErr, OnOk, IsErrAnd};
-ghost use Rattle.relay_queue.specs.Sent.{message, IsWellSent, HasDone};
+ghost use Rattle.std.specs.Prelude.{◌≡◌, ◌≢◌, ◌+◌, ◌<◌, ◌≤◌, ◌^◌, ◌↔◌, [], ◌∷◌, ◌++◌};
+ghost use Rattle.std.specs.Prelude.{length, IfOk, IfErr, OnOk, IsErrAnd};
+ghost use Rattle.relay_queue.specs.Messages.{message, IsWellSent, HasDone};
 
 use crate::refusal::{Gone, Missed, PutRefusal};
 use crate::rule::{Closes, MailPass, MailSender, Puts};
@@ -144,7 +145,8 @@ impl LanePut {
         ensures in_order { OnOk result (IsWellSent self.new.sent) }
         ensures no_done { OnOk result (¬ HasDone self.new.sent) }
         ensures limit { OnOk result (length self.new.sent ≤ 2 ^ 40) }
-        ensures refused { IfErr result (λ e. (e.1 ≡ body) × (e.0 ≡ PutRefusal.Gone) × (self.new ≡ self.old)) }
+        ensures refused { IfErr result
+            (λ e. (e.1 ≡ body) × (e.0 ≡ PutRefusal.Gone) × (self.new ≡ self.old)) }
     {
         let number = self.count + 1;
         let mail = Mail {

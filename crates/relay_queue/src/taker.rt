@@ -1,7 +1,8 @@
 //! The taker's end.
-ghost use Rattle.std.specs.Prelude.{◌≡◌, ◌<◌, ◌≤◌, List, [], ◌∷◌, ◌++◌, length, IfOk, IfErr, IfSome, IfNone};
+ghost use Rattle.std.specs.Prelude.{◌≡◌, ◌<◌, ◌≤◌, [], ◌∷◌, ◌++◌};
+ghost use Rattle.std.specs.Prelude.{List, length, IfOk, IfErr, IfSome, IfNone};
 ghost use Rattle.relay_action.specs.declared.mail.Mail.{Mail};
-ghost use Rattle.relay_queue.specs.Sent.{mail_of, HasDone, IsWellSent, IsWellTaken};
+ghost use Rattle.relay_queue.specs.Messages.{mail_of, HasDone, IsWellSent, IsWellTaken};
 
 use crate::refusal::Gone;
 use crate::rule::{MailPass, MailReceiver, Meets, Reads, Takes};
@@ -23,7 +24,7 @@ impl Model for LaneTake {
     ghost use Rattle.crossbeam_channel.specs.Claims.{view as known_by, IsSeatAt};
     ghost use Rattle.crossbeam_channel.specs.Ends.{receives_on};
     ghost use Rattle.relay_queue.specs.Ends.{TakerEnd, queue_of};
-    ghost use Rattle.relay_queue.specs.Sent.{IsWellTaken};
+    ghost use Rattle.relay_queue.specs.Messages.{IsWellTaken};
     ghost use Rattle.relay_queue.specs.Steps.{IsTaker, senders_of, taken_of};
 
     ghost Value = { TakerEnd };
@@ -67,7 +68,8 @@ impl LaneTake {
     /// waits for it. `Gone` is as there.
     pub fn try_take<R: Wait>(&mut self, rt: &R) -> Result<Option<Mail>, Gone>
         ensures same { (self.new.queue ≡ self.old.queue) × (self.new.senders ≡ self.old.senders) }
-        ensures taken { IfOk result (λ o. IfSome o (λ m. self.new.taken ≡ self.old.taken ++ m ∷ [])) }
+        ensures taken { IfOk result
+            (λ o. IfSome o (λ m. self.new.taken ≡ self.old.taken ++ m ∷ [])) }
         ensures sender { IfOk result (λ o. IfSome o (λ m. m.sender < self.old.senders)) }
         ensures well_taken { IsWellTaken self.new.senders self.new.taken }
         ensures none { IfOk result (λ o. IfNone o (self.new ≡ self.old)) }
@@ -88,10 +90,9 @@ impl LaneTake {
         ensures well_taken { IsWellTaken self.new.senders self.new.taken }
         ensures gone { IfErr result (λ _. self.new ≡ self.old) }
     {
-        match self.channel.recv_as::<Takes, R>(rt, &mut self.pass) {
-            Ok(mail) => Ok(mail),
-            Err(_) => Err(Gone),
-        }
+        self.channel
+            .recv_as::<Takes, R>(rt, &mut self.pass)
+            .map_err(|_| Gone)
     }
 
     /// Takes no more. What is queued is dropped with the last end of the queue. What was taken from
@@ -116,7 +117,7 @@ impl Model for Taken {
     ghost use Rattle.std.specs.Prelude.{◌≡◌, []};
     ghost use Rattle.crossbeam_channel.specs.Claims.{view as known_by};
     ghost use Rattle.relay_queue.specs.Ends.{TakerEnd, queue_of};
-    ghost use Rattle.relay_queue.specs.Sent.{IsWellTaken};
+    ghost use Rattle.relay_queue.specs.Messages.{IsWellTaken};
     ghost use Rattle.relay_queue.specs.Steps.{IsTaker, senders_of, taken_of};
 
     ghost Value = { TakerEnd };

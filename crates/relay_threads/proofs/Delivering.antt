@@ -14,7 +14,7 @@ use Rattle.relay_results.specs.Outside.{Outside}
 use Rattle.relay_delivery.specs.Attribution.{is_from}
 use Rattle.relay_delivery.specs.Delivery.{taken_of, HasDistinctNames}
 use Rattle.relay_queue.specs.Ends.{Queue, SenderEnd}
-use Rattle.relay_queue.specs.Sent.{mail_of}
+use Rattle.relay_queue.specs.Messages.{mail_of}
 use Rattle.relay_core.specs.declared.config.RelayConfig.{RelayConfig}
 use Rattle.relay_core.specs.Ties.{ops_of}
 use Rattle.relay_producer.specs.declared.ends.ClosedEnd.{ClosedEnd}

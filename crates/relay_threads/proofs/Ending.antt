@@ -4,7 +4,7 @@ use Rattle.std.specs.Prelude.{unwrap_or}
 use Rattle.std.specs.List.{list_all}
 use Rattle.relay_action.specs.declared.mail.Mail.{Mail}
 use Rattle.relay_results.specs.Outside.{Outside}
-use Rattle.relay_queue.specs.Sent.{mail_of, HasDone}
+use Rattle.relay_queue.specs.Messages.{mail_of, HasDone}
 use Rattle.relay_core.specs.declared.config.RelayConfig.{RelayConfig}
 use Rattle.relay_core.specs.State.{State, all_closed, oldest}
 use Rattle.relay_lane.specs.Turns.{Turn, Sends, Fails, Settles, Pauses, after_answer, after_turns, AllMayTurn, Worked, Stays, collects}

@@ -8,7 +8,7 @@ use Rattle.relay_action.specs.declared.mail.Mail.{Mail}
 use Rattle.relay_action.specs.declared.mail.Body.{Body}
 use Rattle.relay_action.specs.declared.mail.Body.TheVariants as body
 use Rattle.relay_results.proofs.Lists.{and_left, and_right}
-use Rattle.relay_queue.specs.Sent.{mail_of, IsDone, HasDone, IsWellSent, IsWellTaken}
+use Rattle.relay_queue.specs.Messages.{mail_of, IsDone, HasDone, IsWellSent, IsWellTaken}
 use Rattle.relay_queue.proofs.Mails.{mail_of-append, mail_of-own, mail_of-other, done-push, nothing_after}
 use Rattle.relay_core.specs.declared.settled.TakeFault.{TakeFault}
 use Rattle.relay_core.specs.declared.settled.TakeFault.TheVariants.{AfterClose, HeldFull, Memory}

@@ -3,7 +3,7 @@ use Rattle.std.proofs.Common.{◌≡◌, ℕ, zero, suc, ◌+◌, ◌<◌, ◌�
 use Rattle.std.specs.Prelude.{slice_get}
 use Rattle.relay_action.specs.declared.mail.Mail.{Mail}
 use Rattle.relay_queue.specs.Ends.{Queue, SenderEnd}
-use Rattle.relay_queue.specs.Sent.{mail_of, HasDone}
+use Rattle.relay_queue.specs.Messages.{mail_of, HasDone}
 use Rattle.relay_producer.specs.declared.ends.ClosedEnd.{ClosedEnd}
 use Rattle.relay_producer.specs.declared.ends.ClosedEnd.TheVariants.{Closed, Gone}
 use Rattle.relay_producer.specs.Ends.{is_gone, end_of, closed_puts, identity, identities}

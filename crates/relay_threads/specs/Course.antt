@@ -5,7 +5,7 @@ use Rattle.relay_action.specs.declared.mail.Mail.{Mail}
 use Rattle.relay_results.specs.Words.{Mem}
 use Rattle.relay_results.specs.Documents.{Document}
 use Rattle.relay_results.specs.Outside.{Outside, IsOpening}
-use Rattle.relay_queue.specs.Sent.{mail_of, HasDone}
+use Rattle.relay_queue.specs.Messages.{mail_of, HasDone}
 use Rattle.relay_core.specs.declared.config.RelayConfig.{RelayConfig}
 use Rattle.relay_core.specs.State.{State, all_closed, is_put}
 use Rattle.relay_core.specs.Ties.{ops_of}

@@ -8,7 +8,7 @@ use Rattle.relay_delivery.specs.Delivery.{HasDistinctNames, IsSound, IsComplete,
 use Rattle.relay_delivery.specs.Lane as delivery
 use Rattle.relay_delivery.specs.Reached.{Reached}
 use Rattle.relay_queue.specs.Ends.{Queue}
-use Rattle.relay_queue.specs.Sent.{mail_of, HasDone, IsWellTaken}
+use Rattle.relay_queue.specs.Messages.{mail_of, HasDone, IsWellTaken}
 use Rattle.relay_core.specs.declared.config.RelayConfig.{RelayConfig}
 use Rattle.relay_core.specs.State.{config_of}
 use Rattle.relay_core.specs.Walk.{report_of}

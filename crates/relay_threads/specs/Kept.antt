@@ -2,7 +2,7 @@
 use Rattle.std.specs.Prelude.{◌≡◌, ◌<◌, ℕ, Bool}
 use Rattle.relay_results.specs.Outside.{Outside}
 use Rattle.relay_queue.specs.Ends.{TakerEnd}
-use Rattle.relay_queue.specs.Sent.{mail_of, HasDone, IsWellTaken}
+use Rattle.relay_queue.specs.Messages.{mail_of, HasDone, IsWellTaken}
 use Rattle.relay_core.specs.declared.config.RelayConfig.{RelayConfig}
 use Rattle.relay_threads.specs.declared.lane_end.LaneEnd.{LaneEnd}
 use Rattle.relay_threads.specs.declared.lane_end.LaneEndKind.TheVariants.{Finished}

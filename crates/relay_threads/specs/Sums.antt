@@ -2,7 +2,7 @@
 use Rattle.std.specs.Prelude.{◌≡◌, ◌+◌, ◌<◌, ◌≤◌, ℕ, Bool, false, List, [], ◌∷◌, Option, Some, None, slice_get, map, length}
 use Rattle.relay_action.specs.declared.mail.Mail.{Mail}
 use Rattle.relay_queue.specs.Ends.{Queue}
-use Rattle.relay_queue.specs.Sent.{mail_of, HasDone}
+use Rattle.relay_queue.specs.Messages.{mail_of, HasDone}
 use Rattle.relay_core.specs.State.{IsLane}
 use Rattle.relay_core.specs.Walk.{report_of}
 use Rattle.relay_producer.specs.declared.ends.ClosedEnd.{ClosedEnd}

@@ -1,7 +1,7 @@
 //! Waiting until the lanes of a relay have ended, and summing up what they have done.
 ghost use Rattle.std.specs.Prelude.{◌≡◌, ◌+◌, ◌<◌, ◌≤◌, ◌||◌, ℕ, List, [], IfOk, IfErr, map, vec_len, vec_capacity};
 ghost use Rattle.relay_action.specs.declared.operation.Op.{Op};
-ghost use Rattle.relay_queue.specs.Sent.{mail_of, HasDone};
+ghost use Rattle.relay_queue.specs.Messages.{mail_of, HasDone};
 ghost use Rattle.relay_producer.specs.Ends.{is_gone, closed_puts};
 ghost use Rattle.relay_producer.specs.Puts.{HaveNoPuts};
 ghost use Rattle.relay_threads.specs.Delivered.{HavePut, AllDelivered};

@@ -1,7 +1,7 @@
 //! A lane's thread: it takes messages and works until each sender has closed.
 ghost use Rattle.std.specs.Prelude.{◌≡◌, ◌≢◌, ◌+◌, ◌<◌, [], ℕ, List, true, false, length, IfOk, OnOk, OnErr, IfErr, IfSome, IfNone, ◌++◌, ◌∷◌};
 ghost use Rattle.relay_action.specs.declared.mail.Mail.{Mail};
-ghost use Rattle.relay_queue.specs.Sent.{mail_of, HasDone, IsWellTaken};
+ghost use Rattle.relay_queue.specs.Messages.{mail_of, HasDone, IsWellTaken};
 ghost use Rattle.relay_core.specs.State.{fresh, all_closed};
 ghost use Rattle.relay_lane.specs.Out.{out_of};
 ghost use Rattle.relay_threads.specs.Course.{KnowsClosed, Heard, Course, EndsAs};

@@ -2,7 +2,7 @@ use Rattle.std.proofs.Common.{arith, ap, subst, set, length, false, ◌≡◌, �
 use Rattle.std.proofs.lemmas.Option.{get_or_from_slice_get}
 use Rattle.relay_action.specs.declared.mail.Body.TheVariants.{Put}
 use Rattle.relay_producer.specs.declared.ends.OpenEnd.{OpenEnd}
-use Rattle.relay_producer.specs.Ends.{with_sent, marked}
+use Rattle.relay_producer.specs.Ends.{with_sent, with_mark}
 use Rattle.relay_producer.proofs.Putting.{set_change}
 use Rattle.relay_producer.proofs.lanes.send_op.Goals as goal
 
@@ -19,4 +19,4 @@ returns-in-Ok-clause-reached g c e at =
 pub returns-in-Err-Gone-Put-clause-gone : goal.returns-in-Err-Gone-Put-clause-gone
 returns-in-Err-Gone-Put-clause-gone g c =
     let lt : c.args.lane < length c.args.ends.now.items = omega arith in
-    ap (set c.args.ends.now.items c.args.lane) (c.in-Err-Gone-Put.ensures.gone c.in-Err-Gone-Put.field-0-0-is) ∙ set_change c.args.lane marked c.args.ends.now.items c.index_mut.result.now lt c.index_mut.ensures.value
+    ap (set c.args.ends.now.items c.args.lane) (c.in-Err-Gone-Put.ensures.gone c.in-Err-Gone-Put.field-0-0-is) ∙ set_change c.args.lane with_mark c.args.ends.now.items c.index_mut.result.now lt c.index_mut.ensures.value

@@ -1,6 +1,6 @@
 use Rattle.std.proofs.Common.{List, sym, subst}
 use Rattle.relay_queue.specs.Ends.{TakerEnd}
-use Rattle.relay_queue.specs.Sent.{mail_of, HasDone}
+use Rattle.relay_queue.specs.Messages.{mail_of, HasDone}
 use Rattle.relay_threads.proofs.Ending.{all_closed_there, ends_collected}
 use Rattle.relay_threads.specs.Course.{EndsAs}
 use Rattle.relay_threads.proofs.run.run_lane.Goals as goal

@@ -1,6 +1,6 @@
 use Rattle.std.proofs.Common.{ap, sym, subst, ◌∙◌, true, ◌≡◌, ◌<◌, ◌≤◌, List, [], ◌++◌, append-nil, arith, length}
 use Rattle.relay_action.specs.declared.mail.Mail.{Mail}
-use Rattle.relay_queue.specs.Sent.{mail_of}
+use Rattle.relay_queue.specs.Messages.{mail_of}
 use Rattle.relay_queue.specs.Steps.{IsTaker}
 use Rattle.relay_queue.specs.Log.{IsAllOf}
 use Rattle.relay_queue.specs.Ends.{SenderEnd, TakerEnd}

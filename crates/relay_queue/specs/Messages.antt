@@ -43,6 +43,6 @@ pub record IsWellTaken (senders : ℕ) (taken : List Mail) : Type 0 where
   pub no_other : (sender : ℕ) → senders ≤ sender → mail_of sender taken ≡ []
 
 -- Done was sent exactly if the sender closed
-abbrev pub ClosedAs : Bool → List Mail → Type 0
-ClosedAs true sent = HasDone sent
-ClosedAs false sent = ¬ HasDone sent
+abbrev pub HasDoneIff : Bool → List Mail → Type 0
+HasDoneIff true sent = HasDone sent
+HasDoneIff false sent = ¬ HasDone sent
