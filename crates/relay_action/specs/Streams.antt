@@ -12,7 +12,7 @@ one_more count = min (count + 1) most
 abbrev pub FailedSince : ℕ → ℕ → Type 0
 FailedSince old new = one_more old ≤ new
 
--- whether a write took any of the bytes that it was after_read
+-- whether a write took any of the bytes that it was given
 abbrev pub takes_some : {E : Type 0} → Result ℕ E → List ℕ → Bool
 takes_some (Ok n) bytes = nat_lt 0 n || (length bytes == 0)
 takes_some (Err e) bytes = false

@@ -24,27 +24,27 @@ pub passes_limit : (start old new : Option (List ℕ)) (before after : List ℕ)
 passes_limit start old new before after h t past = record {
   bytes = after;
   past = omega (arith, t.3, past);
-  taken = piece_more start old new before after h t;
+  whole = piece_more start old new before after h t;
 }
 
 -- a piece was not added to the body so far
 pub fault_of_piece : (start old new : Option (List ℕ)) (before : List ℕ) (e : ApplyFault) → start ≡ prepend_known before old → length before ≤ body_limit → IsPieceFault old new before e → IsBodyFault start new e
 fault_of_piece start old new before fault.BodyLong s n h = absurd h
-fault_of_piece start old new before fault.Read s n h = record { bytes = before; within = omega (arith, n); taken = s ∙ ap (prepend_known before) (sym h) }
+fault_of_piece start old new before fault.Read s n h = record { bytes = before; within = omega (arith, n); whole = s ∙ ap (prepend_known before) (sym h) }
 fault_of_piece start old new before (fault.Write sent) s n h = absurd h
 fault_of_piece start old new before fault.Memory s n h = record {
   bytes = before ++ h.0;
   within = let e = length-append before h.0 in omega (arith, h.1, e);
-  taken = s ∙ ap (prepend_known before) h.2 ∙ prepend_twice before h.0 new;
+  whole = s ∙ ap (prepend_known before) h.2 ∙ prepend_twice before h.0 new;
 }
 
 -- all of a body was taken
 pub takes_body : (old new : Option (List ℕ)) (body : List ℕ) → GivesBody old new body → TakesSome old new
-takes_body old new body b = record { bytes = body; within = let n = b.within in omega (arith, n); taken = b.taken }
+takes_body old new body b = record { bytes = body; within = let n = b.within in omega (arith, n); whole = b.whole }
 
 -- nothing was
 pub takes_none : (known : Option (List ℕ)) → TakesSome known known
-takes_none known = record { bytes = []; within = omega arith; taken = prepend_nothing known }
+takes_none known = record { bytes = []; within = omega arith; whole = prepend_nothing known }
 
 -- what holds of an answer that there is
 pub ok_map : {T E : Type 0} (P Q : T → Type 0) (r : Result T E) → ((x : T) → P x → Q x) → IfOk r P → IfOk r Q

@@ -1,7 +1,7 @@
-mod Answered
-pub mod Taken
-pub mod Written
+mod Answering
+pub mod Versions
+pub mod Writing
 pub mod Streaming
-pub mod Passed
+pub mod Passing
 mod Bodies
-mod Parted
+mod Parts

@@ -12,10 +12,10 @@ use Rattle.relay_commands.specs.Calls.{NoneFails, OneFails, OneAtMost, FailsOnce
 use Rattle.relay_ndjson.specs.Lines.{piece_limit}
 use Rattle.relay_commands.specs.Lines.{Concludes, Deals, IsCutOff, Streams, Writes, failed_by, lines_of}
 use Rattle.relay_commands.specs.Passing.{Passes, FailsInPass}
-use Rattle.relay_commands.specs.Sending.{Closes, FinishesOrFails, MovesPart, Wrote}
+use Rattle.relay_commands.specs.Sending.{Closes, FinishesOrFails, MovesPart, WritesAllBut}
 use Rattle.relay_commands.specs.declared.lines.LinesFault.{LinesFault}
 use Rattle.relay_commands.specs.declared.lines.LinesFault.TheVariants as fault
-use Rattle.relay_commands.proofs.Written.{wrote_all, wrote_part}
+use Rattle.relay_commands.proofs.Writing.{writes_all, writes_part}
 
 -- a parser of which nothing was read stands at the front of its stream
 pub reading-start : (left : Option (List ℕ)) (failed : ℕ) (default : Option (List ℕ)) (p : Parsing) → p ≡ start default → reading left failed p ≡ fresh left failed default
@@ -32,78 +32,78 @@ some_of_all before after text e = (length text, e ∙ ap (append_known before) (
 
 -- ---- what was written
 
-write_fault : (before mid after : Option (List ℕ)) (all text : List ℕ) (sent n : ℕ) → Wrote before mid all text sent → MovesPart text sent mid after n → Writes before after all (Err (fault.Write n))
+write_fault : (before mid after : Option (List ℕ)) (all text : List ℕ) (sent n : ℕ) → WritesAllBut before mid all text sent → MovesPart text sent mid after n → Writes before after all (Err (fault.Write n))
 write_fault before mid after all text sent n w m =
-    let p = wrote_part before mid after all text sent n w m in (p.cut, p.less, p.count_is, p.written)
+    let p = writes_part before mid after all text sent n w m in (p.cut, p.less, p.count_is, p.writes)
 
-memory_fault : (before mid after : Option (List ℕ)) (all text : List ℕ) (sent n : ℕ) → Wrote before mid all text sent → MovesPart text sent mid after n → Writes before after all (Err fault.Memory)
+memory_fault : (before mid after : Option (List ℕ)) (all text : List ℕ) (sent n : ℕ) → WritesAllBut before mid all text sent → MovesPart text sent mid after n → Writes before after all (Err fault.Memory)
 memory_fault before mid after all text sent n w m =
-    let p = wrote_part before mid after all text sent n w m in (p.cut, p.written)
+    let p = writes_part before mid after all text sent n w m in (p.cut, p.writes)
 
 -- a write failed while a text was written
-pub fails_inside : (first : ℕ) (old rest : Reading) (left : Option (List ℕ)) (failed : ℕ) (parser : Parsing) (before mid after : Option (List ℕ)) (ops : List Operation) (text : List ℕ) (sent n : ℕ) → Deals first old rest ops → IsCutOff first old.failed rest (reading left failed parser) ops → length parser.held ≤ piece_limit → Wrote before mid (lines_of first ops) text sent → MovesPart text sent mid after n → Streams first old left failed before after (Err (fault.Write n))
+pub fails_inside : (first : ℕ) (old rest : Reading) (left : Option (List ℕ)) (failed : ℕ) (parser : Parsing) (before mid after : Option (List ℕ)) (ops : List Operation) (text : List ℕ) (sent n : ℕ) → Deals first old rest ops → IsCutOff first old.failed rest (reading left failed parser) ops → length parser.held ≤ piece_limit → WritesAllBut before mid (lines_of first ops) text sent → MovesPart text sent mid after n → Streams first old left failed before after (Err (fault.Write n))
 fails_inside first old rest left failed parser before mid after ops text sent n d stops held w m = record {
   ops = ops;
   rest = rest;
   parser = parser;
-  dealt = d;
+  deals = d;
   stops = stops;
-  held = held;
-  written = write_fault before mid after (lines_of first ops) text sent n w m;
+  one_piece = held;
+  writes = write_fault before mid after (lines_of first ops) text sent n w m;
 }
 
 -- the answer, or a failed write in its place
-finished : (first : ℕ) (old : Reading) (left : Option (List ℕ)) (failed : ℕ) (before mid after : Option (List ℕ)) (text : List ℕ) (sent f g : ℕ) (answer result : Result ℕ LinesFault) → (p : Passes first old left failed before mid text sent answer) → Concludes first p.rest (reading left failed p.parser) p.ops answer → failed ≡ failed_by answer old.failed → Wrote before mid (lines_of first p.ops) text sent → (after ≡ append_known before (lines_of first p.ops) → Writes before after (lines_of first p.ops) answer) → FinishesOrFails answer text sent mid f after g result → Streams first old left failed before after result
-finished first old left failed before mid after text sent f g answer result p ends reads w base (inl h) =
+finishes : (first : ℕ) (old : Reading) (left : Option (List ℕ)) (failed : ℕ) (before mid after : Option (List ℕ)) (text : List ℕ) (sent f g : ℕ) (answer result : Result ℕ LinesFault) → (p : Passes first old left failed before mid text sent answer) → Concludes first p.rest (reading left failed p.parser) p.ops answer → failed ≡ failed_by answer old.failed → WritesAllBut before mid (lines_of first p.ops) text sent → (after ≡ append_known before (lines_of first p.ops) → Writes before after (lines_of first p.ops) answer) → FinishesOrFails answer text sent mid f after g result → Streams first old left failed before after result
+finishes first old left failed before mid after text sent f g answer result p ends reads w base (inl h) =
     subst (λ (r : Result ℕ LinesFault). Streams first old left failed before after r) (sym h.same) (record {
       ops = p.ops;
       rest = p.rest;
       parser = p.parser;
-      dealt = p.dealt;
+      deals = p.deals;
       stops = p.stops;
-      held = p.held;
-      written = base (wrote_all before mid after (lines_of first p.ops) text sent w h.written);
+      one_piece = p.one_piece;
+      writes = base (writes_all before mid after (lines_of first p.ops) text sent w h.writes);
     })
-finished first old left failed before mid after text sent f g answer result p ends reads w base (inr h) =
-    subst (λ (r : Result ℕ LinesFault). Streams first old left failed before after r) (sym h.2) (fails_inside first old p.rest left failed p.parser before mid after p.ops text sent h.0 p.dealt (inr (answer, ends, reads)) p.held w h.1.part)
+finishes first old left failed before mid after text sent f g answer result p ends reads w base (inr h) =
+    subst (λ (r : Result ℕ LinesFault). Streams first old left failed before after r) (sym h.2) (fails_inside first old p.rest left failed p.parser before mid after p.ops text sent h.0 p.deals (inr (answer, ends, reads)) p.one_piece w h.1.part)
 
 -- what was passed on, and then closed
-pub closed : (first : ℕ) (old : Reading) (left : Option (List ℕ)) (failed : ℕ) (before mid after : Option (List ℕ)) (text : List ℕ) (sent e f g : ℕ) (answer result : Result ℕ LinesFault) → Passes first old left failed before mid text sent answer → FailsInPass old.failed failed e f answer → Closes answer text sent mid f after g result → Streams first old left failed before after result
-closed first old left failed before mid after text sent e f g (Ok n) result p calls c =
-    finished first old left failed before mid after text sent f g (Ok n) result p p.stops calls.0 p.written (λ w. w) c
-closed first old left failed before mid after text sent e f g (Err (fault.Input i)) result p calls c =
-    finished first old left failed before mid after text sent f g (Err (fault.Input i)) result p p.stops calls.0 p.written (λ w. w) c
-closed first old left failed before mid after text sent e f g (Err (fault.VersionsSpent line)) result p calls c =
-    finished first old left failed before mid after text sent f g (Err (fault.VersionsSpent line)) result p p.stops calls.0 p.written (λ w. w) c
-closed first old left failed before mid after text sent e f g (Err (fault.Write m)) result p calls c =
+pub closes : (first : ℕ) (old : Reading) (left : Option (List ℕ)) (failed : ℕ) (before mid after : Option (List ℕ)) (text : List ℕ) (sent e f g : ℕ) (answer result : Result ℕ LinesFault) → Passes first old left failed before mid text sent answer → FailsInPass old.failed failed e f answer → Closes answer text sent mid f after g result → Streams first old left failed before after result
+closes first old left failed before mid after text sent e f g (Ok n) result p calls c =
+    finishes first old left failed before mid after text sent f g (Ok n) result p p.stops calls.0 p.leaves (λ w. w) c
+closes first old left failed before mid after text sent e f g (Err (fault.Input i)) result p calls c =
+    finishes first old left failed before mid after text sent f g (Err (fault.Input i)) result p p.stops calls.0 p.leaves (λ w. w) c
+closes first old left failed before mid after text sent e f g (Err (fault.VersionsSpent line)) result p calls c =
+    finishes first old left failed before mid after text sent f g (Err (fault.VersionsSpent line)) result p p.stops calls.0 p.leaves (λ w. w) c
+closes first old left failed before mid after text sent e f g (Err (fault.Write m)) result p calls c =
     subst (λ (r : Result ℕ LinesFault). Streams first old left failed before after r) (sym c.0) (record {
       ops = p.ops;
       rest = p.rest;
       parser = p.parser;
-      dealt = p.dealt;
+      deals = p.deals;
       stops = p.stops;
-      held = p.held;
-      written = subst (λ (w : Option (List ℕ)). Writes before w (lines_of first p.ops) (Err (fault.Write m))) (sym c.1) p.written;
+      one_piece = p.one_piece;
+      writes = subst (λ (w : Option (List ℕ)). Writes before w (lines_of first p.ops) (Err (fault.Write m))) (sym c.1) p.leaves;
     })
-closed first old left failed before mid after text sent e f g (Err fault.Memory) result p calls (inl h) =
+closes first old left failed before mid after text sent e f g (Err fault.Memory) result p calls (inl h) =
     subst (λ (r : Result ℕ LinesFault). Streams first old left failed before after r) (sym h.same) (record {
       ops = p.ops;
       rest = p.rest;
       parser = p.parser;
-      dealt = p.dealt;
+      deals = p.deals;
       stops = p.stops;
-      held = p.held;
-      written = some_of_all before after (lines_of first p.ops) (wrote_all before mid after (lines_of first p.ops) text sent p.written h.written);
+      one_piece = p.one_piece;
+      writes = some_of_all before after (lines_of first p.ops) (writes_all before mid after (lines_of first p.ops) text sent p.leaves h.writes);
     })
-closed first old left failed before mid after text sent e f g (Err fault.Memory) result p calls (inr h) =
+closes first old left failed before mid after text sent e f g (Err fault.Memory) result p calls (inr h) =
     subst (λ (r : Result ℕ LinesFault). Streams first old left failed before after r) (sym h.2) (record {
       ops = p.ops;
       rest = p.rest;
       parser = p.parser;
-      dealt = p.dealt;
+      deals = p.deals;
       stops = p.stops;
-      held = p.held;
-      written = memory_fault before mid after (lines_of first p.ops) text sent h.0 p.written h.1.part;
+      one_piece = p.one_piece;
+      writes = memory_fault before mid after (lines_of first p.ops) text sent h.0 p.leaves h.1.part;
     })
 
 -- ---- which calls failed
@@ -125,16 +125,16 @@ calls_after old new before mid after text sent from to answer result e r base (i
 calls_after old new before mid after text sent from to answer result e r base (inr h) =
     subst (λ (a : Result ℕ LinesFault). FailsOnce old new before after a) (sym h.2) (r, one_from before mid after e h.1.call)
 
-pub closed_calls : (old new before mid after : ℕ) (text : List ℕ) (sent : ℕ) (from to : Option (List ℕ)) (answer result : Result ℕ LinesFault) → FailsInPass old new before mid answer → Closes answer text sent from mid to after result → FailsOnce old new before after result
-closed_calls old new before mid after text sent from to (Ok n) result h c =
+pub calls_at_close : (old new before mid after : ℕ) (text : List ℕ) (sent : ℕ) (from to : Option (List ℕ)) (answer result : Result ℕ LinesFault) → FailsInPass old new before mid answer → Closes answer text sent from mid to after result → FailsOnce old new before after result
+calls_at_close old new before mid after text sent from to (Ok n) result h c =
     calls_after old new before mid after text sent from to (Ok n) result h.1 (inl h.0) (λ e. (h.0, e)) c
-closed_calls old new before mid after text sent from to (Err (fault.Input e)) result h c =
+calls_at_close old new before mid after text sent from to (Err (fault.Input e)) result h c =
     calls_after old new before mid after text sent from to (Err (fault.Input e)) result h.1 (read_at_most_once old new (is_read e.kind) h.0) (λ s. (h.0, s)) c
-closed_calls old new before mid after text sent from to (Err (fault.VersionsSpent line)) result h c =
+calls_at_close old new before mid after text sent from to (Err (fault.VersionsSpent line)) result h c =
     calls_after old new before mid after text sent from to (Err (fault.VersionsSpent line)) result h.1 (inl h.0) (λ e. (h.0, e)) c
-closed_calls old new before mid after text sent from to (Err (fault.Write m)) result h c =
+calls_at_close old new before mid after text sent from to (Err (fault.Write m)) result h c =
     subst (λ (a : Result ℕ LinesFault). FailsOnce old new before after a) (sym c.0) (inl h.0, subst (λ (n : ℕ). OneFails before n) (sym c.2) h.1)
-closed_calls old new before mid after text sent from to (Err fault.Memory) result h (inl c) =
+calls_at_close old new before mid after text sent from to (Err fault.Memory) result h (inl c) =
     subst (λ (a : Result ℕ LinesFault). FailsOnce old new before after a) (sym c.same) (h.0, inl (none_then_none before mid after h.1 c.calls))
-closed_calls old new before mid after text sent from to (Err fault.Memory) result h (inr c) =
+calls_at_close old new before mid after text sent from to (Err fault.Memory) result h (inr c) =
     subst (λ (a : Result ℕ LinesFault). FailsOnce old new before after a) (sym c.2) (h.0, inr (one_from before mid after h.1 c.1.call))

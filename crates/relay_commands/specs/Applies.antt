@@ -15,20 +15,20 @@ body_limit = 16777216
 -- the reader returned these bytes and then its end, and they are within the limit of a body
 pub record GivesBody (old new : Option (List ℕ)) (body : List ℕ) : Type 0 where
   pub within : length body ≤ body_limit
-  pub taken : old ≡ prepend_known body new
-  pub ended : IsAtEnd new
+  pub whole : old ≡ prepend_known body new
+  pub at_end : IsAtEnd new
 
 -- no more was taken from the reader than it takes to see that a body is too long
 pub record TakesSome (old new : Option (List ℕ)) : Type 0 where
   pub bytes : List ℕ
   pub within : length bytes ≤ body_limit + 1
-  pub taken : old ≡ prepend_known bytes new
+  pub whole : old ≡ prepend_known bytes new
 
 -- exactly one byte more than a body may have was taken from the reader
 pub record PassesLimit (old new : Option (List ℕ)) : Type 0 where
   pub bytes : List ℕ
   pub past : length bytes ≡ body_limit + 1
-  pub taken : old ≡ prepend_known bytes new
+  pub whole : old ≡ prepend_known bytes new
 
 -- the answer of a fresh index to the body, under the script
 pub record IsAnswer (plan : Plan) (body : List ℕ) (status : ℕ) (text : List ℕ) : Type 0 where

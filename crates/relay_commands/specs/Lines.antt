@@ -19,17 +19,17 @@ abbrev pub write_of : Operation → ℕ → Write
 write_of op version = record { key = op.0; version = version; action = op.1 }
 
 -- the writes of operations, with versions that rise by one
-abbrev pub numbered : ℕ → List Operation → List Write
-numbered version [] = []
-numbered version (op ∷ ops) = write_of op version ∷ numbered (version + 1) ops
+abbrev pub writes_from : ℕ → List Operation → List Write
+writes_from version [] = []
+writes_from version (op ∷ ops) = write_of op version ∷ writes_from (version + 1) ops
 
 -- the bulk text of operations, with versions from the first
 abbrev pub lines_of : ℕ → List Operation → List ℕ
-lines_of first ops = text_of (numbered first ops)
+lines_of first ops = text_of (writes_from first ops)
 
 -- operations were taken, and there is a version for each: that of the last one is at most the last version
 pub record Deals (first : ℕ) (old rest : Reading) (ops : List Operation) : Type 0 where
-  pub taken : TakesAll old rest ops
+  pub takes : TakesAll old rest ops
   pub within : first + length ops ≤ last_version + 1
 
 -- there is one more operation, on the action line with this number, and no version is left for it
@@ -38,7 +38,7 @@ pub record IsSpent (first : ℕ) (rest new : Reading) (ops : List Operation) (li
   pub op : Operation
   pub next : Takes rest new blank op
   pub line_is : line ≡ new.line
-  pub spent : first + length ops ≡ last_version + 1
+  pub none_left : first + length ops ≡ last_version + 1
 
 -- What follows has a fault, or a read failed: then what is left does not begin with a whole operation in the bytes
 -- that were read. A failed allocation has its own fault.
@@ -94,7 +94,7 @@ pub record Streams (first : ℕ) (old : Reading) (left : Option (List ℕ)) (fai
   pub ops : List Operation
   pub rest : Reading
   pub parser : Parsing
-  pub dealt : Deals first old rest ops
+  pub deals : Deals first old rest ops
   pub stops : Stops first old.failed rest (reading left failed parser) ops result
-  pub held : length parser.held ≤ piece_limit
-  pub written : Writes before after (lines_of first ops) result
+  pub one_piece : length parser.held ≤ piece_limit
+  pub writes : Writes before after (lines_of first ops) result

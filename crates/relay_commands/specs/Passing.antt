@@ -11,7 +11,7 @@ use Rattle.relay_ndjson.specs.declared.kind.LineKind.{LineKind}
 use Rattle.relay_ndjson.specs.declared.kind.LineKind.TheVariants as kind
 use Rattle.relay_commands.specs.Calls.{NoneFails, OneFails}
 use Rattle.relay_commands.specs.Lines.{Deals, IsAtFault, LacksMemory, Stops, Writes, failed_by, lines_of, write_of}
-use Rattle.relay_commands.specs.Sending.{Wrote}
+use Rattle.relay_commands.specs.Sending.{WritesAllBut}
 use Rattle.relay_commands.specs.declared.lines.LinesFault.{LinesFault}
 use Rattle.relay_commands.specs.declared.lines.LinesFault.TheVariants as fault
 use Rattle.relay_commands.specs.declared.lines.Next.{Next}
@@ -68,17 +68,17 @@ AddsNext version old new before after (Err e) = IsNoWrite version old new e × (
 -- how much of a text was written, if part of it is still to be written; after a failed write nothing more is
 abbrev pub Leaves : Option (List ℕ) → Option (List ℕ) → List ℕ → List ℕ → ℕ → Result ℕ LinesFault → Type 0
 Leaves before now all text sent (Err (fault.Write n)) = Writes before now all (Err (fault.Write n))
-Leaves before now all text sent other = Wrote before now all text sent
+Leaves before now all text sent other = WritesAllBut before now all text sent
 
 -- operations were taken, and their text was written except for what is left of it
 pub record Passes (first : ℕ) (old : Reading) (left : Option (List ℕ)) (failed : ℕ) (before now : Option (List ℕ)) (text : List ℕ) (sent : ℕ) (result : Result ℕ LinesFault) : Type 0 where
   pub ops : List Operation
   pub rest : Reading
   pub parser : Parsing
-  pub dealt : Deals first old rest ops
+  pub deals : Deals first old rest ops
   pub stops : Stops first old.failed rest (reading left failed parser) ops result
-  pub held : length parser.held ≤ piece_limit
-  pub written : Leaves before now (lines_of first ops) text sent result
+  pub one_piece : length parser.held ≤ piece_limit
+  pub leaves : Leaves before now (lines_of first ops) text sent result
 
 -- which calls of the reader and of the writer failed in between: after a failed write nothing was read
 abbrev pub FailsInPass : ℕ → ℕ → ℕ → ℕ → Result ℕ LinesFault → Type 0

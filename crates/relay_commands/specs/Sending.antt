@@ -7,24 +7,24 @@ use Rattle.relay_commands.specs.declared.lines.LinesFault.{LinesFault}
 use Rattle.relay_commands.specs.declared.lines.LinesFault.TheVariants as fault
 
 -- of everything that there is to write, this text is still to be written, and this many bytes were written
-pub record Wrote (before now : Option (List ℕ)) (all text : List ℕ) (sent : ℕ) : Type 0 where
-  pub gone : List ℕ
-  pub whole : all ≡ gone ++ text
-  pub written : now ≡ append_known before gone
-  pub count : sent ≡ min (length gone) most
+pub record WritesAllBut (before now : Option (List ℕ)) (all text : List ℕ) (sent : ℕ) : Type 0 where
+  pub front : List ℕ
+  pub whole : all ≡ front ++ text
+  pub writes : now ≡ append_known before front
+  pub count : sent ≡ min (length front) most
 
 -- part of the text was written, and the rest is still to be written
 pub record Moves (text : List ℕ) (sent : ℕ) (before : Option (List ℕ)) (rest : List ℕ) (count : ℕ) (after : Option (List ℕ)) : Type 0 where
-  pub moved : List ℕ
-  pub whole : text ≡ moved ++ rest
-  pub written : after ≡ append_known before moved
-  pub count_is : count ≡ min (sent + length moved) most
+  pub part : List ℕ
+  pub whole : text ≡ part ++ rest
+  pub writes : after ≡ append_known before part
+  pub count_is : count ≡ min (sent + length part) most
 
 -- not all of the text was written, and this many bytes were written in all
 pub record MovesPart (text : List ℕ) (sent : ℕ) (before after : Option (List ℕ)) (count : ℕ) : Type 0 where
   pub cut : ℕ
   pub less : cut < length text
-  pub written : after ≡ append_known before (take cut text)
+  pub writes : after ≡ append_known before (take cut text)
   pub count_is : count ≡ min (sent + cut) most
 
 -- a write failed in between, of those that would have written the text
@@ -35,7 +35,7 @@ pub record BreaksOff (text : List ℕ) (sent : ℕ) (before : Option (List ℕ))
 -- the text was written, and the result is unchanged
 pub record Finishes (answer : Result ℕ LinesFault) (text : List ℕ) (before : Option (List ℕ)) (failed : ℕ) (after : Option (List ℕ)) (count : ℕ) (result : Result ℕ LinesFault) : Type 0 where
   pub same : result ≡ answer
-  pub written : after ≡ append_known before text
+  pub writes : after ≡ append_known before text
   pub calls : NoneFails failed count
 
 -- the text was written, or a write failed, which is the result instead

@@ -45,7 +45,8 @@ pub fn apply<R: ByteIn, W: ByteOut>(
     writer: &mut W,
     script: Script,
 ) -> Result<(), ApplyFault>
-    ensures applied { Applies script (R.left reader.old) (R.left reader.new) (W.written writer.old) (W.written writer.new) result }
+    ensures applied { Applies script (R.left reader.old) (R.left reader.new)
+        (W.written writer.old) (W.written writer.new) result }
     ensures calls { FailsOnceInApply (R.failed reader.old) (R.failed reader.new)
         (W.failed writer.old) (W.failed writer.new) result }
 {
@@ -56,7 +57,8 @@ pub fn apply<R: ByteIn, W: ByteOut>(
 // Reads a body to its end, and returns the lines of a fresh index's answer to it. The fault is
 // `BodyLong`, `Read` or `Memory`.
 fn answer<R: ByteIn>(alloc: Global, reader: &mut R, script: Script) -> Result<Vec<u8>, ApplyFault>
-    ensures ok { IfOk result (λ out. IsAnswered script (R.left reader.old) (R.left reader.new) out.items) }
+    ensures ok { IfOk result (λ out. IsAnswered script
+        (R.left reader.old) (R.left reader.new) out.items) }
     ensures err { IfErr result (IsBodyFault (R.left reader.old) (R.left reader.new)) }
     ensures failed { R.failed reader.new ≡ failed_by result (R.failed reader.old) }
 {
@@ -65,7 +67,8 @@ fn answer<R: ByteIn>(alloc: Global, reader: &mut R, script: Script) -> Result<Ve
 }
 
 fn send<W: ByteOut>(writer: &mut W, out: &[u8]) -> Result<(), ApplyFault>
-    ensures { WritesOutput (W.written writer.old) (W.written writer.new) (W.failed writer.old) (W.failed writer.new) out.now result }
+    ensures { WritesOutput (W.written writer.old) (W.written writer.new)
+        (W.failed writer.old) (W.failed writer.new) out.now result }
 {
     match write_all(writer, out) {
         Ok(()) => Ok(()),

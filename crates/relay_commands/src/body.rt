@@ -21,7 +21,8 @@ enum Part {
 
 /// Reads a body to its end. The fault is `BodyLong`, `Read` or `Memory`.
 pub fn read_body<R: ByteIn>(alloc: Global, reader: &mut R) -> Result<Vec<u8>, ApplyFault>
-    ensures body { IfOk result (λ body. GivesBody (R.left reader.old) (R.left reader.new) body.items) }
+    ensures body { IfOk result (λ body. GivesBody
+        (R.left reader.old) (R.left reader.new) body.items) }
     ensures err { IfErr result (IsBodyFault (R.left reader.old) (R.left reader.new)) }
     ensures failed { R.failed reader.new ≡ failed_by result (R.failed reader.old) }
 {
@@ -66,8 +67,10 @@ fn read_piece<R: ByteIn>(
 ) -> Result<Part, ApplyFault>
     requires room { vec_len body.old ≤ body_limit }
     requires piece { 0 < vec_len piece.old }
-    ensures taken { IfOk result (TakesPiece (R.left reader.old) (R.left reader.new) body.old.items body.new.items) }
-    ensures err { IfErr result (IsPieceFault (R.left reader.old) (R.left reader.new) body.old.items) }
+    ensures takes { IfOk result (TakesPiece (R.left reader.old) (R.left reader.new)
+        body.old.items body.new.items) }
+    ensures err { IfErr result (IsPieceFault (R.left reader.old) (R.left reader.new)
+        body.old.items) }
     ensures piece { 0 < vec_len piece.new }
     ensures failed { R.failed reader.new ≡ failed_by result (R.failed reader.old) }
 {

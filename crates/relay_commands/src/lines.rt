@@ -8,7 +8,8 @@ ghost use Rattle.relay_ndjson.specs.declared.parser.Phase.TheVariants as phase;
 ghost use Rattle.relay_commands.specs.Calls.{FailsOnce};
 ghost use Rattle.relay_commands.specs.Lines.{Streams, failed_by};
 ghost use Rattle.relay_commands.specs.Sending.{Closes};
-ghost use Rattle.relay_commands.specs.Passing.{AddsNext, FailsInPass, IsNext, IsNumbered, Passes, fault_of};
+ghost use Rattle.relay_commands.specs.Passing.{AddsNext, IsNext, IsNumbered, fault_of};
+ghost use Rattle.relay_commands.specs.Passing.{FailsInPass, Passes};
 
 use crate::outgoing::Outgoing;
 use relay_action::{Action, ByteIn, ByteOut, DocKey, Write};
@@ -20,8 +21,8 @@ use thiserror::Error;
 /// it prints `read failed` if the kind is `Read`.
 #[derive(Clone, Copy, Debug, PartialEq, Eq, Error)]
 pub enum LinesFault {
-    /// A line breaks the producer grammar, or a read failed. The lines of all operations before it were
-    /// written. The kind is neither `Memory` nor `Failed`.
+    /// A line breaks the producer grammar, or a read failed. The lines of all operations before it
+    /// were written. The kind is neither `Memory` nor `Failed`.
     #[error("{0}")]
     Input(InputFault),
     /// There is no version left for the action line with this number: 9,000,000,000,000,000,000 was
@@ -58,8 +59,10 @@ pub fn lines<R: ByteIn, W: ByteOut>(
     first: u64,
 ) -> Result<u64, LinesFault>
     requires { first ≤ last_version }
-    ensures lines { Streams first (fresh (R.left reader.old) (R.failed reader.old) (shown default_index.entry))
-        (R.left reader.new) (R.failed reader.new) (W.written writer.old) (W.written writer.new) result }
+    ensures lines { Streams first
+        (fresh (R.left reader.old) (R.failed reader.old) (shown default_index.entry))
+        (R.left reader.new) (R.failed reader.new)
+        (W.written writer.old) (W.written writer.new) result }
     ensures calls { FailsOnce (R.failed reader.old) (R.failed reader.new)
         (W.failed writer.old) (W.failed writer.new) result }
 {
@@ -189,7 +192,8 @@ fn close<W: ByteOut>(
     writer: &mut W,
     answer: Result<u64, LinesFault>,
 ) -> Result<u64, LinesFault>
-    ensures { Closes answer outgoing.old.text.items outgoing.old.sent (W.written writer.old) (W.failed writer.old)
+    ensures { Closes answer outgoing.old.text.items outgoing.old.sent
+        (W.written writer.old) (W.failed writer.old)
         (W.written writer.new) (W.failed writer.new) result }
 {
     if let Err(LinesFault::Write { .. }) = answer {

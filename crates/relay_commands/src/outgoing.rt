@@ -35,7 +35,8 @@ impl Outgoing {
 
     /// Adds the lines of a write. `AllocError`: allocation failed, and the text is unchanged.
     pub fn add(&mut self, alloc: Global, write: &Write) -> Result<(), AllocError>
-        ensures ok { OnOk result (self.new.text.items ≡ self.old.text.items ++ write_text write.now) }
+        ensures ok { OnOk result (self.new.text.items
+            ≡ self.old.text.items ++ write_text write.now) }
         ensures err { OnErr result (self.new.text.items ≡ self.old.text.items) }
         ensures sent { self.new.sent ≡ self.old.sent }
     {
@@ -57,7 +58,8 @@ impl Outgoing {
         ensures ok { OnOk result (Moves self.old.text.items self.old.sent (W.written writer.old)
             self.new.text.items self.new.sent (W.written writer.new)) }
         ensures empty { OnOk result (self.new.text.items ≡ []) }
-        ensures err { IfErr result (MovesPart self.old.text.items self.old.sent (W.written writer.old) (W.written writer.new)) }
+        ensures err { IfErr result (MovesPart self.old.text.items self.old.sent
+            (W.written writer.old) (W.written writer.new)) }
         ensures failed { OnErr result (OneFails (W.failed writer.old) (W.failed writer.new)) }
         ensures succeeded { OnOk result (W.failed writer.new ≡ W.failed writer.old) }
     {
@@ -74,7 +76,8 @@ impl Outgoing {
     pub fn make_way<W: ByteOut>(&mut self, writer: &mut W, waits: bool) -> Result<(), u64>
         ensures ok { OnOk result (Moves self.old.text.items self.old.sent (W.written writer.old)
             self.new.text.items self.new.sent (W.written writer.new)) }
-        ensures err { IfErr result (MovesPart self.old.text.items self.old.sent (W.written writer.old) (W.written writer.new)) }
+        ensures err { IfErr result (MovesPart self.old.text.items self.old.sent
+            (W.written writer.old) (W.written writer.new)) }
         ensures failed { OnErr result (OneFails (W.failed writer.old) (W.failed writer.new)) }
         ensures succeeded { OnOk result (W.failed writer.new ≡ W.failed writer.old) }
     {

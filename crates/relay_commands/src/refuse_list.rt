@@ -1,8 +1,10 @@
 //! The refusals that a command line asks for.
-ghost use Rattle.std.specs.Prelude.{◌≡◌, ◌↔◌, ℕ, List, IsTrue, IfSome, IfNone, IfOk, IfErr, OnOk, MatchOption};
+ghost use Rattle.std.specs.Prelude.{◌≡◌, ◌↔◌, ℕ, List, IsTrue};
+ghost use Rattle.std.specs.Prelude.{IfSome, IfNone, IfOk, IfErr, OnOk, MatchOption};
 ghost use Rattle.relay_index.specs.Choices.{MayRefuse};
 ghost use Rattle.relay_commands.specs.Cuts.{Adds, IsSplitAt, IsPartFault, IsUncut};
-ghost use Rattle.relay_commands.specs.Refusals.{IsList, IsListFault, IsNoRefusal, IsRefusal, Refuses};
+ghost use Rattle.relay_commands.specs.Refusals.{IsList, IsListFault, Refuses};
+ghost use Rattle.relay_commands.specs.Refusals.{IsNoRefusal, IsRefusal};
 
 use relay_index::{Script, may_refuse};
 use relay_words::number_of;
@@ -31,7 +33,8 @@ pub enum ListFault {
 /// `BadList`: the text is not such a list; it names the first invalid pair. `Memory`: an allocation
 /// for the script failed.
 pub fn refuse_list(alloc: Global, list: &str) -> Result<Script, ListFault>
-    ensures ok { IfOk result (λ script. (refusals : List (ℕ × ℕ)) × IsList list.now refusals × Refuses refusals script) }
+    ensures ok { IfOk result (λ script. (refusals : List (ℕ × ℕ)) × IsList list.now refusals
+        × Refuses refusals script) }
     ensures err { IfErr result (IsListFault list.now) }
 {
     let mut script = Script::new(alloc);
@@ -48,14 +51,16 @@ pub fn refuse_list(alloc: Global, list: &str) -> Result<Script, ListFault>
 
 // The parts of a text before its first colon and after it.
 fn cut_at_colon(text: &str) -> Option<(&str, &str)>
-    ensures { MatchOption result (IsUncut 58 text.now) (λ x. IsSplitAt 58 text.now x.0.now x.1.now) }
+    ensures { MatchOption result (IsUncut 58 text.now)
+        (λ x. IsSplitAt 58 text.now x.0.now x.1.now) }
 {
     text.split_once(':')
 }
 
 // The parts of a text before its first comma and after it.
 fn cut_at_comma(text: &str) -> Option<(&str, &str)>
-    ensures { MatchOption result (IsUncut 44 text.now) (λ x. IsSplitAt 44 text.now x.0.now x.1.now) }
+    ensures { MatchOption result (IsUncut 44 text.now)
+        (λ x. IsSplitAt 44 text.now x.0.now x.1.now) }
 {
     text.split_once(',')
 }

@@ -1,5 +1,5 @@
-//! Commands over streams in memory, of whose allocations any one may be refused (`make refusals`): what went out is a front of
-//! what goes out without the refusal.
+//! Commands over streams in memory, of whose allocations any one may be refused (`make refusals`):
+//! what went out is a front of what goes out without the refusal.
 use crate::{apply, lines};
 use relay_action::{Action, DocKey, MemStream, Write};
 use relay_commands::apply::{ApplyFault, apply};
@@ -25,7 +25,8 @@ fn lines_once(alloc: Global) -> Option<(Result<u64, LinesFault>, MemStream)> {
     Some((found, writer))
 }
 
-// Whether two operations are written, by a second run if the first was refused when a front of them had gone out.
+// Whether two operations are written, by a second run if the first was refused when a front of them
+// had gone out.
 fn writes_lines(alloc: Global) -> Option<bool> {
     let (found, writer) = lines_once(alloc)?;
     if found.is_ok() {

@@ -22,7 +22,7 @@ use Rattle.relay_core.specs.Memory.{AllUnder}
 use Rattle.relay_core.specs.Quiet.{empty, is_roomy, no_room, less, IsQuiet}
 use Rattle.relay_core.proofs.Taken.{ltb_no}
 
--- ---- one item more is gathering_after
+-- ---- one item more is offered
 
 after_offers : (x : Offer) (j : BatchItem) (g busy busy' added added' : Gathering) (b a : Bool) → by_answer x b true a ≡ false
     → (b ≡ false → busy' ≡ gathering_after (j ∷ []) busy) → (a ≡ false → added' ≡ gathering_after (j ∷ []) added)

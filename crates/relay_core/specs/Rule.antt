@@ -17,7 +17,7 @@ by_answer Added busy closed added = added
 abbrev pub with_item : BatchItem → Gathering → Gathering
 with_item i g = record g { items = g.items ++ i ∷ [] }
 
--- the items are gathering_after one after another until one is Closed or none is left
+-- the items are offered one after another until one is Closed or none is left
 abbrev pub gathering_after : List BatchItem → Gathering → Gathering
 gathering_after [] g = g
 gathering_after (i ∷ is) g = by_answer (answer_to i g) (gathering_after is g) g (gathering_after is (with_item i g))

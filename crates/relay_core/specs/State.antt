@@ -35,7 +35,7 @@ pub record State : Type 0 where
   pub closed : List Bool
   pub flights : flight.Flying
 
--- A lane as contracts see it, in two parts: its state, and how many held operations its requests looks_after at. What a
+-- A lane as contracts see it, in two parts: its state, and how many held operations its requests looked at. What a
 -- contract says of the state does not include the looks.
 pub record Seen : Type 0 where
   pub state : State
@@ -107,7 +107,7 @@ is_put body.Tick = false
 is_put body.Flush = false
 is_put body.Done = false
 
--- why a message is not after_op: the first cause that applies
+-- why a message is not taken: the first cause that applies
 abbrev pub take_fault : State → ℕ → Body → Option TakeFault
 take_fault s sender b =
     if slice_index_or s.closed sender false then Some AfterClose

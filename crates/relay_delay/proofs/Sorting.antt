@@ -64,7 +64,7 @@ pub sorted_mem : (y : Entry) (es : List Entry) → Mem y (sort es) → Mem y es
 sorted_mem y [] m = m
 sorted_mem y (e ∷ es) m = ⊎_elim (λ q. inl q) (λ n. inr (sorted_mem y es n)) (insert_mem y e (sort es) m)
 
--- two that differ may be insert_all in either order
+-- two that differ may be inserted in either order
 pub insert_commutes : (x y : Entry) (es : List Entry) → (x.version ≡ y.version → ⊥) → insert x (insert y es) ≡ insert y (insert x es)
 insert_commutes x y [] n = ⊎_elim {C = insert x (y ∷ []) ≡ insert y (x ∷ [])}
     (λ t. let lt = ltb-true x.version y.version t in insert_before x y [] lt ∙ sym (insert_past y x [] (omega (arith, lt))))

@@ -18,7 +18,7 @@ abbrev pub sort : List Entry → List Entry
 sort [] = []
 sort (e ∷ es) = insert e (sort es)
 
--- the first list, insert_all one by one into the other
+-- the first list, inserted one by one into the other
 abbrev pub insert_all : List Entry → List Entry → List Entry
 insert_all [] es = es
 insert_all (x ∷ xs) es = insert x (insert_all xs es)

@@ -323,7 +323,7 @@ module _ (g : Config) (past : Write → Type 0) (c : Core) (f : CoreFacts g past
       let h = kept-from g number q.writes a c.held k m in
       (h.0, h.1, h.2, kept_version (turn g number q.writes a h.0) h.0 k h.2)
 
-  -- what stays held is not reports_from
+  -- what stays held is not reported
   not_reported : (t : Fate) (h k : Held) (e : Cause) → StaysAs t h k → t ≡ Reported e → ⊥
   not_reported t h k e s r = ⊎_elim {C = ⊥} (λ y. let z = y.0 in cc (z, r)) (λ s. ⊎_elim {C = ⊥} (λ y. let z = y.0 in cc (z, r)) (λ y. let z = y.1 in cc (z, r)) s) s
 

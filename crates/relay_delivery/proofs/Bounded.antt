@@ -124,7 +124,7 @@ left_one max (Reported c) h rest f = omega arith
 
 -- the answered request
 module _ (g : Config) (requests : List Request) (number : ℕ) (q : Request) (stands : slice_get requests number ≡ Some q) (a : Answer) where
-  -- what is halved flew in it, which still_held its cap
+  -- what is halved flew in it, which kept its cap
   cap_falls : (h : Held) → HasTries g requests h → (cap : ℕ) → turn g number q.writes a h ≡ Halved cap → halvings cap + 1 ≤ halvings h.cap
   cap_falls h f cap t = ⊎_elim {C = halvings cap + 1 ≤ halvings h.cap}
       (λ w. absurd (cc (t, w.stays)))

@@ -88,7 +88,7 @@ module _ (g : Config) (number : ℕ) (ws : List Write) (a : Answer) where
       (λ y. let s = reported-from hs r y in (s.0, inr s.1, s.2))
       (Mem-cases r (reported_one (turn h) h) (reports_from g number ws a hs) m)
 
-  -- it stays held, or it is done, or it is reports_from
+  -- it stays held, or it is done, or it is reported
   abbrev pub GoesTo : Held → List Held → List Report → Type 0
   GoesTo h ks rs = ((k : Held) × Mem k ks × (k.version ≡ h.version)) ⊎ (((turn h ≡ Applied) ⊎ (turn h ≡ Already)) ⊎ ((e : Cause) × Mem (report_on h.op e) rs))
 
@@ -122,7 +122,7 @@ module _ (g : Config) (number : ℕ) (ws : List Write) (a : Answer) where
   count_head n (Halved cap) h = omega arith
   count_head n (Reported e) h = omega arith
 
-  -- none is held or reports_from twice for it
+  -- none is held or reported twice for it
   pub count-settled : (n : OpName) (hs : List Held) → count (is_held_as n) (still_held g number ws a hs) + count (is_report_as n) (reports_from g number ws a hs) ≤ count (is_held_as n) hs
   count-settled n [] = omega arith
   count-settled n (h ∷ hs) =
@@ -157,7 +157,7 @@ module _ (g : Config) (number : ℕ) (ws : List Write) (a : Answer) where
   totals_head (Halved cap) h = refl
   totals_head (Reported e) h = refl
 
-  -- each operation stays held, is done or is reports_from
+  -- each operation stays held, is done or is reported
   pub totals-settled : (hs : List Held) → length (still_held g number ws a hs) + (how_many is_applied_fate g number ws a hs + how_many is_already_fate g number ws a hs) + length (reports_from g number ws a hs) ≡ length hs
   totals-settled [] = refl
   totals-settled (h ∷ hs) =

@@ -204,7 +204,7 @@ flies_at (x ∷ xs) n t = ⊎_elim {C = Mem (record { request = n - 1; writes = 
     inr (subst (λ ws. Mem (record { request = n - 1; writes = ws }) xs) (sym (ap (λ b. if b then x.writes else writes_at (n - 1) xs) u)) (flies_at xs n rest)))
     (true_or_false (x.request == n - 1))
 
--- a request in flight was not after_answer_to
+-- a request in flight was not answered
 pub flies_unanswered : (s : State) (c : Core) (number : ℕ) → is_flying number s ≡ true → IsOf s c
     → slice_get c.outside.requests (from_zero number) ≡ Some (record { writes = writes_at (from_zero number) s.flying; answer = Unanswered })
 flies_unanswered s c number flies is = is.flying (record { request = from_zero number; writes = writes_at (from_zero number) s.flying }) (flies_at s.flying number flies)

@@ -210,7 +210,7 @@ answers_on n s number a t =
 
 -- ---- the core that a lane numbered on stands for
 
--- a lane that begins anew, beside what it had after_request_of
+-- a lane that begins anew, beside what it had sent
 pub fresh_on : (g : Config) (c : Core) → IsOf (numbered_on (length c.outside.requests) (fresh_state g)) (restarted_core c)
 fresh_on g c = record {
   taken = refl;
@@ -225,7 +225,7 @@ fresh_on g c = record {
 pub take_on : (n : ℕ) (s : State) (c : Core) (o : Op) (bytes : ℕ) → IsOf (numbered_on n s) c → IsOf (numbered_on n (taken_op s o bytes)) (step s.config (Takes o) c)
 take_on n s c o bytes is = subst (λ t. IsOf t (step s.config (Takes o) c)) (takes_on n s o bytes) (take_is_of (numbered_on n s) c o bytes is)
 
--- what is after_request_of, numbered on
+-- what is sent, numbered on
 abbrev pub chosen_on : ℕ → List Entry → List Held
 chosen_on n chosen = held_of (map (entry_on n) chosen)
 

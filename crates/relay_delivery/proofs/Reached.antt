@@ -1,4 +1,4 @@
--- What holds of a lane whatever it is after_answer_to.
+-- What holds of a lane whatever it is answered.
 use Rattle.std.proofs.Common.{◌≡◌, ◌≢◌, ℕ, true, zero, suc, ◌+◌, ◌<◌, List, [], ◌∷◌, ◌++◌, length, Option, Some, None, ◌==◌, refl, sym, ap, ◌∙◌, subst, ⊎_elim, inl, inr, arith, length-append, append-nil, append_assoc}
 use Rattle.std.specs.Prelude.{slice_get, nat_lt, map, filter, not}
 use Rattle.std.proofs.lemmas.List.{map-append, length-map}

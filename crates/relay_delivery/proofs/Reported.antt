@@ -1,4 +1,4 @@
--- What a lane has reports_from whatever it was after_answer_to.
+-- What a lane has reported whatever it was answered.
 use Rattle.std.proofs.Common.{◌≡◌, ℕ, ◌+◌, ◌≤◌, List, [], ◌∷◌, ◌++◌, Option, Some, None, Bool, true, false, refl, sym, ap, ◌∙◌, subst, ⊎_elim, arith, append-nil, append_assoc}
 use Rattle.std.specs.Prelude.{nat_lt, map}
 use Rattle.std.proofs.lemmas.List.{map-append}
@@ -29,7 +29,7 @@ pub record IsOnTaken (taken : List Op) (r : Report) : Type 0 where
   pub name : r.name ≡ name_of op
   pub document : r.document ≡ document_of op.key
 
--- What is held and what is reports_from was taken, and a name is held and reports_from at most as often as it was taken.
+-- What is held and what is reported was taken, and a name is held and reported at most as often as it was taken.
 record Names (held : List Held) (reports : List Report) (taken : List Op) : Type 0 where
   held_op : (h : Held) → Mem h held → Mem h.op taken
   report_on : (r : Report) → Mem r reports → IsOnTaken taken r

@@ -13,7 +13,7 @@ use Rattle.relay_delivery.specs.Machine.{Config, Core, Held, Place, Report, writ
 use Rattle.relay_delivery.specs.Delivery.{HasDistinctNames, IsSound, IsComplete, applied_ops, IsDealtWrite}
 use Rattle.relay_delivery.specs.Bound.{tries_left}
 
--- a held operation, the length of its lines, the clock when it was taken, and the first tick at which it may be after_request_of
+-- a held operation, the length of its lines, the clock when it was taken, and the first tick at which it may be sent
 pub record Entry : Type 0 where
   pub held : Held
   pub bytes : ℕ
@@ -25,7 +25,7 @@ pub record Flying : Type 0 where
   pub request : ℕ
   pub writes : List Write
 
--- the clock, how many Puts were taken and how many requests were after_request_of, what is held and what is in flight, the
+-- the clock, how many Puts were taken and how many requests were sent, what is held and what is in flight, the
 -- reports, and how many operations ended as applied
 pub record State : Type 0 where
   pub config : Config
@@ -80,7 +80,7 @@ launched_entry request chosen e = record { held = after_launch request chosen e.
 abbrev pub writes_of_all : List Entry → List Write
 writes_of_all es = map write_of (held_of es)
 
--- these entries are after_request_of as one request
+-- these entries are sent as one request
 abbrev pub after_request_of : State → List Entry → State
 after_request_of s chosen = record s {
   requests = s.requests + 1;
@@ -144,7 +144,7 @@ pub record IsOf (s : State) (c : Core) : Type 0 where
   pub requests : s.requests ≡ length c.outside.requests
   pub flying : (f : Flying) → Mem f s.flying → slice_get c.outside.requests f.request ≡ Some (record { writes = f.writes; answer = Unanswered })
 
--- it took these operations, its requests are those that were after_request_of, in order, and it was after_settling by their answers
+-- it took these operations, its requests are those that were sent, in order, and it was settled by their answers
 -- alone: both came about by the same steps, from a fresh lane and an opening
 pub record Fits (s : State) (taken : List Op) (out : Outside) : Type 0 where
   pub core : Core
@@ -158,7 +158,7 @@ pub record Fits (s : State) (taken : List Op) (out : Outside) : Type 0 where
 abbrev pub fresh_state : Config → State
 fresh_state g = record { config = g; clock = 0; taken = 0; requests = 0; held = []; flying = []; reports = []; applied = 0; already = 0 }
 
--- a lane that took nothing fits an outside in which nothing was after_request_of and every stored version is below its first
+-- a lane that took nothing fits an outside in which nothing was sent and every stored version is below its first
 abbrev pub FreshFits : Type 0
 FreshFits =
     (g : Config) (out : Outside) → IsOpening out → ((k : Document) (u : ℕ) → out.stored k ≡ Some u → u < g.first) →
@@ -171,7 +171,7 @@ ClockFits = (s : State) (clock : ℕ) (taken : List Op) (out : Outside) → Fits
 abbrev pub TakeFits : Type 0
 TakeFits = (s : State) (o : Op) (bytes : ℕ) (taken : List Op) (out : Outside) → Fits s taken out → Fits (taken_op s o bytes) (taken ++ o ∷ []) out
 
--- some of the candidates, which keep their caps, are after_request_of
+-- some of the candidates, which keep their caps, are sent
 abbrev pub SendFits : Type 0
 SendFits =
     (s : State) (chosen : List Entry) (taken : List Op) (out : Outside) → IsSubsequence chosen (candidates s) →
@@ -200,14 +200,14 @@ CompleteWhereItFits =
     (s : State) (taken : List Op) (out : Outside) → Fits s taken out → HasDistinctNames taken → s.held ≡ [] →
     IsComplete taken s.reports (applied_ops s.config taken out)
 
--- each operation is held, done or reports_from, and the counts are those of what was taken and after_request_of
+-- each operation is held, done or reported, and the counts are those of what was taken and sent
 abbrev pub TotalWhereItFits : Type 0
 TotalWhereItFits =
     (s : State) (taken : List Op) (out : Outside) → Fits s taken out →
     (s.taken ≡ length taken) × (s.requests ≡ length out.requests)
     × (length s.held + (s.applied + s.already) + length s.reports ≡ s.taken)
 
--- each write that was after_request_of is that of an operation that it took, under the version assigned when it was taken
+-- each write that was sent is that of an operation that it took, under the version assigned when it was taken
 abbrev pub WritesWhereItFits : Type 0
 WritesWhereItFits =
     (s : State) (taken : List Op) (out : Outside) → Fits s taken out → (q : Request) → Mem q out.requests → (w : Write) →

@@ -45,7 +45,7 @@ NoneOutOfOrder =
     (accepted : ℕ → List Op) (a b : Op) → a.producer ≡ b.producer → accepted a.producer ≡ a ∷ b ∷ [] →
     name_of a ≢ name_of b → IsInProducerOrder accepted (b ∷ a ∷ []) → ⊥
 
--- the requests that were outside_with, if nothing else of the outside matters
+-- the requests that were sent, if nothing else of the outside matters
 abbrev pub outside_with : List Request → List Ran → Outside
 outside_with requests runs = record {
   requests = requests;
@@ -171,7 +171,7 @@ AssignsTwo =
 
 -- ---- schedules
 
--- before a schedule nothing was outside_with, and its end continues that
+-- before a schedule nothing was sent, and its end continues that
 abbrev pub PlaysFromOpening : Type 0
 PlaysFromOpening =
     (accepted : List Op) (events : List Event) (k : Document) (ws : List Write) (ops : List Op) →

@@ -1,4 +1,4 @@
--- A lane as delivery sees it, and the outside: what it took, what it holds and what it reports_from. It has no clock,
+-- A lane as delivery sees it, and the outside: what it took, what it holds and what it reported. It has no clock,
 -- batch or queue, and of all limits only the caps: the others only decide which of these steps are made, and when.
 use Rattle.std.specs.Prelude.{◌≡◌, ℕ, suc, ◌+◌, ◌-◌, ◌*◌, ◌^◌, ◌<◌, ◌≤◌, List, [], ◌∷◌, ◌++◌, Option, Some, None, option_map, slice_get, Bool, true, false, ◌==◌, nat_lt, if◌then◌else◌, map, length}
 use Rattle.relay_action.specs.Actions.{kind_of}
@@ -41,7 +41,7 @@ pub record Place : Type 0 where
   pub request : ℕ
   pub place : ℕ
 
--- an operation that is neither done nor reports_from: the version that it was assigned, how many requests carried it, how
+-- an operation that is neither done nor reported: the version that it was assigned, how many requests carried it, how
 -- many of them count as tries, the cap, and where it is in flight, if it is
 pub record Held : Type 0 where
   pub op : Op
@@ -77,7 +77,7 @@ pub record Core : Type 0 where
 abbrev pub held_at : Config → ℕ → Op → Held
 held_at g place o = record { op = o; version = version_at g place; sends = 0; attempts = 0; cap = g.cap; flies = None }
 
--- it is held if a version is left for it, otherwise reports_from
+-- it is held if a version is left for it, otherwise reported
 abbrev pub held_if : Bool → Config → ℕ → Op → List Held
 held_if true g place o = held_at g place o ∷ []
 held_if false g place o = []

@@ -1,5 +1,5 @@
 -- A lane that starts afresh after a restart numbers its requests from the beginning again. With their numbers counted
--- on from those that it had after_request_of before, it is the lane beside its outside, and each call is the same call there.
+-- on from those that it had sent before, it is the lane beside its outside, and each call is the same call there.
 use Rattle.std.specs.Prelude.{◌≡◌, true, ℕ, ◌+◌, List, Option, Some, None, map}
 use Rattle.relay_action.specs.declared.operation.Op.{Op}
 use Rattle.relay_action.specs.declared.write.Write.{Write}

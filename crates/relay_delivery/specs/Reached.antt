@@ -11,8 +11,8 @@ use Rattle.relay_delivery.specs.Lane.{Entry, Flying, State, held_of, taken_op, c
 
 -- ---- calls
 
--- an operation is taken, with the length of its lines; the clock is set; entries are after_request_of as one request; or the
--- request with this number, from 1, is after_answer_to
+-- an operation is taken, with the length of its lines; the clock is set; entries are sent as one request; or the
+-- request with this number, from 1, is answered
 pub data Call : Type 0 where
   Takes : Op → ℕ → Call
   Ticks : ℕ → Call
@@ -25,7 +25,7 @@ call (Ticks clock) s = record s { clock = clock }
 call (Sends chosen) s = after_request_of s chosen
 call (Answers number a) s = after_answer_to s number a
 
--- Any operation may be taken, and the clock set, at any time; candidates that keep their caps may be after_request_of; and a
+-- Any operation may be taken, and the clock set, at any time; candidates that keep their caps may be sent; and a
 -- request in flight may get any answer.
 abbrev pub MayCall : Call → State → Type 0
 MayCall (Takes o bytes) s = Unit {0}

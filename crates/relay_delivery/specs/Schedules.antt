@@ -151,7 +151,7 @@ NoVersionLeft = (key : DocKey) →
 
 -- ---- two operations of one document
 
--- the first is item_refusal once, since the index is busy, and sent again; the second is sent after it
+-- the first is refused once, since the index is busy, and sent again; the second is sent after it
 abbrev pub busy_then_next : Write → Write → List Event
 busy_then_next w x =
     Sends (w ∷ []) ∷ Runs (failed_run 0 0 429 busy) ∷ Answers 0 (Items (failed_entry w 429 busy ∷ []))
@@ -189,8 +189,8 @@ GivenUpAndApplied = (key : DocKey) (source : Source) →
 
 -- ---- three documents
 
--- of three items one is applied, one is item_refusal since the index is busy, and one finds no document to delete; the
--- item_refusal one is sent again
+-- of three items one is applied, one is refused since the index is busy, and one finds no document to delete; the
+-- refused one is sent again
 abbrev pub three_then_one : Write → Write → Write → List Event
 three_then_one w x y =
     Sends (w ∷ x ∷ y ∷ []) ∷ Runs (ran 0 0 201) ∷ Runs (failed_run 0 1 429 busy) ∷ Runs (ran 0 2 404)

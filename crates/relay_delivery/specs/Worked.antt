@@ -43,7 +43,7 @@ lost_then_conflict o =
 
 -- ---- one that meets the promises
 
--- this may happen, starting from a fresh lane; then nothing is held or reported, and the one write is applied_ops to
+-- this may happen, starting from a fresh lane; then nothing is held or reported, and the one write is attributed to
 -- the operation
 pub record EndsAlready (key : DocKey) (o : Op) : Type 0 where
   pub fresh : IsFresh config (begun nothing)
@@ -58,7 +58,7 @@ MachineWorks = (key : DocKey) (source : Source) → EndsAlready key (op 1 key (I
 
 -- ---- none may be left out
 
--- Whatever operations the applied writes are applied_ops to, one that was taken is not accounted for, though nothing
+-- Whatever operations the applied writes are attributed to, one that was taken is not accounted for, though nothing
 -- is held.
 pub record LosesOperation (c : Core) : Type 0 where
   pub none_held : c.held ≡ []

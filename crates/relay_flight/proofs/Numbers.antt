@@ -192,6 +192,6 @@ batches_others n (r ∷ rs) = elim (eqb_tells r.number n) [
   | inr stays ↦ let kept = stays.0 in rw kept (ap (λ bs. numbered_batch r ∷ bs) (batches_others n rs))
 ]
 
--- and is without_batch with it
+-- and is settled with it
 pub batches_settled : (n : ℕ) (f : InFlight) → batches_of (without_request n f) ≡ without_batch n (batches_of f)
 batches_settled n f = λ i. record { max = f.max; next = f.next; batches = batches_others n f.requests i }

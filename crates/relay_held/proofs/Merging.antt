@@ -59,7 +59,7 @@ inserted_past : (xs : List Kept) (h : Kept) (hs : List Kept) → AllAbove h.vers
 inserted_past [] h hs a = refl
 inserted_past (x ∷ xs) h hs a = ap (insert_one x) (inserted_past xs h hs a.1) ∙ insert_past x h (insert_all xs hs) a.0
 
--- what passes a test and what does not, merge_of
+-- what passes a test and what does not, merged
 pub parted : (p : Kept → Bool) (hs : List Kept) → Rises hs → insert_all (filter p hs) (filter (λ h. not (p h)) hs) ≡ hs
 parted p [] r = refl
 parted p (h ∷ hs) r = ⊎_elim {C = insert_all (filter p (h ∷ hs)) (filter (λ x. not (p x)) (h ∷ hs)) ≡ h ∷ hs}

@@ -130,7 +130,7 @@ IsIndex-appended s w h newer = record {
         RiseFrom-push None (applied_writes s k) w (h.rising k) (rw top-stored (subst (λ j. is_above (stored_version s j) w.version ≡ true) place newer))
     rise_at k false e = subst (RiseFrom None) (sym (more_none _ w)) (h.rising k)
 
--- the version that is stored_version is the write's, where the document is its own
+-- the version that is stored is the write's, where the document is its own
 pub stored-appended : (s : State) (w : Write) (k : Document)
     → stored_version (index_after s w) k ≡ (if same_document k (document_of w.key) then Some w.version else stored_version s k)
 stored-appended s w k = rw (applied-with_write s.documents w k) (by (same_document k (document_of w.key)) refl)
@@ -150,7 +150,7 @@ highest_with highest version = max (unwrap_or highest 0) version
 own_version : (s : State) (w : Write) → stored_version (index_after s w) (document_of w.key) ≡ Some w.version
 own_version s w = stored-appended s w (document_of w.key) ∙ rw (same_document-self (document_of w.key)) refl
 
--- no version is above a bound that the write's version and the versions stored_version before keep
+-- no version is above a bound that the write's version and the versions stored before keep
 within : (s : State) (w : Write) (n : ℕ) → w.version ≤ n → ((k : Document) (v : ℕ) → stored_version s k ≡ Some v → v ≤ n)
     → (k : Document) (v : ℕ) → stored_version (index_after s w) k ≡ Some v → v ≤ n
 within s w n own others k v e = by (same_document k (document_of w.key)) refl

@@ -36,7 +36,7 @@ success_of kind.Index false = refl
 success_of kind.Delete true = refl
 success_of kind.Delete false = refl
 
--- the outcome says that the write was applied_writes exactly where it was
+-- the outcome says that the write was applied exactly where it was
 pub is_applied-done_of : (s : State) (w : Write) (choice : Choice) → is_applied w (outcome_of_run (done_of s w choice)) ≡ is_run s w choice
 is_applied-done_of s w (Refuse status) = refl
 is_applied-done_of s w Run = by (is_newer s w) refl
@@ -63,7 +63,7 @@ Shows-after_run s w choice o r shows is = by (is_run s w choice) refl
 
 -- ---- as a run of the outside
 
--- the outcome is one that the stored_version version leaves the write
+-- the outcome is one that the stored version leaves the write
 pub IsOutcomeOf-done_of : (s : State) (w : Write) (choice : Choice) → MayChoose choice → IsOutcomeOf (stored_version s (document_of w.key)) w (outcome_of_run (done_of s w choice))
 IsOutcomeOf-done_of s w (Refuse status) may = inl (record { least = may.least; most = may.most; no_conflict = may.no_conflict; has_error = refl })
 IsOutcomeOf-done_of s w Run may = by (is_newer s w) refl

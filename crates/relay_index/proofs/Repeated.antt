@@ -18,7 +18,7 @@ use Rattle.relay_index.specs.Plans.{choice_by}
 use Rattle.relay_index.specs.Laws.{AppliedIsStored, DeletedKeepsVersion, RepeatIsConflict, ScriptsMay}
 use Rattle.relay_index.proofs.Appended.{last_of-push}
 
--- the last write of its document is the one that was applied_writes
+-- the last write of its document is the one that was applied
 last_is : (old new : State) (w : Write) (choice : Choice) (item : ItemDone) → RunsOne old w choice item new → is_run old w choice ≡ true
     → last_of (applied_writes new (document_of w.key)) ≡ Some w
 last_is old new w choice item run e =
@@ -35,7 +35,7 @@ pub deleted_keeps_version : DeletedKeepsVersion
 deleted_keeps_version old new w choice item run e delete =
     let both = applied_is_stored old new w choice item run e in (both.0, both.1 ∙ ap source_of delete)
 
--- a version that is stored_version is not above itself
+-- a version that is stored is not above itself
 not_newer : (s : State) (w : Write) → stored_version s (document_of w.key) ≡ Some w.version → is_newer s w ≡ false
 not_newer s w e = ap (λ o. is_above o w.version) e ∙ ltb-self w.version
   where

@@ -13,7 +13,7 @@ use Rattle.relay_index.specs.Runs.{is_run, RunsOne, Shows, outcome_of_run}
 use Rattle.relay_index.specs.Plans.{Plan, choice_at}
 use Rattle.relay_index.specs.Choices.{MayChoose}
 
--- A run of a write is a run of the outside: its outcome is possible for the stored_version version, and if an outside shows
+-- A run of a write is a run of the outside: its outcome is possible for the stored version, and if an outside shows
 -- the index before the run, the outside with the run recorded shows the index after it.
 pub record IsRunOfOutside (old : State) (w : Write) (item : ItemDone) (new : State) : Type 0 where
   pub outcome : IsOutcomeOf (stored_version old (document_of w.key)) w (outcome_of_run item)
@@ -24,7 +24,7 @@ abbrev pub RunIsOfOutside : Type 0
 RunIsOfOutside = (old new : State) (w : Write) (choice : Choice) (item : ItemDone)
     → MayChoose choice → RunsOne old w choice item new → IsRunOfOutside old w item new
 
--- an applied_writes write determines the version and the source of its document
+-- an applied write determines the version and the source of its document
 abbrev pub AppliedIsStored : Type 0
 AppliedIsStored = (old new : State) (w : Write) (choice : Choice) (item : ItemDone)
     → RunsOne old w choice item new → IsTrue (is_run old w choice)
@@ -36,7 +36,7 @@ DeletedKeepsVersion = (old new : State) (w : Write) (choice : Choice) (item : It
     → RunsOne old w choice item new → IsTrue (is_run old w choice) → w.action ≡ Delete
     → (stored_version new (document_of w.key) ≡ Some w.version) × (live new (document_of w.key) ≡ None)
 
--- an applied_writes write that is run again is a conflict, and changes nothing
+-- an applied write that is run again is a conflict, and changes nothing
 pub record IsConflictOf (w : Write) (item : ItemDone) (old new : State) : Type 0 where
   pub status : item.status ≡ 409
   pub result : item.result ≡ done.Conflict

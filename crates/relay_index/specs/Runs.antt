@@ -15,7 +15,7 @@ use Rattle.relay_index.specs.declared.choice.Choice.{Choice}
 use Rattle.relay_index.specs.declared.choice.Choice.TheVariants.{Run, Refuse}
 use Rattle.relay_index.specs.States.{State, applied_writes, stored_version, is_live}
 
--- the result of an applied_writes write, by whether its document existed
+-- the result of an applied write, by whether its document existed
 abbrev pub applied_result : ActionKind → Bool → DoneResult
 applied_result kind.Index true = done.Updated
 applied_result kind.Index false = done.Created
@@ -31,7 +31,7 @@ status_of done.NotFound = 404
 status_of done.Conflict = 409
 status_of done.Refused = 0
 
--- no version of the write's document is stored_version, or one below the write's (OpenSearch, index document API, version_type
+-- no version of the write's document is stored, or one below the write's (OpenSearch, index document API, version_type
 -- external)
 abbrev pub is_newer : State → Write → Bool
 is_newer s w = is_above (stored_version s (document_of w.key)) w.version
@@ -50,8 +50,8 @@ abbrev pub status_by : State → Write → Choice → ℕ
 status_by s w Run = status_of (result_of s w Run)
 status_by s w (Refuse status) = status
 
--- What an index returns for a write: its document and kind, the status and the result. For an applied_writes write also its
--- version, and as sequence number how many were applied_writes before it; otherwise 0 for both.
+-- What an index returns for a write: its document and kind, the status and the result. For an applied write also its
+-- version, and as sequence number how many were applied before it; otherwise 0 for both.
 abbrev pub done_of : State → Write → Choice → ItemDone
 done_of s w choice = record {
   key = w.key;
@@ -62,7 +62,7 @@ done_of s w choice = record {
   seq = if is_run s w choice then s.count else 0;
 }
 
--- The index after a write: if the write was applied_writes, it is at the end of its document's list, and counted. Nothing
+-- The index after a write: if the write was applied, it is at the end of its document's list, and counted. Nothing
 -- else changes.
 pub record Effect (old : State) (w : Write) (choice : Choice) (new : State) : Type 0 where
   pub lists : (k : Document) → applied_writes new k
@@ -80,7 +80,7 @@ pub record RunsOne (old : State) (w : Write) (choice : Choice) (item : ItemDone)
 abbrev pub outcome_of_run : ItemDone → RunOutcome
 outcome_of_run d = record { status = d.status; error = failure d.result }
 
--- the outside shows this index: for each document the stored_version version and the list are the same
+-- the outside shows this index: for each document the stored version and the list are the same
 pub record Shows (o : Outside) (s : State) : Type 0 where
   pub versions : (k : Document) → o.stored k ≡ stored_version s k
   pub lists : (k : Document) → list_of o k ≡ applied_writes s k

@@ -1,4 +1,4 @@
--- What an index has: for each document the writes that it applied_writes, and their number over all documents.
+-- What an index has: for each document the writes that it applied, and their number over all documents.
 use Rattle.std.specs.Prelude.{◌≡◌, ◌≢◌, ℕ, ◌+◌, ◌-◌, min, ◌<◌, ◌≤◌, List, [], ◌∷◌, length, slice_get, Option, None, Some, is_some, option_map, option_and_then, unwrap_or, Bool}
 use Rattle.std.specs.Map.{lookup}
 use Rattle.relay_action.specs.Streams.{most}
@@ -6,17 +6,17 @@ use Rattle.relay_action.specs.declared.key.DocKey.{DocKey}
 use Rattle.relay_action.specs.declared.write.Write.{Write}
 use Rattle.relay_results.specs.Documents.{Document, document_of, same_document, source_of}
 
--- Each document to which a write was applied_writes, with those writes, in order; and the number of applied_writes writes, over all
+-- Each document to which a write was applied, with those writes, in order; and the number of applied writes, over all
 -- documents, which saturates at 2^64 - 1.
 pub record State : Type 0 where
   pub documents : List (DocKey × List Write)
   pub count : ℕ
 
--- nothing was applied_writes
+-- nothing was applied
 abbrev pub fresh : State
 fresh = record { documents = []; count = 0 }
 
--- the list of a document: the writes that were applied_writes to it, in their order
+-- the list of a document: the writes that were applied to it, in their order
 abbrev pub applied_among : List (DocKey × List Write) → Document → List Write
 applied_among documents k = unwrap_or (lookup (λ key. same_document k (document_of key)) documents) []
 
@@ -27,13 +27,13 @@ applied_writes s k = applied_among s.documents k
 abbrev pub last_of : List Write → Option Write
 last_of ws = slice_get ws (length ws - 1)
 
--- the stored_version version of a document: that of the last write applied_writes to it. A deleted document keeps its version
+-- the stored version of a document: that of the last write applied to it. A deleted document keeps its version
 -- forever.
 abbrev pub stored_version : State → Document → Option ℕ
 stored_version s k = option_map (λ (w : Write). w.version) (last_of (applied_writes s k))
 
--- the source of a document: that of the last write applied_writes to it; none if that was a delete, or if no write was
--- applied_writes
+-- the source of a document: that of the last write applied to it; none if that was a delete, or if no write was
+-- applied
 abbrev pub live : State → Document → Option (List ℕ)
 live s k = option_and_then (λ (w : Write). source_of w.action) (last_of (applied_writes s k))
 
@@ -71,7 +71,7 @@ pub record IsIndex (s : State) : Type 0 where
   pub rising : (k : Document) → RiseFrom None (applied_writes s k)
   pub counted : s.count ≡ min (total s.documents) most
 
--- the highest stored_version version: some document has it and none has a higher one; none if no version is stored_version
+-- the highest stored version: some document has it and none has a higher one; none if no version is stored
 abbrev pub IsHighest : State → Option ℕ → Type 0
 IsHighest s None = (k : Document) → stored_version s k ≡ None
 IsHighest s (Some version) =

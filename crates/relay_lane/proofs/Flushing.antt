@@ -1,4 +1,4 @@
--- A lane that was after_flush, and how far its config goes.
+-- A lane that was flushed, and how far its config goes.
 use Rattle.std.proofs.Common.{◌≡◌, ℕ, ◌+◌, ◌-◌, ◌<◌, List, [], ◌∷◌, length, Option, Some, None, Bool, true, refl, sym, ap, ◌∙◌, subst, ⊎_elim, inr, arith}
 use Rattle.std.specs.Prelude.{◌==◌, min, if◌then◌else◌}
 use Rattle.relay_batch.specs.declared.item.BatchItem.{BatchItem}

@@ -1,4 +1,4 @@
--- Which numbers are out while requests are sent and after_answer_to.
+-- Which numbers are out while requests are sent and answered.
 use Rattle.std.proofs.Common.{◌≡◌, ℕ, ◌+◌, ◌<◌, ◌≤◌, List, [], ◌∷◌, ◌++◌, length, Some, None, Bool, true, false, ◌==◌, ◌||◌, refl, sym, ap, ◌∙◌, subst, ⊎_elim, inl, inr, arith}
 use Rattle.std.specs.Prelude.{not, filter, unwrap_or, if◌then◌else◌}
 use Rattle.std.specs.List.{list_any}
@@ -141,7 +141,7 @@ module _ (s : State) (l : IsLane s) (items : List BatchItem) (some : next_batch 
 pub next_is_new : (s : State) → IsLane s → Mem s.flights.next (out_of s) → ⊥
 next_is_new s l m = let r = (is_between 0 s.core.requests s.core.flying s.flights.next l.numbered m).1 in let n = l.next in absurd (omega (arith, r, n))
 
--- ---- the oldest is after_answer_to
+-- ---- the oldest is answered
 
 pub record Oldest (s : State) (number : ℕ) : Type 0 where
   pub first : Flying

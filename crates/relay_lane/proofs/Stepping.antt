@@ -108,7 +108,7 @@ asked_sent b s t l some is asked = ⊎_elim {C = Sent s t}
 pub not_asked : (b : Bool) (s t : State) → b ≡ false → Asked b s t → t ≡ s
 not_asked b s t e x = subst (λ c. Asked c s t) e x
 
--- the oldest was after_answer_to
+-- the oldest was answered
 pub settles_turned : (s t : State) (a : Answer) → IsLane s → 0 < length s.core.flying → a ≢ Unanswered → t ≡ after_answer a s → Turned (Settles a) s t
 settles_turned s t a l some answers e =
     let n = flying_first s some in

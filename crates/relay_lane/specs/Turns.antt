@@ -8,7 +8,7 @@ use Rattle.relay_core.specs.State.{State, last_tick, next_batch, after_request, 
 
 -- ---- turns
 
--- its next request is sent; or it cannot be sent, and counts as lost; the oldest request in flight is after_answer_to; or
+-- its next request is sent; or it cannot be sent, and counts as lost; the oldest request in flight is answered; or
 -- ticks pass
 pub data Turn : Type 0 where
   Sends : Turn
@@ -34,7 +34,7 @@ after_turn Fails s = after_fail s
 after_turn (Settles a) s = after_answer a s
 after_turn (Pauses n) s = after_ticks n s
 
--- if a batch is to be sent it is sent, if a request is in flight it is after_answer_to, and if neither is possible, it
+-- if a batch is to be sent it is sent, if a request is in flight it is answered, and if neither is possible, it
 -- pauses until the first operation is due
 abbrev pub MayTurn : Turn → State → Type 0
 MayTurn Sends s = is_some (next_batch s) ≡ true

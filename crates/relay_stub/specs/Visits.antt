@@ -1,6 +1,5 @@
 -- What is done with a connection, and with one connection after another.
 use Rattle.std.specs.Prelude.{◌≡◌, ◌⊎◌, ℕ, suc, zero, ◌<◌, ◌≤◌, List, [], codes, length, Option, Some, None, Result, Ok, Err, MatchResult, IsTrue, IsFalse, false}
-use Rattle.relay_action.specs.Streams.{one_more}
 use Rattle.relay_index.specs.Serving.{Server, answer_of, Answers, StopsAfter}
 use Rattle.relay_index.specs.declared.serving.ServeFault.{ServeFault}
 use Rattle.relay_http.specs.Forms.{Begins, Fails, IsOutside, IsThatOrOutside}
@@ -19,8 +18,8 @@ use Rattle.relay_stub.specs.declared.stub.ServeError.TheVariants as error
 -- ---- what is read
 
 -- a connection over a stream that shows this, before its first call
-abbrev pub opened : Shown → Connection
-opened s = fresh s.left s.written s.failed
+abbrev pub fresh_connection : Shown → Connection
+fresh_connection s = fresh s.left s.written s.failed
 
 -- what the stream of a connection shows
 abbrev pub stream_of : Connection → Shown
@@ -46,9 +45,9 @@ not_bulk = codes "{\"error\":{\"type\":\"NotBulk\"},\"status\":400}"
 -- allocation for it failed.
 pub record Goes (status : ℕ) (text : List ℕ) (c d : Connection) : Type 0 where
   pub fits : length text ≤ reply_limit
-  pub sent : Result (Unit {0}) HttpFault
-  pub message : WritesText (answer status text false) c.written d.written sent
-  pub failed : d.failed ≡ failed_writing sent c.failed
+  pub outcome : Result (Unit {0}) HttpFault
+  pub message : WritesText (answer status text false) c.written d.written outcome
+  pub failed : d.failed ≡ failed_writing outcome c.failed
 
 -- one that is longer than a reply may be was not written
 pub record IsTooLong (text : List ℕ) (c d : Connection) : Type 0 where
@@ -99,24 +98,24 @@ pub record Exchanges (c d : Connection) (old new : Server) (result : Result (Uni
 
 -- allocating a connection over the stream failed: nothing was read, written or run
 abbrev pub HasNoRoom : Shown → Shown → Server → Server → Result (Unit {0}) ServeFault → Type 0
-HasNoRoom came went old new (Ok u) = ⊥
-HasNoRoom came went old new (Err e) = (e.ran ≡ 0) × (went ≡ came) × (new ≡ old)
+HasNoRoom before after old new (Ok u) = ⊥
+HasNoRoom before after old new (Err e) = (e.ran ≡ 0) × (after ≡ before) × (new ≡ old)
 
 -- The stream was served one request, and showed this afterwards.
 abbrev pub IsServed : Shown → Shown → Server → Server → Result (Unit {0}) ServeFault → Type 0
-IsServed came went old new result =
-    ((d : Connection) × Exchanges (opened came) d old new result × (went ≡ stream_of d)) ⊎ HasNoRoom came went old new result
+IsServed before after old new result =
+    ((d : Connection) × Exchanges (fresh_connection before) d old new result × (after ≡ stream_of d)) ⊎ HasNoRoom before after old new result
 
 -- ---- one after another
 
 -- one connection was provided, served, and taken back
 pub record Visits (from : Listening) (old : Server) (to : Listening) (new : Server) (result : Result (Unit {0}) ServeFault) : Type 0 where
-  pub came : Shown
-  pub went : Shown
+  pub before : Shown
+  pub after : Shown
   pub at : Listening
-  pub handed : HandsOut from came at
-  pub served : IsServed came went old new result
-  pub back : to ≡ with_done at went
+  pub hands_out : HandsOut from before at
+  pub serves : IsServed before after old new result
+  pub back : to ≡ with_done at after
 
 -- this many were, one after the other
 abbrev pub VisitsAll : ℕ → Listening → Server → Listening → Server → Type 0

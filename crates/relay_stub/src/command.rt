@@ -1,6 +1,7 @@
 //! A fresh stand-in index that serves connections: the function behind `relay stub`.
 ghost use Rattle.std.specs.Prelude.{◌≡◌, MatchResult};
-ghost use Rattle.relay_stub.specs.Stub.{Stubs, IsOutput, NoOutput, WritesListing, failed_by, exit_of_stub};
+ghost use Rattle.relay_stub.specs.Stub.{IsOutput, NoOutput, Stubs, WritesListing};
+ghost use Rattle.relay_stub.specs.Stub.{exit_of_stub, failed_by};
 
 use crate::listing::listing;
 use crate::stub::{ServeError, stub_serve};
@@ -46,10 +47,8 @@ pub fn stub<S: ByteIn + ByteOut + Drop, L: Listen<S>, W: ByteOut>(
         (W.written writer.old) (W.written writer.new) result }
     ensures failed { W.failed writer.new ≡ failed_by result (W.failed writer.old) }
 {
-    match output(alloc, listener, requests, script) {
-        Ok(text) => send(writer, text.as_slice()),
-        Err(fault) => Err(fault),
-    }
+    let text = output(alloc, listener, requests, script)?;
+    send(writer, text.as_slice())
 }
 
 // Serves the connections, and returns the listing of the index.
@@ -59,7 +58,8 @@ fn output<S: ByteIn + ByteOut + Drop, L: Listen<S>>(
     requests: u64,
     mut script: Script,
 ) -> Result<Vec<u8>, StubFault>
-    ensures { MatchResult result (λ text. IsOutput requests script (L.shows listener.old) (L.shows listener.new) text.items)
+    ensures { MatchResult result
+        (λ text. IsOutput requests script (L.shows listener.old) (L.shows listener.new) text.items)
         (NoOutput requests script (L.shows listener.old) (L.shows listener.new)) }
 {
     let mut index = Index::new(alloc);
@@ -74,7 +74,8 @@ fn output<S: ByteIn + ByteOut + Drop, L: Listen<S>>(
 }
 
 fn send<W: ByteOut>(writer: &mut W, text: &[u8]) -> Result<(), StubFault>
-    ensures { WritesListing (W.written writer.old) (W.written writer.new) (W.failed writer.old) (W.failed writer.new) text.now result }
+    ensures { WritesListing (W.written writer.old) (W.written writer.new)
+        (W.failed writer.old) (W.failed writer.new) text.now result }
 {
     match write_all(writer, text) {
         Ok(()) => Ok(()),

@@ -3,8 +3,8 @@ ghost use Rattle.std.specs.Prelude.{◌≡◌, ◌≤◌, length, IsTrue, IsFals
 ghost use Rattle.relay_index.specs.Serving.{under};
 ghost use Rattle.relay_http.specs.Connection.{is_broken, is_open};
 ghost use Rattle.relay_http.specs.WrittenAnswer.{IsAnswerStatus};
-ghost use Rattle.relay_http.specs.Listening.{shown_by};
-ghost use Rattle.relay_stub.specs.Visits.{not_bulk, IsAnswered, MeetsBulk, Meets, Exchanges, IsServed};
+ghost use Rattle.relay_http.specs.Listening.{shown};
+ghost use Rattle.relay_stub.specs.Visits.{IsAnswered, IsServed, Exchanges, Meets, MeetsBulk, not_bulk};
 
 use relay_action::{ByteIn, ByteOut};
 use relay_http::{Conn, HttpRequest, REPLY_LIMIT};
@@ -31,8 +31,8 @@ pub fn serve_connection<S: ByteIn + ByteOut + Drop>(
     index: &mut Index,
     script: &mut Script,
 ) -> (Result<(), ServeFault>, S)
-    ensures { IsServed (shown_by (S.left stream) (S.written stream) (S.failed stream))
-        (shown_by (S.left result.1) (S.written result.1) (S.failed result.1))
+    ensures { IsServed (shown (S.left stream) (S.written stream) (S.failed stream))
+        (shown (S.left result.1) (S.written result.1) (S.failed result.1))
         (under index.old script.old) (under index.new script.new) result.0 }
 {
     match Conn::new(alloc, stream) {
@@ -52,7 +52,8 @@ fn serve_request<S: ByteIn + ByteOut + Drop>(
     script: &mut Script,
 ) -> Result<(), ServeFault>
     requires { IsTrue (is_open conn.old.phase) }
-    ensures { Exchanges conn.old conn.new (under index.old script.old) (under index.new script.new) result }
+    ensures { Exchanges conn.old conn.new
+        (under index.old script.old) (under index.new script.new) result }
 {
     match conn.read_request(alloc) {
         Ok(Some(request)) => meet(alloc, conn, &request, index, script),
@@ -70,7 +71,8 @@ fn meet<S: ByteOut + Drop>(
     script: &mut Script,
 ) -> Result<(), ServeFault>
     requires { IsFalse (is_broken conn.old.phase) }
-    ensures { Meets request.now (under index.old script.old) (under index.new script.new) conn.old conn.new result }
+    ensures { Meets request.now (under index.old script.old) (under index.new script.new)
+        conn.old conn.new result }
 {
     if request.bulk {
         return run(alloc, conn, request.body.as_slice(), index, script);
@@ -88,15 +90,12 @@ fn run<S: ByteOut + Drop>(
     script: &mut Script,
 ) -> Result<(), ServeFault>
     requires { IsFalse (is_broken conn.old.phase) }
-    ensures { MeetsBulk body.now (under index.old script.old) (under index.new script.new) conn.old conn.new result }
+    ensures { MeetsBulk body.now (under index.old script.old) (under index.new script.new)
+        conn.old conn.new result }
 {
-    match index.serve_body(alloc, body, script) {
-        Ok((status, text)) => {
-            reply(alloc, conn, status, text.as_str());
-            Ok(())
-        }
-        Err(fault) => Err(fault),
-    }
+    let (status, text) = index.serve_body(alloc, body, script)?;
+    reply(alloc, conn, status, text.as_str());
+    Ok(())
 }
 
 // Writes an answer, unless it is too long. A fault of the connection is ignored, since it carries

@@ -46,9 +46,7 @@ pub fn stub_serve<S: ByteIn + ByteOut + Drop, L: Listen<S>>(
 {
     let mut served = 0;
     while served < requests {
-        if let Err(error) = serve_next(alloc, listener, index, script) {
-            return Err(error);
-        }
+        serve_next(alloc, listener, index, script)?;
         served += 1;
     }
     Ok(())

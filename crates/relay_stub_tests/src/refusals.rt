@@ -1,5 +1,6 @@
-//! Connections served in memory, of whose allocations any one may be refused (`make refusals`): each is
-//! answered, or dropped with nothing written, and no write is applied twice when the request comes again.
+//! Connections served in memory, of whose allocations any one may be refused (`make refusals`):
+//! each is answered, or dropped with nothing written, and no write is applied twice when the
+//! request comes again.
 use crate::desk::{Desk, Visit};
 use crate::ends::{ANSWER, DELETES, LINES};
 use relay_action::MemStream;
@@ -64,8 +65,8 @@ fn connect(alloc: Global, index: &mut Index, script: &mut Script, answer: &[u8])
     })
 }
 
-// Whether a fresh index has applied as many writes as how its first connection was served tells, of whose
-// four items the script refused the second.
+// Whether a fresh index has applied as many writes as how its first connection was served tells, of
+// whose four items the script refused the second.
 fn is_right(came: Came, applied: u64) -> bool {
     match came {
         Came::Answered => applied == 3,
@@ -124,8 +125,8 @@ enum End {
     Wrong,
 }
 
-// What the end of a listener's connection says. The items are run in an order of which each front is a tail
-// of the lines.
+// What the end of a listener's connection says. The items are run in an order of which each front
+// is a tail of the lines.
 fn end_of(desk: &Desk<'_>, served: Result<(), ServeError>, lines: &[u8]) -> End {
     let closed = desk.answered_or_dropped(1);
     let right = match served {

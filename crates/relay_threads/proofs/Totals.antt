@@ -1,4 +1,4 @@
--- Each operation that was taken is held, was applied or is reports_from, whatever a lane does.
+-- Each operation that was taken is held, was applied or is reported, whatever a lane does.
 use Rattle.std.proofs.Common.{◌≡◌, ℕ, ◌+◌, List, [], ◌∷◌, ◌++◌, Option, Some, None, Bool, true, false, refl, sym, ap, ◌∙◌, subst, arith, length, length-append}
 use Rattle.std.specs.Prelude.{nat_lt, map, unwrap_or}
 use Rattle.relay_action.specs.declared.write.Write.{Write}

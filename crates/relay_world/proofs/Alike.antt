@@ -1,4 +1,4 @@
--- A desk whose lane is that of a machine, and desks of which one was with_value.
+-- A desk whose lane is that of a machine, and desks of which one was changed.
 use Rattle.std.proofs.Common.{◌≡◌, ◌≢◌, ℕ, zero, suc, List, [], ◌∷◌, ◌++◌, length, Option, Some, Bool, true, false, ◌==◌, refl, sym, ap, ◌∙◌, subst, ⊎_elim, append-nil}
 use Rattle.std.specs.Prelude.{slice_get, ◌||◌, if◌then◌else◌}
 use Rattle.std.specs.List.{list_any}
@@ -39,7 +39,7 @@ added_same f n x = if_true (n == n) (f n ++ x ∷ []) (f n) (equal_test n n refl
 pub added_other : {A : Type 0} (f : ℕ → List A) (n : ℕ) (x : A) (m : ℕ) → m ≢ n → with_added f n x m ≡ f m
 added_other f n x m ne = if_false (m == n) (f m ++ x ∷ []) (f m) (not_equal m n ne)
 
--- ---- lists of which one element was with_value
+-- ---- lists of which one element was changed
 
 pub any_unmoved : {A : Type 0} (p : A → Bool) (f : A → A) (k : ℕ) (xs : List A) → ((x : A) → p (f x) ≡ p x) → list_any p (update k f xs) ≡ list_any p xs
 any_unmoved p f k [] same = refl
@@ -73,7 +73,7 @@ desk_of w t n a l = record { queue_is = a.queue l; taken = a.taken l; lane = a.l
 pub desk_there : (w : World) (t : Together) (n : ℕ → ℕ) → AreLanes w t n → (l : ℕ) (d : Desk) → desk_at w l ≡ Some d → IsDeskOf w.config (n l) (Some d) (t.lanes.queue l) (t.lanes.lane l)
 desk_there w t n a l d there = subst (λ o. IsDeskOf w.config (n l) o (t.lanes.queue l) (t.lanes.lane l)) there (desk_of w t n a l)
 
--- one desk was with_value, and one queue and one core
+-- one desk was changed, and one queue and one core
 module _ (w : World) (t : Together) (n : ℕ → ℕ) (a : AreLanes w t n) (l : ℕ) (d : Desk) (there : desk_at w l ≡ Some d) (f : Desk → Desk) (queues : ℕ → List Op) (cores : ℕ → Core)
     (now : IsDeskOf w.config (n l) (Some (f d)) (queues l) (cores l)) (others : (m : ℕ) → m ≢ l → (queues m ≡ t.lanes.queue m) × (cores m ≡ t.lanes.lane m)) where
   pub desks_after : (m : ℕ) → IsDeskOf w.config (n m) (slice_get (update l f w.desks) m) (queues m) (cores m)

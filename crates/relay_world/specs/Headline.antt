@@ -71,7 +71,7 @@ abbrev pub AreRising : List ℕ → Type 0
 AreRising [] = Unit {0}
 AreRising (n ∷ ns) = ((m : ℕ) → Mem m ns → n < m) × AreRising ns
 
--- The kept names of a document are those of operations (`named`). These are the operations whose writes the index applied_writes
+-- The kept names of a document are those of operations (`named`). These are the operations whose writes the index applied
 -- to it, over all incarnations: distinct accepted operations for this document, one for each write and with its action
 -- (`attribution`); within each epoch each producer's in the order in which it put them (`in_order`); and those of an
 -- earlier epoch before all those of a later one (`by_epoch`). Each incarnation has a higher epoch than those before it
@@ -79,7 +79,7 @@ AreRising (n ∷ ns) = ((m : ℕ) → Mem m ns → n < m) × AreRising ns
 -- Of the current incarnation: one assignment of versions, no two operations of one document the same (`assignment`), is what
 -- all lanes assigned (`assigned`), and by it the cause of each report is true, which names an accepted operation
 -- (`true_reports`); none is reported twice, by one lane or by two (`once`, `in_one_lane`); and when the world is
--- finished, each accepted operation was applied_writes or is reported (`complete`).
+-- finished, each accepted operation was applied or is reported (`complete`).
 pub record Delivered (w : World) : Type 0 where
   pub log : List Ran
   pub ran : IsLog w log

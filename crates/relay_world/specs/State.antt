@@ -1,5 +1,5 @@
 -- The world as its callers see it: lanes with their queues over one index, what was accepted, sent, run and answered, and
--- whose writes the index applied_writes.
+-- whose writes the index applied.
 use Rattle.std.specs.Prelude.{◌≡◌, ◌<◌, ℕ, ◌+◌, ◌-◌, ◌==◌, List, [], ◌∷◌, ◌++◌, Option, Some, None, option_map, option_and_then, option_to_list, unwrap_or, slice_get, Bool, false, ◌&&◌, nat_le, nat_lt, length, drop, replicate, not, map, if◌then◌else◌}
 use Rattle.std.specs.List.{list_any, list_all}
 use Rattle.std.specs.List.Sorted.{IsStrictlySortedBy}
@@ -45,7 +45,7 @@ pub record Sent : Type 0 where
   pub answer : Answer
 
 -- what is kept of a document: how many writes the index had of it at the start, and the names of the operations whose
--- writes were applied_writes since
+-- writes were applied since
 pub record Named : Type 0 where
   pub before : ℕ
   pub names : List OpName
@@ -123,7 +123,7 @@ abbrev pub names_of : Option Named → List OpName
 names_of None = []
 names_of (Some n) = n.names
 
--- the names of the operations whose writes were applied_writes to a document since the start
+-- the names of the operations whose writes were applied to a document since the start
 abbrev pub names_at : World → Document → List OpName
 names_at w k = names_of (kept_among w.kept k)
 
@@ -135,15 +135,15 @@ before_of now (Some n) = n.before
 abbrev pub before_at : World → Document → ℕ
 before_at w k = before_of (length (index.applied_writes w.index k)) (kept_among w.kept k)
 
--- the writes that were applied_writes to a document since the start
+-- the writes that were applied to a document since the start
 abbrev pub applied_writes : World → Document → List Write
 applied_writes w k = drop (before_at w k) (index.applied_writes w.index k)
 
--- a write was applied_writes to the document since the start
+-- a write was applied to the document since the start
 abbrev pub is_written : World → Document → Bool
 is_written w k = not (length (applied_writes w k) == 0)
 
--- The keys are exactly those of the documents to which a write was applied_writes since the start, including deleted ones:
+-- The keys are exactly those of the documents to which a write was applied since the start, including deleted ones:
 -- no other, none twice, and in order.
 pub record AreKeysOf (w : World) (keys : List DocKey) : Type 0 where
   pub rising : IsStrictlySortedBy key_order keys

@@ -78,7 +78,7 @@ pub record AreRequests (w : World) (t : Together) (n : ℕ → ℕ) : Type 0 whe
   pub runs : IsLog w t.runs
   pub found : (s : Sent) → Mem s w.sent → (v : ℕ) → Mem v (versions_of s) → (o : Op) × (op_with w s.lane v ≡ Some o)
 
--- the index is what their outside shows, and the kept names are those of the operations whose writes it applied_writes
+-- the index is what their outside shows, and the kept names are those of the operations whose writes it applied
 pub record IsIndexOf (w : World) (t : Together) : Type 0 where
   pub applied : (k : Document) → (together.outside_of (lane_of w) t).applied k ≡ applied_writes w k
   pub before : (k : Document) → (together.outside_of (lane_of w) t).before k ≡ take (before_at w k) (index.applied_writes w.index k)

@@ -18,12 +18,12 @@ returns-in_err-read_piece-clause-err g c =
 
 pub returns-then-len-gt-BODY_LIMIT-clause-err : goal.returns-then-len-gt-BODY_LIMIT-clause-err
 returns-then-len-gt-BODY_LIMIT-clause-err g c =
-    let taken = rw c.in-More.is at c.in_ok-read_piece.ensures.taken in
+    let taken = rw c.in-More.is at c.in_ok-read_piece.ensures.takes in
     passes_limit _ _ _ _ _ c.pieces.invariant.0 taken (omega (arith, c.if-len-gt-BODY_LIMIT.true, c.len.ensures, c.read_piece.new.body.ok))
 
 pub pieces-preserved : goal.pieces-preserved
 pieces-preserved g c =
-    let taken = rw c.in-More.is at c.in_ok-read_piece.ensures.taken in (
+    let taken = rw c.in-More.is at c.in_ok-read_piece.ensures.takes in (
       piece_more _ _ _ _ _ c.pieces.invariant.0 taken,
       omega (arith, c.if-len-gt-BODY_LIMIT.false, c.len.ensures),
       c.in_ok-read_piece.ensures.piece,

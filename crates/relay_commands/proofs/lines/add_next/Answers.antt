@@ -1,4 +1,4 @@
-use Rattle.relay_commands.proofs.Passed.{lacks_lines}
+use Rattle.relay_commands.proofs.Passing.{lacks_lines}
 use Rattle.relay_commands.proofs.lines.add_next.Goals as goal
 
 pub returns-in-Ok-clause-next : goal.returns-in-Ok-clause-next

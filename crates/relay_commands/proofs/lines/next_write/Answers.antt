@@ -1,6 +1,6 @@
 use Rattle.relay_ndjson.proofs.Readings.{answers_of}
 use Rattle.std.proofs.lemmas.Result.{err_from_is_err_and}
-use Rattle.relay_commands.proofs.Passed.{no_write_of, past_after, write_after}
+use Rattle.relay_commands.proofs.Passing.{no_write_of, past_after, write_after}
 use Rattle.relay_commands.proofs.lines.next_write.Goals as goal
 
 pub returns-in-Err-clause-next : goal.returns-in-Err-clause-next

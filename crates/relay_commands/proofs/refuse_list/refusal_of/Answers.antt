@@ -1,6 +1,6 @@
 use Rattle.std.proofs.Common.{refl, arith}
 use Rattle.relay_words.proofs.Numbers.{one_number}
-use Rattle.relay_commands.proofs.Parted.{uncut_is_none, whole_of, place_of, status_of, may_of}
+use Rattle.relay_commands.proofs.Parts.{uncut_is_none, whole_of, place_of, status_of, may_of}
 use Rattle.relay_commands.proofs.refuse_list.refusal_of.Goals.{then-place-eq0-via-then-place-eq0, then-place-eq0-via-else-place-eq0+then-not-is_refusal}
 use Rattle.relay_commands.proofs.refuse_list.refusal_of.Goals as goal
 

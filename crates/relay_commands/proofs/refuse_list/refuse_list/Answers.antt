@@ -1,10 +1,10 @@
 use Rattle.std.proofs.Common.{rules}
 use Rattle.std.proofs.lemmas.Result.{err_from_is_err_and}
-use Rattle.relay_commands.proofs.Parted.{parted_at_start, part_more, part_last, part_fault, last_fault, refuses_none}
+use Rattle.relay_commands.proofs.Parts.{parts_at_start, part_more, part_last, part_fault, last_fault, refuses_none}
 use Rattle.relay_commands.proofs.refuse_list.refuse_list.Goals as goal
 
 pub parts-init : goal.parts-init
-parts-init c = (parted_at_start _ _ (refuses_none _ c.new-script.ensures), c.utf8.list)
+parts-init c = (parts_at_start _ _ (refuses_none _ c.new-script.ensures), c.utf8.list)
 
 pub returns-in_err-add-clause-err : goal.returns-in_err-add-clause-err
 returns-in_err-add-clause-err c =

@@ -1,7 +1,7 @@
 use Rattle.std.proofs.Common.{◌≡◌, subst, arith, rules}
 use Rattle.relay_index.specs.Serving.{under}
 use Rattle.relay_stub.specs.Visits.{VisitsAll}
-use Rattle.relay_stub.proofs.Counting.{counted}
+use Rattle.relay_stub.proofs.Counting.{count_after}
 use Rattle.relay_stub.proofs.stub.stub_serve.Goals as goal
 
 pub returns-clause-accepted : goal.returns-clause-accepted
@@ -12,13 +12,7 @@ returns-clause-accepted g c room =
     let old = under c.args.index.now c.args.script.now in
     let new = under c.loop-served.index c.loop-served.script in
     let all : c.loop-served.served ≡ c.args.requests = omega (arith, c.loop-served.invariant.within, c.loop-served-test.false) in
-    counted c.args.requests from to old new (subst (λ n. VisitsAll n from old to new) all c.loop-served.invariant.visits) room
-
-pub returns-in-Err-clause-served : goal.returns-in-Err-clause-served
-returns-in-Err-clause-served c = search rules
-
-pub returns-in-Err-clause-accepted : goal.returns-in-Err-clause-accepted
-returns-in-Err-clause-accepted c = search rules
+    count_after c.args.requests from to old new (subst (λ n. VisitsAll n from old to new) all c.loop-served.invariant.visits) room
 
 pub loop-served-init : goal.loop-served-init
 loop-served-init c = search rules

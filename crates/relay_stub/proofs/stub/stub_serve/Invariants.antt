@@ -3,7 +3,7 @@ use Rattle.relay_index.specs.Serving.{under}
 use Rattle.relay_stub.specs.Visits.{VisitsAll}
 use Rattle.relay_stub.proofs.stub.stub_serve.Given as goal
 
--- so many were served, and no more than were asked for
+-- this many were served, and no more than were asked for
 abbrev pub invariant-loop-served : goal.invariant-loop-served
 invariant-loop-served g l =
     let shows = g.L.Listen.shows in

@@ -6,16 +6,16 @@ returns-in-Err-clause-err g c =
     let sent = rw c.as_slice.ensures.value at c.in-Err.ensures.sent in record {
       cut = c.in-Err.part;
       less = sent.0;
-      written = sent.1;
+      writes = sent.1;
       count_is = c.saturating_add.ensures;
     }
 
 pub returns-clause-ok : goal.returns-clause-ok
 returns-clause-ok g c =
     let shown = ap length c.as_slice.ensures.value in record {
-      moved = c.args.self.now.text.items;
+      part = c.args.self.now.text.items;
       whole = rw c.clear.ensures.items (sym (append-nil c.args.self.now.text.items));
-      written = rw c.as_slice.ensures.value at c.in_default.ensures.ok;
+      writes = rw c.as_slice.ensures.value at c.in_default.ensures.ok;
       count_is = omega (arith, shown, c.as_slice.ensures.len, c.len.ensures, c.saturating_add-self.ensures);
     }
 

@@ -123,13 +123,13 @@ pub record Splits (front back : List ℕ) : Type 0 where
   pub rest : IsList back later
 
 -- a text with no other comma is cut nowhere
-uncut : (c : ℕ) (text front back : List ℕ) → IsSplitAt c text front back → Without c text → ⊥
-uncut c text front back cut w =
+no_cut : (c : ℕ) (text front back : List ℕ) → IsSplitAt c text front back → Without c text → ⊥
+no_cut c text front back cut w =
     omega (arith, cut.there, at_end c text w)
 
 pub splits : (text front back : List ℕ) → IsSplitAt 44 text front back → (xs : List (ℕ × ℕ)) → IsList text xs → Splits front back
 splits text front back cut [] h = absurd h
-splits text front back cut (x ∷ []) h = absurd (uncut 44 text front back cut (refusal-without text x.0 x.1 h))
+splits text front back cut (x ∷ []) h = absurd (no_cut 44 text front back cut (refusal-without text x.0 x.1 h))
 splits text front back cut (x ∷ y ∷ xs) h =
     let lacks = without-lacks 44 h.0 (refusal-without h.0 x.0 x.1 h.2) in
     let same_front : front ≡ h.0 = cut.front_is ∙ ap (λ t. before_first (λ b. b == 44) t) h.4 ∙ before_first-at 44 h.0 h.1 lacks in
@@ -149,14 +149,14 @@ last_status-push [] x place = elim (x.0 == place) as (λ b. option_or None (if b
 last_status-push (y ∷ xs) x place = rw (last_status-push xs x place) (elim (x.0 == place) as (λ b. option_or (if b then Some x.1 else last_status xs place) (if y.0 == place then Some y.1 else None) ≡ (if b then Some x.1 else option_or (last_status xs place) (if y.0 == place then Some y.1 else None))) [ true ↦ refl | false ↦ refl ])
 
 -- the refusals so far and how many they are, what they made of the script, and what the rest has to do with the whole
-pub record Parted (whole rest : List ℕ) (plan : Plan) (count : ℕ) : Type 0 where
-  pub found : List (ℕ × ℕ)
-  pub count_is : count ≡ length found
+pub record HasParts (whole rest : List ℕ) (plan : Plan) (count : ℕ) : Type 0 where
+  pub earlier : List (ℕ × ℕ)
+  pub count_is : count ≡ length earlier
   pub within : count + length rest ≤ length whole
-  pub refuses : Refuses found plan
-  pub builds : (later : List (ℕ × ℕ)) → IsList rest later → IsList whole (found ++ later)
+  pub refuses : Refuses earlier plan
+  pub builds : (later : List (ℕ × ℕ)) → IsList rest later → IsList whole (earlier ++ later)
   pub peels : (xs : List (ℕ × ℕ)) → IsList whole xs → (later : List (ℕ × ℕ)) × IsList rest later
-  pub blames : (n : ℕ) → IsBadAfter rest n → IsBadAfter whole (length found + n)
+  pub blames : (n : ℕ) → IsBadAfter rest n → IsBadAfter whole (length earlier + n)
 
 pub refuses_more : (found : List (ℕ × ℕ)) (old new : Plan) (place status : ℕ) → Refuses found old → Adds old new place status → Refuses (found ++ (place, status) ∷ []) new
 refuses_more found old new place status h a = record {
@@ -176,21 +176,21 @@ one_more_found found x n = let e = length-append found (x ∷ []) in omega (arit
 shorter : (text front back : List ℕ) → text ≡ front ++ 44 ∷ back → length back + 1 ≤ length text
 shorter text front back e = let n = length-append front (44 ∷ back) in let m : length text ≡ length (front ++ 44 ∷ back) = ap length e in omega (arith, n, m)
 
-pub part_more : (whole rest front back : List ℕ) (old new : Plan) (count : ℕ) → Parted whole rest old count → IsSplitAt 44 rest front back → (place status : ℕ) → IsRefusal front place status → Adds old new place status → Parted whole back new (count + 1)
+pub part_more : (whole rest front back : List ℕ) (old new : Plan) (count : ℕ) → HasParts whole rest old count → IsSplitAt 44 rest front back → (place status : ℕ) → IsRefusal front place status → Adds old new place status → HasParts whole back new (count + 1)
 part_more whole rest front back old new count h cut place status r a =
     let e = whole_of 44 rest front back cut in record {
-      found = h.found ++ (place, status) ∷ [];
-      count_is = let n = length-append h.found ((place, status) ∷ []) in let c = h.count_is in omega (arith, n, c);
+      earlier = h.earlier ++ (place, status) ∷ [];
+      count_is = let n = length-append h.earlier ((place, status) ∷ []) in let c = h.count_is in omega (arith, n, c);
       within = let s = shorter rest front back e in let w = h.within in omega (arith, s, w);
-      refuses = refuses_more h.found old new place status h.refuses a;
-      builds = λ later l. subst (λ xs. IsList whole xs) (sym (append_assoc h.found ((place, status) ∷ []) later)) (h.builds ((place, status) ∷ later) (follows rest front back place status later e r l));
+      refuses = refuses_more h.earlier old new place status h.refuses a;
+      builds = λ later l. subst (λ xs. IsList whole xs) (sym (append_assoc h.earlier ((place, status) ∷ []) later)) (h.builds ((place, status) ∷ later) (follows rest front back place status later e r l));
       peels = λ xs l. let p = h.peels xs l in let s = splits rest front back cut p.0 p.1 in (s.later, s.rest);
-      blames = λ n b. subst (λ (m : ℕ). IsBadAfter whole m) (one_more_found h.found (place, status) n) (h.blames (suc n) (front, back, place, status, r, e, b));
+      blames = λ n b. subst (λ (m : ℕ). IsBadAfter whole m) (one_more_found h.earlier (place, status) n) (h.blames (suc n) (front, back, place, status, r, e, b));
     }
 
-pub parted_at_start : (whole : List ℕ) (plan : Plan) → Refuses [] plan → Parted whole whole plan 0
-parted_at_start whole plan h = record {
-  found = [];
+pub parts_at_start : (whole : List ℕ) (plan : Plan) → Refuses [] plan → HasParts whole whole plan 0
+parts_at_start whole plan h = record {
+  earlier = [];
   count_is = refl;
   within = omega arith;
   refuses = h;
@@ -200,25 +200,25 @@ parted_at_start whole plan h = record {
 }
 
 -- the last refusal ends the list
-pub part_last : (whole rest : List ℕ) (old new : Plan) (count : ℕ) → Parted whole rest old count → (place status : ℕ) → IsRefusal rest place status → Adds old new place status → (refusals : List (ℕ × ℕ)) × IsList whole refusals × Refuses refusals new
+pub part_last : (whole rest : List ℕ) (old new : Plan) (count : ℕ) → HasParts whole rest old count → (place status : ℕ) → IsRefusal rest place status → Adds old new place status → (refusals : List (ℕ × ℕ)) × IsList whole refusals × Refuses refusals new
 part_last whole rest old new count h place status r a =
-    (h.found ++ (place, status) ∷ [], h.builds ((place, status) ∷ []) r, refuses_more h.found old new place status h.refuses a)
+    (h.earlier ++ (place, status) ∷ [], h.builds ((place, status) ∷ []) r, refuses_more h.earlier old new place status h.refuses a)
 
 -- the part after those that were found is no refusal
-blamed : (whole rest front : List ℕ) (plan : Plan) (count n : ℕ) → Parted whole rest plan count → front ≡ before_first (λ b. b == 44) rest → IsNoRefusal front → n ≡ count → IsBadAfter whole n
-blamed whole rest front plan count n h e bad s =
-    let same : length h.found + 0 ≡ n = let c = h.count_is in omega (arith, c, s) in
+bad_after : (whole rest front : List ℕ) (plan : Plan) (count n : ℕ) → HasParts whole rest plan count → front ≡ before_first (λ b. b == 44) rest → IsNoRefusal front → n ≡ count → IsBadAfter whole n
+bad_after whole rest front plan count n h e bad s =
+    let same : length h.earlier + 0 ≡ n = let c = h.count_is in omega (arith, c, s) in
     subst (λ (m : ℕ). IsBadAfter whole m) same (h.blames 0 (subst (λ (t : List ℕ). IsNoRefusal t) e bad))
 
 -- a part that is no refusal makes the whole no list
-pub part_fault : (whole rest front back : List ℕ) (plan : Plan) (count : ℕ) (e : ListFault) → Parted whole rest plan count → IsSplitAt 44 rest front back → IsPartFault front count e → IsListFault whole e
+pub part_fault : (whole rest front back : List ℕ) (plan : Plan) (count : ℕ) (e : ListFault) → HasParts whole rest plan count → IsSplitAt 44 rest front back → IsPartFault front count e → IsListFault whole e
 part_fault whole rest front back plan count (fault.BadList n) h cut bad =
-    ((λ xs l. let p = h.peels xs l in let s = splits rest front back cut p.0 p.1 in bad.0 s.place s.status s.first), blamed whole rest front plan count n h cut.front_is bad.0 bad.1)
+    ((λ xs l. let p = h.peels xs l in let s = splits rest front back cut p.0 p.1 in bad.0 s.place s.status s.first), bad_after whole rest front plan count n h cut.front_is bad.0 bad.1)
 part_fault whole rest front back plan count fault.Memory h cut bad = tt
 
-pub last_fault : (whole rest : List ℕ) (plan : Plan) (count : ℕ) (e : ListFault) → Parted whole rest plan count → IsUncut 44 rest → IsPartFault rest count e → IsListFault whole e
+pub last_fault : (whole rest : List ℕ) (plan : Plan) (count : ℕ) (e : ListFault) → HasParts whole rest plan count → IsUncut 44 rest → IsPartFault rest count e → IsListFault whole e
 last_fault whole rest plan count (fault.BadList n) h e bad =
-    ((λ xs l. let p = h.peels xs l in let s = alone rest e p.0 p.1 in bad.0 s.0 s.1 s.2), blamed whole rest rest plan count n h (sym (ap (λ m. take m rest) e ∙ take_all (length rest) rest (omega arith))) bad.0 bad.1)
+    ((λ xs l. let p = h.peels xs l in let s = alone rest e p.0 p.1 in bad.0 s.0 s.1 s.2), bad_after whole rest rest plan count n h (sym (ap (λ m. take m rest) e ∙ take_all (length rest) rest (omega arith))) bad.0 bad.1)
 last_fault whole rest plan count fault.Memory h e bad = tt
 
 pub refuses_none : (plan : Plan) → plan ≡ no_script → Refuses [] plan

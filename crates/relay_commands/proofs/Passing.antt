@@ -12,41 +12,41 @@ use Rattle.relay_ndjson.specs.declared.kind.LineKind.TheVariants as kind
 use Rattle.relay_ndjson.specs.declared.parser.Phase.TheVariants as phase
 use Rattle.relay_commands.specs.Lines.{Deals, LacksMemory, Stops, failed_by, lines_of, write_of}
 use Rattle.relay_commands.specs.Passing.{IsNoWrite, IsNumbered, IsWrite, Leaves, Passes, fault_of, fault_of_kind}
-use Rattle.relay_commands.specs.Sending.{Moves, MovesPart, Wrote}
+use Rattle.relay_commands.specs.Sending.{Moves, MovesPart, WritesAllBut}
 use Rattle.relay_commands.specs.declared.lines.LinesFault.{LinesFault}
 use Rattle.relay_commands.specs.declared.lines.LinesFault.TheVariants as fault
 use Rattle.relay_words.proofs.Taken.{takes_more}
-use Rattle.relay_commands.proofs.Taken.{lines_of-push, version_more}
-use Rattle.relay_commands.proofs.Written.{wrote_nothing, wrote_moved, wrote_more, wrote_part}
+use Rattle.relay_commands.proofs.Versions.{lines_of-push, version_more}
+use Rattle.relay_commands.proofs.Writing.{writes_nothing, writes_after_move, writes_more, writes_part}
 
 -- the operations so far, which lead from the start to here, and what was written of their text
 pub record Underway (first version : ℕ) (old now : Reading) (before written : Option (List ℕ)) (text : List ℕ) (sent : ℕ) : Type 0 where
   pub ops : List Operation
-  pub dealt : Deals first old now ops
+  pub deals : Deals first old now ops
   pub open_phase : now.phase ≡ phase.Open
-  pub held : length now.held ≤ piece_limit
+  pub one_piece : length now.held ≤ piece_limit
   pub version_is : version ≡ first + length ops
-  pub wrote : Wrote before written (lines_of first ops) text sent
+  pub writes : WritesAllBut before written (lines_of first ops) text sent
 
 pub underway_none : (first : ℕ) (old : Reading) (before : Option (List ℕ)) (text : List ℕ) (sent : ℕ) → first ≤ last_version → old.phase ≡ phase.Open → length old.held ≤ piece_limit → text ≡ [] → sent ≡ 0 → Underway first first old old before before text sent
 underway_none first old before text sent within open_phase held e f = record {
   ops = [];
-  dealt = record { taken = refl; within = omega (arith, within) };
+  deals = record { takes = refl; within = omega (arith, within) };
   open_phase = open_phase;
-  held = held;
+  one_piece = held;
   version_is = omega arith;
-  wrote = subst (λ (t : List ℕ). Wrote before before [] t sent) (sym e) (subst (λ (n : ℕ). Wrote before before [] [] n) (sym f) (wrote_nothing before));
+  writes = subst (λ (t : List ℕ). WritesAllBut before before [] t sent) (sym e) (subst (λ (n : ℕ). WritesAllBut before before [] [] n) (sym f) (writes_nothing before));
 }
 
 -- some of the text was written
 pub underway_moved : (first version : ℕ) (old now : Reading) (before written after : Option (List ℕ)) (text rest : List ℕ) (sent count : ℕ) → Underway first version old now before written text sent → Moves text sent written rest count after → Underway first version old now before after rest count
 underway_moved first version old now before written after text rest sent count u m = record {
   ops = u.ops;
-  dealt = u.dealt;
+  deals = u.deals;
   open_phase = u.open_phase;
-  held = u.held;
+  one_piece = u.one_piece;
   version_is = u.version_is;
-  wrote = wrote_moved before written after (lines_of first u.ops) text rest sent count u.wrote m;
+  writes = writes_after_move before written after (lines_of first u.ops) text rest sent count u.writes m;
 }
 
 -- one more operation was taken, and its lines were added
@@ -57,14 +57,14 @@ underway_more first version old now next before written text text' sent sent' w 
     let added : text' ≡ text ++ write_text (write_of one.op version) = e ∙ ap (λ x. text ++ write_text x) one.write in
     record {
       ops = ops;
-      dealt = record {
-        taken = takes_more old now next u.ops one.blank one.op u.dealt.taken one.next;
+      deals = record {
+        takes = takes_more old now next u.ops one.blank one.op u.deals.takes one.next;
         within = let a = one.within in omega (arith, more, a);
       };
       open_phase = one.next.phase;
-      held = held;
+      one_piece = held;
       version_is = more;
-      wrote = subst (λ (n : ℕ). Wrote before written (lines_of first ops) text' n) (sym f) (wrote_more before written (lines_of first u.ops) text text' (write_text (write_of one.op version)) (lines_of first ops) sent u.wrote added (lines_of-push first version u.ops one.op u.version_is));
+      writes = subst (λ (n : ℕ). WritesAllBut before written (lines_of first ops) text' n) (sym f) (writes_more before written (lines_of first u.ops) text text' (write_text (write_of one.op version)) (lines_of first ops) sent u.writes added (lines_of-push first version u.ops one.op u.version_is));
     }
 
 -- ---- how it stops
@@ -72,14 +72,14 @@ underway_more first version old now next before written text text' sent sent' w 
 -- a write failed
 pub stops_inside : (first version : ℕ) (old : Reading) (left : Option (List ℕ)) (failed : ℕ) (parser : Parsing) (before written after : Option (List ℕ)) (text text' : List ℕ) (sent sent' n : ℕ) → Underway first version old (reading left failed parser) before written text sent → MovesPart text sent written after n → failed ≡ old.failed → Passes first old left failed before after text' sent' (Err (fault.Write n))
 stops_inside first version old left failed parser before written after text text' sent sent' n u m reads =
-    let p = wrote_part before written after (lines_of first u.ops) text sent n u.wrote m in record {
+    let p = writes_part before written after (lines_of first u.ops) text sent n u.writes m in record {
       ops = u.ops;
       rest = reading left failed parser;
       parser = parser;
-      dealt = u.dealt;
+      deals = u.deals;
       stops = inl (refl, reads);
-      held = u.held;
-      written = (p.cut, p.less, p.count_is, p.written);
+      one_piece = u.one_piece;
+      leaves = (p.cut, p.less, p.count_is, p.writes);
     }
 
 -- the end
@@ -88,20 +88,20 @@ stops_at_end first version old now left failed parser before written text text' 
   ops = u.ops;
   rest = now;
   parser = parser;
-  dealt = u.dealt;
+  deals = u.deals;
   stops = (end, let v = u.version_is in omega (arith, v));
-  held = held;
-  written = subst (λ (t : List ℕ). Wrote before written (lines_of first u.ops) t sent') (sym e) (subst (λ (n : ℕ). Wrote before written (lines_of first u.ops) text n) (sym f) u.wrote);
+  one_piece = held;
+  leaves = subst (λ (t : List ℕ). WritesAllBut before written (lines_of first u.ops) t sent') (sym e) (subst (λ (n : ℕ). WritesAllBut before written (lines_of first u.ops) text n) (sym f) u.writes);
 }
 
 stops_of : (first failed version : ℕ) (rest new : Reading) (ops : List Operation) (e : LinesFault) → IsNoWrite version rest new e → version ≡ first + length ops → first + length ops ≤ last_version + 1 → Stops first failed rest new ops (Err e)
 stops_of first failed version rest new ops (fault.Input e) h v within = h
 stops_of first failed version rest new ops (fault.VersionsSpent line) h v within =
-    let past = h.past in record { blank = h.blank; op = h.op; next = h.next; line_is = h.line_is; spent = omega (arith, v, within, past) }
+    let past = h.past in record { blank = h.blank; op = h.op; next = h.next; line_is = h.line_is; none_left = omega (arith, v, within, past) }
 stops_of first failed version rest new ops (fault.Write sent) h v within = absurd h
 stops_of first failed version rest new ops fault.Memory h v within = h
 
-leaves_of : (version : ℕ) (rest new : Reading) (before written : Option (List ℕ)) (all text : List ℕ) (sent : ℕ) (e : LinesFault) → IsNoWrite version rest new e → Wrote before written all text sent → Leaves before written all text sent (Err e)
+leaves_of : (version : ℕ) (rest new : Reading) (before written : Option (List ℕ)) (all text : List ℕ) (sent : ℕ) (e : LinesFault) → IsNoWrite version rest new e → WritesAllBut before written all text sent → Leaves before written all text sent (Err e)
 leaves_of version rest new before written all text sent (fault.Input e) h w = w
 leaves_of version rest new before written all text sent (fault.VersionsSpent line) h w = w
 leaves_of version rest new before written all text sent (fault.Write n) h w = absurd h
@@ -113,10 +113,10 @@ stops_at_fault first version old now left failed parser before written text text
   ops = u.ops;
   rest = now;
   parser = parser;
-  dealt = u.dealt;
-  stops = stops_of first old.failed version now (reading left failed parser) u.ops e h u.version_is u.dealt.within;
-  held = held;
-  written = leaves_of version now (reading left failed parser) before written (lines_of first u.ops) text' sent' e h (subst (λ (t : List ℕ). Wrote before written (lines_of first u.ops) t sent') (sym same) (subst (λ (n : ℕ). Wrote before written (lines_of first u.ops) text n) (sym count) u.wrote));
+  deals = u.deals;
+  stops = stops_of first old.failed version now (reading left failed parser) u.ops e h u.version_is u.deals.within;
+  one_piece = held;
+  leaves = leaves_of version now (reading left failed parser) before written (lines_of first u.ops) text' sent' e h (subst (λ (t : List ℕ). WritesAllBut before written (lines_of first u.ops) t sent') (sym same) (subst (λ (n : ℕ). WritesAllBut before written (lines_of first u.ops) text n) (sym count) u.writes));
 }
 
 -- ---- what the reader's fault is
