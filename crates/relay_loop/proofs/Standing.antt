@@ -17,9 +17,9 @@ use Rattle.relay_lane.specs.declared.wire.WireReply.TheVariants as reply
 use Rattle.relay_lane.specs.declared.wire.WireFault.{WireFault}
 use Rattle.relay_lane.specs.declared.wire.WireFault.TheVariants as fault
 use Rattle.relay_lane.specs.Wires.{answer_of, SendsOn, AnswersOn, ExchangesOn, IsNext}
-use Rattle.relay_wires.specs.Numbered.{numbers, found, besides}
+use Rattle.relay_wires.specs.Numbered.{numbers, entry_of, besides}
 use Rattle.relay_loop.specs.Loops.{Loop, begun, bytes_of, MayGo, IsOut, AllBefore, AreOut, Fits, Opens, Exchanged, Receives, TakesIn, is_lost, server}
-use Rattle.relay_wires.proofs.Numbers.{found-Mem}
+use Rattle.relay_wires.proofs.Numbers.{entry_of-Mem}
 use Rattle.relay_loop.proofs.Running.{no_runs, RanItems, ran_request, ran_front, stops_unread, not_success}
 
 -- ---- what is out stays
@@ -65,7 +65,7 @@ besides_still (e ∷ es) n o p same m x = elim (eqb_tells e.0 n) [
   ]
 ]
 
-out_of : (es : List (ℕ × List ℕ)) (n : ℕ) (bytes : List ℕ) (o : Outside) → AreOut es o → found n es ≡ Some bytes → IsOut n bytes o
+out_of : (es : List (ℕ × List ℕ)) (n : ℕ) (bytes : List ℕ) (o : Outside) → AreOut es o → entry_of n es ≡ Some bytes → IsOut n bytes o
 out_of [] n bytes o x e = absurd (cc)
 out_of (e ∷ es) n bytes o x is = elim (eqb_tells e.0 n) [
   | inl same ↦
@@ -150,10 +150,10 @@ answered_fits w v o number ws a found taken m out sent r honest =
     )
 
 pub received_fits : (w v : Loop) (o : Outside) (number : ℕ) (result : Result WireReply WireFault) → TakesIn number w v → Mem number (numbers w.out)
-    → ((ws : List Write) → MayGo ws → found number w.out ≡ Some (bytes_of ws) → Receives number ws w v result)
+    → ((ws : List Write) → MayGo ws → entry_of number w.out ≡ Some (bytes_of ws) → Receives number ws w v result)
     → Fits w o → (p : Outside) × Fits v p × AnswersOn number (answer_of result) o p
 received_fits w v o number result taken m received x =
-    let b = found-Mem number w.out m in
+    let b = entry_of-Mem number w.out m in
     let y = out_of w.out number b.0 o x.out b.1 in
     let r = received y.writes y.may (b.1 ∙ ap Some y.bytes_are) in
     by y.writes y.sent result r
@@ -183,10 +183,10 @@ received_fits w v o number result taken m received x =
 
 -- what becomes of the bytes that were out becomes of the request that they are
 pub receives : (w v inside : Loop) (number : ℕ) (ws : List Write) (lost : Bool) (taken carried : List ℕ) (result : Result WireReply WireFault) → inside ≡ w → lost ≡ is_lost number w
-    → found number inside.out ≡ Some taken → carried ≡ taken → found number w.out ≡ Some (bytes_of ws)
+    → entry_of number inside.out ≡ Some taken → carried ≡ taken → entry_of number w.out ≡ Some (bytes_of ws)
     → (carried ≡ bytes_of ws → Exchanged lost ws (server inside) (server v) result) → Receives number ws w v result
 receives w v inside number ws lost taken carried result same asked there as_taken is exchanged =
-    let out = ap (λ (x : Loop). found number x.out) same in
+    let out = ap (λ (x : Loop). entry_of number x.out) same in
     let bytes : taken ≡ bytes_of ws = cc in
     subst (λ l. Exchanged l ws (server w) (server v) result) asked
     (subst (λ (x : Loop). Exchanged lost ws (server x) (server v) result) same (exchanged (as_taken ∙ bytes)))

@@ -84,7 +84,7 @@ impl Wire for LoopWire {
     ghost use Rattle.relay_results.specs.Outside.{Lost};
     ghost use Rattle.relay_results.specs.Words.{Mem};
     ghost use Rattle.relay_lane.specs.Wires.{answer_of, IsWireReply, SendsOn, AnswersOn, ExchangesOn, Shows, ShowsNext, without};
-    ghost use Rattle.relay_wires.specs.Numbered.{numbers, found};
+    ghost use Rattle.relay_wires.specs.Numbered.{numbers, entry_of};
     ghost use Rattle.relay_loop.specs.Loops.{Fits, MayGo, bytes_of, Receives, TakesIn};
 
     ghost out = { λ w. numbers w.out };
@@ -132,7 +132,7 @@ impl Wire for LoopWire {
         ensures reply { IsWireReply result }
         ensures outside { Shows true Fits self.old self.new (AnswersOn number (answer_of result)) }
         // What was sent is run as the script says, and the answer of the index is received.
-        ensures received { (ws : List Write) → MayGo ws → found number self.old.out ≡ Some (bytes_of ws)
+        ensures received { (ws : List Write) → MayGo ws → entry_of number self.old.out ≡ Some (bytes_of ws)
             → Receives number ws self.old self.new result }
         ensures taken { TakesIn number self.old self.new }
     {

@@ -5,17 +5,17 @@ use Rattle.relay_action.specs.declared.key.DocKey.{DocKey}
 use Rattle.relay_action.specs.declared.write.Write.{Write}
 use Rattle.relay_results.specs.Documents.{document_of}
 use Rattle.relay_index.specs.Keys.{AreKeys}
-use Rattle.relay_index.specs.States.{State, applied}
+use Rattle.relay_index.specs.States.{State, applied_writes}
 
 -- `applied INDEX/ID VERSION KIND` and a line end
 abbrev pub applied_line : Write → List ℕ
 applied_line w =
-    codes "applied " ++ (document_of w.key).index ++ codes "/" ++ (document_of w.key).id ++ codes " " ++ decimal w.version ++ codes " "
+    codes "applied_writes " ++ (document_of w.key).index ++ codes "/" ++ (document_of w.key).id ++ codes " " ++ decimal w.version ++ codes " "
     ++ kind_name (kind_of w.action) ++ codes "\n"
 
 -- the lines of all writes that were applied to these documents, document by document
 abbrev pub listing : State → List DocKey → List ℕ
-listing s keys = flat_map (λ key. flat_map applied_line (applied s (document_of key))) keys
+listing s keys = flat_map (λ key. flat_map applied_line (applied_writes s (document_of key))) keys
 
 -- this is the listing of the documents of an index, in their order
 pub record IsListing (s : State) (text : List ℕ) : Type 0 where

@@ -3,7 +3,7 @@ ghost use Rattle.std.specs.Prelude.{◌≡◌, ◌≤◌, length, IsTrue, IsFals
 ghost use Rattle.relay_index.specs.Serving.{under};
 ghost use Rattle.relay_http.specs.Connection.{is_broken, is_open};
 ghost use Rattle.relay_http.specs.WrittenAnswer.{IsAnswerStatus};
-ghost use Rattle.relay_http.specs.Listening.{shown};
+ghost use Rattle.relay_http.specs.Listening.{shown_by};
 ghost use Rattle.relay_stub.specs.Visits.{IsAnswered, IsServed, Exchanges, Meets, MeetsBulk, not_bulk};
 
 use relay_action::{ByteIn, ByteOut};
@@ -31,8 +31,8 @@ pub fn serve_connection<S: ByteIn + ByteOut + Drop>(
     index: &mut Index,
     script: &mut Script,
 ) -> (Result<(), ServeFault>, S)
-    ensures { IsServed (shown (S.left stream) (S.written stream) (S.failed stream))
-        (shown (S.left result.1) (S.written result.1) (S.failed result.1))
+    ensures { IsServed (shown_by (S.left stream) (S.written stream) (S.failed stream))
+        (shown_by (S.left result.1) (S.written result.1) (S.failed result.1))
         (under index.old script.old) (under index.new script.new) result.0 }
 {
     match Conn::new(alloc, stream) {

@@ -1,2 +1,3 @@
 pub mod Numbers
-pub mod Opened
+pub mod Connections
+pub mod Results

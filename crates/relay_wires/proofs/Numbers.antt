@@ -7,7 +7,7 @@ use Rattle.std.proofs.lemmas.List.Quantifiers.{position-Some}
 use Rattle.std.specs.List.{remove, position, position_or_len}
 use Rattle.relay_results.specs.Words.{Mem}
 use Rattle.relay_lane.specs.Wires.{without}
-use Rattle.relay_wires.specs.Numbered.{numbers, found, besides}
+use Rattle.relay_wires.specs.Numbered.{numbers, entry_of, besides}
 
 -- ---- where the place of a number was looked for
 
@@ -30,32 +30,32 @@ lacks_position {X} n es e =
           let passes : eqb (get_or es k d).0 n ≡ true = eq-eqb _ _ same in cc
     ]
 
-found_lacks : {X : Type 0} (n : ℕ) (es : List (ℕ × X)) → Lacks n es → (found n es ≡ None) × (besides n es ≡ es)
+entry_of-lacks : {X : Type 0} (n : ℕ) (es : List (ℕ × X)) → Lacks n es → (entry_of n es ≡ None) × (besides n es ≡ es)
 unfolding Lacks
-found_lacks n [] h = (refl, refl)
-found_lacks n (e ∷ es) h =
+entry_of-lacks n [] h = (refl, refl)
+entry_of-lacks n (e ∷ es) h =
     let apart : eqb e.0 n ≡ false = ne_eqb _ _ (h 0 e (omega arith)) in
-    let rest = found_lacks n es (lacks_after n e es h) in
+    let rest = entry_of-lacks n es (lacks_after n e es h) in
     (rw apart rest.0, rw apart (ap (λ fs. e ∷ fs) rest.1))
 
-found_at : {X : Type 0} (n : ℕ) (es : List (ℕ × X)) (i : ℕ) (d : ℕ × X) → i < length es → (get_or es i d).0 ≡ n → ((k : ℕ) → k < i → (get_or es k d).0 ≢ n)
-    → (found n es ≡ Some (get_or es i d).1) × (besides n es ≡ remove es i)
-found_at n [] i d lt same h = absurd (omega arith)
-found_at n (e ∷ es) zero d lt same h =
+entry_of-at : {X : Type 0} (n : ℕ) (es : List (ℕ × X)) (i : ℕ) (d : ℕ × X) → i < length es → (get_or es i d).0 ≡ n → ((k : ℕ) → k < i → (get_or es k d).0 ≢ n)
+    → (entry_of n es ≡ Some (get_or es i d).1) × (besides n es ≡ remove es i)
+entry_of-at n [] i d lt same h = absurd (omega arith)
+entry_of-at n (e ∷ es) zero d lt same h =
     let here : eqb e.0 n ≡ true = eq-eqb _ _ same in
     (rw here refl, rw here refl)
-found_at n (e ∷ es) (suc i) d lt same h =
+entry_of-at n (e ∷ es) (suc i) d lt same h =
     let apart : eqb e.0 n ≡ false = ne_eqb _ _ (h 0 (omega arith)) in
-    let rest = found_at n es i d (omega arith) same (λ k below. h (suc k) (omega arith)) in
+    let rest = entry_of-at n es i d (omega arith) same (λ k below. h (suc k) (omega arith)) in
     (rw apart rest.0, rw apart (ap (λ fs. e ∷ fs) rest.1))
 
-pub found-position : {X : Type 0} (n : ℕ) (es : List (ℕ × X)) (i : ℕ) (d : ℕ × X) → position (λ e. eqb e.0 n) es ≡ Some i → (found n es ≡ Some (get_or es i d).1) × (besides n es ≡ remove es i)
-found-position {X} n es i d e =
+pub entry_of-position : {X : Type 0} (n : ℕ) (es : List (ℕ × X)) (i : ℕ) (d : ℕ × X) → position (λ e. eqb e.0 n) es ≡ Some i → (entry_of n es ≡ Some (get_or es i d).1) × (besides n es ≡ remove es i)
+entry_of-position {X} n es i d e =
     let at = position-Some (λ (e : ℕ × X). eqb e.0 n) es i d e in
-    found_at n es i d at.0 ((Decides-eqb _ _).0 at.1) (λ k below. eqb-false _ _ (at.2 k below))
+    entry_of-at n es i d at.0 ((Decides-eqb _ _).0 at.1) (λ k below. eqb-false _ _ (at.2 k below))
 
-pub found-no_position : {X : Type 0} (n : ℕ) (es : List (ℕ × X)) → position (λ e. eqb e.0 n) es ≡ None → (found n es ≡ None) × (besides n es ≡ es)
-found-no_position n es e = found_lacks n es (lacks_position n es e)
+pub entry_of-no_position : {X : Type 0} (n : ℕ) (es : List (ℕ × X)) → position (λ e. eqb e.0 n) es ≡ None → (entry_of n es ≡ None) × (besides n es ≡ es)
+entry_of-no_position n es e = entry_of-lacks n es (lacks_position n es e)
 
 -- ---- the numbers
 
@@ -67,18 +67,18 @@ numbers-besides n (e ∷ es) = elim (eqb_tells e.0 n) [
 ]
 
 -- a number that is out is found
-pub found-Mem : {X : Type 0} (n : ℕ) (es : List (ℕ × X)) → Mem n (numbers es) → (x : X) × (found n es ≡ Some x)
-found-Mem n [] m = absurd m
-found-Mem n (e ∷ es) m = elim (eqb_tells e.0 n) [
+pub entry_of-Mem : {X : Type 0} (n : ℕ) (es : List (ℕ × X)) → Mem n (numbers es) → (x : X) × (entry_of n es ≡ Some x)
+entry_of-Mem n [] m = absurd m
+entry_of-Mem n (e ∷ es) m = elim (eqb_tells e.0 n) [
   | inl same ↦ let here = same.0 in (e.1, rw here refl)
   | inr apart ↦ let other = apart.0 in elim m [
     | inl eq ↦ absurd (apart.1 (sym eq))
-    | inr later ↦ let x = found-Mem n es later in (x.0, rw other x.1)
+    | inr later ↦ let x = entry_of-Mem n es later in (x.0, rw other x.1)
   ]
 ]
 
 -- what is found is not besides
-pub length-besides : {X : Type 0} (n : ℕ) (es : List (ℕ × X)) (x : X) → found n es ≡ Some x → length (besides n es) + 1 ≡ length es
+pub length-besides : {X : Type 0} (n : ℕ) (es : List (ℕ × X)) (x : X) → entry_of n es ≡ Some x → length (besides n es) + 1 ≡ length es
 length-besides n [] x is = absurd (cc)
 length-besides n (e ∷ es) x is = elim (eqb_tells e.0 n) [
   | inl same ↦ let here = same.0 in rw here (omega arith)

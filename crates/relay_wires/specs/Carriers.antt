@@ -15,7 +15,7 @@ use Rattle.relay_results.specs.Outside.{Outside}
 use Rattle.relay_lane.specs.declared.wire.WireReply.{WireReply}
 use Rattle.relay_lane.specs.declared.wire.WireFault.{WireFault}
 use Rattle.relay_lane.specs.declared.wire.WireFault.TheVariants as fault
-use Rattle.relay_wires.specs.Numbered.{found, besides}
+use Rattle.relay_wires.specs.Numbered.{entry_of, besides}
 use Rattle.relay_wires.specs.Told.{Tells}
 
 -- ---- the wire
@@ -125,19 +125,19 @@ IsTold (Ok reply) result = Tells (reply_view reply) result
 IsTold (Err f) result = result ≡ Err (fault_received f)
 
 -- a connection that may carry further messages is then free, unless bytes beyond the reply were read with it
-abbrev pub freed : Result HttpReply HttpFault → Connection → List Connection → List Connection
-freed (Ok reply) d free = if reply.keep && (length d.held == 0) then free ++ d ∷ [] else free
-freed (Err f) d free = free
+abbrev pub free_after : Result HttpReply HttpFault → Connection → List Connection → List Connection
+free_after (Ok reply) d free = if reply.keep && (length d.held == 0) then free ++ d ∷ [] else free
+free_after (Err f) d free = free
 
 -- Receiving the reply to a number: it is read from the connection of that request, and told by the table of statuses.
 pub record Brings (number : ℕ) (old new : Carrier) (result : Result WireReply WireFault) : Type 0 where
   pub connection : Connection
-  pub out_on : found number old.out ≡ Some connection
+  pub out_on : entry_of number old.out ≡ Some connection
   pub left : Connection
   pub read : Result HttpReply HttpFault
   pub reads : Reads connection left read
   pub told : IsTold read result
-  pub after : new ≡ record old { out = besides number old.out; free = freed read left old.free }
+  pub after : new ≡ record old { out = besides number old.out; free = free_after read left old.free }
 
 -- no outside fits: it describes none
 abbrev pub FitsNone : Carrier → Outside → Type 0
@@ -169,4 +169,4 @@ pub record BringsFrom (connection : Connection) (old new : List Connection) (res
   pub read : Result HttpReply HttpFault
   pub reads : Reads connection left read
   pub told : IsTold read result
-  pub free : new ≡ freed read left old
+  pub free : new ≡ free_after read left old

@@ -6,9 +6,9 @@ numbers [] = []
 numbers (e ∷ es) = e.0 ∷ numbers es
 
 -- what is outstanding under a number
-abbrev pub found : {A : Type 0} → ℕ → List (ℕ × A) → Option A
-found number [] = None
-found number (e ∷ es) = if e.0 == number then Some e.1 else found number es
+abbrev pub entry_of : {A : Type 0} → ℕ → List (ℕ × A) → Option A
+entry_of number [] = None
+entry_of number (e ∷ es) = if e.0 == number then Some e.1 else entry_of number es
 
 -- what else is outstanding
 abbrev pub besides : {A : Type 0} → ℕ → List (ℕ × A) → List (ℕ × A)

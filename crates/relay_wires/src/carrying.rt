@@ -1,11 +1,14 @@
 //! One request on one connection.
-ghost use Rattle.std.specs.Prelude.{◌≡◌, ◌==◌, ◌&&◌, ◌∷◌, ◌++◌, [], if◌then◌else◌, ◌+◌, ◌<◌, ◌≤◌, length, vec_len, vec_capacity, IfOk, IsTrue};
+ghost use Rattle.std.specs.Prelude.{◌≡◌, ◌==◌, ◌&&◌, ◌∷◌, ◌++◌, []};
+ghost use Rattle.std.specs.Prelude.{if◌then◌else◌, ◌+◌, ◌<◌, ◌≤◌, ◌⊎◌};
+ghost use Rattle.std.specs.Prelude.{length, vec_len, vec_capacity, IfOk, IsTrue};
 ghost use Rattle.relay_ndjson.specs.Bulk.{text_of};
 ghost use Rattle.relay_http.specs.Connection.{is_open};
 ghost use Rattle.relay_http.specs.Framing.{request_limit};
 ghost use Rattle.relay_http.specs.WrittenRequest.{is_host, request};
 ghost use Rattle.relay_lane.specs.Wires.{IsWireReply};
-ghost use Rattle.relay_wires.specs.Carriers.{AllFree, IsFree, FindsFree, PicksOne, IsWritten, BringsFrom, fault_received};
+ghost use Rattle.relay_wires.specs.Carriers.{AllFree, IsFree, FindsFree, PicksOne};
+ghost use Rattle.relay_wires.specs.Carriers.{IsWritten, BringsFrom, fault_received};
 
 use crate::told::tell;
 use relay_action::{ByteIn, ByteOut, ByteStream, Write};
@@ -36,21 +39,16 @@ pub(crate) fn pick<S: Peek + Drop, D: Dial<S>>(
     dial: &mut D,
 ) -> Result<Conn<S>, WireFault>
     requires { AllFree free.old.items }
-    ensures picks { PicksOne free.old.items free.new.items (D.failed dial.old) (D.failed dial.new) (D.dialled dial.old) (D.dialled dial.new) result }
+    ensures picks { PicksOne free.old.items free.new.items (D.failed dial.old) (D.failed dial.new)
+        (D.dialled dial.old) (D.dialled dial.new) result }
     ensures free_left { AllFree free.new.items }
     ensures capacity { vec_capacity free.new ≡ vec_capacity free.old }
 {
     if let Some(conn) = take_quiet(free) {
         return Ok(conn);
     }
-    let stream = match dial.dial() {
-        Ok(stream) => stream,
-        Err(_) => return Err(WireFault::Send),
-    };
-    match Conn::new(alloc, stream) {
-        Ok(conn) => Ok(conn),
-        Err(_) => Err(WireFault::Memory),
-    }
+    let stream = dial.dial().map_err(|_| WireFault::Send)?;
+    Conn::new(alloc, stream).map_err(|_| WireFault::Memory)
 }
 
 pub(crate) fn carry<S: ByteOut + Drop>(
@@ -65,14 +63,20 @@ pub(crate) fn carry<S: ByteOut + Drop>(
     requires size { length (text_of writes.now) ≤ request_limit }
     ensures { IsWritten conn.old conn.new (request host.now (text_of writes.now)) result }
 {
-    match conn.write_request(alloc, host, writes) {
-        Ok(()) => Ok(()),
-        Err(HttpFault::Memory) => Err(WireFault::Memory),
-        Err(_) => Err(WireFault::Send),
+    conn.write_request(alloc, host, writes).map_err(fault_sent)
+}
+
+// What the lane is told after a fault of a connection while sending.
+fn fault_sent(fault: HttpFault) -> WireFault
+    ensures { (result ≡ WireFault.Send) ⊎ (result ≡ WireFault.Memory) }
+{
+    match fault {
+        HttpFault::Memory => WireFault::Memory,
+        _ => WireFault::Send,
     }
 }
 
-// What the lane is told after a fault of a connection.
+// What the lane is told after a fault of a connection while reading.
 fn fault_received(fault: HttpFault) -> WireFault
     ensures { result ≡ fault_received fault }
 {
@@ -86,7 +90,8 @@ fn fault_received(fault: HttpFault) -> WireFault
 // reply.
 fn release<S: ByteStream + Drop>(conn: Conn<S>, keep: bool, free: &mut Vec<Conn<S>>)
     requires { vec_len free.old < vec_capacity free.old }
-    ensures free { free.new.items ≡ (if keep && (length conn.held == 0) then free.old.items ++ conn ∷ [] else free.old.items) }
+    ensures free { free.new.items ≡ (if keep && (length conn.held == 0)
+        then free.old.items ++ conn ∷ [] else free.old.items) }
     ensures capacity { vec_capacity free.new ≡ vec_capacity free.old }
 {
     if keep && conn.held() == 0 {
@@ -110,11 +115,7 @@ pub(crate) fn bring<S: ByteIn + Drop>(
     ensures capacity { vec_capacity free.new ≡ vec_capacity free.old }
     ensures grows { vec_len free.new ≤ vec_len free.old + 1 }
 {
-    match conn.read_reply(alloc) {
-        Ok(reply) => {
-            release(conn, reply.keep, free);
-            tell(alloc, &reply)
-        }
-        Err(fault) => Err(fault_received(fault)),
-    }
+    let reply = conn.read_reply(alloc).map_err(fault_received)?;
+    release(conn, reply.keep, free);
+    tell(alloc, &reply)
 }

@@ -48,7 +48,14 @@ impl<S: ByteStream, D: Dial<S>> Model for HttpWire<S, D> {
     } };
 
     ghost invariant = { λ w. IsCarrier
-        (record { host = string_bytes w.host; most = w.most; out = w.out.items; free = w.free.items; failed = D.failed w.dial; dialled = D.dialled w.dial })
+        (record {
+          host = string_bytes w.host;
+          most = w.most;
+          out = w.out.items;
+          free = w.free.items;
+          failed = D.failed w.dial;
+          dialled = D.dialled w.dial;
+        })
         (deque_capacity w.out) (vec_capacity w.free) };
 }
 
@@ -58,7 +65,8 @@ impl<S: ByteStream + Drop, D: Dial<S> + Drop> HttpWire<S, D> {
     /// places failed.
     pub fn new(alloc: Global, dial: D, host: String, max: u32) -> Result<HttpWire<S, D>, AllocError>
         requires { IsTrue (is_host (string_bytes host)) }
-        ensures { IfOk result (λ w. w ≡ idle (string_bytes host) max (D.failed dial) (D.dialled dial)) }
+        ensures { IfOk result
+            (λ w. w ≡ idle (string_bytes host) max (D.failed dial) (D.dialled dial)) }
     {
         let out = VecDeque::with_capacity(alloc, max as usize)?;
         let free = Vec::with_capacity(alloc, max as usize)?;
@@ -107,14 +115,8 @@ impl<S: ByteIn + ByteOut + Peek + Drop, D: Dial<S> + Drop> Wire for HttpWire<S, 
         if self.out.len() >= self.most as usize {
             return Err(WireFault::Send);
         }
-        let mut conn = match pick(self.alloc, &mut self.free, &mut self.dial) {
-            Ok(conn) => conn,
-            Err(fault) => return Err(fault),
-        };
-        match carry(self.alloc, &mut conn, &self.host, writes) {
-            Err(fault) => return Err(fault),
-            Ok(()) => {}
-        }
+        let mut conn = pick(self.alloc, &mut self.free, &mut self.dial)?;
+        carry(self.alloc, &mut conn, &self.host, writes)?;
         self.out.push_front_reserved((number, conn));
         Ok(())
     }
@@ -130,9 +132,9 @@ impl<S: ByteIn + ByteOut + Peek + Drop, D: Dial<S> + Drop> Wire for HttpWire<S, 
         // What is returned is the reply that was read there, by the table of statuses.
         ensures brings { Brings number self.old self.new result }
     {
-        match take(&mut self.out, number) {
-            Some(conn) => bring(self.alloc, conn, &mut self.free),
-            None => unreachable!(),
-        }
+        let Some(conn) = take(&mut self.out, number) else {
+            unreachable!();
+        };
+        bring(self.alloc, conn, &mut self.free)
     }
 }

@@ -1,9 +1,9 @@
-//! The way from a lane to an index over HTTP connections (`HttpWire`), whose streams a `Dial` makes.
-//! It depends on `relay_lane` for what a wire is, on `relay_http` for connections and on
+//! The way from a lane to an index over HTTP connections (`HttpWire`), whose streams a `Dial`
+//! makes. It depends on `relay_lane` for what a wire is, on `relay_http` for connections and on
 //! `relay_results` for the entries of replies.
 //!
-//! What is proved: an `HttpWire` writes the request for the writes that it is given, and returns the
-//! reply that was on that connection, by the table of statuses. `numbered` (the outstanding
+//! What is proved: an `HttpWire` writes the request for the writes that it is given, and returns
+//! the reply that was on that connection, by the table of statuses. `numbered` (the outstanding
 //! requests) and `told` (the table of statuses) also serve the wire of `relay_loop`.
 #![tactic(auto)]
 

@@ -2,7 +2,7 @@
 ghost use Rattle.std.specs.Prelude.{◌≡◌, ◌==◌};
 ghost use Rattle.std.specs.List.{position};
 ghost use Rattle.std.specs.VecDeque.{deque_capacity};
-ghost use Rattle.relay_wires.specs.Numbered.{found, besides};
+ghost use Rattle.relay_wires.specs.Numbered.{entry_of, besides};
 
 use std::collections::VecDeque;
 
@@ -13,9 +13,9 @@ fn place_of<T>(out: &VecDeque<(u64, T)>, number: u64) -> Option<usize>
     out.iter().position(|entry| entry.0 == number)
 }
 
-/// Takes what is out under this number, where something is. `None`: nothing is, and all stays as it was.
+/// Takes what is out under this number, if something is. `None`: nothing is, and nothing changes.
 pub fn take<T>(out: &mut VecDeque<(u64, T)>, number: u64) -> Option<T>
-    ensures found { result ≡ found number out.old.items }
+    ensures found { result ≡ entry_of number out.old.items }
     ensures besides { out.new.items ≡ besides number out.old.items }
     ensures capacity { deque_capacity out.new ≡ deque_capacity out.old }
 {

@@ -10,9 +10,9 @@ use std::alloc::Global;
 // The status of a reply whose body has entries.
 const OK: u16 = 200;
 
-/// What a reply means to a lane, by its status: 200 returns its entries, and any other status is the
-/// answer to the request as a whole. `Unreadable`: the status is 200, and the body is not a bulk
-/// reply. `Memory`: an allocation failed.
+/// What a reply means to a lane, by its status: 200 returns its entries, and any other status is
+/// the answer to the request as a whole. `Unreadable`: the status is 200, and the body is not a
+/// bulk reply. `Memory`: an allocation failed.
 pub fn tell(alloc: Global, reply: &HttpReply) -> Result<WireReply, WireFault>
     ensures { Tells (reply_view reply.now) result }
 {

@@ -1,6 +1,6 @@
 use Rattle.std.proofs.Common.{subst}
 use Rattle.relay_index.specs.Serving.{under}
-use Rattle.relay_http.specs.Listening.{shown}
+use Rattle.relay_http.specs.Listening.{shown_by}
 use Rattle.relay_stub.specs.Visits.{IsServed}
 use Rattle.relay_stub.proofs.stub.serve_next.Goals as goal
 
@@ -8,8 +8,8 @@ pub returns-in-Ok-result : goal.returns-in-Ok-result
 returns-in-Ok-result g c =
     let s = g.S.ByteStream in
     let call = c.serve_connection-result in
-    let before = shown (s.left c.in-Ok.stream) (s.written c.in-Ok.stream) (s.failed c.in-Ok.stream) in
-    let after = shown (s.left call.result.1) (s.written call.result.1) (s.failed call.result.1) in
+    let before = shown_by (s.left c.in-Ok.stream) (s.written c.in-Ok.stream) (s.failed c.in-Ok.stream) in
+    let after = shown_by (s.left call.result.1) (s.written call.result.1) (s.failed call.result.1) in
     record {
       before = before;
       after = after;
@@ -23,8 +23,8 @@ pub returns-in-Err : goal.returns-in-Err
 returns-in-Err g c =
     let s = g.S.ByteStream in
     let call = c.serve_connection-result in
-    let before = shown (s.left c.in-Ok.stream) (s.written c.in-Ok.stream) (s.failed c.in-Ok.stream) in
-    let after = shown (s.left call.result.1) (s.written call.result.1) (s.failed call.result.1) in (
+    let before = shown_by (s.left c.in-Ok.stream) (s.written c.in-Ok.stream) (s.failed c.in-Ok.stream) in
+    let after = shown_by (s.left call.result.1) (s.written call.result.1) (s.failed call.result.1) in (
       c.in-Err.field-0,
       record {
         before = before;

@@ -1,6 +1,6 @@
 use Rattle.std.proofs.Common.{subst, ◌∙◌}
 use Rattle.relay_wires.specs.Carriers.{AllFree}
-use Rattle.relay_wires.proofs.Opened.{free_before, dropped_before}
+use Rattle.relay_wires.proofs.Connections.{free_before, dropped_before}
 use Rattle.relay_wires.proofs.carrying.take_quiet.Goals as goal
 
 pub returns-then-is_quiet-clause-finds : goal.returns-then-is_quiet-clause-finds

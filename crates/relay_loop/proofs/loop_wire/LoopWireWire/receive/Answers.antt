@@ -1,13 +1,13 @@
 use Rattle.std.proofs.Common.{sym, ap, ◌∙◌}
 use Rattle.relay_wires.specs.Numbered.{besides}
 use Rattle.relay_loop.specs.Loops.{Loop}
-use Rattle.relay_wires.proofs.Numbers.{found-Mem, numbers-besides}
+use Rattle.relay_wires.proofs.Numbers.{entry_of-Mem, numbers-besides}
 use Rattle.relay_loop.proofs.Standing.{receives, received_fits}
 use Rattle.relay_loop.proofs.loop_wire.LoopWireWire.receive.Goals as goal
 
 pub unreachable-requires : goal.unreachable-requires
 unreachable-requires c =
-    let x = found-Mem c.args.number c.args.self.now.out c.requires in
+    let x = entry_of-Mem c.args.number c.args.self.now.out c.requires in
     let out = ap (λ (w : Loop). w.out) c.self.view_is in
     let there = x.1 in
     let asked = c.take.ensures.found in

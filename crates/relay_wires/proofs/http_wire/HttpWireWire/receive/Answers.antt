@@ -1,13 +1,13 @@
 use Rattle.std.proofs.Common.{◌≡◌, length, refl, sym, ap, subst, string_bytes, ◌∙◌, arith}
 use Rattle.relay_wires.specs.Numbered.{besides}
 use Rattle.relay_wires.specs.Carriers.{Carrier, AllOutOpen, Brings}
-use Rattle.relay_wires.proofs.Numbers.{found-Mem, numbers-besides, length-besides}
-use Rattle.relay_wires.proofs.Opened.{open_found, open_besides}
+use Rattle.relay_wires.proofs.Numbers.{entry_of-Mem, numbers-besides, length-besides}
+use Rattle.relay_wires.proofs.Connections.{open_entry, open_besides}
 use Rattle.relay_wires.proofs.http_wire.HttpWireWire.receive.Goals as goal
 
 pub bring-requires-clause-lasts : goal.bring-requires-clause-lasts
 bring-requires-clause-lasts g c =
-    open_found c.args.number c.self.inside.out.items c.in-Some.conn c.self.invariant.out (sym c.take.ensures.found ∙ c.in-Some.is)
+    open_entry c.args.number c.self.inside.out.items c.in-Some.conn c.self.invariant.out (sym c.take.ensures.found ∙ c.in-Some.is)
 
 pub bring-requires-clause-room : goal.bring-requires-clause-room
 bring-requires-clause-room g c =
@@ -29,11 +29,11 @@ invariant_of-self g c =
 
 pub unreachable-requires : goal.unreachable-requires
 unreachable-requires g c =
-    let x = found-Mem c.args.number c.args.self.now.out c.requires in
+    let x = entry_of-Mem c.args.number c.args.self.now.out c.requires in
     let out = ap (λ (w : Carrier). w.out) c.self.view_is in
     let there = x.1 in
     let asked = c.take.ensures.found in
-    let none = c.in-None.is in cc
+    let none = c.in_default.is in cc
 
 pub returns-clause-out : goal.returns-clause-out
 returns-clause-out g c = rw (c.take.ensures.besides, ← c.self.view_is) (numbers-besides c.args.number c.self.inside.out.items)

@@ -8,7 +8,7 @@ use Rattle.relay_http.specs.Connection.{Connection, fresh, is_open, phase_of, af
 use Rattle.relay_http.specs.declared.reply.HttpReply.{HttpReply}
 use Rattle.relay_lane.specs.declared.wire.WireFault.{WireFault}
 use Rattle.relay_lane.specs.declared.wire.WireFault.TheVariants as fault
-use Rattle.relay_wires.specs.Numbered.{found, besides}
+use Rattle.relay_wires.specs.Numbered.{entry_of, besides}
 use Rattle.relay_ndjson.specs.Bulk.{text_of}
 use Rattle.relay_http.specs.WrittenRequest.{request}
 use Rattle.relay_wires.specs.Carriers.{Carrier, AllFree, IsFree, AllOutOpen, Picks, PicksOne, Carries, IsWritten, with_written}
@@ -22,15 +22,15 @@ pub free_before : (cs ds : List Connection) (c : Connection) → AllFree (cs ++ 
 free_before [] ds c all = (tt, all.0)
 free_before (x ∷ xs) ds c all = let rest = free_before xs ds c all.1 in ((all.0, rest.0), rest.1)
 
-pub open_found : (n : ℕ) (es : List (ℕ × Connection)) (c : Connection) → AllOutOpen es → found n es ≡ Some c → IsTrue (is_open c.phase)
-open_found n [] c all is = absurd (cc)
-open_found n (e ∷ es) c all is = elim (eqb_tells e.0 n) [
+pub open_entry : (n : ℕ) (es : List (ℕ × Connection)) (c : Connection) → AllOutOpen es → entry_of n es ≡ Some c → IsTrue (is_open c.phase)
+open_entry n [] c all is = absurd (cc)
+open_entry n (e ∷ es) c all is = elim (eqb_tells e.0 n) [
   | inl same ↦
       let here = same.0 in
       let at : Some e.1 ≡ Some c = rw here at is in
       let one : e.1 ≡ c = cc in
       subst (λ (x : Connection). IsTrue (is_open x.phase)) one all.0
-  | inr apart ↦ let other = apart.0 in open_found n es c all.1 (rw other at is)
+  | inr apart ↦ let other = apart.0 in open_entry n es c all.1 (rw other at is)
 ]
 
 pub open_besides : (n : ℕ) (es : List (ℕ × Connection)) → AllOutOpen es → AllOutOpen (besides n es)
@@ -41,9 +41,9 @@ open_besides n (e ∷ es) all = elim (eqb_tells e.0 n) [
 ]
 
 -- a connection that is free after a reply may carry further messages, and holds no byte
-pub free_freed : (reply : HttpReply) (d : Connection) (free : List Connection) → d.phase ≡ after_reply (Ok reply) → AllFree free
+pub all_free_after : (reply : HttpReply) (d : Connection) (free : List Connection) → d.phase ≡ after_reply (Ok reply) → AllFree free
     → AllFree (if reply.keep && (length d.held == 0) then free ++ d ∷ [] else free)
-free_freed reply d free is all = elim (eqb_tells (length d.held) 0) [
+all_free_after reply d free is all = elim (eqb_tells (length d.held) 0) [
   | inl same ↦ let none = same.0 in rw none (by reply.keep is (no_bytes d.held same.1))
   | inr apart ↦ let some = apart.0 in rw some (without reply.keep)
 ]
@@ -91,9 +91,9 @@ carry_fails number ws host most out free later failed counted before after c d t
     subst (λ (x : WireFault). Carries number ws (carrier host most out free failed before) (carrier host most out later counted after) (Err x)) (sym e)
     (c, p.0, ap (λ n. carrier host most out later n after) p.2)
 
-pub carried : (number : ℕ) (ws : List Write) (host : List ℕ) (most : ℕ) (out items : List (ℕ × Connection)) (free later : List Connection) (failed counted before after : ℕ) (c d : Connection)
+pub carry_succeeds : (number : ℕ) (ws : List Write) (host : List ℕ) (most : ℕ) (out items : List (ℕ × Connection)) (free later : List Connection) (failed counted before after : ℕ) (c d : Connection)
     → PicksOne free later failed counted before after (Ok c) → d ≡ with_written c (request host (text_of ws)) → items ≡ (number, d) ∷ out → Carries number ws (carrier host most out free failed before) (carrier host most items later counted after) (Ok tt)
-carried number ws host most out items free later failed counted before after c d p w e = (c, p.0, p.1, p.2, e ∙ ap (λ x. (number, x) ∷ out) w)
+carry_succeeds number ws host most out items free later failed counted before after c d p w e = (c, p.0, p.1, p.2, e ∙ ap (λ x. (number, x) ∷ out) w)
 
 pub open_after : (number : ℕ) (out items : List (ℕ × Connection)) (c d : Connection) (text : List ℕ) → IsTrue (is_open c.phase) → d ≡ with_written c text → items ≡ (number, d) ∷ out → AllOutOpen out → AllOutOpen items
 open_after number out items c d text h w e all =
@@ -109,6 +109,16 @@ few_after number most before after out items free later c d (inr p) e few room =
     let n = ap length p.0 in
     let m = ap length e in
     omega (arith, n, m, room)
+
+-- the same if the request could not be written on it
+pub few_left : (most before after : ℕ) (out : List (ℕ × Connection)) (free later : List Connection) (c : Connection) → Picks free later before after c → length out + length free ≤ most → length out + length later ≤ most
+few_left most before after out free later c (inl t) few =
+    let n = ap length t.0.free in
+    let k = length-append later (c ∷ t.0.dropped) in
+    omega (arith, n, k, few)
+few_left most before after out free later c (inr p) few =
+    let n = ap length p.0 in
+    omega (arith, n, few)
 
 -- ---- free connections that are looked at, the one freed last first
 
