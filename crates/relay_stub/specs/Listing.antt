@@ -10,7 +10,7 @@ use Rattle.relay_index.specs.States.{State, applied_writes}
 -- `applied INDEX/ID VERSION KIND` and a line end
 abbrev pub applied_line : Write → List ℕ
 applied_line w =
-    codes "applied_writes " ++ (document_of w.key).index ++ codes "/" ++ (document_of w.key).id ++ codes " " ++ decimal w.version ++ codes " "
+    codes "applied " ++ (document_of w.key).index ++ codes "/" ++ (document_of w.key).id ++ codes " " ++ decimal w.version ++ codes " "
     ++ kind_name (kind_of w.action) ++ codes "\n"
 
 -- the lines of all writes that were applied to these documents, document by document
