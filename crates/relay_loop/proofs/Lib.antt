@@ -1,3 +1,3 @@
-pub mod Carried
+pub mod Messages
 pub mod Running
 pub mod Standing

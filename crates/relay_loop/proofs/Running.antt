@@ -32,7 +32,7 @@ use Rattle.relay_http.specs.Framing.{reply_limit}
 use Rattle.relay_http.specs.Reply.{Reply}
 use Rattle.relay_http.specs.WrittenAnswer.{IsAnswerStatus}
 use Rattle.relay_wires.specs.Told.{Tells}
-use Rattle.relay_loop.specs.Loops.{Stops, Serves, IsRefused, Served, Reads, ReadsWhole, Exchanged}
+use Rattle.relay_loop.specs.Loops.{Stops, Serves, IsRefused, IsServed, Reads, ReadsWhole, IsExchange}
 
 -- ---- runs one after another
 
@@ -154,12 +154,12 @@ ran_front n ws old new o sent shows s =
 
 -- ---- what the index's end serves
 
-pub serves_all : (ws : List Write) (body : List ℕ) (old new : Server) (a : Answer) → AreDealt ws → body ≡ text_of ws → Answers body old a new → Served ws old new a.status a.text
+pub serves_all : (ws : List Write) (body : List ℕ) (old new : Server) (a : Answer) → AreDealt ws → body ≡ text_of ws → Answers body old a new → IsServed ws old new a.status a.text
 serves_all ws body old new a dealt is answers =
     let bulk : IsBulk body ws = subst (λ b. IsBulk b ws) (sym is) (bulk_text_is_bulk ws dealt) in
-    ⊎_elim {C = Served ws old new a.status a.text}
+    ⊎_elim {C = IsServed ws old new a.status a.text}
     (λ s. inl (record { success = s.success; replies = subst (λ vs. Replies old vs a.text new) (one_bulk body s.writes ws s.reads bulk) s.replies }))
-    (λ z. ⊎_elim {C = Served ws old new a.status a.text}
+    (λ z. ⊎_elim {C = IsServed ws old new a.status a.text}
     (λ r. absurd (no_fault_in_bulk body ws r.line r.kind bulk r.breaks))
     (λ r. inr (record { over = subst (λ b. takes old.script (length b) ≡ false) is r.over; failure = r.too_large.failure; says = r.too_large.text_of; stays = r.stays }))
     z)
@@ -193,64 +193,64 @@ stops_after_all ws old new text r =
 -- ---- what comes back
 
 -- a reply that says these outcomes is read so, unless memory runs out
-pub told : (r : Reply) (os : List Outcome) (result : Result WireReply WireFault) → r.status ≡ 200 → IsBulkReply r.body os → Tells r result → Reads os result
-told r os (Ok (reply.Items outcomes)) success is t = one_reply r.body outcomes.items os t.1 is
-told r os (Ok (reply.Whole status)) success is t = absurd (t.0 success)
-told r os (Err fault.Send) success is t = absurd t
-told r os (Err fault.Lost) success is t = absurd t
-told r os (Err fault.Unreadable) success is t = absurd (t.1.1 (no_fault r.body os t.1.0 is t.1.2))
-told r os (Err fault.Memory) success is t = tt
+pub reads_entries : (r : Reply) (os : List Outcome) (result : Result WireReply WireFault) → r.status ≡ 200 → IsBulkReply r.body os → Tells r result → Reads os result
+reads_entries r os (Ok (reply.Items outcomes)) success is t = one_reply r.body outcomes.items os t.1 is
+reads_entries r os (Ok (reply.Whole status)) success is t = absurd (t.0 success)
+reads_entries r os (Err fault.Send) success is t = absurd t
+reads_entries r os (Err fault.Lost) success is t = absurd t
+reads_entries r os (Err fault.Unreadable) success is t = absurd (t.1.1 (no_fault r.body os t.1.0 is t.1.2))
+reads_entries r os (Err fault.Memory) success is t = tt
 
-pub exchanged : (ws : List Write) (old new : Server) (lost : Bool) (status : ℕ) (text : List ℕ) (result : Result WireReply WireFault) → lost ≡ false → length text ≤ reply_limit → (s : Serves ws old new status text)
-    → Reads (outcomes_of s.replies.items) result → Exchanged lost ws old new result
-exchanged ws old new lost status text (Ok (reply.Items outcomes)) kept size s reads =
+pub exchange_of_reply : (ws : List Write) (old new : Server) (lost : Bool) (status : ℕ) (text : List ℕ) (result : Result WireReply WireFault) → lost ≡ false → length text ≤ reply_limit → (s : Serves ws old new status text)
+    → Reads (outcomes_of s.replies.items) result → IsExchange lost ws old new result
+exchange_of_reply ws old new lost status text (Ok (reply.Items outcomes)) kept size s reads =
     let r = s.replies in
     (r.items, r.runs, reads, kept, subst (λ t. length t ≤ reply_limit) r.text_of size)
-exchanged ws old new lost status text (Ok (reply.Whole other)) kept size s reads = absurd reads
-exchanged ws old new lost status text (Err fault.Send) kept size s reads = absurd reads
-exchanged ws old new lost status text (Err fault.Lost) kept size s reads = absurd reads
-exchanged ws old new lost status text (Err fault.Unreadable) kept size s reads = absurd reads
-exchanged ws old new lost status text (Err fault.Memory) kept size s reads = stops_after_all ws old new text s.replies
+exchange_of_reply ws old new lost status text (Ok (reply.Whole other)) kept size s reads = absurd reads
+exchange_of_reply ws old new lost status text (Err fault.Send) kept size s reads = absurd reads
+exchange_of_reply ws old new lost status text (Err fault.Lost) kept size s reads = absurd reads
+exchange_of_reply ws old new lost status text (Err fault.Unreadable) kept size s reads = absurd reads
+exchange_of_reply ws old new lost status text (Err fault.Memory) kept size s reads = stops_after_all ws old new text s.replies
 
-pub lost_as_asked : (ws : List Write) (old new : Server) (lost : Bool) (status : ℕ) (text : List ℕ) → lost ≡ true → Serves ws old new status text → Exchanged lost ws old new (Err fault.Lost)
+pub lost_as_asked : (ws : List Write) (old new : Server) (lost : Bool) (status : ℕ) (text : List ℕ) → lost ≡ true → Serves ws old new status text → IsExchange lost ws old new (Err fault.Lost)
 lost_as_asked ws old new lost status text asked s = inl (s.replies.items, s.replies.runs, inl asked)
 
-pub lost_as_long : (ws : List Write) (old new : Server) (lost : Bool) (status : ℕ) (text : List ℕ) → reply_limit < length text → Serves ws old new status text → Exchanged lost ws old new (Err fault.Lost)
+pub lost_as_long : (ws : List Write) (old new : Server) (lost : Bool) (status : ℕ) (text : List ℕ) → reply_limit < length text → Serves ws old new status text → IsExchange lost ws old new (Err fault.Lost)
 lost_as_long ws old new lost status text long s = inl (s.replies.items, s.replies.runs, inr (subst (λ t. reply_limit < length t) s.replies.text_of long))
 
 -- nothing was run of it
 pub stops_unread : (ws : List Write) (old new : Server) → new ≡ old → Stops ws old new
 stops_unread ws old new stays = (0, record { within = omega arith; items = []; runs = (refl, stays) })
 
-pub told_whole : (r : Reply) (status : ℕ) (result : Result WireReply WireFault) → r.status ≡ status → status ≢ 200 → Tells r result → ReadsWhole status result
-told_whole r status (Ok (reply.Items outcomes)) e other t = absurd (other (sym e ∙ t.0))
-told_whole r status (Ok (reply.Whole s)) e other t = t.1 ∙ e
-told_whole r status (Err fault.Send) e other t = absurd t
-told_whole r status (Err fault.Lost) e other t = absurd t
-told_whole r status (Err fault.Unreadable) e other t = absurd (other (sym e ∙ t.0))
-told_whole r status (Err fault.Memory) e other t = tt
+pub reads_status : (r : Reply) (status : ℕ) (result : Result WireReply WireFault) → r.status ≡ status → status ≢ 200 → Tells r result → ReadsWhole status result
+reads_status r status (Ok (reply.Items outcomes)) e other t = absurd (other (sym e ∙ t.0))
+reads_status r status (Ok (reply.Whole s)) e other t = t.1 ∙ e
+reads_status r status (Err fault.Send) e other t = absurd t
+reads_status r status (Err fault.Lost) e other t = absurd t
+reads_status r status (Err fault.Unreadable) e other t = absurd (other (sym e ∙ t.0))
+reads_status r status (Err fault.Memory) e other t = tt
 
 pub not_success : (status : ℕ) → status ≡ 413 → status ≢ 200
 not_success status e s = omega (arith, e, s)
 
 -- a body that is too long is answered so, or its answer is lost
-pub refused : (ws : List Write) (old new : Server) (lost : Bool) (status : ℕ) (text : List ℕ) (result : Result WireReply WireFault) → lost ≡ false → IsRefused ws old new status text
-    → ReadsWhole status result → Exchanged lost ws old new result
-refused ws old new lost status text (Ok (reply.Items outcomes)) kept r reads = absurd reads
-refused ws old new lost status text (Ok (reply.Whole other)) kept r reads = (reads ∙ r.failure, r.over, r.stays, kept)
-refused ws old new lost status text (Err fault.Send) kept r reads = absurd reads
-refused ws old new lost status text (Err fault.Lost) kept r reads = absurd reads
-refused ws old new lost status text (Err fault.Unreadable) kept r reads = absurd reads
-refused ws old new lost status text (Err fault.Memory) kept r reads = stops_unread ws old new r.stays
+pub exchange_of_refusal : (ws : List Write) (old new : Server) (lost : Bool) (status : ℕ) (text : List ℕ) (result : Result WireReply WireFault) → lost ≡ false → IsRefused ws old new status text
+    → ReadsWhole status result → IsExchange lost ws old new result
+exchange_of_refusal ws old new lost status text (Ok (reply.Items outcomes)) kept r reads = absurd reads
+exchange_of_refusal ws old new lost status text (Ok (reply.Whole other)) kept r reads = (reads ∙ r.failure, r.over, r.stays, kept)
+exchange_of_refusal ws old new lost status text (Err fault.Send) kept r reads = absurd reads
+exchange_of_refusal ws old new lost status text (Err fault.Lost) kept r reads = absurd reads
+exchange_of_refusal ws old new lost status text (Err fault.Unreadable) kept r reads = absurd reads
+exchange_of_refusal ws old new lost status text (Err fault.Memory) kept r reads = stops_unread ws old new r.stays
 
-pub served_lost : (ws : List Write) (old new : Server) (lost : Bool) (status : ℕ) (text : List ℕ) → (lost ≡ true) ⊎ (reply_limit < length text) → Served ws old new status text → Exchanged lost ws old new (Err fault.Lost)
-served_lost ws old new lost status text why served = ⊎_elim {C = Exchanged lost ws old new (Err fault.Lost)}
-    (λ s. ⊎_elim {C = Exchanged lost ws old new (Err fault.Lost)} (λ a. lost_as_asked ws old new lost status text a s) (λ l. lost_as_long ws old new lost status text l s) why)
+pub exchange_lost : (ws : List Write) (old new : Server) (lost : Bool) (status : ℕ) (text : List ℕ) → (lost ≡ true) ⊎ (reply_limit < length text) → IsServed ws old new status text → IsExchange lost ws old new (Err fault.Lost)
+exchange_lost ws old new lost status text why served = ⊎_elim {C = IsExchange lost ws old new (Err fault.Lost)}
+    (λ s. ⊎_elim {C = IsExchange lost ws old new (Err fault.Lost)} (λ a. lost_as_asked ws old new lost status text a s) (λ l. lost_as_long ws old new lost status text l s) why)
     (λ r. inr (r.over, r.stays, ⊎_elim {C = (lost ≡ true) ⊎ (reply_limit < length too_large_text)} (λ a. inl a) (λ l. inr (subst (λ t. reply_limit < length t) r.says l)) why))
     served
 
 -- a status of the request as a whole is not 200
-pub told_reply : (r : Reply) (result : Result WireReply WireFault) → Tells r result → IsTold result
-told_reply r (Ok (reply.Items outcomes)) t = tt
-told_reply r (Ok (reply.Whole status)) t = λ e. t.0 (sym t.1 ∙ e)
-told_reply r (Err f) t = tt
+pub wire_reply : (r : Reply) (result : Result WireReply WireFault) → Tells r result → IsTold result
+wire_reply r (Ok (reply.Items outcomes)) t = tt
+wire_reply r (Ok (reply.Whole status)) t = λ e. t.0 (sym t.1 ∙ e)
+wire_reply r (Err f) t = tt

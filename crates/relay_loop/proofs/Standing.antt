@@ -18,7 +18,7 @@ use Rattle.relay_lane.specs.declared.wire.WireFault.{WireFault}
 use Rattle.relay_lane.specs.declared.wire.WireFault.TheVariants as fault
 use Rattle.relay_lane.specs.Wires.{answer_of, SendsOn, AnswersOn, ExchangesOn, IsNext}
 use Rattle.relay_wires.specs.Numbered.{numbers, entry_of, besides}
-use Rattle.relay_loop.specs.Loops.{Loop, begun, bytes_of, MayGo, IsOut, AllBefore, AreOut, Fits, Opens, Exchanged, Receives, TakesIn, is_lost, server}
+use Rattle.relay_loop.specs.Loops.{Loop, new_loop, bytes_of, MayGo, IsOut, AllBefore, AreOut, Fits, Opens, IsExchange, Receives, TakesIn, is_lost, server}
 use Rattle.relay_wires.proofs.Numbers.{entry_of-Mem}
 use Rattle.relay_loop.proofs.Running.{no_runs, RanItems, ran_request, ran_front, stops_unread, not_success}
 
@@ -184,16 +184,16 @@ received_fits w v o number result taken m received x =
 -- what becomes of the bytes that were out becomes of the request that they are
 pub receives : (w v inside : Loop) (number : ℕ) (ws : List Write) (lost : Bool) (taken carried : List ℕ) (result : Result WireReply WireFault) → inside ≡ w → lost ≡ is_lost number w
     → entry_of number inside.out ≡ Some taken → carried ≡ taken → entry_of number w.out ≡ Some (bytes_of ws)
-    → (carried ≡ bytes_of ws → Exchanged lost ws (server inside) (server v) result) → Receives number ws w v result
+    → (carried ≡ bytes_of ws → IsExchange lost ws (server inside) (server v) result) → Receives number ws w v result
 receives w v inside number ws lost taken carried result same asked there as_taken is exchanged =
     let out = ap (λ (x : Loop). entry_of number x.out) same in
     let bytes : taken ≡ bytes_of ws = cc in
-    subst (λ l. Exchanged l ws (server w) (server v) result) asked
-    (subst (λ (x : Loop). Exchanged lost ws (server x) (server v) result) same (exchanged (as_taken ∙ bytes)))
+    subst (λ l. IsExchange l ws (server w) (server v) result) asked
+    (subst (λ (x : Loop). IsExchange lost ws (server x) (server v) result) same (exchanged (as_taken ∙ bytes)))
 
 -- ---- at the start
 
-pub opens : (index : State) (script : Plan) → Opens (begun index script)
+pub opens : (index : State) (script : Plan) → Opens (new_loop index script)
 opens index script = record {
   opening = record { requests = []; runs = []; stored = stored_version index; before = applied_writes index; applied = λ k. [] };
   opens = record { requests = refl; runs = refl; applied = λ k. refl };

@@ -34,8 +34,8 @@ pub record Loop : Type 0 where
   pub out : List (ℕ × List ℕ)
 
 -- nothing is outstanding, and nothing is to be lost
-abbrev pub begun : State → Plan → Loop
-begun index script = record { index = index; script = script; lost = []; out = [] }
+abbrev pub new_loop : State → Plan → Loop
+new_loop index script = record { index = index; script = script; lost = []; out = [] }
 
 -- the host in its requests
 abbrev pub loop_host : List ℕ
@@ -67,21 +67,21 @@ IsOver ws s = takes s.script (length (text_of ws)) ≡ false
 -- in order; the reply is lost if that was asked for, or if it is too long. A failed allocation: exactly the first
 -- items were run. A body that is too long: nothing was run, and the answer is 413, or its loss. There are no other
 -- results.
-abbrev pub Exchanged : Bool → List Write → Server → Server → Result WireReply WireFault → Type 0
-Exchanged lost ws old new (Ok (reply.Items outcomes)) =
+abbrev pub IsExchange : Bool → List Write → Server → Server → Result WireReply WireFault → Type 0
+IsExchange lost ws old new (Ok (reply.Items outcomes)) =
     (items : List ItemDone) × RunsAll old ws items new × (outcomes.items ≡ outcomes_of items)
     × (lost ≡ false) × (length (reply_text 0 items) ≤ reply_limit)
-Exchanged lost ws old new (Ok (reply.Whole status)) = (status ≡ 413) × IsOver ws old × (new ≡ old) × (lost ≡ false)
-Exchanged lost ws old new (Err fault.Send) = ⊥
-Exchanged lost ws old new (Err fault.Lost) =
+IsExchange lost ws old new (Ok (reply.Whole status)) = (status ≡ 413) × IsOver ws old × (new ≡ old) × (lost ≡ false)
+IsExchange lost ws old new (Err fault.Send) = ⊥
+IsExchange lost ws old new (Err fault.Lost) =
     ((items : List ItemDone) × RunsAll old ws items new × ((lost ≡ true) ⊎ (reply_limit < length (reply_text 0 items))))
     ⊎ (IsOver ws old × (new ≡ old) × ((lost ≡ true) ⊎ (reply_limit < length too_large_text)))
-Exchanged lost ws old new (Err fault.Unreadable) = ⊥
-Exchanged lost ws old new (Err fault.Memory) = (ran : ℕ) × RunsFirst ran old ws new
+IsExchange lost ws old new (Err fault.Unreadable) = ⊥
+IsExchange lost ws old new (Err fault.Memory) = (ran : ℕ) × RunsFirst ran old ws new
 
 -- this holds for the request that was outstanding under this number
 abbrev pub Receives : ℕ → List Write → Loop → Loop → Result WireReply WireFault → Type 0
-Receives number ws old new result = Exchanged (is_lost number old) ws (server old) (server new) result
+Receives number ws old new result = IsExchange (is_lost number old) ws (server old) (server new) result
 
 -- exactly these are outstanding now, and the same replies are to be lost
 pub record TakesIn (number : ℕ) (old new : Loop) : Type 0 where
@@ -152,8 +152,8 @@ pub record IsRefused (ws : List Write) (old new : Server) (status : ℕ) (text :
   pub says : text ≡ too_large_text
   pub stays : new ≡ old
 
-abbrev pub Served : List Write → Server → Server → ℕ → List ℕ → Type 0
-Served ws old new status text = Serves ws old new status text ⊎ IsRefused ws old new status text
+abbrev pub IsServed : List Write → Server → Server → ℕ → List ℕ → Type 0
+IsServed ws old new status text = Serves ws old new status text ⊎ IsRefused ws old new status text
 
 -- exactly the first writes were run
 abbrev pub Stops : List Write → Server → Server → Type 0

@@ -26,10 +26,7 @@ fn connect(alloc: Global, input: Vec<u8>, room: usize) -> Result<Conn<MemStream>
     ensures { IfOk result (λ c. c ≡ fresh (Some input.items) (Some []) 0) }
 {
     let stream = MemStream::new(alloc, input, room, PIECE, 0)?;
-    match Conn::new(alloc, stream) {
-        Ok(conn) => Ok(conn),
-        Err((failed, _)) => Err(failed),
-    }
+    Conn::new(alloc, stream).map_err(|(failed, _)| failed)
 }
 
 fn written(alloc: Global, conn: Conn<MemStream>) -> Result<Vec<u8>, AllocError>
@@ -46,10 +43,9 @@ pub(crate) fn request_bytes(alloc: Global, writes: &[Write]) -> Result<Vec<u8>, 
 {
     let room = bulk_len(writes) as usize + HEAD_ROOM;
     let mut conn = connect(alloc, Vec::new(alloc), room)?;
-    match conn.write_request(alloc, HOST, writes) {
-        Ok(()) => written(alloc, conn),
-        Err(_) => Err(AllocError),
-    }
+    conn.write_request(alloc, HOST, writes)
+        .map_err(|_| AllocError)?;
+    written(alloc, conn)
 }
 
 // The body of the request in these bytes.
@@ -58,11 +54,8 @@ pub(crate) fn request_body(alloc: Global, bytes: Vec<u8>) -> Result<Vec<u8>, All
         → IfOk result (λ v. v.items ≡ body) }
 {
     let mut conn = connect(alloc, bytes, 0)?;
-    match conn.read_request(alloc) {
-        Ok(Some(request)) => Ok(request.body),
-        Ok(None) => Err(AllocError),
-        Err(_) => Err(AllocError),
-    }
+    let request = conn.read_request(alloc).map_err(|_| AllocError)?;
+    Ok(request.ok_or(AllocError)?.body)
 }
 
 // The bytes of the answer with this status and this body.
@@ -72,10 +65,9 @@ pub(crate) fn answer_bytes(alloc: Global, status: u16, body: &str) -> Result<Vec
     ensures { IfOk result (λ bytes. bytes.items ≡ answer status body.now true) }
 {
     let mut conn = connect(alloc, Vec::new(alloc), body.len() + HEAD_ROOM)?;
-    match conn.write_answer(alloc, status, body, true) {
-        Ok(()) => written(alloc, conn),
-        Err(_) => Err(AllocError),
-    }
+    conn.write_answer(alloc, status, body, true)
+        .map_err(|_| AllocError)?;
+    written(alloc, conn)
 }
 
 // The reply in these bytes.
@@ -83,8 +75,5 @@ pub(crate) fn reply_of(alloc: Global, bytes: Vec<u8>) -> Result<HttpReply, Alloc
     ensures { IfOk result (IsAnswered bytes.items) }
 {
     let mut conn = connect(alloc, bytes, 0)?;
-    match conn.read_reply(alloc) {
-        Ok(reply) => Ok(reply),
-        Err(_) => Err(AllocError),
-    }
+    conn.read_reply(alloc).map_err(|_| AllocError)
 }

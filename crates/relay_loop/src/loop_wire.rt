@@ -1,6 +1,6 @@
 //! A wire to the stand-in index, within one process.
 ghost use Rattle.std.specs.Prelude.{◌≡◌, ◌++◌, ◌∷◌, [], true, IfOk, OnOk, OnErr};
-ghost use Rattle.relay_loop.specs.Loops.{begun, is_lost, Opens};
+ghost use Rattle.relay_loop.specs.Loops.{new_loop, is_lost, Opens};
 
 use crate::ends::request_bytes;
 use crate::round_trip::round_trip;
@@ -31,7 +31,12 @@ impl Model for LoopWire {
 
     ghost Value = { Loop };
 
-    ghost view = { λ w. record { index = w.index; script = w.script; lost = w.lost.items; out = w.out.items } };
+    ghost view = { λ w. record {
+      index = w.index;
+      script = w.script;
+      lost = w.lost.items;
+      out = w.out.items;
+    } };
 }
 
 impl LoopWire {
@@ -40,7 +45,7 @@ impl LoopWire {
     /// the lists of the index. `AllocError` is not returned today: the wire allocates when requests
     /// are sent.
     pub fn new(alloc: Global, index: Index, script: Script) -> Result<LoopWire, AllocError>
-        ensures begun { IfOk result (λ w. w ≡ begun index script) }
+        ensures begun { IfOk result (λ w. w ≡ new_loop index script) }
         ensures opens { IfOk result Opens }
     {
         Ok(LoopWire {
@@ -55,7 +60,8 @@ impl LoopWire {
     /// Loses the reply to the request with this number: the request is run, and the answer of the
     /// index is dropped. `AllocError`: allocation failed, and the wire is unchanged.
     pub fn lose(&mut self, number: u64) -> Result<(), AllocError>
-        ensures noted { OnOk result (self.new ≡ record self.old { lost = self.old.lost ++ number ∷ [] }) }
+        ensures noted { OnOk result
+            (self.new ≡ record self.old { lost = self.old.lost ++ number ∷ [] }) }
         ensures unchanged { OnErr result (self.new ≡ self.old) }
     {
         self.lost.push(number)?;
@@ -83,7 +89,8 @@ impl Wire for LoopWire {
     ghost use Rattle.relay_ndjson.specs.Bulk.{text_of};
     ghost use Rattle.relay_results.specs.Outside.{Lost};
     ghost use Rattle.relay_results.specs.Words.{Mem};
-    ghost use Rattle.relay_lane.specs.Wires.{answer_of, IsWireReply, SendsOn, AnswersOn, ExchangesOn, Shows, ShowsNext, without};
+    ghost use Rattle.relay_lane.specs.Wires.{answer_of, IsWireReply, SendsOn, AnswersOn};
+    ghost use Rattle.relay_lane.specs.Wires.{ExchangesOn, Shows, ShowsNext, without};
     ghost use Rattle.relay_wires.specs.Numbered.{numbers, entry_of};
     ghost use Rattle.relay_loop.specs.Loops.{Fits, MayGo, bytes_of, Receives, TakesIn};
 
@@ -105,22 +112,19 @@ impl Wire for LoopWire {
             (λ _. numbers self.new.out ≡ numbers self.old.out) }
         ensures outside { MatchResult result
             (λ _. ShowsNext true Fits self.old self.new number (SendsOn writes.now))
-            (λ _. ShowsNext true Fits self.old self.new number (ExchangesOn number writes.now Lost)) }
+            (λ _. ShowsNext true Fits self.old self.new number
+            (ExchangesOn number writes.now Lost)) }
         // The request waits as it was written, and nothing else changes.
-        ensures sent { OnOk result (self.new ≡ record self.old { out = (number, bytes_of writes.now) ∷ self.old.out }) }
+        ensures sent { OnOk result (self.new ≡ record self.old {
+          out = (number, bytes_of writes.now) ∷ self.old.out;
+        }) }
         ensures unsent { OnErr result (self.new ≡ self.old) }
         ensures memory { IfErr result (λ e. e ≡ WireFault.Memory) }
     {
-        if self.out.reserve(1).is_err() {
-            return Err(WireFault::Memory);
-        }
-        match request_bytes(self.alloc, writes) {
-            Ok(bytes) => {
-                self.out.push_front_reserved((number, List::of(bytes)));
-                Ok(())
-            }
-            Err(_) => Err(WireFault::Memory),
-        }
+        self.out.reserve(1).map_err(|_| WireFault::Memory)?;
+        let bytes = request_bytes(self.alloc, writes).map_err(|_| WireFault::Memory)?;
+        self.out.push_front_reserved((number, List::of(bytes)));
+        Ok(())
     }
 
     /// Runs a request and receives its reply. `Lost`: all items were run, and the reply was to be
@@ -132,20 +136,21 @@ impl Wire for LoopWire {
         ensures reply { IsWireReply result }
         ensures outside { Shows true Fits self.old self.new (AnswersOn number (answer_of result)) }
         // What was sent is run as the script says, and the answer of the index is received.
-        ensures received { (ws : List Write) → MayGo ws → entry_of number self.old.out ≡ Some (bytes_of ws)
+        ensures received { (ws : List Write) → MayGo ws
+            → entry_of number self.old.out ≡ Some (bytes_of ws)
             → Receives number ws self.old self.new result }
         ensures taken { TakesIn number self.old self.new }
     {
         let lost = self.is_lost(number);
-        match take(&mut self.out, number) {
-            Some(bytes) => round_trip(
-                self.alloc,
-                bytes.into_vec(),
-                lost,
-                &mut self.index,
-                &mut self.script,
-            ),
-            None => unreachable!(),
-        }
+        let Some(bytes) = take(&mut self.out, number) else {
+            unreachable!();
+        };
+        round_trip(
+            self.alloc,
+            bytes.into_vec(),
+            lost,
+            &mut self.index,
+            &mut self.script,
+        )
     }
 }

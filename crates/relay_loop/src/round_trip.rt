@@ -7,7 +7,8 @@ ghost use Rattle.relay_index.specs.Serving.{under};
 ghost use Rattle.relay_lane.specs.Wires.{IsWireReply as IsTold};
 ghost use Rattle.relay_http.specs.Framing.{reply_limit};
 ghost use Rattle.relay_http.specs.WrittenAnswer.{IsAnswerStatus};
-ghost use Rattle.relay_loop.specs.Loops.{MayGo, bytes_of, Exchanged, Reads, ReadsWhole, Served, Stops};
+ghost use Rattle.relay_loop.specs.Loops.{MayGo, bytes_of, IsExchange, Reads};
+ghost use Rattle.relay_loop.specs.Loops.{ReadsWhole, IsServed, Stops};
 
 use crate::ends::{answer_bytes, reply_of, request_body};
 use relay_http::REPLY_LIMIT;
@@ -25,14 +26,14 @@ fn serve(
 ) -> Result<(u16, String), AllocError>
     ensures status { IfOk result (λ answer. IsAnswerStatus answer.0) }
     ensures served { (ws : List Write) → MayGo ws → bytes.items ≡ bytes_of ws → MatchResult result
-        (λ answer. Served ws (under index.old script.old) (under index.new script.new) answer.0 (string_bytes answer.1))
+        (λ answer. IsServed ws (under index.old script.old) (under index.new script.new)
+        answer.0 (string_bytes answer.1))
         (λ e. Stops ws (under index.old script.old) (under index.new script.new)) }
 {
     let body = request_body(alloc, bytes)?;
-    match index.serve_body(alloc, body.as_slice(), script) {
-        Ok(answer) => Ok(answer),
-        Err(_) => Err(AllocError),
-    }
+    index
+        .serve_body(alloc, body.as_slice(), script)
+        .map_err(|_| AllocError)
 }
 
 // Carries an answer back to the lane's end, and reads it there.
@@ -43,14 +44,9 @@ fn carry_back(alloc: Global, status: u16, text: &str) -> Result<WireReply, WireF
     ensures reads { (os : List Outcome) → status ≡ 200 → IsBulkReply text.now os → Reads os result }
     ensures whole { status ≢ 200 → ReadsWhole status result }
 {
-    let bytes = match answer_bytes(alloc, status, text) {
-        Ok(bytes) => bytes,
-        Err(_) => return Err(WireFault::Memory),
-    };
-    match reply_of(alloc, bytes) {
-        Ok(reply) => tell(alloc, &reply),
-        Err(_) => Err(WireFault::Memory),
-    }
+    let bytes = answer_bytes(alloc, status, text).map_err(|_| WireFault::Memory)?;
+    let reply = reply_of(alloc, bytes).map_err(|_| WireFault::Memory)?;
+    tell(alloc, &reply)
 }
 
 // Runs the request in these bytes, and carries its reply back unless it is to be lost.
@@ -63,12 +59,9 @@ pub(crate) fn round_trip(
 ) -> Result<WireReply, WireFault>
     ensures reply { IsTold result }
     ensures exchanged { (ws : List Write) → MayGo ws → bytes.items ≡ bytes_of ws →
-        Exchanged lost ws (under index.old script.old) (under index.new script.new) result }
+        IsExchange lost ws (under index.old script.old) (under index.new script.new) result }
 {
-    let (status, text) = match serve(alloc, bytes, index, script) {
-        Ok(answer) => answer,
-        Err(_) => return Err(WireFault::Memory),
-    };
+    let (status, text) = serve(alloc, bytes, index, script).map_err(|_| WireFault::Memory)?;
     if lost || text.len() > REPLY_LIMIT {
         return Err(WireFault::Lost);
     }

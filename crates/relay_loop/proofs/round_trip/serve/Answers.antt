@@ -1,20 +1,26 @@
 use Rattle.std.proofs.Common.{◌∙◌, string_bytes}
 use Rattle.relay_ndjson.specs.Bulk.{text_of}
 use Rattle.relay_index.specs.Serving.{under, answer_of}
+use Rattle.relay_wires.proofs.Results.{by_cases, err_of, same_ok}
 use Rattle.relay_loop.proofs.Running.{serves_all, answer_status, stops}
 use Rattle.relay_loop.proofs.round_trip.serve.Goals as goal
 
-pub returns-in-Ok-clause-status : goal.returns-in-Ok-clause-status
-returns-in-Ok-clause-status c =
+pub returns-clause-status : goal.returns-clause-status
+returns-clause-status c = by_cases _ _ c.map_err.result
+    (λ answer ok.
+    let was = same_ok _ c.serve_body.result c.map_err.result answer c.map_err.ensures.cases (rw ok at c.map_err.ensures.variant) ok in
     answer_status c.as_slice.result.now (under c.args.index.now c.args.script.now) (under c.serve_body.new.self c.serve_body.new.script)
-    (answer_of c.in-Ok.answer.0 (string_bytes c.in-Ok.answer.1)) c.in-Ok.ensures.answered
-
-pub returns-in-Ok-clause-served : goal.returns-in-Ok-clause-served
-returns-in-Ok-clause-served c ws may is =
-    serves_all ws c.as_slice.result.now (under c.args.index.now c.args.script.now) (under c.serve_body.new.self c.serve_body.new.script)
-    (answer_of c.in-Ok.answer.0 (string_bytes c.in-Ok.answer.1)) may.dealt (c.as_slice.ensures.value ∙ c.in_ok-body.ensures (text_of ws) may.size is) c.in-Ok.ensures.answered
+    (answer_of answer.0 (string_bytes answer.1)) (rw was at c.serve_body.ensures.answered))
+    (λ e is. tt)
 
 pub returns-clause-served : goal.returns-clause-served
 returns-clause-served c ws may is =
-    stops c.in-Err.field-0.ran ws c.as_slice.result.now (under c.args.index.now c.args.script.now) (under c.serve_body.new.self c.serve_body.new.script)
-    may.dealt (c.as_slice.ensures.value ∙ c.in_ok-body.ensures (text_of ws) may.size is) c.in-Err.ensures.stopped
+    let body = c.as_slice.ensures.value ∙ c.in_ok-body.ensures (text_of ws) may.size is in
+    by_cases _ _ c.map_err.result
+    (λ answer ok.
+    let was = same_ok _ c.serve_body.result c.map_err.result answer c.map_err.ensures.cases (rw ok at c.map_err.ensures.variant) ok in
+    serves_all ws c.as_slice.result.now (under c.args.index.now c.args.script.now) (under c.serve_body.new.self c.serve_body.new.script)
+    (answer_of answer.0 (string_bytes answer.1)) may.dealt body (rw was at c.serve_body.ensures.answered))
+    (λ e is.
+    let was = err_of _ _ c.serve_body.result c.serve_body.ensures.stopped (rw is at c.map_err.ensures.variant) in
+    stops was.0.ran ws c.as_slice.result.now (under c.args.index.now c.args.script.now) (under c.serve_body.new.self c.serve_body.new.script) may.dealt body was.2)

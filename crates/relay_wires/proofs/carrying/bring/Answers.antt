@@ -2,14 +2,14 @@ use Rattle.std.proofs.Common.{Err, refl, ap, subst, sym, ◌∙◌}
 use Rattle.std.proofs.lemmas.Result.{err_from_is_err_and}
 use Rattle.relay_wires.specs.Carriers.{AllFree}
 use Rattle.relay_wires.proofs.Connections.{all_free_after}
-use Rattle.relay_wires.proofs.Results.{was_ok, was_err}
+use Rattle.relay_wires.proofs.Results.{same_ok, err_of}
 use Rattle.relay_wires.proofs.carrying.bring.Goals as goal
 
 pub returns-clause-brings : goal.returns-clause-brings
 returns-clause-brings g c =
     let lasts = c.requires.lasts in
     let r = c.read_reply.result in
-    let was = was_ok _ r c.map_err.result c.in_ok-reply.reply c.map_err.ensures.cases c.in_ok-reply.ensures.variant c.in_ok-reply.was in
+    let was = same_ok _ r c.map_err.result c.in_ok-reply.reply c.map_err.ensures.cases c.in_ok-reply.ensures.variant c.in_ok-reply.was in
     record {
       left = c.read_reply.new.self;
       read = r;
@@ -29,7 +29,7 @@ returns-clause-brings g c =
 
 pub returns-clause-free_left : goal.returns-clause-free_left
 returns-clause-free_left g c =
-    let was = was_ok _ c.read_reply.result c.map_err.result c.in_ok-reply.reply c.map_err.ensures.cases c.in_ok-reply.ensures.variant c.in_ok-reply.was in
+    let was = same_ok _ c.read_reply.result c.map_err.result c.in_ok-reply.reply c.map_err.ensures.cases c.in_ok-reply.ensures.variant c.in_ok-reply.was in
     let phase = rw was at c.read_reply.ensures.phase c.requires.lasts in
     subst AllFree (sym c.release.ensures.free) (all_free_after c.in_ok-reply.reply c.read_reply.new.self c.args.free.now.items phase c.requires.all_free)
 
@@ -37,7 +37,7 @@ pub returns-in_err-reply-clause-brings : goal.returns-in_err-reply-clause-brings
 returns-in_err-reply-clause-brings g c =
     let lasts = c.requires.lasts in
     let r = c.read_reply.result in
-    let was = was_err _ _ r c.in_err-reply.ensures.cases c.in_err-reply.ensures.variant in
+    let was = err_of _ _ r c.in_err-reply.ensures.cases c.in_err-reply.ensures.variant in
     let p = err_from_is_err_and c.from_residual.result c.from_residual.ensures.1 in
     record {
       left = c.read_reply.new.self;

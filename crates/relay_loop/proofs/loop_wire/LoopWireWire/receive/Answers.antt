@@ -11,7 +11,7 @@ unreachable-requires c =
     let out = ap (λ (w : Loop). w.out) c.self.view_is in
     let there = x.1 in
     let asked = c.take.ensures.found in
-    let none = c.in-None.is in cc
+    let none = c.in_default.is in cc
 
 pub returns-clause-out : goal.returns-clause-out
 returns-clause-out c = rw (c.take.ensures.besides, ← c.self.view_is) (numbers-besides c.args.number c.self.inside.out.items)
