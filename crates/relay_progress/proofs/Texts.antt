@@ -8,6 +8,6 @@ pub more : (new mid text a b : List ℕ) → new ≡ mid ++ b → mid ≡ text +
 more new mid text a b n m = n ∙ ap (λ t. t ++ b) m ∙ append_assoc text a b
 
 -- a text of which the front was added, and the last part where there was memory
-pub ended : (r : Result Unit AllocError) (new mid text front end : List ℕ) → new ≡ (if is_ok r then mid ++ end else mid) → mid ≡ text ++ front → OnOk r (new ≡ text ++ (front ++ end))
-ended (Ok x) new mid text front end n m = n ∙ ap (λ t. t ++ end) m ∙ append_assoc text front end
-ended (Err e) new mid text front end n m = tt
+pub with_end : (r : Result Unit AllocError) (new mid text front end : List ℕ) → new ≡ (if is_ok r then mid ++ end else mid) → mid ≡ text ++ front → OnOk r (new ≡ text ++ (front ++ end))
+with_end (Ok x) new mid text front end n m = n ∙ ap (λ t. t ++ end) m ∙ append_assoc text front end
+with_end (Err e) new mid text front end n m = tt

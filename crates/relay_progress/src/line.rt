@@ -1,6 +1,8 @@
 //! The progress line.
 ghost use Rattle.std.specs.Prelude.{◌≡◌, ◌++◌, IfOk, OnOk};
-ghost use Rattle.relay_progress.specs.Lines.{ago_text, answer_text, counts_text, progress_text, read_text, share, trouble_name, trouble_text, written_text};
+ghost use Rattle.relay_progress.specs.Lines.{ago_text, answer_text, counts_text};
+ghost use Rattle.relay_progress.specs.Lines.{progress_text, read_text, share};
+ghost use Rattle.relay_progress.specs.Lines.{trouble_name, trouble_text, written_text};
 
 use crate::counts::Trouble;
 use relay_words::add_number;

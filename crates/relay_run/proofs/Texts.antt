@@ -1,7 +1,8 @@
 -- The texts of a run, file by file and lane by lane.
-use Rattle.std.proofs.Common.{◌≡◌, ℕ, ◌+◌, ◌<◌, Bool, if◌then◌else◌, Ok, Err, OnOk, List, ◌∷◌, ◌++◌, length, drop, get_or, sym, ap, ◌∙◌, append_assoc}
+use Rattle.std.proofs.Common.{◌≡◌, ℕ, ◌+◌, ◌<◌, Bool, if◌then◌else◌, Ok, Err, OnOk, List, ◌∷◌, ◌++◌, length, take, drop, get_or, sym, ap, ◌∙◌, append_assoc}
 use Rattle.std.specs.Prelude.{Option, Result, is_ok}
 use Rattle.std.specs.declared.alloc.AllocError.{AllocError}
+use Rattle.std.proofs.Math.Seq.{take-append_seam}
 use Rattle.std.proofs.lemmas.List.{drop_more}
 use Rattle.relay_core.specs.declared.report.Report.{Report}
 use Rattle.relay_ndjson.specs.Operations.{counted}
@@ -18,6 +19,11 @@ pub ended_line : (r : Result Unit AllocError) (new mid text name file end line :
     → file ++ end ≡ line → OnOk r (new ≡ text ++ line)
 ended_line (Ok x) new mid text name file end line n m f l = n ∙ ap (λ t. t ++ end) m ∙ append_assoc text name end ∙ ap (λ t. text ++ (t ++ end)) f ∙ ap (λ t. text ++ t) l
 ended_line (Err e) new mid text name file end line n m f l = tt
+
+-- whether or not the end of it could be added, a text begins as it did
+pub begins_on : (r : Result Unit AllocError) (new mid text name end : List ℕ) → new ≡ (if is_ok r then mid ++ end else mid) → mid ≡ text ++ name → take (length text) new ≡ text
+begins_on (Ok x) new mid text name end n m = ap (take (length text)) (n ∙ ap (λ t. t ++ end) m ∙ append_assoc text name end) ∙ take-append_seam text (name ++ end)
+begins_on (Err e) new mid text name end n m = ap (take (length text)) (n ∙ m) ∙ take-append_seam text name
 
 -- what is said of one file more
 pub said_on : (files : List (List ℕ)) (opened : List Bool) (stops : List (Option FeedFault)) (place : ℕ) (file : List ℕ) (d : Bool) (e : Option FeedFault) (text new all : List ℕ)

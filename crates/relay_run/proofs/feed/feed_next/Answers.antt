@@ -1,13 +1,16 @@
+use Rattle.std.proofs.Common.{Err}
+use Rattle.std.proofs.lemmas.Result.{err_from_is_err_and}
 use Rattle.relay_ndjson.proofs.Readings.{answers_of}
 use Rattle.relay_run.proofs.Feeding.{refused_stops}
 use Rattle.relay_run.proofs.feed.feed_next.Goals as goal
 
-pub returns-in-Ok-clause-next : goal.returns-in-Ok-clause-next
-returns-in-Ok-clause-next g c =
+pub returns-in_ok-put-in-Ok-Some-clause-next : goal.returns-in_ok-put-in-Ok-Some-clause-next
+returns-in_ok-put-in-Ok-Some-clause-next g c =
     let taken = answers_of _ _ _ c.requires (rw c.in-Ok-Some.field-0-is at c.in-Ok-Some.ensures.lines) in
-    (taken.0, (c.in-Ok-Some.key, c.in-Ok-Some.action), taken.1, c.in-Ok.ensures.puts.0, c.in-Ok.ensures.puts.1)
+    (taken.0, (c.in-Ok-Some.key, c.in-Ok-Some.action), taken.1, c.in_ok-put-in-Ok-Some.ensures.puts.0, c.in_ok-put-in-Ok-Some.ensures.puts.1)
 
-pub returns-in-Err-put-clause-next : goal.returns-in-Err-put-clause-next
-returns-in-Err-put-clause-next g c =
+pub returns-in_err-put-in-Ok-Some-clause-next : goal.returns-in_err-put-in-Ok-Some-clause-next
+returns-in_err-put-in-Ok-Some-clause-next g c =
+    let p = err_from_is_err_and c.from_residual.result c.from_residual.ensures.1 in
     let taken = answers_of _ _ _ c.requires (rw c.in-Ok-Some.field-0-is at c.in-Ok-Some.ensures.lines) in
-    refused_stops _ _ _ _ taken.0 (c.in-Ok-Some.key, c.in-Ok-Some.action) c.in-Err-put.fault taken.1 c.in-Err-put.ensures.puts
+    rw (p.1, p.2) (refused_stops _ _ _ _ taken.0 (c.in-Ok-Some.key, c.in-Ok-Some.action) c.in_err-put-in-Ok-Some.field-0.0 taken.1 c.in_err-put-in-Ok-Some.ensures.puts)
