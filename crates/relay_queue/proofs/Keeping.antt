@@ -43,11 +43,11 @@ begins = record {
 -- ---- a send
 
 -- the history with one more message in the log
-abbrev sent_more : History → Mail → History
-sent_more history x = record history { log = history.log ++ x ∷ [] }
+abbrev after_put : History → Mail → History
+after_put history x = record history { log = history.log ++ x ∷ [] }
 
 -- what the other passes know stays true
-others_send : (history : History) (x : Mail) (pass j : ℕ) (u : Knowledge) → history.pass_of x.sender ≡ some pass → j ≢ pass → Fits history j u → Fits (sent_more history x) j u
+others_send : (history : History) (x : Mail) (pass j : ℕ) (u : Knowledge) → history.pass_of x.sender ≡ some pass → j ≢ pass → Fits history j u → Fits (after_put history x) j u
 others_send history x pass j (Sender capacity sender sent closed) own apart h =
     let other : x.sender ≢ sender = λ e. apart (sym (some-injective pass j (sym own ∙ ap history.pass_of e ∙ h.own))) in
     record { places = h.places; own = h.own; all = h.all ∙ sym (mail_of-other sender history.log x other); done = h.done }
@@ -80,14 +80,14 @@ sends state n pass (Sender capacity sender sent closed) x open_one places mine n
     let own : history.pass_of x.sender ≡ some pass = ap history.pass_of (sym mine) ∙ me.own in
     let grown : sent ++ x ∷ [] ≡ mail_of sender (history.log ++ x ∷ []) = ap (λ l. l ++ x ∷ []) me.all ∙ sym (mail_of-own sender history.log x (sym mine)) in
     let well : (p : ℕ) → IsWellSent (mail_of p (history.log ++ x ∷ [])) = log_send history.log x h.well_sent (subst (λ (l : List Mail). ¬ HasDone l) all unclosed) (number ∙ ap (λ (l : List Mail). length l + 1) all) in
-    let mine_now : Fits (sent_more history x) pass (Sender capacity sender (sent ++ x ∷ []) state) = record { places = me.places; own = me.own; all = grown; done = now unclosed } in (
+    let mine_now : Fits (after_put history x) pass (Sender capacity sender (sent ++ x ∷ []) state) = record { places = me.places; own = me.own; all = grown; done = now unclosed } in (
       Sender capacity sender (sent ++ x ∷ []) state,
       record {
-        history = sent_more history x;
+        history = after_put history x;
         in_log = ap (λ l. l ++ x ∷ []) h.in_log ∙ append_assoc history.taken queued (x ∷ []);
         well_sent = well;
         within = (let cap : capacity ≡ history.capacity = me.places in omega (arith, length-append queued (x ∷ [])));
-        known = fit_set (Fits (sent_more history x)) passes pass (Sender capacity sender (sent ++ x ∷ []) state) mine_now (λ j u apart e. others_send history x pass j u own apart (h.known j u e));
+        known = fit_set (Fits (after_put history x)) passes pass (Sender capacity sender (sent ++ x ∷ []) state) mine_now (λ j u apart e. others_send history x pass j u own apart (h.known j u e));
       },
       (refl, subst IsWellSent (sym grown) (well sender), now unclosed),
     )
@@ -97,11 +97,11 @@ sends state n pass Met x open_one places mine number now queued passes room h at
 -- ---- a take
 
 -- the history with one more message taken
-abbrev took_more : History → Mail → History
-took_more history x = record history { taken = history.taken ++ x ∷ [] }
+abbrev after_take : History → Mail → History
+after_take history x = record history { taken = history.taken ++ x ∷ [] }
 
 -- what the other passes know stays true, since the taker has but one
-others_take : (history : History) (x : Mail) (j : ℕ) (u : Knowledge) → j ≢ history.taker → Fits history j u → Fits (took_more history x) j u
+others_take : (history : History) (x : Mail) (j : ℕ) (u : Knowledge) → j ≢ history.taker → Fits history j u → Fits (after_take history x) j u
 others_take history x j (Sender capacity sender sent closed) apart h = record { places = h.places; own = h.own; all = h.all; done = h.done }
 others_take history x j (Taker capacity senders taken met) apart h = absurd (apart h.own)
 others_take history x j Met apart h = tt
@@ -116,7 +116,7 @@ takes pass (Taker capacity senders taken met) is_taker x queued passes h at =
     let late : senders ≤ x.sender → ⊥ = λ le. has_mail x.sender history.taken queued x refl (ap (mail_of x.sender) (sym h.in_log) ∙ (me.later x.sender le).nothing) in
     let parts : (p : ℕ) → mail_of p history.log ≡ mail_of p (taken ++ x ∷ []) ++ mail_of p queued = λ p.
     ap (mail_of p) (log_is ∙ ap (λ (l : List Mail). (l ++ x ∷ []) ++ queued) (sym me.front)) ∙ mail_of-append p (taken ++ x ∷ []) queued in
-    let mine_now : Fits (took_more history x) pass (Taker capacity senders (taken ++ x ∷ []) met) = record {
+    let mine_now : Fits (after_take history x) pass (Taker capacity senders (taken ++ x ∷ []) met) = record {
       places = me.places;
       own = me.own;
       front = ap (λ l. l ++ x ∷ []) me.front;
@@ -125,11 +125,11 @@ takes pass (Taker capacity senders taken met) is_taker x queued passes h at =
     } in (
       Taker capacity senders (taken ++ x ∷ []) met,
       record {
-        history = took_more history x;
+        history = after_take history x;
         in_log = log_is;
         well_sent = h.well_sent;
         within = (let short = h.within in omega arith);
-        known = fit_set (Fits (took_more history x)) passes pass (Taker capacity senders (taken ++ x ∷ []) met) mine_now (λ j u apart e. others_take history x j u (λ i. apart (i ∙ sym me.own)) (h.known j u e));
+        known = fit_set (Fits (after_take history x)) passes pass (Taker capacity senders (taken ++ x ∷ []) met) mine_now (λ j u apart e. others_take history x j u (λ i. apart (i ∙ sym me.own)) (h.known j u e));
       },
       (
         refl,
@@ -160,11 +160,11 @@ well_taken-nil senders = record { in_order = λ p. well_sent-nil; no_other = λ 
 -- ---- a new sender
 
 -- the history with one more sender, which has this pass, and with so many places
-abbrev made_more : History → ℕ → ℕ → ℕ → History
-made_more history places sender pass = record history { capacity = places; pass_of = pass_at history.pass_of sender (some pass) }
+abbrev after_split : History → ℕ → ℕ → ℕ → History
+after_split history places sender pass = record history { capacity = places; pass_of = pass_at history.pass_of sender (some pass) }
 
 -- what the other passes know stays true
-others_make : (history : History) (places sender pass j : ℕ) (u : Knowledge) → history.pass_of sender ≡ none → ((q k : ℕ) → history.pass_of q ≡ some k → history.capacity ≡ places) → j ≢ history.taker → Fits history j u → Fits (made_more history places sender pass) j u
+others_make : (history : History) (places sender pass j : ℕ) (u : Knowledge) → history.pass_of sender ≡ none → ((q k : ℕ) → history.pass_of q ≡ some k → history.capacity ≡ places) → j ≢ history.taker → Fits history j u → Fits (after_split history places sender pass) j u
 others_make history places sender pass j (Sender capacity q sent closed) free same apart h =
     let other : q ≢ sender = λ e. some-ne-none j (sym h.own ∙ ap history.pass_of e ∙ free) in
     record { places = h.places ∙ same q j h.own; own = pass_at-other history.pass_of sender q (some pass) other ∙ h.own; all = h.all; done = h.done }
@@ -180,7 +180,7 @@ splits pass (Taker capacity senders taken met) places is_taker first queued pass
     let free : IsUnmade history senders = me.later senders (omega arith) in
     let passes' : List Knowledge = set passes pass (Taker places (senders + 1) taken met) in
     let new : ℕ = length passes' in
-    let history' : History = made_more history places senders new in
+    let history' : History = after_split history places senders new in
     let same : (q k : ℕ) → history.pass_of q ≡ some k → history.capacity ≡ places = λ q k e.
     ⊎_elim (λ (z : senders ≡ 0). absurd (some-ne-none k (sym e ∙ (me.later q (omega arith)).no_pass))) (λ (z : capacity ≡ places). sym me.places ∙ z) first in
     let short : length queued ≤ places =
@@ -207,11 +207,11 @@ splits pass (Taker capacity senders taken met) places is_taker first queued pass
 -- ---- a meeting
 
 -- the history with a sender that was met
-abbrev met_more : History → ℕ → History
-met_more history sender = record history { pass_of = pass_at history.pass_of sender none }
+abbrev after_meet : History → ℕ → History
+after_meet history sender = record history { pass_of = pass_at history.pass_of sender none }
 
 -- what the other passes know stays true
-others_meet : (history : History) (sender pass j : ℕ) (u : Knowledge) → history.pass_of sender ≡ some pass → j ≢ pass → j ≢ history.taker → Fits history j u → Fits (met_more history sender) j u
+others_meet : (history : History) (sender pass j : ℕ) (u : Knowledge) → history.pass_of sender ≡ some pass → j ≢ pass → j ≢ history.taker → Fits history j u → Fits (after_meet history sender) j u
 others_meet history sender pass j (Sender capacity q sent closed) own apart alone h =
     let other : q ≢ sender = λ e. apart (some-injective j pass (sym h.own ∙ ap history.pass_of e ∙ own)) in
     record { places = h.places; own = pass_at-other history.pass_of sender q none other ∙ h.own; all = h.all; done = h.done }
@@ -219,9 +219,9 @@ others_meet history sender pass j (Taker capacity senders taken met) own apart a
 others_meet history sender pass j Met own apart alone h = tt
 
 -- what the taker knows of the senders that it met, with one more
-knows_met : (history : History) (senders sender : ℕ) (sent : List Mail) (met : List SentList) → WasMet (met_more history sender) senders (record { sender = sender; sent = sent }) → ((i : ℕ) (m : SentList) → get_elem? met i ≡ some m → WasMet history senders m)
-    → (i : ℕ) (m : SentList) → get_elem? (record { sender = sender; sent = sent } ∷ met) i ≡ some m → WasMet (met_more history sender) senders m
-knows_met history senders sender sent met one old zero m e = subst (WasMet (met_more history sender) senders) (some-injective _ m e) one
+knows_met : (history : History) (senders sender : ℕ) (sent : List Mail) (met : List SentList) → WasMet (after_meet history sender) senders (record { sender = sender; sent = sent }) → ((i : ℕ) (m : SentList) → get_elem? met i ≡ some m → WasMet history senders m)
+    → (i : ℕ) (m : SentList) → get_elem? (record { sender = sender; sent = sent } ∷ met) i ≡ some m → WasMet (after_meet history sender) senders m
+knows_met history senders sender sent met one old zero m e = subst (WasMet (after_meet history sender) senders) (some-injective _ m e) one
 knows_met history senders sender sent met one old (suc i) m e = let k = old i m e in record { made = k.made; no_pass = pass_at-none history.pass_of sender m.sender k.no_pass; all = k.all; done = k.done }
 
 pub meets : (pass : ℕ) (v : Knowledge) (other : ℕ) (w : Knowledge) → IsTaker v → IsSender true w → Merges Delivers pass v other w (with_met v w) Met
@@ -231,7 +231,7 @@ meets pass (Taker capacity senders taken met) other (Taker c n t k) is_taker is_
 meets pass (Taker capacity senders taken met) other Met is_taker is_closed queued passes h at two at' = absurd is_closed
 meets pass (Taker capacity senders taken met) other (Sender c sender sent closed) is_taker is_closed queued passes h at two at' =
     let history = h.history in
-    let history' : History = met_more history sender in
+    let history' : History = after_meet history sender in
     let both : Knowledge = Taker capacity senders taken (record { sender = sender; sent = sent } ∷ met) in
     let theirs_at : Knowledge = Sender c sender sent closed in
     let me : Fits history pass (Taker capacity senders taken met) = h.known pass (Taker capacity senders taken met) at in

@@ -12,7 +12,7 @@ use Rattle.relay_lane.specs.Delivers.{Delivers}
 use Rattle.relay_lane.proofs.Sends.{none_left}
 use Rattle.relay_threads.specs.declared.lane_end.LaneEndKind.{LaneEndKind}
 use Rattle.relay_threads.specs.declared.lane_end.LaneEndKind.TheVariants.{Finished, Memory, Gone}
-use Rattle.relay_threads.specs.Course.{KnowsOpen, OneIsOpen, Heard, Course, EndsAs}
+use Rattle.relay_threads.specs.Course.{KnowsOpen, OneIsOpen, HasHeard, Course, EndsAs}
 use Rattle.relay_threads.specs.Steps.{KeepsOn}
 use Rattle.relay_threads.proofs.Hearing.{heard_all, all_done, done_more, one_open}
 use Rattle.relay_threads.proofs.Keeping.{course_on, works}
@@ -35,7 +35,7 @@ gone_apart : (kind : LaneEndKind) → kind ≡ Gone → kind ≡ Memory → ⊥
 gone_apart kind g m = cc
 
 -- a lane that ended as Gone heard all that was taken, so of the sender that it does not know to have closed no Done was taken
-left_open : (producers : ℕ) (taken : List Mail) (kind : LaneEndKind) (s : State) (heard : List Mail) → kind ≡ Gone → Heard kind taken heard → length s.closed ≡ producers + 1 → KnowsOpen s.closed heard → all_closed s ≡ false → OneIsOpen (producers + 1) taken
+left_open : (producers : ℕ) (taken : List Mail) (kind : LaneEndKind) (s : State) (heard : List Mail) → kind ≡ Gone → HasHeard kind taken heard → length s.closed ≡ producers + 1 → KnowsOpen s.closed heard → all_closed s ≡ false → OneIsOpen (producers + 1) taken
 left_open producers taken kind s heard gone h n knows left =
     let none : h.missed ≡ [] = h.memory (λ m. absurd (gone_apart kind gone m)) in
     let all : taken ≡ heard = h.all ∙ ap (λ l. heard ++ l) none ∙ append-nil heard in
@@ -43,7 +43,7 @@ left_open producers taken kind s heard gone h n knows left =
 
 module _ {S : Type 0} (d : Bool) (fits : S → Outside → Type 0) where
   -- it stopped early
-  pub ends_early : (start w : S) (c : RelayConfig) (taken : List Mail) (kind : LaneEndKind) (s : State) → kind ≢ Finished → (kind ≡ Gone → all_closed s ≡ false) → ((heard : List Mail) × Heard kind taken heard × Course d fits start w c heard s) → EndsAs d fits start w c taken kind s
+  pub ends_early : (start w : S) (c : RelayConfig) (taken : List Mail) (kind : LaneEndKind) (s : State) → kind ≢ Finished → (kind ≡ Gone → all_closed s ≡ false) → ((heard : List Mail) × HasHeard kind taken heard × Course d fits start w c heard s) → EndsAs d fits start w c taken kind s
   ends_early start w c taken kind s early left x = record {
     messages = x.0;
     heard = x.1;

@@ -1,40 +1,37 @@
 -- Where no lane went wrong, all have finished.
-use Rattle.std.proofs.Common.{◌≡◌, ◌≢◌, ◌++◌, append-nil, length-append, ℕ, zero, suc, ◌+◌, ◌<◌, ◌≤◌, Bool, true, false, ◌||◌, IsTrue, List, [], ◌∷◌, length, map, sym, refl, ap, ◌∙◌, subst, arith}
+use Rattle.std.proofs.Common.{◌≡◌, ◌≢◌, ◌++◌, append-nil, length-append, ℕ, suc, ◌+◌, ◌<◌, ◌≤◌, Bool, true, false, ◌||◌, List, [], ◌∷◌, length, map, sym, refl, ap, ◌∙◌, subst, arith}
 use Rattle.std.specs.Prelude.{nat_le}
 use Rattle.std.proofs.lemmas.List.{length-map}
 use Rattle.std.proofs.lemmas.Bool.Decides.{nat_tests}
 use Rattle.std.specs.declared.thread.PromisedHandle.{PromisedHandle}
 use Rattle.relay_action.specs.declared.mail.Mail.{Mail}
 use Rattle.relay_action.specs.declared.operation.Op.{Op}
-use Rattle.relay_results.specs.Outside.{Outside, IsOpening}
+use Rattle.relay_results.specs.Outside.{Outside}
 use Rattle.relay_delivery.specs.Delivery.{HasDistinctNames, IsSound, IsComplete, applied_ops}
 use Rattle.relay_delivery.specs.Machine.{Config, Report}
-use Rattle.relay_delivery.specs.Lane as delivery
 use Rattle.relay_delivery.specs.Reached.{Reached}
 use Rattle.relay_queue.specs.Ends.{Queue}
-use Rattle.relay_queue.specs.Messages.{mail_of, HasDone, IsWellTaken}
+use Rattle.relay_queue.specs.Messages.{IsWellTaken}
 use Rattle.relay_core.specs.declared.config.RelayConfig.{RelayConfig}
-use Rattle.relay_core.specs.State.{State, config_of, IsLane}
+use Rattle.relay_core.specs.State.{config_of}
 use Rattle.relay_core.specs.Walk.{report_of}
 use Rattle.relay_core.specs.Limits.{is_valid, is_from_to}
 use Rattle.relay_results.proofs.Lists.{and_left, and_right}
 use Rattle.relay_producer.specs.States.{ClosedProducerState, ClosedControlState}
-use Rattle.relay_core.specs.Ties.{Fits}
-use Rattle.relay_lane.specs.Delivers.{GoesOn, IsDelivered}
+use Rattle.relay_lane.specs.Delivers.{GoesOn}
 use Rattle.relay_producer.specs.declared.ends.ClosedEnd.{ClosedEnd}
-use Rattle.relay_producer.specs.Ends.{is_gone}
 use Rattle.relay_threads.specs.declared.lane_end.LaneEnd.{LaneEnd}
 use Rattle.relay_threads.specs.declared.lane_end.LaneEndKind.{LaneEndKind}
 use Rattle.relay_threads.specs.declared.lane_end.LaneEndKind.TheVariants.{Finished, Memory, Gone}
 use Rattle.relay_threads.specs.declared.summary.LaneSummary.{LaneSummary}
 use Rattle.relay_threads.specs.declared.thread.LanePromise.{LanePromise}
-use Rattle.relay_threads.specs.Course.{puts_of, IsBelow, Heard, Course, EndsAs}
-use Rattle.relay_threads.specs.Kept.{KeepsCourse}
+use Rattle.relay_threads.specs.Course.{puts_of, HasHeard}
+use Rattle.relay_threads.specs.Promises.{KeepsCourse}
 use Rattle.relay_threads.specs.Lanes.{queues_of, wires_of, AreLanesOf, EndAsPromised}
 use Rattle.relay_threads.specs.Faults.{ends_as, is_memory, is_gone_kind, is_gone_in, is_gone_in_any, is_gone_lane}
 use Rattle.relay_threads.specs.Finished.{EndsOn, AllEndOn, Carries, FinishedLane, AllFinished}
 use Rattle.relay_threads.specs.Relay.{RelayState, AreRows, rows_of}
-use Rattle.relay_threads.specs.Sums.{AreMetAt, NoneGoneIn, NoneGone, queues_taken, AreDone, SumsUp, AllSumUp}
+use Rattle.relay_threads.specs.Sums.{AreMetAt, NoneGoneIn, NoneGone, queues_of_ends, AreDone, SumsUp, AllSumUp}
 use Rattle.relay_threads.proofs.Popping.{long_map}
 use Rattle.relay_threads.proofs.Summing.{row_long}
 use Rattle.relay_threads.proofs.Firsts.{NoneBelow}
@@ -84,7 +81,7 @@ module _ {W : Type 0} (describes : W → Bool) (fits : W → Outside → Type 0)
         all_end hs es own.1 k.1,
       )
 
-  pub queues_same : (qs : List Queue) (ws : List W) (es : List (LaneEnd W)) → AllEndOn describes fits c qs ws es → queues_taken es ≡ qs
+  pub queues_same : (qs : List Queue) (ws : List W) (es : List (LaneEnd W)) → AllEndOn describes fits c qs ws es → queues_of_ends es ≡ qs
   queues_same [] [] [] a = refl
   queues_same [] [] (e ∷ es) a = absurd a
   queues_same [] (w ∷ ws) es a = absurd a
@@ -112,7 +109,7 @@ module _ {W : Type 0} (describes : W → Bool) (fits : W → Outside → Type 0)
 
   -- what the sum needs
   pub record MaySum (n : ℕ) (rows : List (List ClosedEnd)) (es : List (LaneEnd W)) : Type 0 where
-    pub rows_own : AreRows (queues_taken es) 0 rows
+    pub rows_own : AreRows (queues_of_ends es) 0 rows
     pub none_marked : NoneGone rows
     pub each_done : AreDone n es
     pub kinds : AllKinds es
@@ -126,14 +123,14 @@ module _ {W : Type 0} (describes : W → Bool) (fits : W → Outside → Type 0)
       let taken = subst (λ q. AreRows q 0 rows) (sym same) own in
       record {
         rows_own = taken;
-        none_marked = none_gone (queues_taken es) 0 rows taken (λ lane lt. or_right (ends_as is_gone_kind es lane) (is_gone_in_any rows lane) (g lane (omega (arith, lt, long_q, long))));
+        none_marked = none_gone (queues_of_ends es) 0 rows taken (λ lane lt. or_right (ends_as is_gone_kind es lane) (is_gone_in_any rows lane) (g lane (omega (arith, lt, long_q, long))));
         each_done = done_of n qs ws es at a kinds;
         kinds = kinds;
       }
 
   -- ---- one lane
 
-  heard_whole : (kind : LaneEndKind) (taken heard : List Mail) → kind ≡ Finished → Heard kind taken heard → taken ≡ heard
+  heard_whole : (kind : LaneEndKind) (taken heard : List Mail) → kind ≡ Finished → HasHeard kind taken heard → taken ≡ heard
   heard_whole kind taken heard f h = h.all ∙ ap (λ l. heard ++ l) (h.memory (not_memory kind f)) ∙ append-nil heard where
     not_memory : (kind : LaneEndKind) → kind ≡ Finished → kind ≢ Memory
     not_memory kind f e = let k : Finished ≡ Memory = sym f ∙ e in absurd (cc)

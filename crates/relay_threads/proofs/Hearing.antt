@@ -1,9 +1,8 @@
 -- What a lane heard, message by message.
-use Rattle.std.proofs.Common.{◌≡◌, ◌≢◌, ℕ, ◌+◌, ◌<◌, Bool, true, false, ◌&&◌, eqb, List, [], ◌∷◌, ◌++◌, length, set, get_or, replicate, zero, suc, sym, refl, ap, ◌∙◌, subst, ⊎_elim, inl, inr, arith, length-append, append_assoc, get_or-set_other, get_or-set_same, append-nil, length-set}
+use Rattle.std.proofs.Common.{◌≡◌, ◌≢◌, ℕ, ◌<◌, Bool, true, false, eqb, List, [], ◌∷◌, ◌++◌, length, set, get_or, replicate, zero, suc, sym, refl, ap, ◌∙◌, subst, ⊎_elim, inl, inr, arith, append_assoc, get_or-set_other, get_or-set_same, append-nil, length-set}
 use Rattle.std.specs.Prelude.{Some, None, unwrap_or, ◌⊎◌, if◌then◌else◌}
 use Rattle.std.specs.List.{list_all}
 use Rattle.std.proofs.lemmas.Bool.Decides.{eqb_tells}
-use Rattle.relay_action.specs.declared.operation.Op.{Op}
 use Rattle.relay_action.specs.declared.mail.Mail.{Mail}
 use Rattle.relay_action.specs.declared.mail.Body.{Body}
 use Rattle.relay_action.specs.declared.mail.Body.TheVariants as body
@@ -15,7 +14,7 @@ use Rattle.relay_core.specs.declared.settled.TakeFault.TheVariants.{AfterClose, 
 use Rattle.relay_core.specs.State.{State, after_take, take_fault, is_full}
 use Rattle.relay_core.specs.Ties.{ops_of}
 use Rattle.relay_threads.specs.declared.lane_end.LaneEndKind.{LaneEndKind}
-use Rattle.relay_threads.specs.Course.{puts_of, KnowsClosed, KnowsOpen, OneIsOpen, Heard}
+use Rattle.relay_threads.specs.Course.{puts_of, KnowsClosed, KnowsOpen, OneIsOpen, HasHeard}
 
 -- ---- operations
 
@@ -153,5 +152,5 @@ not_closed s senders heard taken m f h is w e a =
     not_after s.closed senders heard m h (subst (IsWellTaken senders) is w) (fault_apart f (get_or s.closed m.sender false) (is_full s m.body) e a)
 
 -- it heard all that was taken
-pub heard_all : (kind : LaneEndKind) (taken : List Mail) → Heard kind taken taken
+pub heard_all : (kind : LaneEndKind) (taken : List Mail) → HasHeard kind taken taken
 heard_all kind taken = record { missed = []; all = sym (append-nil taken); most = omega arith; puts = λ m e. absurd e; memory = λ n. refl }

@@ -1,10 +1,10 @@
 -- Lanes that have ended, one after another.
-use Rattle.std.proofs.Common.{◌≡◌, ℕ, ◌+◌, List, [], ◌∷◌, ◌++◌, Bool, sym, refl, ap, ◌∙◌, subst, append-nil, append_assoc}
+use Rattle.std.proofs.Common.{◌≡◌, List, [], ◌∷◌, ◌++◌, Bool, sym, refl, ap, ◌∙◌, subst, append-nil, append_assoc}
 use Rattle.std.specs.declared.thread.PromisedHandle.{PromisedHandle}
 use Rattle.relay_results.specs.Outside.{Outside}
 use Rattle.relay_threads.specs.declared.lane_end.LaneEnd.{LaneEnd}
 use Rattle.relay_threads.specs.declared.thread.LanePromise.{LanePromise}
-use Rattle.relay_threads.specs.Kept.{KeepsCourse}
+use Rattle.relay_threads.specs.Promises.{KeepsCourse}
 use Rattle.relay_threads.specs.Lanes.{EndAsPromised}
 
 module _ {W : Type 0} (describes : W → Bool) (fits : W → Outside → Type 0) where

@@ -1,5 +1,5 @@
 -- The course of a lane goes on while it works and takes.
-use Rattle.std.proofs.Common.{◌≡◌, ◌≢◌, ℕ, ◌+◌, ◌<◌, List, [], ◌∷◌, ◌++◌, Bool, true, IsTrue, Result, Ok, Err, OnOk, OnErr, refl, sym, ap, ◌∙◌, subst, arith, length, length-append}
+use Rattle.std.proofs.Common.{◌≡◌, ◌≢◌, ◌+◌, ◌<◌, List, [], ◌∷◌, ◌++◌, Bool, Result, Ok, Err, OnOk, OnErr, refl, sym, ap, ◌∙◌, subst, arith, length, length-append}
 use Rattle.std.proofs.lemmas.List.{length-replicate}
 use Rattle.relay_action.specs.declared.mail.Mail.{Mail}
 use Rattle.relay_results.specs.Outside.{Outside}
@@ -9,7 +9,7 @@ use Rattle.relay_core.specs.State.{State, fresh, after_flush, after_take}
 use Rattle.relay_core.specs.Ties.{Fits, ops_of}
 use Rattle.relay_core.proofs.Tying.{fresh_fits, take_fits}
 use Rattle.relay_lane.specs.Turns.{Turn, Worked, Stays}
-use Rattle.relay_lane.specs.Delivers.{GoesOn, Delivers}
+use Rattle.relay_lane.specs.Delivers.{Delivers}
 use Rattle.relay_lane.specs.Reached.{IsReached}
 use Rattle.relay_lane.specs.Out.{out_of}
 use Rattle.relay_lane.proofs.Out.{take_keeps_out}

@@ -11,3 +11,4 @@ pub mod Firsts
 pub mod Finishing
 pub mod Delivering
 pub mod Together
+mod Results

@@ -1,5 +1,5 @@
 -- The last elements of lists are taken, list by list.
-use Rattle.std.proofs.Common.{◌≡◌, ℕ, zero, suc, ◌+◌, ◌<◌, List, [], ◌∷◌, ◌++◌, length, map, set, get_or, sym, refl, ap, ◌∙◌, subst, arith, append-nil, append_assoc, length-append}
+use Rattle.std.proofs.Common.{◌≡◌, ℕ, zero, suc, ◌+◌, ◌<◌, List, [], ◌∷◌, ◌++◌, length, map, set, get_or, sym, refl, ap, ◌∙◌, subst, arith, append-nil, length-append}
 use Rattle.relay_threads.specs.Rows.{HaveSome, LoseLast}
 
 -- so many lists have lost their last element, and the others are as before

@@ -1,8 +1,8 @@
 -- Lanes are summed up, from the last one to the first.
-use Rattle.std.proofs.Common.{◌≡◌, ℕ, zero, suc, ◌+◌, ◌<◌, ◌≤◌, Bool, true, false, List, [], ◌∷◌, ◌++◌, length, map, Option, Some, None, sym, refl, ap, ◌∙◌, subst, arith, append-nil, append_assoc, length-append}
+use Rattle.std.proofs.Common.{◌≡◌, ℕ, suc, ◌+◌, ◌<◌, false, List, [], ◌∷◌, ◌++◌, length, Some, sym, refl, ap, ◌∙◌, subst, arith, append-nil, append_assoc, length-append}
 use Rattle.std.specs.Prelude.{slice_get}
 use Rattle.relay_action.specs.declared.mail.Mail.{Mail}
-use Rattle.relay_queue.specs.Ends.{Queue, SenderEnd}
+use Rattle.relay_queue.specs.Ends.{Queue}
 use Rattle.relay_queue.specs.Messages.{mail_of, HasDone}
 use Rattle.relay_producer.specs.declared.ends.ClosedEnd.{ClosedEnd}
 use Rattle.relay_producer.specs.declared.ends.ClosedEnd.TheVariants.{Closed, Gone}
@@ -11,7 +11,7 @@ use Rattle.relay_threads.specs.declared.lane_end.LaneEnd.{LaneEnd}
 use Rattle.relay_threads.specs.declared.summary.LaneSummary.{LaneSummary}
 use Rattle.relay_threads.specs.Rows.{HaveSome, LoseLast}
 use Rattle.relay_threads.specs.Relay.{ends_of, AreRows}
-use Rattle.relay_threads.specs.Sums.{IsClosedOn, AreClosedOn, IsMet, AreMet, IsMetAt, AreMetAt, NoneGoneIn, NoneGone, queues_taken, AreDone, SumsUp, AllSumUp}
+use Rattle.relay_threads.specs.Sums.{IsClosedOn, AreClosedOn, AreMet, IsMetAt, AreMetAt, NoneGoneIn, NoneGone, queues_of_ends, AreDone, SumsUp, AllSumUp}
 use Rattle.relay_threads.proofs.Popping.{long_map}
 use Rattle.relay_threads.proofs.Dealing.{snoc_same, map_snoc}
 
@@ -129,12 +129,12 @@ module _ {W : Type 0} where
     pub ended : ends0 ≡ ends ++ past
     pub summed : AllSumUp rows0 (length ends) past all
     pub fronts : Fronts rows0 rows
-    pub owned : AreRows (queues_taken ends) 0 rows
+    pub owned : AreRows (queues_of_ends ends) 0 rows
     pub none_gone : NoneGone rows
     pub done : AreDone n ends
     pub count : length rows ≡ n
 
-  pub sums_none : (n : ℕ) (rows : List (List ClosedEnd)) (ends : List (LaneEnd W)) (all : List (LaneSummary W)) → all ≡ [] → AreRows (queues_taken ends) 0 rows → NoneGone rows → AreDone n ends → length rows ≡ n → SumsOn n rows rows ends ends all
+  pub sums_none : (n : ℕ) (rows : List (List ClosedEnd)) (ends : List (LaneEnd W)) (all : List (LaneSummary W)) → all ≡ [] → AreRows (queues_of_ends ends) 0 rows → NoneGone rows → AreDone n ends → length rows ≡ n → SumsOn n rows rows ends ends all
   sums_none n rows ends all e own none done count =
       record { past = []; ended = sym (append-nil ends); summed = subst (AllSumUp rows (length ends) []) (sym e) tt; fronts = fronts_same rows; owned = own; none_gone = none; done = done; count = count }
 
@@ -144,30 +144,30 @@ module _ {W : Type 0} where
     pub done : (sender : ℕ) → sender < n → HasDone (mail_of sender e.taken.taken)
     pub column : (news : List (List ClosedEnd)) (column : List ClosedEnd) → LoseLast rows news column → AreClosedOn e.taken.queue 0 column × (length column ≡ n)
 
-  queues_last : (ends' : List (LaneEnd W)) (e : LaneEnd W) → queues_taken (ends' ++ e ∷ []) ≡ queues_taken ends' ++ e.taken.queue ∷ []
+  queues_last : (ends' : List (LaneEnd W)) (e : LaneEnd W) → queues_of_ends (ends' ++ e ∷ []) ≡ queues_of_ends ends' ++ e.taken.queue ∷ []
   queues_last ends' e = map_snoc (λ (x : LaneEnd W). x.taken.queue) ends' e
 
   pub sums_next : (n : ℕ) (rows0 rows : List (List ClosedEnd)) (ends0 ends ends' : List (LaneEnd W)) (all : List (LaneSummary W)) (e : LaneEnd W) → SumsOn n rows0 rows ends0 ends all → ends ≡ ends' ++ e ∷ [] → SumsNext n rows ends' e
   sums_next n rows0 rows ends0 ends ends' all e s is =
-      let own = subst (λ qs. AreRows qs 0 rows) (ap queues_taken is ∙ queues_last ends' e) s.owned in
-      let long = length-append (queues_taken ends') (e.taken.queue ∷ []) in
+      let own = subst (λ qs. AreRows qs 0 rows) (ap queues_of_ends is ∙ queues_last ends' e) s.owned in
+      let long = length-append (queues_of_ends ends') (e.taken.queue ∷ []) in
       record {
-        some = rows_some (queues_taken ends' ++ e.taken.queue ∷ []) 0 rows (omega (arith, long)) own;
+        some = rows_some (queues_of_ends ends' ++ e.taken.queue ∷ []) 0 rows (omega (arith, long)) own;
         done = (done_last n ends' e (subst (AreDone n) is s.done)).1;
-        column = λ news column h. ((rows_split (queues_taken ends') e.taken.queue 0 rows news column own s.none_gone h).closed, (lose_long rows news column h).1 ∙ s.count);
+        column = λ news column h. ((rows_split (queues_of_ends ends') e.taken.queue 0 rows news column own s.none_gone h).closed, (lose_long rows news column h).1 ∙ s.count);
       }
 
   pub sums_on : (n : ℕ) (rows0 rows news : List (List ClosedEnd)) (column : List ClosedEnd) (ends0 ends ends' : List (LaneEnd W)) (all all' : List (LaneSummary W)) (e : LaneEnd W) (x : LaneSummary W)
       → SumsOn n rows0 rows ends0 ends all → ends ≡ ends' ++ e ∷ [] → LoseLast rows news column → AreMet 0 e.taken.taken column → SumsUp e x → all' ≡ x ∷ all → SumsOn n rows0 news ends0 ends' all'
   sums_on n rows0 rows news column ends0 ends ends' all all' e x s is h met sum more =
-      let own = subst (λ qs. AreRows qs 0 rows) (ap queues_taken is ∙ queues_last ends' e) s.owned in
-      let split = rows_split (queues_taken ends') e.taken.queue 0 rows news column own s.none_gone h in
+      let own = subst (λ qs. AreRows qs 0 rows) (ap queues_of_ends is ∙ queues_last ends' e) s.owned in
+      let split = rows_split (queues_of_ends ends') e.taken.queue 0 rows news column own s.none_gone h in
       let long = length-append ends' (e ∷ []) in
       let at : length ends ≡ length ends' + 1 = ap length is ∙ long in
       record {
         past = e ∷ s.past;
         ended = s.ended ∙ ap (λ l. l ++ s.past) is ∙ snoc_one ends' e s.past;
-        summed = subst (AllSumUp rows0 (length ends') (e ∷ s.past)) (sym more) ((met_at (queues_taken ends') (length ends') 0 0 e.taken.taken rows0 rows news column (long_map (λ (y : LaneEnd W). y.taken.queue) ends') s.fronts h split.left met, sum), subst (λ k. AllSumUp rows0 k s.past all) at s.summed);
+        summed = subst (AllSumUp rows0 (length ends') (e ∷ s.past)) (sym more) ((met_at (queues_of_ends ends') (length ends') 0 0 e.taken.taken rows0 rows news column (long_map (λ (y : LaneEnd W). y.taken.queue) ends') s.fronts h split.left met, sum), subst (λ k. AllSumUp rows0 k s.past all) at s.summed);
         fronts = fronts_on rows0 rows news column s.fronts h;
         owned = split.left;
         none_gone = split.none_gone;

@@ -24,7 +24,7 @@ use Rattle.relay_producer.specs.Puts.{AreNumberedBy, ops_for}
 use Rattle.relay_producer.specs.States.{ClosedProducerState}
 use Rattle.relay_threads.specs.declared.summary.LaneSummary.{LaneSummary}
 use Rattle.relay_threads.specs.Delivered.{HavePut, DeliveredLane, AllDelivered}
-use Rattle.relay_threads.specs.Together.{put_by, reports_at, IsOnPut, AreReportedOnce, BeginsBeside, EndsBeside, IsTrueTogether, IsSoundTogether, IsCompleteTogether, DeliversTogether, AreDeliveredTogether}
+use Rattle.relay_threads.specs.Together.{ops_by, reports_at, IsOnPut, AreReportedOnce, BeginsBeside, EndsBeside, IsTrueTogether, IsSoundTogether, IsCompleteTogether, DeliversTogether, AreDeliveredTogether}
 use Rattle.relay_threads.proofs.Delivering.{distinct_numbered, distinct_all}
 
 -- ---- the operations of a lane, of a list that a producer put
@@ -108,7 +108,7 @@ module _ (c : RelayConfig) (puts : ℕ → List Op) where
   abbrev put_if : Bool → ℕ → List Op
   put_if t p = if t then puts p else []
 
-  pub all_numbered : (cs : List ClosedProducerState) → length cs ≡ c.producers → HavePut puts 0 cs → (p : ℕ) → AreNumberedBy p 1 (put_by c puts p)
+  pub all_numbered : (cs : List ClosedProducerState) → length cs ≡ c.producers → HavePut puts 0 cs → (p : ℕ) → AreNumberedBy p 1 (ops_by c puts p)
   all_numbered cs n h p = by (nat_lt p c.producers) refl where
     by : (t : Bool) → nat_lt p c.producers ≡ t → AreNumberedBy p 1 (put_if t p)
     by true e = let lt = ltb-true p c.producers e in numbered_at 0 puts cs h p (omega arith) (omega (arith, lt, n))
@@ -116,7 +116,7 @@ module _ (c : RelayConfig) (puts : ℕ → List Op) where
 
   -- a lane's operations of each producer are those that it put there
   abbrev IsOwn : ℕ → List Op → Type 0
-  IsOwn l taken = (p : ℕ) → taken_of taken p ≡ ops_for c.lanes l (put_by c puts p)
+  IsOwn l taken = (p : ℕ) → taken_of taken p ≡ ops_for c.lanes l (ops_by c puts p)
 
   is_own : (l : ℕ) (taken : List Op) → ((p : ℕ) → p < c.producers → taken_of taken p ≡ ops_for c.lanes l (puts p)) → ((p : ℕ) → c.producers ≤ p → taken_of taken p ≡ []) → IsOwn l taken
   is_own l taken own no_other p = by (nat_lt p c.producers) refl where
@@ -124,17 +124,17 @@ module _ (c : RelayConfig) (puts : ℕ → List Op) where
     by true e = own p (ltb-true p c.producers e)
     by false e = no_other p (ltb-false p c.producers e)
 
-  own_mem : (l : ℕ) (taken : List Op) → IsOwn l taken → (p : ℕ) (o : Op) → Mem o (taken_of taken p) → Mem o (put_by c puts p) × (lane_of c.lanes (document_of o.key) ≡ l)
-  own_mem l taken own p o m = for_mem c.lanes l o (put_by c puts p) (subst (λ (os : List Op). Mem o os) (own p) m)
+  own_mem : (l : ℕ) (taken : List Op) → IsOwn l taken → (p : ℕ) (o : Op) → Mem o (taken_of taken p) → Mem o (ops_by c puts p) × (lane_of c.lanes (document_of o.key) ≡ l)
+  own_mem l taken own p o m = for_mem c.lanes l o (ops_by c puts p) (subst (λ (os : List Op). Mem o os) (own p) m)
 
-  own_taken : (l : ℕ) (taken : List Op) → IsOwn l taken → (o : Op) → Mem o taken → Mem o (put_by c puts o.producer) × (lane_of c.lanes (document_of o.key) ≡ l)
+  own_taken : (l : ℕ) (taken : List Op) → IsOwn l taken → (o : Op) → Mem o taken → Mem o (ops_by c puts o.producer) × (lane_of c.lanes (document_of o.key) ≡ l)
   own_taken l taken own o m = own_mem l taken own o.producer o (filter-Mem (is_from o.producer) o taken m (eq-eqb o.producer o.producer refl))
 
-  mem_own : (l : ℕ) (taken : List Op) → IsOwn l taken → (p : ℕ) (o : Op) → lane_of c.lanes (document_of o.key) ≡ l → Mem o (put_by c puts p) → Mem o taken
-  mem_own l taken own p o e m = (Mem-filter (is_from p) o taken (subst (λ (os : List Op). Mem o os) (sym (own p)) (mem_for c.lanes l o (put_by c puts p) e m))).0
+  mem_own : (l : ℕ) (taken : List Op) → IsOwn l taken → (p : ℕ) (o : Op) → lane_of c.lanes (document_of o.key) ≡ l → Mem o (ops_by c puts p) → Mem o taken
+  mem_own l taken own p o e m = (Mem-filter (is_from p) o taken (subst (λ (os : List Op). Mem o os) (sym (own p)) (mem_for c.lanes l o (ops_by c puts p) e m))).0
 
-  distinct_own : (l : ℕ) (taken : List Op) → IsOwn l taken → ((p : ℕ) → AreNumberedBy p 1 (put_by c puts p)) → HasDistinctNames taken
-  distinct_own l taken own numbered = distinct_all taken (λ p. subst (λ (os : List Op). AllDistinct (map name_of os)) (sym (own p)) (distinct_numbered c.lanes l p 1 (put_by c puts p) (numbered p)))
+  distinct_own : (l : ℕ) (taken : List Op) → IsOwn l taken → ((p : ℕ) → AreNumberedBy p 1 (ops_by c puts p)) → HasDistinctNames taken
+  distinct_own l taken own numbered = distinct_all taken (λ p. subst (λ (os : List Op). AllDistinct (map name_of os)) (sym (own p)) (distinct_numbered c.lanes l p 1 (ops_by c puts p) (numbered p)))
 
   on_put : (l : ℕ) (taken : List Op) (r : Report) → IsOwn l taken → IsOnTaken taken r → IsOnPut c puts l r
   on_put l taken r own y =
@@ -142,13 +142,13 @@ module _ (c : RelayConfig) (puts : ℕ → List Op) where
       record { op = y.op; producer = y.op.producer; was_put = m.0; of_lane = m.1; name = y.name; document = y.document }
 
   -- one name is reported by one lane
-  one_lane : ((p : ℕ) → AreNumberedBy p 1 (put_by c puts p)) → (l m : ℕ) (r q : Report) → IsOnPut c puts l r → IsOnPut c puts m q → r.name ≡ q.name → l ≡ m
+  one_lane : ((p : ℕ) → AreNumberedBy p 1 (ops_by c puts p)) → (l m : ℕ) (r q : Report) → IsOnPut c puts l r → IsOnPut c puts m q → r.name ≡ q.name → l ≡ m
   one_lane numbered l m r q x y e =
       let same : name_of x.op ≡ name_of y.op = sym x.name ∙ e ∙ y.name in
-      let px = own_producer x.producer 1 x.op (put_by c puts x.producer) (numbered x.producer) x.was_put in
-      let py = own_producer y.producer 1 y.op (put_by c puts y.producer) (numbered y.producer) y.was_put in
+      let px = own_producer x.producer 1 x.op (ops_by c puts x.producer) (numbered x.producer) x.was_put in
+      let py = own_producer y.producer 1 y.op (ops_by c puts y.producer) (numbered y.producer) y.was_put in
       let p : y.producer ≡ x.producer = sym py ∙ sym (ap (λ (n : OpName). n.producer) same) ∙ px in
-      let one = same_number x.producer 1 x.op y.op (put_by c puts x.producer) (numbered x.producer) x.was_put (subst (λ (n : ℕ). Mem y.op (put_by c puts n)) p y.was_put) (ap (λ (n : OpName). n.number) same) in
+      let one = same_number x.producer 1 x.op y.op (ops_by c puts x.producer) (numbered x.producer) x.was_put (subst (λ (n : ℕ). Mem y.op (ops_by c puts n)) p y.was_put) (ap (λ (n : OpName). n.number) same) in
       sym x.of_lane ∙ ap (λ (o : Op). lane_of c.lanes (document_of o.key)) one ∙ y.of_lane
 
 -- ---- one lane
@@ -181,7 +181,7 @@ module _ {W : Type 0} (describes : W → Bool) (fits : W → Outside → Type 0)
   reports_are (x ∷ ss) zero s e = ap (λ (y : LaneSummary W). map report_of y.reports.items) (some_same x s e)
   reports_are (x ∷ ss) (suc l) s e = reports_are ss l s e
 
-  of_some : (l : ℕ) (start : W) (s : LaneSummary W) → slice_get wires l ≡ Some start → slice_get lanes l ≡ Some s → ((p : ℕ) → AreNumberedBy p 1 (put_by c puts p)) → DeliveredLane describes fits c puts l start s → OfLane l
+  of_some : (l : ℕ) (start : W) (s : LaneSummary W) → slice_get wires l ≡ Some start → slice_get lanes l ≡ Some s → ((p : ℕ) → AreNumberedBy p 1 (ops_by c puts p)) → DeliveredLane describes fits c puts l start s → OfLane l
   of_some l start s wire at numbered d =
       let own = is_own c puts l d.taken d.own d.no_other in
       let is = reports_are lanes l s at in
@@ -212,7 +212,7 @@ module _ {W : Type 0} (describes : W → Bool) (fits : W → Outside → Type 0)
   of_none l at is some past =
       record {
         taken = [];
-        own = λ p. sym (for_none c.lanes l (put_by c puts p) some past);
+        own = λ p. sym (for_none c.lanes l (ops_by c puts p) some past);
         count = λ t e. absurd (cc (at, e));
         named = λ r m. absurd (subst (λ (rs : List Report). Mem r rs) is m);
         once = subst (λ (rs : List Report). AllDistinct (names_of rs)) (sym is) tt;
@@ -260,7 +260,7 @@ module _ {W : Type 0} (describes : W → Bool) (fits : W → Outside → Type 0)
       (λ (x : IsPast ws ss i). let le = x.past in inr (record { past = omega (arith, le); none_at = x.none_at; no_reports = x.no_reports }))
       (find (lane + 1) ws ss d.1 i)
 
-  each_lane : 0 < c.lanes → length wires ≡ c.lanes → ((p : ℕ) → AreNumberedBy p 1 (put_by c puts p)) → AllDelivered describes fits c puts 0 wires lanes → (l : ℕ) → OfLane l
+  each_lane : 0 < c.lanes → length wires ≡ c.lanes → ((p : ℕ) → AreNumberedBy p 1 (ops_by c puts p)) → AllDelivered describes fits c puts 0 wires lanes → (l : ℕ) → OfLane l
   each_lane some long numbered d l =
       ⊎_elim (λ (x : IsLaneAt wires lanes 0 l).
       let same : 0 + l ≡ l = omega arith in
@@ -276,7 +276,7 @@ module _ {W : Type 0} (describes : W → Bool) (fits : W → Outside → Type 0)
 
   -- ---- all lanes
 
-  module _ (numbered : (p : ℕ) → AreNumberedBy p 1 (put_by c puts p)) (each : (l : ℕ) → OfLane l) where
+  module _ (numbered : (p : ℕ) → AreNumberedBy p 1 (ops_by c puts p)) (each : (l : ℕ) → OfLane l) where
     abbrev all_taken : ℕ → List Op
     all_taken l = (each l).taken
 
@@ -303,7 +303,7 @@ module _ {W : Type 0} (describes : W → Bool) (fits : W → Outside → Type 0)
       abbrev all_versions : Op → Option ℕ
       all_versions o = (ends (lane_of c.lanes (document_of o.key))).sound.versions o
 
-      attributed_of : (l : ℕ) (k : Document) → IsAttribution (put_by c puts) k ((all_after l).applied k) ((ends l).ops k)
+      attributed_of : (l : ℕ) (k : Document) → IsAttribution (ops_by c puts) k ((all_after l).applied k) ((ends l).ops k)
       attributed_of l k =
           let a = (ends l).sound.attribution k in
           record {
@@ -313,10 +313,10 @@ module _ {W : Type 0} (describes : W → Bool) (fits : W → Outside → Type 0)
             of_document = a.of_document;
           }
 
-      ordered_of : (l : ℕ) (k : Document) → IsInProducerOrder (put_by c puts) ((ends l).ops k)
-      ordered_of l k p = sub_joined (filter (is_from p) ((ends l).ops k)) (ops_for c.lanes l (put_by c puts p)) (put_by c puts p)
+      ordered_of : (l : ℕ) (k : Document) → IsInProducerOrder (ops_by c puts) ((ends l).ops k)
+      ordered_of l k p = sub_joined (filter (is_from p) ((ends l).ops k)) (ops_for c.lanes l (ops_by c puts p)) (ops_by c puts p)
           (subst (λ (os : List Op). IsSubsequence (filter (is_from p) ((ends l).ops k)) os) ((each l).own p) ((ends l).sound.in_order k p))
-          (for_sub c.lanes l (put_by c puts p))
+          (for_sub c.lanes l (ops_by c puts p))
 
       elsewhere : (l : ℕ) (k : Document) → lane_of c.lanes k ≢ l → (all_after l).applied k ≡ []
       elsewhere l k ne =

@@ -1,6 +1,6 @@
 -- Each operation that was taken is held, was applied or is reported, whatever a lane does.
-use Rattle.std.proofs.Common.{◌≡◌, ℕ, ◌+◌, List, [], ◌∷◌, ◌++◌, Option, Some, None, Bool, true, false, refl, sym, ap, ◌∙◌, subst, arith, length, length-append}
-use Rattle.std.specs.Prelude.{nat_lt, map, unwrap_or}
+use Rattle.std.proofs.Common.{◌≡◌, ℕ, ◌+◌, List, [], ◌∷◌, Option, Some, None, Bool, true, false, refl, sym, subst, arith, length, length-append}
+use Rattle.std.specs.Prelude.{nat_lt, unwrap_or}
 use Rattle.relay_action.specs.declared.write.Write.{Write}
 use Rattle.relay_action.specs.declared.operation.Op.{Op}
 use Rattle.relay_action.specs.declared.mail.Body.{Body}
@@ -9,7 +9,7 @@ use Rattle.relay_batch.specs.declared.item.BatchItem.{BatchItem}
 use Rattle.relay_results.specs.Numbers.{from_zero}
 use Rattle.relay_results.specs.Outside.{Answer, Lost}
 use Rattle.relay_results.specs.Fates.{Fate, Flies, Applied, Already, Retried, Halved, Reported}
-use Rattle.relay_delivery.specs.Machine.{Config, spent_if, kept_one, still_held, reports_from, fate_of, how_many, is_applied_fate, is_already_fate}
+use Rattle.relay_delivery.specs.Machine.{Config, spent_if, kept_one, still_held, reports_from, fate_of}
 use Rattle.relay_delivery.specs.Lane as delivery
 use Rattle.relay_delivery.specs.Lane.{Entry, held_of, entry_if, kept_entry, kept_entries, launched_entry, after_settling, writes_at}
 use Rattle.relay_delivery.proofs.Fates.{totals-settled}

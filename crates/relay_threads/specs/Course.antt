@@ -34,7 +34,7 @@ OneIsOpen senders taken = (sender : ℕ) × (sender < senders) × (¬ HasDone (m
 
 -- The lane heard all messages that were taken from the queue, except that the last one, if it is an operation, may be
 -- missing after a failed allocation.
-pub record Heard (kind : LaneEndKind) (taken heard : List Mail) : Type 0 where
+pub record HasHeard (kind : LaneEndKind) (taken heard : List Mail) : Type 0 where
   pub missed : List Mail
   pub all : taken ≡ heard ++ missed
   pub most : length missed ≤ 1
@@ -71,7 +71,7 @@ pub record Course {S : Type 0} (describes : Bool) (fits : S → Outside → Type
 -- ended as Gone, not all of them had closed.
 pub record EndsAs {S : Type 0} (describes : Bool) (fits : S → Outside → Type 0) (start now : S) (c : RelayConfig) (taken : List Mail) (kind : LaneEndKind) (s : State) : Type 0 where
   pub messages : List Mail
-  pub heard : Heard kind taken messages
+  pub heard : HasHeard kind taken messages
   pub course : Course describes fits start now c messages s
   pub closed : kind ≡ Finished → all_closed s ≡ true
   pub not_closed : kind ≡ Gone → OneIsOpen (c.producers + 1) taken

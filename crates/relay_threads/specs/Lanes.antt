@@ -1,12 +1,12 @@
 -- The lanes' threads, and what they ended with.
-use Rattle.std.specs.Prelude.{◌≡◌, ◌+◌, ℕ, Bool, List, [], ◌∷◌, map}
+use Rattle.std.specs.Prelude.{◌≡◌, ◌+◌, Bool, List, [], ◌∷◌, map}
 use Rattle.std.specs.declared.thread.PromisedHandle.{PromisedHandle}
 use Rattle.relay_results.specs.Outside.{Outside}
 use Rattle.relay_queue.specs.Ends.{Queue}
 use Rattle.relay_core.specs.declared.config.RelayConfig.{RelayConfig}
 use Rattle.relay_threads.specs.declared.lane_end.LaneEnd.{LaneEnd}
 use Rattle.relay_threads.specs.declared.thread.LanePromise.{LanePromise}
-use Rattle.relay_threads.specs.Kept.{KeepsCourse}
+use Rattle.relay_threads.specs.Promises.{KeepsCourse}
 
 module _ {W : Type 0} where
   abbrev pub queues_of : List (PromisedHandle (LaneEnd W) (LanePromise W)) → List Queue

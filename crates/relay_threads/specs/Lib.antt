@@ -3,7 +3,7 @@ pub mod Steps
 pub mod Delivered
 pub mod Faults
 pub mod Finished
-pub mod Kept
+pub mod Promises
 pub mod Lanes
 pub mod Relay
 pub mod Rows

@@ -1,5 +1,5 @@
 -- The summary of lanes that have ended, and what it is compared with.
-use Rattle.std.specs.Prelude.{◌≡◌, ◌+◌, ◌<◌, ◌≤◌, ℕ, Bool, false, List, [], ◌∷◌, Option, Some, None, slice_get, map, length}
+use Rattle.std.specs.Prelude.{◌≡◌, ◌+◌, ◌<◌, ℕ, false, List, [], ◌∷◌, Option, Some, None, slice_get, map}
 use Rattle.relay_action.specs.declared.mail.Mail.{Mail}
 use Rattle.relay_queue.specs.Ends.{Queue}
 use Rattle.relay_queue.specs.Messages.{mail_of, HasDone}
@@ -55,8 +55,8 @@ NoneGone [] = Unit {0}
 NoneGone (row ∷ rows) = NoneGoneIn row × NoneGone rows
 
 module _ {W : Type 0} where
-  abbrev pub queues_taken : List (LaneEnd W) → List Queue
-  queues_taken ends = map (λ (e : LaneEnd W). e.taken.queue) ends
+  abbrev pub queues_of_ends : List (LaneEnd W) → List Queue
+  queues_of_ends ends = map (λ (e : LaneEnd W). e.taken.queue) ends
 
   -- each lane took the Done of each of its senders
   abbrev pub AreDone : ℕ → List (LaneEnd W) → Type 0

@@ -20,8 +20,8 @@ use Rattle.relay_threads.specs.Course.{IsBelow}
 -- ---- what was put, and what is reported
 
 -- what each producer put; no other sender put anything
-abbrev pub put_by : RelayConfig → (ℕ → List Op) → ℕ → List Op
-put_by c puts p = if nat_lt p c.producers then puts p else []
+abbrev pub ops_by : RelayConfig → (ℕ → List Op) → ℕ → List Op
+ops_by c puts p = if nat_lt p c.producers then puts p else []
 
 -- the reports of a lane; none beyond the last lane
 abbrev pub reports_at : {W : Type 0} → List (LaneSummary W) → ℕ → List Report
@@ -33,7 +33,7 @@ reports_at (s ∷ ss) (suc l) = reports_at ss l
 pub record IsOnPut (c : RelayConfig) (puts : ℕ → List Op) (l : ℕ) (r : Report) : Type 0 where
   pub op : Op
   pub producer : ℕ
-  pub was_put : Mem op (put_by c puts producer)
+  pub was_put : Mem op (ops_by c puts producer)
   pub of_lane : lane_of c.lanes (document_of op.key) ≡ l
   pub name : r.name ≡ name_of op
   pub document : r.document ≡ document_of op.key
@@ -76,8 +76,8 @@ pub record IsTrueTogether (c : RelayConfig) (puts : ℕ → List Op) (taken : �
 -- in order; they were sent by the document's lane, and no other lane's outside has one. Each report has a true cause,
 -- by one assignment of versions, which is that of all lanes.
 pub record IsSoundTogether {W : Type 0} (c : RelayConfig) (puts : ℕ → List Op) (lanes : List (LaneSummary W)) (taken : ℕ → List Op) (after : ℕ → Outside) (ops : Document → List Op) : Type 0 where
-  pub attribution : (k : Document) → IsAttribution (put_by c puts) k ((after (lane_of c.lanes k)).applied k) (ops k)
-  pub in_order : (k : Document) → IsInProducerOrder (put_by c puts) (ops k)
+  pub attribution : (k : Document) → IsAttribution (ops_by c puts) k ((after (lane_of c.lanes k)).applied k) (ops k)
+  pub in_order : (k : Document) → IsInProducerOrder (ops_by c puts) (ops k)
   pub no_other_lane : (l : ℕ) (k : Document) → lane_of c.lanes k ≢ l → (after l).applied k ≡ []
   pub versions : Op → Option ℕ
   pub assignment : IsAssignment versions
@@ -87,7 +87,7 @@ pub record IsSoundTogether {W : Type 0} (c : RelayConfig) (puts : ℕ → List O
 -- each operation that was put was applied, or is reported by its lane
 abbrev pub IsCompleteTogether : {W : Type 0} → RelayConfig → (ℕ → List Op) → List (LaneSummary W) → (Document → List Op) → Type 0
 IsCompleteTogether c puts lanes ops =
-    (p : ℕ) (o : Op) → Mem o (put_by c puts p) →
+    (p : ℕ) (o : Op) → Mem o (ops_by c puts p) →
     Mem o (ops (document_of o.key)) ⊎ Mem (name_of o) (names_of (reports_at lanes (lane_of c.lanes (document_of o.key))))
 
 -- from these outsides, one for each lane, others came about, for which delivery over all lanes is sound and complete
@@ -104,7 +104,7 @@ pub record DeliversTogether {W : Type 0} (fits : W → Outside → Type 0) (c : 
 pub record AreDeliveredTogether {W : Type 0} (describes : W → Bool) (fits : W → Outside → Type 0) (c : RelayConfig) (puts : ℕ → List Op) (wires : List W) (lanes : List (LaneSummary W)) : Type 0 where
   pub all_lanes : length lanes ≡ c.lanes
   pub taken : ℕ → List Op
-  pub own : (l p : ℕ) → taken_of (taken l) p ≡ ops_for c.lanes l (put_by c puts p)
+  pub own : (l p : ℕ) → taken_of (taken l) p ≡ ops_for c.lanes l (ops_by c puts p)
   pub count : (l : ℕ) (s : LaneSummary W) → slice_get lanes l ≡ Some s → s.taken ≡ length (taken l)
   pub reports : AreReportedOnce c puts lanes
   pub delivers : (before : ℕ → Outside) → ((l : ℕ) (start : W) → slice_get wires l ≡ Some start → BeginsBeside describes fits c start (before l)) → DeliversTogether fits c puts lanes taken before

@@ -1,14 +1,17 @@
 //! Waiting until the lanes of a relay have ended, and summing up what they have done.
-ghost use Rattle.std.specs.Prelude.{◌≡◌, ◌+◌, ◌<◌, ◌≤◌, ◌||◌, ℕ, List, [], IfOk, IfErr, map, vec_len, vec_capacity};
+ghost use Rattle.std.specs.Prelude.{◌≡◌, ◌+◌, ◌<◌, ◌≤◌, ◌||◌, []};
+ghost use Rattle.std.specs.Prelude.{ℕ, List, IfOk, IfErr, map, vec_len, vec_capacity};
 ghost use Rattle.relay_action.specs.declared.operation.Op.{Op};
 ghost use Rattle.relay_queue.specs.Messages.{mail_of, HasDone};
 ghost use Rattle.relay_producer.specs.Ends.{is_gone, closed_puts};
 ghost use Rattle.relay_producer.specs.Puts.{HaveNoPuts};
 ghost use Rattle.relay_threads.specs.Delivered.{HavePut, AllDelivered};
-ghost use Rattle.relay_threads.specs.Faults.{FirstOf, TellsFault, is_gone_in, is_gone_in_any, is_gone_lane, ends_as, is_memory, is_gone_kind};
+ghost use Rattle.relay_threads.specs.Faults.{FirstOf, TellsFault, is_gone_in, is_gone_in_any};
+ghost use Rattle.relay_threads.specs.Faults.{is_gone_lane, ends_as, is_memory, is_gone_kind};
 ghost use Rattle.relay_threads.specs.Finished.{AllFinished, HasFault};
 ghost use Rattle.relay_threads.specs.Relay.{AreRows, rows_of};
-ghost use Rattle.relay_threads.specs.Sums.{IsClosedOn, AreClosedOn, IsMet, AreMet, AreDone, NoneGone, queues_taken, SumsUp, AllSumUp};
+ghost use Rattle.relay_threads.specs.Sums.{IsClosedOn, AreClosedOn, IsMet, AreMet, AreDone};
+ghost use Rattle.relay_threads.specs.Sums.{NoneGone, queues_of_ends, SumsUp, AllSumUp};
 ghost use Rattle.relay_threads.specs.Together.{AreDeliveredTogether};
 
 use crate::fault::{FinishFault, FinishFaultKind};
@@ -81,7 +84,8 @@ fn is_marked_by_any(rows: &Vec<Vec<ClosedEnd>>, lane: usize) -> bool
 
 // Whether a lane ended as Gone, or one of the closed handles has marked it.
 fn is_lost<W: Drop>(end: &LaneEnd<W>, rows: &Vec<Vec<ClosedEnd>>, lane: usize) -> bool
-    ensures { result ≡ (is_gone_kind end.now.kind || is_gone_in_any (map (λ r. r.items) rows.now.items) lane) }
+    ensures { result ≡ (is_gone_kind end.now.kind
+        || is_gone_in_any (map (λ r. r.items) rows.now.items) lane) }
 {
     is_gone(end.kind) || is_marked_by_any(rows, lane)
 }
@@ -89,7 +93,8 @@ fn is_lost<W: Drop>(end: &LaneEnd<W>, rows: &Vec<Vec<ClosedEnd>>, lane: usize) -
 // The first lane that ended as Gone, or that a closed handle has marked.
 fn first_gone<W: Drop>(ends: &Vec<LaneEnd<W>>, rows: &Vec<Vec<ClosedEnd>>) -> Option<u32>
     requires { vec_len ends.now ≤ 8 }
-    ensures { FirstOf (is_gone_lane ends.now.items (map (λ r. r.items) rows.now.items)) (vec_len ends.now) result }
+    ensures { FirstOf (is_gone_lane ends.now.items (map (λ r. r.items) rows.now.items))
+        (vec_len ends.now) result }
 {
     for lane in 0..ends.len() {
         if is_lost(&ends[lane], rows, lane) {
@@ -113,13 +118,10 @@ pub fn fault_of<W: Drop>(ends: &Vec<LaneEnd<W>>, rows: &Vec<Vec<ClosedEnd>>) -> 
             lane,
         });
     }
-    match first_gone(ends, rows) {
-        Some(lane) => Some(FinishFault {
-            kind: FinishFaultKind::LaneGone,
-            lane,
-        }),
-        None => None,
-    }
+    first_gone(ends, rows).map(|lane| FinishFault {
+        kind: FinishFaultKind::LaneGone,
+        lane,
+    })
 }
 
 // ---- what is given back
@@ -177,7 +179,8 @@ fn meet_all(taken: Taken, column: Vec<ClosedEnd>)
 fn sum_up<W: Drop>(end: LaneEnd<W>, column: Vec<ClosedEnd>) -> LaneSummary<W>
     requires few { vec_len column ≤ 17 }
     requires column { AreClosedOn end.taken.queue 0 column.items }
-    requires done { (sender : ℕ) → sender < vec_len column → HasDone (mail_of sender end.taken.taken) }
+    requires done { (sender : ℕ) → sender < vec_len column
+        → HasDone (mail_of sender end.taken.taken) }
     ensures met { AreMet 0 end.taken.taken column.items }
     ensures sums { SumsUp end result }
 {
@@ -206,7 +209,7 @@ fn sum_up_all<W: Drop>(
     rows: Vec<Vec<ClosedEnd>>,
 ) -> Result<Vec<LaneSummary<W>>, AllocError>
     requires few { vec_len rows ≤ 17 }
-    requires rows { AreRows (queues_taken ends.items) 0 (map (λ r. r.items) rows.items) }
+    requires rows { AreRows (queues_of_ends ends.items) 0 (map (λ r. r.items) rows.items) }
     requires none_gone { NoneGone (map (λ r. r.items) rows.items) }
     requires done { AreDone (vec_len rows) ends.items }
     ensures { IfOk result (λ v. AllSumUp (map (λ r. r.items) rows.items) 0 ends.items v.items) }
@@ -262,12 +265,10 @@ impl<W: Wire + Drop + Send + 'static> Relay<W> {
         if let Some(fault) = fault_of(&ends, &rows) {
             return Err(fault);
         }
-        match sum_up_all(alloc, ends, rows) {
-            Ok(lanes) => Ok(Summary { lanes }),
-            Err(_) => Err(FinishFault {
-                kind: FinishFaultKind::Memory,
-                lane: 0,
-            }),
-        }
+        let lanes = sum_up_all(alloc, ends, rows).map_err(|_| FinishFault {
+            kind: FinishFaultKind::Memory,
+            lane: 0,
+        })?;
+        Ok(Summary { lanes })
     }
 }

@@ -1,6 +1,9 @@
 //! How a lane ends.
+ghost use Rattle.std.specs.Prelude.{◌≡◌};
+
 use relay_lane::Lane;
-use relay_queue::Taken;
+use relay_queue::{Gone, Taken};
+use std::alloc::AllocError;
 
 /// How a lane ended.
 #[derive(Clone, Copy, Debug, PartialEq, Eq)]
@@ -12,6 +15,26 @@ pub enum LaneEndKind {
     Memory,
     /// The ends of all senders were dropped, and not all of them had closed. No contract says when.
     Gone,
+}
+
+impl From<AllocError> for LaneEndKind {
+    ghost use Rattle.relay_threads.specs.declared.lane_end.LaneEndKind.{LaneEndKind};
+
+    ghost from_gives = { λ _ kind. kind ≡ LaneEndKind.Memory };
+
+    fn from(_error: AllocError) -> LaneEndKind {
+        LaneEndKind::Memory
+    }
+}
+
+impl From<Gone> for LaneEndKind {
+    ghost use Rattle.relay_threads.specs.declared.lane_end.LaneEndKind.{LaneEndKind};
+
+    ghost from_gives = { λ _ kind. kind ≡ LaneEndKind.Gone };
+
+    fn from(_gone: Gone) -> LaneEndKind {
+        LaneEndKind::Gone
+    }
 }
 
 /// The state of a lane at its end.

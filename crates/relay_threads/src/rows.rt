@@ -8,7 +8,8 @@ use std::alloc::{AllocError, Global};
 // were taken until then are dropped.
 pub(crate) fn pop_each<T: Drop>(alloc: Global, rows: &mut Vec<Vec<T>>) -> Result<Vec<T>, AllocError>
     requires { HaveSome (map (λ r. r.items) rows.old.items) }
-    ensures { IfOk result (λ v. LoseLast (map (λ r. r.items) rows.old.items) (map (λ r. r.items) rows.new.items) v.items) }
+    ensures { IfOk result (λ v. LoseLast (map (λ r. r.items) rows.old.items)
+        (map (λ r. r.items) rows.new.items) v.items) }
 {
     let mut lasts = Vec::new(alloc);
     for i in 0..rows.len() {

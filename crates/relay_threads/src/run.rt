@@ -1,10 +1,12 @@
 //! A lane's thread: it takes messages and works until each sender has closed.
-ghost use Rattle.std.specs.Prelude.{◌≡◌, ◌≢◌, ◌+◌, ◌<◌, [], ℕ, List, true, false, length, IfOk, OnOk, OnErr, IfErr, IfSome, IfNone, ◌++◌, ◌∷◌};
+ghost use Rattle.std.specs.Prelude.{◌≡◌, ◌≢◌, ◌+◌, ◌<◌, [], ◌++◌, ◌∷◌};
+ghost use Rattle.std.specs.Prelude.{ℕ, List, true, false, length, IfOk};
+ghost use Rattle.std.specs.Prelude.{OnOk, OnErr, IfErr, IfSome, IfNone};
 ghost use Rattle.relay_action.specs.declared.mail.Mail.{Mail};
 ghost use Rattle.relay_queue.specs.Messages.{mail_of, HasDone, IsWellTaken};
 ghost use Rattle.relay_core.specs.State.{fresh, all_closed};
 ghost use Rattle.relay_lane.specs.Out.{out_of};
-ghost use Rattle.relay_threads.specs.Course.{KnowsClosed, Heard, Course, EndsAs};
+ghost use Rattle.relay_threads.specs.Course.{KnowsClosed, HasHeard, Course, EndsAs};
 ghost use Rattle.relay_threads.specs.Steps.{Takes, KeepsOn};
 
 use crate::lane_end::{LaneEnd, LaneEndKind};
@@ -29,7 +31,8 @@ fn make_place<W: Wire, P: Pace>(
     ensures out { W.out wire.new ≡ out_of lane.new.state }
     ensures describes { W.describes wire.new ≡ W.describes wire.old }
     ensures keeps { (heard : List Mail)
-        → KeepsOn (W.describes wire.old) W.fits wire.old wire.new lane.old.state lane.new.state heard heard }
+        → KeepsOn (W.describes wire.old) W.fits wire.old wire.new lane.old.state lane.new.state
+        heard heard }
 {
     if lane.held() < lane.max_held() {
         return Ok(());
@@ -60,10 +63,7 @@ fn next_mail<R: Wait>(rt: &R, take: &mut LaneTake, is_full: bool) -> Result<Opti
     if is_full {
         return take.try_take(rt);
     }
-    match take.take(rt) {
-        Ok(mail) => Ok(Some(mail)),
-        Err(gone) => Err(gone),
-    }
+    Ok(Some(take.take(rt)?))
 }
 
 // Takes the next message from the queue into the lane, which has room. If the allocation for it
@@ -84,13 +84,11 @@ fn take_message<R: Wait>(
         → (lane.new.state ≡ lane.old.state) × (take.new.taken ≡ take.old.taken)) }
     ensures unchanged { OnErr result (lane.new.state ≡ lane.old.state) }
     ensures early { IfErr result (λ kind. kind ≢ LaneEndKind.Finished) }
-    ensures heard { IfErr result (λ kind. Heard kind take.new.taken take.old.taken) }
+    ensures heard { IfErr result (λ kind. HasHeard kind take.new.taken take.old.taken) }
 {
     let is_full = lane.flying() >= lane.in_flight();
-    let mail = match next_mail(rt, take, is_full) {
-        Ok(Some(mail)) => mail,
-        Ok(None) => return Ok(Message::Nothing),
-        Err(_) => return Err(LaneEndKind::Gone),
+    let Some(mail) = next_mail(rt, take, is_full)? else {
+        return Ok(Message::Nothing);
     };
     let message = match mail.body {
         Body::Tick | Body::Flush => Message::Mark,
@@ -111,7 +109,8 @@ fn settle_some<W: Wire>(lane: &mut Lane, wire: &mut W, message: Message) -> Resu
     ensures out { W.out wire.new ≡ out_of lane.new.state }
     ensures describes { W.describes wire.new ≡ W.describes wire.old }
     ensures keeps { (heard : List Mail)
-        → KeepsOn (W.describes wire.old) W.fits wire.old wire.new lane.old.state lane.new.state heard heard }
+        → KeepsOn (W.describes wire.old) W.fits wire.old wire.new lane.old.state lane.new.state
+        heard heard }
 {
     match message {
         Message::Mark => {
@@ -137,7 +136,8 @@ fn go_on<W: Wire>(lane: &mut Lane, wire: &mut W, message: Message) -> Result<(),
     ensures out { W.out wire.new ≡ out_of lane.new.state }
     ensures describes { W.describes wire.new ≡ W.describes wire.old }
     ensures keeps { (heard : List Mail)
-        → KeepsOn (W.describes wire.old) W.fits wire.old wire.new lane.old.state lane.new.state heard heard }
+        → KeepsOn (W.describes wire.old) W.fits wire.old wire.new lane.old.state lane.new.state
+        heard heard }
 {
     if matches!(message, Message::Other) && lane.is_gathering() {
         return Ok(());
@@ -157,7 +157,8 @@ fn drain_all<W: Wire, P: Pace>(lane: &mut Lane, wire: &mut W, pace: &mut P) -> L
     ensures out { W.out wire.new ≡ out_of lane.new.state }
     ensures describes { W.describes wire.new ≡ W.describes wire.old }
     ensures keeps { (heard : List Mail)
-        → KeepsOn (W.describes wire.old) W.fits wire.old wire.new lane.old.state lane.new.state heard heard }
+        → KeepsOn (W.describes wire.old) W.fits wire.old wire.new lane.old.state lane.new.state
+        heard heard }
 {
     match drain(lane, wire, pace) {
         Ok(()) => LaneEndKind::Finished,
@@ -165,8 +166,8 @@ fn drain_all<W: Wire, P: Pace>(lane: &mut Lane, wire: &mut W, pace: &mut P) -> L
     }
 }
 
-// Takes one message if there is one or nothing else to wait for, and sends and settles what is to be
-// sent and settled then.
+// Takes one message if there is one or nothing else to wait for, and sends and settles what is to
+// be sent and settled then.
 fn take_next<R: Wait, W: Wire, P: Pace>(
     rt: &R,
     take: &mut LaneTake,
@@ -181,23 +182,19 @@ fn take_next<R: Wait, W: Wire, P: Pace>(
     ensures out { W.out wire.new ≡ out_of lane.new.state }
     ensures describes { W.describes wire.new ≡ W.describes wire.old }
     ensures ok { OnOk result
-        (KeepsOn (W.describes wire.old) W.fits wire.old wire.new lane.old.state lane.new.state take.old.taken take.new.taken) }
+        (KeepsOn (W.describes wire.old) W.fits wire.old wire.new lane.old.state lane.new.state
+        take.old.taken take.new.taken) }
     ensures early { IfErr result (λ kind. kind ≢ LaneEndKind.Finished) }
-    ensures same_closed { IfErr result (λ kind. kind ≡ LaneEndKind.Gone → lane.new.state.closed ≡ lane.old.state.closed) }
-    ensures stopped { IfErr result (λ kind. (heard : List Mail) × Heard kind take.new.taken heard
-        × KeepsOn (W.describes wire.old) W.fits wire.old wire.new lane.old.state lane.new.state take.old.taken heard) }
+    ensures same_closed { IfErr result
+        (λ kind. kind ≡ LaneEndKind.Gone → lane.new.state.closed ≡ lane.old.state.closed) }
+    ensures stopped { IfErr result (λ kind. (heard : List Mail) × HasHeard kind take.new.taken heard
+        × KeepsOn (W.describes wire.old) W.fits wire.old wire.new lane.old.state lane.new.state
+        take.old.taken heard) }
 {
-    if make_place(lane, wire, pace).is_err() {
-        return Err(LaneEndKind::Memory);
-    }
-    let message = match take_message(rt, take, lane) {
-        Ok(message) => message,
-        Err(kind) => return Err(kind),
-    };
-    match go_on(lane, wire, message) {
-        Ok(()) => Ok(()),
-        Err(_) => Err(LaneEndKind::Memory),
-    }
+    make_place(lane, wire, pace)?;
+    let message = take_message(rt, take, lane)?;
+    go_on(lane, wire, message)?;
+    Ok(())
 }
 
 // Takes until each sender has closed.
@@ -217,20 +214,20 @@ fn take_all<R: Wait, W: Wire, P: Pace>(
     ensures describes { W.describes wire.new ≡ W.describes wire.old }
     ensures closed { OnOk result (all_closed lane.new.state ≡ true) }
     ensures ok { OnOk result
-        (Course (W.describes wire.old) W.fits wire.old wire.new lane.old.state.config take.new.taken lane.new.state) }
+        (Course (W.describes wire.old) W.fits wire.old wire.new lane.old.state.config
+        take.new.taken lane.new.state) }
     ensures early { IfErr result (λ kind. kind ≢ LaneEndKind.Finished) }
-    ensures not_closed { IfErr result (λ kind. kind ≡ LaneEndKind.Gone → all_closed lane.new.state ≡ false) }
-    ensures stopped { IfErr result (λ kind. (heard : List Mail) × Heard kind take.new.taken heard
-        × Course (W.describes wire.old) W.fits wire.old wire.new lane.old.state.config heard lane.new.state) }
+    ensures not_closed { IfErr result
+        (λ kind. kind ≡ LaneEndKind.Gone → all_closed lane.new.state ≡ false) }
+    ensures stopped { IfErr result (λ kind. (heard : List Mail) × HasHeard kind take.new.taken heard
+        × Course (W.describes wire.old) W.fits wire.old wire.new lane.old.state.config
+        heard lane.new.state) }
 {
     'messages: for _ in rt.forever() {
         if lane.closed() {
             return Ok(());
         }
-        match take_next(rt, take, lane, wire, pace) {
-            Ok(()) => {}
-            Err(kind) => return Err(kind),
-        }
+        take_next(rt, take, lane, wire, pace)?;
     }
     unreachable!()
 }
@@ -250,7 +247,8 @@ fn work<R: Wait, W: Wire, P: Pace>(
     ensures same { (take.new.queue ≡ take.old.queue) × (take.new.senders ≡ take.old.senders) }
     ensures out { W.out wire.new ≡ out_of lane.new.state }
     ensures describes { W.describes wire.new ≡ W.describes wire.old }
-    ensures ends { EndsAs (W.describes wire.old) W.fits wire.old wire.new lane.old.state.config take.new.taken result lane.new.state }
+    ensures ends { EndsAs (W.describes wire.old) W.fits wire.old wire.new lane.old.state.config
+        take.new.taken result lane.new.state }
 {
     match take_all(rt, take, lane, wire, pace) {
         Ok(()) => drain_all(lane, wire, pace),
@@ -258,17 +256,17 @@ fn work<R: Wait, W: Wire, P: Pace>(
     }
 }
 
-/// A lane's thread. Until each sender's Done was taken it makes room if as many operations are held as
-/// may be, takes one message, and sends what is ready. If no place in flight is free, it takes at most
-/// as many operations as one request carries, and then, or once nothing is queued, waits for the oldest
-/// answer and settles it; after a Tick or a Flush it waits for every answer. Then it works until
-/// nothing is held. It waits for messages, for the wire and for the pace, and nothing else. However it
-/// ends, it first waits for what is in flight and settles it.
+/// A lane's thread. Until each sender's Done was taken it makes room if it holds its maximum number
+/// of operations, takes one message, and sends what is ready. If no place in flight is free, it
+/// takes at most as many operations as one request carries, and then, or once nothing is queued,
+/// waits for the oldest answer and settles it; after a Tick or a Flush it waits for every answer.
+/// Then it works until nothing is held. It waits for messages, for the wire and for the pace, and
+/// nothing else. However it ends, it first waits for what is in flight and settles it.
 ///
-/// It ends as Memory if the allocation for an operation that it took or for a request failed, and as
-/// Gone if the queue says that all senders are dropped but not all had closed; [`LaneEnd`] says what
-/// holds then. In each case delivery of what the lane heard from its queue is sound for each outside
-/// that the wire describes, and complete if it ends as Finished.
+/// It ends as Memory if the allocation for an operation that it took or for a request failed, and
+/// as Gone if the queue says that all senders are dropped but not all had closed; [`LaneEnd`] says
+/// what holds then. In each case delivery of what the lane heard from its queue is sound for each
+/// outside that the wire describes, and complete if it ends as Finished.
 pub fn run_lane<R: Wait, W: Wire, P: Pace + Drop>(
     rt: &R,
     take: LaneTake,
@@ -284,7 +282,8 @@ pub fn run_lane<R: Wait, W: Wire, P: Pace + Drop>(
     ensures senders { result.taken.senders ≡ take.senders }
     ensures well_taken { IsWellTaken result.taken.senders result.taken.taken }
     ensures out { W.out result.wire ≡ [] }
-    ensures ends { EndsAs (W.describes wire) W.fits wire result.wire lane.state.config result.taken.taken result.kind result.lane.state }
+    ensures ends { EndsAs (W.describes wire) W.fits wire result.wire lane.state.config
+        result.taken.taken result.kind result.lane.state }
     ensures closed { result.kind ≡ LaneEndKind.Finished
         → (sender : ℕ) → sender < take.senders → HasDone (mail_of sender result.taken.taken) }
 {

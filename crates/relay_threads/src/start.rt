@@ -1,5 +1,6 @@
 //! Starting a relay: a queue, a lane and a thread for each lane, and the handles of the senders.
-ghost use Rattle.std.specs.Prelude.{◌≡◌, ◌≢◌, ◌+◌, ◌<◌, ◌≤◌, ◌⊎◌, ◌↔◌, List, [], true, false, IfOk, IfErr, IsErrAnd, map, vec_len};
+ghost use Rattle.std.specs.Prelude.{◌≡◌, ◌≢◌, ◌+◌, ◌<◌, ◌≤◌, ◌⊎◌, ◌↔◌, []};
+ghost use Rattle.std.specs.Prelude.{List, true, false, IfOk, IfErr, IsErrAnd, map, vec_len};
 ghost use Rattle.relay_queue.specs.Ends.{Queue, fresh_puts};
 ghost use Rattle.relay_core.specs.Limits.{is_valid};
 ghost use Rattle.relay_threads.specs.Lanes.{queues_of, wires_of, AreLanesOf};
@@ -39,10 +40,8 @@ where
 {
     let (take, puts) = lane_queue(alloc, config.capacity, config.producers + 1)?;
     let lane = Lane::new(alloc, config)?;
-    match spawn_lane(rt, config, take, lane, wire, pace) {
-        Ok(thread) => Ok((thread, puts)),
-        Err(_) => Err(StartFault::Thread),
-    }
+    let thread = spawn_lane(rt, config, take, lane, wire, pace).map_err(|_| StartFault::Thread)?;
+    Ok((thread, puts))
 }
 
 // All lanes in their threads, and the senders' ends of each lane's queue.
@@ -77,10 +76,7 @@ where
         };
         lanes.reserve(1)?;
         columns.reserve(1)?;
-        let (lane, puts) = match make_lane(rt, alloc, config, wire, pace) {
-            Ok(made) => made,
-            Err(fault) => return Err(fault),
-        };
+        let (lane, puts) = make_lane(rt, alloc, config, wire, pace)?;
         lanes.push_reserved(lane);
         columns.push_reserved(puts);
     }
@@ -142,10 +138,7 @@ where
 {
     let ends = Vec::with_capacity(alloc, wires.len())?;
     let rows = Vec::with_capacity(alloc, config.producers as usize + 1)?;
-    let (lanes, columns) = match make_lanes(rt, alloc, config, wires, paces) {
-        Ok(made) => made,
-        Err(fault) => return Err(fault),
-    };
+    let (lanes, columns) = make_lanes(rt, alloc, config, wires, paces)?;
     let (producers, control) = deal(alloc, config.epoch, config.producers, columns)?;
     let relay = Relay {
         alloc,

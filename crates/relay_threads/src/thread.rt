@@ -1,7 +1,7 @@
 //! The thread of a lane, and what is known of its end.
 ghost use Rattle.std.specs.Prelude.{◌≡◌, ◌+◌, ◌≤◌, [], IfOk, vec_len, vec_capacity};
 ghost use Rattle.relay_core.specs.State.{fresh};
-ghost use Rattle.relay_threads.specs.Kept.{KeepsCourse};
+ghost use Rattle.relay_threads.specs.Promises.{KeepsCourse};
 ghost use Rattle.relay_threads.specs.Lanes.{EndAsPromised};
 
 use crate::lane_end::LaneEnd;
@@ -26,7 +26,8 @@ pub struct LanePromise<W> {
 }
 
 impl<W: Wire> Promise<LaneEnd<W>> for LanePromise<W> {
-    ghost kept_by = { λ p end. KeepsCourse W.describes W.fits p.config.value p.take.value p.wire.value end };
+    ghost kept_by = { λ p end. KeepsCourse W.describes W.fits
+        p.config.value p.take.value p.wire.value end };
 }
 
 /// A lane in its thread.

@@ -1,5 +1,5 @@
-use Rattle.std.proofs.Common.{arith, sym, ap, ◌∙◌, ◌≡◌, ◌<◌, ◌||◌, length, map}
-use Rattle.relay_threads.specs.Faults.{ends_as, is_gone_kind, is_gone_lane, is_gone_in_any}
+use Rattle.std.proofs.Common.{arith, sym, ap, ◌∙◌, ◌<◌, ◌||◌, length, map}
+use Rattle.relay_threads.specs.Faults.{is_gone_kind, is_gone_lane, is_gone_in_any}
 use Rattle.relay_threads.proofs.Firsts.{none_more, ends_here}
 use Rattle.relay_threads.proofs.finish.first_gone.Goals as goal
 

@@ -1,4 +1,4 @@
-use Rattle.std.proofs.Common.{◌≡◌, map}
+use Rattle.std.proofs.Common.{map}
 use Rattle.relay_threads.specs.Faults.{is_gone_lane}
 use Rattle.relay_threads.proofs.Firsts.{NoneBelow}
 use Rattle.relay_threads.proofs.finish.first_gone.Given as goal

@@ -1,4 +1,4 @@
-use Rattle.std.proofs.Common.{arith, sym, ◌∙◌, ◌≡◌, ◌<◌, length}
+use Rattle.std.proofs.Common.{arith, sym, ◌∙◌, ◌<◌, length}
 use Rattle.relay_threads.specs.Faults.{ends_as, is_memory}
 use Rattle.relay_threads.proofs.Firsts.{none_more, ends_here}
 use Rattle.relay_threads.proofs.finish.first_memory.Goals as goal

@@ -1,4 +1,3 @@
-use Rattle.std.proofs.Common.{◌≡◌}
 use Rattle.relay_threads.specs.Faults.{ends_as, is_memory}
 use Rattle.relay_threads.proofs.Firsts.{NoneBelow}
 use Rattle.relay_threads.proofs.finish.first_memory.Given as goal

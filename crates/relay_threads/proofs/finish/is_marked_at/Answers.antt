@@ -1,4 +1,4 @@
-use Rattle.std.proofs.Common.{arith, sym, ◌∙◌, ◌≡◌, ◌<◌, length}
+use Rattle.std.proofs.Common.{arith, sym, ◌∙◌, ◌<◌, length}
 use Rattle.relay_threads.proofs.Firsts.{gone_here, gone_past}
 use Rattle.relay_threads.proofs.finish.is_marked_at.Goals as goal
 

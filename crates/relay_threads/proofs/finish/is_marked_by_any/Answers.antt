@@ -1,4 +1,4 @@
-use Rattle.std.proofs.Common.{arith, sym, ◌∙◌, ◌≡◌, ◌<◌, length}
+use Rattle.std.proofs.Common.{arith, sym, ◌∙◌, ◌<◌, length}
 use Rattle.relay_threads.proofs.Firsts.{before_more, before_all, before_one}
 use Rattle.relay_threads.proofs.finish.is_marked_by_any.Goals as goal
 

@@ -1,4 +1,3 @@
-use Rattle.std.proofs.Common.{◌≡◌}
 use Rattle.relay_threads.proofs.Firsts.{NoneBefore}
 use Rattle.relay_threads.proofs.finish.is_marked_by_any.Given as goal
 

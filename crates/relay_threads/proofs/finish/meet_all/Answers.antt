@@ -1,6 +1,5 @@
-use Rattle.std.proofs.Common.{arith, ap, sym, ◌∙◌, subst}
+use Rattle.std.proofs.Common.{arith, ◌∙◌, subst}
 use Rattle.std.specs.Vec.Iter.{into_iter_items}
-use Rattle.relay_action.specs.declared.mail.Mail.{Mail}
 use Rattle.relay_queue.specs.Ends.{TakerEnd}
 use Rattle.relay_threads.specs.Sums.{IsMet}
 use Rattle.relay_threads.proofs.Meeting.{meets_on}

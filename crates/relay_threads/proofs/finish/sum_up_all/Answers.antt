@@ -1,4 +1,4 @@
-use Rattle.std.proofs.Common.{arith, ap, sym, ◌∙◌, ◌≡◌, length, map, vec_len}
+use Rattle.std.proofs.Common.{arith, sym, ◌∙◌, vec_len}
 use Rattle.relay_threads.proofs.Popping.{long_map}
 use Rattle.relay_threads.proofs.Summing.{sums_none, sums_next, sums_on}
 use Rattle.relay_threads.proofs.finish.sum_up_all.Goals as goal

@@ -1,4 +1,4 @@
-use Rattle.std.proofs.Common.{◌≡◌, ◌≤◌, map, vec_len}
+use Rattle.std.proofs.Common.{map, vec_len}
 use Rattle.relay_threads.proofs.Summing.{SumsOn}
 use Rattle.relay_threads.proofs.finish.sum_up_all.Given as goal
 

@@ -1,5 +1,5 @@
-use Rattle.std.proofs.Common.{arith, sym, refl, ◌∙◌, ◌≡◌, ◌<◌, length, rules}
-use Rattle.relay_threads.proofs.Popping.{pops_none, some_here, pops_here, pops_whole}
+use Rattle.std.proofs.Common.{arith, refl, ◌<◌, length}
+use Rattle.relay_threads.proofs.Popping.{pops_none, some_here, pops_here}
 use Rattle.relay_threads.proofs.rows.pop_each.Goals as goal
 
 pub loop-i-init : goal.loop-i-init

@@ -1,4 +1,4 @@
-use Rattle.std.proofs.Common.{◌≡◌, ◌≤◌, map, vec_len}
+use Rattle.std.proofs.Common.{◌≡◌, map, vec_len}
 use Rattle.relay_threads.proofs.Popping.{PopsOn}
 use Rattle.relay_threads.proofs.rows.pop_each.Given as goal
 

@@ -1,4 +1,4 @@
-use Rattle.std.proofs.Common.{List, sym, subst}
+use Rattle.std.proofs.Common.{sym, subst}
 use Rattle.relay_queue.specs.Ends.{TakerEnd}
 use Rattle.relay_queue.specs.Messages.{mail_of, HasDone}
 use Rattle.relay_threads.proofs.Ending.{all_closed_there, ends_collected}

@@ -1,4 +1,5 @@
 use Rattle.std.proofs.Common.{refl, ◌∙◌}
+use Rattle.std.proofs.lemmas.Result.{err_from_is_err_and}
 use Rattle.relay_threads.proofs.Keeping.{begins_as, course_on}
 use Rattle.relay_threads.proofs.run.take_all.Goals as goal
 
@@ -21,13 +22,15 @@ messages-preserved g c =
       describes = c.take_next.ensures.describes ∙ i.describes;
       course =
           course_on (g.W.Wire.describes c.args.wire.now) (g.W.Wire.describes c.messages.wire) g.W.Wire.fits c.args.wire.now c.messages.wire c.take_next.new.wire c.args.lane.now.state.config c.messages.lane.state c.take_next.new.lane.state
-          c.messages.take.taken c.take_next.new.take.taken i.describes i.course c.in-Ok.ensures.ok;
+          c.messages.take.taken c.take_next.new.take.taken i.describes i.course c.in_ok-take_next.ensures.ok;
     }
 
-pub returns-in-Err-clause-stopped : goal.returns-in-Err-clause-stopped
-returns-in-Err-clause-stopped g c =
+pub returns-in_err-take_next-clause-stopped : goal.returns-in_err-take_next-clause-stopped
+returns-in_err-take_next-clause-stopped g c =
     let i = c.messages.invariant in
-    let x = c.in-Err.ensures.stopped in (
+    let x = c.in_err-take_next.ensures.stopped in
+    let p = err_from_is_err_and c.from_residual.result c.from_residual.ensures.1 in
+    rw (p.1, p.2) (
       x.0,
       x.1,
       course_on (g.W.Wire.describes c.args.wire.now) (g.W.Wire.describes c.messages.wire) g.W.Wire.fits c.args.wire.now c.messages.wire c.take_next.new.wire c.args.lane.now.state.config c.messages.lane.state c.take_next.new.lane.state c.messages.take.taken x.0 i.describes i.course x.2,

@@ -1,4 +1,4 @@
-use Rattle.std.proofs.Common.{arith, refl, sym, ◌∙◌, ◌≡◌, ◌+◌, ◌-◌, subst, length}
+use Rattle.std.proofs.Common.{arith, refl, ◌≡◌, ◌+◌, ◌-◌}
 use Rattle.relay_threads.proofs.Popping.{long_map}
 use Rattle.relay_threads.proofs.Dealing.{some_left, deals_left, have_lanes, columns_long, deals_on, controls}
 use Rattle.relay_threads.proofs.start.deal.Goals as goal

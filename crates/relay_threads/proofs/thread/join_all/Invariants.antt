@@ -1,4 +1,4 @@
-use Rattle.std.proofs.Common.{◌≡◌, ◌+◌, ◌≤◌, ◌++◌, vec_len, vec_capacity, List}
+use Rattle.std.proofs.Common.{◌+◌, ◌≤◌, vec_len, vec_capacity}
 use Rattle.std.specs.Vec.Iter.{into_iter_items, into_iter_len}
 use Rattle.relay_threads.proofs.Joining.{JoinsOn}
 use Rattle.relay_threads.proofs.thread.join_all.Given as goal

@@ -1,15 +1,17 @@
-use Rattle.std.proofs.Common.{arith, sym, ap, ◌∙◌, ◌≡◌, subst, length, map, vec_len, List, refl, false, ℕ, Some, None}
+use Rattle.std.proofs.Common.{arith, rules, sym, ◌∙◌, ◌≡◌, subst, map, vec_len, List, refl, Some, None}
 use Rattle.std.specs.Prelude.{Option}
+use Rattle.std.proofs.lemmas.Result.{err_from_is_err_and}
 use Rattle.relay_producer.specs.declared.ends.ClosedEnd.{ClosedEnd}
 use Rattle.relay_threads.specs.Faults.{FirstOf, TellsFault, ends_as, is_memory, is_gone_lane}
 use Rattle.relay_threads.specs.Finished.{AllFinished}
 use Rattle.relay_threads.specs.Relay.{AreRows, rows_of}
-use Rattle.relay_threads.specs.Sums.{AllSumUp}
 use Rattle.relay_threads.proofs.Popping.{long_map}
 use Rattle.relay_threads.proofs.Delivering.{are_long, all_delivered}
 use Rattle.relay_threads.proofs.Together.{delivered_together}
+use Rattle.relay_threads.proofs.Results.{same_ok}
 use Rattle.relay_threads.proofs.Finishing.{ready, may_sum, all_finished}
 use Rattle.relay_threads.specs.declared.fault.FinishFault.{FinishFault}
+use Rattle.relay_threads.specs.declared.fault.FinishFaultKind.TheVariants as kind
 use Rattle.relay_threads.specs.declared.lane_end.LaneEnd.{LaneEnd}
 use Rattle.relay_threads.proofs.relay.Relay.finish.Goals as goal
 
@@ -49,23 +51,26 @@ sum_up_all-requires-clause-done g c =
     let r = ready g.W.Wire.describes g.W.Wire.fits c.args.self c.self.inside.config c.self.inside.lanes.items c.join_all-ends.result.items _ c.args.producers.items c.args.control (sym c.self.view_is) c.self.invariant.0 c.self.invariant.1 c.self.invariant.2 c.join_all-ends.ensures c.give_back-rows.ensures.rows (sym c.args.producers.ok.0 ∙ c.requires.count) in
     (may_sum g.W.Wire.describes g.W.Wire.fits c.args.self.config (vec_len c.give_back-rows.result) c.args.self.queues c.args.self.wires c.join_all-ends.result.items (map (λ r. r.items) c.give_back-rows.result.items) (vec_len c.join_all-ends.result) (c.give_back-rows.result.ok.0 ∙ sym (long_map (λ r. r.items) c.give_back-rows.result.items) ∙ r.count) (sym c.join_all-ends.result.ok.0) r.ended (subst (AreRows c.args.self.queues 0) (sym c.give_back-rows.ensures.rows) c.requires.rows) (subst (λ n. FirstOf (ends_as is_memory c.join_all-ends.result.items) n None) (sym c.join_all-ends.result.ok.0) (subst (TellsFault c.join_all-ends.result.items (map (λ r. r.items) c.give_back-rows.result.items)) c.in_default.is c.fault_of.ensures).0) (subst (λ n. FirstOf (is_gone_lane c.join_all-ends.result.items (map (λ r. r.items) c.give_back-rows.result.items)) n None) (sym c.join_all-ends.result.ok.0) (subst (TellsFault c.join_all-ends.result.items (map (λ r. r.items) c.give_back-rows.result.items)) c.in_default.is c.fault_of.ensures).1)).each_done
 
-pub returns-in-Ok-clause-finished : goal.returns-in-Ok-clause-finished
-returns-in-Ok-clause-finished g c =
+pub returns-clause-finished : goal.returns-clause-finished
+returns-clause-finished g c =
+    let was = same_ok _ c.sum_up_all.result c.map_err.result c.in_ok-lanes.lanes c.map_err.ensures.cases c.in_ok-lanes.ensures.variant c.in_ok-lanes.was in
     let r = ready g.W.Wire.describes g.W.Wire.fits c.args.self c.self.inside.config c.self.inside.lanes.items c.join_all-ends.result.items _ c.args.producers.items c.args.control (sym c.self.view_is) c.self.invariant.0 c.self.invariant.1 c.self.invariant.2 c.join_all-ends.ensures c.give_back-rows.ensures.rows (sym c.args.producers.ok.0 ∙ c.requires.count) in
-    subst (λ rows. AllFinished g.W.Wire.describes g.W.Wire.fits c.args.self.config rows 0 c.args.self.wires c.in-Ok.lanes.items) c.give_back-rows.ensures.rows (all_finished g.W.Wire.describes g.W.Wire.fits c.args.self.config (map (λ r. r.items) c.give_back-rows.result.items) 0 c.args.self.queues c.args.self.wires c.join_all-ends.result.items c.in-Ok.lanes.items r.count r.ended (may_sum g.W.Wire.describes g.W.Wire.fits c.args.self.config (vec_len c.give_back-rows.result) c.args.self.queues c.args.self.wires c.join_all-ends.result.items (map (λ r. r.items) c.give_back-rows.result.items) (vec_len c.join_all-ends.result) (c.give_back-rows.result.ok.0 ∙ sym (long_map (λ r. r.items) c.give_back-rows.result.items) ∙ r.count) (sym c.join_all-ends.result.ok.0) r.ended (subst (AreRows c.args.self.queues 0) (sym c.give_back-rows.ensures.rows) c.requires.rows) (subst (λ n. FirstOf (ends_as is_memory c.join_all-ends.result.items) n None) (sym c.join_all-ends.result.ok.0) (subst (TellsFault c.join_all-ends.result.items (map (λ r. r.items) c.give_back-rows.result.items)) c.in_default.is c.fault_of.ensures).0) (subst (λ n. FirstOf (is_gone_lane c.join_all-ends.result.items (map (λ r. r.items) c.give_back-rows.result.items)) n None) (sym c.join_all-ends.result.ok.0) (subst (TellsFault c.join_all-ends.result.items (map (λ r. r.items) c.give_back-rows.result.items)) c.in_default.is c.fault_of.ensures).1)).kinds c.in-Ok.ensures)
+    subst (λ rows. AllFinished g.W.Wire.describes g.W.Wire.fits c.args.self.config rows 0 c.args.self.wires c.in_ok-lanes.lanes.items) c.give_back-rows.ensures.rows (all_finished g.W.Wire.describes g.W.Wire.fits c.args.self.config (map (λ r. r.items) c.give_back-rows.result.items) 0 c.args.self.queues c.args.self.wires c.join_all-ends.result.items c.in_ok-lanes.lanes.items r.count r.ended (may_sum g.W.Wire.describes g.W.Wire.fits c.args.self.config (vec_len c.give_back-rows.result) c.args.self.queues c.args.self.wires c.join_all-ends.result.items (map (λ r. r.items) c.give_back-rows.result.items) (vec_len c.join_all-ends.result) (c.give_back-rows.result.ok.0 ∙ sym (long_map (λ r. r.items) c.give_back-rows.result.items) ∙ r.count) (sym c.join_all-ends.result.ok.0) r.ended (subst (AreRows c.args.self.queues 0) (sym c.give_back-rows.ensures.rows) c.requires.rows) (subst (λ n. FirstOf (ends_as is_memory c.join_all-ends.result.items) n None) (sym c.join_all-ends.result.ok.0) (subst (TellsFault c.join_all-ends.result.items (map (λ r. r.items) c.give_back-rows.result.items)) c.in_default.is c.fault_of.ensures).0) (subst (λ n. FirstOf (is_gone_lane c.join_all-ends.result.items (map (λ r. r.items) c.give_back-rows.result.items)) n None) (sym c.join_all-ends.result.ok.0) (subst (TellsFault c.join_all-ends.result.items (map (λ r. r.items) c.give_back-rows.result.items)) c.in_default.is c.fault_of.ensures).1)).kinds (rw was at c.sum_up_all.ensures))
 
-pub returns-in-Err-clause-fault : goal.returns-in-Err-clause-fault
-returns-in-Err-clause-fault g c =
+pub returns-in_err-lanes-clause-fault : goal.returns-in_err-lanes-clause-fault
+returns-in_err-lanes-clause-fault g c =
     let r = ready g.W.Wire.describes g.W.Wire.fits c.args.self c.self.inside.config c.self.inside.lanes.items c.join_all-ends.result.items _ c.args.producers.items c.args.control (sym c.self.view_is) c.self.invariant.0 c.self.invariant.1 c.self.invariant.2 c.join_all-ends.ensures c.give_back-rows.ensures.rows (sym c.args.producers.ok.0 ∙ c.requires.count) in
     let told : TellsFault c.join_all-ends.result.items (rows_of c.args.producers.items c.args.control) None = given_fault c.join_all-ends.result.items _ _ None c.give_back-rows.ensures.rows (subst (TellsFault c.join_all-ends.result.items (map (λ r. r.items) c.give_back-rows.result.items)) c.in_default.is c.fault_of.ensures) in
-    record { ends = c.join_all-ends.result.items; ended = r.ended; tells = (told.0, told.1, refl) }
+    let p = err_from_is_err_and c.from_residual.result c.from_residual.ensures.1 in
+    let fault : c.in_err-lanes.field-0.0 ≡ record { kind = kind.Memory; lane = 0 } = search rules in
+    rw (p.1, p.2 ∙ fault) (record { ends = c.join_all-ends.result.items; ended = r.ended; tells = (told.0, told.1, refl) })
 
-pub returns-in-Ok-clause-delivered : goal.returns-in-Ok-clause-delivered
-returns-in-Ok-clause-delivered g c puts h =
+pub returns-clause-delivered : goal.returns-clause-delivered
+returns-clause-delivered g c puts h =
     let r = ready g.W.Wire.describes g.W.Wire.fits c.args.self c.self.inside.config c.self.inside.lanes.items c.join_all-ends.result.items _ c.args.producers.items c.args.control (sym c.self.view_is) c.self.invariant.0 c.self.invariant.1 c.self.invariant.2 c.join_all-ends.ensures c.give_back-rows.ensures.rows (sym c.args.producers.ok.0 ∙ c.requires.count) in
-    all_delivered g.W.Wire.describes g.W.Wire.fits c.args.self.config puts c.args.producers.items c.args.control 0 c.args.self.wires c.in-Ok.lanes.items (sym c.args.producers.ok.0 ∙ c.requires.count) (are_long c.args.self.queues 0 c.args.self.config.lanes c.args.producers.items c.args.control r.lanes c.requires.rows) h c.give_back-rows.ensures.no_puts (returns-in-Ok-clause-finished g c)
+    all_delivered g.W.Wire.describes g.W.Wire.fits c.args.self.config puts c.args.producers.items c.args.control 0 c.args.self.wires c.in_ok-lanes.lanes.items (sym c.args.producers.ok.0 ∙ c.requires.count) (are_long c.args.self.queues 0 c.args.self.config.lanes c.args.producers.items c.args.control r.lanes c.requires.rows) h c.give_back-rows.ensures.no_puts (returns-clause-finished g c)
 
-pub returns-in-Ok-clause-together : goal.returns-in-Ok-clause-together
-returns-in-Ok-clause-together g c puts h =
+pub returns-clause-together : goal.returns-clause-together
+returns-clause-together g c puts h =
     let r = ready g.W.Wire.describes g.W.Wire.fits c.args.self c.self.inside.config c.self.inside.lanes.items c.join_all-ends.result.items _ c.args.producers.items c.args.control (sym c.self.view_is) c.self.invariant.0 c.self.invariant.1 c.self.invariant.2 c.join_all-ends.ensures c.give_back-rows.ensures.rows (sym c.args.producers.ok.0 ∙ c.requires.count) in
-    delivered_together g.W.Wire.describes g.W.Wire.fits c.args.self.config puts c.args.self.wires c.in-Ok.lanes.items c.args.producers.items (sym c.args.producers.ok.0 ∙ c.requires.count) h r.some r.wires (returns-in-Ok-clause-delivered g c puts h)
+    delivered_together g.W.Wire.describes g.W.Wire.fits c.args.self.config puts c.args.self.wires c.in_ok-lanes.lanes.items c.args.producers.items (sym c.args.producers.ok.0 ∙ c.requires.count) h r.some r.wires (returns-clause-delivered g c puts h)
