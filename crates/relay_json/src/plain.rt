@@ -41,16 +41,21 @@ pub fn take_plain(bytes: &[u8]) -> Option<(&str, &[u8])>
     Some((plain_text(text)?, rest.strip_prefix(b"\"")?))
 }
 
-// Whether each byte is an ASCII character that stands for itself.
+// Whether each byte is an ASCII character that stands for itself. It does not stop at the first
+// that is not: without a branch, the compiler compares many bytes at once.
 fn is_plain(bytes: &[u8]) -> bool
     ensures { result ≡ list_all is_plain_ascii bytes.now }
 {
-    bytes.iter().all(|byte| is_plain_ascii(*byte))
+    let mut plain = true;
+    for byte in bytes {
+        plain &= is_plain_ascii(*byte);
+    }
+    plain
 }
 
 #[inline(always)]
 fn is_plain_ascii(byte: u8) -> bool
     ensures { result ≡ is_plain_ascii byte }
 {
-    byte >= 32 && byte < 127 && byte != b'"' && byte != b'\\'
+    (byte >= 32) & (byte < 127) & (byte != b'"') & (byte != b'\\')
 }
