@@ -10,7 +10,7 @@ use Rattle.relay_words.proofs.Numbers.{one_number}
 use Rattle.relay_scenario.specs.Numbers.{AreNumbers, IsNumbersFault, IsWordFault}
 use Rattle.relay_scenario.specs.declared.event_line.LineFault.{LineFault}
 use Rattle.relay_scenario.specs.declared.event_line.LineFault.TheVariants as fault
-use Rattle.relay_scenario.proofs.Cutting.{same_cut, uncut}
+use Rattle.relay_scenario.proofs.Cutting.{same_cut, no_cut}
 
 space_is_none : 10 ≤ digit_value 32
 space_is_none = omega arith
@@ -48,7 +48,7 @@ pub record Splits (word rest : List ℕ) (ns : List ℕ) : Type 0 where
 
 pub splits : (text word rest : List ℕ) (ns : List ℕ) → Begins text word rest → AreNumbers text ns → Splits word rest ns
 splits text word rest [] b h = absurd h
-splits text word rest (n ∷ []) b h = absurd (uncut text word rest (number_word text n h) b)
+splits text word rest (n ∷ []) b h = absurd (no_cut text word rest (number_word text n h) b)
 splits text word rest (n ∷ m ∷ ns) b h =
     let same = same_cut text word h.0 rest h.1 b h.2 in record {
       n = n;
@@ -62,7 +62,7 @@ splits text word rest (n ∷ m ∷ ns) b h =
 pub alone : (text : List ℕ) (ns : List ℕ) → IsWord text → AreNumbers text ns → (n : ℕ) × (ns ≡ n ∷ []) × IsNumber text n
 alone text [] w h = absurd h
 alone text (n ∷ []) w h = (n, refl, h)
-alone text (n ∷ m ∷ ns) w h = absurd (uncut text h.0 h.1 w h.2)
+alone text (n ∷ m ∷ ns) w h = absurd (no_cut text h.0 h.1 w h.2)
 
 -- a text has one list of numbers
 pub same_numbers : (text : List ℕ) (ns ms : List ℕ) → AreNumbers text ns → AreNumbers text ms → ns ≡ ms
@@ -78,31 +78,31 @@ same_numbers text (n ∷ m ∷ ns) ms h k =
 
 -- ---- the numbers so far, and those of the rest
 
-pub record Parted (whole rest : List ℕ) (found : List ℕ) : Type 0 where
-  pub builds : (later : List ℕ) → AreNumbers rest later → AreNumbers whole (found ++ later)
+pub record HasParts (whole rest : List ℕ) (earlier : List ℕ) : Type 0 where
+  pub builds : (later : List ℕ) → AreNumbers rest later → AreNumbers whole (earlier ++ later)
   pub peels : (ns : List ℕ) → AreNumbers whole ns → (later : List ℕ) × AreNumbers rest later
 
-pub parted_none : (whole : List ℕ) → Parted whole whole []
-parted_none whole = record { builds = λ later h. h; peels = λ ns h. (ns, h) }
+pub parts_none : (whole : List ℕ) → HasParts whole whole []
+parts_none whole = record { builds = λ later h. h; peels = λ ns h. (ns, h) }
 
-pub parted_more : (whole text word rest : List ℕ) (found : List ℕ) (n : ℕ) → Parted whole text found → Begins text word rest → IsNumber word n → Parted whole rest (found ++ n ∷ [])
-parted_more whole text word rest found n h b k = record {
-  builds = λ later l. subst (λ (xs : List ℕ). AreNumbers whole xs) (sym (append_assoc found (n ∷ []) later)) (h.builds (n ∷ later) (more_numbers text word rest n later b k l));
+pub parts_more : (whole text word rest : List ℕ) (earlier : List ℕ) (n : ℕ) → HasParts whole text earlier → Begins text word rest → IsNumber word n → HasParts whole rest (earlier ++ n ∷ [])
+parts_more whole text word rest earlier n h b k = record {
+  builds = λ later l. subst (λ (xs : List ℕ). AreNumbers whole xs) (sym (append_assoc earlier (n ∷ []) later)) (h.builds (n ∷ later) (more_numbers text word rest n later b k l));
   peels = λ ns l. let p = h.peels ns l in let s = splits text word rest p.0 b p.1 in (s.later, s.others);
 }
 
-pub parted_fault : (whole text word rest : List ℕ) (found : List ℕ) (e : LineFault) → Parted whole text found → Begins text word rest → IsWordFault word e → IsNumbersFault whole e
-parted_fault whole text word rest found fault.Bad h b bad = λ ns l.
+pub parts_fault : (whole text word rest : List ℕ) (earlier : List ℕ) (e : LineFault) → HasParts whole text earlier → Begins text word rest → IsWordFault word e → IsNumbersFault whole e
+parts_fault whole text word rest earlier fault.Bad h b bad = λ ns l.
     let p = h.peels ns l in let s = splits text word rest p.0 b p.1 in bad s.n s.first
-parted_fault whole text word rest found fault.Memory h b bad = tt
+parts_fault whole text word rest earlier fault.Memory h b bad = tt
 
-pub parted_last : (whole text : List ℕ) (found : List ℕ) (n : ℕ) → Parted whole text found → IsNumber text n → AreNumbers whole (found ++ n ∷ [])
-parted_last whole text found n h k = h.builds (n ∷ []) k
+pub parts_last : (whole text : List ℕ) (earlier : List ℕ) (n : ℕ) → HasParts whole text earlier → IsNumber text n → AreNumbers whole (earlier ++ n ∷ [])
+parts_last whole text earlier n h k = h.builds (n ∷ []) k
 
-pub parted_none_last : (whole text : List ℕ) (found : List ℕ) (e : LineFault) → Parted whole text found → IsWord text → IsWordFault text e → IsNumbersFault whole e
-parted_none_last whole text found fault.Bad h w bad = λ ns l.
+pub parts_none_last : (whole text : List ℕ) (earlier : List ℕ) (e : LineFault) → HasParts whole text earlier → IsWord text → IsWordFault text e → IsNumbersFault whole e
+parts_none_last whole text earlier fault.Bad h w bad = λ ns l.
     let p = h.peels ns l in let a = alone text p.0 w p.1 in bad a.0 a.2
-parted_none_last whole text found fault.Memory h w bad = tt
+parts_none_last whole text earlier fault.Memory h w bad = tt
 
 pub shorter : (text word rest : List ℕ) → Begins text word rest → length rest < length text
 shorter text word rest b = let n = length-append word (32 ∷ rest) in let m : length text ≡ length (word ++ 32 ∷ rest) = ap length b.whole in omega (arith, n, m)

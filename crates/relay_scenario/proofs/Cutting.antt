@@ -47,8 +47,8 @@ space_in [] r = refl
 space_in (x ∷ w) r = let rest = space_in w r in grind (arith, common_steps, rest)
 
 -- a word is cut nowhere
-pub uncut : (text word rest : List ℕ) → IsWord text → Begins text word rest → ⊥
-uncut text word rest h b = let e = space_in word rest in let w = b.whole in cc
+pub no_cut : (text word rest : List ℕ) → IsWord text → Begins text word rest → ⊥
+no_cut text word rest h b = let e = space_in word rest in let w = b.whole in cc
 
 word_tail : (x : ℕ) (w : List ℕ) → IsWord (x ∷ w) → IsWord w
 word_tail x w h = elim (x == 32) as (λ b. (b || list_any (λ b. b == 32) w) ≡ false → IsWord w) [ true ↦ λ e. cc | false ↦ λ e. e ] h

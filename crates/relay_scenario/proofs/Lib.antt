@@ -3,4 +3,5 @@ mod Counting
 mod Refusing
 mod Items
 mod Underway
+mod Passing
 mod Whole

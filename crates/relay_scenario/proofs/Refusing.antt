@@ -20,7 +20,7 @@ use Rattle.relay_scenario.specs.Config.{IsConfigLine, config_of}
 use Rattle.relay_scenario.specs.Events.{AsksFor, IsActionFault, IsKey, IsKeyFault, IsLineFault, IsNumberedFault, IsPut, IsPutFault, Puts, event_of, fault_of}
 use Rattle.relay_scenario.specs.declared.event_line.LineFault.{LineFault}
 use Rattle.relay_scenario.specs.declared.event_line.LineFault.TheVariants as fault
-use Rattle.relay_scenario.proofs.Cutting.{same_cut, uncut}
+use Rattle.relay_scenario.proofs.Cutting.{same_cut, no_cut}
 use Rattle.relay_scenario.proofs.Counting.{same_numbers}
 
 -- two texts that a test tells apart
@@ -38,7 +38,7 @@ no_bad e = cc
 pub no_id : (text index rest : List ℕ) → Begins text index rest → IsWord rest → (key : DocKey) (more : List ℕ) → IsKey text key more → ⊥
 no_id text index rest b w key more h =
     let same = same_cut text index key.index rest h.middle b h.index in
-    uncut h.middle key.id more (subst (λ (t : List ℕ). IsWord t) same.1 w) h.id
+    no_cut h.middle key.id more (subst (λ (t : List ℕ). IsWord t) same.1 w) h.id
 
 -- two words that a document has are at fault for lack of memory alone
 memory_alone : (index id : List ℕ) (key : DocKey) (e : ActionFault) → index ≡ key.index → id ≡ key.id → e ≡ unwrap_or (key_fault index id) action.Memory → fault_of e ≡ fault.Memory
@@ -62,7 +62,7 @@ no_key text index id middle rest e b d f =
 
 pub other_action : (text word source : List ℕ) → Begins text word source → word ≢ codes "index" → (a : Action) → AsksFor text a → ⊥
 other_action text word source b ne (Index s) h = ne (same_cut text word (codes "index") source s.text b h).0
-other_action text word source b ne Delete h = uncut text word source (subst (λ (t : List ℕ). IsWord t) (sym h) refl) b
+other_action text word source b ne Delete h = no_cut text word source (subst (λ (t : List ℕ). IsWord t) (sym h) refl) b
 
 source_none : (s : Source) → source_fault s.text ≡ None
 source_none s = let a = s.length_ok in let b = s.line_ok in grind (arith, a.0, a.1, b)
@@ -76,14 +76,14 @@ memory_of text source e b f (Index s) h =
     let same = same_cut text (codes "index") (codes "index") source s.text b h in
     let none : source_fault source ≡ None = rw same.1 (source_none s) in
     ap fault_of (f ∙ ap (λ o. unwrap_or o action.Memory) none)
-memory_of text source e b f Delete h = absurd (uncut text (codes "index") source (subst (λ (t : List ℕ). IsWord t) (sym h) refl) b)
+memory_of text source e b f Delete h = absurd (no_cut text (codes "index") source (subst (λ (t : List ℕ). IsWord t) (sym h) refl) b)
 
 pub no_source : (text source : List ℕ) (e : ActionFault) → Begins text (codes "index") source → e ≡ unwrap_or (source_fault source) action.Memory → IsActionFault text (fault_of e)
 no_source text source e b f = action_at_fault text (fault_of e) (memory_of text source e b f)
 
 -- a word asks for a deletion alone
 pub word_action : (text : List ℕ) → IsWord text → text ≢ codes "delete" → (a : Action) → AsksFor text a → ⊥
-word_action text w ne (Index s) h = uncut text (codes "index") s.text w h
+word_action text w ne (Index s) h = no_cut text (codes "index") s.text w h
 word_action text w ne Delete h = ne h
 
 -- ---- puts

@@ -1,5 +1,5 @@
 -- Events taken and played one after another, and what is written of their answers.
-use Rattle.std.proofs.Common.{◌≡◌, ℕ, ◌+◌, ◌<◌, ◌≤◌, min, List, [], ◌∷◌, ◌++◌, length, take, drop, Option, None, Some, Result, Ok, Err, refl, ap, sym, subst, ◌∙◌, arith, inl, inr, append_assoc, append-nil, length-append, length-drop}
+use Rattle.std.proofs.Common.{◌≡◌, ℕ, ◌+◌, ◌≤◌, min, List, [], ◌∷◌, ◌++◌, length, take, drop, Option, None, Some, Result, Ok, Err, refl, ap, sym, subst, ◌∙◌, arith, inl, inr, append_assoc, append-nil, length-append, length-drop}
 use Rattle.std.specs.Io.KnownBytes.{append_known, prepend_known}
 use Rattle.std.proofs.lemmas.List.{take-append-drop, length-take-le}
 use Rattle.relay_action.proofs.Shown.{append_known-append}
@@ -9,13 +9,13 @@ use Rattle.relay_world.specs.declared.event.Event.{Event}
 use Rattle.relay_world.specs.State.{World}
 use Rattle.relay_world.specs.Steps.{Steps}
 use Rattle.relay_scenario.specs.Events.{IsEventLine}
-use Rattle.relay_scenario.specs.Flows.{Breaks, Flows, IsWrittenInPart, Sink, opened, sink, with_sent}
+use Rattle.relay_scenario.specs.Flows.{Breaks, Flows, IsWrittenInPart, Sink, fresh_sink, sink, with_sent}
 use Rattle.relay_action.specs.Streams.{most}
 use Rattle.relay_commands.specs.Sending.{Moves, MovesPart}
 use Rattle.relay_scenario.specs.declared.event_line.LineFault.{LineFault}
 use Rattle.relay_scenario.specs.declared.event_line.LineFault.TheVariants as bad
 use Rattle.relay_scenario.specs.Events.{IsLineFault}
-use Rattle.relay_scenario.specs.Scripts.{Answers, Halts, HasNoEvent, IsNoEvent, Leaves, Passes, PlaysOne, Stops, TakesEvent, TakesEvents, Underway, UsesOneLine, fault_at}
+use Rattle.relay_scenario.specs.Scripts.{Answers, Halts, HasNoEvent, IsNoEvent, Leaves, PassesText, PlaysOne, Stops, TakesEvent, TakesEvents, Underway, UsesOneLine, fault_at}
 use Rattle.relay_scenario.specs.declared.script.ScriptFault.{ScriptFault}
 use Rattle.relay_scenario.specs.declared.script.ScriptFault.TheVariants as fault
 
@@ -39,38 +39,38 @@ sends_both w xs ys =
     same_sink (with_sent (with_sent w xs) ys) (with_sent w (xs ++ ys)) (append_known-append w.shown xs ys) (omega (arith, total))
 
 pub flows_none : (text : List ℕ) (written : Sink) → written.sent ≤ most → Flows [] text written text written
-flows_none text written h = record { gone = []; whole = append-nil text; wrote = sends_none written h }
+flows_none text written h = record { front = []; whole = append-nil text; writes = sends_none written h }
 
 -- more comes after what came before, and some of all that is written after what was
 pub flows_on : (a b text mid rest : List ℕ) (w u v : Sink) → Flows a text w mid u → Flows b mid u rest v → Flows (a ++ b) text w rest v
 flows_on a b text mid rest w u v f g = record {
-  gone = f.gone ++ g.gone;
+  front = f.front ++ g.front;
   whole =
-      sym (append_assoc text a b) ∙ ap (λ t. t ++ b) f.whole ∙ append_assoc f.gone mid b ∙ ap (λ t. f.gone ++ t) g.whole
-      ∙ sym (append_assoc f.gone g.gone rest);
-  wrote = g.wrote ∙ ap (λ o. with_sent o g.gone) f.wrote ∙ sends_both w f.gone g.gone;
+      sym (append_assoc text a b) ∙ ap (λ t. t ++ b) f.whole ∙ append_assoc f.front mid b ∙ ap (λ t. f.front ++ t) g.whole
+      ∙ sym (append_assoc f.front g.front rest);
+  writes = g.writes ∙ ap (λ o. with_sent o g.front) f.writes ∙ sends_both w f.front g.front;
 }
 
 -- a line was added, and nothing written
 pub flows_add : (text line longer : List ℕ) (w : Sink) → w.sent ≤ most → longer ≡ text ++ line → Flows line text w longer w
-flows_add text line longer w h e = record { gone = []; whole = sym e; wrote = sends_none w h }
+flows_add text line longer w h e = record { front = []; whole = sym e; writes = sends_none w h }
 
 -- all was written
 pub flows_out : (all text : List ℕ) (w u : Sink) (after : Option (List ℕ)) → Flows all [] w text u → after ≡ append_known u.shown text → after ≡ append_known w.shown all
 flows_out all text w u after f e =
-    e ∙ ap (λ o. append_known o text) (ap (λ (k : Sink). k.shown) f.wrote) ∙ append_known-append w.shown f.gone text ∙ ap (append_known w.shown) (sym f.whole)
+    e ∙ ap (λ o. append_known o text) (ap (λ (k : Sink). k.shown) f.writes) ∙ append_known-append w.shown f.front text ∙ ap (append_known w.shown) (sym f.whole)
 
 no_length : (xs : List ℕ) → length xs ≡ 0 → xs ≡ []
 no_length [] e = refl
 no_length (x ∷ xs) e = absurd (omega (arith, e))
 
 -- what was cut of the rest is cut of all
-cut_within : (all gone text : List ℕ) (w u v : Sink) → all ≡ gone ++ text → u ≡ with_sent w gone → IsWrittenInPart u v text → IsWrittenInPart w v all
-cut_within all gone text w u v e o c = record {
-  gone = gone ++ c.gone;
+cut_within : (all front text : List ℕ) (w u v : Sink) → all ≡ front ++ text → u ≡ with_sent w front → IsWrittenInPart u v text → IsWrittenInPart w v all
+cut_within all front text w u v e o c = record {
+  front = front ++ c.front;
   later = c.later;
-  whole = e ∙ ap (λ t. gone ++ t) c.whole ∙ sym (append_assoc gone c.gone c.later);
-  wrote = c.wrote ∙ ap (λ x. with_sent x c.gone) o ∙ sends_both w gone c.gone;
+  whole = e ∙ ap (λ t. front ++ t) c.whole ∙ sym (append_assoc front c.front c.later);
+  writes = c.writes ∙ ap (λ x. with_sent x c.front) o ∙ sends_both w front c.front;
   not_all = c.not_all;
 }
 
@@ -79,22 +79,22 @@ pub breaks_on : (a text mid : List ℕ) (w u v : Sink) → Flows a text w mid u 
 breaks_on a text mid w u v f b = record {
   more = a ++ b.more;
   cut =
-      let whole : text ++ (a ++ b.more) ≡ f.gone ++ (mid ++ b.more) = sym (append_assoc text a b.more) ∙ ap (λ t. t ++ b.more) f.whole ∙ append_assoc f.gone mid b.more in
-      cut_within (text ++ (a ++ b.more)) f.gone (mid ++ b.more) w u v whole f.wrote b.cut;
+      let whole : text ++ (a ++ b.more) ≡ f.front ++ (mid ++ b.more) = sym (append_assoc text a b.more) ∙ ap (λ t. t ++ b.more) f.whole ∙ append_assoc f.front mid b.more in
+      cut_within (text ++ (a ++ b.more)) f.front (mid ++ b.more) w u v whole f.writes b.cut;
 }
 
 pub cut_off : (all text : List ℕ) (w u v : Sink) → Flows all [] w text u → (b : Breaks text u v) → IsWrittenInPart w v (all ++ b.more)
 cut_off all text w u v f b =
-    let whole : all ++ b.more ≡ f.gone ++ (text ++ b.more) = ap (λ t. t ++ b.more) f.whole ∙ append_assoc f.gone text b.more in
-    cut_within (all ++ b.more) f.gone (text ++ b.more) w u v whole f.wrote b.cut
+    let whole : all ++ b.more ≡ f.front ++ (text ++ b.more) = ap (λ t. t ++ b.more) f.whole ∙ append_assoc f.front text b.more in
+    cut_within (all ++ b.more) f.front (text ++ b.more) w u v whole f.writes b.cut
 
 pub cut_last : (all text : List ℕ) (w u v : Sink) → Flows all [] w text u → IsWrittenInPart u v text → IsWrittenInPart w v all
-cut_last all text w u v f c = cut_within all f.gone text w u v f.whole f.wrote c
+cut_last all text w u v f c = cut_within all f.front text w u v f.whole f.writes c
 
 -- some of a text was written, and counted
-pub moved_on : (text rest : List ℕ) (sent count : ℕ) (before after : Option (List ℕ)) → Moves text sent before rest count after → Flows [] text (sink before sent) rest (sink after count)
-moved_on text rest sent count before after m =
-    record { gone = m.moved; whole = append-nil text ∙ m.whole; wrote = same_sink (sink after count) (with_sent (sink before sent) m.moved) m.written m.count_is }
+pub flows_of_moves : (text rest : List ℕ) (sent count : ℕ) (before after : Option (List ℕ)) → Moves text sent before rest count after → Flows [] text (sink before sent) rest (sink after count)
+flows_of_moves text rest sent count before after m =
+    record { front = m.part; whole = append-nil text ∙ m.whole; writes = same_sink (sink after count) (with_sent (sink before sent) m.part) m.writes m.count_is }
 
 -- a write of a text failed after its first bytes
 pub cut_at : (text : List ℕ) (sent count : ℕ) (before after : Option (List ℕ)) → MovesPart text sent before after count → IsWrittenInPart (sink before sent) (sink after count) text
@@ -102,10 +102,10 @@ cut_at text sent count before after m =
     let few = m.less in
     let long : length (take m.cut text) ≡ m.cut = length-take-le m.cut text (omega (arith, few)) in
     record {
-      gone = take m.cut text;
+      front = take m.cut text;
       later = drop m.cut text;
       whole = sym (take-append-drop m.cut text);
-      wrote = same_sink (sink after count) (with_sent (sink before sent) (take m.cut text)) m.written (m.count_is ∙ ap (λ n. min (sent + n) most) (sym long));
+      writes = same_sink (sink after count) (with_sent (sink before sent) (take m.cut text)) m.writes (m.count_is ∙ ap (λ n. min (sent + n) most) (sym long));
       not_all = λ e. let n = length-drop m.cut text in let k = ap length e in omega (arith, n, k, few);
     }
 
@@ -116,7 +116,7 @@ breaks_last text written after c = record { more = []; cut = subst (λ (xs : Lis
 -- no text is not cut
 pub none_cut : (written after : Sink) (text : List ℕ) → text ≡ [] → IsWrittenInPart written after text → ⊥
 none_cut written after text t c =
-    let n = length-append c.gone c.later in
+    let n = length-append c.front c.later in
     let m = ap length (sym t ∙ c.whole) in
     c.not_all (no_length c.later (omega (arith, n, m)))
 
@@ -132,16 +132,16 @@ answers_more [] e start w next out line h p =
 answers_more (x ∷ xs) e start w next out line h p =
     (h.0, h.1, h.2, h.3 ++ line, h.4, h.5, answers_more xs e h.1 w next h.3 line h.6 p, ap (λ t. t ++ line) h.7 ∙ append_assoc h.2 h.3 line)
 
-pub underway_none : (front : Option (List ℕ)) (w : World) (count : ℕ) (text : List ℕ) (written : Option (List ℕ)) (sent : ℕ) → count ≡ 1 → text ≡ [] → sent ≡ 0 → Underway front front w w count (opened written) text (sink written sent)
+pub underway_none : (front : Option (List ℕ)) (w : World) (count : ℕ) (text : List ℕ) (written : Option (List ℕ)) (sent : ℕ) → count ≡ 1 → text ≡ [] → sent ≡ 0 → Underway front front w w count (fresh_sink written) text (sink written sent)
 underway_none front w count text written sent c t z = record {
   events = [];
   out = [];
   takes = refl;
-  played = (refl, refl);
-  counted = c;
+  answers = (refl, refl);
+  count_is = c;
   flows =
-      subst (λ (n : ℕ). Flows [] [] (opened written) text (sink written n)) (sym z)
-      (subst (λ (xs : List ℕ). Flows [] [] (opened written) xs (opened written)) (sym t) (flows_none [] (opened written) (omega arith)));
+      subst (λ (n : ℕ). Flows [] [] (fresh_sink written) text (sink written n)) (sym z)
+      (subst (λ (xs : List ℕ). Flows [] [] (fresh_sink written) xs (fresh_sink written)) (sym t) (flows_none [] (fresh_sink written) (omega arith)));
 }
 
 -- some was written
@@ -150,8 +150,8 @@ underway_written first now start w count before text rest written after u f = re
   events = u.events;
   out = u.out;
   takes = u.takes;
-  played = u.played;
-  counted = u.counted;
+  answers = u.answers;
+  count_is = u.count_is;
   flows = subst (λ (xs : List ℕ). Flows xs [] before rest after) (append-nil u.out) (flows_on u.out [] [] text rest before written after u.flows f);
 }
 
@@ -161,8 +161,8 @@ underway_more first now new start w next count after before text longer written 
   events = u.events ++ e ∷ [];
   out = u.out ++ line;
   takes = takes_more u.events e first now new t.0 u.takes t.1 t.2;
-  played = answers_more u.events e start w next u.out line u.played p;
-  counted = let n = length-append u.events (e ∷ []) in let c = u.counted in let a = t.3 in omega (arith, n, c, a);
+  answers = answers_more u.events e start w next u.out line u.answers p;
+  count_is = let n = length-append u.events (e ∷ []) in let c = u.count_is in let a = t.3 in omega (arith, n, c, a);
   flows = flows_on u.out line [] text longer before written written u.flows (flows_add text line longer written h l);
 }
 
@@ -187,11 +187,11 @@ line_short rest text bytes (inr l) = let m = ap length l.3 in let t = l.2 in ome
 
 -- nothing was used
 pub uses_none : (o : Option (List ℕ)) → UsesOneLine o o
-uses_none o = record { used = []; rest = sym (prepend_none o); part = inl refl; short = omega arith }
+uses_none o = record { bytes = []; rest = sym (prepend_none o); part = inl refl; short = omega arith }
 
 -- a line was taken
 pub uses_text : (old new : Option (List ℕ)) (text : List ℕ) → TakesText old new text → UsesOneLine old new
-uses_text old new text t = record { used = t.bytes; rest = t.taken; part = line_part new text t.bytes t.line; short = line_short new text t.bytes t.line }
+uses_text old new text t = record { bytes = t.bytes; rest = t.taken; part = line_part new text t.bytes t.line; short = line_short new text t.bytes t.line }
 
 pub halts_at_write : (first now : Option (List ℕ)) (start w : World) (count : ℕ) (before : Sink) (text rest : List ℕ) (written after : Sink) (sent : ℕ) → Underway first now start w count before text written → IsWrittenInPart written (record after { sent = sent }) text → Halts first now start before rest after (Err (fault.Write sent))
 halts_at_write first now start w count before text rest written after sent u b =
@@ -201,7 +201,7 @@ halts_at_write first now start w count before text rest written after sent u b =
       takes = u.takes;
       world = w;
       out = u.out;
-      played = u.played;
+      answers = u.answers;
       stops = tt;
       uses = uses_none now;
       leaves = ([], inr refl, subst (λ (xs : List ℕ). IsWrittenInPart before (record after { sent = sent }) xs) (sym (append-nil u.out)) (cut_last u.out text before written (record after { sent = sent }) u.flows b));
@@ -227,8 +227,8 @@ halts_at_fault first now last start w count before text longer written e u h sam
   takes = u.takes;
   world = w;
   out = u.out;
-  played = u.played;
-  stops = stops_at_fault (length u.events) count now e u.counted h;
+  answers = u.answers;
+  stops = stops_at_fault (length u.events) count now e u.count_is h;
   uses = one;
   leaves = subst (λ (xs : List ℕ). Leaves now before xs written u.out (Err e)) (sym same) (leaves_at_fault now count before text written u.out e h u.flows);
 }
@@ -239,8 +239,8 @@ underway_same first now new start w next count after before text longer written 
   events = u.events;
   out = u.out;
   takes = subst (λ (o : Option (List ℕ)). TakesEvents first o u.events) (sym n) u.takes;
-  played = subst (λ (x : World). Answers start u.events x u.out) (sym v) u.played;
-  counted = a ∙ u.counted;
+  answers = subst (λ (x : World). Answers start u.events x u.out) (sym v) u.answers;
+  count_is = a ∙ u.count_is;
   flows = subst (λ (xs : List ℕ). Flows u.out [] before xs written) (sym l) u.flows;
 }
 
@@ -252,7 +252,7 @@ no_event_on old new count after text bad.Memory t a h = tt
 -- ---- the ending
 
 -- what passes after what has passed
-pub passes_on : (a text mid rest : List ℕ) (w u v : Sink) (r : Result Unit ScriptFault) → Flows a text w mid u → Passes mid u rest v r → Passes text w rest v r
+pub passes_on : (a text mid rest : List ℕ) (w u v : Sink) (r : Result Unit ScriptFault) → Flows a text w mid u → PassesText mid u rest v r → PassesText text w rest v r
 passes_on a text mid rest w u v (Ok x) f p = (a ++ p.0, flows_on a p.0 text mid rest w u v f p.1)
 passes_on a text mid rest w u v (Err (fault.Write sent)) f p = breaks_on a text mid w u (record v { sent = sent }) f p
 passes_on a text mid rest w u v (Err fault.Memory) f p = (a ++ p.0, flows_on a p.0 text mid rest w u v f p.1)
@@ -268,7 +268,7 @@ line_breaks text line mid w v h e b = breaks_on line text mid w w v (flows_add t
 
 -- the reader of lines stopped in a line
 pub uses_stopped : (old new : Option (List ℕ)) (held : List ℕ) (k : LineKind) → StopsInLine old new held k → UsesOneLine old new
-uses_stopped old new held k s = record { used = s.used; rest = s.rest; part = s.part; short = s.short }
+uses_stopped old new held k s = record { bytes = s.used; rest = s.rest; part = s.part; short = s.short }
 
 -- nothing was taken
 pub uses_same : (old new : Option (List ℕ)) → new ≡ old → UsesOneLine old new

@@ -9,8 +9,8 @@ use Rattle.relay_scenario.specs.Config.{IsConfigFault}
 use Rattle.relay_scenario.specs.declared.event_line.LineFault.{LineFault}
 use Rattle.relay_scenario.specs.declared.event_line.LineFault.TheVariants as bad
 use Rattle.relay_commands.specs.Calls.{NoneFails, OneAtMost, OneFails}
-use Rattle.relay_scenario.specs.Flows.{Flows, IsWrittenInPart, Sink, opened, sink}
-use Rattle.relay_scenario.specs.Scripts.{Begins, Closes, ClosesOr, FailsOnce, Halts, HasNoConfig, HasNoWorld, IsScript, Leaves, cut_short, failed_write, is_failed_write, no_memory, MayEnd, Passes, PlaysScript, Runs, Stops, TakesConfig, Underway, UsesOneLine, Writes, failed_by, fault_at, unwritten_by}
+use Rattle.relay_scenario.specs.Flows.{Flows, IsWrittenInPart, Sink, fresh_sink, sink}
+use Rattle.relay_scenario.specs.Scripts.{Begins, Closes, ClosesOr, FailsOnce, Halts, HasNoConfig, HasNoWorld, IsScript, Leaves, cut_short, failed_write, is_failed_write, no_memory, MayEnd, PassesText, PlaysScript, Runs, Stops, TakesConfig, Underway, UsesOneLine, Writes, failed_by, fault_at, failed_writes_by}
 use Rattle.relay_commands.specs.Sending.{Moves}
 use Rattle.relay_scenario.specs.declared.script.ScriptFault.{ScriptFault}
 use Rattle.relay_scenario.specs.declared.script.ScriptFault.TheVariants as fault
@@ -18,35 +18,35 @@ use Rattle.relay_scenario.proofs.Underway.{cut_last, cut_off, flows_none, flows_
 
 -- ---- the end of the events, and the ending
 
-stops_after : (events : ℕ) (now : Option (List ℕ)) (text rest : List ℕ) (written after : Sink) (r : Result Unit ScriptFault) → IsAtEnd now → Passes text written rest after r → Stops events now r
+stops_after : (events : ℕ) (now : Option (List ℕ)) (text rest : List ℕ) (written after : Sink) (r : Result Unit ScriptFault) → IsAtEnd now → PassesText text written rest after r → Stops events now r
 stops_after events now text rest written after (Ok x) e p = e
 stops_after events now text rest written after (Err (fault.BadLine line)) e p = absurd p
 stops_after events now text rest written after (Err fault.Read) e p = tt
 stops_after events now text rest written after (Err (fault.Write sent)) e p = tt
 stops_after events now text rest written after (Err fault.Memory) e p = tt
 
-leaves_after : (now : Option (List ℕ)) (out text rest : List ℕ) (before written after : Sink) (r : Result Unit ScriptFault) → IsAtEnd now → Flows out [] before text written → Passes text written rest after r → Leaves now before rest after out r
+leaves_after : (now : Option (List ℕ)) (out text rest : List ℕ) (before written after : Sink) (r : Result Unit ScriptFault) → IsAtEnd now → Flows out [] before text written → PassesText text written rest after r → Leaves now before rest after out r
 leaves_after now out text rest before written after (Ok x) e f p = (p.0, flows_on out p.0 [] text rest before written after f p.1)
 leaves_after now out text rest before written after (Err (fault.BadLine line)) e f p = absurd p
 leaves_after now out text rest before written after (Err fault.Read) e f p = absurd p
 leaves_after now out text rest before written after (Err (fault.Write sent)) e f p = (p.more, inl e, cut_off out text before written (record after { sent = sent }) f p)
 leaves_after now out text rest before written after (Err fault.Memory) e f p = (p.0, inl e, flows_on out p.0 [] text rest before written after f p.1)
 
-pub halts_at_end : (first now : Option (List ℕ)) (start w : World) (count : ℕ) (before : Sink) (text rest : List ℕ) (written after : Sink) (r : Result Unit ScriptFault) → Underway first now start w count before text written → IsAtEnd now → Passes text written rest after r → Halts first now start before rest after r
+pub halts_at_end : (first now : Option (List ℕ)) (start w : World) (count : ℕ) (before : Sink) (text rest : List ℕ) (written after : Sink) (r : Result Unit ScriptFault) → Underway first now start w count before text written → IsAtEnd now → PassesText text written rest after r → Halts first now start before rest after r
 halts_at_end first now start w count before text rest written after r u e p = record {
   events = u.events;
   rest = now;
   takes = u.takes;
   world = w;
   out = u.out;
-  played = u.played;
+  answers = u.answers;
   stops = stops_after (length u.events) now text rest written after r e p;
   uses = uses_none now;
   leaves = leaves_after now u.out text rest before written after r e u.flows p;
 }
 
 -- no read fails where the ending is written
-pub reads_after : (text rest : List ℕ) (written after : Sink) (r : Result Unit ScriptFault) (old new : ℕ) → Passes text written rest after r → new ≡ old → new ≡ failed_by r old
+pub reads_after : (text rest : List ℕ) (written after : Sink) (r : Result Unit ScriptFault) (old new : ℕ) → PassesText text written rest after r → new ≡ old → new ≡ failed_by r old
 reads_after text rest written after (Ok x) old new p e = e
 reads_after text rest written after (Err (fault.BadLine line)) old new p e = absurd p
 reads_after text rest written after (Err fault.Read) old new p e = absurd p
@@ -54,29 +54,29 @@ reads_after text rest written after (Err (fault.Write sent)) old new p e = e
 reads_after text rest written after (Err fault.Memory) old new p e = e
 
 -- memory ran out before the first event
-pub halts_at_once : (first : Option (List ℕ)) (start : World) (before : Option (List ℕ)) (text : List ℕ) (written : Sink) → text ≡ [] → written ≡ opened before → Halts first first start (opened before) text written (Err fault.Memory)
+pub halts_at_once : (first : Option (List ℕ)) (start : World) (before : Option (List ℕ)) (text : List ℕ) (written : Sink) → text ≡ [] → written ≡ fresh_sink before → Halts first first start (fresh_sink before) text written (Err fault.Memory)
 halts_at_once first start before text written t w = record {
   events = [];
   rest = first;
   takes = refl;
   world = start;
   out = [];
-  played = (refl, refl);
+  answers = (refl, refl);
   stops = tt;
   uses = uses_none first;
-  leaves = ([], inr refl, subst (λ (xs : List ℕ). Flows [] [] (opened before) xs written) (sym t) (subst (λ (o : Sink). Flows [] [] (opened before) [] o) (sym w) (flows_none [] (opened before) (omega arith))));
+  leaves = ([], inr refl, subst (λ (xs : List ℕ). Flows [] [] (fresh_sink before) xs written) (sym t) (subst (λ (o : Sink). Flows [] [] (fresh_sink before) [] o) (sym w) (flows_none [] (fresh_sink before) (omega arith))));
 }
 
 -- ---- what was left is written
 
 -- of an answer that stays, all went out
-writes_all : (rest before : Option (List ℕ)) (written : Sink) (after : Option (List ℕ)) (text out : List ℕ) (answer : Result Unit ScriptFault) → Leaves rest (opened before) text written out answer → after ≡ append_known written.shown text → ((sent : ℕ) → answer ≡ Err (fault.Write sent) → ⊥) → Writes rest before after out answer
-writes_all rest before written after text out (Ok x) l e n = (l.0, flows_out (out ++ l.0) text (opened before) written after l.1 e)
-writes_all rest before written after text out (Err (fault.BadLine line)) l e n = flows_out out text (opened before) written after l e
-writes_all rest before written after text out (Err fault.Read) l e n = flows_out out text (opened before) written after l e
+writes_all : (rest before : Option (List ℕ)) (written : Sink) (after : Option (List ℕ)) (text out : List ℕ) (answer : Result Unit ScriptFault) → Leaves rest (fresh_sink before) text written out answer → after ≡ append_known written.shown text → ((sent : ℕ) → answer ≡ Err (fault.Write sent) → ⊥) → Writes rest before after out answer
+writes_all rest before written after text out (Ok x) l e n = (l.0, flows_out (out ++ l.0) text (fresh_sink before) written after l.1 e)
+writes_all rest before written after text out (Err (fault.BadLine line)) l e n = flows_out out text (fresh_sink before) written after l e
+writes_all rest before written after text out (Err fault.Read) l e n = flows_out out text (fresh_sink before) written after l e
 writes_all rest before written after text out (Err (fault.Write sent)) l e n = absurd (n sent refl)
 writes_all rest before written after text out (Err fault.Memory) l e n =
-    (l.0, l.1, record { gone = out ++ l.0; later = []; whole = sym (append-nil (out ++ l.0)); wrote = flows_out (out ++ l.0) text (opened before) written after l.2 e })
+    (l.0, l.1, record { front = out ++ l.0; later = []; whole = sym (append-nil (out ++ l.0)); writes = flows_out (out ++ l.0) text (fresh_sink before) written after l.2 e })
 
 -- of all but a failed write there was some text to be written, of which some was
 pub record HasText (rest : Option (List ℕ)) (before written : Sink) (text out : List ℕ) : Type 0 where
@@ -100,46 +100,46 @@ cut_at_end : (rest : Option (List ℕ)) (before written after : Sink) (text out 
 cut_at_end rest before written after text out h c = (h.ending, h.may, cut_last (out ++ h.ending) text before written after h.flows c)
 
 -- what is said of the result, where that is said of the answer
-pub record Ended (events : ℕ) (rest before after : Option (List ℕ)) (out : List ℕ) (result : Result Unit ScriptFault) : Type 0 where
+pub record Ends (events : ℕ) (rest before after : Option (List ℕ)) (out : List ℕ) (result : Result Unit ScriptFault) : Type 0 where
   pub stops : Stops events rest result
   pub writes : Writes rest before after out result
 
-ended_same : (events : ℕ) (rest before after : Option (List ℕ)) (out : List ℕ) (answer result : Result Unit ScriptFault) → result ≡ answer → Stops events rest answer → Writes rest before after out answer → Ended events rest before after out result
-ended_same events rest before after out answer result e s w =
-    subst (λ (r : Result Unit ScriptFault). Ended events rest before after out r) (sym e) (record { stops = s; writes = w })
+ends_same : (events : ℕ) (rest before after : Option (List ℕ)) (out : List ℕ) (answer result : Result Unit ScriptFault) → result ≡ answer → Stops events rest answer → Writes rest before after out answer → Ends events rest before after out result
+ends_same events rest before after out answer result e s w =
+    subst (λ (r : Result Unit ScriptFault). Ends events rest before after out r) (sym e) (record { stops = s; writes = w })
 
-ended_or : (events : ℕ) (rest before : Option (List ℕ)) (written : Sink) (after : Option (List ℕ)) (text out : List ℕ) (failed count : ℕ) (answer result : Result Unit ScriptFault) → ((sent : ℕ) → answer ≡ Err (fault.Write sent) → ⊥) → Stops events rest answer → Leaves rest (opened before) text written out answer → ClosesOr answer failed_write text written failed after count result → Ended events rest before after out result
-ended_or events rest before written after text out failed count answer result n s l (inl c) =
-    ended_same events rest before after out answer result c.0 s (writes_all rest before written after text out answer l c.1 n)
-ended_or events rest before written after text out failed count answer result n s l (inr c) =
-    ended_same events rest before after out (Err (fault.Write c.0)) result c.1 tt (cut_at_end rest (opened before) written (sink after c.0) text out (has_text events rest (opened before) written text out answer s l n) c.2)
+ends_or : (events : ℕ) (rest before : Option (List ℕ)) (written : Sink) (after : Option (List ℕ)) (text out : List ℕ) (failed count : ℕ) (answer result : Result Unit ScriptFault) → ((sent : ℕ) → answer ≡ Err (fault.Write sent) → ⊥) → Stops events rest answer → Leaves rest (fresh_sink before) text written out answer → ClosesOr answer failed_write text written failed after count result → Ends events rest before after out result
+ends_or events rest before written after text out failed count answer result n s l (inl c) =
+    ends_same events rest before after out answer result c.0 s (writes_all rest before written after text out answer l c.1 n)
+ends_or events rest before written after text out failed count answer result n s l (inr c) =
+    ends_same events rest before after out (Err (fault.Write c.0)) result c.1 tt (cut_at_end rest (fresh_sink before) written (sink after c.0) text out (has_text events rest (fresh_sink before) written text out answer s l n) c.2)
 
-ended : (events : ℕ) (rest before : Option (List ℕ)) (written : Sink) (after : Option (List ℕ)) (text out : List ℕ) (failed count : ℕ) (answer result : Result Unit ScriptFault) → Stops events rest answer → Leaves rest (opened before) text written out answer → Closes answer text written failed after count result → Ended events rest before after out result
-ended events rest before written after text out failed count (Ok x) result s l c = ended_or events rest before written after text out failed count (Ok x) result (λ n e. cc) s l c
-ended events rest before written after text out failed count (Err (fault.BadLine line)) result s l c = ended_or events rest before written after text out failed count (Err (fault.BadLine line)) result (λ n e. cc) s l c
-ended events rest before written after text out failed count (Err fault.Read) result s l c = ended_or events rest before written after text out failed count (Err fault.Read) result (λ n e. cc) s l c
-ended events rest before written after text out failed count (Err (fault.Write sent)) result s l c =
-    ended_same events rest before after out (Err (fault.Write sent)) result c.0 tt (l.0, l.1, subst (λ (o : Option (List ℕ)). IsWrittenInPart (opened before) (sink o sent) (out ++ l.0)) (sym c.1) l.2)
-ended events rest before written after text out failed count (Err fault.Memory) result s l (inl c) =
-    ended_same events rest before after out (Err fault.Memory) result c.0 tt (writes_all rest before written after text out (Err fault.Memory) l c.1 (λ n e. cc))
-ended events rest before written after text out failed count (Err fault.Memory) result s l (inr c) =
-    let cut = cut_at_end rest (opened before) written (sink after c.0) text out (record { ending = l.0; may = l.1; flows = l.2 }) c.2 in
-    ended_same events rest before after out (Err fault.Memory) result c.1 tt (cut.0, cut.1, record { gone = cut.2.gone; later = cut.2.later; whole = cut.2.whole; wrote = ap (λ (k : Sink). k.shown) cut.2.wrote })
+ends : (events : ℕ) (rest before : Option (List ℕ)) (written : Sink) (after : Option (List ℕ)) (text out : List ℕ) (failed count : ℕ) (answer result : Result Unit ScriptFault) → Stops events rest answer → Leaves rest (fresh_sink before) text written out answer → Closes answer text written failed after count result → Ends events rest before after out result
+ends events rest before written after text out failed count (Ok x) result s l c = ends_or events rest before written after text out failed count (Ok x) result (λ n e. cc) s l c
+ends events rest before written after text out failed count (Err (fault.BadLine line)) result s l c = ends_or events rest before written after text out failed count (Err (fault.BadLine line)) result (λ n e. cc) s l c
+ends events rest before written after text out failed count (Err fault.Read) result s l c = ends_or events rest before written after text out failed count (Err fault.Read) result (λ n e. cc) s l c
+ends events rest before written after text out failed count (Err (fault.Write sent)) result s l c =
+    ends_same events rest before after out (Err (fault.Write sent)) result c.0 tt (l.0, l.1, subst (λ (o : Option (List ℕ)). IsWrittenInPart (fresh_sink before) (sink o sent) (out ++ l.0)) (sym c.1) l.2)
+ends events rest before written after text out failed count (Err fault.Memory) result s l (inl c) =
+    ends_same events rest before after out (Err fault.Memory) result c.0 tt (writes_all rest before written after text out (Err fault.Memory) l c.1 (λ n e. cc))
+ends events rest before written after text out failed count (Err fault.Memory) result s l (inr c) =
+    let cut = cut_at_end rest (fresh_sink before) written (sink after c.0) text out (record { ending = l.0; may = l.1; flows = l.2 }) c.2 in
+    ends_same events rest before after out (Err fault.Memory) result c.1 tt (cut.0, cut.1, record { front = cut.2.front; later = cut.2.later; whole = cut.2.whole; writes = ap (λ (k : Sink). k.shown) cut.2.writes })
 
-runs : (front left before : Option (List ℕ)) (written : Sink) (after : Option (List ℕ)) (held text : List ℕ) (failed count : ℕ) (answer result : Result Unit ScriptFault) → length held ≤ piece_limit → Begins front (prepend_known held left) (opened before) text written answer → Closes answer text written failed after count result → Runs front left before after result
+runs : (front left before : Option (List ℕ)) (written : Sink) (after : Option (List ℕ)) (held text : List ℕ) (failed count : ℕ) (answer result : Result Unit ScriptFault) → length held ≤ piece_limit → Begins front (prepend_known held left) (fresh_sink before) text written answer → Closes answer text written failed after count result → Runs front left before after result
 runs front left before written after held text failed count answer result h b c =
-    let e = ended (length b.halts.events) b.halts.rest before written after text b.halts.out failed count answer result b.halts.stops b.halts.leaves c in record {
+    let e = ends (length b.halts.events) b.halts.rest before written after text b.halts.out failed count answer result b.halts.stops b.halts.leaves c in record {
       text = b.line;
       first = b.first;
       config = b.config;
-      taken = b.taken;
+      takes_text = b.takes_text;
       is_config = b.is_config;
       events = b.halts.events;
       rest = b.halts.rest;
       takes = b.halts.takes;
       world = b.halts.world;
       out = b.halts.out;
-      played = b.halts.played;
+      answers = b.halts.answers;
       stops = e.stops;
       reads = record { held = held; one_piece = h; uses = b.halts.uses };
       writes = e.writes;
@@ -152,23 +152,23 @@ append_none None = refl
 append_none (Some xs) = ap Some (append-nil xs)
 
 -- nothing is to be written, so the answer stays
-world_none : (front before : Option (List ℕ)) (written : Sink) (after : Option (List ℕ)) (text : List ℕ) (answer result : Result Unit ScriptFault) → text ≡ [] → written ≡ opened before → result ≡ answer → after ≡ append_known written.shown text → HasNoWorld front before before answer → HasNoWorld front before after result
+world_none : (front before : Option (List ℕ)) (written : Sink) (after : Option (List ℕ)) (text : List ℕ) (answer result : Result Unit ScriptFault) → text ≡ [] → written ≡ fresh_sink before → result ≡ answer → after ≡ append_known written.shown text → HasNoWorld front before before answer → HasNoWorld front before after result
 world_none front before written after text answer result t w r a h =
     let same : after ≡ before = a ∙ ap (append_known written.shown) t ∙ append_none written.shown ∙ ap (λ (k : Sink). k.shown) w in
     subst (λ (x : Result Unit ScriptFault). HasNoWorld front before after x) (sym r) (subst (λ (o : Option (List ℕ)). HasNoWorld front before o answer) (sym same) h)
 
-no_world_or : (front before : Option (List ℕ)) (written : Sink) (after : Option (List ℕ)) (text : List ℕ) (failed count : ℕ) (answer : Result Unit ScriptFault) (broken : ℕ → Result Unit ScriptFault) (result : Result Unit ScriptFault) → text ≡ [] → written ≡ opened before → HasNoWorld front before before answer → ClosesOr answer broken text written failed after count result → HasNoWorld front before after result
+no_world_or : (front before : Option (List ℕ)) (written : Sink) (after : Option (List ℕ)) (text : List ℕ) (failed count : ℕ) (answer : Result Unit ScriptFault) (broken : ℕ → Result Unit ScriptFault) (result : Result Unit ScriptFault) → text ≡ [] → written ≡ fresh_sink before → HasNoWorld front before before answer → ClosesOr answer broken text written failed after count result → HasNoWorld front before after result
 no_world_or front before written after text failed count answer broken result t w h (inl c) = world_none front before written after text answer result t w c.0 c.1 h
 no_world_or front before written after text failed count answer broken result t w h (inr c) = absurd (none_cut written (sink after c.0) text t c.2)
 
-no_world : (front before : Option (List ℕ)) (written : Sink) (after : Option (List ℕ)) (text : List ℕ) (failed count : ℕ) (answer result : Result Unit ScriptFault) → HasNoConfig front answer → text ≡ [] → written ≡ opened before → Closes answer text written failed after count result → HasNoWorld front before after result
+no_world : (front before : Option (List ℕ)) (written : Sink) (after : Option (List ℕ)) (text : List ℕ) (failed count : ℕ) (answer result : Result Unit ScriptFault) → HasNoConfig front answer → text ≡ [] → written ≡ fresh_sink before → Closes answer text written failed after count result → HasNoWorld front before after result
 no_world front before written after text failed count (Ok x) result h t w c = absurd h
 no_world front before written after text failed count (Err (fault.BadLine line)) result h t w c = no_world_or front before written after text failed count (Err (fault.BadLine line)) failed_write result t w (h.0, h.1, refl) c
 no_world front before written after text failed count (Err fault.Read) result h t w c = no_world_or front before written after text failed count (Err fault.Read) failed_write result t w refl c
 no_world front before written after text failed count (Err (fault.Write sent)) result h t w c = absurd h
 no_world front before written after text failed count (Err fault.Memory) result h t w c = no_world_or front before written after text failed count (Err fault.Memory) no_memory result t w refl c
 
-pub is_script : (front left before : Option (List ℕ)) (written : Sink) (after : Option (List ℕ)) (held text : List ℕ) (failed count : ℕ) (answer result : Result Unit ScriptFault) → length held ≤ piece_limit → PlaysScript front (prepend_known held left) (opened before) text written answer → Closes answer text written failed after count result → IsScript front left before after result
+pub is_script : (front left before : Option (List ℕ)) (written : Sink) (after : Option (List ℕ)) (held text : List ℕ) (failed count : ℕ) (answer result : Result Unit ScriptFault) → length held ≤ piece_limit → PlaysScript front (prepend_known held left) (fresh_sink before) text written answer → Closes answer text written failed after count result → IsScript front left before after result
 is_script front left before written after held text failed count answer result p (inl b) c = inl (runs front left before written after held text failed count answer result p b c)
 is_script front left before written after held text failed count answer result p (inr h) c =
     inr (no_world front before written after text failed count answer result h.0 h.2 h.3 c, record { held = held; one_piece = p; uses = h.1 })
@@ -197,9 +197,9 @@ closes_cut (Err (fault.Write m)) text written failed after count sent e w n = ab
 closes_cut (Err fault.Memory) text written failed after count sent e w n = inr (sent, refl, w, n)
 
 -- all that was gathered moved
-pub moved_all : (text rest : List ℕ) (sent count : ℕ) (before after : Option (List ℕ)) → Moves text sent before rest count after → rest ≡ [] → after ≡ append_known before text
-moved_all text rest sent count before after m e =
-    m.written ∙ ap (append_known before) (sym (m.whole ∙ ap (λ x. m.moved ++ x) e ∙ append-nil m.moved))
+pub moves_all : (text rest : List ℕ) (sent count : ℕ) (before after : Option (List ℕ)) → Moves text sent before rest count after → rest ≡ [] → after ≡ append_known before text
+moves_all text rest sent count before after m e =
+    m.writes ∙ ap (append_known before) (sym (m.whole ∙ ap (λ x. m.part ++ x) e ∙ append-nil m.part))
 
 -- ---- calls
 
@@ -209,7 +209,7 @@ calls_or old new before mid after text written end answer result o m f (inl c) =
 calls_or old new before mid after text written end answer result o m f (inr c) =
     subst (λ (r : Result Unit ScriptFault). FailsOnce old new before after r) (sym c.1) (o, subst (λ (n : ℕ). OneFails n after) m c.3)
 
-pub fails_once : (old new before mid after : ℕ) (text : List ℕ) (written : Sink) (end : Option (List ℕ)) (answer result : Result Unit ScriptFault) → new ≡ failed_by answer old → mid ≡ unwritten_by answer before → Closes answer text written mid end after result → FailsOnce old new before after result
+pub fails_once : (old new before mid after : ℕ) (text : List ℕ) (written : Sink) (end : Option (List ℕ)) (answer result : Result Unit ScriptFault) → new ≡ failed_by answer old → mid ≡ failed_writes_by answer before → Closes answer text written mid end after result → FailsOnce old new before after result
 fails_once old new before mid after text written end (Ok x) result r m c = calls_or old new before mid after text written end (Ok x) result (inl r) m (λ n. (r, n)) c
 fails_once old new before mid after text written end (Err (fault.BadLine line)) result r m c = calls_or old new before mid after text written end (Err (fault.BadLine line)) result (inl r) m (λ n. (r, n)) c
 fails_once old new before mid after text written end (Err fault.Read) result r m c = calls_or old new before mid after text written end (Err fault.Read) result (inr r) m (λ n. (r, n)) c
@@ -237,7 +237,7 @@ plays_on old new last before written after text config start r t s h = inl (reco
   line = t.0;
   first = new;
   config = config;
-  taken = t.1;
+  takes_text = t.1;
   is_config = t.2;
   halts = subst (λ (w : World). Halts new last w before text written r) s h;
 })

@@ -12,8 +12,8 @@ abbrev pub sink : Option (List ℕ) → ℕ → Sink
 sink shown sent = record { shown = shown; sent = sent }
 
 -- before the first byte
-abbrev pub opened : Option (List ℕ) → Sink
-opened shown = sink shown 0
+abbrev pub fresh_sink : Option (List ℕ) → Sink
+fresh_sink shown = sink shown 0
 
 -- after these bytes
 abbrev pub with_sent : Sink → List ℕ → Sink
@@ -21,28 +21,28 @@ with_sent s bytes = record { shown = append_known s.shown bytes; sent = min (s.s
 
 -- Some text was still to be written, and more was added. Part of all this was written, and the rest is still to be
 -- written.
-pub record Flows (more text : List ℕ) (written : Sink) (rest : List ℕ) (after : Sink) : Type 0 where
-  pub gone : List ℕ
-  pub whole : text ++ more ≡ gone ++ rest
-  pub wrote : after ≡ with_sent written gone
+pub record Flows (more text : List ℕ) (before : Sink) (rest : List ℕ) (after : Sink) : Type 0 where
+  pub front : List ℕ
+  pub whole : text ++ more ≡ front ++ rest
+  pub writes : after ≡ with_sent before front
 
 -- a prefix of a text was written
 pub record IsFront (before after : Option (List ℕ)) (text : List ℕ) : Type 0 where
-  pub gone : List ℕ
+  pub front : List ℕ
   pub later : List ℕ
-  pub whole : text ≡ gone ++ later
-  pub wrote : after ≡ append_known before gone
+  pub whole : text ≡ front ++ later
+  pub writes : after ≡ append_known before front
 
 -- the same, counted, and not all of it
 pub record IsWrittenInPart (before after : Sink) (text : List ℕ) : Type 0 where
-  pub gone : List ℕ
+  pub front : List ℕ
   pub later : List ℕ
-  pub whole : text ≡ gone ++ later
-  pub wrote : after ≡ with_sent before gone
+  pub whole : text ≡ front ++ later
+  pub writes : after ≡ with_sent before front
   pub not_all : later ≢ []
 
 -- Some text was still to be written, and more was added. A prefix of all this was written, and not all, since a write
 -- failed.
-pub record Breaks (text : List ℕ) (written after : Sink) : Type 0 where
+pub record Breaks (text : List ℕ) (before after : Sink) : Type 0 where
   pub more : List ℕ
-  pub cut : IsWrittenInPart written after (text ++ more)
+  pub cut : IsWrittenInPart before after (text ++ more)

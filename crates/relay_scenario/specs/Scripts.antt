@@ -9,6 +9,7 @@ use Rattle.relay_ndjson.specs.declared.kind.LineKind.TheVariants as kind
 use Rattle.relay_index.specs.States as index
 use Rattle.relay_core.specs.declared.config.RelayConfig.{RelayConfig}
 use Rattle.relay_commands.specs.Calls.{NoneFails, OneAtMost, OneFails}
+use Rattle.relay_commands.specs.declared.outgoing.Outgoing.{Outgoing}
 use Rattle.relay_world.specs.declared.event.Event.{Event}
 use Rattle.relay_world.specs.declared.event.StepAnswer.{StepAnswer}
 use Rattle.relay_world.specs.State.{World, fresh}
@@ -16,7 +17,7 @@ use Rattle.relay_world.specs.Steps.{Steps}
 use Rattle.relay_scenario.specs.Config.{IsConfigLine}
 use Rattle.relay_scenario.specs.Events.{IsEventLine}
 use Rattle.relay_scenario.specs.Answers.{IsAnswerLine}
-use Rattle.relay_scenario.specs.Flows.{Breaks, Flows, IsWrittenInPart, IsFront, Sink, opened}
+use Rattle.relay_scenario.specs.Flows.{Breaks, Flows, IsWrittenInPart, IsFront, Sink, fresh_sink, sink}
 use Rattle.relay_scenario.specs.declared.event_line.LineFault.{LineFault}
 use Rattle.relay_scenario.specs.declared.event_line.LineFault.TheVariants as bad
 use Rattle.relay_scenario.specs.declared.playing.Next.{Next}
@@ -55,10 +56,10 @@ IsNoConfig front =
 
 -- at most one line was used of what was at the front
 pub record UsesOneLine (old new : Option (List ℕ)) : Type 0 where
-  pub used : List ℕ
-  pub rest : old ≡ prepend_known used new
-  pub part : IsOfOneLine used
-  pub short : length used ≤ line_limit + 2
+  pub bytes : List ℕ
+  pub rest : old ≡ prepend_known bytes new
+  pub part : IsOfOneLine bytes
+  pub short : length bytes ≤ line_limit + 2
 
 -- The same, given what the reader has left: besides, at most one piece was read beyond the line.
 pub record ReadsOn (front left : Option (List ℕ)) : Type 0 where
@@ -96,7 +97,7 @@ Writes rest before after out (Ok x) = (ending : List ℕ) × (after ≡ append_k
 Writes rest before after out (Err (fault.BadLine line)) = after ≡ append_known before out
 Writes rest before after out (Err fault.Read) = after ≡ append_known before out
 Writes rest before after out (Err (fault.Write sent)) =
-    (ending : List ℕ) × MayEnd rest ending × IsWrittenInPart (opened before) (record { shown = after; sent = sent }) (out ++ ending)
+    (ending : List ℕ) × MayEnd rest ending × IsWrittenInPart (fresh_sink before) (record { shown = after; sent = sent }) (out ++ ending)
 Writes rest before after out (Err fault.Memory) = (ending : List ℕ) × MayEnd rest ending × IsFront before after (out ++ ending)
 
 -- The first line is that of a config, and events follow, one line each. They are played on a fresh world, and these
@@ -105,14 +106,14 @@ pub record Runs (front left before after : Option (List ℕ)) (result : Result U
   pub text : List ℕ
   pub first : Option (List ℕ)
   pub config : RelayConfig
-  pub taken : TakesText front first text
+  pub takes_text : TakesText front first text
   pub is_config : IsConfigLine text config
   pub events : List Event
   pub rest : Option (List ℕ)
   pub takes : TakesEvents first rest events
   pub world : World
   pub out : List ℕ
-  pub played : Answers (fresh config index.fresh) events world out
+  pub answers : Answers (fresh config index.fresh) events world out
   pub stops : Stops (length events) rest result
   pub reads : ReadsOn rest left
   pub writes : Writes rest before after out result
@@ -210,8 +211,8 @@ pub record Underway (first now : Option (List ℕ)) (start world : World) (count
   pub events : List Event
   pub out : List ℕ
   pub takes : TakesEvents first now events
-  pub played : Answers start events world out
-  pub counted : count ≡ length events + 1
+  pub answers : Answers start events world out
+  pub count_is : count ≡ length events + 1
   pub flows : Flows out [] before text written
 
 -- what is left of the answers, by how it ended
@@ -222,16 +223,21 @@ Leaves rest before text written out (Err fault.Memory) = (ending : List ℕ) × 
 Leaves rest before text written out (Err other) = Flows out [] before text written
 
 -- the number of failed calls of a writer after this result
-abbrev pub unwritten_by : {T : Type 0} → Result T ScriptFault → ℕ → ℕ
-unwritten_by (Err (fault.Write sent)) n = one_more n
-unwritten_by other n = n
+abbrev pub failed_writes_by : {T : Type 0} → Result T ScriptFault → ℕ → ℕ
+failed_writes_by (Err (fault.Write sent)) n = one_more n
+failed_writes_by other n = n
 
 -- what was done with a text, and with more that was added, by how it ended
-abbrev pub Passes : List ℕ → Sink → List ℕ → Sink → Result Unit ScriptFault → Type 0
-Passes text written rest after (Ok x) = (more : List ℕ) × Flows more text written rest after
-Passes text written rest after (Err (fault.Write sent)) = Breaks text written (record after { sent = sent })
-Passes text written rest after (Err fault.Memory) = (more : List ℕ) × Flows more text written rest after
-Passes text written rest after (Err other) = ⊥
+abbrev pub PassesText : List ℕ → Sink → List ℕ → Sink → Result Unit ScriptFault → Type 0
+PassesText text before rest after (Ok x) = (more : List ℕ) × Flows more text before rest after
+PassesText text before rest after (Err (fault.Write sent)) = Breaks text before (record after { sent = sent })
+PassesText text before rest after (Err fault.Memory) = (more : List ℕ) × Flows more text before rest after
+PassesText text before rest after (Err other) = ⊥
+
+-- the same for what was gathered and what its writer shows, and which calls of the writer failed
+pub record Passes (old : Outgoing) (before : Option (List ℕ)) (failed : ℕ) (new : Outgoing) (after : Option (List ℕ)) (count : ℕ) (result : Result Unit ScriptFault) : Type 0 where
+  pub text : PassesText old.text.items (sink before old.sent) new.text.items (sink after new.sent) result
+  pub calls : count ≡ failed_writes_by result failed
 
 -- events were taken and played up to this result: what is left of their answers is still to be written, unless a
 -- write failed
@@ -241,7 +247,7 @@ pub record Halts (first last : Option (List ℕ)) (start : World) (before : Sink
   pub takes : TakesEvents first rest events
   pub world : World
   pub out : List ℕ
-  pub played : Answers start events world out
+  pub answers : Answers start events world out
   pub stops : Stops (length events) rest result
   pub uses : UsesOneLine rest last
   pub leaves : Leaves rest before text written out result
@@ -258,7 +264,7 @@ pub record Begins (front last : Option (List ℕ)) (before : Sink) (text : List 
   pub line : List ℕ
   pub first : Option (List ℕ)
   pub config : RelayConfig
-  pub taken : TakesText front first line
+  pub takes_text : TakesText front first line
   pub is_config : IsConfigLine line config
   pub halts : Halts first last (fresh config index.fresh) before text written result
 

@@ -1,6 +1,7 @@
 //! The lines that answer events.
 ghost use Rattle.std.specs.Prelude.{◌≡◌, [], ◌++◌, codes, OnOk};
-ghost use Rattle.relay_scenario.specs.Answers.{AddsItems, IsAnswer, IsAnswerLine, counts_text, item_text, refusal_name};
+ghost use Rattle.relay_scenario.specs.Answers.{AddsItems, IsAnswer, IsAnswerLine};
+ghost use Rattle.relay_scenario.specs.Answers.{counts_text, item_text, refusal_name};
 ghost use Rattle.relay_words.specs.Texts.{name_text, spaced_number};
 
 use relay_action::{DocKey, OpName};
@@ -88,7 +89,8 @@ fn add_settled(line: &mut Vec<u8>, settled: Settled) -> Result<(), AllocError>
 
 // Adds the request that was sent, and its items.
 fn add_sent(line: &mut Vec<u8>, world: &World, request: u64) -> Result<(), AllocError>
-    ensures { OnOk result (AddsItems world.now request (line.old.items ++ codes "ok" ++ spaced_number request) line.new.items) }
+    ensures { OnOk result (AddsItems world.now request
+        (line.old.items ++ codes "ok" ++ spaced_number request) line.new.items) }
 {
     line.extend_from_slice(b"ok")?;
     add_spaced(line, request)?;

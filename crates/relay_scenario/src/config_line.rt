@@ -1,5 +1,6 @@
 //! The first line of a script, which is the config.
-ghost use Rattle.std.specs.Prelude.{◌≡◌, ℕ, List, [], ◌∷◌, ◌<◌, ◌^◌, IfOk, IfErr, IfSome, IfNone, Some, true};
+ghost use Rattle.std.specs.Prelude.{◌≡◌, ℕ, List, [], ◌∷◌, ◌<◌, ◌^◌, Some, true};
+ghost use Rattle.std.specs.Prelude.{IfOk, IfErr, IfSome, IfNone};
 ghost use Rattle.relay_core.specs.Limits.{is_valid};
 ghost use Rattle.relay_scenario.specs.Config.{IsConfigFault, IsConfigLine, config_of};
 
@@ -26,10 +27,7 @@ pub fn read_config(alloc: Global, line: &[u8]) -> Result<RelayConfig, LineFault>
     if word != "world" {
         return Err(LineFault::Bad);
     }
-    let numbers = match numbers_of(alloc, rest) {
-        Ok(numbers) => numbers,
-        Err(fault) => return Err(fault),
-    };
+    let numbers = numbers_of(alloc, rest)?;
     match valid_config(numbers.as_slice()) {
         Some(config) => Ok(config),
         None => Err(LineFault::Bad),
@@ -39,7 +37,8 @@ pub fn read_config(alloc: Global, line: &[u8]) -> Result<RelayConfig, LineFault>
 // The config with these eleven numbers, if it is valid.
 fn valid_config(numbers: &[u64]) -> Option<RelayConfig>
     ensures some { IfSome result (λ c. (config_of numbers.now ≡ Some c) × (is_valid c ≡ true)) }
-    ensures none { IfNone result ((c : RelayConfig) → config_of numbers.now ≡ Some c → is_valid c ≡ true → ⊥) }
+    ensures none { IfNone result ((c : RelayConfig) → config_of numbers.now ≡ Some c
+        → is_valid c ≡ true → ⊥) }
 {
     match config_of(numbers) {
         Some(config) if config.valid() => Some(config),

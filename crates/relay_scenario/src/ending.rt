@@ -1,7 +1,5 @@
 //! The lines at the end of a script.
-ghost use Rattle.std.specs.Prelude.{◌≡◌};
-ghost use Rattle.relay_scenario.specs.Flows.{sink};
-ghost use Rattle.relay_scenario.specs.Scripts.{Passes, unwritten_by};
+ghost use Rattle.relay_scenario.specs.Scripts.{Passes};
 
 use crate::script::ScriptFault;
 use relay_action::{ByteOut, DocKey, OpName, Write};
@@ -21,19 +19,12 @@ pub fn write_ending<W: ByteOut>(
     outgoing: &mut Outgoing,
     writer: &mut W,
 ) -> Result<(), ScriptFault>
-    ensures text { Passes outgoing.old.text.items (sink (W.written writer.old) outgoing.old.sent)
-        outgoing.new.text.items (sink (W.written writer.new) outgoing.new.sent) result }
-    ensures writes { W.failed writer.new ≡ unwritten_by result (W.failed writer.old) }
+    ensures { Passes outgoing.old (W.written writer.old) (W.failed writer.old)
+        outgoing.new (W.written writer.new) (W.failed writer.new) result }
 {
-    if let Err(fault) = write_all_accepted(world, config.producers, line, outgoing, writer) {
-        return Err(fault);
-    }
-    if let Err(fault) = write_all_applied(world, line, outgoing, writer) {
-        return Err(fault);
-    }
-    if let Err(fault) = write_all_reports(world, config.lanes, line, outgoing, writer) {
-        return Err(fault);
-    }
+    write_all_accepted(world, config.producers, line, outgoing, writer)?;
+    write_all_applied(world, line, outgoing, writer)?;
+    write_all_reports(world, config.lanes, line, outgoing, writer)?;
     let made = make_finished(line, world.finished());
     pass_on(made, line, outgoing, writer)
 }
@@ -45,16 +36,13 @@ fn pass_on<W: ByteOut>(
     outgoing: &mut Outgoing,
     writer: &mut W,
 ) -> Result<(), ScriptFault>
-    ensures text { Passes outgoing.old.text.items (sink (W.written writer.old) outgoing.old.sent)
-        outgoing.new.text.items (sink (W.written writer.new) outgoing.new.sent) result }
-    ensures writes { W.failed writer.new ≡ unwritten_by result (W.failed writer.old) }
+    ensures { Passes outgoing.old (W.written writer.old) (W.failed writer.old)
+        outgoing.new (W.written writer.new) (W.failed writer.new) result }
 {
-    if made.is_err() {
-        return Err(ScriptFault::Memory);
-    }
-    if let Err(_) = outgoing.add_line(line.as_slice()) {
-        return Err(ScriptFault::Memory);
-    }
+    made.map_err(|_| ScriptFault::Memory)?;
+    outgoing
+        .add_line(line.as_slice())
+        .map_err(|_| ScriptFault::Memory)?;
     match outgoing.make_way(writer, false) {
         Ok(()) => Ok(()),
         Err(sent) => Err(ScriptFault::Write { sent }),
@@ -68,15 +56,12 @@ fn write_all_accepted<W: ByteOut>(
     outgoing: &mut Outgoing,
     writer: &mut W,
 ) -> Result<(), ScriptFault>
-    ensures text { Passes outgoing.old.text.items (sink (W.written writer.old) outgoing.old.sent)
-        outgoing.new.text.items (sink (W.written writer.new) outgoing.new.sent) result }
-    ensures writes { W.failed writer.new ≡ unwritten_by result (W.failed writer.old) }
+    ensures { Passes outgoing.old (W.written writer.old) (W.failed writer.old)
+        outgoing.new (W.written writer.new) (W.failed writer.new) result }
 {
     'producers: for producer in 0..producers {
         let made = make_accepted(line, producer, world.accepted(producer).len() as u64);
-        if let Err(fault) = pass_on(made, line, outgoing, writer) {
-            return Err(fault);
-        }
+        pass_on(made, line, outgoing, writer)?;
     }
     Ok(())
 }
@@ -87,14 +72,10 @@ fn write_all_applied<W: ByteOut>(
     outgoing: &mut Outgoing,
     writer: &mut W,
 ) -> Result<(), ScriptFault>
-    ensures text { Passes outgoing.old.text.items (sink (W.written writer.old) outgoing.old.sent)
-        outgoing.new.text.items (sink (W.written writer.new) outgoing.new.sent) result }
-    ensures writes { W.failed writer.new ≡ unwritten_by result (W.failed writer.old) }
+    ensures { Passes outgoing.old (W.written writer.old) (W.failed writer.old)
+        outgoing.new (W.written writer.new) (W.failed writer.new) result }
 {
-    let keys = match world.keys() {
-        Ok(keys) => keys,
-        Err(_) => return Err(ScriptFault::Memory),
-    };
+    let keys = world.keys().map_err(|_| ScriptFault::Memory)?;
     write_of_all(world, keys.as_slice(), line, outgoing, writer)
 }
 
@@ -106,16 +87,13 @@ fn write_of_all<W: ByteOut>(
     outgoing: &mut Outgoing,
     writer: &mut W,
 ) -> Result<(), ScriptFault>
-    ensures text { Passes outgoing.old.text.items (sink (W.written writer.old) outgoing.old.sent)
-        outgoing.new.text.items (sink (W.written writer.new) outgoing.new.sent) result }
-    ensures writes { W.failed writer.new ≡ unwritten_by result (W.failed writer.old) }
+    ensures { Passes outgoing.old (W.written writer.old) (W.failed writer.old)
+        outgoing.new (W.written writer.new) (W.failed writer.new) result }
 {
     'keys: for key in keys {
         let applied = world.applied(key);
         let names = world.names(key);
-        if let Err(fault) = write_applied(applied, names, line, outgoing, writer) {
-            return Err(fault);
-        }
+        write_applied(applied, names, line, outgoing, writer)?;
     }
     Ok(())
 }
@@ -128,15 +106,12 @@ fn write_applied<W: ByteOut>(
     outgoing: &mut Outgoing,
     writer: &mut W,
 ) -> Result<(), ScriptFault>
-    ensures text { Passes outgoing.old.text.items (sink (W.written writer.old) outgoing.old.sent)
-        outgoing.new.text.items (sink (W.written writer.new) outgoing.new.sent) result }
-    ensures writes { W.failed writer.new ≡ unwritten_by result (W.failed writer.old) }
+    ensures { Passes outgoing.old (W.written writer.old) (W.failed writer.old)
+        outgoing.new (W.written writer.new) (W.failed writer.new) result }
 {
     'writes: for (write, name) in applied.iter().zip(names) {
         let made = make_applied(line, write, *name);
-        if let Err(fault) = pass_on(made, line, outgoing, writer) {
-            return Err(fault);
-        }
+        pass_on(made, line, outgoing, writer)?;
     }
     Ok(())
 }
@@ -148,15 +123,12 @@ fn write_all_reports<W: ByteOut>(
     outgoing: &mut Outgoing,
     writer: &mut W,
 ) -> Result<(), ScriptFault>
-    ensures text { Passes outgoing.old.text.items (sink (W.written writer.old) outgoing.old.sent)
-        outgoing.new.text.items (sink (W.written writer.new) outgoing.new.sent) result }
-    ensures writes { W.failed writer.new ≡ unwritten_by result (W.failed writer.old) }
+    ensures { Passes outgoing.old (W.written writer.old) (W.failed writer.old)
+        outgoing.new (W.written writer.new) (W.failed writer.new) result }
 {
     'lanes: for lane in 0..lanes {
         let reports = world.reports(lane);
-        if let Err(fault) = write_reports(lane, reports, line, outgoing, writer) {
-            return Err(fault);
-        }
+        write_reports(lane, reports, line, outgoing, writer)?;
     }
     Ok(())
 }
@@ -169,15 +141,12 @@ fn write_reports<W: ByteOut>(
     outgoing: &mut Outgoing,
     writer: &mut W,
 ) -> Result<(), ScriptFault>
-    ensures text { Passes outgoing.old.text.items (sink (W.written writer.old) outgoing.old.sent)
-        outgoing.new.text.items (sink (W.written writer.new) outgoing.new.sent) result }
-    ensures writes { W.failed writer.new ≡ unwritten_by result (W.failed writer.old) }
+    ensures { Passes outgoing.old (W.written writer.old) (W.failed writer.old)
+        outgoing.new (W.written writer.new) (W.failed writer.new) result }
 {
     'reports: for report in reports {
         let made = make_report(line, lane, report);
-        if let Err(fault) = pass_on(made, line, outgoing, writer) {
-            return Err(fault);
-        }
+        pass_on(made, line, outgoing, writer)?;
     }
     Ok(())
 }

@@ -40,13 +40,11 @@ pub fn read_event(alloc: Global, line: &[u8]) -> Result<Event, LineFault>
 
 // The event with a word and numbers.
 fn read_numbered(alloc: Global, word: &str, rest: &str) -> Result<Event, LineFault>
-    ensures ok { IfOk result (λ e. (numbers : List ℕ) × AreNumbers rest.now numbers × (event_of word.now numbers ≡ Some e)) }
+    ensures ok { IfOk result (λ e. (numbers : List ℕ) × AreNumbers rest.now numbers
+        × (event_of word.now numbers ≡ Some e)) }
     ensures err { IfErr result (IsNumberedFault word.now rest.now) }
 {
-    let numbers = match numbers_of(alloc, rest) {
-        Ok(numbers) => numbers,
-        Err(fault) => return Err(fault),
-    };
+    let numbers = numbers_of(alloc, rest)?;
     match event_of(word, numbers) {
         Some(event) => Ok(event),
         None => Err(LineFault::Bad),

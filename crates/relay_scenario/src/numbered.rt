@@ -1,7 +1,8 @@
 //! Events with a word and numbers.
 ghost use Rattle.std.specs.Prelude.{◌≡◌};
 ghost use Rattle.relay_world.specs.declared.event.Event.TheVariants as event;
-ghost use Rattle.relay_scenario.specs.Events.{close_of, event_of, lost_of, of_lane, only_lane, reply_of, restart_of, run_of, whole_of};
+ghost use Rattle.relay_scenario.specs.Events.{close_of, event_of, lost_of, of_lane, only_lane};
+ghost use Rattle.relay_scenario.specs.Events.{reply_of, restart_of, run_of, whole_of};
 
 use relay_action::List;
 use relay_index::Choice;

@@ -10,7 +10,8 @@ use std::alloc::Global;
 
 // Adds the number of a word to a list.
 fn push_number(numbers: &mut Vec<u64>, word: &str) -> Result<(), LineFault>
-    ensures ok { OnOk result ((n : ℕ) × IsNumber word.now n × (numbers.new.items ≡ numbers.old.items ++ n ∷ [])) }
+    ensures ok { OnOk result ((n : ℕ) × IsNumber word.now n
+        × (numbers.new.items ≡ numbers.old.items ++ n ∷ [])) }
     ensures err { IfErr result (IsWordFault word.now) }
 {
     let Some(number) = number_of(word) else {
@@ -29,10 +30,8 @@ pub fn numbers_of(alloc: Global, text: &str) -> Result<Vec<u64>, LineFault>
     ensures err { IfErr result (IsNumbersFault text.now) }
 {
     let mut numbers = Vec::new(alloc);
-    match push_numbers(&mut numbers, text) {
-        Ok(()) => Ok(numbers),
-        Err(fault) => Err(fault),
-    }
+    push_numbers(&mut numbers, text)?;
+    Ok(numbers)
 }
 
 // Adds the numbers of a text to an empty list.
@@ -43,9 +42,7 @@ fn push_numbers(numbers: &mut Vec<u64>, text: &str) -> Result<(), LineFault>
 {
     let mut rest = text;
     'words: while let Some((word, later)) = cut(rest) {
-        if let Err(fault) = push_number(numbers, word) {
-            return Err(fault);
-        }
+        push_number(numbers, word)?;
         rest = later;
     }
     push_number(numbers, rest)

@@ -2,8 +2,11 @@
 ghost use Rattle.std.specs.Prelude.{◌≡◌, ◌≤◌, [], length, Err, IfErr, OnOk};
 ghost use Rattle.std.specs.Io.KnownBytes.{prepend_known, IsAtEnd};
 ghost use Rattle.relay_ndjson.specs.Lines.{piece_limit};
-ghost use Rattle.relay_scenario.specs.Flows.{opened, sink};
-ghost use Rattle.relay_scenario.specs.Scripts.{Halts, PlaysEvent, PlaysNext, TakesConfig, TakesEvent, TakesLine, Underway, UsesOneLine, failed_by, fault_at, line_count, line_fault, unwritten_by};
+ghost use Rattle.relay_scenario.specs.Flows.{fresh_sink, sink};
+ghost use Rattle.relay_scenario.specs.Scripts.{Halts, PlaysEvent, PlaysNext, Underway};
+ghost use Rattle.relay_scenario.specs.Scripts.{TakesConfig, TakesEvent, TakesLine, UsesOneLine};
+ghost use Rattle.relay_scenario.specs.Scripts.{failed_by, failed_writes_by};
+ghost use Rattle.relay_scenario.specs.Scripts.{fault_at, line_count, line_fault};
 
 use crate::answer::write_answer;
 use crate::config_line::read_config;
@@ -29,9 +32,11 @@ fn line_fault(fault: InputFault) -> ScriptFault
 // Takes the next line of a script, and returns whether there was one.
 fn take_line<R: ByteIn>(reader: &mut R, lines: &mut LineReader) -> Result<bool, ScriptFault>
     requires { lines.old.count ≤ line_count }
-    ensures line { TakesLine (prepend_known lines.old.held (R.left reader.old)) (prepend_known lines.new.held (R.left reader.new))
+    ensures line { TakesLine (prepend_known lines.old.held (R.left reader.old))
+        (prepend_known lines.new.held (R.left reader.new))
         lines.old.count lines.new.count lines.new.text result }
-    ensures uses { UsesOneLine (prepend_known lines.old.held (R.left reader.old)) (prepend_known lines.new.held (R.left reader.new)) }
+    ensures uses { UsesOneLine (prepend_known lines.old.held (R.left reader.old))
+        (prepend_known lines.new.held (R.left reader.new)) }
     ensures held { length lines.new.held ≤ piece_limit }
     ensures failed { R.failed reader.new ≡ failed_by result (R.failed reader.old) }
 {
@@ -66,16 +71,15 @@ pub fn take_config<R: ByteIn>(
     lines: &mut LineReader,
 ) -> Result<RelayConfig, ScriptFault>
     requires { lines.old.count ≡ 0 }
-    ensures config { TakesConfig (prepend_known lines.old.held (R.left reader.old)) (prepend_known lines.new.held (R.left reader.new))
-        lines.new.count result }
-    ensures uses { UsesOneLine (prepend_known lines.old.held (R.left reader.old)) (prepend_known lines.new.held (R.left reader.new)) }
+    ensures config { TakesConfig (prepend_known lines.old.held (R.left reader.old))
+        (prepend_known lines.new.held (R.left reader.new)) lines.new.count result }
+    ensures uses { UsesOneLine (prepend_known lines.old.held (R.left reader.old))
+        (prepend_known lines.new.held (R.left reader.new)) }
     ensures held { length lines.new.held ≤ piece_limit }
     ensures failed { R.failed reader.new ≡ failed_by result (R.failed reader.old) }
 {
-    match take_line(reader, lines) {
-        Ok(true) => {}
-        Ok(false) => return Err(ScriptFault::BadLine { line: 1 }),
-        Err(fault) => return Err(fault),
+    if !take_line(reader, lines)? {
+        return Err(ScriptFault::BadLine { line: 1 });
     }
     match read_config(alloc, lines.text()) {
         Ok(config) => Ok(config),
@@ -90,16 +94,16 @@ fn take_event<R: ByteIn>(
     lines: &mut LineReader,
 ) -> Result<Option<Event>, ScriptFault>
     requires { lines.old.count ≤ line_count }
-    ensures event { TakesEvent (prepend_known lines.old.held (R.left reader.old)) (prepend_known lines.new.held (R.left reader.new))
+    ensures event { TakesEvent (prepend_known lines.old.held (R.left reader.old))
+        (prepend_known lines.new.held (R.left reader.new))
         lines.old.count lines.new.count result }
-    ensures uses { UsesOneLine (prepend_known lines.old.held (R.left reader.old)) (prepend_known lines.new.held (R.left reader.new)) }
+    ensures uses { UsesOneLine (prepend_known lines.old.held (R.left reader.old))
+        (prepend_known lines.new.held (R.left reader.new)) }
     ensures held { length lines.new.held ≤ piece_limit }
     ensures failed { R.failed reader.new ≡ failed_by result (R.failed reader.old) }
 {
-    match take_line(reader, lines) {
-        Ok(true) => {}
-        Ok(false) => return Ok(None),
-        Err(fault) => return Err(fault),
+    if !take_line(reader, lines)? {
+        return Ok(None);
     }
     match read_event(alloc, lines.text()) {
         Ok(event) => Ok(Some(event)),
@@ -114,20 +118,15 @@ fn play_event(
     line: &mut Vec<u8>,
     outgoing: &mut Outgoing,
 ) -> Result<(), ScriptFault>
-    ensures plays { PlaysEvent world.old event.now world.new outgoing.old.text.items outgoing.new.text.items result }
+    ensures plays { PlaysEvent world.old event.now world.new
+        outgoing.old.text.items outgoing.new.text.items result }
     ensures sent { outgoing.new.sent ≡ outgoing.old.sent }
 {
-    let answer = match world.step(event) {
-        Ok(answer) => answer,
-        Err(_) => return Err(ScriptFault::Memory),
-    };
-    if let Err(_) = write_answer(world, answer, line) {
-        return Err(ScriptFault::Memory);
-    }
-    match outgoing.add_line(line.as_slice()) {
-        Ok(()) => Ok(()),
-        Err(_) => Err(ScriptFault::Memory),
-    }
+    let answer = world.step(event).map_err(|_| ScriptFault::Memory)?;
+    write_answer(world, answer, line).map_err(|_| ScriptFault::Memory)?;
+    outgoing
+        .add_line(line.as_slice())
+        .map_err(|_| ScriptFault::Memory)
 }
 
 // What the next line was.
@@ -149,21 +148,21 @@ fn play_next<R: ByteIn>(
     outgoing: &mut Outgoing,
 ) -> Result<Next, ScriptFault>
     requires { lines.old.count ≤ line_count }
-    ensures next { PlaysNext (prepend_known lines.old.held (R.left reader.old)) (prepend_known lines.new.held (R.left reader.new))
-        lines.old.count lines.new.count world.old world.new outgoing.old.text.items outgoing.new.text.items result }
+    ensures next { PlaysNext (prepend_known lines.old.held (R.left reader.old))
+        (prepend_known lines.new.held (R.left reader.new))
+        lines.old.count lines.new.count world.old world.new
+        outgoing.old.text.items outgoing.new.text.items result }
     ensures sent { outgoing.new.sent ≡ outgoing.old.sent }
-    ensures uses { UsesOneLine (prepend_known lines.old.held (R.left reader.old)) (prepend_known lines.new.held (R.left reader.new)) }
+    ensures uses { UsesOneLine (prepend_known lines.old.held (R.left reader.old))
+        (prepend_known lines.new.held (R.left reader.new)) }
     ensures held { length lines.new.held ≤ piece_limit }
     ensures failed { R.failed reader.new ≡ failed_by result (R.failed reader.old) }
 {
-    match take_event(alloc, reader, lines) {
-        Ok(None) => Ok(Next::Ended),
-        Ok(Some(event)) => match play_event(world, &event, line, outgoing) {
-            Ok(()) => Ok(Next::Played),
-            Err(fault) => Err(fault),
-        },
-        Err(fault) => Err(fault),
-    }
+    let Some(event) = take_event(alloc, reader, lines)? else {
+        return Ok(Next::Ended);
+    };
+    play_event(world, &event, line, outgoing)?;
+    Ok(Next::Played)
 }
 
 /// Plays the events of all remaining lines. What is gathered is written before a read that may
@@ -182,22 +181,25 @@ pub fn play_events<R: ByteIn, W: ByteOut>(
     requires sent { outgoing.old.sent ≡ 0 }
     requires held { length lines.old.held ≤ piece_limit }
     ensures ended { OnOk result (IsAtEnd (prepend_known lines.new.held (R.left reader.new))) }
-    ensures ok { OnOk result (Underway (prepend_known lines.old.held (R.left reader.old)) (prepend_known lines.new.held (R.left reader.new))
-        world.old world.new lines.new.count (opened (W.written writer.old)) outgoing.new.text.items (sink (W.written writer.new) outgoing.new.sent)) }
+    ensures ok { OnOk result (Underway (prepend_known lines.old.held (R.left reader.old))
+        (prepend_known lines.new.held (R.left reader.new))
+        world.old world.new lines.new.count (fresh_sink (W.written writer.old))
+        outgoing.new.text.items (sink (W.written writer.new) outgoing.new.sent)) }
     ensures held { length lines.new.held ≤ piece_limit }
-    ensures err { IfErr result (λ e. Halts (prepend_known lines.old.held (R.left reader.old)) (prepend_known lines.new.held (R.left reader.new)) world.old
-        (opened (W.written writer.old)) outgoing.new.text.items (sink (W.written writer.new) outgoing.new.sent) (Err e)) }
+    ensures err { IfErr result (λ e. Halts (prepend_known lines.old.held (R.left reader.old))
+        (prepend_known lines.new.held (R.left reader.new))
+        world.old (fresh_sink (W.written writer.old))
+        outgoing.new.text.items (sink (W.written writer.new) outgoing.new.sent) (Err e)) }
     ensures reads { R.failed reader.new ≡ failed_by result (R.failed reader.old) }
-    ensures writes { W.failed writer.new ≡ unwritten_by result (W.failed writer.old) }
+    ensures writes { W.failed writer.new ≡ failed_writes_by result (W.failed writer.old) }
 {
     'events: loop {
         if let Err(sent) = outgoing.make_way(writer, !lines.is_ready()) {
             return Err(ScriptFault::Write { sent });
         }
-        match play_next(alloc, reader, lines, world, line, outgoing) {
-            Ok(Next::Played) => {}
-            Ok(Next::Ended) => return Ok(()),
-            Err(fault) => return Err(fault),
+        match play_next(alloc, reader, lines, world, line, outgoing)? {
+            Next::Played => {}
+            Next::Ended => return Ok(()),
         }
     }
 }

@@ -2,7 +2,8 @@
 ghost use Rattle.std.specs.Prelude.{◌≡◌, ℕ, ◌<◌, ◌^◌, IfOk, IfErr, IfSome, IfNone};
 ghost use Rattle.relay_scenario.specs.Words.{IsWord};
 ghost use Rattle.relay_words.specs.Numbers.{IsNumber};
-ghost use Rattle.relay_scenario.specs.Events.{AsksFor, IsActionFault, IsKey, IsKeyFault, IsPutFault, Puts, fault_of};
+ghost use Rattle.relay_scenario.specs.Events.{AsksFor, IsActionFault, IsKey, IsKeyFault};
+ghost use Rattle.relay_scenario.specs.Events.{IsPutFault, Puts, fault_of};
 
 use crate::event_line::LineFault;
 use crate::words::cut;
@@ -22,14 +23,9 @@ pub fn read_put(alloc: Global, text: &str) -> Result<Event, LineFault>
     let Some(producer) = producer_of(word) else {
         return Err(LineFault::Bad);
     };
-    let (key, rest) = match read_key(alloc, rest) {
-        Ok(read) => read,
-        Err(fault) => return Err(fault),
-    };
-    match read_action(alloc, rest) {
-        Ok(action) => Ok(Event::Put(producer, key, action)),
-        Err(fault) => Err(fault),
-    }
+    let (key, rest) = read_key(alloc, rest)?;
+    let action = read_action(alloc, rest)?;
+    Ok(Event::Put(producer, key, action))
 }
 
 fn producer_of(word: &str) -> Option<u32>

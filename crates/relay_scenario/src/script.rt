@@ -2,8 +2,10 @@
 ghost use Rattle.std.specs.Prelude.{◌≡◌, ◌≤◌, [], length};
 ghost use Rattle.relay_ndjson.specs.Lines.{piece_limit};
 ghost use Rattle.std.specs.Io.KnownBytes.{prepend_known};
-ghost use Rattle.relay_scenario.specs.Flows.{opened, sink};
-ghost use Rattle.relay_scenario.specs.Scripts.{Closes, FailsOnce, Halts, IsScript, PlaysScript, cut_short, failed_by, is_failed_write, unwritten_by};
+ghost use Rattle.relay_scenario.specs.Flows.{fresh_sink, sink};
+ghost use Rattle.relay_scenario.specs.Scripts.{Closes, FailsOnce, Halts, IsScript, PlaysScript};
+ghost use Rattle.relay_scenario.specs.Scripts.{cut_short, failed_by, failed_writes_by};
+ghost use Rattle.relay_scenario.specs.Scripts.{is_failed_write};
 
 use crate::ending::write_ending;
 use crate::playing::{play_events, take_config};
@@ -56,8 +58,10 @@ pub fn world_script<R: ByteIn, W: ByteOut>(
     reader: &mut R,
     writer: &mut W,
 ) -> Result<(), ScriptFault>
-    ensures script { IsScript (R.left reader.old) (R.left reader.new) (W.written writer.old) (W.written writer.new) result }
-    ensures calls { FailsOnce (R.failed reader.old) (R.failed reader.new) (W.failed writer.old) (W.failed writer.new) result }
+    ensures script { IsScript (R.left reader.old) (R.left reader.new)
+        (W.written writer.old) (W.written writer.new) result }
+    ensures calls { FailsOnce (R.failed reader.old) (R.failed reader.new)
+        (W.failed writer.old) (W.failed writer.new) result }
 {
     let mut lines = LineReader::new(alloc);
     let mut outgoing = Outgoing::new(alloc);
@@ -77,15 +81,13 @@ fn play<R: ByteIn, W: ByteOut>(
     requires none { outgoing.old.text.items ≡ [] }
     requires sent { outgoing.old.sent ≡ 0 }
     ensures held { length lines.new.held ≤ piece_limit }
-    ensures script { PlaysScript (prepend_known lines.old.held (R.left reader.old)) (prepend_known lines.new.held (R.left reader.new)) (opened (W.written writer.old))
+    ensures script { PlaysScript (prepend_known lines.old.held (R.left reader.old))
+        (prepend_known lines.new.held (R.left reader.new)) (fresh_sink (W.written writer.old))
         outgoing.new.text.items (sink (W.written writer.new) outgoing.new.sent) result }
     ensures reads { R.failed reader.new ≡ failed_by result (R.failed reader.old) }
-    ensures writes { W.failed writer.new ≡ unwritten_by result (W.failed writer.old) }
+    ensures writes { W.failed writer.new ≡ failed_writes_by result (W.failed writer.old) }
 {
-    let config = match take_config(alloc, reader, lines) {
-        Ok(config) => config,
-        Err(fault) => return Err(fault),
-    };
+    let config = take_config(alloc, reader, lines)?;
     let mut world = match World::new(alloc, config, Index::new(alloc)) {
         Ok(world) => world,
         Err(_) => return Err(ScriptFault::Memory),
@@ -108,15 +110,15 @@ fn play_world<R: ByteIn, W: ByteOut>(
     requires sent { outgoing.old.sent ≡ 0 }
     requires held { length lines.old.held ≤ piece_limit }
     ensures held { length lines.new.held ≤ piece_limit }
-    ensures halts { Halts (prepend_known lines.old.held (R.left reader.old)) (prepend_known lines.new.held (R.left reader.new)) world.old (opened (W.written writer.old))
+    ensures halts { Halts (prepend_known lines.old.held (R.left reader.old))
+        (prepend_known lines.new.held (R.left reader.new))
+        world.old (fresh_sink (W.written writer.old))
         outgoing.new.text.items (sink (W.written writer.new) outgoing.new.sent) result }
     ensures reads { R.failed reader.new ≡ failed_by result (R.failed reader.old) }
-    ensures writes { W.failed writer.new ≡ unwritten_by result (W.failed writer.old) }
+    ensures writes { W.failed writer.new ≡ failed_writes_by result (W.failed writer.old) }
 {
     let mut line = Vec::new(alloc);
-    if let Err(fault) = play_events(alloc, reader, lines, world, &mut line, outgoing, writer) {
-        return Err(fault);
-    }
+    play_events(alloc, reader, lines, world, &mut line, outgoing, writer)?;
     write_ending(world, config, &mut line, outgoing, writer)
 }
 
@@ -127,7 +129,8 @@ fn close<W: ByteOut>(
     writer: &mut W,
     answer: Result<(), ScriptFault>,
 ) -> Result<(), ScriptFault>
-    ensures { Closes answer outgoing.old.text.items (sink (W.written writer.old) outgoing.old.sent) (W.failed writer.old)
+    ensures { Closes answer outgoing.old.text.items
+        (sink (W.written writer.old) outgoing.old.sent) (W.failed writer.old)
         (W.written writer.new) (W.failed writer.new) result }
 {
     if is_failed_write(answer) {

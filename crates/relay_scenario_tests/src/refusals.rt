@@ -1,5 +1,5 @@
-//! Scripts, of whose allocations any one may be refused (`make refusals`): what went out is a front of what goes out without
-//! the refusal.
+//! Scripts, of whose allocations any one may be refused (`make refusals`): what went out is a front
+//! of what goes out without the refusal.
 use crate::scripts::{ITS_ANSWERS, THREE_THEN_ONE};
 use relay_action::MemStream;
 use relay_core::RelayConfig;
@@ -73,7 +73,8 @@ fn play(alloc: Global) -> Option<(Result<(), ScriptFault>, MemStream)> {
     Some((found, writer))
 }
 
-// Whether it is played, by a second run if the first was refused when a front of the answers had gone out.
+// Whether it is played, by a second run if the first was refused when a front of the answers had
+// gone out.
 fn plays(alloc: Global) -> Option<bool> {
     let (found, writer) = play(alloc)?;
     if found.is_ok() {

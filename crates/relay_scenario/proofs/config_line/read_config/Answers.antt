@@ -8,4 +8,4 @@ returns-then-ne-clause-err c = rw (sym c.in-Ok.ensures.cases.0) (no_world c.in-O
 pub returns-clause-err : goal.returns-clause-err
 returns-clause-err c =
     let none = rw c.as_slice.ensures.value at c.in-None.ensures.none in
-    rw (sym c.in-Ok.ensures.cases.0) (no_config c.in-Ok.text.now c.in-Some.word.now c.in-Some.rest.now c.in-Ok-numbers_of.numbers.items c.in-Some.ensures c.in-Ok-numbers_of.ensures.ok none)
+    rw (sym c.in-Ok.ensures.cases.0) (no_config c.in-Ok.text.now c.in-Some.word.now c.in-Some.rest.now c.in_ok-numbers.numbers.items c.in-Some.ensures c.in_ok-numbers.ensures.ok none)

@@ -1,12 +1,9 @@
-use Rattle.std.proofs.Common.{◌≡◌, List, ℕ}
-use Rattle.relay_scenario.specs.Flows.{Flows, sink}
+use Rattle.std.proofs.Common.{Ok}
+use Rattle.relay_scenario.specs.Scripts.{Passes}
 use Rattle.relay_scenario.proofs.ending.write_all_accepted.Given as goal
 
--- some lines came to the text, and some was written; no write has failed
+-- some lines were passed on; no call has failed
 abbrev pub invariant-producers : goal.invariant-producers
 invariant-producers g l =
     let w = g.W.ByteStream in
-    record {
-      passed : (more : List ℕ) × Flows more l.fn.outgoing.text.items (sink (w.written l.fn.writer) l.fn.outgoing.sent) l.outgoing.text.items (sink (w.written l.writer) l.outgoing.sent);
-      writes : w.failed l.writer ≡ w.failed l.fn.writer;
-    }
+    Passes l.fn.outgoing (w.written l.fn.writer) (w.failed l.fn.writer) l.outgoing (w.written l.writer) (w.failed l.writer) (Ok tt)

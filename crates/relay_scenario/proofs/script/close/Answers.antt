@@ -2,7 +2,7 @@ use Rattle.std.proofs.Common.{rules, ◌≡◌, true, false, subst, sym}
 use Rattle.relay_scenario.specs.Flows.{sink}
 use Rattle.relay_scenario.specs.Scripts.{Closes, is_failed_write}
 use Rattle.relay_scenario.proofs.Underway.{cut_at}
-use Rattle.relay_scenario.proofs.Whole.{closes_at_once, closes_cut, closes_written, moved_all}
+use Rattle.relay_scenario.proofs.Whole.{closes_at_once, closes_cut, closes_written, moves_all}
 use Rattle.relay_scenario.proofs.script.close.Goals as goal
 
 pub returns-then-is_failed_write : goal.returns-then-is_failed_write
@@ -16,7 +16,7 @@ returns-in-Ok g c =
     let w = g.W.ByteStream in
     let other : is_failed_write c.args.answer ≡ false = search rules in
     closes_written c.args.answer c.args.outgoing.now.text.items (sink (w.written c.args.writer.now) c.args.outgoing.now.sent) (w.failed c.args.writer.now) _ _ other
-    (moved_all _ _ _ _ _ _ c.in-Ok.ensures.ok c.in-Ok.ensures.empty) c.in-Ok.ensures.succeeded
+    (moves_all _ _ _ _ _ _ c.in-Ok.ensures.ok c.in-Ok.ensures.empty) c.in-Ok.ensures.succeeded
 
 pub returns-in-Err : goal.returns-in-Err
 returns-in-Err g c =
