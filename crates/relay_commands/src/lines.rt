@@ -2,7 +2,7 @@
 ghost use Rattle.std.specs.Prelude.{◌≡◌, ◌≤◌, [], length};
 ghost use Rattle.relay_action.specs.Limits.{last_version};
 ghost use Rattle.relay_ndjson.specs.Lines.{piece_limit};
-ghost use Rattle.relay_ndjson.specs.Metadata.{shown};
+ghost use Rattle.relay_ndjson.specs.Metadata.{bytes_given};
 ghost use Rattle.relay_ndjson.specs.Reading.{fresh, reading};
 ghost use Rattle.relay_ndjson.specs.declared.parser.Phase.TheVariants as phase;
 ghost use Rattle.relay_commands.specs.Calls.{FailsOnce};
@@ -60,7 +60,7 @@ pub fn lines<R: ByteIn, W: ByteOut>(
 ) -> Result<u64, LinesFault>
     requires { first ≤ last_version }
     ensures lines { Streams first
-        (fresh (R.left reader.old) (R.failed reader.old) (shown default_index.entry))
+        (fresh (R.left reader.old) (R.failed reader.old) (bytes_given default_index.entry))
         (R.left reader.new) (R.failed reader.new)
         (W.written writer.old) (W.written writer.new) result }
     ensures calls { FailsOnce (R.failed reader.old) (R.failed reader.new)

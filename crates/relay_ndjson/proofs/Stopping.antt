@@ -15,7 +15,7 @@ use Rattle.relay_ndjson.specs.Names.{has_only}
 use Rattle.relay_ndjson.specs.Lines.{IsOfOneLine, IsLineBefore, IsRaw, StopsInLine, TakesText, TakesBlank, is_read, line_limit}
 use Rattle.relay_ndjson.specs.LineReading.{TakesNext}
 use Rattle.relay_ndjson.specs.Metadata.{Says, is_document, is_field, index_of, id_of, action_of, fault_or, id_fault, document_fault, metadata_fault, value_fault, line_fault, source_line_fault}
-use Rattle.relay_ndjson.specs.Operations.{blank_limit, counted, Position, Stops}
+use Rattle.relay_ndjson.specs.Operations.{blank_limit, saturating_count, Position, Stops}
 use Rattle.relay_ndjson.specs.Steps.{SkipsBlank, StopsInSource}
 use Rattle.relay_ndjson.proofs.Asking.{decide}
 use Rattle.relay_ndjson.proofs.Deciding.{key_none}
@@ -98,7 +98,7 @@ stops_after old new held text k t n = record {
 -- ---- the steps of the reader
 
 -- a blank line too many
-pub blank_stops : (default : Option (List ℕ)) (old new : Position) (n : ℕ) → n ≡ blank_limit + 1 → TakesBlank n old.ahead new.ahead → new.count ≡ counted (old.count + n) → Stops default old new (record { line = new.count; kind = kind.LineLong })
+pub blank_stops : (default : Option (List ℕ)) (old new : Position) (n : ℕ) → n ≡ blank_limit + 1 → TakesBlank n old.ahead new.ahead → new.count ≡ saturating_count (old.count + n) → Stops default old new (record { line = new.count; kind = kind.LineLong })
 blank_stops default old new n e t c =
     let last = blank_last blank_limit old.ahead new.ahead (rw e at t) in record {
       taken = blank_limit;

@@ -11,7 +11,7 @@ use Rattle.relay_ndjson.specs.declared.kind.InputFault.{InputFault}
 use Rattle.relay_ndjson.specs.Metadata.{Says, line_fault}
 use Rattle.relay_ndjson.specs.Lines.{TakesText, IsLong, TakesBlank}
 use Rattle.relay_ndjson.proofs.Deciding.{key_none}
-use Rattle.relay_ndjson.specs.Operations.{blank_limit, counted, TakesOperation, BreaksAt, IsFault, Position, line_count}
+use Rattle.relay_ndjson.specs.Operations.{blank_limit, saturating_count, TakesOperation, BreaksAt, IsFault, Position, line_count}
 use Rattle.relay_ndjson.specs.LineReading.{TakesNext}
 use Rattle.relay_ndjson.specs.Steps.{SkipsBlank, TakesSource}
 
@@ -23,26 +23,26 @@ pub blank_last : (n : ℕ) (old new : Option (List ℕ)) → TakesBlank (suc n) 
 blank_last zero old new t = (old, refl, subst (λ (o : Option (List ℕ)). TakesText old o []) (sym t.2) t.1)
 blank_last (suc n) old new t = let r = blank_last n t.0 new t.2 in (r.0, (t.0, t.1, r.1), r.2)
 
-pub fault_at : (default old mid : Option (List ℕ)) (n place count : ℕ) (e : InputFault) → n ≤ blank_limit → TakesBlank n old mid → BreaksAt default n mid place e.kind → e.line ≡ counted (count + (n + place)) → IsFault default old count e
+pub fault_at : (default old mid : Option (List ℕ)) (n place count : ℕ) (e : InputFault) → n ≤ blank_limit → TakesBlank n old mid → BreaksAt default n mid place e.kind → e.line ≡ saturating_count (count + (n + place)) → IsFault default old count e
 fault_at default old mid n place count e h t b l = inr (inr (n + place, (n, mid, place, h, t, b, refl), l))
 
 -- no line was read after blank lines
-pub skip_fault : (default old mid : Option (List ℕ)) (n count here : ℕ) (e : InputFault) → n ≤ blank_limit → TakesBlank n old mid → here ≡ counted (count + n) → (e.line ≡ one_more here) × ((e.kind ≡ kind.Read) ⊎ (e.kind ≡ kind.Memory) ⊎ ((e.kind ≡ kind.LineLong) × IsLong mid)) → IsFault default old count e
+pub skip_fault : (default old mid : Option (List ℕ)) (n count here : ℕ) (e : InputFault) → n ≤ blank_limit → TakesBlank n old mid → here ≡ saturating_count (count + n) → (e.line ≡ one_more here) × ((e.kind ≡ kind.Read) ⊎ (e.kind ≡ kind.Memory) ⊎ ((e.kind ≡ kind.LineLong) × IsLong mid)) → IsFault default old count e
 skip_fault default old mid n count here e h t c s =
-    let l : e.line ≡ counted (count + (n + 1)) = omega (arith, c, s.0) in
+    let l : e.line ≡ saturating_count (count + (n + 1)) = omega (arith, c, s.0) in
     elim s.1 [ inl r ↦ inl r | inr o ↦ elim o [ inl m ↦ inr (inl m) | inr f ↦ fault_at default old mid n 1 count e h t (inl (inl (f.1, f.0), refl)) l ] ]
 
 -- a blank line too many
-pub blank_fault : (default old new : Option (List ℕ)) (n count here : ℕ) → n ≡ blank_limit + 1 → TakesBlank n old new → here ≡ counted (count + n) → IsFault default old count (record { line = here; kind = kind.LineLong })
+pub blank_fault : (default old new : Option (List ℕ)) (n count here : ℕ) → n ≡ blank_limit + 1 → TakesBlank n old new → here ≡ saturating_count (count + n) → IsFault default old count (record { line = here; kind = kind.LineLong })
 blank_fault default old new n count here e t c =
     let last = blank_last blank_limit old new (rw e at t) in
-    let l : here ≡ counted (count + (blank_limit + 1)) = omega (arith, c, e) in
+    let l : here ≡ saturating_count (count + (blank_limit + 1)) = omega (arith, c, e) in
     fault_at default old last.0 blank_limit 1 count (record { line = here; kind = kind.LineLong }) (omega arith) last.1 (inr (inl ((refl, new, last.2, refl), refl))) l
 
 -- the action line breaks the grammar
 pub action_fault : (default : Option (List ℕ)) (old new : Position) (text : List ℕ) (k : LineKind) → SkipsBlank old new text (Ok true) → (k ≡ kind.Memory) ⊎ (line_fault default text ≡ Some k) → IsFault default old.ahead old.count (record { line = new.count; kind = k })
 action_fault default old new text k s f =
-    let l : new.count ≡ counted (old.count + (s.0 + 1)) = omega (arith, s.6) in
+    let l : new.count ≡ saturating_count (old.count + (s.0 + 1)) = omega (arith, s.6) in
     elim f [
       | inl m ↦ inr (inl m)
       | inr b ↦ fault_at default old.ahead s.1 s.0 1 old.count (record { line = new.count; kind = k }) s.2 s.3 (inl (inr (text, new.ahead, s.4, s.5, b), refl)) l
@@ -63,7 +63,7 @@ source_fault default old mid new text key e s says f =
     ]
 
 -- an index action and its source
-pub source_taken : (default : Option (List ℕ)) (old mid new : Position) (text : List ℕ) (key : DocKey) (a : Action) → SkipsBlank old mid text (Ok true) → Says default text action.Index key.index key.id → TakesSource mid new mid.count (Ok a) → (n : ℕ) × TakesOperation default old.ahead new.ahead n (key, a) × (mid.count ≡ counted (old.count + n + 1)) × (new.count ≡ counted (old.count + n + line_count a))
+pub source_taken : (default : Option (List ℕ)) (old mid new : Position) (text : List ℕ) (key : DocKey) (a : Action) → SkipsBlank old mid text (Ok true) → Says default text action.Index key.index key.id → TakesSource mid new mid.count (Ok a) → (n : ℕ) × TakesOperation default old.ahead new.ahead n (key, a) × (mid.count ≡ saturating_count (old.count + n + 1)) × (new.count ≡ saturating_count (old.count + n + line_count a))
 source_taken default old mid new text key (Index source) s says t =
     (s.0, (s.1, s.2, s.3, (text, mid.ahead, s.4, says, subst (λ (x : List ℕ). TakesText mid.ahead new.ahead x) (sym t.2) t.1)), s.6, omega (arith, s.6, t.3))
 source_taken default old mid new text key Delete s says t = absurd t.2

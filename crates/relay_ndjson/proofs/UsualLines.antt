@@ -17,7 +17,7 @@ use Rattle.relay_json.proofs.PlainTexts.{between_quotes, utf8_plain}
 use Rattle.relay_action.specs.Actions.{kind_name}
 use Rattle.relay_action.specs.declared.action.ActionKind.{ActionKind}
 use Rattle.relay_action.specs.declared.action.ActionKind.TheVariants as action
-use Rattle.relay_ndjson.specs.Metadata.{Says, shown}
+use Rattle.relay_ndjson.specs.Metadata.{Says, bytes_given}
 use Rattle.relay_ndjson.specs.Usual.{IsPlainIndex, usual_start, usual_id, usual_line, with_index}
 
 -- ---- the line as a JSON text
@@ -116,9 +116,9 @@ says_default default line a id e k = rw e (
   (metadata None id, refl, (refl, refl, refl)),
 )
 
-pub says_usual : (default given : Option (Bor (List ℕ))) (line : List ℕ) (a : ActionKind) (index : Bor (List ℕ)) (id : List ℕ) → line ≡ usual_line a (shown given) id → IsPlainIndex (shown given) × IsPlain id → option_or given default ≡ Some index → Says (shown default) line a index.now id
+pub says_usual : (default given : Option (Bor (List ℕ))) (line : List ℕ) (a : ActionKind) (index : Bor (List ℕ)) (id : List ℕ) → line ≡ usual_line a (bytes_given given) id → IsPlainIndex (bytes_given given) × IsPlain id → option_or given default ≡ Some index → Says (bytes_given default) line a index.now id
 says_usual default (Some i) line a index id e h is =
-    rw (sym (ap (λ o. (unwrap_or o i).now) is)) (says_given (shown default) line a i.now id e h.0 h.1)
+    rw (sym (ap (λ o. (unwrap_or o i).now) is)) (says_given (bytes_given default) line a i.now id e h.0 h.1)
 says_usual (Some d) None line a index id e h is =
     rw (sym (ap (λ o. (unwrap_or o d).now) is)) (says_default d.now line a id e h.1)
 says_usual None None line a index id e h is = absurd (let k = is in cc)

@@ -15,8 +15,8 @@ use Rattle.relay_ndjson.specs.declared.kind.LineKind.{LineKind}
 use Rattle.relay_ndjson.specs.declared.kind.LineKind.TheVariants as kind
 
 -- the bytes of an optional text
-abbrev pub shown : Option (Bor (List ℕ)) → Option (List ℕ)
-shown text = option_map (λ t. t.now) text
+abbrev pub bytes_given : Option (Bor (List ℕ)) → Option (List ℕ)
+bytes_given text = option_map (λ t. t.now) text
 
 -- the members of metadata
 abbrev pub is_document : List ℕ → Bool

@@ -23,8 +23,8 @@ abbrev pub blank_limit : ℕ
 blank_limit = 65536
 
 -- a count of lines, which saturates
-abbrev pub counted : ℕ → ℕ
-counted n = min n most
+abbrev pub saturating_count : ℕ → ℕ
+saturating_count n = min n most
 
 -- ---- operations
 
@@ -87,7 +87,7 @@ Breaks default old at k =
 abbrev pub IsFault : Option (List ℕ) → Option (List ℕ) → ℕ → InputFault → Type 0
 IsFault default old count e =
     (e.kind ≡ kind.Read) ⊎ (e.kind ≡ kind.Memory)
-    ⊎ ((at : ℕ) × Breaks default old at e.kind × (e.line ≡ counted (count + at)))
+    ⊎ ((at : ℕ) × Breaks default old at e.kind × (e.line ≡ saturating_count (count + at)))
 
 -- ---- where the reader stops
 
@@ -115,7 +115,7 @@ pub record Stops (default : Option (List ℕ)) (old new : Position) (e : InputFa
   pub taken : ℕ
   pub front : Option (List ℕ)
   pub begins : TakesBeginning default old.ahead front taken
-  pub line : e.line ≡ counted (old.count + taken + 1)
+  pub line : e.line ≡ saturating_count (old.count + taken + 1)
   pub stop : StopsInLine front new.ahead new.held e.kind
 
 -- the number of failed calls of the stream after this result

@@ -6,7 +6,7 @@ use Rattle.relay_ndjson.specs.declared.kind.LineKind.TheVariants as kind
 use Rattle.relay_ndjson.specs.declared.kind.InputFault.{InputFault}
 use Rattle.relay_ndjson.specs.declared.parser.Phase.{Phase}
 use Rattle.relay_ndjson.specs.declared.parser.Phase.TheVariants as phase
-use Rattle.relay_ndjson.specs.Operations.{Operation, counted, TakesOperation, HoldsNoMore, IsFault, Position, Stops, line_count}
+use Rattle.relay_ndjson.specs.Operations.{Operation, saturating_count, TakesOperation, HoldsNoMore, IsFault, Position, Stops, line_count}
 
 -- a parser: what was read ahead, the number of lines taken, the line of the last action, and the default index
 pub record Parsing : Type 0 where
@@ -54,8 +54,8 @@ position_of r = record { ahead = r.ahead; held = r.held; count = r.count }
 -- an operation was taken
 pub record Takes (old new : Reading) (n : ℕ) (op : Operation) : Type 0 where
   pub lines : TakesOperation old.default old.ahead new.ahead n op
-  pub line : new.line ≡ counted (old.count + n + 1)
-  pub count : new.count ≡ counted (old.count + n + line_count op.1)
+  pub line : new.line ≡ saturating_count (old.count + n + 1)
+  pub count : new.count ≡ saturating_count (old.count + n + line_count op.1)
   pub phase : new.phase ≡ phase.Open
   pub default : new.default ≡ old.default
 

@@ -16,7 +16,7 @@ use Rattle.relay_ndjson.specs.declared.lines.LineEnd.{LineEnd}
 use Rattle.relay_ndjson.specs.declared.lines.Part.{Part}
 use Rattle.relay_ndjson.specs.declared.lines.Part.TheVariants as part
 use Rattle.relay_ndjson.specs.Lines.{IsUnbroken, IsRaw, IsLine, IsPastLimit, IsLong, TakesText, TakesBlank, StopsInLine, is_read, line_limit}
-use Rattle.relay_ndjson.specs.Operations.{blank_limit, counted, line_count, TakesOperation, HoldsNoMore, BreaksSource, IsFault, Position}
+use Rattle.relay_ndjson.specs.Operations.{blank_limit, saturating_count, line_count, TakesOperation, HoldsNoMore, BreaksSource, IsFault, Position}
 use Rattle.relay_ndjson.specs.LineReading.{TakesBytes, end_bytes}
 use Rattle.relay_ndjson.specs.Bodies.{BeginsWithLine, IsLinesOf}
 
@@ -75,7 +75,7 @@ failed_by (Err k) n = if is_read k then one_more n else n
 abbrev pub SkipsBlank : Position → Position → List ℕ → Result Bool InputFault → Type 0
 SkipsBlank old new text (Ok true) =
     (n : ℕ) × (mid : Option (List ℕ)) × (n ≤ blank_limit) × TakesBlank n old.ahead mid × TakesText mid new.ahead text × (text ≢ [])
-    × (new.count ≡ counted (old.count + n + 1))
+    × (new.count ≡ saturating_count (old.count + n + 1))
 SkipsBlank old new text (Ok false) = HoldsNoMore old.ahead
 SkipsBlank old new text (Err e) = (default : Option (List ℕ)) → IsFault default old.ahead old.count e
 
@@ -97,8 +97,8 @@ StopsInSource old new line e =
 
 abbrev pub Reads : Option (List ℕ) → Position → Position → Result (Option NumberedOperation) InputFault → Type 0
 Reads default old new (Ok (Some f)) =
-    (n : ℕ) × TakesOperation default old.ahead new.ahead n (f.key, f.action) × (f.line ≡ counted (old.count + n + 1))
-    × (new.count ≡ counted (old.count + n + line_count f.action))
+    (n : ℕ) × TakesOperation default old.ahead new.ahead n (f.key, f.action) × (f.line ≡ saturating_count (old.count + n + 1))
+    × (new.count ≡ saturating_count (old.count + n + line_count f.action))
 Reads default old new (Ok None) = HoldsNoMore old.ahead
 Reads default old new (Err e) = IsFault default old.ahead old.count e
 

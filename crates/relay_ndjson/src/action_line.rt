@@ -3,7 +3,7 @@ ghost use Rattle.std.specs.Prelude.{◌≡◌, ◌<◌, ◌⊎◌, Option, Some,
 ghost use Rattle.std.specs.Prelude.{Err, IfOk, IfErr, length, IsUtf8};
 ghost use Rattle.json.specs.Scratch.{room};
 ghost use Rattle.serde_json.specs.Data.{Data, Members, object};
-ghost use Rattle.relay_ndjson.specs.Metadata.{shown, IsDocument, Says, metadata_fault};
+ghost use Rattle.relay_ndjson.specs.Metadata.{bytes_given, IsDocument, Says, metadata_fault};
 ghost use Rattle.relay_ndjson.specs.Metadata.{line_fault, source_line_fault};
 ghost use Rattle.relay_ndjson.specs.Fields.{HoldsMembers, SaysAction, action_fault};
 ghost use Rattle.relay_ndjson.specs.declared.kind.LineKind.{LineKind};
@@ -51,12 +51,14 @@ pub fn read_action(
     line: &[u8],
     scratch: &mut Scratch,
 ) -> Result<(ActionKind, DocKey), LineKind>
-    ensures ok { IfOk result (λ a. Says (shown default_index.entry) line.now a.0 a.1.index a.1.id) }
+    ensures ok { IfOk result
+        (λ a. Says (bytes_given default_index.entry) line.now a.0 a.1.index a.1.id) }
     ensures err { IfErr result
-        (λ e. (e ≡ LineKind.Memory) ⊎ (line_fault (shown default_index.entry) line.now ≡ Some e)) }
+        (λ e. (e ≡ LineKind.Memory)
+        ⊎ (line_fault (bytes_given default_index.entry) line.now ≡ Some e)) }
     ensures memory { result ≡ Err LineKind.Memory
         → (room scratch.old < length line.now)
-        ⊎ (line_fault (shown default_index.entry) line.now ≡ None) }
+        ⊎ (line_fault (bytes_given default_index.entry) line.now ≡ None) }
 {
     match read_usual(alloc, default_index, line) {
         Some(action) => Ok(action),
@@ -71,12 +73,14 @@ fn parse_action(
     line: &[u8],
     scratch: &mut Scratch,
 ) -> Result<(ActionKind, DocKey), LineKind>
-    ensures ok { IfOk result (λ a. Says (shown default_index.entry) line.now a.0 a.1.index a.1.id) }
+    ensures ok { IfOk result
+        (λ a. Says (bytes_given default_index.entry) line.now a.0 a.1.index a.1.id) }
     ensures err { IfErr result
-        (λ e. (e ≡ LineKind.Memory) ⊎ (line_fault (shown default_index.entry) line.now ≡ Some e)) }
+        (λ e. (e ≡ LineKind.Memory)
+        ⊎ (line_fault (bytes_given default_index.entry) line.now ≡ Some e)) }
     ensures memory { result ≡ Err LineKind.Memory
         → (room scratch.old < length line.now)
-        ⊎ (line_fault (shown default_index.entry) line.now ≡ None) }
+        ⊎ (line_fault (bytes_given default_index.entry) line.now ≡ None) }
 {
     let (kind, metadata) = action_of(line, scratch)?;
     let key = key_of(alloc, default_index, &metadata)?;
@@ -107,12 +111,12 @@ fn key_of<'t>(
     metadata: &Metadata<'t>,
 ) -> Result<DocKey, LineKind>
     ensures ok { (ms : Members) → HoldsMembers metadata.now ms
-        → IfOk result (λ k. IsDocument (shown default_index.entry) (object ms) k.index k.id) }
+        → IfOk result (λ k. IsDocument (bytes_given default_index.entry) (object ms) k.index k.id) }
     ensures err { (ms : Members) → HoldsMembers metadata.now ms
         → IfErr result (λ e. (e ≡ LineKind.Memory)
-        ⊎ (metadata_fault (shown default_index.entry) (object ms) ≡ Some e)) }
+        ⊎ (metadata_fault (bytes_given default_index.entry) (object ms) ≡ Some e)) }
     ensures memory { (ms : Members) → HoldsMembers metadata.now ms → result ≡ Err LineKind.Memory
-        → metadata_fault (shown default_index.entry) (object ms) ≡ None }
+        → metadata_fault (bytes_given default_index.entry) (object ms) ≡ None }
 {
     if metadata.has_other {
         return Err(LineKind::UnsupportedField);

@@ -24,7 +24,7 @@ impl<'a, R: ByteIn> Model for Input<'a, R> {
 }
 
 impl<'a, R: ByteIn> Input<'a, R> {
-    ghost use Rattle.relay_ndjson.specs.Metadata.{shown};
+    ghost use Rattle.relay_ndjson.specs.Metadata.{bytes_given};
     ghost use Rattle.relay_ndjson.specs.Lines.{piece_limit};
     ghost use Rattle.relay_ndjson.specs.Operations.{failed_after};
     ghost use Rattle.relay_ndjson.specs.Reading.{fresh, Steps, HoldsTwoLines};
@@ -32,7 +32,8 @@ impl<'a, R: ByteIn> Input<'a, R> {
     /// The input from a stream of which nothing was read. Operations without an index name get the
     /// default index, if one is given; its length is checked with each of them.
     pub fn new(alloc: Global, reader: R, default_index: Option<&'a str>) -> Input<'a, R>
-        ensures { result ≡ fresh (R.left reader) (R.failed reader) (shown default_index.entry) }
+        ensures { result
+            ≡ fresh (R.left reader) (R.failed reader) (bytes_given default_index.entry) }
     {
         Input {
             reader,

@@ -93,7 +93,7 @@ pub struct Lines {
 }
 
 impl Lines {
-    ghost use Rattle.relay_ndjson.specs.Metadata.{shown};
+    ghost use Rattle.relay_ndjson.specs.Metadata.{bytes_given};
     ghost use Rattle.relay_ndjson.specs.Operations.{Stops, failed_after, position};
     ghost use Rattle.relay_ndjson.specs.LineReading.{TakesNext};
     ghost use Rattle.relay_ndjson.specs.Steps.{SkipsBlank, TakesSource, Reads, StopsInSource};
@@ -253,10 +253,10 @@ impl Lines {
         reader: &mut R,
         default_index: Option<&str>,
     ) -> Result<Option<NumberedOperation>, InputFault>
-        ensures lines { Reads (shown default_index.entry)
+        ensures lines { Reads (bytes_given default_index.entry)
             (position (R.left reader.old) self.old.piece self.old.count)
             (position (R.left reader.new) self.new.piece self.new.count) result }
-        ensures stop { IfErr result (Stops (shown default_index.entry)
+        ensures stop { IfErr result (Stops (bytes_given default_index.entry)
             (position (R.left reader.old) self.old.piece self.old.count)
             (position (R.left reader.new) self.new.piece self.new.count)) }
         ensures failed { R.failed reader.new ≡ failed_after result (R.failed reader.old) }

@@ -4,7 +4,7 @@ ghost use Rattle.std.specs.Prelude.{IfErr, option_map, option_and_then};
 ghost use Rattle.serde_json.specs.Data.{Data, Members, object, put};
 ghost use Rattle.serde_json.specs.Find.{as_number};
 ghost use Rattle.relay_json.specs.Walks.{IsLeaf};
-ghost use Rattle.relay_ndjson.specs.Metadata.{shown, id_of, id_text, id_fault};
+ghost use Rattle.relay_ndjson.specs.Metadata.{bytes_given, id_of, id_text, id_fault};
 ghost use Rattle.relay_ndjson.specs.Metadata.{number_text, index_of, document_fault};
 ghost use Rattle.relay_ndjson.specs.Fields.{HoldsMembers};
 
@@ -75,13 +75,13 @@ pub fn document_of<'t>(
     metadata: &Metadata<'t>,
 ) -> Result<DocKey, LineKind>
     ensures ok { (ms : Members) → HoldsMembers metadata.now ms
-        → IfOk result (λ k. (index_of (shown default_index.entry) (object ms) ≡ Some k.index)
+        → IfOk result (λ k. (index_of (bytes_given default_index.entry) (object ms) ≡ Some k.index)
         × (id_of (object ms) ≡ Some k.id)) }
     ensures err { (ms : Members) → HoldsMembers metadata.now ms
         → IfErr result (λ e. (e ≡ LineKind.Memory)
-        ⊎ (document_fault (shown default_index.entry) (object ms) ≡ Some e)) }
+        ⊎ (document_fault (bytes_given default_index.entry) (object ms) ≡ Some e)) }
     ensures memory { (ms : Members) → HoldsMembers metadata.now ms → result ≡ Err LineKind.Memory
-        → document_fault (shown default_index.entry) (object ms) ≡ None }
+        → document_fault (bytes_given default_index.entry) (object ms) ≡ None }
 {
     let Some(index) = index_of(default_index, metadata) else {
         return Err(LineKind::MissingIndex);
@@ -95,7 +95,7 @@ pub fn document_of<'t>(
 // The index name that is given, or else the default.
 fn index_of<'t>(default_index: Option<&'t str>, metadata: &Metadata<'t>) -> Option<&'t str>
     ensures { (ms : Members) → HoldsMembers metadata.now ms
-        → option_map (λ t. t.now) result ≡ index_of (shown default_index.entry) (object ms) }
+        → option_map (λ t. t.now) result ≡ index_of (bytes_given default_index.entry) (object ms) }
 {
     match metadata.index {
         Some(index) => index.as_str(),

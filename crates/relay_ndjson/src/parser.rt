@@ -32,7 +32,7 @@ pub struct Parser<'a> {
 }
 
 impl<'a> Model for Parser<'a> {
-    ghost use Rattle.relay_ndjson.specs.Metadata.{shown};
+    ghost use Rattle.relay_ndjson.specs.Metadata.{bytes_given};
     ghost use Rattle.relay_ndjson.specs.Reading.{Parsing};
 
     ghost Value = { Parsing };
@@ -42,12 +42,12 @@ impl<'a> Model for Parser<'a> {
       count = p.lines.count;
       line = p.line;
       phase = p.phase;
-      default = shown p.default_index;
+      default = bytes_given p.default_index;
     } };
 }
 
 impl<'a> Parser<'a> {
-    ghost use Rattle.relay_ndjson.specs.Metadata.{shown};
+    ghost use Rattle.relay_ndjson.specs.Metadata.{bytes_given};
     ghost use Rattle.relay_ndjson.specs.Lines.{piece_limit};
     ghost use Rattle.relay_ndjson.specs.Operations.{failed_after};
     ghost use Rattle.relay_ndjson.specs.Reading.{start, reading, Steps, HoldsTwoLines};
@@ -55,7 +55,7 @@ impl<'a> Parser<'a> {
     /// A parser that has read nothing. Operations without an index name get the default index, if
     /// one is given; its length is checked with each of them.
     pub fn new(alloc: Global, default_index: Option<&'a str>) -> Parser<'a>
-        ensures { result ≡ start (shown default_index.entry) }
+        ensures { result ≡ start (bytes_given default_index.entry) }
     {
         Parser {
             alloc,

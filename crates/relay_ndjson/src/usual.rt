@@ -1,7 +1,7 @@
 //! Action lines in the usual form, which are read without a JSON reader.
 ghost use Rattle.std.specs.Prelude.{◌≡◌, ◌++◌, codes, IfSome};
 ghost use Rattle.relay_json.specs.Plain.{IsPlain};
-ghost use Rattle.relay_ndjson.specs.Metadata.{shown, Says};
+ghost use Rattle.relay_ndjson.specs.Metadata.{bytes_given, Says};
 ghost use Rattle.relay_ndjson.specs.Usual.{IsPlainIndex, usual_start};
 ghost use Rattle.relay_ndjson.specs.Usual.{usual_id, usual_line, with_index};
 
@@ -18,7 +18,8 @@ pub fn read_usual(
     default_index: Option<&str>,
     line: &[u8],
 ) -> Option<(ActionKind, DocKey)>
-    ensures { IfSome result (λ a. Says (shown default_index.entry) line.now a.0 a.1.index a.1.id) }
+    ensures { IfSome result
+        (λ a. Says (bytes_given default_index.entry) line.now a.0 a.1.index a.1.id) }
 {
     let usual = usual_of(line)?;
     let index = usual.index.or(default_index)?;
@@ -37,8 +38,9 @@ struct Usual<'t> {
 }
 
 fn usual_of(line: &[u8]) -> Option<Usual<'_>>
-    ensures line { IfSome result (λ u. line.now ≡ usual_line u.kind (shown u.index) u.id.now) }
-    ensures texts { IfSome result (λ u. IsPlainIndex (shown u.index) × IsPlain u.id.now) }
+    ensures line { IfSome result
+        (λ u. line.now ≡ usual_line u.kind (bytes_given u.index) u.id.now) }
+    ensures texts { IfSome result (λ u. IsPlainIndex (bytes_given u.index) × IsPlain u.id.now) }
 {
     let (kind, rest) = take_start(line)?;
     let (index, rest) = take_index(rest)?;
@@ -62,8 +64,8 @@ fn take_start(line: &[u8]) -> Option<(ActionKind, &[u8])>
 
 // The index name, if it is given, and what follows it.
 fn take_index(bytes: &[u8]) -> Option<(Option<&str>, &[u8])>
-    ensures parts { IfSome result (λ i. bytes.now ≡ with_index (shown i.0) i.1.now) }
-    ensures text { IfSome result (λ i. IsPlainIndex (shown i.0)) }
+    ensures parts { IfSome result (λ i. bytes.now ≡ with_index (bytes_given i.0) i.1.now) }
+    ensures text { IfSome result (λ i. IsPlainIndex (bytes_given i.0)) }
 {
     match after(bytes, b"\"_index\":\"") {
         Some(rest) => {

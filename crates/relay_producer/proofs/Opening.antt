@@ -7,11 +7,11 @@ use Rattle.std.proofs.lemmas.Option.{slice_get_within, get_or_from_slice_get}
 use Rattle.std.proofs.lemmas.List.Elements.{All-map, All-weaker, All-head, All-tail}
 use Rattle.relay_queue.specs.Ends.{SenderEnd, fresh}
 use Rattle.relay_producer.specs.declared.ends.OpenEnd.{OpenEnd}
-use Rattle.relay_producer.specs.Ends.{opened, open_puts}
+use Rattle.relay_producer.specs.Ends.{open_end, open_puts}
 use Rattle.relay_producer.specs.Puts.{puts_of, HasPut, HaveNoPuts}
 use Rattle.relay_producer.specs.States.{AreFresh, AreEndsOf, HasLanes, IsProducer, IsControl}
 
-pub opened_puts : (puts : List SenderEnd) → open_puts (map opened puts) ≡ puts
+pub opened_puts : (puts : List SenderEnd) → open_puts (map open_end puts) ≡ puts
 opened_puts [] = refl
 opened_puts (p ∷ ps) = ap (λ l. p ∷ l) (opened_puts ps)
 
@@ -29,17 +29,17 @@ has_none sender puts h = record {
   sent = λ lane put at. ap (λ (p : SenderEnd). puts_of p.sent) (fresh_at sender puts lane put h at);
 }
 
-own_fresh : (sender : ℕ) (puts : List SenderEnd) → AreFresh sender puts → AreEndsOf sender 0 (map opened puts)
+own_fresh : (sender : ℕ) (puts : List SenderEnd) → AreFresh sender puts → AreEndsOf sender 0 (map open_end puts)
 own_fresh sender puts h =
     let P : OpenEnd → Type 0 = λ e. (e.put.sender ≡ sender) × (length e.put.sent ≤ 0) in
     let F : SenderEnd → Type 0 = λ p. p ≡ fresh p.queue sender in
-    let step : (p : SenderEnd) → F p → P (opened p) = λ p e. let none : length p.sent ≡ 0 = ap (λ (q : SenderEnd). length q.sent) e in (ap (λ (q : SenderEnd). q.sender) e, omega arith) in
-    All-map P opened puts (All-weaker F (λ p. P (opened p)) step puts h)
+    let step : (p : SenderEnd) → F p → P (open_end p) = λ p e. let none : length p.sent ≡ 0 = ap (λ (q : SenderEnd). length q.sent) e in (ap (λ (q : SenderEnd). q.sender) e, omega arith) in
+    All-map P open_end puts (All-weaker F (λ p. P (open_end p)) step puts h)
 
-lanes_opened : (puts : List SenderEnd) → HasLanes puts → HasLanes (map opened puts)
-lanes_opened puts h = let n : length (map opened puts) ≡ length puts = length-map puts opened in (omega arith, omega arith)
+lanes_opened : (puts : List SenderEnd) → HasLanes puts → HasLanes (map open_end puts)
+lanes_opened puts h = let n : length (map open_end puts) ≡ length puts = length-map puts open_end in (omega arith, omega arith)
 
-pub is_producer : (epoch sender : ℕ) (puts : List SenderEnd) → HasLanes puts → AreFresh sender puts → IsProducer (record { epoch = epoch; producer = sender; put = 0; ends = map opened puts })
+pub is_producer : (epoch sender : ℕ) (puts : List SenderEnd) → HasLanes puts → AreFresh sender puts → IsProducer (record { epoch = epoch; producer = sender; put = 0; ends = map open_end puts })
 is_producer epoch sender puts lanes h = record {
   lanes = lanes_opened puts lanes;
   limit = omega arith;
@@ -54,13 +54,13 @@ fresh_no_puts sender (p ∷ ps) h =
     let F : SenderEnd → Type 0 = λ q. q ≡ fresh q.queue sender in
     (ap (λ (q : SenderEnd). puts_of q.sent) (All-head F p ps h), fresh_no_puts sender ps (All-tail F p ps h))
 
-pub is_control : (sender : ℕ) (puts : List SenderEnd) → HasLanes puts → AreFresh sender puts → IsControl (record { sender = sender; ends = map opened puts })
+pub is_control : (sender : ℕ) (puts : List SenderEnd) → HasLanes puts → AreFresh sender puts → IsControl (record { sender = sender; ends = map open_end puts })
 is_control sender puts lanes h =
     let P : OpenEnd → Type 0 = λ e. e.put.sender ≡ sender in
     let F : SenderEnd → Type 0 = λ p. p ≡ fresh p.queue sender in
-    let step : (p : SenderEnd) → F p → P (opened p) = λ p e. ap (λ (q : SenderEnd). q.sender) e in
+    let step : (p : SenderEnd) → F p → P (open_end p) = λ p e. ap (λ (q : SenderEnd). q.sender) e in
     record {
       lanes = lanes_opened puts lanes;
-      own = All-map P opened puts (All-weaker F (λ p. P (opened p)) step puts h);
+      own = All-map P open_end puts (All-weaker F (λ p. P (open_end p)) step puts h);
       no_puts = subst HaveNoPuts (sym (opened_puts puts)) (fresh_no_puts sender puts h);
     }

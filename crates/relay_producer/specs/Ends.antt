@@ -13,8 +13,8 @@ use Rattle.relay_producer.specs.declared.ends.ClosedEnd.TheVariants.{Closed, Gon
 -- ---- one end
 
 -- an end of a lane that was not found gone
-abbrev pub opened : SenderEnd → OpenEnd
-opened put = record { put = put; gone = false }
+abbrev pub open_end : SenderEnd → OpenEnd
+open_end put = record { put = put; gone = false }
 
 -- the end of a lane that was found gone
 abbrev pub with_mark : OpenEnd → OpenEnd

@@ -2,7 +2,7 @@
 ghost use Rattle.std.specs.Prelude.{◌≡◌, ◌+◌, ◌↔◌, false, map, IfOk};
 ghost use Rattle.std.specs.List.{All, count_by};
 ghost use Rattle.relay_action.specs.declared.mail.Body.TheVariants.{Tick, Flush};
-ghost use Rattle.relay_producer.specs.Ends.{opened, open_puts, closed_puts, identities, is_gone};
+ghost use Rattle.relay_producer.specs.Ends.{open_end, open_puts, closed_puts, identities, is_gone};
 ghost use Rattle.relay_producer.specs.Ends.{count_sent, IsSentToAll, IsClosedBy, ClosesAll};
 ghost use Rattle.relay_producer.specs.Puts.{HaveNoPuts};
 ghost use Rattle.relay_producer.specs.States.{AreFresh, HasLanes};
@@ -47,7 +47,7 @@ impl Control {
         requires lanes { HasLanes puts.items }
         requires fresh { AreFresh sender puts.items }
         ensures state { IfOk result
-            (λ c. c ≡ record { sender = sender; ends = map opened puts.items }) }
+            (λ c. c ≡ record { sender = sender; ends = map open_end puts.items }) }
         ensures puts { IfOk result (λ c. open_puts c.ends ≡ puts.items) }
         ensures no_puts { IfOk result (λ c. HaveNoPuts (open_puts c.ends)) }
     {

@@ -3,7 +3,7 @@ ghost use Rattle.std.specs.Prelude.{◌≡◌, ◌≢◌, ◌+◌, ◌<◌, ◌�
 ghost use Rattle.std.specs.Prelude.{false, length, map, Some, IfOk, IfErr};
 ghost use Rattle.std.specs.Prelude.{OnOk, OnErr, vec_len, vec_capacity};
 ghost use Rattle.std.specs.List.{All, count_by, slice_get};
-ghost use Rattle.relay_producer.specs.Ends.{opened, with_mark, with_sent, change_at};
+ghost use Rattle.relay_producer.specs.Ends.{open_end, with_mark, with_sent, change_at};
 ghost use Rattle.relay_producer.specs.Ends.{open_puts, identities, is_gone};
 ghost use Rattle.relay_producer.specs.Ends.{count_sent, IsSentToAll, ClosesAll};
 ghost use Rattle.relay_producer.specs.Signals.{body_of};
@@ -35,7 +35,7 @@ fn signal_body(signal: Signal) -> Body
 
 // The ends of lanes, none of which was found gone.
 pub(crate) fn open_all(alloc: Global, puts: Vec<LanePut>) -> Result<Vec<OpenEnd>, AllocError>
-    ensures { IfOk result (λ ends. ends.items ≡ map opened puts.items) }
+    ensures { IfOk result (λ ends. ends.items ≡ map open_end puts.items) }
 {
     let mut ends = Vec::with_capacity(alloc, puts.len())?;
     for put in puts {

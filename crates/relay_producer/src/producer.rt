@@ -4,7 +4,7 @@ ghost use Rattle.std.specs.Prelude.{List, true, false, map, Some, IfOk};
 ghost use Rattle.std.specs.Prelude.{IfErr, OnOk, OnErr, IsErrAnd};
 ghost use Rattle.std.specs.List.{All, count_by};
 ghost use Rattle.relay_action.specs.declared.operation.Op.{Op};
-ghost use Rattle.relay_producer.specs.Ends.{opened, open_puts, closed_puts, identities};
+ghost use Rattle.relay_producer.specs.Ends.{open_end, open_puts, closed_puts, identities};
 ghost use Rattle.relay_producer.specs.Ends.{is_gone, IsClosedBy, ClosesAll};
 ghost use Rattle.relay_producer.specs.Puts.{HasPut};
 ghost use Rattle.relay_producer.specs.States.{AreFresh, HasLanes, lane_for, is_lane_gone};
@@ -89,7 +89,7 @@ impl Producer {
               epoch = epoch;
               producer = producer;
               put = 0;
-              ends = map opened puts.items;
+              ends = map open_end puts.items;
             }) }
         ensures puts { IfOk result (λ p. open_puts p.ends ≡ puts.items) }
         ensures none { IfOk result (λ p. HasPut producer 0 (open_puts p.ends) []) }

@@ -4,7 +4,7 @@ use Rattle.std.proofs.lemmas.List.{take-append-drop}
 use Rattle.std.specs.Io.KnownBytes.{append_known, prepend_known}
 use Rattle.relay_action.specs.Streams.{FailedSince}
 use Rattle.relay_action.proofs.Shown.{append_known-append}
-use Rattle.relay_ndjson.specs.Operations.{HoldsNoMore, Position, counted, position}
+use Rattle.relay_ndjson.specs.Operations.{HoldsNoMore, Position, saturating_count, position}
 use Rattle.relay_ndjson.specs.declared.kind.InputFault.{InputFault}
 use Rattle.relay_ndjson.specs.declared.kind.LineKind.{LineKind}
 use Rattle.relay_ndjson.specs.declared.kind.LineKind.TheVariants as kind
@@ -87,7 +87,7 @@ pub record Underway (wanted : ℕ → Bool) (default old now before written : Op
   pub count : ℕ
   pub all : TakesAll default old now count items
   pub many : taken ≡ length items
-  pub lines_are : lines ≡ counted count
+  pub lines_are : lines ≡ saturating_count count
   pub moves : Moves (picked_lines wanted 1 items) text before written
 
 pub underway_none : (wanted : ℕ → Bool) (default left before : Option (List ℕ)) (held text : List ℕ) (count : ℕ) → held ≡ [] → count ≡ 0 → text ≡ [] → Underway wanted default left (prepend_known held left) before before text 0 count

@@ -4,7 +4,7 @@ use Rattle.std.specs.Io.KnownBytes.{IsAtEnd}
 use Rattle.relay_action.specs.Streams.{one_more}
 use Rattle.relay_action.specs.declared.operation.OpName.{OpName}
 use Rattle.relay_ndjson.specs.Lines.{IsLong, TakesText}
-use Rattle.relay_ndjson.specs.Operations.{counted}
+use Rattle.relay_ndjson.specs.Operations.{saturating_count}
 use Rattle.relay_ndjson.specs.declared.kind.InputFault.{InputFault}
 use Rattle.relay_ndjson.specs.declared.kind.LineKind.{LineKind}
 use Rattle.relay_ndjson.specs.declared.kind.LineKind.TheVariants as kind
@@ -24,7 +24,7 @@ pub record TakesName (old new : Option (List ℕ)) (line : ℕ) (named : Named) 
 -- lines were taken one after another, each naming one of these
 abbrev pub TakesNames : Option (List ℕ) → Option (List ℕ) → ℕ → List Named → Type 0
 TakesNames old new line [] = new ≡ old
-TakesNames old new line (n ∷ ns) = (mid : Option (List ℕ)) × TakesName old mid (counted (line + 1)) n × TakesNames mid new (line + 1) ns
+TakesNames old new line (n ∷ ns) = (mid : Option (List ℕ)) × TakesName old mid (saturating_count (line + 1)) n × TakesNames mid new (line + 1) ns
 
 -- the first line is too long, or not a line of a report
 abbrev pub IsBad : Option (List ℕ) → Type 0
@@ -33,7 +33,7 @@ IsBad old = IsLong old ⊎ ((text : List ℕ) × (rest : Option (List ℕ)) × T
 -- why there are no more names: the report has ended, or the next line is bad, or a read or an allocation failed
 abbrev pub EndsNames : {U : Type 0} → Option (List ℕ) → ℕ → Result U ReportFault → Type 0
 EndsNames rest count (Ok _) = IsAtEnd rest
-EndsNames rest count (Err (fault.BadLine line)) = IsBad rest × (line ≡ counted (count + 1))
+EndsNames rest count (Err (fault.BadLine line)) = IsBad rest × (line ≡ saturating_count (count + 1))
 EndsNames rest count (Err fault.Read) = Unit {0}
 EndsNames rest count (Err fault.Memory) = Unit {0}
 

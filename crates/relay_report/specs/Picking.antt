@@ -2,7 +2,7 @@
 use Rattle.std.specs.Prelude.{◌≡◌, ◌≢◌, ℕ, ◌+◌, ◌⊎◌, List, [], ◌++◌, length, Bool, true, false, if◌then◌else◌, Option, Result, Ok, Err}
 use Rattle.std.specs.Io.KnownBytes.{append_known}
 use Rattle.relay_action.specs.Streams.{FailedSince}
-use Rattle.relay_ndjson.specs.Operations.{HoldsNoMore, IsFault, Position, counted}
+use Rattle.relay_ndjson.specs.Operations.{HoldsNoMore, IsFault, Position, saturating_count}
 use Rattle.relay_ndjson.specs.declared.kind.InputFault.{InputFault}
 use Rattle.relay_ndjson.specs.declared.kind.LineKind.{LineKind}
 use Rattle.relay_ndjson.specs.declared.kind.LineKind.TheVariants as kind
@@ -22,7 +22,7 @@ fault_of e = pick_fault_by e e.kind
 -- an operation was taken, and its lines were added to a text if it is wanted; or none was left; or why none was taken
 abbrev pub PicksNext : (ℕ → Bool) → ℕ → Option (List ℕ) → Position → Position → List ℕ → List ℕ → Result Bool PickFault → Type 0
 PicksNext wanted k default old new before after (Ok true) =
-    (lines : List ℕ) × (count : ℕ) × TakesLines default old.ahead new.ahead count lines × (new.count ≡ counted (old.count + count))
+    (lines : List ℕ) × (count : ℕ) × TakesLines default old.ahead new.ahead count lines × (new.count ≡ saturating_count (old.count + count))
     × (after ≡ before ++ (if wanted k then lines else []))
 PicksNext wanted k default old new before after (Ok false) = HoldsNoMore old.ahead × (after ≡ before)
 PicksNext wanted k default old new before after (Err (fault.Input e)) =
@@ -39,7 +39,7 @@ pub record Moves (text rest : List ℕ) (before after : Option (List ℕ)) : Typ
 -- why no more operations were taken
 abbrev pub StopsAt : ℕ → Option (List ℕ) → Option (List ℕ) → ℕ → List (List ℕ) → Result ℕ PickFault → Type 0
 StopsAt last default rest count items (Ok n) = (n ≡ length items) × ((n ≡ last) ⊎ HoldsNoMore rest)
-StopsAt last default rest count items (Err (fault.Input e)) = IsFault default rest (counted count) e × (e.kind ≢ kind.Memory)
+StopsAt last default rest count items (Err (fault.Input e)) = IsFault default rest (saturating_count count) e × (e.kind ≢ kind.Memory)
 StopsAt last default rest count items (Err fault.Write) = Unit {0}
 StopsAt last default rest count items (Err fault.Memory) = Unit {0}
 

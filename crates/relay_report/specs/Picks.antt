@@ -4,7 +4,7 @@ use Rattle.std.specs.List.{list_any}
 use Rattle.std.specs.Io.KnownBytes.{append_known}
 use Rattle.relay_action.specs.Streams.{FailedSince, one_more}
 use Rattle.relay_ndjson.specs.Lines.{is_read}
-use Rattle.relay_ndjson.specs.Operations.{HoldsNoMore, IsFault, counted}
+use Rattle.relay_ndjson.specs.Operations.{HoldsNoMore, IsFault, saturating_count}
 use Rattle.relay_ndjson.specs.declared.kind.LineKind.TheVariants as kind
 use Rattle.relay_report.specs.Operations.{TakesLines}
 use Rattle.relay_report.specs.declared.names.Named.{Named}
@@ -34,7 +34,7 @@ NoneAfter wanted n = (k : ℕ) → IsTrue (wanted k) → k ≤ n
 -- fault
 abbrev pub Stops : (ℕ → Bool) → Option (List ℕ) → Option (List ℕ) → ℕ → List (List ℕ) → Result ℕ PickFault → Type 0
 Stops wanted default rest count items (Ok n) = (n ≡ length items) × (NoneAfter wanted n ⊎ HoldsNoMore rest)
-Stops wanted default rest count items (Err (fault.Input e)) = IsFault default rest (counted count) e × (e.kind ≢ kind.Memory)
+Stops wanted default rest count items (Err (fault.Input e)) = IsFault default rest (saturating_count count) e × (e.kind ≢ kind.Memory)
 Stops wanted default rest count items (Err fault.Write) = Unit {0}
 Stops wanted default rest count items (Err fault.Memory) = Unit {0}
 

@@ -8,7 +8,7 @@ use Rattle.relay_ndjson.specs.declared.lines.LineEnd.{LineEnd}
 use Rattle.relay_ndjson.specs.Lines.{TakesBlank}
 use Rattle.relay_ndjson.specs.LineReading.{TakesBytes}
 use Rattle.relay_ndjson.specs.Metadata.{Says}
-use Rattle.relay_ndjson.specs.Operations.{BreaksSource, HoldsNoMore, IsFault, Position, blank_limit, counted}
+use Rattle.relay_ndjson.specs.Operations.{BreaksSource, HoldsNoMore, IsFault, Position, blank_limit, saturating_count}
 use Rattle.relay_action.specs.declared.action.ActionKind.{ActionKind}
 use Rattle.relay_action.specs.declared.action.Source.{Source}
 use Rattle.relay_action.specs.declared.key.DocKey.{DocKey}
@@ -26,7 +26,7 @@ IsSource text = (source : Source) × (source.text ≡ text)
 abbrev pub SkipsTo : Position → Position → List ℕ → LineEnd → Result Bool InputFault → Type 0
 SkipsTo old new text end (Ok true) =
     (n : ℕ) × (mid : Option (List ℕ)) × (n ≤ blank_limit) × TakesBlank n old.ahead mid × TakesBytes mid new.ahead text end × (text ≢ [])
-    × (new.count ≡ counted (old.count + n + 1))
+    × (new.count ≡ saturating_count (old.count + n + 1))
 SkipsTo old new text end (Ok false) = HoldsNoMore old.ahead
 SkipsTo old new text end (Err e) = (default : Option (List ℕ)) → IsFault default old.ahead old.count e
 
@@ -43,6 +43,6 @@ KeepsSource old new line before after (Err e) =
 -- an operation was taken, with its lines; or only blank lines were left; or what follows has a fault
 abbrev pub Reads : Option (List ℕ) → Position → Position → List ℕ → Result Bool InputFault → Type 0
 Reads default old new lines (Ok true) =
-    (count : ℕ) × TakesLines default old.ahead new.ahead count lines × (new.count ≡ counted (old.count + count))
+    (count : ℕ) × TakesLines default old.ahead new.ahead count lines × (new.count ≡ saturating_count (old.count + count))
 Reads default old new lines (Ok false) = HoldsNoMore old.ahead
 Reads default old new lines (Err e) = IsFault default old.ahead old.count e

@@ -1,6 +1,6 @@
 //! The operations of an input, with their lines.
 ghost use Rattle.std.specs.Prelude.{◌≡◌, ◌⊎◌, ◌++◌, ℕ, List, [], Some, IfOk, IfErr, OnOk};
-ghost use Rattle.relay_ndjson.specs.Metadata.{shown, line_fault, source_line_fault};
+ghost use Rattle.relay_ndjson.specs.Metadata.{bytes_given, line_fault, source_line_fault};
 ghost use Rattle.relay_ndjson.specs.Operations.{failed_after, position};
 ghost use Rattle.relay_report.specs.Operations.{whole_line};
 ghost use Rattle.relay_report.specs.Steps.{Asks, IsSource, SkipsTo, KeepsSource, Reads};
@@ -122,7 +122,7 @@ impl OperationReader {
         reader: &mut R,
         default_index: Option<&str>,
     ) -> Result<bool, InputFault>
-        ensures lines { Reads (shown default_index.entry)
+        ensures lines { Reads (bytes_given default_index.entry)
             (position (R.left reader.old) self.old.lines.held self.old.lines.count)
             (position (R.left reader.new) self.new.lines.held self.new.lines.count)
             self.new.taken.items result }
@@ -157,9 +157,10 @@ fn kind_on(
     line: &[u8],
     scratch: &mut Scratch,
 ) -> Result<ActionKind, LineKind>
-    ensures ok { IfOk result (λ kind. Asks (shown default_index.entry) line.now kind) }
+    ensures ok { IfOk result (λ kind. Asks (bytes_given default_index.entry) line.now kind) }
     ensures err { IfErr result
-        (λ e. (e ≡ LineKind.Memory) ⊎ (line_fault (shown default_index.entry) line.now ≡ Some e)) }
+        (λ e. (e ≡ LineKind.Memory)
+        ⊎ (line_fault (bytes_given default_index.entry) line.now ≡ Some e)) }
 {
     let (kind, _key) = read_action(alloc, default_index, line, scratch)?;
     Ok(kind)

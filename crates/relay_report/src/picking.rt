@@ -3,7 +3,7 @@ ghost use Rattle.std.specs.Prelude.{◌≡◌, ◌≤◌, ℕ, [], IsTrue, IfOk,
 ghost use Rattle.std.specs.BTreeSet.{contains};
 ghost use Rattle.std.specs.Ordering.{nat_cmp};
 ghost use Rattle.relay_action.specs.Streams.{FailedSince};
-ghost use Rattle.relay_ndjson.specs.Metadata.{shown};
+ghost use Rattle.relay_ndjson.specs.Metadata.{bytes_given};
 ghost use Rattle.relay_ndjson.specs.Operations.{position};
 ghost use Rattle.relay_report.specs.Picks.{Picks, ReadsFail, WritesFail, WritesFront, is_named};
 ghost use Rattle.relay_report.specs.Picking.{Closes, Moves, PicksNext, PicksTo, fault_of, is_over};
@@ -46,7 +46,7 @@ pub fn pick<R: ByteIn, W: ByteOut>(
     default_index: Option<&str>,
     writer: &mut W,
 ) -> Result<u64, PickFault>
-    ensures picks { Picks names.now producer (shown default_index.entry) (R.left input.old)
+    ensures picks { Picks names.now producer (bytes_given default_index.entry) (R.left input.old)
         (W.written writer.old) (W.written writer.new) result }
     ensures reads { ReadsFail (R.failed input.old) (R.failed input.new) result }
     ensures writes { WritesFail (W.failed writer.old) (W.failed writer.new) result }
@@ -108,7 +108,8 @@ impl Picking {
         input: &mut R,
         default_index: Option<&str>,
     ) -> Result<bool, PickFault>
-        ensures next { PicksNext (contains nat_cmp numbers.now) number (shown default_index.entry)
+        ensures next { PicksNext (contains nat_cmp numbers.now) number
+            (bytes_given default_index.entry)
             (position (R.left input.old) self.old.operations.lines.held
             self.old.operations.lines.count)
             (position (R.left input.new) self.new.operations.lines.held
@@ -170,7 +171,8 @@ impl Picking {
         requires held { self.old.operations.lines.held ≡ [] }
         requires count { self.old.operations.lines.count ≡ 0 }
         requires text { self.old.text.items ≡ [] }
-        ensures picks { PicksTo (contains nat_cmp numbers.now) last (shown default_index.entry)
+        ensures picks { PicksTo (contains nat_cmp numbers.now) last
+            (bytes_given default_index.entry)
             (R.left input.old)
             (W.written writer.old) (W.written writer.new) self.new.text.items result }
         ensures reads { ReadsFail (R.failed input.old) (R.failed input.new) result }

@@ -9,7 +9,7 @@ use Rattle.relay_ndjson.specs.Reading.{Reading}
 use Rattle.relay_results.specs.Outside.{Outside}
 use Rattle.relay_core.specs.declared.config.RelayConfig.{RelayConfig}
 use Rattle.relay_queue.specs.Ends.{Queue, SenderEnd, fresh}
-use Rattle.relay_producer.specs.Ends.{opened, open_puts, closed_puts}
+use Rattle.relay_producer.specs.Ends.{open_end, open_puts, closed_puts}
 use Rattle.relay_producer.specs.Puts.{puts_of, HasPut}
 use Rattle.relay_producer.specs.States.{ProducerState, ClosedProducerState, lane_for, next_op, after_put}
 use Rattle.relay_producer.proofs.Putting.{put_more, same_marked}
@@ -48,7 +48,7 @@ record IsFresh (p : ℕ) (put : SenderEnd) : Type 0 where
   pub sender : put.sender ≡ p
   pub sent : put.sent ≡ []
 
-fresh_at : (queues : List Queue) (p lane : ℕ) (put : SenderEnd) → slice_get (open_puts (map (λ q. opened (fresh q p)) queues)) lane ≡ Some put → IsFresh p put
+fresh_at : (queues : List Queue) (p lane : ℕ) (put : SenderEnd) → slice_get (open_puts (map (λ q. open_end (fresh q p)) queues)) lane ≡ Some put → IsFresh p put
 fresh_at [] p lane put at = absurd (cc)
 fresh_at (q ∷ qs) p zero put at =
     let is : put ≡ fresh q p = cc in

@@ -2,13 +2,13 @@
 use Rattle.std.proofs.Common.{◌≡◌, ℕ, ◌+◌, List, [], ◌∷◌, ◌++◌, map, length, refl, sym, ap, subst, ◌∙◌, arith}
 use Rattle.std.proofs.lemmas.List.{length-map}
 use Rattle.relay_queue.specs.Ends.{Queue, fresh}
-use Rattle.relay_producer.specs.Ends.{opened, open_puts, closed_puts, identities}
+use Rattle.relay_producer.specs.Ends.{open_end, open_puts, closed_puts, identities}
 use Rattle.relay_producer.specs.States.{ProducerState, ControlState, ClosedProducerState, ClosedControlState}
 use Rattle.relay_threads.specs.Relay.{AreNew, AreRows, NoneOut, new_control, ends_of, rows_of}
 use Rattle.relay_run.specs.Identities.{Identity, identity_of, identity_of_closed}
 
 -- the ends of a sender that has sent nothing
-pub fresh_ends : (queues : List Queue) (p : ℕ) → identities (open_puts (map (λ q. opened (fresh q p)) queues)) ≡ ends_of queues p
+pub fresh_ends : (queues : List Queue) (p : ℕ) → identities (open_puts (map (λ q. open_end (fresh q p)) queues)) ≡ ends_of queues p
 fresh_ends [] p = refl
 fresh_ends (q ∷ qs) p = ap (λ es. (q, p) ∷ es) (fresh_ends qs p)
 

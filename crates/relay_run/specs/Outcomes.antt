@@ -3,7 +3,7 @@ use Rattle.std.specs.Prelude.{◌≡◌, ℕ, ◌+◌, ◌*◌, ◌^◌, List, [
 use Rattle.std.specs.List.Sorted.{IsNonDecreasingBy}
 use Rattle.relay_action.specs.declared.operation.OpName.{OpName}
 use Rattle.relay_core.specs.declared.report.Report.{Report}
-use Rattle.relay_ndjson.specs.Operations.{counted}
+use Rattle.relay_ndjson.specs.Operations.{saturating_count}
 use Rattle.relay_words.specs.declared.exit.Exit.{Exit}
 use Rattle.relay_words.specs.declared.exit.Exit.TheVariants as exit
 use Rattle.relay_threads.specs.declared.fault.StartFault.{StartFault}
@@ -44,7 +44,7 @@ module _ {W : Type 0} where
   -- the sum of all lanes so far and this one; it saturates
   abbrev pub total : (LaneSummary W → ℕ) → ℕ → List (LaneSummary W) → ℕ
   total count sum [] = sum
-  total count sum (s ∷ ss) = total count (counted (sum + count s)) ss
+  total count sum (s ∷ ss) = total count (saturating_count (sum + count s)) ss
 
   -- the reports of all lanes
   abbrev pub reports_of : List (LaneSummary W) → List Report

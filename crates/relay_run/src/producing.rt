@@ -1,6 +1,6 @@
 //! The thread of a producer: it puts the operations of a stream, and closes.
 ghost use Rattle.std.specs.Prelude.{◌≡◌, ◌⊎◌, List, map, option_map, string_bytes, IfErr, IfOk};
-ghost use Rattle.relay_ndjson.specs.Metadata.{shown};
+ghost use Rattle.relay_ndjson.specs.Metadata.{bytes_given};
 ghost use Rattle.relay_ndjson.specs.Operations.{Operation};
 ghost use Rattle.relay_producer.specs.Ends.{identities, open_puts};
 ghost use Rattle.relay_run.specs.Readers.{IsFedFrom, IsFed};
@@ -58,7 +58,8 @@ fn feed_reader<R: Wait, S: ByteIn + Drop>(
     producer: &mut Producer,
 ) -> Option<FeedFault>
     ensures fed { (ops : List Operation)
-        × IsFedFrom S.left S.failed (shown index.entry) (Some reader) ops producer.old producer.new
+        × IsFedFrom S.left S.failed (bytes_given index.entry) (Some reader) ops producer.old
+        producer.new
         result }
     ensures same { identities (open_puts producer.new.ends)
         ≡ identities (open_puts producer.old.ends) }
@@ -81,7 +82,7 @@ fn feed_given<R: Wait, S: ByteIn + Drop>(
     producer: &mut Producer,
 ) -> Option<FeedFault>
     ensures fed { (ops : List Operation)
-        × IsFedFrom S.left S.failed (shown index.entry) reader ops producer.old producer.new
+        × IsFedFrom S.left S.failed (bytes_given index.entry) reader ops producer.old producer.new
         result }
     ensures same { identities (open_puts producer.new.ends)
         ≡ identities (open_puts producer.old.ends) }
@@ -142,7 +143,7 @@ where
 
 // An owned copy of a text, if there is one.
 fn own_text(alloc: Global, text: Option<&str>) -> Result<Option<String>, AllocError>
-    ensures { IfOk result (λ own. option_map string_bytes own ≡ shown text.entry) }
+    ensures { IfOk result (λ own. option_map string_bytes own ≡ bytes_given text.entry) }
 {
     match text {
         Some(text) => Ok(Some(String::from_str(alloc, text)?)),
@@ -166,7 +167,8 @@ where
     R: Threads + Wait + Copy + Send + 'static,
     S: ByteIn + Drop + Send + 'static,
     ensures given { IfOk result
-        (λ v. map given_to v.items ≡ all_given (shown index.entry) readers.items producers.items) }
+        (λ v. map given_to v.items
+        ≡ all_given (bytes_given index.entry) readers.items producers.items) }
     ensures fault { IfErr result (λ e. (e ≡ StartFault.Memory) ⊎ (e ≡ StartFault.Thread)) }
 {
     let mut threads = Vec::new(alloc);

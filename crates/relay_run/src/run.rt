@@ -2,7 +2,7 @@
 ghost use Rattle.std.specs.Prelude.{◌≡◌, ◌≢◌, ◌⊎◌, ◌↔◌, ℕ, List, IfOk, IsErrAnd, false, true};
 ghost use Rattle.std.specs.Prelude.{vec_len};
 ghost use Rattle.relay_core.specs.Limits.{is_valid};
-ghost use Rattle.relay_ndjson.specs.Metadata.{shown};
+ghost use Rattle.relay_ndjson.specs.Metadata.{bytes_given};
 ghost use Rattle.relay_ndjson.specs.Operations.{Operation};
 ghost use Rattle.relay_queue.specs.Ends.{Queue};
 ghost use Rattle.relay_threads.specs.Relay.{NoneOut};
@@ -66,7 +66,8 @@ where
     ensures wire_count { IsErrAnd result (λ e. e ≡ StartFault.WireCount) ↔ ((is_valid config ≡ true)
         × ((vec_len wires ≢ config.lanes) ⊎ (vec_len paces ≢ config.lanes))) }
     ensures delivered { IfOk result (λ r. (queues : List Queue) × (ops : ℕ → List Operation)
-        × AreFedFrom S.left S.failed (shown index.entry) queues config.epoch ops 0 readers.items
+        × AreFedFrom S.left S.failed (bytes_given index.entry) queues config.epoch ops 0
+        readers.items
         r.faults.items
         × IfOk r.end (λ s. AllDelivered W.describes W.fits config
         (λ p. named_ops config.epoch p 1 (ops p)) 0

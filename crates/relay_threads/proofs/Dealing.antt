@@ -4,7 +4,7 @@ use Rattle.std.specs.declared.thread.PromisedHandle.{PromisedHandle}
 use Rattle.relay_queue.specs.Ends.{Queue, SenderEnd, fresh, fresh_puts}
 use Rattle.relay_core.specs.declared.config.RelayConfig.{RelayConfig}
 use Rattle.relay_producer.specs.declared.ends.OpenEnd.{OpenEnd}
-use Rattle.relay_producer.specs.Ends.{opened}
+use Rattle.relay_producer.specs.Ends.{open_end}
 use Rattle.relay_producer.specs.States.{ProducerState, ControlState, AreFresh, HasLanes}
 use Rattle.relay_threads.specs.declared.lane_end.LaneEnd.{LaneEnd}
 use Rattle.relay_threads.specs.declared.thread.LanePromise.{LanePromise}
@@ -68,7 +68,7 @@ pub record DealsOne (n : ℕ) (qs : List Queue) (news : List (List SenderEnd)) (
   pub dealt : lasts ≡ map (λ q. fresh q n) qs
   pub fresh_ones : AreFresh n lasts
   pub long : length lasts ≡ length qs
-  pub open_ones : map opened lasts ≡ map (λ q. opened (fresh q n)) qs
+  pub open_ones : map open_end lasts ≡ map (λ q. open_end (fresh q n)) qs
 
 pub deals_one : (n : ℕ) (qs : List Queue) (columns news : List (List SenderEnd)) (lasts : List SenderEnd) → columns ≡ map (λ q. fresh_puts q (n + 1)) qs → LoseLast columns news lasts → DealsOne n qs news lasts
 deals_one n qs columns news lasts is h =
@@ -78,7 +78,7 @@ deals_one n qs columns news lasts is h =
       dealt = r.1;
       fresh_ones = subst (AreFresh n) (sym r.1) (fresh_each n qs);
       long = ap length r.1 ∙ long_map (λ q. fresh q n) qs;
-      open_ones = ap (map opened) r.1 ∙ map_map opened (λ q. fresh q n) qs;
+      open_ones = ap (map open_end) r.1 ∙ map_map open_end (λ q. fresh q n) qs;
     }
 
 pub columns_long : (n : ℕ) (qs : List Queue) (columns : List (List SenderEnd)) → columns ≡ map (λ q. fresh_puts q n) qs → length columns ≡ length qs
@@ -93,7 +93,7 @@ pub record DealsOn (qs : List Queue) (epoch : ℕ) (columns : List (List SenderE
   pub new_ones : AreNew qs epoch left producers
 
 pub deals_on : (qs : List Queue) (epoch : ℕ) (news : List (List SenderEnd)) (lasts : List SenderEnd) (left n : ℕ) (p : ProducerState) (producers producers' : List ProducerState) → left ≡ n + 1 → DealsOne n qs news lasts → AreNew qs epoch left producers
-    → p ≡ record { epoch = epoch; producer = n; put = 0; ends = map opened lasts } → producers' ≡ p ∷ producers → DealsOn qs epoch news n producers'
+    → p ≡ record { epoch = epoch; producer = n; put = 0; ends = map open_end lasts } → producers' ≡ p ∷ producers → DealsOn qs epoch news n producers'
 deals_on qs epoch news lasts left n p producers producers' at one new is e =
     let new_p : p ≡ new_producer qs epoch n = is ∙ ap (λ (l : List OpenEnd). record { epoch = epoch; producer = n; put = 0; ends = l }) one.open_ones in
     record {
@@ -101,7 +101,7 @@ deals_on qs epoch news lasts left n p producers producers' at one new is e =
       new_ones = subst (AreNew qs epoch n) (sym e) (new_p, subst (λ k. AreNew qs epoch k producers) at new);
     }
 
-pub controls : (qs : List Queue) (news : List (List SenderEnd)) (lasts : List SenderEnd) (n : ℕ) (k : ControlState) → DealsOne n qs news lasts → k ≡ record { sender = n; ends = map opened lasts } → k ≡ new_control qs n
+pub controls : (qs : List Queue) (news : List (List SenderEnd)) (lasts : List SenderEnd) (n : ℕ) (k : ControlState) → DealsOne n qs news lasts → k ≡ record { sender = n; ends = map open_end lasts } → k ≡ new_control qs n
 controls qs news lasts n k one is = is ∙ ap (λ (l : List OpenEnd). record { sender = n; ends = l }) one.open_ones
 
 -- ---- lanes

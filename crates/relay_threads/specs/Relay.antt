@@ -3,7 +3,7 @@ use Rattle.std.specs.Prelude.{◌≡◌, ℕ, ◌+◌, List, [], ◌∷◌, ◌+
 use Rattle.relay_queue.specs.Ends.{Queue, SenderEnd, fresh, fresh_puts}
 use Rattle.relay_core.specs.declared.config.RelayConfig.{RelayConfig}
 use Rattle.relay_producer.specs.declared.ends.ClosedEnd.{ClosedEnd}
-use Rattle.relay_producer.specs.Ends.{opened, closed_puts, identities}
+use Rattle.relay_producer.specs.Ends.{open_end, closed_puts, identities}
 use Rattle.relay_producer.specs.States.{ProducerState, ControlState, ClosedProducerState, ClosedControlState}
 
 -- its config, its lanes' queues, and their wires as they were at the start, by lane
@@ -26,7 +26,7 @@ pub record AreColumns (senders : ℕ) (columns : List (List SenderEnd)) : Type 0
 
 -- a producer of an epoch that has put nothing, and found no lane gone
 abbrev pub new_producer : List Queue → ℕ → ℕ → ProducerState
-new_producer queues epoch p = record { epoch = epoch; producer = p; put = 0; ends = map (λ q. opened (fresh q p)) queues }
+new_producer queues epoch p = record { epoch = epoch; producer = p; put = 0; ends = map (λ q. open_end (fresh q p)) queues }
 
 -- producers numbered p, p + 1 and so on, which have put nothing
 abbrev pub AreNew : List Queue → ℕ → ℕ → List ProducerState → Type 0
@@ -35,7 +35,7 @@ AreNew queues epoch p (x ∷ xs) = (x ≡ new_producer queues epoch p) × AreNew
 
 -- the control, which has sent nothing
 abbrev pub new_control : List Queue → ℕ → ControlState
-new_control queues sender = record { sender = sender; ends = map (λ q. opened (fresh q sender)) queues }
+new_control queues sender = record { sender = sender; ends = map (λ q. open_end (fresh q sender)) queues }
 
 -- ---- the handles that are given back
 

@@ -1,7 +1,7 @@
 -- The handles that are given back are those that were given out.
 use Rattle.std.proofs.Common.{◌≡◌, ℕ, zero, suc, ◌+◌, ◌<◌, List, [], ◌∷◌, ◌++◌, length, map, set, get_or, sym, refl, ap, ◌∙◌, subst, arith}
 use Rattle.relay_queue.specs.Ends.{Queue, fresh}
-use Rattle.relay_producer.specs.Ends.{opened, identities, open_puts, closed_puts}
+use Rattle.relay_producer.specs.Ends.{open_end, identities, open_puts, closed_puts}
 use Rattle.relay_producer.specs.States.{ProducerState, ClosedProducerState, ControlState, ClosedControlState}
 use Rattle.relay_threads.specs.Relay.{NoneOut, AreNew, new_control, ends_of, AreRows, rows_of}
 use Rattle.relay_threads_tests.specs.Handles.{open_names, closed_names}
@@ -12,7 +12,7 @@ names_set [] i y d lt at e = refl
 names_set (p ∷ ps) zero y d lt at e = let same : identities (open_puts y.ends) ≡ identities (open_puts p.ends) = e ∙ ap (λ (x : ProducerState). identities (open_puts x.ends)) at in λ i. same i ∷ open_names ps
 names_set (p ∷ ps) (suc i) y d lt at e = ap (λ l. identities (open_puts p.ends) ∷ l) (names_set ps i y d (omega arith) at e)
 
-fresh_names : (qs : List Queue) (p : ℕ) → identities (open_puts (map (λ q. opened (fresh q p)) qs)) ≡ ends_of qs p
+fresh_names : (qs : List Queue) (p : ℕ) → identities (open_puts (map (λ q. open_end (fresh q p)) qs)) ≡ ends_of qs p
 fresh_names [] p = refl
 fresh_names (q ∷ qs) p = ap (λ l. (q, p) ∷ l) (fresh_names qs p)
 

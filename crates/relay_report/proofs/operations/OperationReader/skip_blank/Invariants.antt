@@ -1,7 +1,7 @@
 use Rattle.std.proofs.Common.{◌≡◌, ◌+◌}
 use Rattle.std.specs.Io.KnownBytes.{prepend_known}
 use Rattle.relay_ndjson.specs.Lines.{TakesBlank}
-use Rattle.relay_ndjson.specs.Operations.{counted}
+use Rattle.relay_ndjson.specs.Operations.{saturating_count}
 use Rattle.relay_report.proofs.operations.OperationReader.skip_blank.Given as goal
 
 -- so many blank lines were taken
@@ -11,6 +11,6 @@ invariant-loop-blank g l =
     let failed = g.R.ByteStream.failed in
     record {
       blank : TakesBlank l.blank (prepend_known l.fn.self.lines.held (left l.fn.reader)) (prepend_known l.self.lines.held (left l.reader));
-      count : l.self.lines.count ≡ counted (l.fn.self.lines.count + l.blank);
+      count : l.self.lines.count ≡ saturating_count (l.fn.self.lines.count + l.blank);
       failed : failed l.reader ≡ failed l.fn.reader;
     }
