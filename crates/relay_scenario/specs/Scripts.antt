@@ -207,20 +207,20 @@ PlaysNext old new count after w next text longer (Ok Ended) =
 PlaysNext old new count after w next text longer (Err e) = HasNoEvent old count e × (longer ≡ text)
 
 -- the lines that were taken, the world, and what was to be written, so far
-pub record Underway (first now : Option (List ℕ)) (start world : World) (count : ℕ) (before : Sink) (text : List ℕ) (written : Sink) : Type 0 where
+pub record Underway (first now : Option (List ℕ)) (start world : World) (count : ℕ) (before : Sink) (text : List ℕ) (after : Sink) : Type 0 where
   pub events : List Event
   pub out : List ℕ
   pub takes : TakesEvents first now events
   pub answers : Answers start events world out
   pub count_is : count ≡ length events + 1
-  pub flows : Flows out [] before text written
+  pub flows : Flows out [] before text after
 
 -- what is left of the answers, by how it ended
 abbrev pub Leaves : Option (List ℕ) → Sink → List ℕ → Sink → List ℕ → Result Unit ScriptFault → Type 0
-Leaves rest before text written out (Ok x) = (ending : List ℕ) × Flows (out ++ ending) [] before text written
-Leaves rest before text written out (Err (fault.Write sent)) = (ending : List ℕ) × MayEnd rest ending × IsWrittenInPart before (record written { sent = sent }) (out ++ ending)
-Leaves rest before text written out (Err fault.Memory) = (ending : List ℕ) × MayEnd rest ending × Flows (out ++ ending) [] before text written
-Leaves rest before text written out (Err other) = Flows out [] before text written
+Leaves rest before text after out (Ok x) = (ending : List ℕ) × Flows (out ++ ending) [] before text after
+Leaves rest before text after out (Err (fault.Write sent)) = (ending : List ℕ) × MayEnd rest ending × IsWrittenInPart before (record after { sent = sent }) (out ++ ending)
+Leaves rest before text after out (Err fault.Memory) = (ending : List ℕ) × MayEnd rest ending × Flows (out ++ ending) [] before text after
+Leaves rest before text after out (Err other) = Flows out [] before text after
 
 -- the number of failed calls of a writer after this result
 abbrev pub failed_writes_by : {T : Type 0} → Result T ScriptFault → ℕ → ℕ
@@ -241,7 +241,7 @@ pub record Passes (old : Outgoing) (before : Option (List ℕ)) (failed : ℕ) (
 
 -- events were taken and played up to this result: what is left of their answers is still to be written, unless a
 -- write failed
-pub record Halts (first last : Option (List ℕ)) (start : World) (before : Sink) (text : List ℕ) (written : Sink) (result : Result Unit ScriptFault) : Type 0 where
+pub record Halts (first last : Option (List ℕ)) (start : World) (before : Sink) (text : List ℕ) (after : Sink) (result : Result Unit ScriptFault) : Type 0 where
   pub events : List Event
   pub rest : Option (List ℕ)
   pub takes : TakesEvents first rest events
@@ -250,7 +250,7 @@ pub record Halts (first last : Option (List ℕ)) (start : World) (before : Sink
   pub answers : Answers start events world out
   pub stops : Stops (length events) rest result
   pub uses : UsesOneLine rest last
-  pub leaves : Leaves rest before text written out result
+  pub leaves : Leaves rest before text after out result
 
 -- no config was taken
 abbrev pub HasNoConfig : Option (List ℕ) → Result Unit ScriptFault → Type 0
@@ -260,26 +260,26 @@ HasNoConfig front (Err fault.Memory) = Unit {0}
 HasNoConfig front other = ⊥
 
 -- a config was taken, and then events were played on its fresh world
-pub record Begins (front last : Option (List ℕ)) (before : Sink) (text : List ℕ) (written : Sink) (result : Result Unit ScriptFault) : Type 0 where
+pub record Begins (front last : Option (List ℕ)) (before : Sink) (text : List ℕ) (after : Sink) (result : Result Unit ScriptFault) : Type 0 where
   pub line : List ℕ
   pub first : Option (List ℕ)
   pub config : RelayConfig
   pub takes_text : TakesText front first line
   pub is_config : IsConfigLine line config
-  pub halts : Halts first last (fresh config index.fresh) before text written result
+  pub halts : Halts first last (fresh config index.fresh) before text after result
 
 -- the same, or no config was taken and nothing is to be written
 abbrev pub PlaysScript : Option (List ℕ) → Option (List ℕ) → Sink → List ℕ → Sink → Result Unit ScriptFault → Type 0
-PlaysScript front last before text written result =
-    Begins front last before text written result
-    ⊎ (HasNoConfig front result × UsesOneLine front last × (text ≡ []) × (written ≡ before))
+PlaysScript front last before text after result =
+    Begins front last before text after result
+    ⊎ (HasNoConfig front result × UsesOneLine front last × (text ≡ []) × (after ≡ before))
 
 -- The text that was left was written, and the result is unchanged; or a write failed, with this many bytes written in
 -- all, and that is the result.
 abbrev pub ClosesOr : Result Unit ScriptFault → (ℕ → Result Unit ScriptFault) → List ℕ → Sink → ℕ → Option (List ℕ) → ℕ → Result Unit ScriptFault → Type 0
-ClosesOr answer broken text written failed after count result =
-    ((result ≡ answer) × (after ≡ append_known written.shown text) × NoneFails failed count)
-    ⊎ ((sent : ℕ) × (result ≡ broken sent) × IsWrittenInPart written (record { shown = after; sent = sent }) text × OneFails failed count)
+ClosesOr answer broken text before failed after count result =
+    ((result ≡ answer) × (after ≡ append_known before.shown text) × NoneFails failed count)
+    ⊎ ((sent : ℕ) × (result ≡ broken sent) × IsWrittenInPart before (record { shown = after; sent = sent }) text × OneFails failed count)
 
 -- a failed write, and a failed allocation, which takes precedence
 abbrev pub failed_write : ℕ → Result Unit ScriptFault
@@ -300,7 +300,7 @@ cut_short other sent = Err (fault.Write sent)
 -- The result if text is still to be written: after a failed write nothing more is written; a failed allocation
 -- remains the result even if a write fails.
 abbrev pub Closes : Result Unit ScriptFault → List ℕ → Sink → ℕ → Option (List ℕ) → ℕ → Result Unit ScriptFault → Type 0
-Closes (Err (fault.Write sent)) text written failed after count result =
-    (result ≡ Err (fault.Write sent)) × (after ≡ written.shown) × NoneFails failed count
-Closes (Err fault.Memory) text written failed after count result = ClosesOr (Err fault.Memory) no_memory text written failed after count result
-Closes answer text written failed after count result = ClosesOr answer failed_write text written failed after count result
+Closes (Err (fault.Write sent)) text before failed after count result =
+    (result ≡ Err (fault.Write sent)) × (after ≡ before.shown) × NoneFails failed count
+Closes (Err fault.Memory) text before failed after count result = ClosesOr (Err fault.Memory) no_memory text before failed after count result
+Closes answer text before failed after count result = ClosesOr answer failed_write text before failed after count result
