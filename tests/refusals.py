@@ -22,6 +22,8 @@ CRATES = os.path.join(TOP, "crates")
 TABLE = os.path.join(TOP, "docs", "CONTRIBUTING.md")
 HEADING = "## Each allocation refused in turn"
 REFUSED = b"REFUSED\n"
+# What test crates share: its calls are no one's to test, and are made by the tests that use it.
+FIXTURES = "relay_fixtures"
 # What allocates and reports no refusal.
 SILENT = {"relay_progress": ["show_progress"]}
 # A test with more allocations than this is not one of a few calls; a run of it takes a few milliseconds.
@@ -53,7 +55,7 @@ def modules_of(crate):
 
 
 def libraries():
-    names = (it for it in sorted(os.listdir(CRATES)) if not it.endswith("_tests"))
+    names = (it for it in sorted(os.listdir(CRATES)) if not it.endswith("_tests") and it != FIXTURES)
     return [it for it in names if os.path.exists(os.path.join(CRATES, it, "src", "lib.rt"))]
 
 
@@ -148,10 +150,13 @@ def tests_of(crate):
 
 
 def calls_made(crate):
-    """The source of a test crate's refusals.rt, with that of the modules that it uses."""
+    """The source of a test crate's refusals.rt, with that of the modules that it uses, and then of those of the fixtures
+    that these use."""
     source = text_of(source_of_tests(crate))
-    used = {it for words in re.findall(r"^use crate::(\w+|\{[^}]*\})", source, re.M) for it in re.findall(r"\w+", words)}
-    return source + "".join(text for name, text in modules_of(crate).items() if name in used)
+    for place, prefix in (crate, "crate"), (FIXTURES, FIXTURES):
+        used = set(re.findall(r"\w+", " ".join(re.findall(r"^use %s::(\w+|\{[^}]*\})" % prefix, source, re.M))))
+        source += "".join(text for name, text in modules_of(place).items() if name in used)
+    return source
 
 
 def makes_call(source, call, on_value):

@@ -1,22 +1,7 @@
 //! Offers, of whose allocations any one may be refused (`make refusals`).
-use relay_action::OpName;
-use relay_batch::{BatchItem, Batcher, Limits, Offer};
+use crate::tests::item;
+use relay_batch::{Batcher, Limits, Offer};
 use std::alloc::AllocError;
-
-fn item(doc: u64) -> BatchItem {
-    BatchItem {
-        name: OpName {
-            epoch: 0,
-            producer: 0,
-            number: doc,
-        },
-        doc,
-        version: doc,
-        bytes: 10,
-        cap: 100,
-        taken_at: 0,
-    }
-}
 
 const LIMITS: Limits = Limits {
     count: 100,
@@ -27,10 +12,10 @@ const LIMITS: Limits = Limits {
 // Whether an item is added. If it is refused, nothing was added, and it is when it is offered again.
 fn adds(batcher: &mut Batcher, doc: u64) -> bool {
     let room = batcher.room();
-    match batcher.offer(item(doc)) {
+    match batcher.offer(item(doc, 10, 0)) {
         Ok(answer) => answer == Offer::Added,
         Err(AllocError) => {
-            batcher.room() == room && batcher.offer(item(doc)) == Ok(Offer::Added)
+            batcher.room() == room && batcher.offer(item(doc, 10, 0)) == Ok(Offer::Added)
         }
     }
 }

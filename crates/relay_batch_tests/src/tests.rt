@@ -4,8 +4,8 @@ use relay_batch::{BatchItem, Batcher, Limits, Offer, Room};
 use std::alloc::{AllocError, Global};
 use std::test::Fail;
 
-// An item of a document, with this many bytes.
-fn item(doc: u64, bytes: u64, taken_at: u64) -> BatchItem {
+/// An item of a document, with this many bytes.
+pub fn item(doc: u64, bytes: u64, taken_at: u64) -> BatchItem {
     BatchItem {
         name: OpName {
             epoch: 0,

@@ -1,5 +1,6 @@
 //! The maximum number of operations in a lane.
 use crate::desk::{CONFIG, Entry, lane_of, outcomes_of, put};
+use crate::refusals::{sends, takes};
 use relay_action::{Action, Body, DocKey, Mail, Op};
 use relay_batch::Limits;
 use relay_core::{Lane, RelayConfig, TakeFault};
@@ -139,35 +140,6 @@ fn begun(alloc: Global) -> Result<(Lane, Mail), Fail> {
         body: Body::Put(op),
     };
     Ok((lane, mail))
-}
-
-// Takes a message, once more if an allocation failed the first time, which must have changed
-// nothing.
-fn takes(lane: &mut Lane, mail: Mail) -> bool {
-    if mail.sender >= lane.senders() {
-        return false;
-    }
-    match lane.take(mail) {
-        Ok(()) => true,
-        Err((fault, back)) => {
-            fault == TakeFault::Memory
-                && lane.held() == 0
-                && lane.totals().taken == 0
-                && back.sender < lane.senders()
-                && lane.take(back).is_ok()
-        }
-    }
-}
-
-// Whether the first request is formed, by a second call if the first one's allocation failed and
-// changed nothing.
-fn sends(lane: &mut Lane) -> bool {
-    match lane.request() {
-        Ok(number) => number == Some(1),
-        Err(AllocError) => {
-            lane.totals().requests == 0 && lane.due_in() == Some(0) && lane.request() == Ok(Some(1))
-        }
-    }
 }
 
 // Whichever allocation fails, the call has changed nothing, and succeeds the next time.

@@ -40,8 +40,8 @@ fn mail_of(alloc: Global, number: u64, id: &str) -> Option<Mail> {
     })
 }
 
-// Takes a message, again if it came back for want of memory with the lane unchanged.
-fn takes(lane: &mut Lane, mail: Mail) -> bool {
+/// Takes a message, again if it came back for want of memory with the lane unchanged.
+pub fn takes(lane: &mut Lane, mail: Mail) -> bool {
     let (held, totals) = (lane.held(), lane.totals());
     if mail.sender >= lane.senders() {
         return false;
@@ -87,8 +87,8 @@ fn refused_operations(rt: HostRuntime) {
     assert!(rt; found == Some((3, 4, 1)));
 }
 
-// Whether the first request goes, by a second call if the first was refused and changed nothing.
-fn sends(lane: &mut Lane) -> bool {
+/// Whether the first request goes, by a second call if the first was refused and changed nothing.
+pub fn sends(lane: &mut Lane) -> bool {
     let (held, totals) = (lane.held(), lane.totals());
     match lane.request() {
         Ok(number) => number == Some(1),

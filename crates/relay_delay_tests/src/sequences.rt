@@ -1,28 +1,17 @@
 //! Random calls, compared with a plain list.
-ghost use Rattle.std.specs.Prelude.{◌<◌};
-
 use crate::desk::{Desk, due_at, empty_desk, push, put_back, take, wait};
+use rand_core::Rng;
+use rand_pcg::Pcg32;
 use relay_delay::Entry;
 use std::alloc::Global;
 
-// The queue and the list, and the random number.
+// The queue and the list, and the generator that the calls are drawn from.
 #[derive(Drop)]
 struct Game {
     desk: Desk,
     rows: Vec<Entry>,
     clock: u64,
-    seed: u64,
-}
-
-// The next number below a bound.
-fn draw(seed: &mut u64, bound: u64) -> u64
-    requires { 0 < bound }
-    ensures { result < bound }
-{
-    *seed = seed
-        .wrapping_mul(6_364_136_223_846_793_005)
-        .wrapping_add(1_442_695_040_888_963_407);
-    (*seed >> 33) % bound
+    rng: Pcg32,
 }
 
 // The lowest due version above another one, in the plain list.
@@ -70,9 +59,9 @@ fn adds(rows: &mut Vec<Entry>, one: Entry) -> bool {
 fn inserts(game: &mut Game) -> bool {
     let due = game
         .clock
-        .saturating_add(draw(&mut game.seed, 6))
+        .saturating_add(game.rng.next_u64() % 6)
         .saturating_sub(2);
-    let slot = draw(&mut game.seed, 1_000) as usize;
+    let slot = (game.rng.next_u64() % 1_000) as usize;
     match push(&mut game.desk, due, slot) {
         Some(one) => one.due == due && one.slot == slot && adds(&mut game.rows, one),
         None => false,
@@ -108,7 +97,7 @@ fn comes_back(game: &mut Game) -> bool {
     if game.desk.out.is_none() {
         return true;
     }
-    let due = game.clock.saturating_add(draw(&mut game.seed, 4));
+    let due = game.clock.saturating_add(game.rng.next_u64() % 4);
     match put_back(&mut game.desk, due) {
         Some(one) => one.due == due && adds(&mut game.rows, one),
         None => false,
@@ -116,7 +105,7 @@ fn comes_back(game: &mut Game) -> bool {
 }
 
 fn ticks(game: &mut Game) -> bool {
-    let ticks = draw(&mut game.seed, 3);
+    let ticks = game.rng.next_u64() % 3;
     wait(&mut game.desk, ticks);
     game.clock = game.clock.saturating_add(ticks);
     true
@@ -129,13 +118,13 @@ fn agree(game: &Game) -> bool {
 }
 
 fn steps(game: &mut Game) -> bool {
-    match draw(&mut game.seed, 8) {
+    match game.rng.next_u64() % 8 {
         0 | 1 | 2 => inserts(game),
         3 => takes(game),
         4 => comes_back(game),
         5 => ticks(game),
         _ => {
-            let count = draw(&mut game.seed, 6) as usize;
+            let count = (game.rng.next_u64() % 6) as usize;
             sees(game, count)
         }
     }
@@ -147,7 +136,7 @@ fn plays(alloc: Global, seed: u64) -> bool {
         desk: empty_desk(alloc),
         rows: Vec::new(alloc),
         clock: 0,
-        seed,
+        rng: Pcg32::new(seed, 0),
     };
     for _ in 0..60 {
         if !steps(&mut game) || !agree(&game) {

@@ -1,6 +1,6 @@
 //! A table of requests, of whose allocations any one may be refused (`make refusals`).
-use relay_action::OpName;
-use relay_batch::{Batch, BatchItem, Batcher, Limits};
+use crate::tests::gathered;
+use relay_batch::Batch;
 use relay_flight::Flight;
 use std::alloc::{AllocError, Global};
 
@@ -11,32 +11,12 @@ fn flight_of(alloc: Global) -> Option<Flight> {
     }
 }
 
-// A batch of one item; `None` if an allocation is refused.
-fn batch_of(alloc: Global, doc: u64) -> Option<Batch> {
-    let limits = Limits {
-        count: 10,
-        bytes: 1024,
-        linger: 0,
-    };
-    let mut batcher = Batcher::new(alloc, limits);
-    let item = BatchItem {
-        name: OpName {
-            epoch: 0,
-            producer: 0,
-            number: doc,
-        },
-        doc,
-        version: doc,
-        bytes: 100,
-        cap: 10,
-        taken_at: 0,
-    };
-    batcher.offer(item).ok()?;
-    batcher.close()
-}
-
+// A batch, gathered again if an allocation is refused.
 fn batch(alloc: Global, doc: u64) -> Option<Batch> {
-    batch_of(alloc, doc).or_else(|| batch_of(alloc, doc))
+    gathered(alloc, doc)
+        .or_else(|_| gathered(alloc, doc))
+        .ok()?
+        .close()
 }
 
 // Whether the next batch enters under this number.

@@ -21,8 +21,8 @@ fn item(doc: u64) -> BatchItem {
     }
 }
 
-// Two items that are gathered, the first one of this document.
-fn gathered(alloc: Global, doc: u64) -> Result<Batcher, AllocError> {
+/// Two items that are gathered, the first one of this document.
+pub fn gathered(alloc: Global, doc: u64) -> Result<Batcher, AllocError> {
     let limits = Limits {
         count: 10,
         bytes: 1024,

@@ -1,8 +1,8 @@
 //! Random calls, compared with the plain list.
-ghost use Rattle.std.specs.Prelude.{◌<◌};
-
 use crate::desk::{Desk, candidate, empty_desk, halve, key_of, land, launch, push, take, tick};
 use crate::rows::{Row, candidate_at, count_documents, due_in, first_at, is_candidate};
+use rand_core::Rng;
+use rand_pcg::Pcg32;
 use relay_action::{DocKey, Write};
 use relay_held::{Held, Spot};
 use std::alloc::Global;
@@ -17,7 +17,7 @@ struct Flown {
     write: Write,
 }
 
-// Both, what is in flight, and the random number.
+// Both, what is in flight, and the generator that the calls are drawn from.
 #[derive(Drop)]
 struct Game {
     alloc: Global,
@@ -25,23 +25,12 @@ struct Game {
     rows: Vec<Row>,
     flown: Vec<Flown>,
     clock: u64,
-    seed: u64,
-}
-
-// The next number below a bound.
-fn draw(seed: &mut u64, bound: u64) -> u64
-    requires { 0 < bound }
-    ensures { result < bound }
-{
-    *seed = seed
-        .wrapping_mul(6_364_136_223_846_793_005)
-        .wrapping_add(1_442_695_040_888_963_407);
-    (*seed >> 33) % bound
+    rng: Pcg32,
 }
 
 fn pushes(game: &mut Game) -> bool {
-    let document = draw(&mut game.seed, DOCUMENTS);
-    let due = game.clock.saturating_add(draw(&mut game.seed, 3));
+    let document = game.rng.next_u64() % DOCUMENTS;
+    let due = game.clock.saturating_add(game.rng.next_u64() % 3);
     let version = game.desk.next;
     push(game.alloc, &mut game.desk, document, due)
         && game.rows.push(Row::new(document, version, due)).is_ok()
@@ -66,8 +55,8 @@ fn ticks(game: &mut Game) {
 // Sends the first operation that may be sent, if there is one.
 fn sends(game: &mut Game) -> bool {
     let spot = Spot {
-        request: draw(&mut game.seed, 100),
-        place: draw(&mut game.seed, 10),
+        request: game.rng.next_u64() % 100,
+        place: game.rng.next_u64() % 10,
     };
     let i = candidate_at(&game.rows, 0, game.clock);
     match launch(&mut game.desk, spot.request, spot.place) {
@@ -95,11 +84,11 @@ fn offers(game: &mut Game, count: usize) -> bool {
 
 // Looks at some of those that may be sent, and sends the first one or two.
 fn launches(game: &mut Game) -> bool {
-    let looks = draw(&mut game.seed, DOCUMENTS + 2) as usize;
+    let looks = (game.rng.next_u64() % (DOCUMENTS + 2)) as usize;
     if !offers(game, looks) || !sends(game) {
         return false;
     }
-    draw(&mut game.seed, 2) == 0 || sends(game)
+    game.rng.next_u64() % 2 == 0 || sends(game)
 }
 
 // Returns a write that was in flight; the first operation of its document waits again with it, if
@@ -108,8 +97,8 @@ fn lands(game: &mut Game, halves: bool) -> bool {
     if game.flown.is_empty() {
         return true;
     }
-    let due = game.clock.saturating_add(draw(&mut game.seed, 4));
-    let i = draw(&mut game.seed, game.flown.len() as u64) as usize;
+    let due = game.clock.saturating_add(game.rng.next_u64() % 4);
+    let i = game.rng.next_u64() as usize % game.flown.len();
     let Flown { document, write } = game.flown.swap_remove(i);
     let at = first_at(&game.rows, document);
     let mut waits = false;
@@ -176,16 +165,16 @@ fn agree(game: &Game) -> bool {
 }
 
 fn steps(game: &mut Game) -> bool {
-    if draw(&mut game.seed, 2) == 0 {
+    if game.rng.next_u64() % 2 == 0 {
         ticks(game);
     }
-    match draw(&mut game.seed, 9) {
+    match game.rng.next_u64() % 9 {
         0 | 1 | 2 | 3 => pushes(game),
         4 | 5 => launches(game),
         6 => lands(game, false),
         7 => lands(game, true),
         _ => {
-            let document = draw(&mut game.seed, DOCUMENTS);
+            let document = game.rng.next_u64() % DOCUMENTS;
             takes(game, document)
         }
     }
@@ -223,7 +212,7 @@ fn plays(alloc: Global, seed: u64) -> bool {
         rows: Vec::new(alloc),
         flown: Vec::new(alloc),
         clock: 0,
-        seed,
+        rng: Pcg32::new(seed, 0),
     };
     for _ in 0..40 {
         if !steps(&mut game) || !agree(&game) {

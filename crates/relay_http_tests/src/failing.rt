@@ -3,15 +3,13 @@ ghost use Rattle.std.specs.Prelude.{◌≤◌, length};
 ghost use Rattle.relay_ndjson.specs.Bulk.{text_of};
 
 use crate::reading::over_failing;
+use crate::replies::CHUNKED;
 use crate::written::one_write;
 use relay_action::{MemStream, Write};
 use relay_http::HttpFault;
 use relay_ndjson::bulk_len;
 use std::alloc::{AllocError, Global};
 use std::test::Fail;
-
-const REPLY: &[u8] =
-    b"HTTP/1.1 100 Continue\r\n\r\nHTTP/1.1 200 OK\r\nTransfer-Encoding: chunked\r\n\r\n5\r\nhello\r\n6\r\n world\r\n0\r\n\r\n";
 
 const REQUEST: &[u8] = b"POST /_bulk HTTP/1.1\r\nContent-Length: 11\r\n\r\nhello world";
 
@@ -26,7 +24,7 @@ fn reply_failing(
     alloc: Global,
     fail_at: u64,
 ) -> Result<(Result<usize, HttpFault>, bool), AllocError> {
-    let mut conn = over_failing(alloc, REPLY, 7, 0, fail_at)?;
+    let mut conn = over_failing(alloc, CHUNKED, 7, 0, fail_at)?;
     let read = conn.read_reply(alloc).map(|reply| reply.body.len());
     Ok((read, conn.is_open()))
 }
@@ -43,7 +41,7 @@ fn request_failing(
 
 #[test]
 fn each_read_fails_in_turn(rt: HostRuntime) {
-    let reads = (REPLY.len() as u64).div_ceil(7);
+    let reads = (CHUNKED.len() as u64).div_ceil(7);
     for fail_at in 1..=reads {
         assert!(rt; reply_failing(rt.alloc(), fail_at) == Ok((Err(HttpFault::Read), false)));
     }

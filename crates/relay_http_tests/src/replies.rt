@@ -2,7 +2,8 @@
 use crate::reading::{PIECES, Reply, gives_replies, reads_replies, reads_reply};
 use relay_http::HttpFault;
 
-const CHUNKED: &[u8] =
+/// A reply in chunks, after an interim head.
+pub const CHUNKED: &[u8] =
     b"HTTP/1.1 100 Continue\r\n\r\nHTTP/1.1 200 OK\r\nTransfer-Encoding: chunked\r\n\r\n5\r\nhello\r\n6\r\n world\r\n0\r\n\r\n";
 
 const WITH_A_LENGTH: &[(&[u8], Reply)] = &[

@@ -5,11 +5,9 @@ use Rattle.relay_action.specs.declared.write.Write.{Write}
 use Rattle.relay_results.specs.Numbers.{from_zero}
 use Rattle.relay_results.specs.Outside.{Request, Unanswered, Lost, Outside, Sends, Answers, MayAnswer, after, writes_of}
 use Rattle.relay_results.proofs.Lists.{at-left, at-last, at-within, at-update_other}
-use Rattle.relay_lane.specs.Wires.{RunsOn, SendsOn, AnswersOn, ExchangesOn, IsNext}
+use Rattle.relay_lane.specs.Wires.{SendsOn, AnswersOn, ExchangesOn, IsNext}
+use Rattle.relay_fixtures.proofs.Items.{no_runs}
 use Rattle.relay_lane_tests.specs.Shown.{IsOut}
-
-pub no_runs : (o : Outside) → RunsOn o o
-no_runs o = record { events = []; runs = tt; may = tt; reached = refl }
 
 pub sent_out : (o : Outside) (number : ℕ) (ws : List Write) → IsNext number o → MayAnswer (after (Sends ws) o) (from_zero number) Lost
 sent_out o number ws next =

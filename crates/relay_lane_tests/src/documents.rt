@@ -3,9 +3,12 @@ ghost use Rattle.relay_lane.specs.Out.{out_of};
 ghost use Rattle.std.specs.Option.{option_to_list};
 ghost use Rattle.std.specs.Prelude.{◌≡◌};
 
-use crate::desk::{CONFIG, Desk, NO_PAUSES, closes, desk_of, puts};
-use crate::wires::{IndexWire, Way, count_applied, wire_of};
 use relay_batch::Limits;
+use relay_fixtures::applied::count_applied;
+use relay_fixtures::config::CONFIG;
+use relay_fixtures::desk::{Desk, closes, desk_of, puts};
+use relay_fixtures::index_wire::{IndexWire, Way, wire_of};
+use relay_fixtures::notes::NO_PAUSES;
 use relay_lane::{RelayConfig, Totals, drain};
 use std::alloc::{AllocError, Global};
 use std::test::Fail;

@@ -3,8 +3,11 @@ ghost use Rattle.relay_lane.specs.Out.{out_of};
 ghost use Rattle.std.specs.Option.{option_to_list};
 ghost use Rattle.std.specs.Prelude.{◌≡◌, [], IfSome};
 
-use crate::desk::{CONFIG, Desk, NO_PAUSES, Notes, closes, desk_of, puts, sends};
-use crate::wires::{IndexWire, Way, count_applied, wire_of};
+use relay_fixtures::applied::count_applied;
+use relay_fixtures::config::CONFIG;
+use relay_fixtures::desk::{Desk, closes, filled};
+use relay_fixtures::index_wire::{IndexWire, Way, wire_of};
+use relay_fixtures::notes::{NO_PAUSES, Notes};
 use relay_lane::{Cause, Lane, WireFault, drain, make_room, pump};
 use std::alloc::{AllocError, Global};
 
@@ -41,7 +44,7 @@ fn look_at(alloc: Global, lane: &Lane, wire: &IndexWire, pace: &Notes) -> Result
     let totals = lane.totals();
     Ok(Came {
         requests: totals.requests,
-        pauses: pace.pauses,
+        pauses: pace.first,
         gave_up,
         rejected,
         applied: totals.applied,
@@ -51,16 +54,10 @@ fn look_at(alloc: Global, lane: &Lane, wire: &IndexWire, pace: &Notes) -> Result
 }
 
 // A lane that took an operation for each of these documents.
-fn filled(alloc: Global, ids: &[&str]) -> Option<Desk>
+fn holding(alloc: Global, ids: &[&str]) -> Option<Desk>
     ensures { IfSome result (λ d. out_of d.lane.state ≡ []) }
 {
-    let mut desk = desk_of(alloc, CONFIG)?;
-    for i in 0..ids.len() {
-        if !puts(alloc, &mut desk, i as u64, ids[i], "{}") {
-            return None;
-        }
-    }
-    Some(desk)
+    filled(alloc, CONFIG, ids, "{}")
 }
 
 // Drains a closed lane, and returns whether no allocation failed.
@@ -87,7 +84,7 @@ fn came_to(alloc: Global, desk: &mut Desk, wire: &mut IndexWire) -> Option<Came>
 
 // The same for a lane that took an operation for each of these documents, over a wire of this kind.
 fn drained(alloc: Global, ids: &[&str], way: Way) -> Option<Came> {
-    came_to(alloc, &mut filled(alloc, ids)?, &mut wire_of(alloc, way))
+    came_to(alloc, &mut holding(alloc, ids)?, &mut wire_of(alloc, way))
 }
 
 const NOTHING: Came = Came {
@@ -98,6 +95,19 @@ const NOTHING: Came = Came {
     applied: 0,
     already: 0,
     in_index: 0,
+};
+
+// Three operations in one request are given up after three sends, without or with a run of it.
+const GAVE_UP: Came = Came {
+    requests: 3,
+    pauses: [1, 2, 0, 0, 0, 0, 0, 0],
+    gave_up: 3,
+    ..NOTHING
+};
+
+const GAVE_UP_BUT_RAN: Came = Came {
+    in_index: 3,
+    ..GAVE_UP
 };
 
 const ONE: &[&str] = &["1", "1", "1"];
@@ -138,26 +148,8 @@ const DRAINS: &[(&[&str], Way, Came)] = &[
             ..NOTHING
         },
     ),
-    (
-        THREE,
-        Way::Loses,
-        Came {
-            requests: 3,
-            pauses: [1, 2, 0, 0, 0, 0, 0, 0],
-            gave_up: 3,
-            ..NOTHING
-        },
-    ),
-    (
-        THREE,
-        Way::Whole(503),
-        Came {
-            requests: 3,
-            pauses: [1, 2, 0, 0, 0, 0, 0, 0],
-            gave_up: 3,
-            ..NOTHING
-        },
-    ),
+    (THREE, Way::Loses, GAVE_UP),
+    (THREE, Way::Whole(503), GAVE_UP),
     (
         THREE,
         Way::Whole(404),
@@ -167,39 +159,9 @@ const DRAINS: &[(&[&str], Way, Came)] = &[
             ..NOTHING
         },
     ),
-    (
-        THREE,
-        Way::TooFew,
-        Came {
-            requests: 3,
-            pauses: [1, 2, 0, 0, 0, 0, 0, 0],
-            gave_up: 3,
-            in_index: 3,
-            ..NOTHING
-        },
-    ),
-    (
-        THREE,
-        Way::TooMany,
-        Came {
-            requests: 3,
-            pauses: [1, 2, 0, 0, 0, 0, 0, 0],
-            gave_up: 3,
-            in_index: 3,
-            ..NOTHING
-        },
-    ),
-    (
-        THREE,
-        Way::Another,
-        Came {
-            requests: 3,
-            pauses: [1, 2, 0, 0, 0, 0, 0, 0],
-            gave_up: 3,
-            in_index: 3,
-            ..NOTHING
-        },
-    ),
+    (THREE, Way::TooFew, GAVE_UP_BUT_RAN),
+    (THREE, Way::TooMany, GAVE_UP_BUT_RAN),
+    (THREE, Way::Another, GAVE_UP_BUT_RAN),
     (
         ONE,
         Way::LosesEach(2),
@@ -281,7 +243,7 @@ fn pumped_over(desk: &mut Desk, wire: &mut IndexWire) -> Option<(u64, u64, u32)>
 
 // The same for a lane that took these.
 fn pumped(alloc: Global, ids: &[&str], way: Way) -> Option<(u64, u64, u32)> {
-    pumped_over(&mut filled(alloc, ids)?, &mut wire_of(alloc, way))
+    pumped_over(&mut holding(alloc, ids)?, &mut wire_of(alloc, way))
 }
 
 const PUMPS: &[(&[&str], Way, (u64, u64, u32))] = &[
@@ -317,7 +279,7 @@ fn roomed_over(desk: &mut Desk, wire: &mut IndexWire) -> Option<(u32, u64, u64)>
 
 // The same for a lane that holds at most ten and took these.
 fn with_room(alloc: Global, ids: &[&str], way: Way) -> Option<(u32, u64, u64)> {
-    roomed_over(&mut filled(alloc, ids)?, &mut wire_of(alloc, way))
+    roomed_over(&mut holding(alloc, ids)?, &mut wire_of(alloc, way))
 }
 
 const TEN_OF_ONE: &[&str] = &["1", "1", "1", "1", "1", "1", "1", "1", "1", "1"];
@@ -348,12 +310,12 @@ fn makes_room(rt: HostRuntime) {
 }
 
 // A lane that took these, at the second attempt at the latest.
-fn filled_at_last(alloc: Global, ids: &[&str]) -> Option<Desk>
+fn holding_at_last(alloc: Global, ids: &[&str]) -> Option<Desk>
     ensures { IfSome result (λ d. out_of d.lane.state ≡ []) }
 {
-    match filled(alloc, ids) {
+    match holding(alloc, ids) {
         Some(desk) => Some(desk),
-        None => filled(alloc, ids),
+        None => holding(alloc, ids),
     }
 }
 
@@ -377,7 +339,7 @@ fn applied_three(lane: &Lane) -> bool {
 
 // Whether three operations are applied, whichever allocation fails.
 fn applies_three(alloc: Global) -> bool {
-    match filled_at_last(alloc, &["1", "1", "2"]) {
+    match holding_at_last(alloc, &["1", "1", "2"]) {
         Some(mut desk) => {
             drains_at_last(&mut desk, &mut wire_of(alloc, Way::Runs)) && applied_three(&desk.lane)
         }

@@ -2,8 +2,6 @@
 #![tactic(auto)]
 
 #[cfg(test)]
-mod desk;
-#[cfg(test)]
 mod documents;
 #[cfg(test)]
 mod examples;
@@ -15,5 +13,3 @@ mod many;
 mod refusals;
 #[cfg(test)]
 mod telling;
-#[cfg(test)]
-mod wires;

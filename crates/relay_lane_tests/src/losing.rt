@@ -3,8 +3,10 @@ ghost use Rattle.relay_lane.specs.Out.{out_of};
 ghost use Rattle.std.specs.Option.{option_to_list};
 ghost use Rattle.std.specs.Prelude.{◌≡◌};
 
-use crate::desk::{CONFIG, Desk, NO_PAUSES, closes, desk_of, puts};
 use relay_action::Write;
+use relay_fixtures::config::CONFIG;
+use relay_fixtures::desk::{Desk, closes, desk_of, puts};
+use relay_fixtures::notes::NO_PAUSES;
 use relay_lane::{Cause, Lane, Wire, WireFault, WireReply, drain};
 use std::test::Fail;
 

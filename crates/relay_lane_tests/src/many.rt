@@ -3,10 +3,13 @@ ghost use Rattle.relay_lane.specs.Out.{out_of};
 ghost use Rattle.std.specs.Option.{option_to_list};
 ghost use Rattle.std.specs.Prelude.{◌≡◌, ◌<◌};
 
-use crate::desk::{CONFIG, Desk, NO_PAUSES, Notes, closes, desk_of, puts};
-use crate::wires::{IndexWire, Way, count_applied, wire_of};
-use relay_action::{Action, DocKey, Write};
 use relay_batch::Limits;
+use relay_fixtures::applied::{count_applied, stores};
+use relay_fixtures::config::CONFIG;
+use relay_fixtures::desk::{Desk, closes, desk_of, puts};
+use relay_fixtures::index_wire::{IndexWire, Way, wire_of};
+use relay_fixtures::keys::key_of;
+use relay_fixtures::notes::{NO_PAUSES, Notes};
 use relay_index::Index;
 use relay_lane::{RelayConfig, Totals, drain, make_room, pump};
 use std::alloc::{AllocError, Global};
@@ -78,26 +81,14 @@ fn played(alloc: Global, desk: &mut Desk, wire: &mut IndexWire) -> Result<bool, 
     Ok(desk.lane.finished())
 }
 
-// The key of a document. `None`: allocation failed.
-fn key_of(alloc: Global, document: u64) -> Option<DocKey> {
-    let id = format!(in alloc; "{document}").ok()?;
-    DocKey::new(alloc, "b", id.as_str()).ok()
-}
-
-fn has_source(write: &Write, source: &str) -> bool {
-    match &write.action {
-        Action::Index(found) => found.text() == source,
-        Action::Delete => false,
-    }
-}
-
 // Whether an operation is the one that an index applied to its document at this place. `None`: it
 // applied none there, or an allocation failed.
 fn is_applied(alloc: Global, index: &Index, number: u64, place: usize) -> Option<bool> {
+    let id = format!(in alloc; "{}", document_of(number)).ok()?;
     let source = format!(in alloc; "{number}").ok()?;
-    let key = key_of(alloc, document_of(number))?;
+    let key = key_of(alloc, "b", id.as_str())?;
     let write = index.applied(&key).get(place)?;
-    Some(write.version == number && has_source(write, source.as_str()))
+    Some(write.version == number && stores(write, source.as_str()))
 }
 
 // The index applied to each document its operations, in order, each once.
@@ -130,18 +121,18 @@ fn totals_of(alloc: Global, desk: &mut Desk, wire: &mut IndexWire) -> Option<Tot
 }
 
 // The same for its own lane, over a wire that fails at random.
-fn seeded(alloc: Global) -> Option<Totals> {
+fn at_random(alloc: Global) -> Option<Totals> {
     totals_of(
         alloc,
         &mut desk_of(alloc, MANY)?,
-        &mut wire_of(alloc, Way::Seeded),
+        &mut wire_of(alloc, Way::Random),
     )
 }
 
 // All ended as applied, some by an earlier request, and none is reported.
 #[test]
 fn ten_thousand(rt: HostRuntime) -> Result<(), Fail> {
-    let totals = seeded(rt.alloc()).ok_or("not played")?;
+    let totals = at_random(rt.alloc()).ok_or("not played")?;
     assert!(rt;
         totals.taken == OPERATIONS
             && totals.already > 0

@@ -3,9 +3,11 @@ ghost use Rattle.relay_lane.specs.Out.{out_of};
 ghost use Rattle.std.specs.Option.{option_to_list};
 ghost use Rattle.std.specs.Prelude.{◌≡◌, [], IfSome};
 
-use crate::desk::{CONFIG, Desk, NO_PAUSES, closes, desk_of, puts};
-use crate::wires::{IndexWire, Way, wire_of};
-use relay_action::DocKey;
+use relay_fixtures::config::CONFIG;
+use relay_fixtures::desk::{Desk, closes, desk_of, puts};
+use relay_fixtures::index_wire::{IndexWire, Way, wire_of};
+use relay_fixtures::keys::key_of;
+use relay_fixtures::notes::NO_PAUSES;
 use relay_index::Index;
 use relay_lane::{Lane, RelayConfig, drain, make_room, pump, send_ready, settle_next};
 use std::alloc::{AllocError, Global};
@@ -128,10 +130,7 @@ fn drains(lane: &mut Lane, wire: &mut IndexWire) -> bool
 fn is_whole(alloc: Global, index: &Index) -> Option<bool> {
     let mut good = true;
     for id in IDS {
-        let key = DocKey::new(alloc, "b", id)
-            .or_else(|_| DocKey::new(alloc, "b", id))
-            .ok()?;
-        good = index.applied(&key).len() == 1 && good;
+        good = index.applied(&key_of(alloc, "b", id)?).len() == 1 && good;
     }
     Some(good)
 }

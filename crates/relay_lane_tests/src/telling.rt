@@ -2,18 +2,18 @@
 //! replies are lost.
 ghost use Rattle.relay_lane.specs.Out.{out_of};
 ghost use Rattle.std.specs.Option.{option_to_list};
-ghost use Rattle.std.specs.Prelude.{◌≡◌, ℕ, Some, None};
-ghost use Rattle.relay_results.specs.Outside.{Outside, write_at};
-ghost use Rattle.relay_index.specs.Runs.{Shows};
-ghost use Rattle.relay_lane_tests.specs.Telling.{IsSent, RanOne, entry_of, entries_of};
+ghost use Rattle.std.specs.Prelude.{◌≡◌, None};
 
-use crate::desk::{CONFIG, Desk, NO_PAUSES, closes, desk_of, puts};
-use crate::wires::count_applied;
 use relay_action::Write;
-use relay_index::{Choice, Index};
+use relay_fixtures::applied::count_applied;
+use relay_fixtures::config::CONFIG;
+use relay_fixtures::desk::{Desk, closes, desk_of, puts};
+use relay_fixtures::notes::NO_PAUSES;
+use relay_fixtures::runs::run_all;
+use relay_index::Index;
 use relay_lane::{Wire, WireFault, WireReply, drain};
 use relay_results::Outcome;
-use std::alloc::{AllocError, Global};
+use std::alloc::Global;
 use std::mem;
 use std::test::Fail;
 
@@ -24,35 +24,6 @@ struct Telling {
     flying: Option<u64>,
     reply: Vec<Outcome>,
     sends: u64,
-}
-
-// Runs an item of a request.
-fn run_one(alloc: Global, index: &mut Index, write: &Write) -> Result<Outcome, AllocError>
-    ensures { (o : Outside) (number place : ℕ) → Shows o index.old
-        → write_at o.requests number place ≡ Some write.now
-        → RanOne number place index.new o (entry_of result) }
-{
-    let done = index.run(write, Choice::Run)?;
-    done.outcome(alloc)
-}
-
-/// Runs the items of a request, in order. `AllocError`: some of them were run.
-pub fn run_all(
-    alloc: Global,
-    index: &mut Index,
-    writes: &[Write],
-) -> Result<Vec<Outcome>, AllocError>
-    ensures { (o : Outside) (number : ℕ) → Shows o index.old
-        → IsSent number writes.now o
-        → RanOne number 0 index.new o (entries_of result) }
-{
-    let mut entries = Vec::new(alloc);
-    for write in writes {
-        entries.reserve(1)?;
-        let entry = run_one(alloc, index, write)?;
-        entries.push_reserved(entry);
-    }
-    Ok(entries)
 }
 
 impl Wire for Telling {

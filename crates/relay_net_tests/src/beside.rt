@@ -1,7 +1,8 @@
 //! A server in its own thread.
 ghost use Rattle.std.specs.Prelude.{◌≡◌, []};
 
-use crate::asking::{address_of, asks, serves_with, wired};
+use crate::listening::{address_of, serves_with, wired};
+use relay_fixtures::asking::{Told, asks};
 use relay_index::Index;
 use relay_net::TcpListen;
 use relay_wires::Wire;
@@ -32,37 +33,41 @@ fn serves<R: Net>(alloc: Global, mut listener: TcpListen<R>, requests: u64) -> u
     }
 }
 
-// The statuses of three deletes of one document with versions 2, 1 and 3.
-fn asks_all<W: Wire>(alloc: Global, wire: &mut W) -> [Option<u16>; 3]
+// What three deletes of one document with versions 2, 1 and 3 are told.
+fn asks_all<W: Wire>(alloc: Global, wire: &mut W) -> [Told; 3]
     requires { W.out wire.old ≡ [] }
 {
-    let second = asks(alloc, wire, 2);
-    let first = asks(alloc, wire, 1);
-    [second, first, asks(alloc, wire, 3)]
+    let second = asks(alloc, wire, 1, "2", 2);
+    let first = asks(alloc, wire, 1, "2", 1);
+    [second, first, asks(alloc, wire, 1, "2", 3)]
 }
 
 // Sends them to this address.
-fn asks_at<R: Net + Copy>(alloc: Global, net: R, address: String) -> [Option<u16>; 3] {
+fn asks_at<R: Net + Copy>(alloc: Global, net: R, address: String) -> [Told; 3] {
     match wired(alloc, net, address) {
         Some(mut wire) => asks_all(alloc, &mut wire),
-        None => [None; 3],
+        None => [Told::NotAsked; 3],
     }
 }
 
-// Their statuses over sockets, and how many of them the server applied.
-fn asks_beside<R>(rt: R, alloc: Global) -> Option<([Option<u16>; 3], usize)>
+// What they are told over sockets, and how many of them the server applied.
+fn asks_beside<R>(rt: R, alloc: Global) -> Option<([Told; 3], usize)>
 where
     R: Net<Listener = TcpListener, Stream = TcpStream> + Threads + Wait + Copy + Send + 'static,
 {
     let listener = TcpListen::bind(&rt, "127.0.0.1:0").ok()?;
     let address = address_of(alloc, &listener)?;
     let server = thread::spawn(&rt, move || serves(alloc, listener, 3)).ok()?;
-    let statuses = asks_at(alloc, rt, address);
-    Some((statuses, server.join(&rt)))
+    let told = asks_at(alloc, rt, address);
+    Some((told, server.join(&rt)))
 }
 
 #[test]
 fn a_server_in_a_thread(rt: HostRuntime) {
-    let wanted = Some(([Some(404), Some(409), Some(404)], 2));
-    assert!(rt; asks_beside(rt, rt.alloc()) == wanted);
+    let told = [
+        Told::Entries(1, 404),
+        Told::Entries(1, 409),
+        Told::Entries(1, 404),
+    ];
+    assert!(rt; asks_beside(rt, rt.alloc()) == Some((told, 2)));
 }

@@ -4,9 +4,9 @@
 #![tactic(auto)]
 
 #[cfg(test)]
-mod asking;
-#[cfg(test)]
 mod beside;
+#[cfg(test)]
+mod listening;
 #[cfg(test)]
 mod loopback;
 #[cfg(test)]

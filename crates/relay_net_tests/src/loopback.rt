@@ -1,39 +1,39 @@
 //! Sockets on the loopback.
 ghost use Rattle.std.specs.Prelude.{◌≡◌, []};
 
-use crate::asking::{address_of, sends, serves_with, status_of, wired};
+use crate::listening::{address_of, serves_with, wired};
+use relay_fixtures::asking::{Told, sends, told_by};
 use relay_index::Index;
 use relay_net::{TcpDial, TcpListen};
 use relay_wires::{Dial, Wire};
 use std::alloc::Global;
 use std::net::Net;
 
-// The status of a delete over a wire to a listener. The request is small enough to wait in the
+// What a delete is told over a wire to a listener. The request is small enough to wait in the
 // socket until the connection is accepted.
-fn exchange<R: Net, W: Wire>(
-    alloc: Global,
-    listener: &mut TcpListen<R>,
-    wire: &mut W,
-) -> Option<u16>
+fn exchange<R: Net, W: Wire>(alloc: Global, listener: &mut TcpListen<R>, wire: &mut W) -> Told
     requires { W.out wire.old ≡ [] }
 {
-    if !sends(alloc, wire, 2) || !serves_with(alloc, listener, 1, &mut Index::new(alloc)) {
-        return None;
+    if let Err(told) = sends(alloc, wire, 1, "2", 2) {
+        return told;
     }
-    status_of(wire.receive(1))
+    if !serves_with(alloc, listener, 1, &mut Index::new(alloc)) {
+        return Told::NotAsked;
+    }
+    told_by(wire.receive(1))
 }
 
 // The same over sockets.
-fn asks<R: Net + Copy>(alloc: Global, net: R) -> Option<u16> {
+fn asks<R: Net + Copy>(alloc: Global, net: R) -> Option<Told> {
     let mut listener = TcpListen::bind(&net, "127.0.0.1:0").ok()?;
     let address = address_of(alloc, &listener)?;
     let mut wire = wired(alloc, net, address)?;
-    exchange(alloc, &mut listener, &mut wire)
+    Some(exchange(alloc, &mut listener, &mut wire))
 }
 
 #[test]
 fn a_request_over_a_socket(rt: HostRuntime) {
-    assert!(rt; asks(rt.alloc(), rt) == Some(404));
+    assert!(rt; asks(rt.alloc(), rt) == Some(Told::Entries(1, 404)));
 }
 
 // Whether a connection to this address is made.

@@ -1,5 +1,5 @@
 //! Calls on connections with a time limit.
-use crate::asking::address_of;
+use crate::listening::address_of;
 use relay_action::ByteIn;
 use relay_net::{TcpDial, TcpListen};
 use relay_wires::Dial;

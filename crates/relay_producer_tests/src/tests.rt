@@ -13,18 +13,11 @@ use std::thread;
 use std::thread::Threads;
 use std::time::{Clock, Duration};
 
-// The ids of 8 documents of the index `books`, each with its lane among 8, computed independently
+// The ids of 8 documents of the index `books`, and the lane of each among 8, computed independently
 // with FNV-1a. With two lanes the even ids belong to lane 0.
-const DOCUMENTS: [(&str, u32); 8] = [
-    ("0", 6),
-    ("1", 1),
-    ("2", 0),
-    ("3", 3),
-    ("4", 2),
-    ("5", 5),
-    ("6", 4),
-    ("7", 7),
-];
+const IDS: [&str; 8] = ["0", "1", "2", "3", "4", "5", "6", "7"];
+
+const LANE_OF: [u32; 8] = [6, 1, 0, 3, 2, 5, 4, 7];
 
 // Whether a delete of the document is put under this name, to this lane.
 fn puts<R: Wait>(
@@ -70,13 +63,13 @@ fn puts_all<R: Wait>(
 ) -> bool {
     let mut good = true;
     for turn in 0..8usize {
-        let (id, lane) = DOCUMENTS[if back { 7 - turn } else { turn }];
+        let at = if back { 7 - turn } else { turn };
         let name = OpName {
             epoch: 0,
             producer: sender,
             number: turn as u64 + 1,
         };
-        good = good && puts(rt, alloc, producer, name, id, lane);
+        good = good && puts(rt, alloc, producer, name, IDS[at], LANE_OF[at]);
     }
     good
 }

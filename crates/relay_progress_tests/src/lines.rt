@@ -2,8 +2,8 @@
 use relay_progress::{Progress, Trouble, trouble_text, written_text};
 use std::alloc::Global;
 
-// One and a half times 64 KiB, of which two thirds were read.
-const SOME: Progress = Progress {
+/// One and a half times 64 KiB, of which two thirds were read.
+pub const SOME: Progress = Progress {
     read: 65_536,
     size: Some(98_304),
     requests: 12,
@@ -13,6 +13,10 @@ const SOME: Progress = Progress {
     out: 2,
     idle: Some(3),
 };
+
+/// The line for these counts.
+pub const SOME_LINE: &[u8] =
+    b"read 65536 of 98304 bytes (66 %), sent 1500 operations in 12 requests, settled 1400, repeats 7, out 2, last answer 3 s ago\n";
 
 const NONE: Progress = Progress {
     read: 0,
@@ -39,11 +43,7 @@ const MORE: Progress = Progress {
 
 // The counts, whether the line overwrites the previous one, and the text.
 const ROWS: &[(&Progress, bool, &[u8])] = &[
-    (
-        &SOME,
-        false,
-        b"read 65536 of 98304 bytes (66 %), sent 1500 operations in 12 requests, settled 1400, repeats 7, out 2, last answer 3 s ago\n",
-    ),
+    (&SOME, false, SOME_LINE),
     (
         &NONE,
         true,

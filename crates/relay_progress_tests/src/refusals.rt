@@ -1,27 +1,11 @@
 //! Counts and the lines that say them, of whose allocations any one may be refused (`make refusals`).
-use crate::wires::{Plan, asks_counted};
-use relay_progress::{
-    Counts, Progress, Shared, Trouble, progress_text, trouble_text, written_text,
-};
+use crate::lines::{SOME, SOME_LINE};
+use crate::wires::asks_counted;
+use relay_fixtures::asking::Told;
+use relay_fixtures::index_wire::Way;
+use relay_progress::{Counts, Shared, Trouble, progress_text, trouble_text, written_text};
 use std::alloc::{AllocError, Global};
 use std::sync::Arc;
-
-const SOME: Progress = Progress {
-    read: 65_536,
-    size: Some(98_304),
-    requests: 12,
-    operations: 1_500,
-    settled: 1_400,
-    repeats: 7,
-    out: 2,
-    idle: Some(3),
-};
-
-const TEXT: &[u8] =
-    b"read 65536 of 98304 bytes (66 %), sent 1500 operations in 12 requests, settled 1400, repeats 7, out 2, last answer 3 s ago";
-
-const LINE: &[u8] =
-    b"read 65536 of 98304 bytes (66 %), sent 1500 operations in 12 requests, settled 1400, repeats 7, out 2, last answer 3 s ago\n";
 
 fn text_of(alloc: Global) -> Option<Vec<u8>> {
     match progress_text(alloc, &SOME) {
@@ -40,7 +24,7 @@ fn line_of(alloc: Global) -> Option<Vec<u8>> {
 fn is_said(alloc: Global) -> Option<bool> {
     let text = text_of(alloc)?;
     let line = line_of(alloc)?;
-    Some(text.as_slice() == TEXT && line.as_slice() == LINE)
+    Some(line.as_slice() == SOME_LINE && SOME_LINE.strip_suffix(b"\n") == Some(text.as_slice()))
 }
 
 #[test]
@@ -80,7 +64,8 @@ fn refused_counts(rt: HostRuntime) {
 // and one answer if it is.
 fn asks(alloc: Global, counts: &Shared, sent: u64) -> Option<bool> {
     let shared = Arc::try_clone(counts).ok()?;
-    let answered = asks_counted(alloc, Plan::Entry(404), Some(shared))?;
+    let told = asks_counted(alloc, Way::Answers(404), Some(shared));
+    let answered = told == Told::Entries(1, 404);
     let asked = counts.requests() == sent && counts.operations() == sent && counts.ended() == sent;
     let answers = if answered { 1 } else { 0 };
     (asked && counts.answers() == answers).then_some(answered)

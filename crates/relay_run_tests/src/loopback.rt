@@ -1,5 +1,7 @@
 //! Two files to the stand-in server in its own thread.
-use relay_action::{Action, DocKey, MemStream, Write};
+use relay_action::{DocKey, MemStream};
+use relay_fixtures::applied::stores;
+use relay_fixtures::config;
 use relay_index::{Index, Script};
 use relay_net::TcpListen;
 use relay_run::files::{RunOptions, run_files};
@@ -20,21 +22,17 @@ const OPERATIONS: u64 = 100;
 
 const DOCUMENTS: u64 = 10;
 
-/// One lane and two producers.
+/// One lane and two producers, and one operation in each request.
 pub const CONFIG: RelayConfig = RelayConfig {
-    lanes: 1,
     producers: 2,
     capacity: 1,
     max_held: 64,
     limits: Limits {
         count: 1,
-        bytes: 4_096,
         linger: 2,
+        ..config::CONFIG.limits
     },
-    attempts: 3,
-    in_flight: 1,
-    epoch: 0,
-    deal: 1_099_511_627_775,
+    ..config::CONFIG
 };
 
 // The text of an operation: it stores its own number.
@@ -61,14 +59,6 @@ fn write_file<R: Files>(rt: &R, alloc: Global, producer: u64) -> Option<String> 
     let text = file_text(alloc, producer)?;
     fs::write(rt, name.as_str(), text.as_str()).ok()?;
     Some(name)
-}
-
-// Whether a write stores this number.
-fn stores(write: &Write, text: &str) -> bool {
-    match &write.action {
-        Action::Index(source) => source.text() == text,
-        Action::Delete => false,
-    }
 }
 
 // Whether an index applied to this document of a producer its ten operations, each once and in order.

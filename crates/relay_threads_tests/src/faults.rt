@@ -1,5 +1,5 @@
 //! The fault of lanes that have ended, and the lane that it names.
-use relay_batch::Limits;
+use relay_fixtures::config;
 use relay_lane::{Lane, RelayConfig};
 use relay_producer::ClosedEnd;
 use relay_queue::lane_queue;
@@ -8,18 +8,7 @@ use std::alloc::Global;
 
 const CONFIG: RelayConfig = RelayConfig {
     lanes: 2,
-    producers: 1,
-    capacity: 1,
-    max_held: 1,
-    limits: Limits {
-        count: 1,
-        bytes: 1_024,
-        linger: 0,
-    },
-    attempts: 1,
-    in_flight: 1,
-    epoch: 0,
-    deal: 1,
+    ..config::CONFIG
 };
 
 // The end of a lane that took nothing, without a wire.

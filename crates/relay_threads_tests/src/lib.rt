@@ -7,7 +7,7 @@ mod faults;
 #[cfg(test)]
 mod gates;
 #[cfg(test)]
-mod memory;
+mod operations;
 #[cfg(test)]
 mod refusals;
 #[cfg(test)]

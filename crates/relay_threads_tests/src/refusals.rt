@@ -1,8 +1,9 @@
 //! Lanes and relays beside the threads of their senders, of whose allocations any one may be refused (`make
 //! refusals`): they end well, or tell of the refusal, and then the next run ends well.
-use crate::memory::{MemoryWire, is_whole, wire_of};
+use crate::operations::{is_whole, losing_wire};
 use crate::relays::{CONFIG, RunFault, run_one};
 use crate::tests::run;
+use relay_fixtures::index_wire::IndexWire;
 use relay_lane::Lane;
 use relay_threads::{FinishFaultKind, LaneEndKind, LaneSummary, StartFault, Summary};
 use std::alloc::Global;
@@ -16,7 +17,7 @@ fn all_settled<W>(lane: &LaneSummary<W>) -> bool {
     lane.taken == 200 && settled == 200 && lane.reports.is_empty()
 }
 
-fn is_delivered(alloc: Global, summary: &Summary<MemoryWire>) -> Option<bool> {
+fn is_delivered(alloc: Global, summary: &Summary<IndexWire>) -> Option<bool> {
     match summary.lanes.as_slice() {
         [lane] if all_settled(lane) => {
             is_whole(alloc, &lane.wire.index).or_else(|| is_whole(alloc, &lane.wire.index))
@@ -43,7 +44,14 @@ fn run_once<R: Threads + Wait + Copy + Send + 'static>(
     rt: R,
     alloc: Global,
 ) -> Result<Option<bool>, RunFault> {
-    match run_one(rt, alloc, CONFIG, wire_of(alloc), 100, &AtomicU32::new(0)) {
+    match run_one(
+        rt,
+        alloc,
+        CONFIG,
+        losing_wire(alloc),
+        100,
+        &AtomicU32::new(0),
+    ) {
         Ok(summary) => Ok(is_delivered(alloc, &summary)),
         Err(fault) => Err(fault),
     }

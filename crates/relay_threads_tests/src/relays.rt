@@ -7,9 +7,10 @@ ghost use Rattle.relay_wires.specs.Numbered.{numbers};
 ghost use Rattle.relay_threads_tests.specs.Handles.{open_names, closed_names};
 
 use crate::gates::{AheadWire, GateWire, LANES, ahead_of, gate_of};
-use crate::memory::{AtOnce, MemoryWire, action_of, is_whole, key_of, wire_of};
-use relay_action::DocKey;
+use crate::operations::{AtOnce, action_of, is_whole, key_of, losing_wire};
 use relay_batch::Limits;
+use relay_fixtures::index_wire::IndexWire;
+use relay_fixtures::{config, keys};
 use relay_index::{Index, Script};
 use relay_lane::{Pace, RelayConfig, Wire};
 use relay_loop::LoopWire;
@@ -22,21 +23,16 @@ use std::test::Fail;
 use std::thread::Threads;
 use std::time::Clock;
 
-/// Two producers, a queue of one place, and a lane that holds four operations.
+/// One lane that holds four operations, two producers, a queue of one place, and three attempts.
 pub const CONFIG: RelayConfig = RelayConfig {
-    lanes: 1,
     producers: 2,
     capacity: 1,
     max_held: 4,
     limits: Limits {
-        count: 10,
-        bytes: 4_096,
         linger: 3,
+        ..config::CONFIG.limits
     },
-    attempts: 3,
-    in_flight: 1,
-    epoch: 0,
-    deal: 1_099_511_627_775,
+    ..config::CONFIG
 };
 
 // Requests of two operations, four of them in flight.
@@ -44,8 +40,7 @@ const FOUR_IN_FLIGHT: RelayConfig = RelayConfig {
     max_held: 16,
     limits: Limits {
         count: 2,
-        bytes: 4_096,
-        linger: 3,
+        ..CONFIG.limits
     },
     in_flight: 4,
     ..CONFIG
@@ -67,7 +62,7 @@ fn put_to<R: Wait>(rt: &R, alloc: Global, producer: &mut Producer, id: usize, la
     let Ok(id) = format!(in alloc; "{id}") else {
         return false;
     };
-    let Ok(key) = DocKey::new(alloc, "books", id.as_str()) else {
+    let Some(key) = keys::key_of(alloc, "books", id.as_str()) else {
         return false;
     };
     let Some(action) = action_of(alloc, 1) else {
@@ -242,18 +237,24 @@ where
     run(rt, alloc, config, wires, paces, count, puts)
 }
 
-// Whether the summary is of one lane, whose index is complete.
-fn is_delivered(alloc: Global, summary: &Summary<MemoryWire>) -> Option<bool> {
+// The wire of the only lane of a summary, if that has applied everything.
+fn wire_of_all<W>(summary: &Summary<W>) -> Option<&W> {
     match summary.lanes.as_slice() {
-        [lane] if all_applied(lane) => is_whole(alloc, &lane.wire.index),
-        _ => Some(false),
+        [lane] if all_applied(lane) => Some(&lane.wire),
+        _ => None,
     }
+}
+
+// Whether the summary is of one lane, whose index is complete.
+fn is_delivered(alloc: Global, summary: &Summary<IndexWire>) -> Option<bool> {
+    is_whole(alloc, &wire_of_all(summary)?.index)
 }
 
 #[test]
 fn two_producers(rt: HostRuntime) -> Result<(), Fail> {
     let alloc = rt.alloc();
-    let summary = run_one(rt, alloc, CONFIG, wire_of(alloc), 100, &AtomicU32::new(0))?;
+    let wire = losing_wire(alloc);
+    let summary = run_one(rt, alloc, CONFIG, wire, 100, &AtomicU32::new(0))?;
     assert!(rt; is_delivered(alloc, &summary) == Some(true));
     Ok(())
 }
@@ -267,42 +268,30 @@ fn loop_wire(alloc: Global) -> Result<LoopWire, AllocError>
     Ok(wire)
 }
 
-// Whether the summary is of one lane, whose index is complete.
-fn is_delivered_over_http(alloc: Global, summary: &Summary<LoopWire>) -> Option<bool> {
-    match summary.lanes.as_slice() {
-        [lane] if all_applied(lane) => is_whole(alloc, lane.wire.index()),
-        _ => Some(false),
-    }
+// Whether a relay with a config and such a wire delivers what its producers put.
+fn delivers_over_http<R>(
+    rt: R,
+    alloc: Global,
+    config: RelayConfig,
+) -> Result<Option<bool>, RunFault>
+where
+    R: Threads + Wait + Copy + Send + 'static,
+{
+    let Ok(wire) = loop_wire(alloc) else {
+        return Err(RunFault::Memory);
+    };
+    let summary = run_one(rt, alloc, config, wire, 100, &AtomicU32::new(0))?;
+    Ok(wire_of_all(&summary).and_then(|wire| is_whole(alloc, wire.index())))
 }
 
 #[test]
-fn two_producers_over_http(rt: HostRuntime) -> Result<(), Fail> {
-    let alloc = rt.alloc();
-    let summary = run_one(
-        rt,
-        alloc,
-        CONFIG,
-        loop_wire(alloc)?,
-        100,
-        &AtomicU32::new(0),
-    )?;
-    assert!(rt; is_delivered_over_http(alloc, &summary) == Some(true));
-    Ok(())
+fn two_producers_over_http(rt: HostRuntime) {
+    assert!(rt; delivers_over_http(rt, rt.alloc(), CONFIG) == Ok(Some(true)));
 }
 
 #[test]
-fn two_producers_with_four_in_flight(rt: HostRuntime) -> Result<(), Fail> {
-    let alloc = rt.alloc();
-    let summary = run_one(
-        rt,
-        alloc,
-        FOUR_IN_FLIGHT,
-        loop_wire(alloc)?,
-        100,
-        &AtomicU32::new(0),
-    )?;
-    assert!(rt; is_delivered_over_http(alloc, &summary) == Some(true));
-    Ok(())
+fn two_producers_with_four_in_flight(rt: HostRuntime) {
+    assert!(rt; delivers_over_http(rt, rt.alloc(), FOUR_IN_FLIGHT) == Ok(Some(true)));
 }
 
 // The fault at the start of a relay that has one wire, and a config with this many lanes.
@@ -311,7 +300,8 @@ where
     R: Threads + Wait + Copy + Send + 'static,
 {
     let config = RelayConfig { lanes, ..CONFIG };
-    match run_one(rt, alloc, config, wire_of(alloc), 1, &AtomicU32::new(0)) {
+    let wire = losing_wire(alloc);
+    match run_one(rt, alloc, config, wire, 1, &AtomicU32::new(0)) {
         Err(RunFault::Start(fault)) => Some(fault),
         _ => None,
     }
@@ -327,7 +317,7 @@ fn start_faults(rt: HostRuntime) -> Result<(), Fail> {
 
 // A gate for each lane.
 fn gates<C: Clock + Copy>(alloc: Global, clock: C) -> Result<Vec<GateWire<C>>, AllocError>
-    ensures { IfOk result (λ v. NoneOut (λ w. option_to_list w.inner.flying) v.items) }
+    ensures { IfOk result (λ v. NoneOut (λ w. option_to_list w.wire.flying) v.items) }
 {
     let flags = Arc::new(alloc, AtomicU32::new(0))?;
     let mut wires = Vec::new(alloc);
@@ -368,7 +358,7 @@ where
 // Whether each lane took one operation, and saw that all eight had sent.
 fn all_passed<C: Clock>(summary: &Summary<GateWire<C>>) -> bool {
     for lane in &summary.lanes {
-        if lane.taken != 1 || !lane.wire.passed {
+        if lane.taken != 1 || !lane.wire.watch.passed {
             return false;
         }
     }
@@ -404,7 +394,7 @@ where
 // Whether a lane took four operations, the third before the reply to the first two came.
 fn took_ahead<C: Clock>(summary: &Summary<AheadWire<C>>) -> bool {
     match summary.lanes.as_slice() {
-        [lane] => lane.taken == 4 && lane.wire.passed,
+        [lane] => lane.taken == 4 && lane.wire.watch.passed,
         _ => false,
     }
 }

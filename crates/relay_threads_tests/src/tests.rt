@@ -1,10 +1,11 @@
 //! A lane's thread beside the threads of its senders.
 ghost use Rattle.std.specs.Prelude.{◌≢◌, IfSome};
 
-use crate::memory::{AtOnce, MemoryWire, action_of, is_whole, key_of, wire_of};
+use crate::operations::{AtOnce, action_of, is_whole, key_of, losing_wire};
+use crate::relays::CONFIG;
 use relay_action::{Body, Op};
-use relay_batch::Limits;
-use relay_lane::{Lane, RelayConfig};
+use relay_fixtures::index_wire::IndexWire;
+use relay_lane::Lane;
 use relay_queue::{LanePut, lane_queue};
 use relay_threads::{LaneEnd, LaneEndKind, run_lane};
 use std::alloc::{AllocError, Global};
@@ -12,23 +13,6 @@ use std::sync::Wait;
 use std::test::Fail;
 use std::thread;
 use std::thread::Threads;
-
-/// Two producers, a queue of one place, a lane that holds four operations, and three attempts.
-const CONFIG: RelayConfig = RelayConfig {
-    lanes: 1,
-    producers: 2,
-    capacity: 1,
-    max_held: 4,
-    limits: Limits {
-        count: 10,
-        bytes: 4_096,
-        linger: 3,
-    },
-    attempts: 3,
-    in_flight: 1,
-    epoch: 0,
-    deal: 1_099_511_627_775,
-};
 
 // An operation as a message.
 fn body_of(alloc: Global, producer: u32, number: u64) -> Option<Body>
@@ -94,15 +78,15 @@ pub fn run<R: Threads + Wait + Copy + Send + 'static>(
     alloc: Global,
     count: u64,
     close: bool,
-) -> Result<LaneEnd<MemoryWire>, AllocError> {
+) -> Result<LaneEnd<IndexWire>, AllocError> {
     let (take, puts) = lane_queue(alloc, CONFIG.capacity, CONFIG.producers + 1)?;
     let lane = Lane::new(alloc, CONFIG)?;
     start_senders(rt, alloc, puts, count, close)?;
-    Ok(run_lane(&rt, take, lane, wire_of(alloc), AtOnce))
+    Ok(run_lane(&rt, take, lane, losing_wire(alloc), AtOnce))
 }
 
 // Whether a lane took 200 operations, applied them all, lost a reply, and knows how many requests its wire sent.
-fn all_applied(end: &LaneEnd<MemoryWire>) -> bool {
+fn all_applied(end: &LaneEnd<IndexWire>) -> bool {
     let totals = end.lane.totals();
     totals.taken == 200
         && totals.already > 0

@@ -3,14 +3,12 @@
 ghost use Rattle.std.specs.Prelude.{◌≡◌, [], true, length};
 ghost use Rattle.relay_wires.specs.Numbered.{numbers};
 
-use crate::asking::{Told, asks};
-use crate::streams::{Wired, wired};
+use crate::streams::{BUSY, Wired, wired};
+use relay_fixtures::asking::{Told, asks};
 use relay_lane::{Wire, WireFault};
 use std::alloc::Global;
 
-// A reply after which the connection may be used again, two of these, and one after which it may not.
-const KEPT: &[u8] = b"HTTP/1.1 503 Busy\r\nContent-Length: 0\r\n\r\n";
-
+// Two replies after which the connection may be used again, and one after which it may not.
 const KEPT_TWICE: &[u8] =
     b"HTTP/1.1 503 Busy\r\nContent-Length: 0\r\n\r\nHTTP/1.1 502 Bad\r\nContent-Length: 0\r\n\r\n";
 
@@ -21,8 +19,8 @@ const CLOSED: &[u8] =
 fn twice(alloc: Global, inputs: &[&[u8]], room: usize, fail_at: usize) -> (Told, Told) {
     match wired(alloc, inputs, room, fail_at, 1) {
         Some(mut wire) => {
-            let first = asks(alloc, &mut wire, 1);
-            (first, asks(alloc, &mut wire, 2))
+            let first = asks(alloc, &mut wire, 1, "2", 2);
+            (first, asks(alloc, &mut wire, 2, "2", 2))
         }
         None => (Told::NotAsked, Told::NotAsked),
     }
@@ -37,29 +35,29 @@ const DIALS: &[(&[&[u8]], usize, usize, (Told, Told))] = &[
     // used again.
     (&[KEPT_TWICE], 1000, 0, (Told::Whole(503), NOT_SENT)),
     (
-        &[KEPT_TWICE, KEPT],
+        &[KEPT_TWICE, BUSY],
         1000,
         0,
         (Told::Whole(503), Told::Whole(503)),
     ),
-    (&[KEPT, b""], 1000, 0, (Told::Whole(503), LOST)),
-    (&[KEPT, KEPT], 1000, 2, (Told::Whole(503), NOT_SENT)),
+    (&[BUSY, b""], 1000, 0, (Told::Whole(503), LOST)),
+    (&[BUSY, BUSY], 1000, 2, (Told::Whole(503), NOT_SENT)),
     // Nor is one that is closed.
     (&[CLOSED], 1000, 0, (Told::Whole(503), NOT_SENT)),
     (
-        &[CLOSED, KEPT],
+        &[CLOSED, BUSY],
         1000,
         0,
         (Told::Whole(503), Told::Whole(503)),
     ),
     // After a lost reply it is not used again.
-    (&[b"", KEPT], 1000, 0, (LOST, Told::Whole(503))),
+    (&[b"", BUSY], 1000, 0, (LOST, Told::Whole(503))),
     // The first dial fails, and the second.
-    (&[KEPT], 1000, 1, (NOT_SENT, Told::Whole(503))),
-    (&[CLOSED, KEPT], 1000, 2, (Told::Whole(503), NOT_SENT)),
+    (&[BUSY], 1000, 1, (NOT_SENT, Told::Whole(503))),
+    (&[CLOSED, BUSY], 1000, 2, (Told::Whole(503), NOT_SENT)),
     // The request has 180 bytes; a stream that takes fewer fails.
-    (&[KEPT, KEPT], 180, 0, (Told::Whole(503), Told::Whole(503))),
-    (&[KEPT_TWICE, KEPT], 179, 0, (NOT_SENT, NOT_SENT)),
+    (&[BUSY, BUSY], 180, 0, (Told::Whole(503), Told::Whole(503))),
+    (&[KEPT_TWICE, BUSY], 179, 0, (NOT_SENT, NOT_SENT)),
 ];
 
 #[test]

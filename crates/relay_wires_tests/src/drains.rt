@@ -1,14 +1,17 @@
 //! Lanes that are drained over wires.
-ghost use Rattle.std.specs.Prelude.{◌≡◌, [], IfSome};
+ghost use Rattle.std.specs.Prelude.{◌≡◌};
 ghost use Rattle.relay_lane.specs.Out.{out_of};
 ghost use Rattle.relay_wires.specs.Numbered.{numbers};
 
-use crate::desk::{Desk, NO_PAUSES, filled};
+use crate::desk::numbered;
+use crate::loops::looped;
 use crate::streams::wired;
-use relay_index::{Index, Script};
+use relay_fixtures::applied::count_applied;
+use relay_fixtures::desk::Desk;
+use relay_fixtures::notes::NO_PAUSES;
 use relay_lane::{Wire, drain};
 use relay_loop::LoopWire;
-use std::alloc::{AllocError, Global};
+use std::alloc::Global;
 
 /// The outcome of a drain.
 #[derive(Clone, Copy, Debug, PartialEq, Eq)]
@@ -40,24 +43,6 @@ pub fn drained<W: Wire>(desk: &mut Desk, wire: &mut W) -> Option<Came>
     })
 }
 
-// How many writes an index applied.
-fn count_applied(alloc: Global, index: &Index) -> Result<usize, AllocError> {
-    let mut count = 0usize;
-    for key in &index.keys(alloc)? {
-        count = count.saturating_add(index.applied(key).len());
-    }
-    Ok(count)
-}
-
-// A wire to an empty index that loses the reply to one number.
-fn looped(alloc: Global, lost: u64) -> Option<LoopWire>
-    ensures { IfSome result (λ w. w.out ≡ []) }
-{
-    let mut wire = LoopWire::new(alloc, Index::new(alloc), Script::new(alloc)).ok()?;
-    wire.lose(lost).ok()?;
-    Some(wire)
-}
-
 /// The outcome of a drain in memory, and how many writes the index applied.
 pub fn came_to(alloc: Global, desk: &mut Desk, wire: &mut LoopWire) -> Option<(Came, usize)>
     requires { numbers wire.old.out ≡ out_of desk.old.lane.state }
@@ -68,20 +53,24 @@ pub fn came_to(alloc: Global, desk: &mut Desk, wire: &mut LoopWire) -> Option<(C
 
 // The same for deletes of this many documents, if the reply to one number is lost.
 fn in_memory(alloc: Global, count: u64, lost: u64) -> Option<(Came, usize)> {
-    came_to(alloc, &mut filled(alloc, count)?, &mut looped(alloc, lost)?)
+    came_to(
+        alloc,
+        &mut numbered(alloc, count)?,
+        &mut looped(alloc, lost)?,
+    )
 }
 
 // The highest version in an index in memory after deletes of three documents, and how many documents it has.
 fn after_three(alloc: Global) -> Option<(Option<u64>, usize)> {
     let mut wire = looped(alloc, 0)?;
-    drained(&mut filled(alloc, 3)?, &mut wire)?;
+    drained(&mut numbered(alloc, 3)?, &mut wire)?;
     Some((wire.index().highest(), wire.index().keys(alloc).ok()?.len()))
 }
 
 // The outcome of deletes of three documents over streams with these bytes.
 fn over_http(alloc: Global, inputs: &[&[u8]]) -> Option<Came> {
     let mut wire = wired(alloc, inputs, 1000, 0, 1)?;
-    let mut desk = filled(alloc, 3)?;
+    let mut desk = numbered(alloc, 3)?;
     drained(&mut desk, &mut wire)
 }
 

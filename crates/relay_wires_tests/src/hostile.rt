@@ -1,8 +1,9 @@
 //! Lanes with replies that are refused and streams that fail.
 
-use crate::desk::{Desk, filled};
+use crate::desk::numbered;
 use crate::drains::{Came, drained};
 use crate::streams::wired_failing;
+use relay_fixtures::desk::Desk;
 use relay_results::Cause;
 use std::alloc::{AllocError, Global};
 
@@ -67,7 +68,7 @@ fn sends(desk: &Desk) -> Option<u32> {
 // time, of the first of which one call fails; 0 means none.
 fn ends(alloc: Global, inputs: &[&[u8]], piece: usize, fails_at: u64) -> Option<End> {
     let mut wire = wired_failing(alloc, inputs, piece, fails_at)?;
-    let mut desk = filled(alloc, 1)?;
+    let mut desk = numbered(alloc, 1)?;
     let came = drained(&mut desk, &mut wire)?;
     Some((came, sends(&desk)))
 }

@@ -1,14 +1,13 @@
 //! Free connections on which something arrived that was not asked for.
 ghost use Rattle.std.specs.Prelude.{◌≡◌, []};
 
-use crate::asking::{Told, asks};
+use crate::streams::BUSY;
 use crate::turns::{Turns, turned};
+use relay_fixtures::asking::{Told, asks};
 use relay_lane::{Wire, WireFault};
 use std::alloc::Global;
 
-// 40 bytes each: a reply read in pieces of 8 or 20 bytes ends with a read.
-const BUSY: &[u8] = b"HTTP/1.1 503 Busy\r\nContent-Length: 0\r\n\r\n";
-
+// 40 bytes, as `BUSY`: a reply read in pieces of 8 or 20 bytes ends with a read.
 const GATE: &[u8] = b"HTTP/1.1 502 Gate\r\nContent-Length: 0\r\n\r\n";
 
 const BUSY_TWICE: &[u8] =
@@ -23,8 +22,8 @@ const BUSY_AND_ONE: &[u8] = b"HTTP/1.1 503 Busy\r\nContent-Length: 0\r\n\r\n\n";
 fn twice(alloc: Global, streams: &[Turns<'_>], piece: usize) -> (Told, Told) {
     match turned(alloc, streams, piece, 1) {
         Some(mut wire) => {
-            let first = asks(alloc, &mut wire, 1);
-            (first, asks(alloc, &mut wire, 2))
+            let first = asks(alloc, &mut wire, 1, "2", 2);
+            (first, asks(alloc, &mut wire, 2, "2", 2))
         }
         None => (Told::NotAsked, Told::NotAsked),
     }
@@ -85,7 +84,7 @@ fn after_two(alloc: Global, streams: &[Turns<'_>], piece: usize) -> Told {
             if !answers_both(&mut wire) {
                 return Told::NotAsked;
             }
-            asks(alloc, &mut wire, 3)
+            asks(alloc, &mut wire, 3, "2", 2)
         }
         None => Told::NotAsked,
     }

@@ -2,12 +2,21 @@
 ghost use Rattle.std.specs.Prelude.{◌≡◌, [], IfSome};
 ghost use Rattle.relay_wires.specs.Numbered.{numbers};
 
-use crate::asking::{Told, asks};
-use relay_action::DocKey;
+use relay_fixtures::asking::{Told, asks};
+use relay_fixtures::keys::key_of;
 use relay_index::{Index, Script};
 use relay_lane::WireFault;
 use relay_loop::LoopWire;
 use std::alloc::Global;
+
+/// A wire to an empty index that loses the reply to one number.
+pub fn looped(alloc: Global, lost: u64) -> Option<LoopWire>
+    ensures { IfSome result (λ w. w.out ≡ []) }
+{
+    let mut wire = LoopWire::new(alloc, Index::new(alloc), Script::new(alloc)).ok()?;
+    wire.lose(lost).ok()?;
+    Some(wire)
+}
 
 // A wire to an empty index that refuses item 1, and loses the second reply.
 fn scripted(alloc: Global) -> Option<LoopWire>
@@ -20,21 +29,14 @@ fn scripted(alloc: Global) -> Option<LoopWire>
     Some(wire)
 }
 
-// How many writes the index applied to the document that is deleted.
-fn applied(alloc: Global, index: &Index) -> usize {
-    match DocKey::new(alloc, "books", "2") {
-        Ok(key) => index.applied(&key).len(),
-        Err(_) => 0,
-    }
-}
-
 // The results of the same delete, three times, and how many writes the index applied then.
 fn three_times(alloc: Global) -> Option<([Told; 3], usize)> {
     let mut wire = scripted(alloc)?;
-    let first = asks(alloc, &mut wire, 1);
-    let second = asks(alloc, &mut wire, 2);
-    let third = asks(alloc, &mut wire, 3);
-    Some(([first, second, third], applied(alloc, wire.index())))
+    let first = asks(alloc, &mut wire, 1, "2", 2);
+    let second = asks(alloc, &mut wire, 2, "2", 2);
+    let third = asks(alloc, &mut wire, 3, "2", 2);
+    let key = key_of(alloc, "books", "2")?;
+    Some(([first, second, third], wire.index().applied(&key).len()))
 }
 
 #[test]

@@ -3,13 +3,11 @@ ghost use Rattle.std.specs.Prelude.{◌≡◌, ◌∷◌, ◌≤◌, [], length,
 ghost use Rattle.relay_results.specs.Words.{Mem};
 ghost use Rattle.relay_wires.specs.Numbered.{numbers};
 
-use crate::streams::{Wired, wired};
+use crate::streams::{BUSY, Wired, wired};
 use relay_index::{Index, Script};
 use relay_lane::{Wire, WireFault};
 use relay_loop::LoopWire;
 use std::alloc::Global;
-
-const BUSY: &[u8] = b"HTTP/1.1 503 Busy\r\nContent-Length: 0\r\n\r\n";
 
 // Sends a request without writes.
 fn sends(wire: &mut Wired, number: u64) -> Result<(), WireFault>

@@ -1,19 +1,19 @@
 //! Wires, and a lane that is drained over one, of whose allocations any one may be refused (`make refusals`). A refusal inside a
 //! wire is a lost request.
-ghost use Rattle.std.specs.Prelude.{◌≡◌, ◌≤◌, [], length, IfSome};
+ghost use Rattle.std.specs.Prelude.{◌≡◌, [], IfSome};
 ghost use Rattle.relay_lane.specs.Out.{out_of};
-ghost use Rattle.relay_ndjson.specs.Bodies.{AreDealt};
-ghost use Rattle.relay_ndjson.specs.Bulk.{text_of};
 ghost use Rattle.relay_wires.specs.Numbered.{numbers};
 
-use crate::desk::{CONFIG, Desk, NO_PAUSES, closes, with_deletes};
+use crate::desk::CONFIG;
 use crate::streams::{Wired, wired};
-use relay_action::{Action, DocKey, Write};
+use relay_fixtures::asking::{Told, asks, told_by};
+use relay_fixtures::desk::{Desk, closes, filled};
+use relay_fixtures::keys::key_of;
+use relay_fixtures::notes::NO_PAUSES;
 use relay_http::HttpReply;
 use relay_index::{Index, Script};
-use relay_lane::{Wire, WireFault, WireReply, drain};
+use relay_lane::{Wire, WireFault, drain};
 use relay_loop::LoopWire;
-use relay_ndjson::bulk_len;
 use relay_wires::told::tell;
 use std::alloc::{AllocError, Global};
 
@@ -40,71 +40,28 @@ fn loop_wire(alloc: Global, lost: u64) -> Option<LoopWire>
     }
 }
 
-fn counted(answer: Result<WireReply, WireFault>) -> Result<usize, WireFault> {
-    match answer {
-        Ok(WireReply::Items(outcomes)) => Ok(outcomes.len()),
-        Ok(WireReply::Whole(_)) => Ok(0),
-        Err(fault) => Err(fault),
-    }
-}
-
-// How many entries a request has, if it is answered by entries.
-fn exchange<W: Wire>(wire: &mut W, number: u64, writes: &[Write]) -> Result<usize, WireFault>
-    requires out { W.out wire.old ≡ [] }
-    requires few { length writes.now ≤ 10000 }
-    requires dealt { AreDealt writes.now }
-    requires bytes { length (text_of writes.now) ≤ 16777216 }
-    ensures { W.out wire.new ≡ [] }
-{
-    match wire.send(number, writes) {
-        Ok(()) => counted(wire.receive(number)),
-        Err(fault) => Err(fault),
-    }
-}
-
 const ID: &str = "a document with a \"quote\", of more than thirty-eight bytes";
 
-fn key_of(alloc: Global) -> Option<DocKey> {
-    DocKey::new(alloc, "books", ID)
-        .or_else(|_| DocKey::new(alloc, "books", ID))
-        .ok()
-}
-
-// Sends a delete. What it is told; `None`: it was not sent.
-fn asks<W: Wire>(alloc: Global, wire: &mut W, number: u64) -> Option<Result<usize, WireFault>>
-    requires { W.out wire.old ≡ [] }
-    ensures { W.out wire.new ≡ [] }
-{
-    let writes = [Write {
-        key: key_of(alloc)?,
-        version: 2,
-        action: Action::delete(),
-    }];
-    if bulk_len(&writes) > 16_777_216 {
-        return None;
-    }
-    Some(exchange(wire, number, &writes))
-}
-
 // Whether a delete is answered, by a second request if the first was lost for want of memory.
-fn is_told<W: Wire>(alloc: Global, wire: &mut W) -> Option<bool>
+fn is_told<W: Wire>(alloc: Global, wire: &mut W) -> bool
     requires { W.out wire.old ≡ [] }
     ensures { W.out wire.new ≡ [] }
 {
-    match asks(alloc, wire, 1)? {
-        Ok(entries) => Some(entries == 1),
-        Err(fault) => {
-            let lost = matches!(fault, WireFault::Memory | WireFault::Send | WireFault::Lost);
-            Some(lost && asks(alloc, wire, 2)? == Ok(1))
+    match asks(alloc, wire, 1, ID, 2) {
+        Told::Entries(entries, _) => entries == 1,
+        Told::NotAsked | Told::Fault(WireFault::Memory | WireFault::Send | WireFault::Lost) => {
+            matches!(asks(alloc, wire, 2, ID, 2), Told::Entries(1, _))
         }
+        _ => false,
     }
 }
 
 // The same in memory, where the index applies the delete once.
 fn is_told_in_memory(alloc: Global) -> Option<bool> {
     let mut wire = loop_wire(alloc, 7)?;
-    let told = is_told(alloc, &mut wire)?;
-    Some(told && wire.index().applied(&key_of(alloc)?).len() == 1)
+    let told = is_told(alloc, &mut wire);
+    let key = key_of(alloc, "books", ID)?;
+    Some(told && wire.index().applied(&key).len() == 1)
 }
 
 #[test]
@@ -128,7 +85,7 @@ fn http_wire(alloc: Global) -> Option<Wired<'static>>
 
 fn is_told_over_http(alloc: Global) -> Option<bool> {
     let mut wire = http_wire(alloc)?;
-    is_told(alloc, &mut wire)
+    Some(is_told(alloc, &mut wire))
 }
 
 #[test]
@@ -147,9 +104,10 @@ fn tells_one_entry(alloc: Global) -> Option<bool> {
         body,
         keep: true,
     };
-    match counted(tell(alloc, &reply)) {
-        Err(WireFault::Memory) => Some(counted(tell(alloc, &reply)) == Ok(1)),
-        told => Some(told == Ok(1)),
+    let wanted = Told::Entries(1, 404);
+    match told_by(tell(alloc, &reply)) {
+        Told::Fault(WireFault::Memory) => Some(told_by(tell(alloc, &reply)) == wanted),
+        told => Some(told == wanted),
     }
 }
 
@@ -164,7 +122,7 @@ const SIX: [&str; 6] = ["1", "2", "1", "3", "2", "1"];
 fn desk_once(alloc: Global) -> Option<Desk>
     ensures { IfSome result (λ d. out_of d.lane.state ≡ []) }
 {
-    let mut desk = with_deletes(alloc, CONFIG, &SIX)?;
+    let mut desk = filled(alloc, CONFIG, &SIX, "")?;
     if closes(&mut desk) { Some(desk) } else { None }
 }
 
@@ -200,9 +158,7 @@ fn drains(desk: &mut Desk, wire: &mut LoopWire) -> bool
 fn count(alloc: Global, index: &Index) -> Option<usize> {
     let mut count = 0usize;
     for id in ["1", "2", "3"] {
-        let key = DocKey::new(alloc, "b", id)
-            .or_else(|_| DocKey::new(alloc, "b", id))
-            .ok()?;
+        let key = key_of(alloc, "b", id)?;
         count = count.saturating_add(index.applied(&key).len());
     }
     Some(count)

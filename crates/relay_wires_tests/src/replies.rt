@@ -1,7 +1,7 @@
 //! What replies tell, by their statuses and their bodies.
 
-use crate::asking::{Told, asks};
 use crate::streams::wired;
+use relay_fixtures::asking::{Told, asks};
 use relay_lane::WireFault;
 use std::alloc::Global;
 
@@ -9,7 +9,7 @@ use std::alloc::Global;
 fn told_by(alloc: Global, bytes: &[u8]) -> Told {
     let inputs = [bytes];
     match wired(alloc, &inputs, 1000, 0, 1) {
-        Some(mut wire) => asks(alloc, &mut wire, 1),
+        Some(mut wire) => asks(alloc, &mut wire, 1, "2", 2),
         None => Told::NotAsked,
     }
 }

@@ -1,29 +1,27 @@
 //! Several requests in flight over a wire in memory: what is sent and received, in which order.
-ghost use Rattle.std.specs.Prelude.{◌≡◌, ◌-◌, ◌≤◌, [], IfSome};
+ghost use Rattle.std.specs.Prelude.{◌≡◌, [], IfSome};
 ghost use Rattle.relay_lane.specs.Out.{out_of};
 ghost use Rattle.relay_wires.specs.Numbered.{numbers};
 
-use crate::desk::{CONFIG, Desk, NO_PAUSES, closes, with_deletes};
-use relay_action::Write;
+use crate::desk::CONFIG;
+use crate::loops::looped;
 use relay_batch::Limits;
-use relay_index::{Index, Script};
-use relay_lane::{RelayConfig, Wire, WireFault, WireReply, collect, drain, pump};
+use relay_fixtures::desk::{Desk, closes, filled};
+use relay_fixtures::notes::NO_PAUSES;
+use relay_fixtures::watched::{Watch, Watched};
+use relay_lane::{RelayConfig, collect, drain, pump};
 use relay_loop::LoopWire;
 use std::alloc::Global;
 
-// A wire in memory that records what it does: a request's number when it is sent, and a negative
-// number when it is received.
+// What a wire did: a request's number when it was sent, and a negative number when it was received.
 #[derive(Drop)]
-struct Noting {
-    inner: LoopWire,
+struct Calls {
     notes: [i64; 16],
     count: usize,
 }
 
-impl Noting {
-    fn note(&mut self, what: i64)
-        ensures { numbers self.new.inner.out ≡ numbers self.old.inner.out }
-    {
+impl Calls {
+    fn note(&mut self, what: i64) {
         if self.count < 16 {
             self.notes[self.count] = what;
             self.count += 1;
@@ -31,26 +29,18 @@ impl Noting {
     }
 }
 
-impl Wire for Noting {
-    ghost use Rattle.std.specs.Prelude.{false};
-    ghost use Rattle.relay_wires.specs.Numbered.{numbers};
-
-    ghost out = { λ w. numbers w.inner.out };
-
-    ghost describes = { λ w. false };
-
-    ghost fits = { λ w o. ⊥ };
-
-    fn send(&mut self, number: u64, writes: &[Write]) -> Result<(), WireFault> {
+impl Watch for Calls {
+    fn before_send(&mut self, number: u64) {
         self.note(number.min(1_000) as i64);
-        self.inner.send(number, writes)
     }
 
-    fn receive(&mut self, number: u64) -> Result<WireReply, WireFault> {
+    fn before_receive(&mut self, number: u64) {
         self.note(-(number.min(1_000) as i64));
-        self.inner.receive(number)
     }
 }
+
+// A wire in memory that records what it does.
+type Noting = Watched<LoopWire, Calls>;
 
 // One operation per request, and this many requests in flight.
 const fn one_each(in_flight: u32) -> RelayConfig {
@@ -64,16 +54,16 @@ const fn one_each(in_flight: u32) -> RelayConfig {
     }
 }
 
-// A wire to an empty index that loses the reply to one number.
+// One to an empty index that loses the reply to one number.
 fn wire_of(alloc: Global, lost: u64) -> Option<Noting>
-    ensures { IfSome result (λ w. numbers w.inner.out ≡ []) }
+    ensures { IfSome result (λ w. numbers w.wire.out ≡ []) }
 {
-    let mut inner = LoopWire::new(alloc, Index::new(alloc), Script::new(alloc)).ok()?;
-    inner.lose(lost).ok()?;
-    Some(Noting {
-        inner,
-        notes: [0; 16],
-        count: 0,
+    Some(Watched {
+        wire: looped(alloc, lost)?,
+        watch: Calls {
+            notes: [0; 16],
+            count: 0,
+        },
     })
 }
 
@@ -88,12 +78,12 @@ struct Noted {
 }
 
 fn pumps_over(desk: &mut Desk, wire: &mut Noting) -> Option<Noted>
-    requires { numbers wire.old.inner.out ≡ out_of desk.old.lane.state }
+    requires { numbers wire.old.wire.out ≡ out_of desk.old.lane.state }
 {
     let sent = pump(&mut desk.lane, wire).ok()?;
     let collected = collect(&mut desk.lane, wire);
     Some(Noted {
-        notes: wire.notes,
+        notes: wire.watch.notes,
         first: sent,
         then: collected,
         pauses: 0,
@@ -102,13 +92,13 @@ fn pumps_over(desk: &mut Desk, wire: &mut Noting) -> Option<Noted>
 
 // A pump and a collect, with deletes of these documents.
 fn pumped(alloc: Global, in_flight: u32, ids: &[&str]) -> Option<Noted> {
-    let mut desk = with_deletes(alloc, one_each(in_flight), ids)?;
+    let mut desk = filled(alloc, one_each(in_flight), ids, "")?;
     let mut wire = wire_of(alloc, 0)?;
     pumps_over(&mut desk, &mut wire)
 }
 
 fn drains_over(desk: &mut Desk, wire: &mut Noting) -> Option<Noted>
-    requires { numbers wire.old.inner.out ≡ out_of desk.old.lane.state }
+    requires { numbers wire.old.wire.out ≡ out_of desk.old.lane.state }
 {
     let mut pace = NO_PAUSES;
     if !closes(desk) || !desk.lane.closed() {
@@ -116,7 +106,7 @@ fn drains_over(desk: &mut Desk, wire: &mut Noting) -> Option<Noted>
     }
     drain(&mut desk.lane, wire, &mut pace).ok()?;
     Some(Noted {
-        notes: wire.notes,
+        notes: wire.watch.notes,
         first: desk.lane.totals().requests,
         then: desk.lane.flying() as u64,
         pauses: pace.pauses,
@@ -125,7 +115,7 @@ fn drains_over(desk: &mut Desk, wire: &mut Noting) -> Option<Noted>
 
 // A drain of deletes of these documents, with the reply to one number lost.
 fn drained(alloc: Global, in_flight: u32, ids: &[&str], lost: u64) -> Option<Noted> {
-    let mut desk = with_deletes(alloc, one_each(in_flight), ids)?;
+    let mut desk = filled(alloc, one_each(in_flight), ids, "")?;
     let mut wire = wire_of(alloc, lost)?;
     drains_over(&mut desk, &mut wire)
 }

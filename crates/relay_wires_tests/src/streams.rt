@@ -7,6 +7,9 @@ use relay_http::is_host;
 use relay_wires::{Dial, DialFault, HttpWire};
 use std::alloc::{AllocError, Global};
 
+/// A reply after which the connection may be used again.
+pub const BUSY: &[u8] = b"HTTP/1.1 503 Busy\r\nContent-Length: 0\r\n\r\n";
+
 /// What is dialled: streams that return these bytes, one after another, with room for writes, that
 /// move a few bytes at a time; which call of the first of them fails; and which dial fails, counted
 /// from 1 (0: none). A dial when no stream is left fails, too.
@@ -63,6 +66,22 @@ impl Dial<MemStream> for Streams<'_> {
 /// A wire over such streams.
 pub type Wired<'a> = HttpWire<MemStream, Streams<'a>>;
 
+// Streams with these bytes that move 7 at a time, and do not fail.
+fn streams_of<'a>(alloc: Global, inputs: &'a [&'a [u8]]) -> Streams<'a> {
+    Streams {
+        alloc,
+        inputs,
+        room: 1000,
+        piece: 7,
+        first_fails_at: 0,
+        fail_at: 0,
+        calls: 0,
+        next: 0,
+        failed: 0,
+        dialled: 0,
+    }
+}
+
 // A wire to a host over these streams, with at most `most` requests outstanding.
 fn wired_over<'a>(alloc: Global, streams: Streams<'a>, most: u32) -> Option<Wired<'a>>
     ensures { IfSome result (λ w. w.out ≡ []) }
@@ -85,16 +104,9 @@ pub fn wired<'a>(
     ensures { IfSome result (λ w. w.out ≡ []) }
 {
     let streams = Streams {
-        alloc,
-        inputs,
         room,
-        piece: 7,
-        first_fails_at: 0,
         fail_at,
-        calls: 0,
-        next: 0,
-        failed: 0,
-        dialled: 0,
+        ..streams_of(alloc, inputs)
     };
     wired_over(alloc, streams, most)
 }
@@ -110,16 +122,9 @@ pub fn wired_failing<'a>(
     ensures { IfSome result (λ w. w.out ≡ []) }
 {
     let streams = Streams {
-        alloc,
-        inputs,
-        room: 1000,
         piece,
         first_fails_at,
-        fail_at: 0,
-        calls: 0,
-        next: 0,
-        failed: 0,
-        dialled: 0,
+        ..streams_of(alloc, inputs)
     };
     wired_over(alloc, streams, 1)
 }

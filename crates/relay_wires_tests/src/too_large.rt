@@ -1,7 +1,7 @@
 //! Requests that are too large for the index in memory.
 ghost use Rattle.std.specs.Prelude.{◌≡◌, [], IfSome};
 
-use crate::desk::filled;
+use crate::desk::numbered;
 use crate::drains::{Came, came_to};
 use relay_index::{Index, Script};
 use relay_loop::LoopWire;
@@ -18,7 +18,7 @@ fn limited(alloc: Global, most: u64) -> Option<LoopWire>
 
 // The outcome of five deletes of 74 bytes each, and how many of them the index applied.
 fn five(alloc: Global, most: u64) -> Option<(Came, usize)> {
-    came_to(alloc, &mut filled(alloc, 5)?, &mut limited(alloc, most)?)
+    came_to(alloc, &mut numbered(alloc, 5)?, &mut limited(alloc, most)?)
 }
 
 const fn came(requests: u64, applied: u64, reports: usize) -> Came {

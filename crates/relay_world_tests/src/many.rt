@@ -1,9 +1,9 @@
 //! Sixteen producers and eight lanes, all at once, and a world over an index that has writes from before.
-use crate::script::{THREE, accepts};
+use crate::script::{THREE, accepts, world_of};
 use relay_action::{Action, DocKey, List};
 use relay_batch::Limits;
 use relay_core::RelayConfig;
-use relay_index::{Choice, Index};
+use relay_index::Choice;
 use relay_world::{Event, World};
 use std::alloc::Global;
 use std::test::Fail;
@@ -106,14 +106,6 @@ fn counted(alloc: Global, world: &World) -> Result<(usize, usize), Fail> {
         applied = applied.saturating_add(world.names(&key).len());
     }
     Ok((accepted, applied))
-}
-
-/// A world with a config, which must be valid, over a fresh index.
-fn world_of(alloc: Global, config: RelayConfig) -> Result<World, Fail> {
-    if !config.valid() {
-        return Err("not valid")?;
-    }
-    Ok(World::new(alloc, config, Index::new(alloc))?)
 }
 
 /// The control ticks at each lane.

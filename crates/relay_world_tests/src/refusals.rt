@@ -1,9 +1,10 @@
 //! Events, of whose allocations any one may be refused (`make refusals`): the refusal changes nothing, and the event does its
 //! work when it comes again.
-use crate::script::{Given, Row, Says, THREE, accepts, ends_with, event_of, events_of, is_said};
-use crate::worked::{GIVEN_UP, THREE_THEN_ONE, TWO};
+use crate::script::{Row, Says, THREE, accepts, ends_with, event_of, events_of, is_said};
+use crate::worked::{APPLIED_BUT_GIVEN_UP, Ends, GIVEN_UP, THREE_APPLIED, THREE_THEN_ONE, TWO};
 use relay_action::{Action, DocKey};
 use relay_core::RelayConfig;
+use relay_fixtures::keys::key_of;
 use relay_index::Index;
 use relay_world::{Event, StepAnswer, World};
 use std::alloc::{AllocError, Global};
@@ -106,12 +107,6 @@ fn steps_through(
     Some(good)
 }
 
-fn key_of(alloc: Global) -> Option<DocKey> {
-    DocKey::new(alloc, "b", "1")
-        .or_else(|_| DocKey::new(alloc, "b", "1"))
-        .ok()
-}
-
 fn keys_of(world: &World) -> Option<Vec<DocKey>> {
     match world.keys() {
         Ok(keys) => Some(keys),
@@ -122,7 +117,7 @@ fn keys_of(world: &World) -> Option<Vec<DocKey>> {
 // Whether rows are answered as they are to be, and so many documents have writes then.
 fn steps_rows(alloc: Global, rows: &[(Row<'_>, Says)], documents: usize) -> Option<bool> {
     let mut world = world_of(alloc, THREE)?;
-    let key = key_of(alloc)?;
+    let key = key_of(alloc, "b", "1")?;
     let good = steps_through(alloc, &mut world, rows, &key)?;
     let keys = keys_of(&world)?;
     Some(good && keys.len() == documents && world.applied(&key).len() == 1)
@@ -146,14 +141,13 @@ fn runs(world: &mut World, events: &[Event]) -> Option<bool> {
     }
 }
 
-// Whether the events of rows leave a world with so many accepted, and these documents and reports.
+// Whether the events of rows leave a world with so many accepted, and what becomes of them is this.
 fn runs_rows(
     alloc: Global,
     config: RelayConfig,
     rows: &[(Row<'_>, Says)],
     accepted: usize,
-    applied: &[(&str, &[u64])],
-    reports: &[Given],
+    ends: Ends,
     finished: bool,
 ) -> Option<bool> {
     let events = events_of(alloc, rows)
@@ -161,26 +155,18 @@ fn runs_rows(
         .ok()?;
     let mut world = world_of(alloc, config)?;
     let good = runs(&mut world, events.as_slice())?;
-    let ends = ends_with(alloc, &world, applied, reports, finished).ok()?;
-    Some(good && ends && world.accepted(0).len() == accepted)
+    let (applied, reports) = ends;
+    let ended = ends_with(alloc, &world, applied, reports, finished).ok()?;
+    Some(good && ended && world.accepted(0).len() == accepted)
 }
 
 #[test]
 fn refused_schedules(rt: HostRuntime) {
-    let ends: [(&str, &[u64]); 3] = [("1", &[1]), ("2", &[2]), ("3", &[3])];
-    assert!(rt; runs_rows(rt.alloc(), THREE, &THREE_THEN_ONE, 3, &ends, &[], true) == Some(true));
-    let reports = [Given::GaveUp(1, 2)];
-    assert!(rt;
-        runs_rows(
-            rt.alloc(),
-            TWO,
-            &GIVEN_UP,
-            2,
-            &[("1", &[1, 2])],
-            &reports,
-            false
-        ) == Some(true)
-    );
+    let alloc = rt.alloc();
+    let finished = runs_rows(alloc, THREE, &THREE_THEN_ONE, 3, THREE_APPLIED, true);
+    assert!(rt; finished == Some(true));
+    let given_up = runs_rows(alloc, TWO, &GIVEN_UP, 2, APPLIED_BUT_GIVEN_UP, false);
+    assert!(rt; given_up == Some(true));
 }
 
 /// A producer puts a delete of a document.

@@ -1,28 +1,18 @@
 //! Tables of events and their answers, and the world on which they are played.
-use relay_action::{Action, ActionFault, DocKey, List, OpName};
-use relay_batch::Limits;
+use relay_action::{ActionFault, DocKey, List, OpName};
 use relay_core::{Cause, RelayConfig, Report, Settled};
+use relay_fixtures::config::CONFIG;
+use relay_fixtures::desk::action_of;
 use relay_index::{Choice, Index};
 use relay_world::{Event, Refusal, StepAnswer, World};
 use std::alloc::{AllocError, Global};
 use std::test::Fail;
 
 /// One lane and one producer, queues of ten, batches of ten documents and 4,096 bytes that are sent
-/// at once, and three attempts.
+/// at once, three attempts, and a thousand versions.
 pub const THREE: RelayConfig = RelayConfig {
-    lanes: 1,
-    producers: 1,
-    capacity: 10,
-    max_held: 10,
-    limits: Limits {
-        count: 10,
-        bytes: 4_096,
-        linger: 0,
-    },
-    attempts: 3,
-    in_flight: 1,
-    epoch: 0,
     deal: 1_000,
+    ..CONFIG
 };
 
 /// An event; documents are of the index `b`, and without a source it deletes.
@@ -60,12 +50,7 @@ pub enum Says {
 
 fn put_of(alloc: Global, producer: u32, id: &str, source: &str) -> Result<Event, ActionFault> {
     let key = DocKey::new(alloc, "b", id)?;
-    let action = if source.is_empty() {
-        Action::delete()
-    } else {
-        Action::index(alloc, source)?
-    };
-    Ok(Event::Put(producer, key, action))
+    Ok(Event::Put(producer, key, action_of(alloc, source)?))
 }
 
 /// The event of a row.
@@ -236,17 +221,17 @@ pub fn lasts(
     plays_to(alloc, &mut world, rows, applied, reports, finished)
 }
 
-/// The same, with one more row at the end, after which it is not finished.
+/// The same, with more rows at the end, after which it is not finished.
 pub fn lasts_with<'a>(
     alloc: Global,
     config: RelayConfig,
     rows: &[(Row<'a>, Says)],
-    last: (Row<'a>, Says),
+    more: &[(Row<'a>, Says)],
     applied: &[(&str, &[u64])],
     reports: &[Given],
 ) -> Result<bool, Fail> {
     let mut all = Vec::from_slice(alloc, rows)?;
-    all.push(last)?;
+    all.extend_from_slice(more)?;
     lasts(alloc, config, all.as_slice(), applied, reports, false)
 }
 

@@ -9,6 +9,9 @@ pub const TWO: RelayConfig = RelayConfig {
     ..THREE
 };
 
+/// What becomes of a script: the operations applied to documents, and the reports.
+pub type Ends = (&'static [(&'static str, &'static [u64])], &'static [Given]);
+
 /// Three operations in one request; the second one is refused, and sent once more.
 pub const THREE_THEN_ONE: [(Row<'static>, Says); 21] = [
     (Row::Put(0, "1", "{\"a\":1}"), Says::Named(1)),
@@ -34,10 +37,13 @@ pub const THREE_THEN_ONE: [(Row<'static>, Says); 21] = [
     (Row::Take(0), Says::Ok),
 ];
 
+/// All three are applied.
+pub const THREE_APPLIED: Ends = (&[("1", &[1]), ("2", &[2]), ("3", &[3])], &[]);
+
 #[test]
 fn three_then_one(rt: HostRuntime) -> Result<(), Fail> {
-    let ends: [(&str, &[u64]); 3] = [("1", &[1]), ("2", &[2]), ("3", &[3])];
-    assert!(rt; lasts(rt.alloc(), THREE, &THREE_THEN_ONE, &ends, &[], true)?);
+    let (applied, reports) = THREE_APPLIED;
+    assert!(rt; lasts(rt.alloc(), THREE, &THREE_THEN_ONE, applied, reports, true)?);
     Ok(())
 }
 
@@ -54,40 +60,38 @@ const SENT: [(Row<'static>, Says); 3] = [
     (Row::Send(0), Says::Request(1)),
 ];
 
+/// Its request is run, and the reply lost.
+const LOST: &[(Row<'static>, Says)] = &[
+    (Row::Run(1, 1), Says::Status(201)),
+    (Row::Lost(1), Says::Counts([0, 0, 0, 1])),
+    (Row::Tick(0), Says::Ok),
+    (Row::Take(0), Says::Ok),
+    (Row::Send(0), Says::Request(2)),
+    (Row::Run(2, 1), Says::Status(409)),
+    (Row::Reply(2, &[]), Says::Counts([0, 1, 0, 0])),
+];
+
 #[test]
 fn lost_then_already(rt: HostRuntime) -> Result<(), Fail> {
-    let rows = [
-        SENT[0],
-        SENT[1],
-        SENT[2],
-        (Row::Run(1, 1), Says::Status(201)),
-        (Row::Lost(1), Says::Counts([0, 0, 0, 1])),
-        (Row::Tick(0), Says::Ok),
-        (Row::Take(0), Says::Ok),
-        (Row::Send(0), Says::Request(2)),
-        (Row::Run(2, 1), Says::Status(409)),
-        (Row::Reply(2, &[]), Says::Counts([0, 1, 0, 0])),
-    ];
-    assert!(rt; lasts(rt.alloc(), THREE, &rows, &[("1", &[1])], &[], false)?);
+    assert!(rt; lasts_with(rt.alloc(), THREE, &SENT, LOST, &[("1", &[1])], &[])?);
     Ok(())
 }
 
+/// Its request is lost, and run after the repeat.
+const LATE: &[(Row<'static>, Says)] = &[
+    (Row::Lost(1), Says::Counts([0, 0, 0, 1])),
+    (Row::Tick(0), Says::Ok),
+    (Row::Take(0), Says::Ok),
+    (Row::Send(0), Says::Request(2)),
+    (Row::Run(2, 1), Says::Status(201)),
+    (Row::Run(1, 1), Says::Status(409)),
+    (Row::Reply(2, &[]), Says::Counts([1, 0, 0, 0])),
+    (Row::Reply(2, &[]), Says::No(Refusal::NotFlying)),
+];
+
 #[test]
 fn late_after_its_repeat(rt: HostRuntime) -> Result<(), Fail> {
-    let rows = [
-        SENT[0],
-        SENT[1],
-        SENT[2],
-        (Row::Lost(1), Says::Counts([0, 0, 0, 1])),
-        (Row::Tick(0), Says::Ok),
-        (Row::Take(0), Says::Ok),
-        (Row::Send(0), Says::Request(2)),
-        (Row::Run(2, 1), Says::Status(201)),
-        (Row::Run(1, 1), Says::Status(409)),
-        (Row::Reply(2, &[]), Says::Counts([1, 0, 0, 0])),
-        (Row::Reply(2, &[]), Says::No(Refusal::NotFlying)),
-    ];
-    assert!(rt; lasts(rt.alloc(), THREE, &rows, &[("1", &[1])], &[], false)?);
+    assert!(rt; lasts_with(rt.alloc(), THREE, &SENT, LATE, &[("1", &[1])], &[])?);
     Ok(())
 }
 
@@ -136,8 +140,17 @@ fn picks(rt: HostRuntime) -> Result<(), Fail> {
         (Row::Reply(1, &[1]), [1, 0, 0, 0], &[]),
     ];
     for (row, counts, reports) in ends {
-        let last = (row, Says::Counts(counts));
-        assert!(rt; lasts_with(rt.alloc(), THREE, &RUN_TWICE, last, &[("1", &[1])], reports)?);
+        let last = [(row, Says::Counts(counts))];
+        assert!(rt;
+            lasts_with(
+                rt.alloc(),
+                THREE,
+                &RUN_TWICE,
+                &last,
+                &[("1", &[1])],
+                reports
+            )?
+        );
     }
     Ok(())
 }
@@ -161,19 +174,13 @@ pub const GIVEN_UP: [(Row<'static>, Says); 15] = [
     (Row::Reply(3, &[]), Says::Counts([1, 0, 0, 0])),
 ];
 
+/// Both are applied, and the first one is reported.
+pub const APPLIED_BUT_GIVEN_UP: Ends = (&[("1", &[1, 2])], &[Given::GaveUp(1, 2)]);
+
 #[test]
 fn given_up_and_applied(rt: HostRuntime) -> Result<(), Fail> {
-    let reports = [Given::GaveUp(1, 2)];
-    assert!(rt;
-        lasts(
-            rt.alloc(),
-            TWO,
-            &GIVEN_UP,
-            &[("1", &[1, 2])],
-            &reports,
-            false
-        )?
-    );
+    let (applied, reports) = APPLIED_BUT_GIVEN_UP;
+    assert!(rt; lasts(rt.alloc(), TWO, &GIVEN_UP, applied, reports, false)?);
     Ok(())
 }
 
@@ -184,8 +191,8 @@ fn refused_and_rejected(rt: HostRuntime) -> Result<(), Fail> {
         (Row::Whole(1, 503), [0, 0, 0, 1], &[]),
     ];
     for (row, counts, reports) in ends {
-        let last = (row, Says::Counts(counts));
-        assert!(rt; lasts_with(rt.alloc(), THREE, &SENT, last, &[("1", &[])], reports)?);
+        let last = [(row, Says::Counts(counts))];
+        assert!(rt; lasts_with(rt.alloc(), THREE, &SENT, &last, &[("1", &[])], reports)?);
     }
     Ok(())
 }
@@ -193,24 +200,13 @@ fn refused_and_rejected(rt: HostRuntime) -> Result<(), Fail> {
 #[test]
 fn statuses(rt: HostRuntime) -> Result<(), Fail> {
     let rows = [
-        SENT[0],
-        SENT[1],
-        SENT[2],
         (Row::Refuse(1, 1, 409), Says::No(Refusal::BadStatus)),
         (Row::Whole(1, 200), Says::No(Refusal::BadStatus)),
         (Row::Whole(1, 600), Says::No(Refusal::BadStatus)),
         (Row::Refuse(1, 1, 400), Says::Status(400)),
         (Row::Reply(1, &[]), Says::Counts([0, 0, 1, 0])),
     ];
-    assert!(rt;
-        lasts(
-            rt.alloc(),
-            THREE,
-            &rows,
-            &[("1", &[])],
-            &[Given::Refused(1, 400)],
-            false
-        )?
-    );
+    let reports = [Given::Refused(1, 400)];
+    assert!(rt; lasts_with(rt.alloc(), THREE, &SENT, &rows, &[("1", &[])], &reports)?);
     Ok(())
 }

@@ -2,6 +2,7 @@
 use crate::report::out_of_memory;
 use clap::{Arg, ArgAction, ArgMatches, Command};
 use relay_action::StdStream;
+use relay_core::config::PRODUCER_LIMIT;
 use relay_ndjson::LineKind;
 use relay_report::{Named, PickFault, ReportFault, first_missing, pick, read_names};
 use relay_words::{Exit, exit_of_kind};
@@ -53,7 +54,7 @@ pub fn command<'a>(alloc: Global, name: &'static str) -> Result<Command<'a>, All
     let files = Arg::new(alloc, "file")
         .value_name("FILE")
         .action(ArgAction::Append)
-        .num_args(1..=16)
+        .num_args(1..=PRODUCER_LIMIT as usize)
         .required(true)
         .help("All files of the run, in the same order");
     Command::new(alloc, name)

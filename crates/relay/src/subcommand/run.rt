@@ -3,7 +3,10 @@ use crate::report::{out_of_memory, usage};
 use clap::builder::ValueParser;
 use clap::{Arg, ArgAction, ArgMatches, Command};
 use relay_action::StdStream;
-use relay_core::config::DEAL_LIMIT;
+use relay_core::config::{
+    ATTEMPT_LIMIT, BYTES_LEAST, BYTES_LIMIT, CAPACITY_LIMIT, COUNT_LIMIT, DEAL_LIMIT, EPOCH_LIMIT,
+    FLYING_LIMIT, HELD_LIMIT, LANE_LIMIT, LINGER_LIMIT, PRODUCER_LIMIT,
+};
 use relay_run::files::{RunOptions, run_files};
 use relay_run::run::{Limits, RelayConfig};
 use relay_words::Exit;
@@ -91,81 +94,84 @@ const NUMBERS: &[NumberOption] = &[
     NumberOption {
         name: "epoch",
         least: 0,
-        most: 4_194_303,
+        most: EPOCH_LIMIT as u64,
         default: "0",
         help: "The epoch, above those of all earlier runs, from 0 to 4194303",
     },
     NumberOption {
         name: "lanes",
         least: 1,
-        most: 8,
+        most: LANE_LIMIT as u64,
         default: "1",
         help: "Number of lanes, 1 to 8, each with its own connections",
     },
     NumberOption {
         name: "capacity",
         least: 1,
-        most: 65_536,
+        most: CAPACITY_LIMIT as u64,
         default: "256",
         help: "Maximum number of operations waiting in front of a lane, 1 to 65536; while a lane waits for an answer, the files are read further until that many wait",
     },
     NumberOption {
         name: "held",
         least: 1,
-        most: 65_536,
+        most: HELD_LIMIT as u64,
         default: "1024",
         help: "Maximum number of operations that a lane holds, sent or still to be sent, 1 to 65536",
     },
     NumberOption {
         name: "count",
         least: 1,
-        most: 10_000,
+        most: COUNT_LIMIT as u64,
         default: "500",
         help: "Maximum number of operations in a request, 1 to 10000",
     },
     NumberOption {
         name: "bytes",
-        least: 1_024,
-        most: 16_777_216,
+        least: BYTES_LEAST,
+        most: BYTES_LIMIT,
         default: "1048576",
         help: "Maximum size of a request's body in bytes, 1024 to 16777216; a single operation may have more",
     },
     NumberOption {
         name: "linger",
         least: 0,
-        most: 65_535,
+        most: LINGER_LIMIT as u64,
         default: "2",
         help: "How long a request waits to be filled, in ticks of 100 ms, 0 to 65535",
     },
     NumberOption {
         name: "attempts",
         least: 1,
-        most: 32,
+        most: ATTEMPT_LIMIT as u64,
         default: "8",
         help: "Maximum number of requests that carry an operation, not counting those halved after a 413, 1 to 32",
     },
     NumberOption {
         name: "flying",
         least: 1,
-        most: 8,
+        most: FLYING_LIMIT as u64,
         default: "1",
         help: "Maximum number of requests of a lane in flight, each on its own connection, 1 to 8; more keep a slow index busy, and the order of a document's writes is kept",
     },
 ];
 
-// The options in seconds, up to a week, in the order of the help.
+// The seconds of a week.
+const WEEK: u64 = 604_800;
+
+// The options in seconds, in the order of the help.
 const SECONDS: &[NumberOption] = &[
     NumberOption {
         name: "timeout",
         least: 0,
-        most: 604_800,
+        most: WEEK,
         default: "300",
         help: "How long connecting may take, and a read or a write on a connection may wait, before the request counts as lost and is sent again, 0 to 604800; 0 means no limit",
     },
     NumberOption {
         name: "patience",
         least: 0,
-        most: 604_800,
+        most: WEEK,
         default: "0",
         help: "How long to keep trying to connect, once a second, before it counts as an attempt, 0 to 604800",
     },
@@ -229,7 +235,7 @@ pub fn command<'a>(alloc: Global, name: &'static str) -> Result<Command<'a>, All
     let files = Arg::new(alloc, "file")
         .value_name("FILE")
         .action(ArgAction::Append)
-        .num_args(1..=16)
+        .num_args(1..=PRODUCER_LIMIT as usize)
         .required(true)
         .help(
             "Files of operations, 1 to 16, each read by its own producer; `-`, at most once, is standard input",
@@ -269,7 +275,7 @@ fn options_of(alloc: Global, matches: &ArgMatches<'_>) -> Result<RunOptions, All
     let report = own_text(alloc, matches, "report")?;
     let config = RelayConfig {
         lanes: number_of(matches, "lanes"),
-        producers: files.len().min(17) as u32,
+        producers: u32::try_from(files.len()).unwrap_or(u32::MAX),
         capacity: number_of(matches, "capacity"),
         max_held: number_of(matches, "held"),
         limits: Limits {

@@ -5,4 +5,4 @@ use Rattle.relay_threads_tests.proofs.relays.gates.Goals as goal
 
 pub loop-preserved : goal.loop-preserved
 loop-preserved g c =
-    none_pushed (λ w. option_to_list w.inner.flying) c.loop.wires.items c.gate_of.result c.push.new.self.items c.loop.invariant (ap option_to_list c.gate_of.ensures) c.in_ok-push.ensures.items
+    none_pushed (λ w. option_to_list w.wire.flying) c.loop.wires.items c.gate_of.result c.push.new.self.items c.loop.invariant (ap option_to_list c.gate_of.ensures) c.in_ok-push.ensures.items

@@ -1,28 +1,10 @@
-//! A lane into which messages are put, and a pace that records its pauses.
-ghost use Rattle.std.specs.Prelude.{◌≡◌, ◌<◌, ℕ, [], length, IfSome};
+//! A lane into which messages are put.
+ghost use Rattle.std.specs.Prelude.{◌≡◌, ◌<◌, [], length, IfSome};
 ghost use Rattle.relay_lane.specs.Out.{out_of};
 
-use relay_action::{Action, Body, DocKey, Mail, Op};
-use relay_batch::Limits;
-use relay_lane::{Lane, Pace, RelayConfig, TakeFault};
+use relay_action::{Action, ActionFault, Body, DocKey, Mail, Op};
+use relay_lane::{Lane, RelayConfig, TakeFault};
 use std::alloc::Global;
-
-/// One lane and one producer, batches of ten documents that are sent at once, and three attempts.
-pub const CONFIG: RelayConfig = RelayConfig {
-    lanes: 1,
-    producers: 1,
-    capacity: 10,
-    max_held: 10,
-    limits: Limits {
-        count: 10,
-        bytes: 4_096,
-        linger: 0,
-    },
-    attempts: 3,
-    in_flight: 1,
-    epoch: 0,
-    deal: 1_099_511_627_775,
-};
 
 /// A lane.
 #[derive(Drop)]
@@ -70,24 +52,49 @@ pub fn sends(desk: &mut Desk, sender: u32, body: Body) -> bool
     take(&mut desk.lane, mail).is_none()
 }
 
-fn op_of(alloc: Global, number: u64, id: &str, source: &str) -> Option<Op> {
-    Some(Op {
+/// What an operation does: it stores this source, or deletes if that is empty.
+pub fn action_of(alloc: Global, source: &str) -> Result<Action, ActionFault> {
+    if source.is_empty() {
+        Ok(Action::delete())
+    } else {
+        Action::index(alloc, source)
+    }
+}
+
+// An operation of the first producer.
+fn op_of(alloc: Global, number: u64, id: &str, source: &str) -> Result<Op, ActionFault> {
+    Ok(Op {
         epoch: 0,
         producer: 0,
         number,
-        key: DocKey::new(alloc, "b", id).ok()?,
-        action: Action::index(alloc, source).ok()?,
+        key: DocKey::new(alloc, "b", id)?,
+        action: action_of(alloc, source)?,
     })
 }
 
-/// Puts an operation of the first producer that indexes a source, and returns whether it was taken.
+/// Puts an operation of the first producer on a document of the index `b`, and returns whether it
+/// was taken. Without a source it deletes.
 pub fn puts(alloc: Global, desk: &mut Desk, number: u64, id: &str, source: &str) -> bool
     ensures { out_of desk.new.lane.state ≡ out_of desk.old.lane.state }
 {
     match op_of(alloc, number, id, source) {
-        Some(op) => sends(desk, 0, Body::Put(op)),
-        None => false,
+        Ok(op) => sends(desk, 0, Body::Put(op)),
+        Err(_) => false,
     }
+}
+
+/// A desk whose lane took an operation on each of these documents in turn, numbered from 0. `None`:
+/// an allocation failed, or one was not taken.
+pub fn filled(alloc: Global, config: RelayConfig, ids: &[&str], source: &str) -> Option<Desk>
+    ensures { IfSome result (λ d. out_of d.lane.state ≡ []) }
+{
+    let mut desk = desk_of(alloc, config)?;
+    for i in 0..ids.len() {
+        if !puts(alloc, &mut desk, i as u64, ids[i], source) {
+            return None;
+        }
+    }
+    Some(desk)
 }
 
 /// Closes the producer and the control, and returns whether the lane is closed.
@@ -95,33 +102,4 @@ pub fn closes(desk: &mut Desk) -> bool
     ensures { out_of desk.new.lane.state ≡ out_of desk.old.lane.state }
 {
     sends(desk, 0, Body::Done) && sends(desk, 1, Body::Done) && desk.lane.closed()
-}
-
-/// A pace that does not wait, and records its first pauses and the sum of all ticks.
-#[derive(Clone, Copy, Debug, PartialEq, Eq)]
-pub struct Notes {
-    pub pauses: [u64; 8],
-    pub count: usize,
-    pub ticks: u64,
-}
-
-/// A pace that has not paused.
-pub const NO_PAUSES: Notes = Notes {
-    pauses: [0; 8],
-    count: 0,
-    ticks: 0,
-};
-
-impl Pace for Notes {
-    ghost use Rattle.std.specs.Prelude.{Some};
-
-    ghost paused = { λ n. Some n.ticks };
-
-    fn pause(&mut self, ticks: u64) {
-        if self.count < 8 {
-            self.pauses[self.count] = ticks;
-            self.count += 1;
-        }
-        self.ticks = self.ticks.saturating_add(ticks);
-    }
 }

@@ -1,8 +1,10 @@
-//! A wire to an index that fails as configured, and describes nothing.
+//! A wire to an index in memory, which fails as asked for, and describes nothing.
 ghost use Rattle.std.specs.Prelude.{◌≡◌, None};
 ghost use Rattle.relay_lane.specs.Wires.{IsWireReply};
 
-use crate::telling::run_all;
+use crate::runs::run_all;
+use rand_core::Rng;
+use rand_pcg::Pcg32;
 use relay_action::{ActionKind, Text, Write};
 use relay_index::Index;
 use relay_lane::{Wire, WireFault, WireReply};
@@ -29,11 +31,13 @@ pub enum Way {
     Another,
     /// None is run, and each is answered as a whole.
     Whole(u16),
+    /// None is run, and each is answered with one entry of this status.
+    Answers(u16),
     /// None is run, and every reply is lost.
     Loses,
-    /// By random numbers: not sent, lost after it ran, refused as a whole, answered with too few
-    /// entries, or run and answered.
-    Seeded,
+    /// At random: not sent, lost after it ran, refused as a whole, answered with too few entries, or
+    /// run and answered.
+    Random,
 }
 
 /// A wire that runs requests when they are sent, one at a time.
@@ -47,7 +51,7 @@ pub struct IndexWire {
     reply: Vec<Outcome>,
     /// How many requests were to be sent.
     pub sends: u64,
-    seed: u64,
+    rng: Pcg32,
 }
 
 /// A wire with an empty index.
@@ -62,18 +66,18 @@ pub fn wire_of(alloc: Global, way: Way) -> IndexWire
         flying: None,
         reply: Vec::new(alloc),
         sends: 0,
-        seed: 1,
+        rng: Pcg32::new(1, 0),
     }
 }
 
-// What happens to the request with this number.
-fn way_at(way: Way, sends: u64, seed: u64) -> Way {
+// What happens to the request with this number; `random` is a random number.
+fn way_at(way: Way, sends: u64, random: u32) -> Way {
     match way {
         Way::LosesEach(every) if every > 0 && sends % every == 0 => {
             Way::FailsReply(sends, WireFault::Lost)
         }
         Way::FailsSend(at, _) | Way::FailsReply(at, _) if at != sends => Way::Runs,
-        Way::Seeded => match seed >> 33 & 15 {
+        Way::Random => match random % 16 {
             0 => Way::FailsSend(sends, WireFault::Send),
             1 | 2 => Way::FailsReply(sends, WireFault::Lost),
             3 => Way::Whole(503),
@@ -95,6 +99,18 @@ fn another(alloc: Global) -> Result<Outcome, AllocError> {
         status: 201,
         error: None,
     })
+}
+
+// One entry of a delete.
+fn answers(alloc: Global, status: u16) -> Result<Vec<Outcome>, AllocError> {
+    let mut entries = Vec::new(alloc);
+    entries.push(Outcome {
+        kind: ActionKind::Delete,
+        id: Text::empty(),
+        status,
+        error: None,
+    })?;
+    Ok(entries)
 }
 
 // The entries without the last one, or with one for another document, if wanted.
@@ -147,14 +163,14 @@ impl Wire for IndexWire {
             return Err(WireFault::Send);
         }
         self.sends = self.sends.saturating_add(1);
-        self.seed = self
-            .seed
-            .wrapping_mul(6_364_136_223_846_793_005)
-            .wrapping_add(1);
-        self.now = way_at(self.way, self.sends, self.seed);
+        self.now = way_at(self.way, self.sends, self.rng.next_u32());
         match self.now {
             Way::FailsSend(_, fault) => return Err(fault),
             Way::Whole(_) | Way::Loses => {}
+            Way::Answers(status) => match answers(self.alloc, status) {
+                Ok(entries) => self.reply = entries,
+                Err(_) => return Err(WireFault::Memory),
+            },
             _ => match run_all(self.alloc, &mut self.index, writes) {
                 Ok(entries) => self.reply = entries,
                 Err(_) => return Err(WireFault::Memory),
@@ -169,13 +185,4 @@ impl Wire for IndexWire {
         let entries = mem::replace(&mut self.reply, Vec::new(self.alloc));
         answered(self.alloc, self.now, entries)
     }
-}
-
-/// How many writes an index applied.
-pub fn count_applied(alloc: Global, index: &Index) -> Result<usize, AllocError> {
-    let mut count = 0usize;
-    for key in &index.keys(alloc)? {
-        count = count.saturating_add(index.applied(key).len());
-    }
-    Ok(count)
 }

@@ -4,9 +4,9 @@ use Rattle.std.specs.Result.{IsErr}
 use Rattle.std.proofs.lemmas.Option.{slice_get_read}
 use Rattle.std.specs.declared.vec.Vec.{Vec}
 use Rattle.relay_results.specs.declared.outcome.Outcome.{Outcome}
-use Rattle.relay_lane_tests.specs.Telling.{RanOne, entry_of, entries_of}
-use Rattle.relay_lane_tests.proofs.Tellings.{ran_more, ran_less}
-use Rattle.relay_lane_tests.proofs.telling.run_all.Goals as goal
+use Rattle.relay_fixtures.specs.Runs.{RanSome, entry_of, entries_of}
+use Rattle.relay_fixtures.proofs.Items.{ran_more, ran_less}
+use Rattle.relay_fixtures.proofs.runs.run_all.Goals as goal
 
 none_found : {A E : Type 0} (r : Result (Vec Outcome A) E) → IsErr r → entries_of r ≡ []
 none_found (Ok x) h = absurd (cc)
@@ -21,7 +21,7 @@ returns-in_err-entry c o number shows sent =
     let count = i.count in
     let at : slice_get ws (length os) ≡ Some w = subst (λ k. slice_get ws k ≡ Some w) (sym count) (slice_get_read ws (length ws) c.loop-write.write-index w refl (omega arith) c.write-item.is) in
     let a = ran_more o number ws w c.loop-write.index c.run_one.new.index os (entry_of c.run_one.result) sent at (i.ran o number shows sent) (λ q m place x y. c.run_one.ensures q m place x y) in
-    subst (RanOne number 0 c.run_one.new.index o) (sym (none_found c.from_residual-in_err-entry.result c.from_residual-in_err-entry.ensures.0)) (ran_less o number c.run_one.new.index (os ++ entry_of c.run_one.result) a)
+    subst (RanSome number 0 c.run_one.new.index o) (sym (none_found c.from_residual-in_err-entry.result c.from_residual-in_err-entry.ensures.0)) (ran_less o number c.run_one.new.index (os ++ entry_of c.run_one.result) a)
 
 pub loop-write-preserved : goal.loop-write-preserved
 loop-write-preserved c =
@@ -37,6 +37,6 @@ loop-write-preserved c =
     let longer = ap length now ∙ length-append os (entry ∷ []) in
     record {
       count = omega (arith, longer, one, count);
-      ran = λ o number shows sent. subst (RanOne number 0 c.run_one.new.index o) (sym now)
+      ran = λ o number shows sent. subst (RanSome number 0 c.run_one.new.index o) (sym now)
           (ran_more o number ws w c.loop-write.index c.run_one.new.index os (entry ∷ []) sent at (i.ran o number shows sent) (λ q m place x y. c.in_ok-entry.ensures q m place x y));
     }

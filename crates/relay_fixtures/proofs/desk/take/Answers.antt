@@ -4,7 +4,7 @@ use Rattle.relay_action.specs.declared.mail.Body.TheVariants as body
 use Rattle.relay_core.specs.State.{State, Seen, after_take}
 use Rattle.relay_lane.specs.Out.{out_of}
 use Rattle.relay_lane.proofs.Out.{take_keeps_out}
-use Rattle.relay_wires_tests.proofs.desk.take.Goals as goal
+use Rattle.relay_fixtures.proofs.desk.take.Goals as goal
 
 take_config : (s : State) (sender : ℕ) (b : Body) → (after_take s sender b).config ≡ s.config
 take_config s sender (body.Put o) = refl

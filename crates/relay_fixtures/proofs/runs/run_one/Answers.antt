@@ -2,9 +2,9 @@ use Rattle.std.proofs.Common.{refl, sym, subst}
 use Rattle.relay_results.specs.Documents.{document_of}
 use Rattle.relay_results.specs.Outside.{IsOutcomeOf}
 use Rattle.relay_index.specs.Runs.{outcome_of_run}
-use Rattle.relay_lane_tests.specs.Telling.{entry_of}
-use Rattle.relay_lane_tests.proofs.Tellings.{ran_item, one_entry}
-use Rattle.relay_lane_tests.proofs.telling.run_one.Goals as goal
+use Rattle.relay_fixtures.specs.Runs.{entry_of}
+use Rattle.relay_fixtures.proofs.Items.{ran_item, one_entry}
+use Rattle.relay_fixtures.proofs.runs.run_one.Goals as goal
 
 pub returns : goal.returns
 returns c o number place shows at =
