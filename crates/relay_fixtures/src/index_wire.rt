@@ -35,8 +35,8 @@ pub enum Way {
     Answers(u16),
     /// None is run, and every reply is lost.
     Loses,
-    /// At random: not sent, lost after it ran, refused as a whole, answered with too few entries, or
-    /// run and answered.
+    /// At random: not sent, lost after it ran, refused as a whole, answered with too few entries,
+    /// or run and answered.
     Random,
 }
 

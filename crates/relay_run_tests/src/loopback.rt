@@ -2,6 +2,7 @@
 use relay_action::{DocKey, MemStream};
 use relay_fixtures::applied::stores;
 use relay_fixtures::config;
+use relay_fixtures::config::LIMITS;
 use relay_index::{Index, Script};
 use relay_net::TcpListen;
 use relay_run::files::{RunOptions, run_files};
@@ -30,7 +31,7 @@ pub const CONFIG: RelayConfig = RelayConfig {
     limits: Limits {
         count: 1,
         linger: 2,
-        ..config::CONFIG.limits
+        ..LIMITS
     },
     ..config::CONFIG
 };

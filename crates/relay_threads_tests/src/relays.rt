@@ -9,6 +9,7 @@ ghost use Rattle.relay_threads_tests.specs.Handles.{open_names, closed_names};
 use crate::gates::{AheadWire, GateWire, LANES, ahead_of, gate_of};
 use crate::operations::{AtOnce, action_of, is_whole, key_of, losing_wire};
 use relay_batch::Limits;
+use relay_fixtures::config::LIMITS;
 use relay_fixtures::index_wire::IndexWire;
 use relay_fixtures::{config, keys};
 use relay_index::{Index, Script};
@@ -30,7 +31,7 @@ pub const CONFIG: RelayConfig = RelayConfig {
     max_held: 4,
     limits: Limits {
         linger: 3,
-        ..config::CONFIG.limits
+        ..LIMITS
     },
     ..config::CONFIG
 };
@@ -40,7 +41,8 @@ const FOUR_IN_FLIGHT: RelayConfig = RelayConfig {
     max_held: 16,
     limits: Limits {
         count: 2,
-        ..CONFIG.limits
+        linger: 3,
+        ..LIMITS
     },
     in_flight: 4,
     ..CONFIG
