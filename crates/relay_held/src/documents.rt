@@ -352,10 +352,8 @@ impl Documents {
             push_in(&mut self.queues, slot, one)?;
             return Ok(None);
         }
-        match push_new(&mut self.slots, &mut self.queues, one) {
-            Ok(entry) => Ok(Some(entry)),
-            Err(refused) => Err(refused),
-        }
+        let entry = push_new(&mut self.slots, &mut self.queues, one)?;
+        Ok(Some(entry))
     }
 
     /// Sends the first operation of the document in a slot, and takes its write out.

@@ -122,14 +122,10 @@ impl Held {
         if self.waiting.reserve(self.documents.len() + 1).is_err() {
             return Err(NotHeld { one });
         }
-        match self.documents.push(one) {
-            Ok(entry) => {
-                wait(&mut self.waiting, entry);
-                self.count += 1;
-                Ok(())
-            }
-            Err(refused) => Err(refused),
-        }
+        let entry = self.documents.push(one)?;
+        wait(&mut self.waiting, entry);
+        self.count += 1;
+        Ok(())
     }
 
     /// The operation at a place of those that may be sent, in ascending order of version: each is

@@ -98,7 +98,8 @@ pub fn launch(desk: &mut Desk, request: u64, place: u64) -> Option<Write> {
 
 // Whether the first operation of a document waits.
 fn waits(held: &Held, key: &DocKey) -> bool
-    ensures { result ≡ false → (h : Kept) → first_of key.now held.now.list ≡ Some h → waits_here h.flies ≡ false }
+    ensures { result ≡ false → (h : Kept) → first_of key.now held.now.list ≡ Some h
+        → waits_here h.flies ≡ false }
 {
     match held.first(key) {
         Some(one) => one.flies.is_none(),

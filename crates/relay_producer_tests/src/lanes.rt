@@ -35,7 +35,8 @@ fn deal(row: &mut Vec<LanePut>, puts: &mut Vec<LanePut>) -> Result<(), AllocErro
 // One more lane.
 fn add_lane(alloc: Global, capacity: u32, lanes: &mut Lanes) -> Result<(), AllocError>
     requires { (0 < capacity) × (capacity ≤ 65536) }
-    ensures first { OnOk result (AreFresh 0 lanes.old.first.items → AreFresh 0 lanes.new.first.items) }
+    ensures first { OnOk result
+        (AreFresh 0 lanes.old.first.items → AreFresh 0 lanes.new.first.items) }
     ensures second { OnOk result
         (AreFresh 1 lanes.old.second.items → AreFresh 1 lanes.new.second.items) }
     ensures control { OnOk result

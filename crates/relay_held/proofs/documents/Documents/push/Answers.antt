@@ -3,7 +3,6 @@ use Rattle.std.specs.Prelude.{Some}
 use Rattle.relay_held.specs.Queues.{Changes}
 use Rattle.relay_held.specs.Shelf.{queues_in, slot_of}
 use Rattle.relay_held.proofs.Shelving.{queue_shown, set_shown, count_shelved, count_shown, old_entry, new_shown, new_entry, new_slots, unique_shown, unique_shelved}
-use Rattle.relay_held.proofs.documents.Documents.push.Goals.{in-Ok, in-Err}
 use Rattle.relay_held.proofs.documents.Documents.push.Goals as goal
 
 pub returns-in_err-push_in-clause-unique : goal.returns-in_err-push_in-clause-unique
@@ -29,31 +28,36 @@ pub returns-in-Some-clause-unique : goal.returns-in-Some-clause-unique
 returns-in-Some-clause-unique c = unique_shown c.self.inside.queues c.push_in.new.queues c.self.inside.slots.entries c.self.invariant
 
 pub returns-clause-ok : goal.returns-clause-ok
-returns-clause-ok c = elim c.match-push_new.branch [
-  | in-Ok w ↦ rw w.result-is (new_shown c.self.inside.queues c.push_new.new.queues c.self.inside.slots.entries c.push_new.new.slots.entries c.args.one.key c.args.one c.args.self.now c.self.view_is c.in_default.ensures w.in-Ok.ensures.ok)
-  | in-Err w ↦ rw w.result-is tt
-]
+returns-clause-ok c =
+    new_shown c.self.inside.queues c.push_new.new.queues c.self.inside.slots.entries c.push_new.new.slots.entries c.args.one.key c.args.one c.args.self.now c.self.view_is c.in_default.ensures c.in_ok-entry.ensures.ok
 
 pub returns-clause-entry : goal.returns-clause-entry
-returns-clause-entry c = elim c.match-push_new.branch [
-  | in-Ok w ↦ rw w.result-is (ap Some w.in-Ok.ensures.entry ∙ new_entry c.self.inside.queues c.self.inside.slots.entries c.args.one.key (slot_of c.push_new.new.slots.entries c.args.one.key) c.args.one c.args.self.now c.self.view_is c.in_default.ensures)
-  | in-Err w ↦ rw w.result-is tt
-]
+returns-clause-entry c =
+    ap Some c.in_ok-entry.ensures.entry ∙ new_entry c.self.inside.queues c.self.inside.slots.entries c.args.one.key (slot_of c.push_new.new.slots.entries c.args.one.key) c.args.one c.args.self.now c.self.view_is c.in_default.ensures
 
 pub returns-clause-slots : goal.returns-clause-slots
-returns-clause-slots c = elim c.match-push_new.branch [
-  | in-Ok w ↦ new_slots c.self.inside.queues c.push_new.new.queues c.self.inside.slots.entries c.push_new.new.slots.entries c.args.one.key c.args.self.now c.self.view_is c.in_default.ensures w.in-Ok.ensures.others
-  | in-Err w ↦ λ k g h is at. ap (λ ss. slot_of ss k) (w.in-Err.ensures.slots) ∙ ap (λ v. slot_of v.slots k) c.self.view_is
-]
+returns-clause-slots c =
+    new_slots c.self.inside.queues c.push_new.new.queues c.self.inside.slots.entries c.push_new.new.slots.entries c.args.one.key c.args.self.now c.self.view_is c.in_default.ensures c.in_ok-entry.ensures.others
 
 pub returns-clause-more : goal.returns-clause-more
 returns-clause-more c =
     let n = count_shelved c.push_new.new.queues c.push_new.new.slots.entries in
     let m = count_shown c.self.inside.queues c.self.inside.slots.entries c.args.self.now c.self.view_is in
-    elim c.match-push_new.branch [
-      | in-Ok w ↦ let l = w.in-Ok.ensures.more in omega (arith, n, m, l)
-      | in-Err w ↦ let l = ap length w.in-Err.ensures.slots in omega (arith, n, m, l)
-    ]
+    let l = c.in_ok-entry.ensures.more in
+    omega (arith, n, m, l)
+
+pub returns-in_err-entry-clause-slots : goal.returns-in_err-entry-clause-slots
+returns-in_err-entry-clause-slots c = λ k g h is at. ap (λ ss. slot_of ss k) c.in_err-entry.ensures.slots ∙ ap (λ v. slot_of v.slots k) c.self.view_is
+
+pub returns-in_err-entry-clause-more : goal.returns-in_err-entry-clause-more
+returns-in_err-entry-clause-more c =
+    let n = count_shelved c.push_new.new.queues c.push_new.new.slots.entries in
+    let m = count_shown c.self.inside.queues c.self.inside.slots.entries c.args.self.now c.self.view_is in
+    let l = ap length c.in_err-entry.ensures.slots in
+    omega (arith, n, m, l)
 
 pub returns-clause-unique : goal.returns-clause-unique
 returns-clause-unique c = unique_shelved c.push_new.new.queues c.push_new.new.slots.entries c.push_new.ensures.shelf
+
+pub returns-in_err-entry-clause-unique : goal.returns-in_err-entry-clause-unique
+returns-in_err-entry-clause-unique c = unique_shelved c.push_new.new.queues c.push_new.new.slots.entries c.push_new.ensures.shelf
