@@ -1,17 +1,18 @@
 -- Connections that may carry further messages.
-use Rattle.std.proofs.Common.{◌≡◌, ℕ, List, [], ◌∷◌, ◌++◌, append_assoc, length-append, ◌<◌, ◌≤◌, ◌+◌, arith, Some, None, Bool, true, false, Ok, Err, IsTrue, refl, subst, sym, ap, ◌∙◌, inl, inr}
+use Rattle.std.proofs.Common.{◌≡◌, ℕ, List, [], ◌∷◌, ◌++◌, append_assoc, length-append, ◌<◌, ◌≤◌, ◌+◌, arith, Some, None, Bool, true, false, Result, Ok, Err, IsTrue, refl, subst, sym, ap, ◌∙◌, inl, inr}
 use Rattle.std.proofs.lemmas.Bool.Decides.{eqb_tells}
-use Rattle.std.specs.Prelude.{if◌then◌else◌, ◌==◌, ◌&&◌, length}
+use Rattle.std.specs.Prelude.{if◌then◌else◌, ◌==◌, ◌&&◌, length, MatchResult, IsErrAnd}
 use Rattle.relay_action.specs.Streams.{one_more}
 use Rattle.relay_action.specs.declared.write.Write.{Write}
 use Rattle.relay_http.specs.Connection.{Connection, fresh, is_open, phase_of, after_reply}
+use Rattle.relay_http.specs.declared.fault.HttpFault.{HttpFault}
 use Rattle.relay_http.specs.declared.reply.HttpReply.{HttpReply}
 use Rattle.relay_lane.specs.declared.wire.WireFault.{WireFault}
 use Rattle.relay_lane.specs.declared.wire.WireFault.TheVariants as fault
-use Rattle.relay_wires.specs.Numbered.{entry_of, besides}
+use Rattle.relay_wires.specs.Numbers.{entry_of, besides}
 use Rattle.relay_ndjson.specs.Bulk.{text_of}
 use Rattle.relay_http.specs.WrittenRequest.{request}
-use Rattle.relay_wires.specs.Carriers.{Carrier, AllFree, IsFree, AllOutOpen, Picks, PicksOne, Carries, IsWritten, with_written}
+use Rattle.relay_wires.specs.Carriers.{Carrier, AllFree, IsFree, AllOutOpen, Picks, PicksOne, Carries, IsToldWritten, IsWritten, Sends, WritesOn, fault_sent, out_after, with_written}
 
 pub free_push : (cs : List Connection) (c : Connection) → AllFree cs → IsFree c → AllFree (cs ++ c ∷ [])
 free_push [] c all last = (last, tt)
@@ -94,6 +95,37 @@ carry_fails number ws host most out free later failed counted before after c d t
 pub carry_succeeds : (number : ℕ) (ws : List Write) (host : List ℕ) (most : ℕ) (out items : List (ℕ × Connection)) (free later : List Connection) (failed counted before after : ℕ) (c d : Connection)
     → PicksOne free later failed counted before after (Ok c) → d ≡ with_written c (request host (text_of ws)) → items ≡ (number, d) ∷ out → Carries number ws (carrier host most out free failed before) (carrier host most items later counted after) (Ok tt)
 carry_succeeds number ws host most out items free later failed counted before after c d p w e = (c, p.0, p.1, p.2, e ∙ ap (λ x. (number, x) ∷ out) w)
+
+-- ---- the fault of sending
+
+-- the lane gets the result with its fault mapped
+pub told_written : (r : Result (Unit {0}) HttpFault) (s : Result (Unit {0}) WireFault)
+    → MatchResult r (λ u. s ≡ Ok u) (λ e. IsErrAnd s (λ f. f ≡ fault_sent e)) → IsToldWritten r s
+told_written (Ok u) s is = is
+told_written (Err e) (Ok u) is = absurd is
+told_written (Err e) (Err f) is = ap Err is
+
+pub sends_none : (number : ℕ) (ws : List Write) (host : List ℕ) (most : ℕ) (out : List (ℕ × Connection)) (free later : List Connection) (failed counted before after : ℕ) (f : WireFault)
+    → PicksOne free later failed counted before after (Err f) → Sends number ws (carrier host most out free failed before) (carrier host most out later counted after) (Err f)
+sends_none number ws host most out free later failed counted before after fault.Send p =
+    inr (inr (ap (λ x. carrier host most out x counted after) p.0 ∙ ap (λ n. carrier host most out [] n after) p.1 ∙ ap (carrier host most out [] (one_more failed)) p.2))
+sends_none number ws host most out free later failed counted before after fault.Lost p = absurd p
+sends_none number ws host most out free later failed counted before after fault.Unreadable p = absurd p
+sends_none number ws host most out free later failed counted before after fault.Memory p =
+    inr (ap (λ x. carrier host most out x counted after) p.0 ∙ ap (λ n. carrier host most out [] n after) p.1 ∙ ap (carrier host most out [] failed) p.2)
+
+pub sends_on : (number : ℕ) (ws : List Write) (host : List ℕ) (most : ℕ) (out items : List (ℕ × Connection)) (free later : List Connection) (failed counted before after : ℕ) (c d : Connection) (result : Result (Unit {0}) WireFault)
+    → PicksOne free later failed counted before after (Ok c) → WritesOn host ws c d result → items ≡ out_after number result d out → Sends number ws (carrier host most out free failed before) (carrier host most items later counted after) result
+sends_on number ws host most out items free later failed counted before after c d result p w e =
+    inl (record {
+      connection = c;
+      picks = p.0;
+      left = d;
+      carried = w;
+      after = ap (λ n. carrier host most items later n after) p.2 ∙ ap (λ x. carrier host most x later failed after) e;
+    })
+
+-- ---- what always holds, after a request was sent
 
 pub open_after : (number : ℕ) (out items : List (ℕ × Connection)) (c d : Connection) (text : List ℕ) → IsTrue (is_open c.phase) → d ≡ with_written c text → items ≡ (number, d) ∷ out → AllOutOpen out → AllOutOpen items
 open_after number out items c d text h w e all =

@@ -1,4 +1,4 @@
--- What is out, by number.
+-- What is outstanding, by number.
 use Rattle.std.proofs.Common.{◌≡◌, ◌≢◌, ℕ, ◌+◌, ◌<◌, suc, zero, true, false, eqb, ltb, List, [], ◌∷◌, length, get_or, None, Some, refl, ap, sym, arith, inl, inr, eq-eqb}
 use Rattle.std.proofs.lemmas.Bool.{ne_eqb, cases_lt, lt-ltb, eqb-false}
 use Rattle.std.proofs.lemmas.Bool.Decides.{eqb_tells, Decides-eqb}
@@ -7,9 +7,9 @@ use Rattle.std.proofs.lemmas.List.Quantifiers.{position-Some}
 use Rattle.std.specs.List.{remove, position, position_or_len}
 use Rattle.relay_results.specs.Words.{Mem}
 use Rattle.relay_lane.specs.Wires.{without}
-use Rattle.relay_wires.specs.Numbered.{numbers, entry_of, besides}
+use Rattle.relay_wires.specs.Numbers.{numbers, entry_of, besides}
 
--- ---- where the place of a number was looked for
+-- ---- the search for the place of a number
 
 -- no entry has the number
 Lacks : {X : Type 0} → ℕ → List (ℕ × X) → Type 0
@@ -66,7 +66,7 @@ numbers-besides n (e ∷ es) = elim (eqb_tells e.0 n) [
   | inr apart ↦ let other = apart.0 in rw other (ap (λ ns. e.0 ∷ ns) (numbers-besides n es))
 ]
 
--- a number that is out is found
+-- a number that is outstanding is found
 pub entry_of-Mem : {X : Type 0} (n : ℕ) (es : List (ℕ × X)) → Mem n (numbers es) → (x : X) × (entry_of n es ≡ Some x)
 entry_of-Mem n [] m = absurd m
 entry_of-Mem n (e ∷ es) m = elim (eqb_tells e.0 n) [
@@ -77,7 +77,7 @@ entry_of-Mem n (e ∷ es) m = elim (eqb_tells e.0 n) [
   ]
 ]
 
--- what is found is not besides
+-- what is found is not among the others
 pub length-besides : {X : Type 0} (n : ℕ) (es : List (ℕ × X)) (x : X) → entry_of n es ≡ Some x → length (besides n es) + 1 ≡ length es
 length-besides n [] x is = absurd (cc)
 length-besides n (e ∷ es) x is = elim (eqb_tells e.0 n) [

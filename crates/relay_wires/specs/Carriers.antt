@@ -1,13 +1,13 @@
 -- A wire over HTTP connections.
-use Rattle.std.specs.Prelude.{◌≡◌, ◌==◌, ◌&&◌, ◌⊎◌, ℕ, ◌+◌, ◌≤◌, List, [], ◌∷◌, ◌++◌, length, Option, Some, None, IsTrue, Result, Ok, Err, MatchResult, if◌then◌else◌}
+use Rattle.std.specs.Prelude.{◌≡◌, ◌==◌, ◌&&◌, ◌⊎◌, ℕ, ◌+◌, ◌≤◌, true, List, [], ◌∷◌, ◌++◌, length, Option, Some, None, IsTrue, Result, Ok, Err, MatchResult, if◌then◌else◌}
 use Rattle.std.specs.Io.KnownBytes.{append_known}
 use Rattle.relay_action.specs.Streams.{one_more}
 use Rattle.relay_action.specs.declared.write.Write.{Write}
 use Rattle.relay_ndjson.specs.Bulk.{text_of}
-use Rattle.relay_http.specs.Connection.{Connection, IsQuiet, ahead, fresh, is_open, after_reply, failed_reading}
+use Rattle.relay_http.specs.Connection.{Connection, IsQuiet, ahead, fresh, is_open, after_reply, after_write, failed_reading, failed_writing}
 use Rattle.relay_http.specs.Forms.{Begins, Took, Fails, IsOutside, IsThatOrOutside}
 use Rattle.relay_http.specs.Reply.{IsReplyMessage, ReplyStates, ReplyPasses, reply_view}
-use Rattle.relay_http.specs.WrittenRequest.{is_host, request}
+use Rattle.relay_http.specs.WrittenRequest.{is_host, request, SendsRequest}
 use Rattle.relay_http.specs.declared.fault.HttpFault.{HttpFault}
 use Rattle.relay_http.specs.declared.fault.HttpFault.TheVariants as http
 use Rattle.relay_http.specs.declared.reply.HttpReply.{HttpReply}
@@ -15,8 +15,8 @@ use Rattle.relay_results.specs.Outside.{Outside}
 use Rattle.relay_lane.specs.declared.wire.WireReply.{WireReply}
 use Rattle.relay_lane.specs.declared.wire.WireFault.{WireFault}
 use Rattle.relay_lane.specs.declared.wire.WireFault.TheVariants as fault
-use Rattle.relay_wires.specs.Numbered.{entry_of, besides}
-use Rattle.relay_wires.specs.Told.{Tells}
+use Rattle.relay_wires.specs.Numbers.{entry_of, besides}
+use Rattle.relay_wires.specs.Meaning.{Tells}
 
 -- ---- the wire
 
@@ -91,6 +91,68 @@ Carries number ws old new (Err fault.Lost) = ⊥
 Carries number ws old new (Err fault.Unreadable) = ⊥
 Carries number ws old new (Err fault.Memory) = (c : Connection) × Picks old.free new.free old.dialled new.dialled c × (new ≡ record old { free = new.free; dialled = new.dialled })
 
+-- the result of writing the request with these writes to this host on a connection, and the connection afterwards
+pub record Writes (host : List ℕ) (ws : List Write) (c d : Connection) (r : Result (Unit {0}) HttpFault) : Type 0 where
+  pub lasts : IsTrue (is_open c.phase)
+  pub sent : SendsRequest host ws c.written d.written r
+  pub phase : d.phase ≡ after_write true r
+  pub failed : d.failed ≡ failed_writing r c.failed
+  pub left : d.left ≡ c.left
+  pub held : d.held ≡ c.held
+
+-- a fault of a connection while writing means that the request was not sent, except for a failed allocation
+abbrev pub fault_sent : HttpFault → WireFault
+fault_sent http.Malformed = fault.Send
+fault_sent http.HeadLong = fault.Send
+fault_sent http.BodyLong = fault.Send
+fault_sent http.CodedBody = fault.Send
+fault_sent http.BothLengths = fault.Send
+fault_sent http.Ended = fault.Send
+fault_sent http.Read = fault.Send
+fault_sent http.Write = fault.Send
+fault_sent http.TooManyInterim = fault.Send
+fault_sent http.Memory = fault.Memory
+fault_sent http.Broken = fault.Send
+
+-- what the result of writing means to the lane
+abbrev pub IsToldWritten : Result (Unit {0}) HttpFault → Result (Unit {0}) WireFault → Type 0
+IsToldWritten (Ok u) result = result ≡ Ok u
+IsToldWritten (Err f) result = result ≡ Err (fault_sent f)
+
+-- the request with these writes was written on a connection as far as it could be, and the lane gets the result
+pub record WritesOn (host : List ℕ) (ws : List Write) (c d : Connection) (result : Result (Unit {0}) WireFault) : Type 0 where
+  pub write : Result (Unit {0}) HttpFault
+  pub writes : Writes host ws c d write
+  pub told : IsToldWritten write result
+
+-- the request is then outstanding on that connection, which a fault drops
+abbrev pub out_after : ℕ → Result (Unit {0}) WireFault → Connection → List (ℕ × Connection) → List (ℕ × Connection)
+out_after number (Ok u) d out = (number, d) ∷ out
+out_after number (Err f) d out = out
+
+-- sending a request on the connection that was picked
+pub record SendsOn (number : ℕ) (ws : List Write) (old new : Carrier) (result : Result (Unit {0}) WireFault) : Type 0 where
+  pub connection : Connection
+  pub picks : Picks old.free new.free old.dialled new.dialled connection
+  pub left : Connection
+  pub carried : WritesOn old.host ws connection left result
+  pub after : new ≡ record old { out = out_after number result left old.out; free = new.free; dialled = new.dialled }
+
+-- No connection was picked: the maximum number of requests is outstanding, or the dial failed; or allocating the window
+-- of a fresh connection did.
+abbrev pub PicksNone : Carrier → Carrier → Result (Unit {0}) WireFault → Type 0
+PicksNone old new (Ok u) = ⊥
+PicksNone old new (Err fault.Send) =
+    ((old.most ≤ length old.out) × (new ≡ old))
+    ⊎ (new ≡ record old { free = []; failed = one_more old.failed; dialled = one_more old.dialled })
+PicksNone old new (Err fault.Lost) = ⊥
+PicksNone old new (Err fault.Unreadable) = ⊥
+PicksNone old new (Err fault.Memory) = new ≡ record old { free = []; dialled = one_more old.dialled }
+
+-- Sending a request with these writes: its fault is that of writing it, unless no connection was picked.
+abbrev pub Sends : ℕ → List Write → Carrier → Carrier → Result (Unit {0}) WireFault → Type 0
+Sends number ws old new result = SendsOn number ws old new result ⊎ PicksNone old new result
+
 -- ---- a reply is received
 
 -- the result of reading a reply from a connection, and the connection afterwards
@@ -119,7 +181,7 @@ fault_received http.TooManyInterim = fault.Lost
 fault_received http.Memory = fault.Memory
 fault_received http.Broken = fault.Lost
 
--- what the lane is told of what was read
+-- what the reply that was read means to the lane
 abbrev pub IsTold : Result HttpReply HttpFault → Result WireReply WireFault → Type 0
 IsTold (Ok reply) result = Tells (reply_view reply) result
 IsTold (Err f) result = result ≡ Err (fault_received f)
@@ -129,7 +191,7 @@ abbrev pub free_after : Result HttpReply HttpFault → Connection → List Conne
 free_after (Ok reply) d free = if reply.keep && (length d.held == 0) then free ++ d ∷ [] else free
 free_after (Err f) d free = free
 
--- Receiving the reply to a number: it is read from the connection of that request, and told by the table of statuses.
+-- Receiving the reply to a number: it is read from the connection of that request, and returned by the table of statuses.
 pub record Brings (number : ℕ) (old new : Carrier) (result : Result WireReply WireFault) : Type 0 where
   pub connection : Connection
   pub out_on : entry_of number old.out ≡ Some connection
@@ -143,7 +205,7 @@ pub record Brings (number : ℕ) (old new : Carrier) (result : Result WireReply 
 abbrev pub FitsNone : Carrier → Outside → Type 0
 FitsNone w o = ⊥
 
--- ---- what private steps answer
+-- ---- the results of private steps
 
 -- a free connection that is quiet, if there is one
 abbrev pub FindsFree : List Connection → List Connection → Option Connection → Type 0

@@ -1,3 +1,3 @@
-pub mod Numbered
-pub mod Told
+pub mod Numbers
+pub mod Meaning
 pub mod Carriers

@@ -1,6 +1,6 @@
 //! One request on one connection.
 ghost use Rattle.std.specs.Prelude.{◌≡◌, ◌==◌, ◌&&◌, ◌∷◌, ◌++◌, []};
-ghost use Rattle.std.specs.Prelude.{if◌then◌else◌, ◌+◌, ◌<◌, ◌≤◌, ◌⊎◌};
+ghost use Rattle.std.specs.Prelude.{if◌then◌else◌, ◌+◌, ◌<◌, ◌≤◌};
 ghost use Rattle.std.specs.Prelude.{length, vec_len, vec_capacity, IfOk, IsTrue};
 ghost use Rattle.relay_ndjson.specs.Bulk.{text_of};
 ghost use Rattle.relay_http.specs.Connection.{is_open};
@@ -8,7 +8,8 @@ ghost use Rattle.relay_http.specs.Framing.{request_limit};
 ghost use Rattle.relay_http.specs.WrittenRequest.{is_host, request};
 ghost use Rattle.relay_lane.specs.Wires.{IsWireReply};
 ghost use Rattle.relay_wires.specs.Carriers.{AllFree, IsFree, FindsFree, PicksOne};
-ghost use Rattle.relay_wires.specs.Carriers.{IsWritten, BringsFrom, fault_received};
+ghost use Rattle.relay_wires.specs.Carriers.{IsWritten, WritesOn, fault_sent};
+ghost use Rattle.relay_wires.specs.Carriers.{BringsFrom, fault_received};
 
 use crate::told::tell;
 use relay_action::{ByteIn, ByteOut, ByteStream, Write};
@@ -61,14 +62,15 @@ pub(crate) fn carry<S: ByteOut + Drop>(
     requires host { IsTrue (is_host host.now) }
     requires few { length writes.now ≤ 10000 }
     requires size { length (text_of writes.now) ≤ request_limit }
-    ensures { IsWritten conn.old conn.new (request host.now (text_of writes.now)) result }
+    ensures written { IsWritten conn.old conn.new (request host.now (text_of writes.now)) result }
+    ensures on { WritesOn host.now writes.now conn.old conn.new result }
 {
     conn.write_request(alloc, host, writes).map_err(fault_sent)
 }
 
-// What the lane is told after a fault of a connection while sending.
+// What a fault of a connection while sending means to the lane.
 fn fault_sent(fault: HttpFault) -> WireFault
-    ensures { (result ≡ WireFault.Send) ⊎ (result ≡ WireFault.Memory) }
+    ensures { result ≡ fault_sent fault }
 {
     match fault {
         HttpFault::Memory => WireFault::Memory,
@@ -76,7 +78,7 @@ fn fault_sent(fault: HttpFault) -> WireFault
     }
 }
 
-// What the lane is told after a fault of a connection while reading.
+// What a fault of a connection while reading means to the lane.
 fn fault_received(fault: HttpFault) -> WireFault
     ensures { result ≡ fault_received fault }
 {

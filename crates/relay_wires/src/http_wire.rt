@@ -87,8 +87,8 @@ impl<S: ByteIn + ByteOut + Peek + Drop, D: Dial<S> + Drop> Wire for HttpWire<S, 
     ghost use Rattle.relay_ndjson.specs.Bulk.{text_of};
     ghost use Rattle.relay_results.specs.Words.{Mem};
     ghost use Rattle.relay_lane.specs.Wires.{IsWireReply, without};
-    ghost use Rattle.relay_wires.specs.Numbered.{numbers};
-    ghost use Rattle.relay_wires.specs.Carriers.{Carries, Brings, FitsNone};
+    ghost use Rattle.relay_wires.specs.Numbers.{numbers};
+    ghost use Rattle.relay_wires.specs.Carriers.{Carries, Sends, Brings, FitsNone};
 
     ghost out = { λ w. numbers w.out };
 
@@ -111,6 +111,9 @@ impl<S: ByteIn + ByteOut + Peek + Drop, D: Dial<S> + Drop> Wire for HttpWire<S, 
             (λ _. numbers self.new.out ≡ numbers self.old.out) }
         // What is sent is the request with these writes.
         ensures carries { Carries number writes.now self.old self.new result }
+        // An error is the one that the fault of writing the request maps to; if no connection was
+        // picked, it is Send, or Memory if the window of a fresh one could not be allocated.
+        ensures sends { Sends number writes.now self.old self.new result }
     {
         if self.out.len() >= self.most as usize {
             return Err(WireFault::Send);

@@ -2,7 +2,7 @@
 ghost use Rattle.std.specs.Prelude.{◌≡◌, ◌==◌};
 ghost use Rattle.std.specs.List.{position};
 ghost use Rattle.std.specs.VecDeque.{deque_capacity};
-ghost use Rattle.relay_wires.specs.Numbered.{entry_of, besides};
+ghost use Rattle.relay_wires.specs.Numbers.{entry_of, besides};
 
 use std::collections::VecDeque;
 

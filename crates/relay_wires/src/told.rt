@@ -1,6 +1,6 @@
 //! What an HTTP reply means to a lane.
 ghost use Rattle.relay_http.specs.Reply.{reply_view};
-ghost use Rattle.relay_wires.specs.Told.{Tells};
+ghost use Rattle.relay_wires.specs.Meaning.{Tells};
 
 use relay_http::HttpReply;
 use relay_lane::{WireFault, WireReply};

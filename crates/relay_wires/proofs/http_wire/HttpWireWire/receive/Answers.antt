@@ -1,5 +1,5 @@
 use Rattle.std.proofs.Common.{◌≡◌, length, refl, sym, ap, subst, string_bytes, ◌∙◌, arith}
-use Rattle.relay_wires.specs.Numbered.{besides}
+use Rattle.relay_wires.specs.Numbers.{besides}
 use Rattle.relay_wires.specs.Carriers.{Carrier, AllOutOpen, Brings}
 use Rattle.relay_wires.proofs.Numbers.{entry_of-Mem, numbers-besides, length-besides}
 use Rattle.relay_wires.proofs.Connections.{open_entry, open_besides}

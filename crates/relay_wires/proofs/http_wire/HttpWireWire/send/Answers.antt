@@ -1,10 +1,10 @@
-use Rattle.std.proofs.Common.{rules, ◌≡◌, Err, Ok, ap, subst, string_bytes, ◌∙◌}
+use Rattle.std.proofs.Common.{rules, ◌≡◌, Err, Ok, refl, ap, subst, string_bytes, ◌∙◌}
 use Rattle.std.proofs.lemmas.Result.{err_from_is_err_and}
 use Rattle.relay_ndjson.specs.Bulk.{text_of}
 use Rattle.relay_http.specs.WrittenRequest.{request}
 use Rattle.relay_wires.specs.Carriers.{with_written}
-use Rattle.relay_wires.specs.Carriers.{Carrier, Carries}
-use Rattle.relay_wires.proofs.Connections.{carry_succeeds, carry_fails, few_after, few_left, open_after, pick_fails}
+use Rattle.relay_wires.specs.Carriers.{Carrier, Carries, Sends, WritesOn}
+use Rattle.relay_wires.proofs.Connections.{carry_succeeds, carry_fails, few_after, few_left, open_after, pick_fails, sends_none, sends_on}
 use Rattle.relay_wires.proofs.http_wire.HttpWireWire.send.Goals as goal
 
 pub returns-in_err-conn-clause-carries : goal.returns-in_err-conn-clause-carries
@@ -38,7 +38,7 @@ returns-in_err-carry-clause-carries g c =
     (subst (λ (w : Carrier). Carries c.args.number c.args.writes.now w now (Err c.in_err-carry.field-0.0)) c.self.view_is
     (carry_fails c.args.number c.args.writes.now (string_bytes c.self.inside.host) c.self.inside.most c.self.inside.out.items c.self.inside.free.items c.pick.new.free.items
     (g.D.Dial.failed c.self.inside.dial) (g.D.Dial.failed c.pick.new.dial) (g.D.Dial.dialled c.self.inside.dial) (g.D.Dial.dialled c.pick.new.dial) c.in_ok-conn.conn c.carry.new.conn (request c.deref.result.now (text_of c.args.writes.now))
-    c.in_err-carry.field-0.0 c.in_ok-conn.ensures.picks c.in_err-carry.ensures))
+    c.in_err-carry.field-0.0 c.in_ok-conn.ensures.picks c.in_err-carry.ensures.written))
 
 pub invariant_of-self-in_err-carry : goal.invariant_of-self-in_err-carry
 invariant_of-self-in_err-carry g c =
@@ -55,7 +55,7 @@ invariant_of-self-in_err-carry g c =
 pub invariant_of-self-2 : goal.invariant_of-self-2
 invariant_of-self-2 g c =
     let picks = c.in_ok-conn.ensures.picks in
-    let written = c.in_ok-carry.ensures in
+    let written = c.in_ok-carry.ensures.written in
     let items = c.push_front_reserved.ensures.items in
     record {
       host = c.self.invariant.host;
@@ -80,4 +80,54 @@ returns-clause-carries g c =
     subst (λ (w : Carrier). Carries c.args.number c.args.writes.now w now (Ok tt)) c.self.view_is
     (carry_succeeds c.args.number c.args.writes.now (string_bytes c.self.inside.host) c.self.inside.most c.self.inside.out.items c.push_front_reserved.new.self.items c.self.inside.free.items c.pick.new.free.items
     (g.D.Dial.failed c.self.inside.dial) (g.D.Dial.failed c.pick.new.dial) (g.D.Dial.dialled c.self.inside.dial) (g.D.Dial.dialled c.pick.new.dial) c.in_ok-conn.conn c.carry.new.conn
-    c.in_ok-conn.ensures.picks (c.in_ok-carry.ensures ∙ ap (λ h. with_written c.in_ok-conn.conn (request h (text_of c.args.writes.now))) host) c.push_front_reserved.ensures.items)
+    c.in_ok-conn.ensures.picks (c.in_ok-carry.ensures.written ∙ ap (λ h. with_written c.in_ok-conn.conn (request h (text_of c.args.writes.now))) host) c.push_front_reserved.ensures.items)
+
+pub returns-in_err-conn-clause-sends : goal.returns-in_err-conn-clause-sends
+returns-in_err-conn-clause-sends g c =
+    let p = err_from_is_err_and c.from_residual.result c.from_residual.ensures.1 in
+    let now : Carrier = record {
+      host = string_bytes c.self.inside.host;
+      most = c.self.inside.most;
+      out = c.self.inside.out.items;
+      free = c.pick.new.free.items;
+      failed = g.D.Dial.failed c.pick.new.dial;
+      dialled = g.D.Dial.dialled c.pick.new.dial;
+    } in
+    rw (p.1, p.2)
+    (subst (λ (w : Carrier). Sends c.args.number c.args.writes.now w now (Err c.in_err-conn.field-0.0)) c.self.view_is
+    (sends_none c.args.number c.args.writes.now (string_bytes c.self.inside.host) c.self.inside.most c.self.inside.out.items c.self.inside.free.items c.pick.new.free.items
+    (g.D.Dial.failed c.self.inside.dial) (g.D.Dial.failed c.pick.new.dial) (g.D.Dial.dialled c.self.inside.dial) (g.D.Dial.dialled c.pick.new.dial) c.in_err-conn.field-0.0 c.in_err-conn.ensures.picks))
+
+pub returns-in_err-carry-clause-sends : goal.returns-in_err-carry-clause-sends
+returns-in_err-carry-clause-sends g c =
+    let p = err_from_is_err_and c.from_residual-in_err-carry.result c.from_residual-in_err-carry.ensures.1 in
+    let host : c.deref.result.now ≡ string_bytes c.self.inside.host = c.deref.ensures in
+    let now : Carrier = record {
+      host = string_bytes c.self.inside.host;
+      most = c.self.inside.most;
+      out = c.self.inside.out.items;
+      free = c.pick.new.free.items;
+      failed = g.D.Dial.failed c.pick.new.dial;
+      dialled = g.D.Dial.dialled c.pick.new.dial;
+    } in
+    rw (p.1, p.2)
+    (subst (λ (w : Carrier). Sends c.args.number c.args.writes.now w now (Err c.in_err-carry.field-0.0)) c.self.view_is
+    (sends_on c.args.number c.args.writes.now (string_bytes c.self.inside.host) c.self.inside.most c.self.inside.out.items c.self.inside.out.items c.self.inside.free.items c.pick.new.free.items
+    (g.D.Dial.failed c.self.inside.dial) (g.D.Dial.failed c.pick.new.dial) (g.D.Dial.dialled c.self.inside.dial) (g.D.Dial.dialled c.pick.new.dial) c.in_ok-conn.conn c.carry.new.conn (Err c.in_err-carry.field-0.0)
+    c.in_ok-conn.ensures.picks (subst (λ h. WritesOn h c.args.writes.now c.in_ok-conn.conn c.carry.new.conn (Err c.in_err-carry.field-0.0)) host c.in_err-carry.ensures.on) refl))
+
+pub returns-clause-sends : goal.returns-clause-sends
+returns-clause-sends g c =
+    let host : c.deref.result.now ≡ string_bytes c.self.inside.host = c.deref.ensures in
+    let now : Carrier = record {
+      host = string_bytes c.self.inside.host;
+      most = c.self.inside.most;
+      out = c.push_front_reserved.new.self.items;
+      free = c.pick.new.free.items;
+      failed = g.D.Dial.failed c.pick.new.dial;
+      dialled = g.D.Dial.dialled c.pick.new.dial;
+    } in
+    subst (λ (w : Carrier). Sends c.args.number c.args.writes.now w now (Ok tt)) c.self.view_is
+    (sends_on c.args.number c.args.writes.now (string_bytes c.self.inside.host) c.self.inside.most c.self.inside.out.items c.push_front_reserved.new.self.items c.self.inside.free.items c.pick.new.free.items
+    (g.D.Dial.failed c.self.inside.dial) (g.D.Dial.failed c.pick.new.dial) (g.D.Dial.dialled c.self.inside.dial) (g.D.Dial.dialled c.pick.new.dial) c.in_ok-conn.conn c.carry.new.conn (Ok tt)
+    c.in_ok-conn.ensures.picks (subst (λ h. WritesOn h c.args.writes.now c.in_ok-conn.conn c.carry.new.conn (Ok tt)) host c.in_ok-carry.ensures.on) c.push_front_reserved.ensures.items)

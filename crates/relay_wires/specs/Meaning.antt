@@ -1,4 +1,4 @@
--- What an HTTP reply tells a lane.
+-- What an HTTP reply means to a lane.
 use Rattle.std.specs.Prelude.{◌≡◌, ◌≢◌, Result, Ok, Err}
 use Rattle.relay_lane.specs.declared.wire.WireReply.{WireReply}
 use Rattle.relay_lane.specs.declared.wire.WireReply.TheVariants as reply
@@ -9,7 +9,7 @@ use Rattle.relay_results.specs.declared.reading.ReplyFault.{ReplyFault}
 use Rattle.relay_results.specs.declared.reading.ReplyFault.TheVariants as unread
 use Rattle.relay_results.specs.Replies.{IsBulkReply, IsFaultOf}
 
--- The table of statuses: 200 with a readable body tells its entries, 200 with another body that it could not be read,
+-- The table of statuses: 200 with a readable body means its entries, 200 with another body that it could not be read,
 -- and any other status itself. Only reading a body allocates.
 abbrev pub Tells : Reply → Result WireReply WireFault → Type 0
 Tells r (Ok (reply.Items outcomes)) = (r.status ≡ 200) × IsBulkReply r.body outcomes.items
