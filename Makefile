@@ -1,7 +1,7 @@
-# What the repository's reader runs. `rt` is the kit's command.
+# The commands of this repository. `rt` is the kit's command.
 .PHONY: demo check test refusals build bench
 
-# Builds the program, proved, the crates below it side by side.
+# Proves and builds the program, its crates in parallel.
 build:
 	@python3 tests/build.py relay
 
@@ -9,24 +9,26 @@ build:
 demo:
 	@python3 examples/demo.py
 
-# Proves one crate, runs its tests and tries its edits, as the gate does: `make check CRATE=relay_core`.
+# Proves one crate, runs its tests and tries its edits: `make check CRATE=relay_core`.
 check:
 	@test -d "crates/$(CRATE)/src" || { echo "usage: make check CRATE=NAME, where crates/NAME is a crate"; exit 1; }
-	rt ci $(CRATE) $(notdir $(wildcard crates/$(CRATE)_tests))
+	cd crates/$(CRATE) && rt check
+	@if test -d crates/$(CRATE)_tests; then cd crates/$(CRATE)_tests && rt test; fi
+	@if test -d crates/$(CRATE)/must-fail; then rt must-fail $(CRATE); fi
 
-# The gate, with the processor minutes of each crate, and then from the outside the program that it proved and built.
+# The gate, with the processor minutes of each crate, and then the end-to-end tests of the program that it proved and built.
 test:
 	@echo "following the pointers of the tables of rules"
 	python3 tests/pointers.py
-	@echo "the gate; this takes a good while, and a line a minute says what it is at"
+	@echo "running the gate; this takes a long time, and reports its progress every minute"
 	python3 tests/gate.py
-	@echo "handing what relay_http writes to the HTTP client and server of Python"
+	@echo "passing what relay_http writes to Python's HTTP client and server"
 	@python3 tests/http_fixtures.py > /dev/null
-	@echo "running the benchmark's tool and the program from the outside"
+	@echo "running the end-to-end tests of the benchmark's tool and of the program"
 	python3 tests/bench_tool.py crates/relay_bench/out/relay_bench
 	python3 tests/run.py crates/relay/out/relay
 
-# Each allocation of the tests for that refused in turn, with what the gate built, and runs of the program with many refused.
+# Tests that the gate built, with each of their allocations refused in turn, and runs of the program with many refused.
 refusals:
 	@echo "refusing each allocation in turn; this takes a few minutes"
 	python3 tests/refusals.py crates/relay/out/relay

@@ -1,9 +1,10 @@
-"""Proves and links programs, the crates below them side by side: `python3 tests/build.py PROGRAM..`, at the top, by `make build`.
+"""Proves and links programs, their crates in parallel. `make build` runs `python3 tests/build.py PROGRAM..` at the top.
 
-`rt run` proves those crates one after another, and `rt ci` of this repository would run all tests and try all edits. So this makes
-a repository of its own for a while, of the crates that the programs need, without tests and edits, and has `rt ci` prove and link
-that. What passed is kept on the machine, for the next build and for the gate.
+`rt run` would prove these crates one after another, and `rt ci` in this repository would run all tests and try all edits. So this
+makes a temporary repository of the crates that the programs need, without tests and edits, and lets `rt ci` prove and link that.
+Programs that were built from the same files with the same kit are not built again.
 """
+import hashlib
 import os
 import shutil
 import subprocess
@@ -18,13 +19,13 @@ LEFT_OUT = ("out", "must-fail")
 
 
 def lines_of(path):
-    """The line of each crate in crates.txt, by its name."""
+    """Returns the line of each crate in crates.txt, by its name."""
     with open(path) as file:
         return {line.partition(":")[0].split()[0]: line for line in file if line.strip() and not line.startswith("#")}
 
 
 def needed(lines, programs):
-    """The programs and the crates below them."""
+    """Returns the names of the programs and of the crates below them."""
     found, left = set(), list(programs)
     while left:
         name = left.pop()
@@ -35,7 +36,7 @@ def needed(lines, programs):
 
 
 def copy(lines, names, folder):
-    """Makes the repository."""
+    """Makes the temporary repository."""
     for name in names:
         shutil.copytree(os.path.join(TOP, "crates", name), os.path.join(folder, "crates", name), ignore=shutil.ignore_patterns(*LEFT_OUT))
     shutil.copy(os.path.join(TOP, "HANDLES"), folder)
@@ -46,8 +47,38 @@ def copy(lines, names, folder):
     subprocess.run(["git", "init", "-q"], cwd=folder, check=True)
 
 
+def sum_of(lines, program):
+    """Returns a checksum of the kit's identity and of what a program is built from."""
+    found = hashlib.sha256(subprocess.run(["rt", "version"], capture_output=True, check=True).stdout)
+    for crate in sorted(needed(lines, [program])):
+        found.update(lines[crate].encode())
+        for place, folders, files in os.walk(os.path.join(TOP, "crates", crate)):
+            folders[:] = sorted(set(folders) - set(LEFT_OUT))
+            for name in sorted(files):
+                path = os.path.join(place, name)
+                with open(path, "rb") as file:
+                    content = file.read()
+                found.update(b"%s %d\n" % (os.path.relpath(path, TOP).encode(), len(content)))
+                found.update(content)
+    return found.hexdigest()
+
+
+def stamp_of(sources, place):
+    """Returns what is kept beside a built program: the checksum of what it was built from, and its own."""
+    with open(place, "rb") as file:
+        return "%s %s\n" % (sources, hashlib.sha256(file.read()).hexdigest())
+
+
+def is_built(sources, place):
+    """Returns true if the program there is the one that this script built from these sources: `rt` also builds to that place."""
+    if not os.path.exists(place) or not os.path.exists(place + ".sum"):
+        return False
+    with open(place + ".sum") as file:
+        return file.read() == stamp_of(sources, place)
+
+
 def prove(folder):
-    """Whether `rt ci` passed there. What it said is in the log."""
+    """Runs `rt ci` there, and returns true if it passed. Its output goes to the log."""
     os.makedirs(os.path.dirname(LOG), exist_ok=True)
     with open(LOG, "w") as log:
         gate = subprocess.Popen(["rt", "ci"], cwd=folder, stdout=log, stderr=subprocess.STDOUT)
@@ -65,20 +96,29 @@ def main():
     unknown = [name for name in programs if name not in lines]
     if unknown or not programs:
         sys.exit("usage: python3 tests/build.py PROGRAM.., each a crate of crates.txt")
-    names = needed(lines, programs)
-    print("proving and building %s, %d crates with those below; the first time takes more than an hour of processor time for relay" % (" and ".join(programs), len(names)), flush=True)
+    sums = {name: sum_of(lines, name) for name in programs}
+    places = {name: os.path.join("crates", name, "out", name) for name in programs}
+    left = [name for name in programs if not is_built(sums[name], os.path.join(TOP, places[name]))]
+    for name in programs:
+        if name not in left:
+            print("built before, and nothing has changed: %s" % places[name])
+    if not left:
+        return
+    names = needed(lines, left)
+    print("proving and building %s, %d crates in all; for relay this takes more than an hour of processor time" % (" and ".join(left), len(names)), flush=True)
     with tempfile.TemporaryDirectory() as folder:
         copy(lines, names, folder)
         if not prove(folder):
             with open(LOG, errors="replace") as log:
                 print("\n".join(failures_of(log)))
-            sys.exit("not built; all that was said is in %s" % LOG)
-        for name in programs:
-            built, place = os.path.join(folder, "crates", name, "out", name), os.path.join("crates", name, "out", name)
-            if os.path.exists(built):
-                os.makedirs(os.path.join(TOP, os.path.dirname(place)), exist_ok=True)
-                shutil.copy(built, os.path.join(TOP, place))
-                print("built: %s" % place)
+            sys.exit("not built; the whole output is in %s" % LOG)
+        for name in left:
+            place = os.path.join(TOP, places[name])
+            os.makedirs(os.path.dirname(place), exist_ok=True)
+            shutil.copy(os.path.join(folder, places[name]), place)
+            with open(place + ".sum", "w") as file:
+                file.write(stamp_of(sums[name], place))
+            print("built: %s" % places[name])
 
 
 main()
