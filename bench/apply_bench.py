@@ -1,4 +1,4 @@
-"""Measures `relay apply`: as many writes on few documents and on many, one request each."""
+"""Measures `relay apply` on one request: the same number of writes, on few documents and on many."""
 import os
 import subprocess
 import time
@@ -9,7 +9,7 @@ DOCUMENTS = (100, 100000)
 
 
 def make_body(path, documents):
-    """Writes with rising versions, over the documents in turn."""
+    """Writes with increasing versions, cycling through the documents."""
     with open(path, "w") as file:
         for n in range(WRITES):
             file.write('{"index":{"_id":"document-%d","_index":"books","version":%d,"version_type":"external"}}\n{"n":%d}\n' % (n % documents, n + 1, n))
@@ -23,7 +23,7 @@ def once(program, path, out):
 
 
 def is_applied(out):
-    """Whether the reply says that every write was applied."""
+    """Returns true if the reply says that every write was applied."""
     with open(out, "rb") as file:
         return file.read().startswith(b'200\n{"errors":false,')
 

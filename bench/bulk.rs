@@ -1,7 +1,7 @@
-// The two ends that every relay needs, in plain Rust: `bulk serve NANOSECONDS [MOST [MICROSECONDS]]` is an index that
-// answers each bulk request with success, at once or after that long for each operation and for each request, and one
-// whose body has more than MOST bytes with 413; `bulk ready PORT FILE..` sends requests that stand ready in files, one
-// connection a file, and reads each reply to its end.
+// The two ends that every relay is measured with, in plain Rust. `bulk serve NANOSECONDS [MOST [MICROSECONDS]]` is an index
+// that answers each bulk request with success, after NANOSECONDS per operation and MICROSECONDS per request, or with 413 if
+// its body has more than MOST bytes. `bulk ready PORT FILE..` sends requests that were prepared in files, with one
+// connection per file, and reads each reply to its end.
 use std::fs::File;
 use std::io::{self, BufRead, BufReader, Write};
 use std::net::{TcpListener, TcpStream};
@@ -9,10 +9,10 @@ use std::sync::atomic::{AtomicU64, Ordering};
 use std::thread;
 use std::time::{Duration, Instant};
 
-// Operations that were answered, by all connections.
+// How many operations were answered, over all connections.
 static ANSWERED: AtomicU64 = AtomicU64::new(0);
 
-// The length that a line of a head gives the body.
+// The length of the body, if this line of a head states it.
 fn length_of(line: &[u8]) -> Option<usize> {
     let text = std::str::from_utf8(line).ok()?;
     let (name, value) = text.split_once(':')?;
@@ -23,8 +23,8 @@ fn length_of(line: &[u8]) -> Option<usize> {
     }
 }
 
-// Reads a message whole, head and body behind one another. The answer is where the body begins, or None where the
-// stream ends in front of it.
+// Reads a whole message, the head and then the body. Returns where the body begins, or None if the stream ends before
+// the end of the head.
 fn read_message<R: BufRead>(stream: &mut R, message: &mut Vec<u8>) -> io::Result<Option<usize>> {
     message.clear();
     let mut length = 0;
@@ -45,7 +45,7 @@ fn read_message<R: BufRead>(stream: &mut R, message: &mut Vec<u8>) -> io::Result
     Ok(Some(head))
 }
 
-// The id in an action line. The measured ones need no escape.
+// The id in an action line. The ids of the benchmark need no escapes.
 fn id_of(line: &[u8]) -> &[u8] {
     const NAME: &[u8] = b"\"_id\":\"";
     let start = line.windows(NAME.len()).position(|it| it == NAME).expect("an id") + NAME.len();
@@ -60,7 +60,7 @@ fn append_item(reply: &mut Vec<u8>, kind: &str, id: &[u8], result: &str, status:
     }
 }
 
-// Writes what an index answers where it has applied every operation of a body, and tells how many there are.
+// Writes the reply of an index that has applied every operation of a body, and returns how many there are.
 fn answer(mut body: &[u8], line: &mut Vec<u8>, reply: &mut Vec<u8>) -> io::Result<u64> {
     reply.clear();
     reply.extend_from_slice(b"{\"took\":1,\"errors\":false,\"items\":[");
@@ -87,7 +87,7 @@ fn answer(mut body: &[u8], line: &mut Vec<u8>, reply: &mut Vec<u8>) -> io::Resul
     Ok(count)
 }
 
-// What a client asks first, to see whom it speaks to; and how many operations were answered so far.
+// The answer to a GET: the version, which a client asks for first, and how many operations were answered so far.
 fn about(reply: &mut Vec<u8>) -> io::Result<()> {
     reply.clear();
     let count = ANSWERED.load(Ordering::SeqCst);
@@ -97,14 +97,14 @@ fn about(reply: &mut Vec<u8>) -> io::Result<()> {
 // How long the server takes.
 #[derive(Clone, Copy)]
 struct Pace {
-    // For an operation.
+    // Per operation.
     nanoseconds: u64,
-    // For a request, besides.
+    // Per request, in addition.
     microseconds: u64,
 }
 
-// What a connection has left to wait, in nanoseconds. What one sleep took too long the next takes less, so that the
-// server takes just its time, however coarse the system's timers are.
+// How long a connection still has to wait, in nanoseconds. If one sleep takes too long, the next is shorter, so the server
+// takes the right time on average, however coarse the system's timers are.
 #[derive(Default)]
 struct Debt(i64);
 
@@ -147,7 +147,7 @@ fn serve_connection(stream: TcpStream, pace: Pace, most: usize) -> io::Result<()
     Ok(())
 }
 
-// Serves until it is stopped. Its one line is its port.
+// Serves until it is stopped. The one line that it prints is its port.
 fn serve(pace: Pace, most: usize) -> io::Result<()> {
     let listener = TcpListener::bind("127.0.0.1:0")?;
     println!("{}", listener.local_addr()?.port());
@@ -158,7 +158,7 @@ fn serve(pace: Pace, most: usize) -> io::Result<()> {
     Ok(())
 }
 
-// Sends the requests of a file, and tells how many bytes of replies came.
+// Sends the requests of a file, and returns how many bytes the bodies of the replies had.
 fn send_file(port: &str, path: &str) -> io::Result<usize> {
     let mut file = BufReader::with_capacity(262_144, File::open(path)?);
     let mut output = TcpStream::connect(format!("127.0.0.1:{port}"))?;

@@ -1,7 +1,7 @@
-// `relay run` as a good programmer writes it in plain Rust in an afternoon: `forward PORT FILE..` has for each file a
-// thread that reads and parses it, and one that sends requests of 500 operations under rising external versions over a
-// connection of its own and reads the replies. An item that is answered 429 or 503 is sent again, and so is a request
-// whose reply is lost, before any later one; what cannot be settled is printed.
+// `relay run` as a good programmer would write it in plain Rust in an afternoon. `forward PORT FILE..` has two threads per
+// file: one reads and parses it, and one sends requests of 500 operations with increasing external versions over its own
+// connection, and reads the replies. An item that gets 429 or 503 is sent again, and so is a request whose reply is lost,
+// before any later one; what cannot be settled is printed.
 use std::fs::File;
 use std::io::{self, BufRead, BufReader, Read, Write};
 use std::net::TcpStream;
@@ -27,7 +27,7 @@ enum Action {
     Delete(Metadata),
 }
 
-// An operation: an index action where it has a source, else a delete.
+// An operation: an index action if it has a source, otherwise a delete.
 struct Operation {
     index: String,
     id: String,
@@ -65,7 +65,7 @@ fn invalid(text: &str) -> io::Error {
     io::Error::new(io::ErrorKind::InvalidData, text)
 }
 
-// Reads a file and hands on its operations, so many at a time.
+// Reads a file, and passes its operations on in batches of COUNT.
 fn read_file(path: &str, batches: SyncSender<Vec<Operation>>) -> io::Result<()> {
     let mut lines = BufReader::with_capacity(65_536, File::open(path)?).lines();
     let mut batch = Vec::with_capacity(COUNT);
@@ -105,7 +105,7 @@ fn append(body: &mut Vec<u8>, operation: &Operation) -> io::Result<()> {
     Ok(())
 }
 
-// A connection to the index, with what is used again from request to request.
+// A connection to the index, with the buffers that requests reuse.
 struct Index {
     address: String,
     stream: Option<BufReader<TcpStream>>,
@@ -114,7 +114,7 @@ struct Index {
 }
 
 impl Index {
-    // Sends a request and reads its reply: the status, and the body in `reply`.
+    // Sends a request and reads its reply. Returns the status; the body is in `reply`.
     fn exchange(&mut self) -> io::Result<u16> {
         if self.stream.is_none() {
             let stream = TcpStream::connect(&self.address)?;
@@ -147,7 +147,7 @@ impl Index {
         Ok(status)
     }
 
-    // The statuses of the items of a batch, or None where they could not be had.
+    // The statuses of the items of a batch, or None if there is no reply that states them.
     fn statuses(&mut self, batch: &[Operation]) -> Option<Vec<u16>> {
         let status = match self.exchange() {
             Ok(status) => status,

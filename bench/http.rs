@@ -1,10 +1,10 @@
-// One reply of HTTP read again and again in plain Rust, with httparse and a vector, and one request written again and
-// again: `http read TURNS < REPLY`, `http write WRITES BYTES TURNS`.
+// Reads one HTTP reply again and again in plain Rust, with httparse and a vector, or writes one request again and again:
+// `http read TURNS < REPLY`, `http write WRITES BYTES TURNS`.
 use std::hint::black_box;
 use std::io::{self, BufWriter, Read, Write};
 use std::time::Instant;
 
-// What a head says: its status, its bytes, the body's length and whether the body is chunked.
+// What a head says: the status, the size of the head, the length of the body, and whether the body is chunked.
 fn parse_head(bytes: &[u8]) -> Option<(u16, usize, usize, bool)> {
     let mut headers = [httparse::EMPTY_HEADER; 64];
     let mut head = httparse::Response::new(&mut headers);
@@ -24,7 +24,7 @@ fn parse_head(bytes: &[u8]) -> Option<(u16, usize, usize, bool)> {
     Some((head.code.expect("a status"), size, length, chunked))
 }
 
-// A stream with what was read of it and not used.
+// A stream, and what was read from it and not used yet.
 struct Conn<R> {
     stream: R,
     held: Vec<u8>,
@@ -44,7 +44,7 @@ impl<R: Read> Conn<R> {
         self.held.truncate(old + count);
     }
 
-    // Appends so many bytes of the stream to a body.
+    // Appends `count` bytes of the stream to a body.
     fn take(&mut self, count: usize, body: &mut Vec<u8>) {
         let front = count.min(self.held.len() - self.at);
         body.extend_from_slice(&self.held[self.at..self.at + front]);
@@ -121,7 +121,7 @@ struct Document {
     source: String,
 }
 
-// How long a text is in a JSON string.
+// The length of a text as a JSON string.
 fn quoted_len(text: &str) -> usize {
     let escaped = |byte| match byte {
         b'"' | b'\\' | 8 | 9 | 10 | 12 | 13 => 2,
@@ -131,7 +131,7 @@ fn quoted_len(text: &str) -> usize {
     2 + text.bytes().map(escaped).sum::<usize>()
 }
 
-// How long the lines of a document are.
+// The length of the lines of a document.
 fn lines_len(document: &Document) -> usize {
     let marks = "{\"index\":{\"_id\":,\"_index\":,\"version\":,\"version_type\":\"external\"}}\n\n".len();
     let digits = document.version.ilog10() as usize + 1;
@@ -148,7 +148,7 @@ fn append(out: &mut impl Write, document: &Document) -> io::Result<()> {
     out.write_all(b"\n")
 }
 
-// The head, with the length that the lines will have, and then line by line.
+// Writes the head, with the length that the lines will have, and then line by line.
 fn write_request(stream: &mut Vec<u8>, documents: &[Document]) -> io::Result<usize> {
     let size = documents.iter().map(lines_len).sum();
     let mut out = BufWriter::with_capacity(65536, stream);

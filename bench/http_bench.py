@@ -1,23 +1,23 @@
-"""Measures how replies of HTTP are read and requests written, beside a plain Rust program with httparse and a vector."""
+"""Measures reading HTTP replies and writing requests, next to a plain Rust program with httparse and a vector."""
 import os
 
 import plain_rust
 
 TURNS = 5
-# The most that a reading or a writing may take of the plain program's time: a body with a length, a chunked one, a request.
+# The maximum ratio to the plain program's time: reading a body with a length, reading a chunked one, writing a request.
 TARGETS = {"length": 1.3, "chunked": 1.5, "request": 1.2}
-# Bodies: how many bytes, and how often they are read.
+# Bodies: the size in bytes, and how often each is read.
 BODIES = ((50 * 1024, 2000), (16 * 1024 * 1024, 10))
 CHUNK = 4096
-# Requests: the bytes of each of 500 sources, and how often they are written.
+# Requests: the size in bytes of each of 500 sources, and how often each request is written.
 SOURCES = ((100, 1000), (1024, 200))
-# Heads that come byte by byte, and the most by which a byte of the long one may cost more than one of the short one.
+# Heads that arrive byte by byte: their sizes, and the maximum ratio of the long one's cost per byte to the short one's.
 HEADS = (1000, 16000)
 LINEAR = 1.5
 
 
 def framed(size, chunked):
-    """A reply with a body of so many bytes."""
+    """A reply whose body has `size` bytes."""
     head = "HTTP/1.1 200 OK\r\nContent-Type: application/json\r\n"
     if not chunked:
         return "%sContent-Length: %d\r\n\r\n%s" % (head, size, "x" * size)
@@ -28,7 +28,7 @@ def framed(size, chunked):
 
 
 def headed(size):
-    """A reply without a body whose head has so many bytes."""
+    """A reply without a body, whose head has `size` bytes."""
     start, end = "HTTP/1.1 200 OK\r\nContent-Length: 0\r\n", "\r\n"
     fields, left = [], size - len(start) - len(end)
     while left > 0:
@@ -46,7 +46,7 @@ def written(folder, name, text):
 
 
 def tell(name, size, best, target):
-    """One line: megabytes a second, and the ratio to the plain program where it was built."""
+    """Prints one line: megabytes per second, and the ratio to the plain program if it was built."""
     line = "  %-38s %9.1f MB/s" % (name, size / best["relay"] * 1000)
     if "plain Rust" in best:
         ratio = best["relay"] / best["plain Rust"]
@@ -80,5 +80,5 @@ def measure(folder, program):
         _, best = plain_rust.best_of(TURNS, {"relay": ([program, "http-read", "1", "20"], source)})
         spent[size] = best["relay"] / size
     ratio = spent[HEADS[1]] / spent[HEADS[0]]
-    print("  a head in one-byte reads: %.1f ns a byte of %d, %.1f of %d (%.2f, at most %.1f: %s)" % (
+    print("  a head in one-byte reads: %.1f ns per byte at %d bytes, %.1f at %d (%.2f, at most %.1f: %s)" % (
         spent[HEADS[0]], HEADS[0], spent[HEADS[1]], HEADS[1], ratio, LINEAR, "met" if ratio <= LINEAR else "MISSED"))

@@ -1,5 +1,5 @@
-"""Measures a lane's calls at few and at many held operations, on documents of their own and on one hot document: take,
-requests and their replies until 500 operations were sent, one question for the first due tick, and the peak memory."""
+"""Measures a lane's calls with few held operations and with many, each on its own document or all on one hot document: `take`,
+requests and their replies until 500 operations have been sent, one query for the first due tick, and the peak memory."""
 import re
 import subprocess
 import tempfile
@@ -10,13 +10,13 @@ from lines_bench import peak_of
 TURNS = 5
 FEW, MANY = 1000, 65536
 WORDS = ("take", "request", "reply", "due")
-# What the operations are on, how many documents that are for so many operations, and how many times the cost of an
-# operation at few held may be that at many: the project's goals.
+# What the operations write to, the number of documents for a number of held operations, and the goal: the maximum ratio of
+# the cost of an operation with many held to its cost with few.
 SHAPES = (("documents of their own", lambda held: held, 1.5), ("one hot document", lambda held: 1, 1.1))
 
 
 def once(program, held, documents):
-    """The nanoseconds of each call, and the peak memory in KiB."""
+    """Returns the nanoseconds of each call, and the peak memory in KiB."""
     with tempfile.TemporaryFile("w+") as out:
         process = subprocess.Popen([program, "lane", str(held), str(documents)], stdout=out)
         peak = 0
@@ -42,7 +42,7 @@ def measure(folder, program):
         (few, little), (many, much) = (best_of(program, held, documents_of(held)) for held in (FEW, MANY))
         print("lane: %d and %d held, %s, best of %d" % (FEW, MANY, called, TURNS))
         for word in WORDS[:3]:
-            print("  %-8s %10.1f %10.1f ns an operation  %.2f" % (word, few[word], many[word], many[word] / few[word]))
-        print("  %-8s %10.0f %10.0f ns a question" % ("due", few["due"], many["due"]))
+            print("  %-8s %10.1f %10.1f ns per operation  %.2f" % (word, few[word], many[word], many[word] / few[word]))
+        print("  %-8s %10.0f %10.0f ns per query" % ("due", few["due"], many["due"]))
         ratio = sum(many[word] for word in WORDS[:3]) / sum(few[word] for word in WORDS[:3])
         print("  memory %d and %d KiB; an operation costs %.2f of what it costs at %d held (goal %.1f: %s)" % (little, much, ratio, FEW, goal, "met" if ratio <= goal else "MISSED"))

@@ -1,6 +1,6 @@
-// `relay lines` as a straightforward plain Rust program: each line as a `String`, each action line as a
-// `serde_json::Value`, the written action line by `serde_json`. It keeps the rules of the producer grammar
-// as far as the measured input needs them.
+// `relay lines` as a straightforward plain Rust program: each line is a `String`, each action line is read into a
+// `serde_json::Value` and written by `serde_json`. It follows the rules of the producer grammar as far as the measured
+// input needs them.
 use std::io::{self, BufRead, BufReader, BufWriter, Write};
 
 use serde_json::{json, Value};

@@ -1,4 +1,4 @@
-"""Measures `relay lines` beside other programs on the same input."""
+"""Measures `relay lines` next to other programs on the same input."""
 import os
 import shutil
 import subprocess
@@ -7,12 +7,12 @@ import time
 
 import plain_rust
 
-# How often all take turns; those that take long run once.
+# How many turns each program gets; the slow ones run once.
 TURNS = 9
-# Of each input: how many operations, the bytes of a source, and the most that `relay lines` may take of the time of
-# the straightforward plain Rust program.
+# Each input: the number of operations, the size of a source in bytes, and the maximum ratio of the time of `relay lines` to
+# that of the straightforward plain Rust program.
 INPUTS = [(400000, 100, 0.35), (100000, 1000, 0.5)]
-# The most that it is to take of the time of the fast one: the project's goal.
+# The goal: the maximum ratio to the time of the fast one.
 GOAL = 1.3
 
 JQ = (
@@ -26,7 +26,7 @@ JQ = (
 
 
 def peak_of(pid):
-    """The most memory that a process has held so far, in KiB, or 0 where it has ended."""
+    """Returns the peak memory of a process so far in KiB, or 0 if it has ended."""
     try:
         with open("/proc/%d/status" % pid) as file:
             return next((int(line.split()[1]) for line in file if line.startswith("VmHWM")), 0)
@@ -35,7 +35,7 @@ def peak_of(pid):
 
 
 def once(command, source, out):
-    """Wall seconds and peak memory in KiB of one run. The peak is sampled while the process runs."""
+    """Runs the command once, and returns its wall seconds and its peak memory in KiB, sampled while it runs."""
     with open(source, "rb") as stdin, open(out, "wb") as stdout:
         start = time.monotonic()
         process = subprocess.Popen(command, stdin=stdin, stdout=stdout)
@@ -54,7 +54,7 @@ def same(left, right):
 
 
 def programs_of(program, plain, fast):
-    """The commands that are measured, by name."""
+    """The commands to measure, by name."""
     programs = {"relay lines": [program, "lines"]}
     if plain:
         programs["plain Rust"] = [plain]
@@ -68,7 +68,7 @@ def programs_of(program, plain, fast):
 
 
 def take_turns(folder, source, programs):
-    """Of each program the seconds of its runs, and the most memory of one."""
+    """Returns, for each program, the seconds of its runs, and the peak memory of the largest one."""
     times, most = {name: [] for name in programs}, dict.fromkeys(programs, 0)
     for turn in range(TURNS):
         for name, command in programs.items():
@@ -81,7 +81,7 @@ def take_turns(folder, source, programs):
 
 
 def ratio_to(times, other):
-    """The median of `relay lines`' time over the other's in the same turn."""
+    """Returns the median ratio of the time of `relay lines` to the other's in the same turn."""
     return plain_rust.median([own / its for own, its in zip(times["relay lines"], times[other])])
 
 
@@ -98,7 +98,7 @@ def measure_input(folder, program, plain, fast, count, size, target):
     times, most = take_turns(folder, source, programs)
     for name in ("plain Rust", "fast Rust"):
         if name in programs and not same(os.path.join(folder, "relay_lines"), os.path.join(folder, name.replace(" ", "_"))):
-            sys.exit("the %s program wrote other bytes than relay lines" % name)
+            sys.exit("the output of the %s program is not that of relay lines" % name)
     print("%d operations, sources of %d bytes, %.1f MB; medians of %d runs, ratios by turns" % (count, size, volume, TURNS))
     for name in programs:
         wall = plain_rust.median(times[name])

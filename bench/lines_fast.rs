@@ -1,4 +1,4 @@
-// `relay lines` as fast as a plain Rust program makes it: one buffer that is refilled, line ends by `memchr`, a
+// `relay lines` as fast as plain Rust makes it: one buffer that is refilled, line ends by `memchr`, a
 // typed reader that borrows from the line, versions by `itoa`. It keeps the rules of the producer grammar as far
 // as the measured input needs them, and writes the same bytes.
 use std::io::{self, Read, Write};
@@ -26,7 +26,7 @@ enum Action<'a> {
 
 const PIECE: usize = 65_536;
 
-// A text as it stands between quotes. The measured input has none that needs an escape.
+// A text as it is between its quotes. No text of the measured input needs an escape.
 fn put_text(out: &mut Vec<u8>, text: &str) {
     assert!(text.bytes().all(|byte| byte >= 32 && byte != b'"' && byte != b'\\'), "an escape");
     out.extend_from_slice(text.as_bytes());
@@ -42,7 +42,7 @@ fn put_action(out: &mut Vec<u8>, opening: &[u8], metadata: &Metadata, version: u
     out.extend_from_slice(b",\"version_type\":\"external\"}}\n");
 }
 
-// Takes the lines of the operations that stand whole in the bytes, and answers how many bytes those have.
+// Takes the lines of the operations that are complete in the bytes, and returns how many bytes these lines have.
 fn take(bytes: &[u8], out: &mut Vec<u8>, version: &mut u64) -> usize {
     let mut at = 0;
     while let Some(end) = memchr(b'\n', &bytes[at..]) {

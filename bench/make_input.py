@@ -1,4 +1,4 @@
-"""Makes a producer's input for the benchmark: seeded, so that each run has the same bytes.
+"""Generates a producer's input for the benchmark. It is seeded, so each run gets the same bytes.
 
 `make_input.py OPERATIONS BYTES [PREFIX]`: each id begins with the prefix."""
 import json

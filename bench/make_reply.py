@@ -1,11 +1,11 @@
-"""Makes the reply to a bulk request for the benchmark: seeded, so that each run has the same bytes."""
+"""Generates the reply to a bulk request for the benchmark. It is seeded, so each run gets the same bytes."""
 import json
 import random
 import sys
 
 
 def item(rng, number):
-    """One item of a reply: nine of ten are writes, a tenth of those and of the deletes conflict."""
+    """One item of a reply: nine in ten are index actions, the rest deletes, and a tenth of either conflict."""
     name = "delete" if rng.randrange(10) == 0 else "index"
     fields = {"_index": "books", "_id": str(rng.randrange(100000))}
     version = rng.randrange(1, 1000000)

@@ -1,4 +1,4 @@
-"""Measures `relay pick` beside `relay lines` on the same operations."""
+"""Measures `relay pick` next to `relay lines` on the same operations."""
 import os
 import subprocess
 import sys
@@ -7,11 +7,11 @@ import plain_rust
 from lines_bench import once, verdict
 
 TURNS = 7
-# Of each input: how many operations, and the bytes of a source.
+# Each input: the number of operations, and the size of a source in bytes.
 INPUTS = [(400_000, 100), (100_000, 1000)]
-# One operation of so many is named.
+# One operation in this many is named.
 NAMED = (100, 10)
-# The most that `relay pick` is to take of the time of `relay lines`.
+# The goal: the maximum ratio of the time of `relay pick` to that of `relay lines`.
 GOAL = 2.0
 
 REPORT = '{"cause":"Refused","id":"%d","index":"books","kind":"mapper_parsing_exception","number":%d,"producer":0,"status":400}\n'

@@ -1,4 +1,4 @@
-"""Builds the plain Rust programs that the benchmark compares with, over Debian's packages of the crates."""
+"""Builds the plain Rust programs that the benchmark compares with, using Debian's packages of the crates."""
 import os
 import shutil
 import subprocess
@@ -8,14 +8,14 @@ REGISTRY = "/usr/share/cargo/registry"
 
 
 def is_installed(crate):
-    """Whether Debian's package of a crate is there."""
+    """Returns true if Debian's package of a crate is installed."""
     names = os.listdir(REGISTRY) if os.path.isdir(REGISTRY) else []
     return any(name.startswith(crate + "-") and name[len(crate) + 1].isdigit() for name in names)
 
 
 def build(folder, name, *crates):
-    """The program of bench/NAME.rs over some crates, or None where that cannot be built. A crate may name a feature
-    of it, as `serde/derive`."""
+    """Builds bench/NAME.rs with some crates, and returns the path of the program, or None if it cannot be built. A feature
+    follows its crate after a slash, as in `serde/derive`."""
     named = [crate.partition("/")[::2] for crate in crates]
     if shutil.which("cargo") is None or not all(is_installed(crate) for crate, _ in named):
         return None
@@ -34,10 +34,10 @@ def build(folder, name, *crates):
 
 
 def times_of(turns, programs):
-    """What the programs tell, and of each its times for each thing, where they take turns.
+    """Runs the programs in turns, and returns what they did, and the times of each.
 
-    `programs` has for each name its command and its standard input, or None. A program prints one line: what
-    it did, and after the last comma the time for each thing. What they did has to be the same.
+    `programs` maps a name to a command and the path of its standard input, or None. A program prints one line: what it
+    did and, after the last comma, the time of one item, message or call. They must all have done the same.
     """
     told, times = {}, {name: [] for name in programs}
     for _ in range(turns):
@@ -52,7 +52,7 @@ def times_of(turns, programs):
 
 
 def best_of(turns, programs):
-    """What the programs tell, and of each its best time for each thing, as `times_of` measures them."""
+    """As `times_of`, but returns only the best time of each program."""
     told, times = times_of(turns, programs)
     return told, {name: min(of) for name, of in times.items()}
 

@@ -1,6 +1,6 @@
-// Messages through one bounded channel in plain Rust: each of the senders' threads puts COUNT ticks and then
-// Done, and one taker takes them all and looks that each is the next one of its sender. The messages are laid
-// out as the Rattle program's are, 120 bytes each.
+// Messages through one bounded channel in plain Rust: the thread of each sender puts COUNT ticks and then Done, and one
+// taker takes them all and checks that each is the next one of its sender. The messages have the layout of the Rattle
+// program's, 120 bytes each.
 use crossbeam_channel::{bounded, Receiver, Sender};
 use std::time::Instant;
 

@@ -1,15 +1,15 @@
-"""Measures the lane queue beside crossbeam-channel's bounded channel in plain Rust.
+"""Measures the lane queue next to crossbeam-channel's bounded channel in plain Rust.
 
-How the system schedules two threads makes single runs of either program differ by a factor of two, and its best
-run a lucky one. So the programs take turns, and their medians are compared; the best runs are printed beside.
+Single runs of either program differ by a factor of two, depending on how the system schedules its two threads, and the
+best run is a lucky one. So the programs take turns, and their medians are compared; the best runs are printed too.
 """
 import plain_rust
 
 TURNS = 25
-# Messages in all, by how many places there are: a hand-over at one place takes long.
+# Messages in all. With a capacity of one there are fewer, since each hand-over takes long.
 MESSAGES = 400000
 MESSAGES_AT_ONE_PLACE = 50000
-# The most that the queue may take of the plain channel's time at 256 places, by how many senders there are.
+# The maximum ratio to the plain channel's time with a capacity of 256, by the number of senders.
 TARGETS = {1: 1.7, 4: 1.5}
 
 
@@ -33,7 +33,7 @@ def measure_one(program, plain, senders, capacity):
 
 def measure(folder, program):
     plain = plain_rust.build(folder, "queue", "crossbeam-channel")
-    print("queue: nanoseconds a message, median of %d" % TURNS)
+    print("queue: nanoseconds per message, median of %d" % TURNS)
     for senders in TARGETS:
         for capacity in (1, 256, 65536):
             measure_one(program, plain, senders, capacity)

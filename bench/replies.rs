@@ -1,5 +1,5 @@
-// One reply read again and again in plain Rust, each time into a `serde_json::Value`, out of which the same
-// fields are taken that `read_reply` takes: the action's name, `_id`, `status` and the error's type.
+// Reads one reply again and again in plain Rust, each time into a `serde_json::Value`, and takes from it the fields that
+// `read_reply` takes: the action's name, `_id`, `status` and the error's type.
 use serde_json::Value;
 use std::hint::black_box;
 use std::io::{self, Read};

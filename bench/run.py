@@ -1,7 +1,7 @@
-"""Measures the project's programs beside others, all in one run. Only the ratios count.
+"""Compares the project's programs with others, all in one run. Only the ratios count.
 
-`python3 bench/run.py` measures all parts; words after it name those to be measured: lines, pick, apply,
-queue, replies, lane, http, world, run. `--operations N` gives `run` so many operations in place of 50,000.
+`python3 bench/run.py [PART..]` measures the named parts, or all of them: lines, pick, apply, queue, replies, lane, http,
+world, run. `--operations N` sets the number of operations of `run`, 50,000 by default.
 """
 import argparse
 import os
@@ -22,7 +22,7 @@ TOP = os.path.dirname(os.path.dirname(os.path.abspath(__file__)))
 RELAY = os.path.join(TOP, "crates/relay/out/relay")
 RELAY_BENCH = os.path.join(TOP, "crates/relay_bench/out/relay_bench")
 
-# Each part: its name, the program that it runs and how that is built, and its measurement.
+# Each part: its name, the program that it runs, the command that builds that program, and the function that measures.
 PARTS = [
     ("lines", RELAY, "`make build`", lines_bench.measure),
     ("pick", RELAY, "`make build`", pick_bench.measure),

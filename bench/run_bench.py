@@ -1,5 +1,5 @@
-"""Measures `relay run` against a server of plain Rust that answers every bulk request with success, beside a relay in
-plain Rust, Python's `streaming_bulk`, and the floor: requests that stand ready, sent by plain Rust."""
+"""Measures `relay run` against a plain Rust server that answers every bulk request with success, next to a relay in plain
+Rust, Python's `streaming_bulk`, and the floor: prepared requests, sent by plain Rust."""
 import contextlib
 import http.client
 import json
@@ -14,28 +14,31 @@ from lines_bench import peak_of
 
 TURNS = 7
 OPERATIONS = 50_000
-# Bytes of a source.
+# The sizes of a source in bytes.
 SIZES = (100, 1000)
-# Files, and lanes.
+# The number of files and of lanes.
 SHAPES = ((1, 1), (4, 4))
 COUNT = 500
-# Operations that a lane's queue holds: two batches, as many as the plain Rust relay's channel holds of each file.
+# The capacity of a lane's queue: two batches, which is what the plain Rust relay's channel has room for per file.
 CAPACITY = 2 * COUNT
-# Nanoseconds that the server takes for each operation, and what it is called then.
-SERVERS = ((0, "that answers at once"), (4000, "that takes 4 microseconds an operation"))
-# The most that `relay run` is to take of the time of the others with the server that takes its time: the project's goals.
+# The nanoseconds that the server takes for each operation, and how the output describes that server.
+SERVERS = ((0, "that responds immediately"), (4000, "that takes 4 microseconds per operation"))
+# The goals: the maximum ratio of the time of `relay run` to that of each other program, with the slower server.
 GOALS = {"ready bodies": 1.5, "plain Rust": 1.0, "streaming_bulk": 1.0}
-# The most bytes that a server with a limit takes, the bytes of a source that it is measured with, and how many times the
-# server without a limit it may cost.
+# The limit in bytes of a server that has one, the size of a source in bytes, and the goal: the maximum ratio to the time
+# without a limit.
 MOST, LARGE, HALVES_GOAL = 60_000, 1000, 1.5
-# A server that takes so many microseconds for each request, whose requests have so many operations; the lanes and the
-# requests in flight that it is measured with, and how many times faster the most in flight are to be than one.
+# What the relay is called if it has two requests of each lane in flight, which the plain Rust relay could not have without
+# giving up the order of a document's writes.
+TWO = "relay, 2 in flight"
+# A server that takes SLOW microseconds per request: the operations per request, the pairs of lanes and requests in flight
+# that are measured, and the goal: how many times as fast one lane with 8 in flight must be as one lane with 1.
 SLOW, FEW, FLIGHTS, FLIGHTS_GOAL = 5000, 100, ((1, 1), (1, 4), (1, 8), (4, 1), (4, 8)), 5.0
-# How much of the time without it a run with --progress may take.
+# The goal: the maximum ratio of the time of a run with --progress to that of one without.
 PROGRESS_GOAL = 1.03
-# By how many KiB ten times the operations may raise the memory.
+# By how many KiB the peak memory may grow if there are ten times as many operations.
 GROWTH = 2048
-# Interpreters that may have the helpers: this one, and the one that Debian's package is for.
+# Interpreters that may have the helpers: this one, and the one that Debian's package installs them for.
 PYTHONS = (sys.executable, "/usr/bin/python3")
 
 
@@ -48,7 +51,7 @@ class Server:
         self.port = self.process.stdout.readline().strip()
 
     def answered(self):
-        """How many operations it has answered so far."""
+        """Returns how many operations it has answered so far."""
         client = http.client.HTTPConnection("127.0.0.1", int(self.port))
         with contextlib.closing(client):
             client.request("GET", "/")
@@ -63,9 +66,9 @@ class Server:
 
 
 def once(command, stderr=None):
-    """Of one run the wall seconds, the seconds of processor time, the peak memory in KiB, and what it printed.
+    """Runs the command once, and returns its wall seconds, its processor seconds, its peak memory in KiB, and its output.
 
-    The peak is sampled while the process runs: the one that the system tells of a process that ended is never below
+    The peak is sampled while the process runs: the peak that the system reports for a process that ended is at least
     that of the process that started it."""
     with tempfile.TemporaryFile("w+") as out:
         start = time.monotonic()
@@ -85,7 +88,7 @@ def once(command, stderr=None):
 
 
 def helpers():
-    """An interpreter that has the Elasticsearch helpers, or None."""
+    """Returns an interpreter that has the Elasticsearch helpers, or None."""
     for python in PYTHONS:
         if os.path.exists(python) and subprocess.run([python, "-c", "import elasticsearch.helpers"], capture_output=True).returncode == 0:
             return python
@@ -93,7 +96,7 @@ def helpers():
 
 
 def make_files(folder, files, operations, size):
-    """The files of a producer each, all together with so many operations."""
+    """Makes one file for each producer, with `operations` in all of them together."""
     paths = []
     for number in range(files):
         path = os.path.join(folder, "operations-%d" % number)
@@ -106,7 +109,7 @@ def make_files(folder, files, operations, size):
 
 
 def write_requests(relay, path, ready):
-    """Writes the requests for the operations of a file as they stand on the wire."""
+    """Writes the requests for the operations of a file, byte for byte as they are sent."""
     with open(path, "rb") as file:
         lines = subprocess.run([relay, "lines"], stdin=file, stdout=subprocess.PIPE, check=True).stdout.split(b"\n")
     body, count, at = [], 0, 0
@@ -123,13 +126,13 @@ def write_requests(relay, path, ready):
     return ready
 
 
-def run_command(relay, port, lanes, paths):
-    return [relay, "run", "--to", "127.0.0.1:%s" % port, "--count", str(COUNT), "--capacity", str(CAPACITY), "--lanes", str(lanes), *paths]
+def run_command(relay, port, lanes, paths, flying=1):
+    return [relay, "run", "--to", "127.0.0.1:%s" % port, "--count", str(COUNT), "--capacity", str(CAPACITY), "--lanes", str(lanes), "--flying", str(flying), *paths]
 
 
 def commands(tools, relay, port, lanes, paths, ready):
-    """The commands that are compared, by name."""
-    found = {"relay run": run_command(relay, port, lanes, paths)}
+    """The commands to compare, by name."""
+    found = {"relay run": run_command(relay, port, lanes, paths), TWO: run_command(relay, port, lanes, paths, 2)}
     if tools["forward"]:
         found["plain Rust"] = [tools["forward"], port, *paths]
     found["ready bodies"] = [tools["bulk"], "ready", port, *ready]
@@ -139,7 +142,7 @@ def commands(tools, relay, port, lanes, paths, ready):
 
 
 def take_turns(server, programs, operations):
-    """Of each program its runs, where they take turns. Each has to have all operations answered, once."""
+    """Runs the programs in turns, and returns the runs of each. In each run every operation must be answered, once."""
     runs = {name: [] for name in programs}
     for _ in range(TURNS):
         for name, command in programs.items():
@@ -155,12 +158,12 @@ def take_turns(server, programs, operations):
 
 
 def tell(runs, operations, goals):
-    """A line for each program: medians, and the ratios of the relay to it by turns."""
+    """Prints a line for each program: its medians, and the median ratios of both forms of the relay to it over the turns."""
     for name, of in runs.items():
         wall, used, peak = (plain_rust.median([run[at] for run in of]) for at in range(3))
-        ratio = plain_rust.median([own[0] / its[0] for own, its in zip(runs["relay run"], of)])
+        ratio, two = (plain_rust.median([own[0] / its[0] for own, its in zip(runs[form], of)]) for form in ("relay run", TWO))
         work = plain_rust.median([own[1] / its[1] for own, its in zip(runs["relay run"], of)])
-        line = "  %-14s %9.0f operations/s %8.3f s of processor %7d KiB  relay/it %.2f, processor %.2f" % (name, operations / wall, used, peak, ratio, work)
+        line = "  %-18s %9.0f operations/s %8.3f s of processor %7d KiB  relay/it %.2f, processor %.2f, with 2 in flight %.2f" % (name, operations / wall, used, peak, ratio, work, two)
         if name in goals:
             line += " (goal %.1f: %s)" % (goals[name], "met" if ratio <= goals[name] else "MISSED")
         print(line)
@@ -182,7 +185,7 @@ def measure_shape(folder, relay, tools, shape, size, operations):
 
 
 def measure_memory(folder, relay, tools, operations):
-    """Ten times the operations may not take more memory."""
+    """Ten times as many operations may not take more memory."""
     peaks = []
     for count in (operations, 10 * operations):
         paths = make_files(folder, 1, count, 100)
@@ -198,7 +201,7 @@ def measure_memory(folder, relay, tools, operations):
 
 
 def measure_halves(folder, relay, tools, operations):
-    """A server that takes at most 60,000 bytes, beside the same server without a limit: all is applied."""
+    """A server that takes at most 60,000 bytes, and the same server without a limit: everything is applied."""
     paths = make_files(folder, 1, operations, LARGE)
     for nanoseconds, called in SERVERS:
         times = {None: [], MOST: []}
@@ -217,7 +220,7 @@ def measure_halves(folder, relay, tools, operations):
 
 
 def measure_flights(folder, relay, tools, operations):
-    """A server that takes its time for each request, whatever it has: several in flight beside one."""
+    """A server that takes the same time for each request, whatever is in it: several requests in flight, and one."""
     paths = make_files(folder, 1, operations, SIZES[0])
     walls = {shape: [] for shape in FLIGHTS}
     if tools["python"]:
@@ -233,18 +236,18 @@ def measure_flights(folder, relay, tools, operations):
                 if shape != "parallel_bulk" and told != "applied %d already 0 reported 0\n" % operations:
                     sys.exit("relay run with %d in flight: %s" % (shape[1], told[-300:]))
                 of.append(wall)
-    print("run: 1 file, %d operations of %d bytes in requests of %d, a server that takes %d milliseconds a request; medians of %d turns" % (operations, SIZES[0], FEW, SLOW // 1000, TURNS))
+    print("run: 1 file, %d operations of %d bytes in requests of %d, a server that takes %d milliseconds per request; medians of %d turns" % (operations, SIZES[0], FEW, SLOW // 1000, TURNS))
     for shape, of in walls.items():
         times = plain_rust.median([one / own for one, own in zip(walls[1, 1], of)])
-        name = "parallel_bulk of Python, 8 threads" if shape == "parallel_bulk" else "%s of %d in flight" % (counted(shape[0], "lane"), shape[1])
-        line = "  %-34s %9.0f operations/s, %.1f times one lane of 1 in flight" % (name, operations / plain_rust.median(of), times)
+        name = "parallel_bulk of Python, 8 threads" if shape == "parallel_bulk" else "%s with %d in flight" % (counted(shape[0], "lane"), shape[1])
+        line = "  %-34s %9.0f operations/s, %.1f times one lane with 1 in flight" % (name, operations / plain_rust.median(of), times)
         if shape == (1, 8):
             line += " (goal %.1f: %s)" % (FLIGHTS_GOAL, "met" if times >= FLIGHTS_GOAL else "MISSED")
         print(line)
 
 
 def measure_progress(folder, relay, tools, operations):
-    """What it costs to count a run and to say how far it is."""
+    """The cost of counting, and of showing how far a run is."""
     paths = make_files(folder, 1, operations, SIZES[0])
     for nanoseconds, called in SERVERS:
         runs = {(): [], ("--progress",): []}
@@ -264,7 +267,7 @@ def measure_progress(folder, relay, tools, operations):
 def measure(folder, relay, operations=OPERATIONS):
     tools = {"bulk": plain_rust.build(folder, "bulk"), "forward": plain_rust.build(folder, "forward", "serde_json", "serde/derive"), "python": helpers()}
     if not tools["bulk"]:
-        print("run: not measured, since there is no cargo to build the server with")
+        print("run: not measured: cargo, which builds the server, is not installed")
         return
     if not tools["forward"]:
         print("run: the plain Rust relay was not measured: librust-serde-json-dev or librust-serde-dev is not installed")

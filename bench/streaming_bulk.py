@@ -1,7 +1,7 @@
-"""`relay run` as a Python program writes it: `streaming_bulk PORT FILE..` hands the operations of each file to
-`streaming_bulk` of the Elasticsearch helpers, 500 a request, under rising external versions, in a thread a file.
-`streaming_bulk PORT FILE.. --parallel THREADS COUNT` hands them to `parallel_bulk`, COUNT a request: it sends no operation
-again, and the requests of its threads overtake each other."""
+"""`relay run` as one would write it in Python: `streaming_bulk PORT FILE..` passes the operations of each file to
+`streaming_bulk` of the Elasticsearch helpers, 500 per request, with increasing external versions, in one thread per file.
+`streaming_bulk PORT FILE.. --parallel THREADS COUNT` passes them to `parallel_bulk`, COUNT per request: it never retries an
+operation, and the requests of its threads overtake each other."""
 import json
 import sys
 import threading
@@ -11,7 +11,7 @@ from elasticsearch.helpers import parallel_bulk, streaming_bulk
 
 
 def operations(path):
-    """What the helpers take. They pass a source on as the text that it is."""
+    """Yields the actions for the helpers, which send a source that is a string unchanged."""
     version = 0
     with open(path) as file:
         for line in file:

@@ -1,4 +1,4 @@
-"""How many events a second `relay world` plays, at 10,000 and at 1,000,000 lines."""
+"""Measures how many events per second `relay world` plays, with 10,000 lines and with 1,000,000."""
 import os
 import statistics
 import subprocess
@@ -8,8 +8,8 @@ TURNS = 5
 
 
 def script(lines):
-    """Rounds of ten events on eight lanes: a put, its take, its request, a run, and its reply, and what is refused. Each
-    document is written again and again."""
+    """Rounds of ten events on eight lanes: a put, its take, its request, runs of it and its reply, and events that are refused.
+    Each document is written again and again."""
     yield "world 8 16 100 100 10 4096 0 3 1 1"
     count, requests, number = 1, 0, 0
     while True:
@@ -34,12 +34,12 @@ def script(lines):
                 return
 
 
-# documents of the index `books`, and their lanes of eight
+# Lanes, and the documents of the index `books` that belong to them if there are eight.
 LANES = list(zip((6, 1, 0, 3, 2, 5, 4, 7), "01234567"))
 
 
 def measure(folder, relay):
-    print("relay world, events a second (medians of %d turns)" % TURNS)
+    print("relay world, events per second (medians of %d turns)" % TURNS)
     for lines in (10_000, 1_000_000):
         path = os.path.join(folder, "script")
         with open(path, "w", encoding="utf-8") as file:
@@ -50,4 +50,4 @@ def measure(folder, relay):
                 started = time.monotonic()
                 subprocess.run([relay, "world"], stdin=file, stdout=null, check=True, timeout=600)
                 times.append(time.monotonic() - started)
-        print("  %9d lines: %9.0f events a second" % (lines, (lines - 1) / statistics.median(times)))
+        print("  %9d lines: %9.0f events per second" % (lines, (lines - 1) / statistics.median(times)))
