@@ -13,7 +13,7 @@ def answered(name, body, items, errors=b"false", args=()):
 
 
 def rejected(name, body, line, kind):
-    """The body is no bulk request, since this line has a fault of this kind."""
+    """The body is not a bulk request: this line has a fault of this kind."""
     case(name, ["apply"], body, b'400\n{"error":{"line":%d,"type":"%s"},"status":400}\n' % (line, kind), b"", 0)
 
 

@@ -1,6 +1,6 @@
 """Tests of the benchmark's tool at small sizes: `python3 tests/bench_tool.py PROGRAM`.
 
-What it measures is told with a time, which is left out here: only what it did is compared.
+The times that it prints are ignored here: only what it did is compared.
 """
 import re
 import sys
@@ -17,7 +17,7 @@ HTTP_REPLY = b"HTTP/1.1 200 OK\r\nContent-Length: 5\r\n\r\nhello"
 
 
 def measures(args, said, stdin=b""):
-    """It does what it is told, and says what it did, with times of a tenth of a nanosecond."""
+    """It does what is asked, and prints what it did, with times in tenths of a nanosecond."""
     done = run(args, stdin)
     wanted = re.escape(said).replace(rb"TIME", rb"[0-9]+\.[0-9]").replace(rb"WHOLE", rb"[0-9]+") + rb"\n"
     found = (done.stdout, done.stderr, done.returncode)
@@ -25,7 +25,7 @@ def measures(args, said, stdin=b""):
 
 
 def refuses(args, said, stdin=b""):
-    """It measures nothing, and says why."""
+    """It measures nothing, and prints why."""
     done = run(args, stdin)
     found = (done.stdout, done.stderr, done.returncode)
     check("bench: %s" % args, done.stderr.startswith(said) and (done.stdout, done.returncode) == (b"", 1), found)
@@ -44,7 +44,7 @@ def queues():
 
 
 def lanes():
-    """Fewer operations than a request carries, and more; and many of one document, which go one after another."""
+    """Fewer operations than a request carries, and more; and many on one document, which are sent one after another."""
     times = b"take TIME, request TIME, reply TIME ns an operation, due WHOLE ns"
     measures(["lane", "3"], b"3 held, 3 sent, " + times)
     measures(["lane", "501"], b"501 held, 500 sent, " + times)
@@ -63,7 +63,7 @@ def replies():
 
 
 def messages():
-    """One write has an action line of 77 bytes, and its source."""
+    """Each write has an action line of 77 bytes, and its source."""
     measures(["http-read", "1", "3"], b"status 200, 5 bytes, TIME ns a reading", HTTP_REPLY)
     measures(["http-write", "2", "10", "3"], b"2 writes, %d bytes, TIME ns a request" % (2 * (77 + 10 + 1)))
 

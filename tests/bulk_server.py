@@ -1,5 +1,5 @@
-"""A server of bulk requests for the tests of `relay run`: an index with external versions that keeps those of deleted
-documents, and a plan of faults: which request is lost, cut, late, refused or answered with something else."""
+"""A server of bulk requests for the tests of `relay run`: an index with external versions, which keeps those of deleted
+documents, and a plan of faults, which says which request is lost, cut, late, refused or answered with something else."""
 import json
 import socket
 import threading
@@ -7,13 +7,13 @@ import time
 
 
 class Index:
-    """What was applied to each document, in order, and its version."""
+    """The version of each document, and the writes that were applied to it, in order."""
 
     def __init__(self):
         self.versions, self.applied = {}, {}
 
     def run(self, kind, meta, source):
-        """The entry of a reply for one write."""
+        """Runs one write, and returns its entry in the reply."""
         key = (meta["_index"], meta["_id"])
         if meta["version"] <= self.versions.get(key, 0):
             return {kind: {"_id": key[1], "status": 409, "error": {"type": "version_conflict_engine_exception"}}}
@@ -26,7 +26,7 @@ class Index:
 
 
 def writes_of(body):
-    """The writes of a bulk body: kind, metadata, source."""
+    """Yields the writes of a bulk body: kind, metadata, source."""
     lines = iter(body.decode().split("\n")[:-1])
     for line in lines:
         (kind, meta), = json.loads(line).items()
@@ -34,10 +34,10 @@ def writes_of(body):
 
 
 class Server:
-    """Serves connections in threads, a request at a time on each. `plan` gives for the number of a request, from 1, the
-    name of a fault or None. A body of more than `most` bytes is answered 413: when it is there; or, if `early` is given,
-    before it is read, and then the connection is closed at once (`closes`) or once the body came (`drains`). A request
-    waits for `delay()` seconds before anything is done with it."""
+    """Serves each connection in a thread, one request at a time. `plan` maps the number of a request, from 1, to the name of a
+    fault or None. A body of more than `most` bytes gets 413 once it has been read. If `early` is given, it gets 413 before it is
+    read, and the connection is closed immediately (`closes`) or after the body has arrived (`drains`). A request waits for
+    `delay()` seconds before it is processed."""
 
     def __init__(self, plan=lambda number: None, refuse=lambda meta: None, most=2**64, early=None, delay=None):
         self.index, self.plan, self.refuse, self.most, self.early, self.delay = Index(), plan, refuse, most, early, delay
@@ -62,19 +62,19 @@ class Server:
         self.acceptor.start()
 
     def close(self):
-        """Stops listening. The thread that accepts ends before its socket is closed: else it could take a connection of the
-        next server, whose socket may get the same number."""
+        """Stops listening. The accepting thread is joined before its socket is closed: otherwise it could accept a connection
+        to the next server, whose socket may get the same number."""
         self.listener.shutdown(socket.SHUT_RDWR)
         self.acceptor.join()
         self.listener.close()
 
     def move(self, port):
-        """Listens at another port."""
+        """Listens on another port."""
         self.close()
         self.listen(port)
 
     def rest(self, seconds):
-        """Stops listening, drops all connections, and listens again at the same port after so long."""
+        """Stops listening, drops all connections, and listens on the same port again after `seconds`."""
         self.close()
         with self.lock:
             streams, self.streams = self.streams, []
@@ -120,8 +120,8 @@ class Server:
             left = left - len(piece) if piece else 0
 
     def answers_early(self, stream):
-        """How a request is answered once its head came and not served: "reads on" or "closes", by what becomes of the
-        connection; None where it is served."""
+        """Subclasses may answer a request as soon as its head has arrived, instead of serving it. They return what they do with
+        the connection then, "reads on" or "closes", or None if the request is to be served."""
         return None
 
     @staticmethod
@@ -132,7 +132,7 @@ class Server:
             return b""
 
     def answer(self, stream, head, body):
-        """Serves one request. Whether the connection is kept."""
+        """Serves one request. Returns true if the connection is kept."""
         if self.delay:
             time.sleep(self.delay())
         with self.lock:
@@ -181,8 +181,8 @@ class Server:
         return self.send(stream, 200, reply)
 
     def unasked(self, stream, reply, fault):
-        """Sends a reply, and after it, or a tenth of a second later, the same again or half of it. What comes on the
-        connection from then on is no request that is served: it is kept, to be looked at."""
+        """Sends a reply, and then, immediately or a tenth of a second later, the same again or half of it. What arrives on the
+        connection after that is not served but kept, so that a test can look at it."""
         message = self.message(200, reply)
         second = message[: len(message) // 2] if fault == "and a half" else message
         if fault == "twice late":

@@ -1,5 +1,5 @@
-"""What `relay stub` answers to a client that others wrote: Python's Elasticsearch helpers, of major version 7, which
-Debian has as python3-elasticsearch. Where they are not installed that is said, and nothing is tried."""
+"""What `relay stub` answers to a client by others: Python's Elasticsearch helpers, major version 7, which Debian has as
+python3-elasticsearch. If they are not installed, the tests print that and are skipped."""
 import json
 import os
 import random
@@ -11,14 +11,14 @@ from program import check
 from run_cases import wait_for
 from stub_cases import Stub
 
-# Interpreters that may have the helpers: this one, and the one that Debian's package is for.
+# Interpreters that may have the helpers: this one, and the one that Debian's package installs them for.
 PYTHONS = (sys.executable, "/usr/bin/python3")
 CLIENT = os.path.join(os.path.dirname(os.path.abspath(__file__)), "foreign_client.py")
 FIND = "import elasticsearch, elasticsearch.helpers; print(elasticsearch.__version__[0])"
 
 
 def helpers():
-    """An interpreter that has the helpers of version 7, or None."""
+    """Returns an interpreter that has version 7 of the helpers, or None."""
     for python in PYTHONS:
         if os.path.exists(python) and subprocess.run([python, "-c", FIND], capture_output=True).stdout == b"7\n":
             return python
@@ -26,7 +26,7 @@ def helpers():
 
 
 def actions(count, documents, size):
-    """Index actions and deletes under external versions, most of them rising, on documents with all sorts of names."""
+    """Index actions and deletes with external versions, most of them increasing, on documents with all sorts of names."""
     dice = random.Random(7)
     found = []
     for number in range(count):
@@ -43,8 +43,8 @@ def actions(count, documents, size):
 
 
 def expected(index, wanted, count, retries, refused):
-    """What the client is to tell, worked out on an index of our own, and how many requests that takes: requests of so many
-    actions, one after another, those that are refused with 429 again right after their own."""
+    """Returns what the client should report, worked out on an index of our own, and how many requests that takes. The requests
+    have `count` actions and are sent one after another; those refused with 429 are sent again right after their request."""
     told, requests, place = [], 0, 0
     for at in range(0, len(wanted), count):
         batch = wanted[at : at + count]
@@ -66,7 +66,7 @@ def expected(index, wanted, count, retries, refused):
 
 
 def listing(index):
-    """What the stub prints at its end where this was applied."""
+    """Returns what the stub should print at its end if this was applied."""
     lines = []
     for (name, identity), writes in index.applied.items():
         for version, kind, _ in writes:
@@ -75,7 +75,7 @@ def listing(index):
 
 
 def ask(name, python, wanted, count, retries=0, refused=None):
-    """The client sends these actions, and what it tells and what the stub prints is as it is to be."""
+    """The client sends these actions, and both what it reports and what the stub prints are as expected."""
     refused = refused or {}
     index = Index()
     told, requests = expected(index, wanted, count, retries, refused)

@@ -1,8 +1,8 @@
-"""A client that others wrote: hands the actions that stand as JSON on standard input to `streaming_bulk` of the
-Elasticsearch helpers, and prints what it tells of each, one JSON text a line.
+"""A client by others: reads actions as JSON from standard input, passes them to `streaming_bulk` of the Elasticsearch helpers,
+and prints what that returns for each, one JSON text per line.
 
-The client asks first whether the server is Elasticsearch, which a stand-in index does not answer. That question is left
-out here; all that the client sends and reads after it is its own.
+The client would first ask whether the server is Elasticsearch, which the stand-in index does not answer. That check is
+skipped here; everything else that is sent and read is the client's own.
 """
 import json
 import sys

@@ -1,11 +1,11 @@
-"""Runs the gate, `rt ci`, and tells what it is at and what each crate costs: `python3 tests/gate.py`, at the top.
+"""Runs the gate, `rt ci`, and prints its progress and what each crate costs: `python3 tests/gate.py`, at the top.
 
-`rt ci` tells no times. So this looks at the processes below it, twice a second, and adds up the processor time of
-each crate: of its proof, of its tests and of its must-fail edits. What ends between two looks is counted up to the
-last of them. The budget of a crate is 15 processor minutes, and 20 for the largest (`docs/CONTRIBUTING.md`).
+`rt ci` reports no times. So this looks at the processes below it, twice a second, and adds up the processor time of
+each crate: for its proof, its tests and its must-fail edits. What ends between two looks is counted up to the
+earlier one. The budget of a crate is 15 processor minutes, and 20 for the largest (`docs/CONTRIBUTING.md`).
 
-What `rt ci` says is passed on as it comes. Where it fails, what it said of each failure stands once more at the end,
-below the table, where whoever sees the end of a log alone will find it.
+The output of `rt ci` is passed on as it arrives. If the gate fails, its lines on each failure are repeated at the end,
+below the table, for those who see only the end of a log.
 """
 import collections
 import os
@@ -19,14 +19,14 @@ TICKS = os.sysconf("SC_CLK_TCK")
 PARTS = ("proof", "tests", "edits")
 BUDGET, LARGEST = 15, 20
 LOOK, TELL = 0.5, 60
-# What the lines of `rt ci` on a failure have in them, and how many of them are said again.
+# What marks a line of `rt ci` on a failure, and how many such lines are repeated.
 FAILURE = re.compile(r"NOT PROVED|NOT REFUSED|BAD EDIT|FAILED|: error|not-proved|panicked|^rt: .*(status|differ|had not ended|stopped)")
 EXPECTED = re.compile(r"refused, as it must be")
 SAID_AGAIN = 60
 
 
 class Process:
-    """What /proc tells of a process: who started it, its words, where it runs and the processor seconds it took."""
+    """What /proc says about a process: its parent, its command line, its folder and the processor seconds that it took."""
 
     def __init__(self, number):
         with open("/proc/%d/stat" % number) as file:
@@ -39,7 +39,7 @@ class Process:
         self.folder = os.readlink("/proc/%d/cwd" % number)
 
     def crate(self):
-        """The crate that it works for, if its words name one."""
+        """Returns the crate that it works for, if its command line names one."""
         words = self.words
         return words[words.index("--crate-name") + 1] if "--crate-name" in words[:-1] else None
 
@@ -61,7 +61,7 @@ def processes():
 
 
 def task_of(number, found, top):
-    """The crate and the part that a process below the gate works for; None for any other process."""
+    """Returns the crate and the part that a process below the gate works for, or None for any other process."""
     task = None
     while number in found:
         if number == top:
@@ -74,14 +74,14 @@ def task_of(number, found, top):
 
 
 class Watch(threading.Thread):
-    """Adds up what the processes below the gate take."""
+    """Adds up the processor time of the processes below the gate."""
 
     def __init__(self, top):
         super().__init__(daemon=True)
         self.top, self.seconds, self.ended = top, {}, threading.Event()
 
     def look(self):
-        """Notes the seconds of each process so far, and answers which tasks are being worked on."""
+        """Records the seconds of each process so far, and returns the tasks that are running."""
         found, at = processes(), set()
         for number, process in found.items():
             task = task_of(number, found, self.top)
@@ -103,7 +103,7 @@ class Watch(threading.Thread):
         return sum(seconds for _, seconds in list(self.seconds.values()))
 
     def table(self):
-        """Of each crate the processor seconds of its parts."""
+        """Returns, for each crate, the processor seconds of its parts."""
         table = {}
         for (crate, part), seconds in list(self.seconds.values()):
             if crate:
@@ -125,7 +125,7 @@ def tell(table, total):
 
 
 def failures_of(said):
-    """Those lines that tell of a failure, or the last ones where none does."""
+    """Returns the lines that report a failure, or the last lines if none does."""
     failures, last = [], collections.deque(maxlen=10)
     for line in said:
         last.append(line.rstrip("\n"))
@@ -135,14 +135,14 @@ def failures_of(said):
 
 
 def pass_on(said):
-    """Prints each line as it comes."""
+    """Prints each line as it arrives, and yields it."""
     for line in said:
         print(line, end="", flush=True)
         yield line
 
 
 def main():
-    print("proving every crate from nothing, with its tests and must-fail edits", flush=True)
+    print("proving every crate, with its tests and must-fail edits", flush=True)
     gate = subprocess.Popen(["rt", "ci"], stdout=subprocess.PIPE, stderr=subprocess.STDOUT, text=True, errors="replace")
     watch = Watch(gate.pid)
     watch.start()

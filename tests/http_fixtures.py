@@ -1,9 +1,9 @@
 #!/usr/bin/env python3
-"""What Python's own HTTP client and server write, and what they read of what the relay writes.
+"""What Python's own HTTP client and server write, and how they read what the relay writes.
 
 Prints the bytes that `http.client` and `http.server` write, as byte strings: the tables of
-`crates/relay_http_tests/src/peers.rt`. Then it hands the request and the answers that `relay_http` writes, which
-those tests compare byte for byte, to Python's server and client, and fails where these read something else.
+`crates/relay_http_tests/src/peers.rt`. Then it passes the request and the answers that `relay_http` writes, which those
+tests compare byte for byte, to Python's server and client, and fails if these read anything else.
 """
 import http.client
 import http.server
@@ -16,7 +16,7 @@ REPLY = b'{"errors":false,"items":[]}'
 
 
 class Pipe:
-    """A socket in memory: it gives bytes, and keeps what is sent."""
+    """A socket in memory: it returns given bytes, and keeps what is sent."""
 
     def __init__(self, given=b""):
         self.given, self.sent = io.BytesIO(given), b""
@@ -35,7 +35,7 @@ class Pipe:
 
 
 class Handler(http.server.BaseHTTPRequestHandler):
-    """Serves POST, and remembers what it read."""
+    """Serves POST, and records what it read."""
 
     seen = []
     reply = staticmethod(lambda handler: None)
@@ -102,7 +102,7 @@ def refused(handler):
     handler.send_error(429)
 
 
-# what relay_http writes
+# What relay_http writes.
 REQUEST = (b"POST /_bulk HTTP/1.1\r\nHost: 127.0.0.1:9200\r\nContent-Type: application/x-ndjson\r\n"
            b"Content-Length: %d\r\n\r\n" % len(BODY)) + BODY
 ANSWERS = {

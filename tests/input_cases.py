@@ -1,4 +1,4 @@
-"""Standard input as a producer of `relay run`: through a pipe, a file, beside files, at fault, and given twice."""
+"""Standard input as a producer of `relay run`: a pipe, a file, among other files, invalid, and given twice."""
 import os
 import subprocess
 import tempfile
@@ -12,7 +12,7 @@ ONE = b'{"index":{"_index":"b","_id":"%d"}}\n{"n":%d}\n'
 
 
 def started(server, *args, stdin=subprocess.PIPE):
-    """A run whose standard input stands open."""
+    """Starts a run whose standard input stays open."""
     args = [RELAY, "run", "--to", "127.0.0.1:%d" % server.port, *args]
     return subprocess.Popen(args, stdin=stdin, stdout=subprocess.PIPE, stderr=subprocess.PIPE, bufsize=0)
 
@@ -23,7 +23,7 @@ def ended(process):
 
 
 def wait_for_writes(server, count):
-    """The seconds until so many documents were written to."""
+    """Waits until `count` documents have been written to, and returns how many seconds that took."""
     start = time.monotonic()
     while len(server.index.applied) < count and time.monotonic() < start + 30:
         time.sleep(0.005)
@@ -31,8 +31,8 @@ def wait_for_writes(server, count):
 
 
 def slow_producer():
-    """Each operation of a producer that writes one now and then goes out after --linger ticks, with the pipe still open: also
-    one whose bytes come one by one. A line that has no end yet is waited for."""
+    """If a producer writes an operation now and then, each is sent after --linger ticks while the pipe is still open, even if its
+    bytes arrive one by one. A line that has no end yet is not sent."""
     server = Server()
     running = started(server, "--linger", "3", "-")
     spent = []
@@ -56,7 +56,7 @@ def slow_producer():
 
 
 def named_pipe():
-    """The same through a pipe with a name, as standard input."""
+    """The same with a named pipe as standard input."""
     with tempfile.TemporaryDirectory() as folder:
         path = os.path.join(folder, "pipe")
         os.mkfifo(path)
@@ -75,7 +75,7 @@ def named_pipe():
 
 
 def beside_files():
-    """Standard input is the producer of its place among the files, whether it is a file or what another program writes."""
+    """Standard input is the producer at its position among the files, whether it is a file or the output of another program."""
     with tempfile.TemporaryDirectory() as folder:
         producers = [operations(p, 60, 6) for p in range(3)]
         files = [written(folder, p, ops) for p, ops in enumerate(producers)]
@@ -94,7 +94,7 @@ def beside_files():
 
 
 def at_fault():
-    """In what is said of it, its name is `-`. A file of this name is read by another."""
+    """Messages call it `-`. A file with this name is read as `./-`."""
     with tempfile.TemporaryDirectory() as folder:
         server = Server()
         running = started(server, "-")

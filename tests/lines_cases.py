@@ -88,7 +88,7 @@ def faults():
 
 
 def cuts():
-    """An action line cut anywhere is not JSON; cut of its line end alone, it is whole."""
+    """An action line that is cut anywhere is not JSON; one that lacks only its line end is complete."""
     for end in range(1, len(DELETE) - 1):
         fault("cut at %d" % end, DELETE[:end], b"line 1: NotJson")
 
@@ -141,7 +141,7 @@ def devices():
 
 
 def prompt():
-    """A line comes out before the next goes in."""
+    """Each line is written before the next one is read."""
     process = subprocess.Popen([RELAY, "lines"], stdin=subprocess.PIPE, stdout=subprocess.PIPE)
     started = time.monotonic()
     for version in range(1, 4):

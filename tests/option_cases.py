@@ -1,4 +1,4 @@
-"""That each option of `relay run` reaches the lane, each as itself, and that a tick is 100 ms."""
+"""Each option of `relay run` reaches the lane, and as that option; and a tick is 100 ms."""
 import os
 import subprocess
 import tempfile
@@ -11,7 +11,7 @@ from run_cases import operations, relay_run, written
 
 
 class Sizes(Server):
-    """A server that keeps of each request how many operations and how many bytes it had, and when it came."""
+    """A server that records, for each request, how many operations and bytes it had, and when it arrived."""
 
     def __init__(self, *args, **more):
         self.sizes = []
@@ -23,7 +23,7 @@ class Sizes(Server):
 
 
 class Pipe:
-    """A run whose one file is a pipe with a name, which is written to from here."""
+    """A run whose only file is a named pipe, which the test writes to."""
 
     def __init__(self, folder, server, *options):
         self.path = os.path.join(folder, "pipe")
@@ -44,7 +44,7 @@ class Pipe:
 
 
 def batches():
-    """--count, --bytes and --lanes, by what the requests have."""
+    """--count, --bytes and --lanes, as the requests show them."""
     with tempfile.TemporaryDirectory() as folder:
         path = written(folder, 0, [("%02d" % n, None) for n in range(50)])
         for count in (7, 20):
@@ -78,7 +78,7 @@ def attempts():
 
 
 def put_until_full(folder, server, *options):
-    """How many operations of 60 KB can be written before the run takes no more of them for two seconds."""
+    """Returns how many operations of 60 KB can be written before the run takes no more of them for two seconds."""
     pipe, put = Pipe(folder, server, *options), []
 
     def fill():
@@ -104,7 +104,7 @@ def put_until_full(folder, server, *options):
 
 
 def queues():
-    """--capacity and --held, by how much is taken of a file while the server answers nothing, or 503."""
+    """--capacity and --held, shown by how much of a file is read while the server does not answer, or answers 503."""
     with tempfile.TemporaryDirectory() as folder:
         gate, found = threading.Event(), []
         for capacity in (4, 24):
@@ -122,7 +122,7 @@ def queues():
 
 
 def ticks():
-    """--linger, and how long a tick is: an operation that waits alone goes out after so many, with the pipe still open."""
+    """--linger, and the length of a tick: a single operation is sent after that many ticks while the pipe is still open."""
     with tempfile.TemporaryDirectory() as folder:
         spent = {}
         for linger in (0, 10):

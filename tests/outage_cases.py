@@ -1,4 +1,4 @@
-"""What `relay run` does while the index is away: it refuses connections, stays silent, takes nothing, or comes back."""
+"""What `relay run` does while the index is down: it refuses connections, stays silent, reads nothing, or comes back."""
 import signal
 import socket
 import subprocess
@@ -15,7 +15,7 @@ GAVE_UP = b"report 0:1 books/1 GaveUp 1\napplied 0 already 0 reported 1\n"
 
 
 class Silent(Server):
-    """A server that takes the first connections and never answers on them, and reads what comes or not."""
+    """A server that accepts the first connections and never answers on them, whether or not it reads what arrives."""
 
     def __init__(self, silent, reads=True):
         self.silent, self.reads, self.taken = silent, reads, 0
@@ -41,7 +41,7 @@ def timed(*args):
 
 
 def silent_servers():
-    """A server that takes connections and answers nothing costs each request --timeout seconds, and no more."""
+    """A server that accepts connections and never answers costs each request --timeout seconds, and no more."""
     with tempfile.TemporaryDirectory() as folder:
         path = written(folder, 0, [("1", None)])
         server = Silent(2**64)
@@ -62,7 +62,7 @@ def silent_servers():
 
 
 def connections_that_are_not_made():
-    """A connection that nobody takes or refuses is given up after --timeout seconds: the queue of the listener is full."""
+    """A connection that is neither accepted nor refused, since the queue of the listener is full, fails after --timeout seconds."""
     with tempfile.TemporaryDirectory() as folder, socket.socket() as listener:
         path = written(folder, 0, [("1", None)])
         listener.bind(("127.0.0.1", 0))
@@ -81,7 +81,7 @@ def connections_that_are_not_made():
 
 
 def patience_that_ends():
-    """Without patience a refused connection is an attempt, and with it only after so many seconds."""
+    """Without patience, a refused connection is an attempt immediately; with it, only after that many seconds."""
     with tempfile.TemporaryDirectory() as folder:
         path = written(folder, 0, [("1", None)])
         for patience, least, most in (("0", 0, 20), ("2", 1.9, 60)):
@@ -90,7 +90,7 @@ def patience_that_ends():
 
 
 def away(seconds, *more):
-    """A run over 400 operations in whose middle the server is away for so long."""
+    """A run of 400 operations; in the middle of it the server is down for `seconds`."""
     with tempfile.TemporaryDirectory() as folder:
         producers = [operations(p, 200, 20) for p in range(2)]
         files = [written(folder, p, ops) for p, ops in enumerate(producers)]
@@ -107,7 +107,7 @@ def away(seconds, *more):
 
 
 def outages():
-    """An index that restarts costs attempts only for what was under way, if the patience is longer than it takes."""
+    """An index that restarts costs attempts only for what was in flight, if the patience is longer than the restart."""
     long = threading.Thread(target=away, args=(20, "--patience", "60", "--attempts", "2"))
     long.start()
     away(4, "--patience", "30", "--attempts", "2")
@@ -115,7 +115,7 @@ def outages():
 
 
 def server_that_is_not_there_yet():
-    """A run that is started before its index waits for it."""
+    """A run that is started before its index waits for the index."""
     with tempfile.TemporaryDirectory() as folder:
         path, port = written(folder, 0, [("1", "{}")]), free_port()
         args = [RELAY, "run", "--to", "127.0.0.1:%d" % port, "--patience", "60", "--attempts", "1", path]
@@ -129,7 +129,7 @@ def server_that_is_not_there_yet():
 
 
 def killed_while_it_waits():
-    """A run that is killed while it waits for the index reports nothing, and is made again with the next epoch."""
+    """A run that is killed while it waits for the index reports nothing, and can be repeated in the next epoch."""
     with tempfile.TemporaryDirectory() as folder:
         ops = operations(0, 30, 3)
         path, server = written(folder, 0, ops), Silent(2**64)

@@ -1,4 +1,4 @@
-"""What `relay pick` does: the operations that a report names, with their lines, and that they can be put again."""
+"""What `relay pick` does: it extracts the lines of the operations that a report names, which can then be put again."""
 import json
 import os
 import subprocess
@@ -37,7 +37,7 @@ FIVE = b'{"index":{"_index":"b","_id":"1"}}\n{"n":2}\n'
 
 
 def lines_as_they_were():
-    """The lines are picked byte for byte, in the order of the files, without blank lines, and each operation once."""
+    """Each operation is picked once, byte for byte, in the order of the files, without blank lines."""
     with tempfile.TemporaryDirectory() as folder:
         files = [saved(folder, "a", FIRST), saved(folder, "b", SECOND)]
         for names, wanted in (
@@ -148,7 +148,7 @@ def usage():
 
 
 def put_again():
-    """What the index refused is picked, and a run in the next epoch puts it on the index that is mended."""
+    """What the index refused is picked, and a run in the next epoch applies it once the index no longer refuses it."""
     with tempfile.TemporaryDirectory() as folder:
         producers = [operations(p, 300, 300) for p in range(3)]
         files = [written(folder, p, ops) for p, ops in enumerate(producers)]

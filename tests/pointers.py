@@ -29,7 +29,7 @@ def text_of(path):
 
 
 def files_below(path):
-    """The file, or all files of the folder."""
+    """Returns the file itself, or all files of the folder."""
     if os.path.isfile(path):
         return [path]
     return [os.path.join(at, name) for at, _, names in os.walk(path) for name in names]
@@ -41,7 +41,7 @@ def is_crate(word):
 
 @functools.lru_cache(maxsize=None)
 def outside_crates():
-    """The libraries that crates.txt names and this repository does not have: their names are not looked up."""
+    """Returns the libraries that crates.txt names but this repository does not have: their names are not looked up."""
     listed = re.findall(r"\w+", text_of(os.path.join(TOP, "crates.txt")))
     return {"std"} | {word for word in listed if not is_crate(word)}
 
@@ -51,7 +51,7 @@ def is_path(word):
 
 
 def place_of(crate, word, last):
-    """Where a path of a row leads: below the crate, at the top, or beside the path before it."""
+    """Resolves a path of a row: below the crate, at the top, or next to the path before it."""
     tests = crate + "_tests"
     beside = os.path.dirname(last) if last else crate
     for folder in (crate, TOP, beside, tests, tests + "/src", os.path.dirname(beside)):
@@ -63,7 +63,7 @@ def place_of(crate, word, last):
 
 @functools.lru_cache(maxsize=None)
 def files_of(crate, column):
-    """Where the names of a column may be, the likeliest first: groups of files of the crate, and of the tests of the
+    """Returns where the names of a column may be, the likeliest first: groups of files of the crate, and of the tests of the
     built program."""
     code = sorted(glob.glob(crate + "/src/**/*.rt", recursive=True))
     specs = sorted(glob.glob(crate + "/specs/**/*.antt", recursive=True))
@@ -74,13 +74,13 @@ def files_of(crate, column):
 
 
 def occurs(word, files):
-    """Whether the name stands in one of the files: of a path of Rust its last part."""
+    """Returns true if the name, or the last part of a Rust path, occurs in one of the files."""
     name = re.split(r"::|\(", word)[-1] or word
     return any(re.search(r"(?<![\w])%s(?![\w])" % re.escape(name), text_of(path)) for path in files)
 
 
 def defines(word, path):
-    """Whether a file defines the name: of `A::b` the `b` of an `A` that the file has methods of."""
+    """Returns true if the file defines the name; for `A::b`, if it defines `b` and has methods of `A`."""
     owner, _, name = word.rpartition("::")
     text = text_of(path)
     words = "abbrev|record|data|fn|struct|enum|trait|const|type|def"
@@ -90,7 +90,7 @@ def defines(word, path):
 
 
 def defining(word, groups):
-    """The files of the first group that defines the name, else those of the first in which it occurs."""
+    """Returns the files that define the name in the first group with one, otherwise those in which it occurs."""
     for test in (lambda path: defines(word, path), lambda path: occurs(word, [path])):
         for files in groups:
             found = [path for path in files if test(path)]
@@ -100,7 +100,7 @@ def defining(word, groups):
 
 
 class Cell:
-    """A cell of a row: its pointers, followed as they are read, and the cell again with the file of each name."""
+    """A cell of a row. It follows the cell's pointers, and builds the cell again with the file of each name."""
 
     def __init__(self, crate, row, column, text, found):
         self.crate, self.row, self.column, self.found = crate, row, column, found
@@ -123,7 +123,7 @@ class Cell:
                 self.settle(files_of(self.crate, self.column), "in the crate", place)
 
     def follow_path(self, place, word):
-        """The names that wait have to be in this file, or in a file of this folder."""
+        """The waiting names must be in this file, or in a file of this folder."""
         path = place_of(self.crate, word, self.last)
         if path is None:
             self.fault("`%s` leads nowhere" % word)
@@ -139,7 +139,7 @@ class Cell:
         self.parts[place] = short(path)
 
     def follow_crate(self, place, word):
-        """The names that wait are those of another crate: its files are said in its place."""
+        """The waiting names are in another crate: its name is replaced by their files."""
         if self.names():
             self.settle(files_of(os.path.join(TOP, "crates", word), DEFINITIONS), "in `%s`" % word, place - 2)
             self.parts[place - 1] = self.parts[place] = None
@@ -148,7 +148,7 @@ class Cell:
         return [place for place in self.waiting if NAME.fullmatch(self.parts[place])]
 
     def settle(self, groups, where, end):
-        """Looks for the names that wait, up to `end`, and says after those of one file which file that is."""
+        """Looks up the waiting names, up to `end`, and adds the file after the names that it has."""
         names, owner, paths = self.names(), "", []
         for name in names:
             word = self.parts[name]
@@ -175,13 +175,13 @@ class Cell:
 
 
 def short(path):
-    """A path from `crates`, or from the top where it is elsewhere."""
+    """Returns the path relative to `crates`, or to the top if it is elsewhere."""
     crates = os.path.join(TOP, "crates")
     return os.path.relpath(path, crates if path.startswith(crates + os.sep) else TOP)
 
 
 def tables_of(text):
-    """The rows of the tables, each with whether its table is one of rules."""
+    """Yields the rows of the tables, each with a flag that says whether its table is one of rules."""
     is_rules = False
     for before, line in zip([""] + text.split("\n"), text.split("\n")):
         if not line.startswith("|"):
@@ -194,7 +194,7 @@ def tables_of(text):
 
 
 def check_crate(crate):
-    """Follows the pointers of a crate's tables, and returns its rules, each as its cells with the file of each name."""
+    """Follows the pointers of a crate's tables, and returns its rules, as rows of cells with the file of each name."""
     readme, found, rows, before = crate + "/README.md", set(), [], []
     if not os.path.isfile(readme):
         return rows
@@ -213,7 +213,7 @@ def check_crate(crate):
 
 
 def by_heading(rows_of_crates):
-    """The rows of each heading, by crate."""
+    """Returns the rows of each heading, by crate."""
     found = {}
     for crate, rows in rows_of_crates.items():
         names = [row[0] for row in rows]
@@ -240,7 +240,7 @@ def section(level, heading, rows):
 
 
 def page(rows_of_crates):
-    """docs/RULES.md: the headings of docs/FORMATS.md, each with its rules."""
+    """Returns the text of docs/RULES.md: the headings of docs/FORMATS.md, each with its rules."""
     found = by_heading(rows_of_crates)
     headings = re.findall(r"^(##+) (.+)$", text_of(os.path.join(TOP, "docs", "FORMATS.md")), re.MULTILINE)
     for heading in set(found) | set(rules.OUTSIDE):

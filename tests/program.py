@@ -24,7 +24,7 @@ def case(name, args, stdin, stdout, stderr, status):
 
 
 def directory(command):
-    """A directory as the input of a command."""
+    """Runs a command whose standard input is a directory."""
     folder = os.open("/", os.O_RDONLY)
     try:
         done = subprocess.run([RELAY, command], stdin=folder, capture_output=True, timeout=60)
@@ -35,7 +35,7 @@ def directory(command):
 
 
 def endless(command, producer, text):
-    """A command ends on a shell's producer that never ends, with this text and status 2."""
+    """Runs a command on an endless input, from a shell command: it must end with this text and status 2."""
     source = subprocess.Popen(["sh", "-c", producer], stdout=subprocess.PIPE, stderr=subprocess.DEVNULL)
     done = subprocess.run([RELAY, command], stdin=source.stdout, capture_output=True, timeout=60)
     source.stdout.close()

@@ -1,4 +1,4 @@
-"""What `relay run` says on standard error while it works."""
+"""What `relay run` writes to standard error while it works."""
 import os
 import pty
 import re
@@ -21,13 +21,13 @@ def progress_run(port, files, *more, stdin=subprocess.DEVNULL):
 
 
 def numbers(line):
-    """The numbers of a line, or None where it is none."""
+    """Returns the numbers of a progress line, or None if it is not one."""
     found = LINE.fullmatch(line)
     return found and [None if it is None else int(it) for it in found.groups()]
 
 
 def lines():
-    """A line a second and one at the end: what was read with its share, what was sent, settled and repeated."""
+    """One line per second and one at the end: what was read, with its percentage, and what was sent, settled and repeated."""
     with tempfile.TemporaryDirectory() as folder:
         files = [written(folder, p, operations(p, 14, 14)) for p in range(2)]
         size = sum(os.path.getsize(it) for it in files)
@@ -55,7 +55,7 @@ def lines():
 
 
 def silent_index():
-    """How long ago the last answer came, while the next one is waited for."""
+    """The line says how long ago the last answer came while the run waits for the next."""
     with tempfile.TemporaryDirectory() as folder:
         path = written(folder, 0, [("%d" % n, None) for n in range(2)])
         server, slow = Server(), iter((0, 5))
@@ -68,7 +68,7 @@ def silent_index():
 
 
 def no_connection():
-    """It is said at once, and once, that no connection can be made, and when one is made again."""
+    """A message says immediately, and once, that no connection can be made, and another when one is made again."""
     with tempfile.TemporaryDirectory() as folder:
         path, port = written(folder, 0, [("1", "{}")]), free_port()
         status, out, err = progress_run(port, [path], "--progress", "--attempts", "4")
@@ -88,7 +88,7 @@ def no_connection():
 
 
 def on_a_terminal(port, files, *more):
-    """What a run writes on a terminal that is its standard error, as the terminal got it."""
+    """Runs with a terminal as standard error, and returns what the terminal received."""
     ours, theirs = pty.openpty()
     running = subprocess.Popen([RELAY, "run", "--to", "127.0.0.1:%d" % port, *more, *files], stdin=subprocess.DEVNULL, stdout=subprocess.PIPE, stderr=theirs)
     os.close(theirs)
@@ -107,7 +107,7 @@ def on_a_terminal(port, files, *more):
 
 
 def terminals():
-    """A line takes the place of the one before it, and without --progress only connections are spoken of."""
+    """Each line replaces the previous one, and without --progress there are messages only about connections."""
     with tempfile.TemporaryDirectory() as folder:
         path = written(folder, 0, [("%d" % n, None) for n in range(15)])
         server = Server(delay=lambda: 0.1)

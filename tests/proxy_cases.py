@@ -1,5 +1,5 @@
-"""A run through nginx, haproxy and stunnel, each with the lines of configuration that docs/OPERATING.md has, to a server
-over TLS. A proxy that is not installed is said and passed over. Each is ended by its own process."""
+"""Runs through nginx, haproxy and stunnel, each with its configuration from docs/OPERATING.md, to a server over TLS. A proxy
+that is not installed is skipped, with a message. Each proxy is stopped through its own process."""
 import base64
 import os
 import shutil
@@ -21,7 +21,7 @@ CREDENTIAL = b"authorization: basic " + base64.b64encode(b"relay:secret")
 
 
 def certificate(folder):
-    """A certificate of the server's name, and its key, in one file each."""
+    """Makes a certificate for the server's name, and its key, in one file each."""
     key, chain = os.path.join(folder, "key.pem"), os.path.join(folder, "chain.pem")
     subprocess.run(["openssl", "req", "-x509", "-newkey", "rsa:2048", "-nodes", "-days", "2", "-subj", "/CN=" + NAME, "-addext", "subjectAltName=DNS:" + NAME, "-keyout", key, "-out", chain], check=True, capture_output=True, timeout=60)
     return key, chain
@@ -44,7 +44,7 @@ class TlsServer(Server):
 
 
 def configuration(name):
-    """The lines of docs/OPERATING.md that begin with this comment."""
+    """Returns the configuration in docs/OPERATING.md that begins with this comment."""
     with open(os.path.join(TOP, "docs", "OPERATING.md"), encoding="utf-8") as file:
         lines = iter(file.read().split("\n"))
     found = []
@@ -59,7 +59,7 @@ def configuration(name):
 
 
 class Proxy:
-    """A proxy that runs the configuration of the documents, with its ports and its certificate."""
+    """A proxy with the documented configuration, in which only the ports and the certificate are replaced."""
 
     def __init__(self, kind, folder, server, chain, change=lambda text: text):
         self.port = free_port()
@@ -80,7 +80,7 @@ class Proxy:
 
     @staticmethod
     def in_front(kind, folder):
-        """What keeps a proxy in the foreground, and its files in the folder."""
+        """The lines that keep a proxy in the foreground, and its files in the folder."""
         if kind == "nginx":
             return "daemon off;\nuser %s;\npid %s/nginx.pid;\n" % ("root" if os.getuid() == 0 else "nobody", folder)
         return "foreground = yes\npid =\n" if kind == "stunnel4" else ""
@@ -104,7 +104,7 @@ class Proxy:
 
 
 def through(kind, folder, key, chain):
-    """All of two files is applied once and in order, and each request had the credential that the proxy adds."""
+    """Everything in two files is applied once and in order, and each request has the credential that the proxy adds."""
     producers = [operations(p, 300, 11) for p in range(2)]
     files = [written(folder, p, ops) for p, ops in enumerate(producers)]
     server = TlsServer(key, chain)
@@ -119,7 +119,7 @@ def through(kind, folder, key, chain):
 
 
 def restarted(kind, folder, key, chain):
-    """The server is away for two seconds in the middle of a run."""
+    """The server is down for two seconds in the middle of a run."""
     ops = operations(0, 400, 13)
     files = [written(folder, 0, ops)]
     server = TlsServer(key, chain, delay=lambda: 0.02)
@@ -158,7 +158,7 @@ def limited(kind, folder, key, chain):
 def proxies():
     for kind in ("nginx", "haproxy", "stunnel4"):
         if shutil.which(kind) is None or shutil.which("openssl") is None:
-            print("not tried, since it is not installed: a run through %s" % kind)
+            print("SKIPPED: a run through %s, which is not installed" % kind)
             continue
         with tempfile.TemporaryDirectory() as folder:
             key, chain = certificate(folder)

@@ -1,13 +1,13 @@
-"""Refuses each allocation in turn: `python3 tests/refusals.py PROGRAM`, at the top, after the gate, by `make refusals`. With names
-of test crates behind it, the tests of those alone.
+"""Refuses each allocation in turn. After the gate, `make refusals` runs `python3 tests/refusals.py PROGRAM [CRATE..]` at the top;
+with names of test crates it runs only their tests.
 
 The tests in a file `refusals.rt` of a test crate pass whichever single allocation is refused. Each of them is run, as the gate
-built it, with its 1st, 2nd, .. allocation refused, until a run meets no refusal: `tests/refuse.c` stands before the C library's
-allocator. Then `relay run` is run against `relay stub` with every n-th allocation refused.
+built it, with its 1st, 2nd, .. allocation refused, until a run meets no refusal: `tests/refuse.c` intercepts the allocator of the
+C library. Then `relay run` is run against `relay stub` with every n-th allocation refused.
 
-It fails if a test fails, is stopped or never meets a refusal; if the table of docs/CONTRIBUTING.md lacks a public call that
-allocates, or names a test that is not there or does not make that call; and if a run does not end, ends in any way but for want
-of memory or as it ends without refusals, or writes to a document twice or out of order.
+It fails if a test fails, times out or never meets a refusal; if the table of docs/CONTRIBUTING.md lacks a public call that
+allocates, or names a test that does not exist or does not make that call; and if a run does not end, ends neither as out of memory
+nor as it would without refusals, or writes to a document twice or out of order.
 """
 import concurrent.futures
 import glob
@@ -22,11 +22,11 @@ CRATES = os.path.join(TOP, "crates")
 TABLE = os.path.join(TOP, "docs", "CONTRIBUTING.md")
 HEADING = "## Each allocation refused in turn"
 REFUSED = b"REFUSED\n"
-# What test crates share: its calls are no one's to test, and are made by the tests that use it.
+# What test crates share. Its calls need no tests of their own: the tests that use it make them.
 FIXTURES = "relay_fixtures"
-# What allocates and reports no refusal.
+# Public calls that allocate and do not report a refusal.
 SILENT = {"relay_progress": ["show_progress"]}
-# A test with more allocations than this is not one of a few calls; a run of it takes a few milliseconds.
+# A test should make only a few calls, so it has fewer allocations than this; one run takes a few milliseconds.
 MOST, SECONDS = 20_000, 10
 FAULTS = []
 
@@ -45,7 +45,7 @@ def text_of(path):
 
 
 def modules_of(crate):
-    """The source of each module of a crate, by its path of names."""
+    """Returns the source of each module of a crate, by its path."""
     folder, found = os.path.join(CRATES, crate, "src"), {}
     for path in glob.glob(os.path.join(folder, "**", "*.rt"), recursive=True):
         name = os.path.relpath(path, folder)[: -len(".rt")].replace(os.sep, "::")
@@ -60,7 +60,7 @@ def libraries():
 
 
 def public_names(crate):
-    """The modules that a library makes public, and the names that it re-exports."""
+    """Returns the modules that a library makes public, and the names that it re-exports."""
     root = text_of(os.path.join(CRATES, crate, "src", "lib.rt"))
     names = set()
     for words in re.findall(r"^pub use [\w:]+::(\w+|\{[^}]*\});", root, re.M):
@@ -69,7 +69,8 @@ def public_names(crate):
 
 
 def refusal_types():
-    """The types that tell a refusal: enums with a variant Memory, what says memory as its text, and what holds one of these."""
+    """Returns the types that report a refusal: enums with a variant Memory, types whose text mentions memory, and types with one of
+    these inside."""
     found, holders = {"AllocError", "NotHeld"}, {}
     for crate in libraries():
         for source in modules_of(crate).values():
@@ -86,7 +87,7 @@ def refusal_types():
 
 
 def after_brackets(text):
-    """What follows the angle brackets that a text begins with, if it does."""
+    """Returns the text without the angle brackets at its front, if there are any."""
     depth = 0
     for at, letter in enumerate(text):
         depth += (letter == "<") - (letter == ">" and text[at - 1] != "-")
@@ -96,7 +97,7 @@ def after_brackets(text):
 
 
 def functions_of(source):
-    """Each function that callers see: the type that it is of, if it is of one, its name, its arguments and its result."""
+    """Yields each function that callers see: its type if it is a method, its name, its arguments and its result."""
     owner, of_wire = None, False
     for line in re.finditer(r"^(?P<pad> *)(?:impl(?P<impl>[^{]+)\{|(?P<pub>pub )?fn (?P<name>\w+)(?P<rest>[^{;]*))", source, re.M):
         if line["impl"]:
@@ -112,9 +113,9 @@ def words_of(text):
 
 
 def calls_that_allocate(crate, refusals):
-    """The public calls of a library whose result tells a refusal, each with whether it is called on a value.
+    """Returns the public calls of a library whose result reports a refusal, each with whether it is called on a value.
 
-    A function from faults to faults, as the exit of one, makes none.
+    A function that only converts a fault, such as to its exit status, is not one of them.
     """
     modules, names = public_names(crate)
     found = {it: False for it in SILENT.get(crate, ())}
@@ -131,7 +132,7 @@ def calls_that_allocate(crate, refusals):
 
 
 def rows():
-    """Each row of the table: the crate, its calls, the test, and where that is."""
+    """Yields each row of the table: the crate, its calls, the test, and where the test is."""
     part = text_of(TABLE).partition(HEADING + "\n")[2].partition("\n## ")[0]
     for line in re.findall(r"^\| (.*) \|$", part, re.M)[1:]:
         call, test = line.split(" | ")
@@ -145,13 +146,12 @@ def source_of_tests(crate):
 
 
 def tests_of(crate):
-    """The names of the tests in a test crate's refusals.rt."""
+    """Returns the names of the tests in a test crate's refusals.rt."""
     return re.findall(r"^#\[test\]\nfn (\w+)\(", text_of(source_of_tests(crate)), re.M)
 
 
 def calls_made(crate):
-    """The source of a test crate's refusals.rt, with that of the modules that it uses, and then of those of the fixtures
-    that these use."""
+    """Returns the source of a test crate's refusals.rt, of the modules that it uses, and of the fixtures that these use."""
     source = text_of(source_of_tests(crate))
     for place, prefix in (crate, "crate"), (FIXTURES, FIXTURES):
         used = set(re.findall(r"\w+", " ".join(re.findall(r"^use %s::(\w+|\{[^}]*\})" % prefix, source, re.M))))
@@ -160,7 +160,7 @@ def calls_made(crate):
 
 
 def makes_call(source, call, on_value):
-    """Whether a source calls this."""
+    """Returns true if the source makes this call."""
     owner, _, name = call.rpartition("::")
     before = r"\." if on_value else r"\b%s::" % owner if owner else r"(?<![\w.:])(?<!fn )"
     return re.search(before + name + r"(::<.*>)?\(", source) is not None
@@ -180,7 +180,7 @@ def check_row(crate, calls, test, place, wanted):
 
 
 def check_table():
-    """Holds the table against the sources. How many calls it has."""
+    """Compares the table with the sources. Returns the number of public calls that allocate."""
     refusals, table = refusal_types(), list(rows())
     named = [(crate, call) for crate, calls, _, _ in table for call in calls]
     wanted = {crate: calls_that_allocate(crate, refusals) for crate in libraries()}
@@ -200,7 +200,7 @@ def check_table():
 
 
 def refuser(folder):
-    """The library that refuses, compiled there."""
+    """Compiles the library that refuses allocations, and returns its path."""
     path = os.path.join(folder, "refuse.so")
     subprocess.run(["cc", "-O2", "-shared", "-fPIC", os.path.join(TOP, "tests", "refuse.c"), "-o", path], check=True)
     return path
@@ -219,7 +219,7 @@ def built(crate):
 
 
 def is_built(crate):
-    """Whether the crate's tests are built as their source is now."""
+    """Returns true if the crate's tests are built, and their names are those of the source."""
     if not os.path.exists(built(crate)):
         fault("%s is not built: `make test` builds it" % crate)
         return False
@@ -231,7 +231,7 @@ def is_built(crate):
 
 
 def try_at(library, crate, test, number, folder):
-    """Runs a test with one allocation refused. Whether one was, and what went wrong."""
+    """Runs a test with one allocation refused. Returns whether one was, and what went wrong."""
     try:
         done = subprocess.run([built(crate), "refusals::" + test], env=refusing(library, REFUSE_AT=number), cwd=folder, stdin=subprocess.DEVNULL, capture_output=True, timeout=SECONDS)
     except subprocess.TimeoutExpired:
@@ -242,7 +242,7 @@ def try_at(library, crate, test, number, folder):
 
 
 def refuse_each(library, crate, test, folder):
-    """Refuses each allocation of a test in turn. How many there were, and what went wrong at which of them."""
+    """Refuses each allocation of a test in turn. Returns how many there are, and what went wrong at which."""
     wrongs = []
     for number in range(1, MOST):
         met, wrong = try_at(library, crate, test, number, folder)
@@ -254,7 +254,7 @@ def refuse_each(library, crate, test, folder):
 
 
 def check_tests(library, folder, wanted):
-    """Runs every test, as many at once as there are processors."""
+    """Runs every test, one per processor at a time."""
     tasks = [(crate, test) for crate in crates_with_tests() if (not wanted or crate in wanted) and is_built(crate) for test in tests_of(crate)]
     with concurrent.futures.ThreadPoolExecutor(os.cpu_count()) as pool:
         for (crate, test), (count, wrongs) in zip(tasks, pool.map(lambda task: refuse_each(library, *task, folder), tasks)):

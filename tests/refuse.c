@@ -1,5 +1,5 @@
-// Stands before the allocator of the C library (LD_PRELOAD), for tests/refusals.py: refuses the allocation of the number
-// REFUSE_AT, or each whose number REFUSE_EVERY divides, counted from 1, and says REFUSED on standard error each time.
+// Intercepts the allocator of the C library (LD_PRELOAD), for tests/refusals.py. Counting allocations from 1, it refuses
+// number REFUSE_AT, or each whose number is a multiple of REFUSE_EVERY, and writes REFUSED to standard error each time.
 #define _GNU_SOURCE
 #include <errno.h>
 #include <stdatomic.h>

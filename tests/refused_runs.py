@@ -1,7 +1,7 @@
-"""`relay run` with every n-th allocation refused, against a `relay stub` that is not refused: called by `refusals.py`.
+"""Runs `relay run` with every n-th allocation refused, against a `relay stub` without refusals. `refusals.py` calls this.
 
-A run ends within a minute: for want of memory, or as it ends without refusals. Whatever it sent before, the stub's listing has of
-each document some of what was put to it, in that order and each once; after a run that ends well it has all.
+A run ends within a minute, either out of memory or as it would without refusals. Whatever it sent, the stub's listing has for each
+document a part of what was put, in that order and without duplicates; after a run with status 0 it has everything.
 """
 import os
 import re
@@ -14,15 +14,15 @@ from run_cases import operations, wait_for, written
 from stub_cases import Stub
 
 REFUSED = b"REFUSED\n"
-# A hundred values: each of the first ones, and then in steps that grow, up to more than a run has allocations.
+# A hundred values: first 1, 2, 3, .., then in growing steps, up to more than the number of allocations of a run.
 EVERY = sorted({*range(1, 41), *(int(40 * 1.09**step) for step in range(1, 61))})
-# More connections than a run makes; the rest are closed unused, so that the stub ends.
+# More connections than a run makes; the test opens and closes the rest, so that the stub ends.
 CONNECTIONS, SECONDS = 300, 60
 DONE = re.compile(rb"applied (\d+) already (\d+) reported 0\n")
 
 
 def served_to_its_end(stub):
-    """What the stub lists, once all its connections were used."""
+    """Uses up the connections of the stub, and returns the lines that it lists at its end."""
     while stub.process.poll() is None:
         try:
             socket.create_connection(("127.0.0.1", stub.port), timeout=10).close()
@@ -32,7 +32,7 @@ def served_to_its_end(stub):
 
 
 def writes_of(listed):
-    """The version and the kind of each write, in their order, by document."""
+    """Returns the version and the kind of each write, in order, by document."""
     found = {}
     for line in listed:
         _, document, version, kind = line.decode().split()
@@ -41,13 +41,13 @@ def writes_of(listed):
 
 
 def is_part(kinds, put):
-    """Whether these are some of what was put, in that order."""
+    """Returns true if these are a part of what was put, in the same order."""
     left = iter(put)
     return all(kind in left for kind in kinds)
 
 
 def wrong_writes(listed, producers, whole):
-    """What is wrong with the writes that the stub lists, if anything is."""
+    """Returns what is wrong with the writes that the stub lists, or None."""
     found = writes_of(listed)
     for ops in producers:
         for identity in {it for it, _ in ops}:
@@ -62,7 +62,7 @@ def wrong_writes(listed, producers, whole):
 
 
 def run_of(port, files, environment):
-    """A run: its exit status, what it printed, and whether an allocation was refused. The status is None if it did not end."""
+    """Returns the exit status of a run, its output, and whether an allocation was refused. The status is None if it did not end."""
     args = [RELAY, "run", "--to", "127.0.0.1:%d" % port, "--lanes", "2", "--count", "7", "--linger", "0", "--attempts", "32", *files]
     try:
         done = subprocess.run(args, env=environment, stdin=subprocess.DEVNULL, capture_output=True, timeout=SECONDS)
@@ -72,7 +72,7 @@ def run_of(port, files, environment):
 
 
 def wrong_end(status, out, err, total):
-    """What is wrong with how a run ended, if anything is."""
+    """Returns what is wrong with how a run ended, or None."""
     if status is None:
         return "has not ended after %d s" % SECONDS
     if status == 4:
@@ -84,7 +84,7 @@ def wrong_end(status, out, err, total):
 
 
 def run_one(every, environment, files, producers):
-    """One run. Its status, whether it met a refusal, and what is wrong."""
+    """Makes one run. Returns its status, whether it met a refusal, and what is wrong."""
     stub = Stub(CONNECTIONS)
     wait_for(stub)
     status, out, err, met = run_of(stub.port, files, environment)
@@ -93,11 +93,11 @@ def run_one(every, environment, files, producers):
 
 
 def check_runs(refusing):
-    """Runs with each of the values. What went wrong."""
+    """Makes a run for each value of n. Returns what went wrong."""
     with tempfile.TemporaryDirectory() as folder:
         producers = [operations(p, 60, 6) for p in range(2)]
         files = [written(folder, p, ops) for p, ops in enumerate(producers)]
         ends = [run_one(every, refusing(every), files, producers) for every in EVERY]
     statuses = [status for status, _, _ in ends]
-    print("  relay run with every n-th allocation refused, %d values of n: %d ended for want of memory, %d well, %d of these with refusals" % (len(EVERY), statuses.count(4), statuses.count(0), sum(status == 0 and met for status, met, _ in ends)), flush=True)
+    print("  relay run with every n-th allocation refused, %d values of n: %d ended out of memory, %d with status 0, %d of these with refusals" % (len(EVERY), statuses.count(4), statuses.count(0), sum(status == 0 and met for status, met, _ in ends)), flush=True)
     return [wrong for _, _, wrong in ends if wrong]

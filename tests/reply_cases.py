@@ -1,5 +1,5 @@
-"""Thousands of replies that are broken in all sorts of ways, played to `relay run` by a server that has applied what it
-was sent: the program ends by itself, and each operation is applied, once and in order, or reported."""
+"""Thousands of replies that are broken in all sorts of ways, sent to `relay run` by a server that has applied what it
+received: the program ends by itself, and each operation is applied, once and in order, or reported."""
 import json
 import random
 import socket
@@ -9,12 +9,12 @@ from bulk_server import Server, writes_of
 from program import check
 from run_cases import judge, operations, relay_run, written
 
-# So many broken replies are played, over some runs.
+# The minimum number of broken replies, over several runs.
 REPLIES = 3000
 
 
 def built(dice, body):
-    """A reply in one of the forms that servers use."""
+    """Returns a reply in one of the forms that servers use."""
     front = dice.choice([b"", b"", b"", b"HTTP/1.1 100 Continue\r\n\r\n"])
     more = dice.choice([b"", b"", b"Connection: close\r\n", b"Content-Encoding: identity\r\n", b"Date: Thu, 01 Jan 1970 00:00:00 GMT\r\n"])
     if dice.randrange(3):
@@ -25,7 +25,7 @@ def built(dice, body):
 
 
 def numbers_in(message):
-    """Where digits stand, from and to."""
+    """Returns the start and the end of each number in the message."""
     found, at = [], 0
     while at < len(message):
         end = at
@@ -38,7 +38,7 @@ def numbers_in(message):
 
 
 def broken(dice, message):
-    """The same with one thing or several done to it."""
+    """Returns the message with one to three changes."""
     for _ in range(dice.choice([1, 1, 1, 2, 3])):
         at = dice.randrange(len(message) + 1)
         end = dice.randrange(at, min(len(message), at + 40) + 1)
@@ -72,8 +72,7 @@ def broken(dice, message):
 
 
 class BrokenReplies(Server):
-    """Applies each request, and breaks two of three replies. What is broken depends on the seed and the number of the
-    request alone."""
+    """Applies each request, and breaks two in three replies. How depends only on the seed and the number of the request."""
 
     def __init__(self, seed):
         self.seed, self.played = seed, 0
@@ -89,13 +88,13 @@ class BrokenReplies(Server):
             if breaks:
                 self.played += 1
                 message = broken(dice, message)
-        # What comes after a broken reply is served or not: then it may not count as applied.
+        # After a broken reply, a further request may or may not be served; one that is not may not count as applied.
         serves = not breaks or dice.randrange(2)
         return self.write(stream, message) and self.goes_on(stream, 0.02 if breaks else 1) and serves
 
     @staticmethod
     def goes_on(stream, seconds):
-        """Whether another request comes soon. One that waits for more of the reply gets the end of the stream instead."""
+        """Returns true if another request arrives soon. A client that waits for more of the reply gets the end of the stream."""
         try:
             stream.settimeout(seconds)
             return stream.recv(1, socket.MSG_PEEK) != b""
@@ -118,12 +117,12 @@ def broken_replies():
             played += server.played
         if played >= REPLIES:
             break
-    check("so many broken replies were played", played >= REPLIES, played)
+    check("enough broken replies were sent", played >= REPLIES, played)
 
 
 class EarlyReplies(Server):
-    """Answers two of three requests with 503 once their heads came: after one of these it reads the body and serves
-    the connection on, after the other it closes it at once."""
+    """Answers two in three requests with 503 as soon as their head has arrived. After one of these it reads the body and keeps
+    serving the connection; after the other it closes it immediately."""
 
     def __init__(self):
         self.begun = 0
@@ -140,7 +139,7 @@ class EarlyReplies(Server):
 
 
 def early_replies():
-    """A reply to a request of several 100 KB before it is whole, on a connection that goes on and on one that does not."""
+    """A reply before a request of several 100 KB is complete, on a connection that is kept and on one that is closed."""
     with tempfile.TemporaryDirectory() as folder:
         producers = [[("%d-%d" % (p, n % 7), '{"n":%d,"text":"%s"}' % (n, "x" * 100_000)) for n in range(60)] for p in range(2)]
         files = [written(folder, p, ops) for p, ops in enumerate(producers)]

@@ -16,7 +16,7 @@ def content(path):
 
 
 def what_is_saved():
-    """A line for each operation that is reported, by producer and number, with the keys in byte order."""
+    """The file has a line for each reported operation, by producer and number, with its keys in byte order."""
     with tempfile.TemporaryDirectory() as folder:
         files = [written(folder, 0, [("a b", "{}"), ("ok", "{}"), ("a\\nb", None)]), written(folder, 1, [("\u00e9", "{}")])]
         report = os.path.join(folder, "report")
@@ -50,7 +50,7 @@ def what_is_saved():
 
 
 def files_that_fail():
-    """A file that cannot be made ends the run before anything is put; one that cannot be written after all was printed."""
+    """A file that cannot be created ends the run before anything is put; one that cannot be written, after everything was printed."""
     with tempfile.TemporaryDirectory() as folder:
         path, server = written(folder, 0, operations(0, 5, 5)), Server()
         nowhere = os.path.join(folder, "no", "report")

@@ -1,4 +1,4 @@
-"""What becomes of `relay run` when it is killed and run again over the same files with the next epoch."""
+"""What happens if `relay run` is killed and run again over the same files in the next epoch."""
 import random
 import re
 import signal
@@ -19,8 +19,8 @@ def start(port, files, epoch):
 
 
 def judge(name, server, producers, last):
-    """The writes applied to each document are the first that were put to it, in order, within each epoch, and the epochs come
-    one after another; those of the last epoch are all there."""
+    """Within each epoch, the writes applied to a document are the first ones that were put, in order; the epochs come one after
+    another; and all writes of the last epoch were applied."""
     in_order, all_there = True, True
     for ops in producers:
         for identity in {it for it, _ in ops}:
@@ -61,7 +61,7 @@ def killed():
 
 
 def lower_epochs():
-    """A run over the same index needs a higher epoch: with the same one each write is a conflict, and it says so."""
+    """A second run over the same index needs a higher epoch: in the same one, each write is a conflict and is reported."""
     with tempfile.TemporaryDirectory() as folder:
         path = written(folder, 0, [("1", "{}"), ("2", None)])
         server = Server()

@@ -1,8 +1,8 @@
-"""Which heading of docs/FORMATS.md each rule of the tables in crates/*/README.md belongs to.
+"""Assigns each rule of the tables in crates/*/README.md to a heading of docs/FORMATS.md.
 
-`HOMES` has an entry for each crate with such a table: the heading of its rules, and those of its rules that have another
-one. A rule is named by the beginning of its first cell; `CODE` is for rules of the code alone, which no format has.
-`OUTSIDE` has the suites of this folder that test a heading with the built program. `pointers.py` checks both.
+`HOMES` has an entry for each crate with such a table: the heading of its rules, and the exceptions. A rule is named by the
+beginning of its first cell; `CODE` is the heading of rules that concern only the code and no format. `OUTSIDE` lists, for
+each heading, the suites of this folder that test it with the built program. `pointers.py` checks both.
 """
 CODE = "Rules of the code alone"
 
@@ -134,7 +134,7 @@ OUTSIDE = {
 
 
 def homes_of(crate, rule):
-    """The headings of a rule, or None if its crate has no entry."""
+    """Returns the headings of a rule, or None if its crate has no entry."""
     if crate not in HOMES:
         return None
     usual, others = HOMES[crate]
@@ -144,5 +144,5 @@ def homes_of(crate, rule):
 
 
 def stray_starts(crate, rules):
-    """What `HOMES` names of a crate that is the beginning of no rule, or of several."""
+    """Returns the entries of `HOMES` for a crate that begin no rule, or several."""
     return [start for start in HOMES.get(crate, (CODE, {}))[1] if sum(rule.startswith(start) for rule in rules) != 1]

@@ -1,7 +1,7 @@
 """End-to-end tests of the built program: `python3 tests/run.py PROGRAM`.
 
-Each case is the program's arguments, its standard input and what it has to do. The expected values are
-worked out by hand from the formats, never taken from the program's own output.
+Each case has the program's arguments, its standard input and what it must do. The expected values are worked out by hand
+from the formats, and never taken from the program's own output.
 """
 import sys
 

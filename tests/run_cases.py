@@ -21,7 +21,7 @@ def relay_run(port, files, *more, timeout=300):
 
 
 def operations(producer, count, documents):
-    """Operations of a producer on documents of its own: the id, and the source or None for a delete."""
+    """Returns operations of a producer on its own documents: the id, and the source, or None for a delete."""
     return [("%d-%d" % (producer, n % documents), None if n % 7 == 6 else '{"n":%d}' % n) for n in range(count)]
 
 
@@ -41,8 +41,8 @@ def put_to(ops, identity):
 
 
 def judge(name, server, producers, done, reported_may_be_applied=True):
-    """Each document's applied writes are among those put, each once and in order; what is missing is reported; the
-    counts add up."""
+    """The writes applied to each document are among those put, each once and in order; those that are missing are reported;
+    the counts add up."""
     status, out, err = done
     lines = out.split(b"\n")
     reports = {(int(p), int(n)) for p, n, *_ in (REPORT.fullmatch(it).groups() for it in lines[:-2])}
@@ -88,7 +88,7 @@ def stub():
 
 
 def wait_for(served):
-    """Waits until the stub listens, without a connection of our own."""
+    """Waits until the stub listens, without connecting to it."""
     for _ in range(500):
         with open("/proc/net/tcp") as file:
             if any(line.split()[1].endswith(":%04X" % served.port) and line.split()[3] == "0A" for line in file.readlines()[1:]):
@@ -123,7 +123,7 @@ def faults():
 
 
 def paced(folder, producer, ops, seconds):
-    """A pipe that gives the operations one at a time, so long after one another. Its writer, and the path."""
+    """Makes a pipe that yields one operation at a time, `seconds` apart. Returns its writer, and its path."""
     path = os.path.join(folder, "pipe%d" % producer)
     os.mkfifo(path)
 
@@ -138,7 +138,7 @@ def paced(folder, producer, ops, seconds):
 
 
 def paced_run(server, producers, *more):
-    """A run over pipes of which each gives an operation every fifth of a second, and a request for each."""
+    """A run over pipes, each of which yields an operation every fifth of a second; each operation is a request."""
     with tempfile.TemporaryDirectory() as folder:
         pipes = [paced(folder, p, ops, 0.2) for p, ops in enumerate(producers)]
         for writer, _ in pipes:
@@ -150,8 +150,8 @@ def paced_run(server, producers, *more):
 
 
 def replies_that_nobody_asked_for():
-    """A reply that comes twice, at once or before the next request, and one with half of another after it, are not taken
-    for the reply to the next request: that goes out on another connection, and every write is applied."""
+    """A reply that arrives twice, together or before the next request, or that is followed by half of another, is not taken for
+    the reply to the next request: that is sent on another connection, and every write is applied."""
     for lanes in (1, 4):
         ops = [("%d" % (n % lanes), '{"n":%d}' % n) for n in range(2 * lanes + 2)]
         for fault in ("twice", "twice late", "and a half"):
@@ -166,7 +166,7 @@ def replies_that_nobody_asked_for():
 
 
 def connections_used_again():
-    """A kept connection on which nothing came carries the next request: a lane makes do with one."""
+    """A kept connection on which nothing arrived carries the next request, so one connection is enough for a lane."""
     producers = [[("%d" % p, '{"n":%d}' % n) for n in range(4)] for p in range(2)]
     server = Server()
     done = paced_run(server, producers, "--lanes", "1")
@@ -175,7 +175,7 @@ def connections_used_again():
 
 
 def connections_closed_while_idle():
-    """A kept connection that the server closes between two requests costs the second no attempt."""
+    """If the server closes a kept connection between two requests, that costs the second one no attempt."""
     producers = [[("%d" % p, '{"n":%d}' % n) for n in range(4)] for p in range(2)]
     server = Server(lambda number: "close silently")
     done = paced_run(server, producers, "--lanes", "2", "--attempts", "1")
@@ -208,7 +208,7 @@ def server_that_comes_back():
 
 
 def peak(process):
-    """The most kilobytes that a running process held at a time, as far as it was looked at."""
+    """Returns the peak memory of a running process in KB, as far as it was sampled."""
     most = 0
     while process.poll() is None:
         try:
@@ -232,7 +232,7 @@ def memory():
             check("%d operations" % count, (process.returncode, out) == (0, b"applied %d already 0 reported 0\n" % count), (process.returncode, out[-200:]))
             server.close()
     check("ten times the operations take no more memory", 0 < peaks[1] < peaks[0] + 2048, peaks)
-    print("relay run held at most %d and %d kilobytes" % tuple(peaks))
+    print("the peak memory of relay run was %d and %d KB" % tuple(peaks))
 
 
 def no_server():

@@ -11,8 +11,8 @@ from run_cases import FAULTS, judge, operations, relay_run, written
 
 
 class Slow(Server):
-    """A server that takes a tenth of a second for each request, and keeps how many it had at one time at most, and of
-    which documents it had two."""
+    """A server that takes a tenth of a second per request, and records the maximum number of requests that it had at a time,
+    and the documents that were in two of them."""
 
     def __init__(self, *args, **more):
         self.now, self.crowd, self.documents, self.twice = 0, 0, [], []
@@ -35,7 +35,7 @@ class Slow(Server):
 
 
 def crowds():
-    """As many are in flight as --flying says, each on a connection of its own, and of a document one at a time."""
+    """The number of requests in flight is that of --flying, each on its own connection, and no document is in two of them."""
     with tempfile.TemporaryDirectory() as folder:
         apart = [("%d" % n, '{"n":%d}' % n) for n in range(32)]
         for lanes, flying in ((1, 1), (1, 4), (1, 8), (2, 8)):
@@ -56,7 +56,7 @@ def crowds():
 
 
 def settled_while_idle():
-    """An answer is settled at a tick, though nothing more is put: what was refused with 503 goes out again with the pipe open."""
+    """An answer is settled at a tick even if nothing more is put: what got a 503 is sent again while the pipe is open."""
     with tempfile.TemporaryDirectory() as folder:
         server = Sizes(lambda number: 503 if number == 1 else None)
         pipe = Pipe(folder, server, "--linger", "0", "--flying", "8")
@@ -72,7 +72,8 @@ def settled_while_idle():
 
 
 def hostile():
-    """Faults by turns, with up to eight lanes of up to eight in flight: each document has what was put, once, in order."""
+    """Random faults, with up to eight lanes and up to eight requests of each in flight: each document has what was put, once and in
+    order."""
     chance = random.Random(35)
     for turn, (lanes, flying, count) in enumerate(((1, 2, 3), (1, 8, 1), (2, 4, 10), (8, 8, 2), (8, 8, 50), (3, 5, 7))):
         with tempfile.TemporaryDirectory() as folder:
@@ -86,7 +87,7 @@ def hostile():
 
 
 def restarts():
-    """A server that goes away with requests in flight, and comes back."""
+    """A server that goes down with requests in flight, and comes back."""
     with tempfile.TemporaryDirectory() as folder:
         producers = [operations(p, 400, 30) for p in range(2)]
         files = [written(folder, p, ops) for p, ops in enumerate(producers)]

@@ -1,4 +1,4 @@
-"""What `relay stub` does: a server on a free port of the loopback, asked by Python's own client."""
+"""What `relay stub` does: a server on a free port of the loopback, queried with Python's own client."""
 import http.client
 import socket
 import subprocess
@@ -27,7 +27,7 @@ class Stub:
         self.process = subprocess.Popen([RELAY, *args], stdin=subprocess.DEVNULL, stdout=stdout, stderr=subprocess.PIPE)
 
     def connect(self):
-        """A connection. The first one waits until the program listens."""
+        """Opens a connection. The first one waits until the program listens."""
         for _ in range(1000):
             try:
                 return socket.create_connection(("127.0.0.1", self.port), timeout=60)
@@ -38,7 +38,7 @@ class Stub:
         raise TimeoutError("the stub does not listen")
 
     def ask(self, body, method="POST", target="/_bulk", headers=None, chunked=False):
-        """The answer to a request by Python's client: status, reason, body, and whether it closes."""
+        """Sends a request with Python's client, and returns the answer: status, reason, body, and the Connection field."""
         client = http.client.HTTPConnection("127.0.0.1", self.port, timeout=60)
         client.sock = self.connect()
         client.request(method, target, body, headers or {}, encode_chunked=chunked)
@@ -48,7 +48,7 @@ class Stub:
         return found
 
     def send(self, *parts):
-        """All that comes back on a connection on which these bytes are sent and no more. It may be closed before that."""
+        """Sends these bytes and then the end of the stream, and returns everything that comes back. The server may close earlier."""
         with self.connect() as stream:
             try:
                 for part in parts:
@@ -67,21 +67,21 @@ class Stub:
                 came += piece
 
     def ends(self, name, stdout, stderr=b"", status=0):
-        """The program ends so."""
+        """The program ends with this output and this status."""
         out, err = self.process.communicate(timeout=60)
         found = (out, err, self.process.returncode)
         check(name, found == (stdout, stderr, status), found if len(str(found)) < 600 else "")
 
 
 def applied(body, refuse=None):
-    """What `relay apply` answers to a body: status and text."""
+    """Returns what `relay apply` answers to a body: status and text."""
     more = [] if refuse is None else ["--refuse", refuse]
     status, text = run(["apply", *more], body).stdout.split(b"\n", 1)
     return int(status), text[:-1]
 
 
 def answers(stub, name, body, wanted, **more):
-    """The body is answered so, and the connection closes."""
+    """The body gets this answer, and the connection closes."""
     status, text = wanted
     reason = {200: "OK", 400: "Bad Request", 413: "Content Too Large"}[status]
     found = stub.ask(body, **more)
@@ -112,7 +112,7 @@ def same_answers():
 
 
 def one_index():
-    """Versions stay over connections, and all that was applied is listed in byte order of documents."""
+    """Versions are kept from connection to connection, and what was applied is listed in byte order of the documents."""
     stub = Stub(4)
     answers(stub, "a first request", index(b"2", 5), (200, b'{"errors":false,"items":[{"index":{"_id":"2","_index":"b","_seq_no":0,"_version":5,"result":"created","status":201}}],"took":0}'))
     conflict = b'{"errors":true,"items":[{"index":{"_id":"2","_index":"b","error":{"type":"version_conflict_engine_exception"},"status":409}}],"took":0}'
@@ -127,7 +127,7 @@ def one_index():
 
 
 def refusals():
-    """Places count over all requests. What is refused may come again."""
+    """Positions are counted over all requests. A write that was refused may be sent again."""
     stub = Stub(3, "2:429,3:503,5:400")
     answers(stub, "items 1 and 2", delete(b"1", 1) + delete(b"2", 2), applied(delete(b"1", 1) + delete(b"2", 2), "2:429"))
     refused = b'{"errors":true,"items":[{"delete":{"_id":"2","_index":"b","error":{"type":"scripted_refusal"},"status":503}}],"took":0}'
@@ -139,7 +139,7 @@ def refusals():
 
 
 def other_requests():
-    """What is no POST to /_bulk is answered NotBulk, and nothing is run."""
+    """A request that is not a POST to /_bulk gets NotBulk, and nothing is run."""
     asked = [("GET", "/_bulk", None), ("PUT", "/_bulk", delete(b"1", 1)), ("POST", "/", delete(b"1", 1)), ("POST", "/_bulk?refresh", delete(b"1", 1)), ("GET", "/", None)]
     stub = Stub(len(asked))
     for method, target, body in asked:
@@ -148,8 +148,8 @@ def other_requests():
 
 
 def too_large():
-    """A longer body than --max is answered 413: it is not read as lines, and nothing of it is run. What is no bulk request
-    is not weighed."""
+    """A body that is longer than --max gets 413: it is not read as lines, and nothing of it is run. The size of a request that
+    is not a bulk request is not checked."""
     one, two = delete(b"1", 1), delete(b"2", 2)
     refused = (413, b'{"error":{"type":"TooLarge"},"status":413}')
     stub = Stub(6, most=len(one))
@@ -172,7 +172,7 @@ def too_large():
 
 
 def dropped():
-    """What is no request is dropped without an answer, counts, and runs nothing."""
+    """Bytes that are not a request are dropped without an answer; the connection counts, and nothing is run."""
     body = delete(b"1", 1)
     head = b"POST /_bulk HTTP/1.1\r\nHost: x\r\n"
     sized = head + b"Content-Length: %d\r\n\r\n" % len(body)
@@ -204,7 +204,7 @@ def answer_to(body):
 
 
 def byte_for_byte():
-    """What goes over the socket, in whatever pieces the request comes."""
+    """What the socket carries, in whatever pieces the request arrives."""
     one, two = delete(b"1", 1), delete(b"2", 1)
     head = b"POST /_bulk HTTP/1.1\r\nHost: x\r\nContent-Length: %d\r\n\r\n" % len(one)
     stub = Stub(4)
@@ -222,7 +222,7 @@ def byte_for_byte():
 
 
 def unread_answers():
-    """A client that goes away counts, and what it asked for stays."""
+    """The connection of a client that goes away counts, and its request is run."""
     body = delete(b"1", 1)
     stub = Stub(2)
     with stub.connect() as stream:
@@ -233,7 +233,7 @@ def unread_answers():
 
 
 def many_connections():
-    """Clients that come at once are served one after the other, each once."""
+    """Clients that connect at the same time are served one after the other, each once."""
     stub = Stub(64)
     stub.connect().close()
     found = []
@@ -247,7 +247,7 @@ def many_connections():
 
 
 def ends():
-    """How it ends where it does not serve all."""
+    """How it ends if it does not serve all connections."""
     for args in ([], ["--refuse", "1:429"]):
         stub = run(["stub", "--listen", "127.0.0.1:%d" % free_port(), "--requests", "0", *args])
         check("no requests", (stub.stdout, stub.stderr, stub.returncode) == (b"", b"", 0), stub)

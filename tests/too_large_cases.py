@@ -10,7 +10,7 @@ ONE = len(deleted(b'"books"', b'"0-0"', 1))
 
 
 def to_the_stub():
-    """Eight deletions of one length in one batch: each request that is too large becomes two of half its operations."""
+    """Eight deletes of the same length in one batch: each request that is too large becomes two with half the operations."""
     with tempfile.TemporaryDirectory() as folder:
         path = written(folder, 0, [("0-%d" % n, None) for n in range(8)])
         for most, requests, reported in ((8 * ONE, 1, 0), (3 * ONE, 7, 0), (ONE, 15, 0), (ONE - 1, 15, 8)):

@@ -12,7 +12,7 @@ LINES = 1000000
 
 
 def played(name, first, rows, end=None):
-    """A script in rows `EVENT [ANSWER]`, with `; ` between them, and the lines of its end."""
+    """Plays a script, given as rows `EVENT [ANSWER]` joined by `; `, and compares its answers and the lines at its end."""
     lines, answers = [first], []
     for row in filter(None, rows.split("; ")):
         event, answer = row[:-1].rsplit(" [", 1)
@@ -113,7 +113,7 @@ def rows():
 
 
 def too_large():
-    """A request that is too large is sent again in halves, and one operation that is too large alone is reported."""
+    """A request that is too large is sent again in halves, and a single operation that is too large is reported."""
     played(
         "halves, of which one is too large alone",
         THREE,
@@ -138,7 +138,7 @@ def too_large():
 
 
 def restarts():
-    """A new incarnation in a higher epoch: all begins anew but the requests and the index."""
+    """A new incarnation in a higher epoch: everything but the requests and the index starts afresh."""
     first, second, third = 1, 2**40 + 1, 3 * 2**40 + 1
     played(
         "a restart, and a late run of an old request",
@@ -194,7 +194,7 @@ def restarts():
 
 
 def refusals():
-    """Each cause of each event, and at each place the one that comes first of those that hold."""
+    """Each cause of refusal of each event; if several apply, the first one is named."""
     played(
         "of senders",
         "world 2 2 1 10 10 4096 0 3 1 0 1000",
@@ -243,7 +243,7 @@ def refusals():
 
 
 def many():
-    """Eight lanes and sixteen producers; the lanes of these documents are known from outside."""
+    """Eight lanes and sixteen producers; the lanes of these documents were computed independently."""
     lanes = [6, 1, 0, 3, 2, 5, 4, 7]
     puts = "; ".join("put %d books %d delete [ok %d:1]" % (p, p % 8, p) for p in range(16))
     takes = "; ".join("take %d [ok]; take %d [ok]; take %d [no NothingQueued]" % (lane, lane, lane) for lane in range(8))
@@ -337,7 +337,7 @@ def devices():
 
 
 def prompt():
-    """An answer comes out before the next line goes in."""
+    """Each answer is written before the next line is read."""
     process = subprocess.Popen([RELAY, "world"], stdin=subprocess.PIPE, stdout=subprocess.PIPE)
     process.stdin.write(THREE.encode() + b"\n")
     for number in range(1, 4):
@@ -356,7 +356,7 @@ def prompt():
 
 
 def scripts():
-    """Random scripts; `world_scripts.py` plays any number of them by hand."""
+    """Random scripts; run `world_scripts.py` by hand to play any number of them."""
     _, failures = play_all(RELAY, 2000)
     check("2,000 random scripts", not failures, failures[:5])
 

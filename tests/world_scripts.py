@@ -1,8 +1,8 @@
 """Random scripts for `relay world`: `python3 tests/world_scripts.py PROGRAM COUNT [SEED]`.
 
-A seed gives a config, and then events, each of which is chosen with a view to what the answers before it said. What was
-answered and what stands at the end is judged by what came of it alone: which puts were accepted, which items were sent
-and run, and what was answered. Nothing here knows how a lane works.
+A seed determines a config and then events, each of which is chosen by looking at the answers so far. The answers and the
+lines at the end are judged only by what happened: which puts were accepted, which items were sent and run, and what was
+answered. Nothing here knows how a lane works.
 """
 import random
 import subprocess
@@ -13,7 +13,7 @@ EPOCHS, DEAL = 4194303, 1099511627775
 
 
 def lane_of(index, identity, lanes):
-    """FNV-1a with 64 bits."""
+    """64-bit FNV-1a."""
     state = 14695981039346656037
     for byte in index.encode() + b"\xff" + identity.encode():
         state = (state ^ byte) * 1099511628211 % 2**64
@@ -30,7 +30,7 @@ def expect(right, *what):
 
 
 class Script:
-    """A script at work: the program beside it, and what its answers have told."""
+    """A script that is being played: the running program, and what its answers have shown so far."""
 
     def __init__(self, relay, seed):
         self.random = random.Random(seed)
@@ -46,28 +46,28 @@ class Script:
         self.text, self.said = [], []
         self.process = subprocess.Popen([relay, "world"], stdin=subprocess.PIPE, stdout=subprocess.PIPE, stderr=subprocess.PIPE)
         self.write("world " + " ".join(map(str, self.config)))
-        self.requests = []  # of each its lane, its items, the runs of each, and whether an answer to it is taken no more
-        self.whole = []  # a request and the status that it was answered with, if that reported what it carried
-        self.index, self.applied = {}, {}  # by document: the version that is stored, and the versions and statuses that were applied
-        self.accepted = {}  # by epoch and producer: the document and the action of each put
-        self.versions = {}  # by the name of an operation: the version that it was taken under
+        self.requests = []  # For each: its lane, its items, the runs of each, and whether a further answer to it is refused.
+        self.whole = []  # A request and the status of its answer, if that reported the operations of the request.
+        self.index, self.applied = {}, {}  # By document: the stored version, and the versions and statuses of the writes applied.
+        self.accepted = {}  # By epoch and producer: the document and the action of each put.
+        self.versions = {}  # By the name of an operation: the version that it was assigned.
         self.begin()
 
     def begin(self):
-        """What is new in each incarnation."""
+        """What starts afresh in each incarnation."""
         for producer in range(self.producers):
             self.accepted[self.epoch, producer] = []
-        self.queues = [[] for _ in range(self.lanes)]  # the name of an operation that was put, `tick`, `flush` or `done`
-        self.closed = set()  # pairs of a sender and a lane
-        self.taken, self.settled = [0] * self.lanes, [0] * self.lanes  # of each lane how many puts it took, and how many of them ended
-        self.caps = {}  # by document and version: how many items a request with it may have, unless it is alone
+        self.queues = [[] for _ in range(self.lanes)]  # The name of an operation that was put, `tick`, `flush` or `done`.
+        self.closed = set()  # Pairs of a sender and a lane.
+        self.taken, self.settled = [0] * self.lanes, [0] * self.lanes  # By lane: how many puts it took, and how many of them ended.
+        self.caps = {}  # By document and version: the maximum number of items in a request with it, unless it is alone.
 
     def write(self, line):
         self.text.append(line)
         self.process.stdin.write(line.encode() + b"\n")
 
     def ask(self, line):
-        """The words of the answer to an event."""
+        """Plays an event, and returns the words of its answer."""
         self.write(line)
         self.process.stdin.flush()
         answer = self.process.stdout.readline().decode()
@@ -168,7 +168,7 @@ class Script:
             self.applied.setdefault(document, []).append((version, int(words[1])))
 
     def ran(self, document, version):
-        """The statuses that a run may have, by what is stored of its document."""
+        """Returns the statuses that a run may have, given the stored version of its document."""
         if self.index.get(document, -1) >= version:
             return 409
         return (200, 201, 404)
@@ -219,10 +219,10 @@ class Script:
             request["answered"] = True
         self.begin()
 
-    # Which events come.
+    # The choice of events.
 
     def any_request(self):
-        """The number of a request, often of one in flight, seldom of none."""
+        """Returns the number of a request, often of one in flight, seldom of one that does not exist."""
         flying = [number for number, request in enumerate(self.requests, 1) if not request["answered"]]
         roll = self.random.random()
         if flying and roll < 0.6:
@@ -270,9 +270,8 @@ class Script:
         self.reply(request)
 
     def finish(self):
-        """Works until nothing is held, and closes all that is still open. The control closes last, since an operation that
-        was not settled may have to wait for ticks. A lane that is full before a full queue stands still, since no tick
-        comes through."""
+        """Works until nothing is held, and closes everything that is still open. The control closes last, since an operation that
+        is not settled may have to wait for ticks. A full lane with a full queue makes no progress, since no tick reaches it."""
         for lane in range(self.lanes):
             for _ in range(300):
                 self.work(lane)
@@ -288,7 +287,7 @@ class Script:
             self.work(lane)
 
     def work(self, lane):
-        """A lane takes what it can, and sends, runs and is answered, mostly without a fault."""
+        """A lane takes what it can and sends it; the requests are run and answered, mostly without a fault."""
         while self.queues[lane] and self.take(lane):
             pass
         flying = [number for number, request in enumerate(self.requests, 1) if request["lane"] == lane and not request["answered"]]
@@ -316,7 +315,7 @@ class Script:
         self.process.stderr.close()
         self.judge([line.split(" ") for line in self.end.splitlines()])
 
-    # What stands at the end.
+    # The lines at the end.
 
     def judge(self, lines):
         accepted = [self.accepted[self.epoch, producer] for producer in range(self.producers)]
@@ -334,7 +333,7 @@ class Script:
                     expect(name in named or name in reported, "neither applied nor reported", name)
 
     def operation(self, name, document):
-        """An operation that was accepted in some epoch, by its name, and its action."""
+        """Returns the operation of this name, which must have been accepted in its epoch, and its action."""
         epoch, name = name.split(".") if "." in name else ("0", name)
         producer, number = map(int, name.split(":"))
         accepted = self.accepted.get((int(epoch), producer), [])
@@ -344,8 +343,8 @@ class Script:
         return (int(epoch), producer, number), action
 
     def attribution(self, lines):
-        """The names are those of distinct operations, one for each write that was applied, with its action and under the version
-        that it was taken under, in each epoch in producer order, and epochs one after another."""
+        """The names are those of distinct operations, one for each write that was applied, with its action and the version that it
+        was assigned; they are in producer order in each epoch, and the epochs come one after another."""
         named, last, epochs, versions, live = set(), {}, {}, {}, set()
         expect([words[0] for words in lines] == sorted((words[0] for words in lines), key=lambda d: [part.encode() for part in d.split("/")]), "order of documents")
         for document, version, name in lines:
@@ -367,7 +366,7 @@ class Script:
         return named
 
     def reported(self, lines):
-        """Each report is on an operation that was accepted in this epoch, none on one twice, and what happened is its cause."""
+        """Each report names an operation that was accepted in this epoch, none is named twice, and each cause is what happened."""
         reported, order = set(), [int(words[0]) for words in lines]
         expect(order == sorted(order), "order of lanes")
         for lane, name, document, cause, *more in lines:
@@ -403,7 +402,7 @@ def play(relay, seed):
         if seed % 10 == 0:
             text = "\n".join(script.text).encode()
             again = subprocess.run([relay, "world"], input=text, capture_output=True, timeout=60)
-            expect(again.stdout.decode() == "".join(script.said) + script.end and again.returncode == 0, "another answer to the whole text at once")
+            expect(again.stdout.decode() == "".join(script.said) + script.end and again.returncode == 0, "another answer if the text comes in one piece")
         return len(script.text)
     except Exception as wrong:
         script.process.kill()
@@ -412,7 +411,7 @@ def play(relay, seed):
 
 
 def play_all(relay, count, first=0):
-    """Plays so many scripts; how many events they had, and what was wrong with them."""
+    """Plays `count` scripts. Returns how many lines they had, and what was wrong."""
     events, failures = 0, []
     for seed in range(first, first + count):
         try:
