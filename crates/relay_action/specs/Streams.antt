@@ -1,7 +1,7 @@
 -- The count of a stream's failed calls, and the stream in memory.
 use Rattle.std.specs.Prelude.{ℕ, ◌+◌, ◌-◌, ◌^◌, ◌≤◌, min, List, ◌++◌, Result, Ok, Err, Bool, false, ◌||◌, nat_lt, ◌==◌, length, drop, []}
 
--- where a count saturates
+-- the value at which a count saturates
 abbrev pub most : ℕ
 most = 2 ^ 64 - 1
 

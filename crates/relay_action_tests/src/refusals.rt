@@ -1,9 +1,9 @@
-//! Each call that allocates, of whose allocations any one may be refused (`make refusals`): the refusal is told, and the call
-//! does its work when it is made again.
+//! Each call that allocates, with any one of its allocations refused (`make refusals`): the refusal
+//! is reported, and the call succeeds when it is repeated.
 use relay_action::{Action, ActionFault, DocKey, MemStream, Op, Source, Text, Write};
 use std::alloc::{AllocError, Global};
 
-// A text that no value holds by itself.
+// A text that is too long to be stored in the value itself.
 const LONG: &str = "more than the thirty-eight bytes that a value has room for by itself";
 
 fn text_of(alloc: Global) -> Option<Text> {

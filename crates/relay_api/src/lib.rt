@@ -1,5 +1,5 @@
 //! Everything that a program built on the relay calls, in one place. Such a program lists this
-//! crate and the crates whose types are in its own signatures, and imports from here alone.
+//! crate and the crates whose types are in its own signatures, and imports only from here.
 //!
 //! The crate has no code of its own. What each item promises is documented at the item and in the
 //! README of its crate.

@@ -1,4 +1,4 @@
-//! Offers, of whose allocations any one may be refused (`make refusals`).
+//! Offers, with any one of their allocations refused (`make refusals`).
 use crate::tests::item;
 use relay_batch::{Batcher, Limits, Offer};
 use std::alloc::AllocError;
@@ -9,7 +9,8 @@ const LIMITS: Limits = Limits {
     linger: 0,
 };
 
-// Whether an item is added. If it is refused, nothing was added, and it is when it is offered again.
+// Whether an item is added. If an allocation is refused, nothing was added, and the second offer
+// adds it.
 fn adds(batcher: &mut Batcher, doc: u64) -> bool {
     let room = batcher.room();
     match batcher.offer(item(doc, 10, 0)) {

@@ -15,7 +15,7 @@ prepend_twice : (front bytes : List ℕ) (known : Option (List ℕ)) → prepend
 prepend_twice front bytes None = refl
 prepend_twice front bytes (Some xs) = ap (λ l. Some l) (sym (append_assoc front bytes xs))
 
--- one piece more stands in front of what is left
+-- one more piece is in front of what is left
 pub piece_more : (start old new : Option (List ℕ)) (before after : List ℕ) → start ≡ prepend_known before old → TakesPiece old new before after More → start ≡ prepend_known after new
 piece_more start old new before after h t = h ∙ ap (λ known. prepend_known before known) t.4 ∙ prepend_twice before t.0 new ∙ ap (λ l. prepend_known l new) (sym t.2)
 

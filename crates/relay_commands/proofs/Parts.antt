@@ -17,7 +17,7 @@ use Rattle.relay_commands.specs.Cuts.{Adds, IsSplitAt, IsPartFault, IsUncut}
 use Rattle.relay_words.specs.Numbers.{IsNumber}
 use Rattle.relay_commands.specs.Refusals.{IsBadAfter, IsList, IsListFault, IsNoRefusal, IsRefusal, Refuses, last_status}
 
--- ---- where a list is cut
+-- ---- the place at which a list is cut
 
 -- no byte of the list is c, by its index
 abbrev Lacks : ℕ → List ℕ → Type 0
@@ -53,7 +53,7 @@ without-append : (c : ℕ) (xs ys : List ℕ) → Without c xs → Without c ys 
 without-append c [] ys h k = k
 without-append c (x ∷ xs) ys h k = (h.0, without-append c xs ys h.1 k)
 
--- digits alone hold no byte that is no digit
+-- digits contain no byte that is not a digit
 digits-without : (c : ℕ) (xs : List ℕ) → 10 ≤ digit_value c → AllDigits 10 xs → Without c xs
 digits-without c [] past all = tt
 digits-without c (x ∷ xs) past all = (λ e. absurd (omega (arith, past, rw e at all.0)), digits-without c xs past all.1)
@@ -64,7 +64,7 @@ colon_is_none = omega arith
 comma_is_none : 10 ≤ digit_value 44
 comma_is_none = omega arith
 
--- where the byte stands, the text is cut
+-- where the byte is, the text is cut
 is_there : (c : ℕ) (front back : List ℕ) → Without c front → IsUncut c (front ++ c ∷ back) → ⊥
 is_there c front back w e =
     let text = front ++ c ∷ back in
@@ -73,7 +73,7 @@ is_there c front back w e =
     let lengths : length front ≡ length (front ++ c ∷ back) = ap length same in
     grind (arith, common_steps, lengths)
 
--- where it does not stand, it is not
+-- where it is not, the text is not cut
 at_end : (c : ℕ) (xs : List ℕ) → Without c xs → IsUncut c xs
 at_end c xs w = position_or_len_is (λ b. b == c) xs (length xs) 0 (omega arith) (λ k lt. let ne = without-lacks c xs w k lt in grind (arith, nat_tests, ne)) (λ lt. absurd (omega (arith, lt)))
 
@@ -114,7 +114,7 @@ alone text e [] h = absurd h
 alone text e (x ∷ []) h = (x.0, x.1, h)
 alone text e (x ∷ y ∷ xs) h = absurd (is_there 44 h.0 h.1 (refusal-without h.0 x.0 x.1 h.2) (rw h.4 at e))
 
--- what stands before the first comma is a refusal, and what stands after it is a list
+-- what precedes the first comma is a refusal, and what follows it is a list
 pub record Splits (front back : List ℕ) : Type 0 where
   pub place : ℕ
   pub status : ℕ
@@ -122,7 +122,7 @@ pub record Splits (front back : List ℕ) : Type 0 where
   pub later : List (ℕ × ℕ)
   pub rest : IsList back later
 
--- a text with no other comma is cut nowhere
+-- a text without another comma is not cut any further
 no_cut : (c : ℕ) (text front back : List ℕ) → IsSplitAt c text front back → Without c text → ⊥
 no_cut c text front back cut w =
     omega (arith, cut.there, at_end c text w)
@@ -204,13 +204,13 @@ pub part_last : (whole rest : List ℕ) (old new : Plan) (count : ℕ) → HasPa
 part_last whole rest old new count h place status r a =
     (h.earlier ++ (place, status) ∷ [], h.builds ((place, status) ∷ []) r, refuses_more h.earlier old new place status h.refuses a)
 
--- the part after those that were found is no refusal
+-- the part after those that were found is not a refusal
 bad_after : (whole rest front : List ℕ) (plan : Plan) (count n : ℕ) → HasParts whole rest plan count → front ≡ before_first (λ b. b == 44) rest → IsNoRefusal front → n ≡ count → IsBadAfter whole n
 bad_after whole rest front plan count n h e bad s =
     let same : length h.earlier + 0 ≡ n = let c = h.count_is in omega (arith, c, s) in
     subst (λ (m : ℕ). IsBadAfter whole m) same (h.blames 0 (subst (λ (t : List ℕ). IsNoRefusal t) e bad))
 
--- a part that is no refusal makes the whole no list
+-- if a part is not a refusal, the whole is not a list
 pub part_fault : (whole rest front back : List ℕ) (plan : Plan) (count : ℕ) (e : ListFault) → HasParts whole rest plan count → IsSplitAt 44 rest front back → IsPartFault front count e → IsListFault whole e
 part_fault whole rest front back plan count (fault.BadList n) h cut bad =
     ((λ xs l. let p = h.peels xs l in let s = splits rest front back cut p.0 p.1 in bad.0 s.place s.status s.first), bad_after whole rest front plan count n h cut.front_is bad.0 bad.1)
@@ -224,6 +224,6 @@ last_fault whole rest plan count fault.Memory h e bad = tt
 pub refuses_none : (plan : Plan) → plan ≡ no_script → Refuses [] plan
 refuses_none plan h = record { statuses = λ place. ap (λ p. refusal_at p place) h; none_run = ap (λ p. p.ran) h; unlimited = ap (λ p. p.limit) h }
 
--- what may be refused is what the test tells
+-- what may be refused is what the test says
 pub may_of : (status other : ℕ) → status ≡ other → MayRefuse other → MayRefuse status
 may_of status other e h = subst MayRefuse (sym e) h

@@ -128,11 +128,11 @@ no_write_of_kind version rest new e other s f = record { fault = f; not_memory =
 pub no_write_of : (version : ℕ) (rest new : Reading) (e : InputFault) → Fails rest new e → IsNoWrite version rest new (fault_of e)
 no_write_of version rest new e f = no_write_of_kind version rest new e e.kind refl f
 
--- the write was there, and no memory for its lines
+-- the write was there, and an allocation for its lines failed
 pub lacks_lines : (version : ℕ) (rest new : Reading) (w : Write) → IsWrite version rest new w → LacksMemory rest new
 lacks_lines version rest new w one = inr (one.blank, one.op, one.next)
 
--- ---- what the next operation gives
+-- ---- the result of the next operation
 
 pub write_after : (version n line : ℕ) (old new : Reading) (op : Operation) (w : Write) → Takes old new n op → IsNumbered op version line (Ok w) → IsWrite version old new w
 write_after version n line old new op w t h = record { blank = n; op = op; next = t; write = h.0; within = h.1 }

@@ -17,7 +17,7 @@ use Rattle.relay_commands.specs.declared.lines.LinesFault.{LinesFault}
 use Rattle.relay_commands.specs.declared.lines.LinesFault.TheVariants as fault
 use Rattle.relay_commands.proofs.Writing.{writes_all, writes_part}
 
--- a parser of which nothing was read stands at the front of its stream
+-- a parser that has read nothing is at the front of its stream
 pub reading-start : (left : Option (List ℕ)) (failed : ℕ) (default : Option (List ℕ)) (p : Parsing) → p ≡ start default → reading left failed p ≡ fresh left failed default
 reading-start left failed default p e =
     ap (reading left failed) e
@@ -26,7 +26,7 @@ reading-start left failed default p e =
 take-all : (xs : List ℕ) → xs ≡ take (length xs) xs
 take-all xs = grind (arith, common_steps)
 
--- all of a text is some first bytes of it
+-- all of a text is a prefix of it
 some_of_all : (before after : Option (List ℕ)) (text : List ℕ) → after ≡ append_known before text → Writes before after text (Err fault.Memory)
 some_of_all before after text e = (length text, e ∙ ap (append_known before) (take-all text))
 
@@ -52,7 +52,7 @@ fails_inside first old rest left failed parser before mid after ops text sent n 
   writes = write_fault before mid after (lines_of first ops) text sent n w m;
 }
 
--- the answer, or a failed write in its place
+-- the result, or a failed write in its place
 finishes : (first : ℕ) (old : Reading) (left : Option (List ℕ)) (failed : ℕ) (before mid after : Option (List ℕ)) (text : List ℕ) (sent f g : ℕ) (answer result : Result ℕ LinesFault) → (p : Passes first old left failed before mid text sent answer) → Concludes first p.rest (reading left failed p.parser) p.ops answer → failed ≡ failed_by answer old.failed → WritesAllBut before mid (lines_of first p.ops) text sent → (after ≡ append_known before (lines_of first p.ops) → Writes before after (lines_of first p.ops) answer) → FinishesOrFails answer text sent mid f after g result → Streams first old left failed before after result
 finishes first old left failed before mid after text sent f g answer result p ends reads w base (inl h) =
     subst (λ (r : Result ℕ LinesFault). Streams first old left failed before after r) (sym h.same) (record {

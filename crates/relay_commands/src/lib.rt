@@ -5,10 +5,10 @@
 //! `relay_words`.
 //!
 //! It carries these promises: `lines` writes the bulk text of the operations before the first
-//! fault, with versions that rise by one, and no version past the last; `apply` writes the answer
-//! of a fresh index to the body that it read, and nothing before the whole body was served; and a
-//! call of a stream that failed is not repeated. `outgoing` gathers what is to be written, here and
-//! in `relay_scenario`, and counts it.
+//! fault, with versions that increase by one, and no version past the last; `apply` writes the
+//! answer of a fresh index to the body that it read, and nothing before the whole body was served;
+//! and a call of a stream that failed is not repeated. `outgoing` gathers what is to be written,
+//! here and in `relay_scenario`, and counts it.
 #![tactic(auto)]
 
 pub mod apply;

@@ -200,8 +200,8 @@ fn each_read_fails_in_turn(rt: HostRuntime) {
     }
 }
 
-// How many bytes are written in this many calls of a writer in pieces: the first text alone, since
-// a delete at the end of what was read may have to wait, and then the second.
+// How many bytes are written in this many calls of a writer in pieces: first only the first text,
+// since a delete at the end of what was read may have to wait, and then the second.
 fn sent_in(calls: u64, piece: u64) -> u64 {
     let first = 95u64.div_ceil(piece.max(1));
     if calls < first {

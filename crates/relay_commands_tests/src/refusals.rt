@@ -1,5 +1,5 @@
-//! Commands over streams in memory, of whose allocations any one may be refused (`make refusals`):
-//! what went out is a front of what goes out without the refusal.
+//! Commands over streams in memory, with any one of their allocations refused (`make refusals`):
+//! what was written is a prefix of what is written without the refusal.
 use crate::{apply, lines};
 use relay_action::{Action, DocKey, MemStream, Write};
 use relay_commands::apply::{ApplyFault, apply};
@@ -17,7 +17,7 @@ fn stream_of(alloc: Global, input: &[u8]) -> Option<MemStream> {
     stream_once(alloc, input).or_else(|| stream_once(alloc, input))
 }
 
-// What `lines` answers for two operations, and what it wrote.
+// The result of `lines` for two operations, and what it wrote.
 fn lines_once(alloc: Global) -> Option<(Result<u64, LinesFault>, MemStream)> {
     let mut reader = stream_of(alloc, lines::TWO)?;
     let mut writer = stream_of(alloc, b"")?;
@@ -25,8 +25,8 @@ fn lines_once(alloc: Global) -> Option<(Result<u64, LinesFault>, MemStream)> {
     Some((found, writer))
 }
 
-// Whether two operations are written, by a second run if the first was refused when a front of them
-// had gone out.
+// Whether two operations are written, by a second run if the first was refused after it had written
+// a prefix of them.
 fn writes_lines(alloc: Global) -> Option<bool> {
     let (found, writer) = lines_once(alloc)?;
     if found.is_ok() {
@@ -50,7 +50,7 @@ fn script_of(alloc: Global) -> Option<Script> {
     }
 }
 
-// What `apply` answers for a body whose second item is refused, and what it wrote.
+// The result of `apply` for a body whose second item is refused, and what it wrote.
 fn apply_once(alloc: Global) -> Option<(Result<(), ApplyFault>, MemStream)> {
     let script = script_of(alloc)?;
     let mut reader = stream_of(alloc, apply::TWO)?;
@@ -59,7 +59,7 @@ fn apply_once(alloc: Global) -> Option<(Result<(), ApplyFault>, MemStream)> {
     Some((found, writer))
 }
 
-// Whether a body is served, by a second run if the first was refused before anything went out.
+// Whether a body is served, by a second run if the first was refused before anything was written.
 fn applies(alloc: Global) -> Option<bool> {
     let (found, writer) = apply_once(alloc)?;
     if found.is_ok() {
@@ -103,7 +103,7 @@ const LINE: &[u8] =
 const GATHERED: &[u8] =
     b"{\"delete\":{\"_id\":\"a document of more than thirty-eight bytes\",\"_index\":\"b\",\"version\":1,\"version_type\":\"external\"}}\na line of more bytes than the buffer had room for after the first write was added\n";
 
-// Whether lines are gathered, each once, and go out.
+// Whether lines are gathered, each once, and written.
 fn gathers(alloc: Global) -> Option<bool> {
     let write = write_once(alloc).or_else(|| write_once(alloc))?;
     let mut writer = stream_of(alloc, b"")?;

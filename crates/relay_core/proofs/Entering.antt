@@ -60,7 +60,7 @@ none_either : (b : Bool) (x : Option (List BatchItem)) → x ≡ None → (if b 
 none_either true x e = e
 none_either false x e = refl
 
--- where there is room nothing is
+-- if there is room, nothing is
 pub none_now : (s : State) (f : ℕ → List Write) (hs : List Kept) (room : Room) → s.core.held ≡ entries hs f → is_roomy room ≡ true
     → IsQuiet s.core.clock s.mark (all_closed s) s.config.limits (items_of_kept hs s.core.clock hs) room → None ≡ next_batch s
 none_now s f hs room held roomy quiet =
@@ -68,7 +68,7 @@ none_now s f hs room held roomy quiet =
     ∙ quiet_none s.core.clock s.mark (all_closed s) s.config.limits (items_of_kept hs s.core.clock hs) room roomy quiet in
     sym (none_either (nat_lt (length s.flights.batches) s.config.in_flight) (batch_of s.core.clock s.mark (all_closed s) s.config.limits (map item_of (candidates s.core))) none)
 
--- else it is what is gathered of what stands in memory
+-- otherwise it is what is gathered of what is in memory
 pub batch_now : (s : State) (f : ℕ → List Write) (hs : List Kept) (closed : Bool) (b : Option (List BatchItem)) → s.core.held ≡ entries hs f → closed ≡ all_closed s
     → length s.flights.batches < s.config.in_flight → b ≡ batch_of s.core.clock s.mark closed s.config.limits (items_of_kept hs s.core.clock hs) → b ≡ next_batch s
 batch_now s f hs closed b held c lt e =

@@ -1,4 +1,4 @@
--- The batch of the sending rule, in terms of what stands in memory.
+-- The batch of the sending rule, in terms of what is in memory.
 use Rattle.std.proofs.Common.{◌≡◌, ℕ, ◌<◌, List, [], ◌∷◌, length, Option, Some, None, Bool, true, false, refl, sym, ap, ◌∙◌, subst, arith}
 use Rattle.std.specs.Prelude.{if◌then◌else◌, nat_lt, map, filter, Result, Ok, Err, IfOk, is_ok}
 use borrow.Author.Tests.{ltb-true}
@@ -74,7 +74,7 @@ some_offered : (clock mark : ℕ) (all_closed : Bool) (limits : Limits) (is item
 some_offered clock mark all_closed limits [] items e = absurd (cc)
 some_offered clock mark all_closed limits (i ∷ is) items e = omega arith
 
--- where a batch is sent there are candidates
+-- if a batch is sent, there are candidates
 pub candidates_of_batch : (s : State) (items : List BatchItem) → next_batch s ≡ Some items → 0 < length (candidates s.core)
 candidates_of_batch s items e =
     let a = if_some (nat_lt (length s.flights.batches) s.config.in_flight) _ items e in

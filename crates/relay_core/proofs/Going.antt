@@ -19,7 +19,7 @@ use Rattle.relay_held.proofs.Changing.{Keeps}
 use Rattle.relay_held.proofs.Holding.{launch_keeps}
 use Rattle.relay_held.proofs.Heads.{above_mem, first_mem, not_later_first}
 use Rattle.relay_held.specs.declared.kept.Candidate.{Candidate}
-use Rattle.relay_held.specs.Kept.{candidate_of}
+use Rattle.relay_held.specs.Operations.{candidate_of}
 use Rattle.relay_core.specs.Walk.{waits_here, item_of_kept, item_of_candidate, is_next, launch_one, launched_kept, freight}
 
 -- ---- the next one
@@ -208,7 +208,7 @@ its_first hs clock h r e =
     get_mem [] x e = absurd (cc)
     get_mem (c ∷ cs) x e = inl (sym (some_same c x e))
 
--- the first of them is sent: the others may go still
+-- the first of them is sent: the others may still go
 pub candidates_next : (hs : List Kept) (clock number place : ℕ) (h : Kept) → Rises hs → slice_get (candidates_kept hs clock) 0 ≡ Some h
     → candidates_kept (with_first h.key (launch_one number place) hs) clock ≡ drop 1 (candidates_kept hs clock)
 candidates_next hs clock number place h r e =
@@ -273,7 +273,7 @@ one_more_at_most i g g' Added after =
     let n = length-append g.items (i ∷ []) in
     omega (arith, e, n)
 
--- ---- the batch is made of the first of them: no offer is Busy, since versions number the documents and rise
+-- ---- the batch is made of the first of them: no offer is Busy, since versions number the documents and increase
 
 abbrev pub DocsBelow : ℕ → List BatchItem → Type 0
 DocsBelow v [] = Unit {0}

@@ -84,7 +84,7 @@ module _ (max clock n : ℕ) (whole : Way) where
 
 -- ---- tries
 
--- where it is halved a cap falls
+-- if it is halved, a cap decreases
 abbrev Falls : Fate → Kept → Type 0
 Falls x h = (cap : ℕ) → x ≡ Halved cap → halvings cap + 1 ≤ halvings h.cap
 

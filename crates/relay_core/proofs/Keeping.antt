@@ -63,7 +63,7 @@ pub or_false : (a b : Bool) → (a || b) ≡ false → (a ≡ false) × (b ≡ f
 or_false true b e = absurd (cc)
 or_false false b e = (refl, e)
 
--- numbers from 1 are the same where they are the same from 0
+-- numbers from 1 are the same if they are the same from 0
 pub one_less : (a b : ℕ) → 1 ≤ a → 1 ≤ b → (a - 1 == b - 1) ≡ (a == b)
 one_less a b le le' = ⊎_elim {C = (a - 1 == b - 1) ≡ (a == b)}
     (λ t. let e = equal a b t in equal_test (a - 1) (b - 1) (ap (λ k. k - 1) e) ∙ sym t)

@@ -33,7 +33,7 @@ pub offered_chosen : (es : List Entry) (g : Gathering) → (gathering_after (map
 offered_chosen [] g = none_after g.items
 offered_chosen (e ∷ es) g = offered_by (answer_to (item_of e) g) (item_of e) _ _ _ g.items (chosen_entries es g) (chosen_entries es (with_item (item_of e) g)) e refl (offered_chosen es g) refl (offered_chosen es (with_item (item_of e) g))
 
--- the same, of what stands in memory
+-- the same, of what is in memory
 abbrev pub picked : List Kept → Gathering → List Kept
 picked [] g = []
 picked (h ∷ hs) g = by_answer (answer_to (item_of_kept h) g) (picked hs g) [] (h ∷ picked hs (with_item (item_of_kept h) g))

@@ -16,7 +16,7 @@ documents_seen : (f : ℕ → List Write) (hs : List Kept) → map (λ (h : Held
 documents_seen f [] = refl
 documents_seen f (h ∷ hs) = ap (λ ds. document_of h.key ∷ ds) (documents_seen f hs)
 
--- at most one look more at each
+-- at most one more look at each
 pub looked_most : (i : Inside) (now : Seen) (looks : ℕ) → view_of i ≡ now → looks ≤ i.looks + distinct (documents i.held.list) → looks ≤ looks_after now
 looked_most i now looks view le =
     let same : i.looks + distinct (documents i.held.list) ≡ looks_after now = ap (λ ds. i.looks + distinct ds) (sym (documents_seen (writes_in i.flight.requests) i.held.list)) ∙ ap looks_after view in

@@ -212,7 +212,7 @@ module _ (n : ℕ) where
         subst (λ b. Given b (IsMet n (p + 1) x ws) × Carries n (further b (p + 1)) (after_one clock w hs (fate_one max whole h (slice_get os 0))) (rest_if b ws)) (sym g) (tt, k)))
         (true_or_false (flies_here n x.flies))
 
-    -- where no write is left nothing flies
+    -- if no write is left, nothing flies
     pub none_flies : (hs : List Kept) (p : ℕ) (x : Kept) (rest : List Kept) → Carries n p (x ∷ rest) [] → flies_here n x.flies ≡ false
     none_flies hs p x rest c = ⊎_elim {C = flies_here n x.flies ≡ false} (λ t. let m = met_here x rest p [] t c in let e = m.found in absurd (cc)) (λ f. f) (true_or_false (flies_here n x.flies))
 

@@ -22,7 +22,7 @@ use Rattle.relay_core.specs.Memory.{AllUnder}
 use Rattle.relay_core.specs.Quiet.{empty, is_roomy, no_room, less, IsQuiet}
 use Rattle.relay_core.proofs.Taken.{ltb_no}
 
--- ---- one item more is offered
+-- ---- one more item is offered
 
 after_offers : (x : Offer) (j : BatchItem) (g busy busy' added added' : Gathering) (b a : Bool) → by_answer x b true a ≡ false
     → (b ≡ false → busy' ≡ gathering_after (j ∷ []) busy) → (a ≡ false → added' ≡ gathering_after (j ∷ []) added)
@@ -119,7 +119,7 @@ stays_open clock mark limits room g j same wide one fits w =
     (right_none (nat_lt 0 (length g.items)) _ (lt-leb (min (count_of g.limits.count g.items) j.cap) (length g.items) (let a = w.items in let l = count_most limits.count g.items in omega (arith, counts, one, l, wide))))
     (right_none (nat_lt 0 (length g.items)) (nat_lt g.limits.bytes (bytes_of g.items + j.bytes)) (ltb_no g.limits.bytes (bytes_of g.items + j.bytes) (let a = w.bytes in omega (arith, weighs, fits))))
 
--- what one offer makes of it, where it is not Closed
+-- what one offer makes of it, if it is not Closed
 one_offer : (P : Gathering → Type 0) (g : Gathering) (j : BatchItem) (h c : Bool) → c ≡ false → P g → P (with_item j g)
     → P (by_answer (if h then Busy else if c then Closed else Added) g g (with_item j g)) × (by_answer (if h then Busy else if c then Closed else Added) false true false ≡ false)
 one_offer P g j true c e b a = (b, refl)

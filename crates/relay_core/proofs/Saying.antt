@@ -21,7 +21,7 @@ by_status true again cap status t p kind os e = refl
 by_status false true cap status t p kind os e = ap (λ xs. fate_of_entry t kind (slice_get xs p)) (sym e)
 by_status false false cap status t p kind os e = refl
 
--- what the status of a whole request of so many items says of each
+-- what the status of a whole request with this many items says of each
 abbrev pub way_by : ℕ → ℕ → Way
 way_by items status = if is_halved items status then way.Halved (items / 2) else if is_retried_whole status then way.ByEntry else way.Reported status
 

@@ -26,7 +26,7 @@ take_fits s sender body.Tick taken out f = subst (λ os. Fits (after_take s send
 take_fits s sender body.Flush taken out f = subst (λ os. Fits (after_take s sender body.Flush) os out) (none_more taken) f
 take_fits s sender body.Done taken out f = subst (λ os. Fits (after_take s sender body.Done) os out) (none_more taken) f
 
--- those that are chosen stand among the candidates, in their order
+-- those that are chosen are among the candidates, in their order
 skip : {A : Type 0} (xs : List A) (y : A) (ys : List A) → IsSubsequence xs ys → IsSubsequence xs (y ∷ ys)
 skip [] y ys s = tt
 skip (x ∷ xs) y ys s = inr s

@@ -22,7 +22,7 @@ kept_at max next h [] a m = absurd m
 kept_at max next h (x ∷ hs) a (inl e) = subst (IsKept max next) (sym e) a.0
 kept_at max next h (x ∷ hs) a (inr m) = kept_at max next h hs a.1 m
 
--- the write that stands in memory is that of the operation that is seen
+-- the write in memory is that of the operation that is seen
 home_write : (max : ℕ) (f : ℕ → List Write) (h : Kept) → (k : Home max h) → k.write ≡ write_of (held_seen f h)
 home_write max f h k = λ i. record { key = k.matches.key i; version = k.matches.version i; action = action_or (write_found (sym k.found i) h.flies f) }
 

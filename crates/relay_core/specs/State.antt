@@ -238,12 +238,12 @@ pub record IsInOrder (s : State) (e : delivery.Entry) : Type 0 where
   pub attempts : e.held.attempts ≤ s.core.config.max
   pub halved : e.held.sends + halvings e.held.cap ≤ e.held.attempts + 14
 
--- each is held under a version above those before it
+-- each is held with a version above those before it
 abbrev pub VersionsRise : List Held → Type 0
 VersionsRise [] = Unit {0}
 VersionsRise (h ∷ hs) = ((j : Held) → Mem j hs → h.version < j.version) × VersionsRise hs
 
--- the requests in flight have rising numbers, from the lowest on and below the next
+-- the requests in flight have increasing numbers, from the lowest on and below the next
 abbrev pub AreNumbered : ℕ → ℕ → List delivery.Flying → Type 0
 AreNumbered least next [] = Unit {0}
 AreNumbered least next (f ∷ fs) = (least ≤ f.request) × (f.request < next) × AreNumbered (f.request + 1) next fs

@@ -1,5 +1,5 @@
 -- The held list in memory, and the walks over it.
-pub use Rattle.relay_held.specs.Kept.{waits_here, more, launch_one, back_at, halved_at}
+pub use Rattle.relay_held.specs.Operations.{waits_here, more, launch_one, back_at, halved_at}
 pub use Rattle.relay_held.specs.Queues.{with_first, without_first, first_of, OnlyFirstsFly, is_of, is_later_kept, is_candidate_kept, is_eligible_kept, first_due_kept}
 use Rattle.std.specs.Prelude.{ℕ, ◌+◌, List, [], ◌∷◌, ◌++◌, Option, Some, None, Bool, true, false, ◌&&◌, ◌==◌, drop, filter, map, slice_get, option_to_list, if◌then◌else◌}
 use Rattle.relay_action.specs.declared.write.Write.{Write}

@@ -6,7 +6,7 @@ use relay_results::Outcome;
 use std::alloc::{AllocError, Global};
 use std::test::Fail;
 
-/// Batches of ten documents and 4,096 bytes that are sent at once.
+/// Batches of ten documents and 4,096 bytes that are sent immediately.
 pub const LIMITS: Limits = Limits {
     count: 10,
     bytes: 4_096,
@@ -307,7 +307,7 @@ fn reported(lane: &Lane, place: usize) -> (u64, u8, u32) {
     }
 }
 
-// Whether a lane has exactly these reports, in order, and gives as many away.
+// Whether a lane has exactly these reports, in order, and returns as many at its end.
 fn ends_with(lane: Lane, reports: &[(u64, u8, u32)]) -> bool {
     for i in 0..reports.len() {
         if reported(&lane, i) != reports[i] {

@@ -31,8 +31,8 @@ fn carried(lane: &mut Lane) -> Result<usize, AllocError> {
     }
 }
 
-// A lane takes 65,536 operations, of one document or of as many, and one more: the result for that
-// one, how many are held, and how many the next request carries.
+// A lane takes 65,536 operations, all on one document or each on its own, and then one more: the
+// result for that one, how many are held, and how many the next request carries.
 fn filled(
     alloc: Global,
     lane: &mut Lane,
@@ -103,7 +103,7 @@ fn one_look_for_each_request(rt: HostRuntime) -> Result<(), Fail> {
     Ok(())
 }
 
-// The looks after a request, for as many documents as are held.
+// A request looks at one operation for each document that is held.
 #[test]
 fn looks_at_each_document(rt: HostRuntime) -> Result<(), Fail> {
     let mut lane = lane_of(rt.alloc(), CONFIG)?;

@@ -1,11 +1,11 @@
-//! Calls of a lane, of whose allocations any one may be refused (`make refusals`): the refusal changes nothing, and the call
-//! does its work when it is made again.
+//! Calls of a lane, with any one of their allocations refused (`make refusals`): the refusal
+//! changes nothing, and the call succeeds when it is repeated.
 use crate::desk::CONFIG;
 use relay_action::{Action, Body, DocKey, Mail, Op};
 use relay_core::{Lane, RelayConfig, TakeFault};
 use std::alloc::{AllocError, Global};
 
-/// Ids and sources longer than what a value holds by itself.
+/// Ids and sources that are too long to be stored in the value itself.
 const DOCUMENTS: [&str; 4] = [
     "the first document of more than thirty-eight bytes",
     "the second document of more than thirty-eight bytes",
@@ -40,7 +40,8 @@ fn mail_of(alloc: Global, number: u64, id: &str) -> Option<Mail> {
     })
 }
 
-/// Takes a message, again if it came back for want of memory with the lane unchanged.
+/// Takes a message, by a second call if an allocation of the first failed and the lane was
+/// unchanged.
 pub fn takes(lane: &mut Lane, mail: Mail) -> bool {
     let (held, totals) = (lane.held(), lane.totals());
     if mail.sender >= lane.senders() {
@@ -79,7 +80,7 @@ fn filled(alloc: Global) -> Option<Lane> {
     puts_all(alloc, &mut lane)?.then_some(lane)
 }
 
-// Three operations are held, and the fourth, which got no version, is reported.
+// Three operations are held, and the fourth, for which no version was left, is reported.
 #[test]
 fn refused_operations(rt: HostRuntime) {
     let lane = filled(rt.alloc());
@@ -87,7 +88,8 @@ fn refused_operations(rt: HostRuntime) {
     assert!(rt; found == Some((3, 4, 1)));
 }
 
-/// Whether the first request goes, by a second call if the first was refused and changed nothing.
+/// Whether the first request is formed, by a second call if the first was refused and changed
+/// nothing.
 pub fn sends(lane: &mut Lane) -> bool {
     let (held, totals) = (lane.held(), lane.totals());
     match lane.request() {
@@ -102,7 +104,7 @@ pub fn sends(lane: &mut Lane) -> bool {
     }
 }
 
-// Whether a request has the operations that are held, in their order and under their versions.
+// Whether a request has the operations that are held, in their order and with their versions.
 fn is_sent(lane: &Lane) -> bool {
     let Some(writes) = lane.writes(1) else {
         return false;

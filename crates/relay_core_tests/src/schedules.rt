@@ -11,7 +11,7 @@ const CREATED: [Entry<'static>; 1] = [Entry::Index("1", 201)];
 // The first document has a conflict.
 const CONFLICT: [Entry<'static>; 1] = [Entry::Failed("1", 409)];
 
-// Three documents in one request; the busy one is sent again, under its version, a tick later.
+// Three documents in one request; the busy one is sent again, with its version, a tick later.
 const THREE_THEN_ONE: [Step<'static>; 20] = [
     Step::Put("1", "{\"a\":1}"),
     Step::Put("2", "{\"a\":2}"),
@@ -164,7 +164,7 @@ fn nine_steps(alloc: Global, pauses: &[u32]) -> Result<Vec<Step<'static>>, Alloc
     Ok(steps)
 }
 
-// Nine attempts, each lost at once: the pauses are 1, 2, 4 and so on, at most 64.
+// Nine attempts, each lost immediately: the pauses are 1, 2, 4 and so on, at most 64.
 #[test]
 fn nine_attempts(rt: HostRuntime) -> Result<(), Fail> {
     let steps = nine_steps(rt.alloc(), &[1, 2, 4, 8, 16, 32, 64])?;
@@ -341,8 +341,8 @@ const TWO: RelayConfig = RelayConfig {
 // Two documents are created.
 const BOTH: [Entry<'static>; 2] = [Entry::Index("1", 201), Entry::Index("2", 201)];
 
-// While a request is in flight as many operations are gathered as the next one carries, but not if
-// some are left over.
+// While a request is in flight, as many operations are gathered as the next one carries, and none
+// if some are left over.
 const GATHERED: [Step<'static>; 27] = [
     Step::Gathers(false),
     Step::SendsNone,

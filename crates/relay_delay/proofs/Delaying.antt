@@ -37,7 +37,7 @@ pub due_is : (clock : ℕ) (xs es : List Entry) → NoneDue clock xs → AllDue 
 due_is clock [] es n a = filter_all clock es a
 due_is clock (x ∷ xs) es n a = filter_insert clock x (insert_all xs es) n.0 ∙ due_is clock xs es n.1 a
 
--- ---- rising versions
+-- ---- increasing versions
 
 pub inserted_rises : (xs es : List Entry) → Rises (insert_all xs es) → Rises es
 inserted_rises [] es r = r
@@ -199,7 +199,7 @@ taken clock room fs gs r q l x d is same =
       entries = sym (without_insert x (insert_all l.entries (gs ++ q.entries)) left.0) ∙ ap (without x.version) (sym e);
     }
 
--- ---- the clock goes on
+-- ---- the clock advances
 
 pub start_moving : (clock room next : ℕ) (fs : List Entry) (r l : Heap) → clock ≤ next → IsDelayed clock room fs r l → IsMoving next fs r l
 start_moving clock room next fs r l le d = record {
@@ -254,7 +254,7 @@ get_front [] ys i lt = absurd (omega (arith, lt))
 get_front (x ∷ xs) ys zero lt = refl
 get_front (x ∷ xs) ys (suc i) lt = get_front xs ys i (omega (arith, lt))
 
--- what a heap's pop gives, and what it leaves
+-- what a heap's pop returns, and what it leaves
 pub record Popped (clock room : ℕ) (gs : List Entry) (q l : Heap) (o : Option Entry) (es : List Entry) : Type 0 where
   pub delayed : IsDelayed clock room gs q l
   pub first : o ≡ slice_get (filter (is_due clock) es) 0

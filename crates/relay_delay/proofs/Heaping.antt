@@ -1,4 +1,4 @@
--- What a push or a pop of a heap, or of a heap and a line beside it, makes of the operations in rising version.
+-- What a push to or a pop from a heap, or a heap and its line, does to the sorted operations.
 use Rattle.std.proofs.Common.{◌≡◌, ℕ, ◌+◌, ◌<◌, ◌≤◌, List, [], ◌∷◌, ◌++◌, length, length-append, append_assoc, drop, Option, Some, None, false, refl, sym, ap, ◌∙◌, subst, arith}
 use Rattle.std.specs.Prelude.{Result, Ok, Err, IsOk, OnOk, map, slice_get, slice_index_or, MatchOption, option_to_list}
 use Rattle.std.specs.List.{IsDistinct}
@@ -80,7 +80,7 @@ pub heap_push_entries : (one : ByVersion) (xs ys : List ByVersion) (line : List 
     → has_version one.0.version (sort (ready_items xs ++ line)) ≡ false → sort (ready_items ys ++ line) ≡ insert one.0 (sort (ready_items xs ++ line))
 heap_push_entries one xs ys line p r f = push_entries one.0 (ready_items xs ++ line) (ready_items ys ++ line) (heap_more one xs ys line p) r.distinct f
 
--- ---- one more behind the line
+-- ---- one more at the end of the line
 
 line_more : (one : Entry) (es line : List Entry) → IsPermutation (one ∷ (es ++ line)) (es ++ (line ++ one ∷ []))
 line_more one es line =

@@ -1,4 +1,4 @@
--- Lists in rising version, and what insertion makes of any list whose versions differ.
+-- Lists in ascending order of version, and what insertion does to lists of distinct versions.
 use Rattle.std.proofs.Common.{◌≡◌, ℕ, ◌+◌, ◌<◌, ◌≤◌, List, [], ◌∷◌, length, Bool, false, ◌==◌, refl, sym, ap, ◌∙◌, subst, ⊎_elim, inl, inr, arith}
 use Rattle.std.specs.Prelude.{◌⊎◌, nat_lt, filter}
 use Rattle.std.specs.List.{IsDistinct, AllByRecursion}
@@ -27,7 +27,7 @@ insert_before x e es lt = rw (lt-ltb x.version e.version lt) refl
 pub insert_past : (x e : Entry) (es : List Entry) → e.version ≤ x.version → insert x (e ∷ es) ≡ e ∷ insert x es
 insert_past x e es le = rw (le-ltb x.version e.version le) refl
 
--- what holds of both places holds of an insertion
+-- what holds at both places holds after an insertion
 pub by_place : (P : List Entry → Type 0) (x e : Entry) (es : List Entry) → (x.version < e.version → P (x ∷ e ∷ es)) → (e.version ≤ x.version → P (e ∷ insert x es)) → P (insert x (e ∷ es))
 by_place P x e es f g = ⊎_elim {C = P (insert x (e ∷ es))}
     (λ t. let lt = ltb-true x.version e.version t in subst P (sym (insert_before x e es lt)) (f lt))
@@ -139,7 +139,7 @@ without_insert x (e ∷ es) f = by_place (λ xs. without x.version xs ≡ e ∷ 
     (λ lt. without_here x (e ∷ es) ∙ without_fresh x.version (e ∷ es) f)
     (λ le. without_past x.version e (insert x es) (fresh_head x.version e es f) ∙ ap (λ xs. e ∷ xs) (without_insert x es (fresh_tail x.version e es f)))
 
--- ---- rising versions
+-- ---- increasing versions
 
 pub above_more : (v w : ℕ) (es : List Entry) → v ≤ w → AllAbove w es → AllAbove v es
 above_more v w [] le a = tt
@@ -178,7 +178,7 @@ pub rises_filter : (p : Entry → Bool) (es : List Entry) → Rises es → Rises
 rises_filter p [] r = tt
 rises_filter p (e ∷ es) r = ⊎_elim {C = Rises (filter p (e ∷ es))} (λ t. rw t (above_filter p e.version es r.0, rises_filter p es r.1)) (λ t. rw t (rises_filter p es r.1)) (cases_Bool (p e))
 
--- two lists in rising version of the same operations are one
+-- two lists of the same operations, in ascending order of version, are equal
 pub one_list : (xs ys : List Entry) → Rises xs → Rises ys → ((z : Entry) → Mem z xs → Mem z ys) → ((z : Entry) → Mem z ys → Mem z xs) → xs ≡ ys
 one_list [] [] r s f g = refl
 one_list [] (y ∷ ys) r s f g = absurd (g y (inl refl))
@@ -239,7 +239,7 @@ mem_moved xs ys p z m = of_all ys xs (every_shuffled (λ w. Mem w xs) xs ys p (o
 pub distinct_moved : (xs ys : List Entry) → IsPermutation xs ys → IsDistinct same_version xs → IsDistinct same_version ys
 distinct_moved xs ys p d = IsDistinct-IsPermutation same_version version_flips xs ys p d
 
--- insertion makes one list of them, in whatever order they come
+-- inserting them in any order gives the same list
 pub sorted_moved : (xs ys : List Entry) → IsPermutation xs ys → IsDistinct same_version xs → sort xs ≡ sort ys
 sorted_moved xs ys p d = one_list (sort xs) (sort ys) (rises_sorted xs d) (rises_sorted ys (distinct_moved xs ys p d))
     (λ z m. mem_sorted z ys (mem_moved ys xs (IsPermutation-sym xs ys p) z (sorted_mem z xs m)))

@@ -1,4 +1,4 @@
--- The heaps of waiting operations, and the line beside one of them.
+-- The heaps of waiting operations, and the line that goes with one of them.
 use Rattle.std.specs.Prelude.{◌≡◌, ℕ, ◌==◌, ◌<◌, ◌≤◌, ◌+◌, ◌^◌, Bool, true, false, List, [], ◌∷◌, ◌++◌, map, length}
 use Rattle.std.specs.List.{IsDistinct, AllByRecursion}
 use Rattle.std.specs.Ordering.{nat_cmp}
@@ -40,7 +40,7 @@ ready_items bs = map (λ (b : ByVersion). b.0) bs
 abbrev pub later_items : List ByDue → List Entry
 later_items bs = map (λ (b : ByDue). b.0) bs
 
--- a heap, beside a line in ascending order of version
+-- a heap, and a line in ascending order of version
 pub record IsReady (bs : List ByVersion) (line : List Entry) : Type 0 where
   pub order : IsHeap by_version bs
   pub rises : Rises line

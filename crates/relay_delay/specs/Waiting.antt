@@ -10,13 +10,13 @@ pub record Delays : Type 0 where
   pub room : ℕ
   pub entries : List Entry
 
--- ---- in rising version
+-- ---- in ascending order of version
 
 abbrev pub AllAbove : ℕ → List Entry → Type 0
 AllAbove v [] = Unit {0}
 AllAbove v (e ∷ es) = (v < e.version) × AllAbove v es
 
--- versions rise, so no two are the same
+-- versions increase, so no two are the same
 abbrev pub Rises : List Entry → Type 0
 Rises [] = Unit {0}
 Rises (e ∷ es) = AllAbove e.version es × Rises es

@@ -1,4 +1,4 @@
-//! A delay queue whose versions rise one by one, and one operation that was taken out of it.
+//! A delay queue whose versions increase one by one, and one operation that was taken out of it.
 ghost use Rattle.std.specs.Prelude.{◌≡◌, ◌<◌, true, length};
 ghost use Rattle.relay_delay_tests.specs.Desk.{AllUnder, AllUnder-prop, IsApart, IsApart-prop};
 

@@ -1,7 +1,7 @@
-//! A delay queue, of whose allocations any one may be refused (`make refusals`).
+//! A delay queue, with any one of its allocations refused (`make refusals`).
 use crate::desk::{due_at, empty_desk, push, take, wait};
 
-// What waits is as it was, and the next call takes it in or finds it.
+// What waits is unchanged, and the next call adds it or finds it.
 #[test]
 fn refused_room_and_due_ones(rt: HostRuntime) {
     let mut desk = empty_desk(rt.alloc());

@@ -1,4 +1,5 @@
--- What is promised of all accepted operations, over incarnations, and how acts and restarts lead on.
+-- What is promised of all accepted operations, over incarnations, and how acts and restarts
+-- preserve it.
 use Rattle.std.proofs.Common.{◌≡◌, ℕ, ◌+◌, ◌<◌, List, [], ◌∷◌, ◌++◌, refl, sym, ap, ◌∙◌, subst, ⊎_elim, inl, inr, arith}
 use Rattle.relay_action.specs.declared.write.Write.{Write}
 use Rattle.relay_action.specs.declared.operation.Op.{Op}
@@ -12,7 +13,7 @@ use Rattle.relay_delivery.specs.Machine.{Config}
 use Rattle.relay_delivery.specs.Delivery.{terms_of}
 use Rattle.relay_delivery.specs.Together.{Together, act, outside_of}
 use Rattle.relay_delivery.specs.Restarts.{Incarnation, incarnation_of, Life, born, Happening, Acts, Restarts, happen, EpochsAreAbove, MayBe, after_happenings, AllMayBe}
-use Rattle.relay_delivery.specs.Accounted.{accepted_over, op_dealt, ops_over, attributed_together, SoundTogether, CompleteTogether, FreshTogether, ActTogether, RestartTogether, TogetherMay, TogetherRuns, TogetherContinues, first_of}
+use Rattle.relay_delivery.specs.Incarnations.{accepted_over, op_dealt, ops_over, attributed_together, SoundTogether, CompleteTogether, FreshTogether, ActTogether, RestartTogether, TogetherMay, TogetherRuns, TogetherContinues, first_of}
 use Rattle.relay_delivery.proofs.Queues.{taken_distinct, was_accepted}
 use Rattle.relay_delivery.proofs.Versions.{version_in, version_there}
 use Rattle.relay_delivery.proofs.Joined.{versions, assignment, true_report, once, in_one_lane, all_accounted}

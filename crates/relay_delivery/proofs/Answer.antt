@@ -71,7 +71,8 @@ module _ (g : Config) (past : Write → Type 0) (c : Core) (f : CoreFacts g past
 
   -- ---- tries
 
-  -- the answered request counts before as it carries, and afterwards where it was not too large
+  -- the answered request counts before if it carries the write, and afterwards if it was not too
+  -- large
   tries-counted : (w : Write) → count (is_try w) new + one_if (carries w q && true) ≡ count (is_try w) requests + one_if (carries w q && not (says_too_large a))
   tries-counted w =
       let e = count-update_at (is_try w) number (with_answer a) c.outside.requests q stands in
@@ -83,14 +84,14 @@ module _ (g : Config) (past : Write → Type 0) (c : Core) (f : CoreFacts g past
   one_of_both true false = (omega arith, omega arith)
   one_of_both false x = (omega arith, omega arith)
 
-  -- one try less at most
+  -- at most one try less
   tries-one_less : (w : Write) → count (is_try w) requests ≤ count (is_try w) new + 1
   tries-one_less w =
       let e = tries-counted w in
       let b = one_of_both (carries w q) (not (says_too_large a)) in
       let l = b.1 in omega (arith, e, l)
 
-  -- and none where it was not too large, or does not carry the write
+  -- and none if it was not too large, or does not carry the write
   tries-stay_small : (w : Write) → says_too_large a ≡ false → count (is_try w) new ≡ count (is_try w) requests
   tries-stay_small w small =
       let e = tries-counted w in

@@ -28,7 +28,7 @@ pub record FliesWithin (requests : List Request) (h : Held) (f : Place) : Type 0
   pub sent : slice_get requests f.request ≡ Some request
   pub within : 1 < length request.writes → length request.writes ≤ h.cap
 
--- a held operation has tries left where it waits, has no more tries than it may, and its cap only fell
+-- a held operation has tries left if it waits, has no more tries than it may, and its cap only fell
 pub record HasTries (g : Config) (requests : List Request) (h : Held) : Type 0 where
   pub waiting : h.flies ≡ None → h.attempts < g.max
   pub most : h.attempts ≤ g.max
@@ -112,7 +112,7 @@ left-less max n chosen (j ∷ hs) h m k lt = ⊎_elim {C = tries_left max (map (
 
 -- ---- answer
 
--- where it is halved, a cap falls
+-- if it is halved, a cap decreases
 left_one : (max : ℕ) (t : Fate) (h : Held) (rest : List Held) → ((cap : ℕ) → t ≡ Halved cap → halvings cap + 1 ≤ halvings h.cap)
     → tries_left max (kept_one t h ++ rest) ≤ (max - h.attempts) + halvings h.cap + tries_left max rest
 left_one max Flies h rest f = omega arith

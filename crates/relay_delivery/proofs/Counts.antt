@@ -43,7 +43,7 @@ count_none : {A : Type 0} (p : A → Bool) (xs : List A) → ((x : A) → Mem x 
 count_none p [] none = refl
 count_none p (x ∷ xs) none = let h = ap one_if (none x (inl refl)) in let t = count_none p xs (λ y m. none y (inr m)) in omega (arith, h, t)
 
--- of held operations in rising version one alone passes at most
+-- of held operations in ascending order of version, at most one passes
 count_only : (p : Held → Bool) (hs : List Held) (h : Held) → AreRising hs → Mem h hs → ((j : Held) → Mem j hs → p j ≡ true → j.version ≡ h.version) → count p hs ≡ one_if (p h)
 count_only p [] h r m only = elim m [ ]
 count_only p (x ∷ xs) h r m only = ⊎_elim {C = count p (x ∷ xs) ≡ one_if (p h)}
@@ -135,8 +135,8 @@ unfolding flies_at flies_from
 split_at number k None s = refl
 split_at number k (Some f) s = split_bools (f.request == number) (nat_le k f.place) (f.place == k) (nat_le (suc k) f.place) s (le_bools (nat_le k f.place) (f.place == k) (nat_le (suc k) f.place) k f.place refl refl refl)
 
--- what holds of the counts beside CoreFacts: each is that of the answers, what flies was carried by no later request, and
--- at each place of a request in flight a held operation flies
+-- what holds of the counts in addition to CoreFacts: each is that of the answers, what flies was
+-- carried by no later request, and at each place of a request in flight a held operation flies
 pub record IsAtPlace (held : List Held) (w : Write) (f : Place) : Type 0 where
   pub held_op : Held
   pub is_in : Mem held_op held

@@ -16,7 +16,7 @@ pub some_same : {A : Type 0} (x y : A) → Some x ≡ Some y → x ≡ y
 some_same x y e = cc
 
 module _ (g : Config) (taken : List Op) where
-  -- a version is dealt to one operation
+  -- a version is assigned to one operation
   pub dealt_once : (o p : Op) (v u : ℕ) → IsDealt g taken o v → IsDealt g taken p u → v ≡ u → o ≡ p
   dealt_once o p v u d e same =
       let place : d.place ≡ e.place = omega (arith, d.version, e.version, same) in
@@ -30,7 +30,7 @@ module _ (g : Config) (taken : List Op) where
   pub write_same : (w x : Write) → IsOfOne g taken w → IsOfOne g taken x → same_write w x ≡ true → w ≡ x
   write_same w x a b t = write_once w x a b (same_write-true w x t).version
 
-  -- it was dealt before the next
+  -- it was assigned before the next
   pub dealt_before : (o : Op) (v : ℕ) → IsDealt g taken o v → v < g.first + length taken
   dealt_before o v d = let w = at-within taken d.place o d.stands in omega (arith, d.version, w)
 

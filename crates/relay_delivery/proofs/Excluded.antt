@@ -29,7 +29,7 @@ other_document accepted k w o other a = other (a.of_document o (inl refl))
 pub unaccepted : NoneUnaccepted
 unaccepted accepted k w o none a = let m = a.accepted_each o (inl refl) in none m.0 m.1
 
--- a cause other than Spent is true of the write under the version that was dealt
+-- a cause other than Spent is true of the write with the version that was assigned
 not_spent : (t : Terms) (s : Outside) (o : Op) (dealt : Option ℕ) (c : Cause) → (c ≡ cause.Spent → ⊥) → IsTrueCause t s o dealt c → IsTrueDealt t.max s o dealt c
 not_spent t s o dealt c other h = ⊎_elim (λ d. d) (λ p. absurd (other p.cause_is)) h
 
@@ -158,7 +158,7 @@ none_twice g taken r s ops h = h.once.0 (inl refl)
 pub none_untaken : NoneReportedUntaken
 none_untaken g taken reports r s ops m none h = let t = h.true_reports r m in none t.op t.was_taken (sym t.name)
 
--- where the two answers are one version, the two operations are the same as one of the two
+-- if the two results are one version, both operations are the same as one of the two
 by_places : (R : Type 0) (v : ℕ) (p q r s : Bool) → (p ≡ true → r ≡ true → R) → (q ≡ true → s ≡ true → R)
     → (if p then Some 1 else if q then Some 2 else None) ≡ Some v → (if r then Some 1 else if s then Some 2 else None) ≡ Some v → R
 by_places R v true q true s f g a b = f refl refl

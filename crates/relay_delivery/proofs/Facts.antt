@@ -12,14 +12,14 @@ use Rattle.relay_delivery.specs.Causes.{carries, is_try, CarriedAt, IsTrueOf}
 use Rattle.relay_results.specs.Fates.{IsRetried}
 use Rattle.relay_delivery.specs.Machine.{Config, Core, Held, Place, Report, write_of}
 
--- the operation was dealt the version: by the place at which it was taken
+-- the operation was assigned the version, by the place at which it was taken
 pub record IsDealt (g : Config) (taken : List Op) (o : Op) (v : ℕ) : Type 0 where
   pub place : ℕ
   pub stands : slice_get taken place ≡ Some o
   pub within : place < g.deals
   pub version : v ≡ g.first + place
 
--- the write is that of an operation, under the version that it was dealt
+-- the write is that of an operation, with the version that it was assigned
 pub record IsOfOne (g : Config) (taken : List Op) (w : Write) : Type 0 where
   pub op : Op
   pub write : w ≡ write_for op w.version
@@ -43,7 +43,8 @@ pub record HeldFact (g : Config) (taken : List Op) (requests : List Request) (h 
   pub dealt : IsDealt g taken h.op h.version
   pub sends : count (carries (write_of h)) requests ≡ h.sends
   pub attempts : h.attempts ≤ count (is_try (write_of h)) requests
-  -- each request that carried it was answered by an answer that is tried again, but for the one in which it flies
+  -- each request that carried it was answered by an answer that is retried, except the one in which
+  -- it flies
   pub retried : (number place : ℕ) (q : Request) → CarriedAt requests (write_of h) number place q
       → IsRetried q.writes place q.answer ⊎ (h.flies ≡ Some (record { request = number; place = place }))
   pub flying : (f : Place) → h.flies ≡ Some f → IsFlying requests (write_of h) f
@@ -71,8 +72,8 @@ pub record IndexFact (g : Config) (requests : List Request) (stored : Option ℕ
   pub above : (w : Write) → Mem w applied → (u : ℕ) × (stored ≡ Some u) × (w.version ≤ u)
   pub from : (u : ℕ) → stored ≡ Some u → (u < g.first) ⊎ ((w : Write) × Mem w applied × (w.version ≡ u))
 
--- of a report: it is on an operation that was taken past the limit, or that was dealt a version, is not held any more, and
--- has a true cause
+-- of a report: it is on an operation that was taken past the limit, or that was assigned a version,
+-- is not held any more, and has a true cause
 pub record SpentFact (g : Config) (taken : List Op) (r : Report) : Type 0 where
   pub op : Op
   pub name : r.name ≡ name_of op
@@ -123,13 +124,13 @@ is_report_as n r = same_name n r.name
 abbrev pub is_taken_as : OpName → Op → Bool
 is_taken_as n o = same_name n (name_of o)
 
--- in the order of their takes, so in rising version
+-- in the order in which they were taken, so in ascending order of version
 abbrev pub AreRising : List Held → Type 0
 AreRising [] = Unit {0}
 AreRising (h ∷ hs) = ((j : Held) → Mem j hs → h.version < j.version) × AreRising hs
 
 -- What holds of a lane's core, where requests may also have writes of the past: of earlier incarnations, whose versions are
--- below the first one dealt.
+-- below the first one assigned.
 pub record CoreFacts (g : Config) (past : Write → Type 0) (c : Core) : Type 0 where
   pub past_below : (w : Write) → past w → w.version < g.first
   pub held : (h : Held) → Mem h c.held → HeldFact g c.taken c.outside.requests h

@@ -44,7 +44,7 @@ module _ (g : Config) (lane_of : Document → ℕ) (past : ℕ → Write → Typ
       let p = f.same i from may.0 in
       ap (λ q. option_and_then (λ z. slice_get (writes_of z) place) q) (p.here ∙ sym p.there) ∙ may.1.sent
 
-  -- of a document, what its lane's core shows beside what the lane showed before
+  -- of a document, what the core of its lane shows, compared with what the lane showed before
   abbrev Grown : Core → Document → Type 0
   Grown c k =
       (c.outside.applied k ≡ (s.lanes.lane (lane_of k)).outside.applied k ++ w ∷ [])

@@ -15,7 +15,7 @@ use Rattle.relay_delivery.proofs.Versions.{version_in, is_assignment}
 use Rattle.relay_delivery.proofs.Whole.{IsAppliedAs, reports_true, reports_once, accounted}
 use Rattle.relay_delivery.proofs.Queues.{LanesFacts, is_for, taken_distinct, was_accepted, one_name}
 
--- a report of a lane is true of what stands outside that lane
+-- a report of a lane is true of the outside of that lane
 pub record IsTrueAt (g : Config) (lane_of : Document → ℕ) (w : Lanes) (versions : Op → Option ℕ) (l : ℕ) (r : Report) : Type 0 where
   pub op : Op
   pub producer : ℕ

@@ -11,7 +11,7 @@ use Rattle.relay_delivery.proofs.Send.{send_keeps}
 use Rattle.relay_delivery.proofs.Run.{run_keeps}
 use Rattle.relay_delivery.proofs.Answer.{answer_keeps}
 
--- where no request is of the past
+-- if no request is of the past
 abbrev pub none_past : Write → Type 0
 none_past w = ⊥
 

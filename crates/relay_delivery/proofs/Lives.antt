@@ -1,4 +1,5 @@
--- What holds over incarnations: the facts of the running one, where the past is what earlier ones sent.
+-- What holds over incarnations: the facts of the running one, with what earlier ones sent as the
+-- past.
 use Rattle.std.proofs.Common.{◌≡◌, ℕ, ◌+◌, ◌<◌, ◌≤◌, List, [], ◌∷◌, ◌++◌, refl, sym, ◌∙◌, subst, ⊎_elim, inl, inr, arith}
 use Rattle.std.specs.Prelude.{map, filter}
 use Rattle.relay_action.specs.declared.write.Write.{Write}

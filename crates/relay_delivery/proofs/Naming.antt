@@ -11,13 +11,13 @@ use Rattle.relay_delivery.specs.Machine.{Config, Core, Takes, Sends, Answers, st
 use Rattle.relay_delivery.specs.Lanes.{Lanes, Move, Puts, Closes, Fetches, Steps, after_fetch, move}
 use Rattle.relay_delivery.specs.Together.{Together, Plain, SendsFrom, RunsAt, AnswersAt, IsPlain, act, outside_of}
 use Rattle.relay_delivery.specs.Restarts.{Incarnation, incarnation_of, with_running, after_restart}
-use Rattle.relay_delivery.specs.Accounted.{deals_version, op_dealt, ops_over, attributed_together, ActsKeepNames, RestartsKeepNames}
+use Rattle.relay_delivery.specs.Incarnations.{deals_version, op_dealt, ops_over, attributed_together, ActsKeepNames, RestartsKeepNames}
 use Rattle.relay_delivery.proofs.Sharing.{plain_outside}
 use Rattle.relay_delivery.proofs.Lives.{LifeFacts, facts_of_life}
 use Rattle.relay_delivery.proofs.Parts.{op_of_write}
 use Rattle.relay_delivery.proofs.Accounts.{next, all_above, of_all}
 
--- each version that an applied write has was dealt to an operation
+-- each version of an applied write was assigned to an operation
 abbrev pub AllFound : (ℕ → List Op) → List Write → Type 0
 AllFound f ws = (x : Write) → Mem x ws → (o : Op) × (f x.version ≡ o ∷ [])
 
@@ -33,7 +33,7 @@ ops_same_over is js l (x ∷ ws) same =
     let rest = ops_same_over is js l ws (λ y m. same y (inr m)) in
     λ i. same x (inl refl) i ++ rest i
 
--- an incarnation more changes nothing of what was dealt
+-- one more incarnation does not change what was assigned
 dealt_push : (is : List Incarnation) (j : Incarnation) (l v : ℕ) (o : Op) → op_dealt is l v ≡ o ∷ [] → op_dealt (is ++ j ∷ []) l v ≡ op_dealt is l v
 dealt_push [] j l v o e = absurd (cc)
 dealt_push (i ∷ is) j l v o e = by (dealt_push is j l v o) (deals_version i.config v) e
@@ -61,7 +61,7 @@ dealt_more (p ∷ is) i j l v o more same taken e = by (dealt_more is i j l v o 
     by again true q = q
     by again false q = again q
 
--- where each lane took what it had taken and maybe more, and its lists stayed
+-- if each lane has taken what it had taken, or more, and its lists are unchanged
 pub names_kept : (g : Config) (lane_of : Document → ℕ) (ended : List Incarnation) (s t : Together) → LifeFacts lane_of (record { ended = ended; config = g; together = s })
     → ((l : ℕ) → (more : List Op) × ((t.lanes.lane l).taken ≡ (s.lanes.lane l).taken ++ more)) → ((l : ℕ) → (t.lanes.lane l).outside.applied ≡ (s.lanes.lane l).outside.applied)
     → (k : Document) → attributed_together g lane_of ended t k ≡ attributed_together g lane_of ended s k

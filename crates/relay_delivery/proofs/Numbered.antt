@@ -1,4 +1,4 @@
--- Each call of a lane is the same call where its requests are numbered on.
+-- Each call of a lane is the same call if the numbers of its requests are counted on.
 use Rattle.std.proofs.Common.{◌≡◌, ℕ, suc, ◌+◌, ◌-◌, ◌<◌, ◌≤◌, List, [], ◌∷◌, ◌++◌, Option, Some, None, Bool, true, false, ◌==◌, refl, sym, ap, ◌∙◌, subst, ⊎_elim, inl, inr, length, arith}
 use Rattle.std.specs.Prelude.{◌&&◌, ◌||◌, nat_lt, nat_le, not, slice_get, option_map, map, filter, if◌then◌else◌}
 use Rattle.std.specs.List.{list_any}
@@ -17,7 +17,7 @@ use Rattle.relay_delivery.specs.Lane.{Entry, Flying, State, held_of, entry_if, t
 use Rattle.relay_delivery.specs.Restarts.{restarted_core}
 use Rattle.relay_delivery.proofs.Facts.{CoreFacts}
 use Rattle.relay_delivery.proofs.Fitting.{take_is_of, may_send, send_is_of, flies_unanswered, answer_is_of}
-use Rattle.relay_delivery.specs.Numbered.{place_on, held_on, entry_on, flying_on, numbered_on, TakesOn, CandidatesOn, SendsOn, WritesOn, SettlesOn, FliesOn, AnswersOn}
+use Rattle.relay_delivery.specs.Renumbering.{place_on, held_on, entry_on, flying_on, numbered_on, TakesOn, CandidatesOn, SendsOn, WritesOn, SettlesOn, FliesOn, AnswersOn}
 
 -- ---- take
 
@@ -96,7 +96,7 @@ sends_on n s chosen =
 
 -- ---- an answer
 
--- a number is this one where both are numbered on
+-- a number is this one exactly if both are counted on
 same_on : (n a b : ℕ) → (n + a == n + b) ≡ (a == b)
 same_on n a b = ⊎_elim {C = (n + a == n + b) ≡ (a == b)}
     (λ t. let e = equal a b t in equal_test (n + a) (n + b) (omega (arith, e)) ∙ sym t)
@@ -208,9 +208,9 @@ answers_on n s number a t =
     ∙ ap (λ ws. after_settling (numbered_on n s) (n + (number - 1)) ws a) (writes_on n (number - 1) s.flying)
     ∙ settles_on n s (number - 1) (writes_at (number - 1) s.flying) a
 
--- ---- the core that a lane numbered on stands for
+-- ---- the core that a lane represents if its numbers are counted on
 
--- a lane that begins anew, beside what it had sent
+-- a lane that starts afresh, after what it had sent
 pub fresh_on : (g : Config) (c : Core) → IsOf (numbered_on (length c.outside.requests) (fresh_state g)) (restarted_core c)
 fresh_on g c = record {
   taken = refl;
@@ -225,7 +225,7 @@ fresh_on g c = record {
 pub take_on : (n : ℕ) (s : State) (c : Core) (o : Op) (bytes : ℕ) → IsOf (numbered_on n s) c → IsOf (numbered_on n (taken_op s o bytes)) (step s.config (Takes o) c)
 take_on n s c o bytes is = subst (λ t. IsOf t (step s.config (Takes o) c)) (takes_on n s o bytes) (take_is_of (numbered_on n s) c o bytes is)
 
--- what is sent, numbered on
+-- what is sent, with numbers counted on
 abbrev pub chosen_on : ℕ → List Entry → List Held
 chosen_on n chosen = held_of (map (entry_on n) chosen)
 

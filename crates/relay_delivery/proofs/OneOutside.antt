@@ -1,4 +1,5 @@
--- What stands outside all lanes comes of an opening by events that may happen: each act is one of them, or none.
+-- The outside of all lanes comes from an opening by events that may happen: each act is one, or
+-- none.
 use Rattle.std.proofs.Common.{◌≡◌, ℕ, suc, List, [], ◌∷◌, ◌++◌, Option, Some, Bool, true, false, ◌==◌, refl, sym, ap, ◌∙◌, subst, append-nil}
 use Rattle.std.specs.Prelude.{slice_get, option_and_then, map, if◌then◌else◌}
 use Rattle.relay_action.specs.declared.write.Write.{Write}
@@ -15,7 +16,7 @@ use Rattle.relay_delivery.proofs.Dealt.{sent_by}
 use Rattle.relay_delivery.proofs.Run.{found_at}
 use Rattle.relay_delivery.proofs.Sharing.{TogetherFacts, sent_lane, plain_outside}
 
--- one event that leads to what stands there now
+-- one event that leads to what is there now
 by_event : (old new : Outside) (e : Event) → MayHappen e old → new ≡ after e old → Continues old new
 by_event old new e may reached = record { events = e ∷ []; may = (may, tt); reached = reached }
 
@@ -23,7 +24,7 @@ module _ (g : Config) (lane_of : Document → ℕ) (past : ℕ → Write → Typ
   abbrev shown : ℕ → Outside
   shown l = (s.lanes.lane l).outside
 
-  -- ---- puts, closes and takes change nothing outside
+  -- ---- puts, closes and takes do not change the outside
 
   plain_continues : (m : Move) → IsPlain m → Continues (outside_of lane_of s) (outside_of lane_of (act g lane_of (Plain m) s))
   plain_continues m p =

@@ -11,7 +11,7 @@ use Rattle.relay_delivery.specs.Delivery.{ops_of}
 use Rattle.relay_results.proofs.Lists.{Mem-cases, Mem-right, Mem-one}
 use Rattle.relay_delivery.proofs.Facts.{IsOfOne, IsRising}
 
--- the operation of a write stands at the place that its version says
+-- the operation of a write is at the place that its version says
 record IsPlaced (base : ℕ) (ts : List Op) (w : Write) : Type 0 where
   place : ℕ
   op : Op

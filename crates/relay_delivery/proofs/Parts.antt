@@ -14,12 +14,12 @@ use Rattle.relay_delivery.specs.Attribution.{SameActions, IsInProducerOrder, Are
 use Rattle.relay_delivery.specs.Machine.{Config}
 use Rattle.relay_delivery.specs.Delivery.{ops_of}
 use Rattle.relay_delivery.specs.Restarts.{Incarnation, IsAbove}
-use Rattle.relay_delivery.specs.Accounted.{accepted_in, deals_version, op_dealt, ops_over}
+use Rattle.relay_delivery.specs.Incarnations.{accepted_in, deals_version, op_dealt, ops_over}
 use Rattle.relay_delivery.proofs.Facts.{IsOfOne, IsRising}
 use Rattle.relay_delivery.proofs.Ordered.{ops-in_order, ops-same, its_op, op-of}
 use Rattle.relay_delivery.proofs.Lives.{IsOfThese, IncarnationFacts, AreAbove, version_within}
 
--- ---- the incarnation that dealt a version
+-- ---- the incarnation that assigned a version
 
 within_test : (a b v : ℕ) → a ≤ v → v < b → (nat_le a v && nat_lt v b) ≡ true
 within_test a b v le lt = and_both (nat_le a v) (nat_lt v b) (le-leb a v le) (lt-ltb v b lt)
@@ -45,7 +45,7 @@ of_cases p ps l w a = ⊎_elim
     (λ r. inr (record { which = a.which; among = r; of_one = a.of_one }))
     a.among
 
--- its operation is that of its incarnation, or one that a later one dealt
+-- its operation is that of its incarnation, or one of a later one
 op_of_first : (p : Incarnation) (ps : List Incarnation) (l : ℕ) (w : Write) → IsOfOne p.config (p.taken l) w → op_dealt (p ∷ ps) l w.version ≡ option_to_list (slice_get (p.taken l) (w.version - p.config.first))
 op_of_first p ps l w a = ap (λ b. if b then option_to_list (slice_get (p.taken l) (w.version - p.config.first)) else op_dealt ps l w.version) (deals_own p l w a)
 
@@ -95,7 +95,7 @@ record IsCut (p : Incarnation) (ps : List Incarnation) (l : ℕ) (ws : List Writ
   rising_front : IsRising front
   rising_rest : IsRising rest
 
--- after a write of a later incarnation none of this one stands
+-- after a write of a later incarnation there is none of this one
 all_later : (p : Incarnation) (ps : List Incarnation) (l low : ℕ) (ws : List Write) → ((w : Write) → Mem w ws → low < w.version) → p.config.first + p.config.deals ≤ low → ((w : Write) → Mem w ws → IsOfThese (p ∷ ps) l w) → (w : Write) → Mem w ws → IsOfThese ps l w
 all_later p ps l low ws above le each w m = ⊎_elim
     (λ one. let v = (version_within p.config (p.taken l) w one).1 in let a = above w m in absurd (omega (arith, v, a, le)))

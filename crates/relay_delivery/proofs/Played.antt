@@ -101,7 +101,7 @@ was runs r o among s e = record { run = r; among = among; of_request = refl; of_
 pub carries_self : (w : Write) (a : Answer) → carries w (record { writes = w ∷ []; answer = a }) ≡ true
 carries_self w a = rw (same_write-self w) refl
 
--- a cause that is true of the write under version 1
+-- a cause that is true of the write with version 1
 dealt_one : {max : ℕ} {s : Outside} {o : Op} {c : Cause} → IsTrueOf max s (write_for o 1) c → IsTrueDealt max s o (Some 1) c
 dealt_one h = record { version = 1; is_dealt = refl; of_write = h }
 

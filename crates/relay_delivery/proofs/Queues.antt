@@ -142,7 +142,7 @@ move_keeps g lane_of past w f (Closes p) may = record { lane = f.lane; of_past =
 move_keeps g lane_of past w f (Fetches l) may = fetch_keeps g lane_of past w f l (w.queue l) refl
 move_keeps g lane_of past w f (Steps l s) may = inner_keeps g lane_of past w f l s may.0 may.1
 
--- where nothing was sent before
+-- if nothing was sent before
 module _ (g : Config) (lane_of : Document → ℕ) (past : ℕ → Write → Type 0) (none : (l : ℕ) (x : Write) → past l x → ⊥) (w : Lanes) (s : IsStart g w) where
   pub start_facts : LanesFacts g lane_of past w
   start_facts = record {
@@ -207,7 +207,7 @@ module _ (g : Config) (lane_of : Document → ℕ) (past : ℕ → Write → Typ
       let there = Mem-filter (is_for lane_of l) o (w.accepted o.producer) (subst (λ os. Mem o os) (f.order l o.producer) from) in
       (there.0, equal (lane_of (document_of o.key)) l there.1)
 
-  -- two accepted operations of one name are one
+  -- two accepted operations with one name are equal
   pub one_name : (a b : Op) → Mem a (w.accepted a.producer) → Mem b (w.accepted b.producer) → name_of a ≡ name_of b → a ≡ b
   one_name a b ma mb e =
       let same : b.producer ≡ a.producer = ap (λ (k : OpName). k.producer) (sym e) in

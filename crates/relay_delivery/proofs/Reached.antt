@@ -1,4 +1,4 @@
--- What holds of a lane whatever it is answered.
+-- What holds of a lane, whatever answers it gets.
 use Rattle.std.proofs.Common.{◌≡◌, ◌≢◌, ℕ, true, zero, suc, ◌+◌, ◌<◌, List, [], ◌∷◌, ◌++◌, length, Option, Some, None, ◌==◌, refl, sym, ap, ◌∙◌, subst, ⊎_elim, inl, inr, arith, length-append, append-nil, append_assoc}
 use Rattle.std.specs.Prelude.{slice_get, nat_lt, map, filter, not}
 use Rattle.std.proofs.lemmas.List.{map-append, length-map}
@@ -15,7 +15,7 @@ use Rattle.relay_results.proofs.Fates.{says_as}
 use Rattle.relay_results.proofs.Lists.{true_or_false, equal, equal_test, not_true, some_same, filter-Mem, Mem-last, at-Mem, at-last, at-map, map-at, Mem-at, Mem-cases, Mem-left, Mem-one, Mem-map, map-Mem, Mem-filter, filter_sub, AllDistinct-sub, sub-map, distinct_places}
 use Rattle.relay_delivery.specs.Machine.{Config, Held, Place, write_of, held_if, spent_if, place_of, launched_at, after_launch, still_held, reports_from}
 use Rattle.relay_delivery.specs.Lane.{Entry, Flying, State, held_of, entry_if, taken_op, candidates, launched_entry, writes_of_all, after_request_of, is_other, after_settling, writes_at, after_answer_to, fresh_state}
-use Rattle.relay_delivery.specs.Reached.{Call, Takes, Ticks, Sends, Answers, call, MayCall, calls_of, AllMayCall, taken_by, taken_in, Reached, place_at, IsInFlight, documents_of, ReachedHolds, FreshReached, CallReached}
+use Rattle.relay_delivery.specs.Reach.{Call, Takes, Ticks, Sends, Answers, call, MayCall, calls_of, AllMayCall, taken_by, taken_in, Reached, place_at, IsInFlight, documents_of, ReachedHolds, FreshReached, CallReached}
 use Rattle.relay_delivery.proofs.Facts.{IsDealt, AreRising}
 use Rattle.relay_delivery.proofs.Dealt.{dealt_before, dealt-more}
 use Rattle.relay_delivery.proofs.Take.{is_new_held, one_length, rising_if}

@@ -1,4 +1,4 @@
--- What a lane has reported whatever it was answered.
+-- What a lane has reported, whatever answers it got.
 use Rattle.std.proofs.Common.{◌≡◌, ℕ, ◌+◌, ◌≤◌, List, [], ◌∷◌, ◌++◌, Option, Some, None, Bool, true, false, refl, sym, ap, ◌∙◌, subst, ⊎_elim, arith, append-nil, append_assoc}
 use Rattle.std.specs.Prelude.{nat_lt, map}
 use Rattle.std.proofs.lemmas.List.{map-append}
@@ -14,7 +14,7 @@ use Rattle.relay_results.proofs.Lists.{Mem-left, Mem-last, Mem-one, Mem-cases, M
 use Rattle.relay_delivery.specs.Machine.{Config, Held, Report, report_on, held_if, spent_if, place_of, after_launch, launched_at, still_held, reports_from}
 use Rattle.relay_delivery.specs.Delivery.{HasDistinctNames, names_of}
 use Rattle.relay_delivery.specs.Lane.{Entry, State, held_of, entry_if, taken_op, after_request_of, writes_at, after_answer_to, fresh_state}
-use Rattle.relay_delivery.specs.Reached.{Call, Takes, Ticks, Sends, Answers, call, calls_of, taken_by, taken_in, Reached}
+use Rattle.relay_delivery.specs.Reach.{Call, Takes, Ticks, Sends, Answers, call, calls_of, taken_by, taken_in, Reached}
 use Rattle.relay_delivery.proofs.Facts.{is_held_as, is_report_as, is_taken_as}
 use Rattle.relay_delivery.proofs.Take.{is_new_held}
 use Rattle.relay_delivery.proofs.Send.{launched_op}

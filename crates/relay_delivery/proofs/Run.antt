@@ -21,7 +21,7 @@ use Rattle.relay_results.proofs.Lists.{at-Mem, Mem-left, Mem-last, Mem-push_case
 use Rattle.relay_delivery.proofs.Facts.{IsSent, RunFact, IsRising, IndexFact, CoreFacts}
 use Rattle.relay_delivery.proofs.Dealt.{sent_by}
 
--- an item that is run stands in a request
+-- an item that is run is in a request
 pub found_at : (q : Option Request) (place : ℕ) (w : Write) → option_and_then (λ x. slice_get (writes_of x) place) q ≡ Some w → (x : Request) × (q ≡ Some x) × (slice_get x.writes place ≡ Some w)
 found_at None place w e = absurd (cc)
 found_at (Some x) place w e = (x, refl, e)

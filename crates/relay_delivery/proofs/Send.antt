@@ -87,7 +87,7 @@ count-sent o n chosen (h ∷ hs) =
     let e = ap (λ (x : Op). one_if (is_held_as o (record { op = x; version = h.version; sends = 0; attempts = 0; cap = 0; flies = None }))) (launched_op n h (place_of h.version chosen)) in
     let r = count-sent o n chosen hs in omega arith
 
--- one that was chosen by its version stands at that place, and waited
+-- one that was chosen by its version is at that place, and waited
 pub record IsAmong (chosen : List Held) (h : Held) (place : ℕ) : Type 0 where
   pub stands : slice_get chosen place ≡ Some h
   pub waits : h.flies ≡ None

@@ -16,7 +16,7 @@ use Rattle.relay_results.proofs.Steps.{step_runs_item}
 use Rattle.relay_delivery.specs.Machine.{Config, Core, Held, Takes, Sends, Runs, Answers, write_of, step, MaySend}
 use Rattle.relay_delivery.specs.Lanes.{Lanes, Move, Puts, Closes, Fetches, Steps, after_fetch, move}
 use Rattle.relay_delivery.specs.Together.{Origin, Together, Act, Plain, SendsFrom, RunsAt, AnswersAt, run_at, act, IsPlain, MayAct, IsFreshTogether, outside_of}
-use Rattle.relay_delivery.specs.Accounted.{HappensInLanes}
+use Rattle.relay_delivery.specs.Incarnations.{HappensInLanes}
 use Rattle.relay_results.proofs.Lists.{true_or_false, equal, equal_test, equal_or_not, at-left, at-last, at-cases, at-within, at-Mem, Mem-left, Mem-last, Mem-map, Mem-push_cases, at-update-cases, at-update_same, at-update_other, length-update, none_at, count-push, count-update_at, some_same, and_left}
 use Rattle.relay_delivery.proofs.Facts.{IsOfOne, IsSent}
 use Rattle.relay_delivery.proofs.Dealt.{with_answer, carried_at, of_held, sent_by, sent_at}
@@ -56,10 +56,11 @@ pub record TogetherFacts (g : Config) (lane_of : Document → ℕ) (past : ℕ �
   pub as_long : length s.origins ≡ length s.sent
   pub ran : (l : ℕ) (r : Ran) → Mem r (runs_at s l) → HasRun s l r
   pub back : (r : Ran) → Mem r s.runs → IsBack s r
-  -- of those that carry a write as many of a kind stand among all requests as among those of its lane
+  -- of the requests that carry a write, there are as many of a kind among all as among those of its
+  -- lane
   pub counted : (x : Write) (p : Request → Bool) → AreAmong x p → count p s.sent ≡ count p (requests_at s (lane_of (document_of x.key)))
 
--- what stands in a request of a lane is of a document of that lane
+-- what is in a request of a lane is of a document of that lane
 module _ (g : Config) (lane_of : Document → ℕ) (past : ℕ → Write → Type 0) (w : Lanes) (f : LanesFacts g lane_of past w) where
   pub of_lane : (l : ℕ) (x : Write) → IsOfOne g (w.lane l).taken x → lane_of (document_of x.key) ≡ l
   of_lane l x a =
@@ -168,7 +169,7 @@ module _ (g : Config) (lane_of : Document → ℕ) (past : ℕ → Write → Typ
       (at-cases s.origins here j from b))
       (at-cases s.origins here i from a)
 
-  -- the new request carries documents of its lane alone
+  -- the new request carries only documents of its lane
   carries_here : (x : Write) → carries x new ≡ true → lane_of (document_of x.key) ≡ l
   unfolding new
   carries_here x t =
@@ -252,7 +253,7 @@ module _ (g : Config) (lane_of : Document → ℕ) (past : ℕ → Write → Typ
       (at-update-cases from.number (with_answer a) (requests_at s m) n q at)
   answer_each m n q false e at = f.each m n q at
 
-  -- a request of the lane carries documents of the lane alone
+  -- a request of the lane carries only documents of the lane
   carries_there : (q : Request) (x : Write) → slice_get (requests_at s from.lane) from.number ≡ Some q → carries x q ≡ true → lane_of (document_of x.key) ≡ from.lane
   carries_there q x e t =
       let k = carried_at (requests_at s from.lane) from.number q x e t in
@@ -322,7 +323,7 @@ module _ (g : Config) (lane_of : Document → ℕ) (past : ℕ → Write → Typ
       (Mem-push_cases r (runs_at s from.lane) (run_at from.number place outcome) (subst (λ rs. Mem r rs) (run_logged (s.lanes.lane from.lane).outside (run_at from.number place outcome) may) k))
   run_ran m r false e k = let p = f.ran m r k in record { number = p.number; origin = p.origin; among = Mem-left _ s.runs _ p.among }
 
-  -- what the lanes ran before stands among their runs
+  -- what the lanes ran before is among their runs
   old_run : (m : ℕ) (r : Ran) (b : Bool) → (m == from.lane) ≡ b → Mem r (runs_at s m) → Mem r (if b then step g (Runs (run_at from.number place outcome)) (s.lanes.lane from.lane) else s.lanes.lane m).outside.runs
   old_run m r true e k =
       subst (λ rs. Mem r rs) (sym (run_logged (s.lanes.lane from.lane).outside (run_at from.number place outcome) may))

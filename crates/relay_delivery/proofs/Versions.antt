@@ -9,7 +9,7 @@ use Rattle.relay_delivery.specs.Causes.{IsAssignment}
 use Rattle.relay_results.proofs.Same.{same_op-true, same_op-self, same_op-joined}
 use Rattle.relay_results.proofs.Lists.{true_or_false, at-Mem, at-map, map-Mem, distinct_places, some_same}
 
--- the version that an operation of the list is dealt, of so many from this one on
+-- the version that an operation of the list is assigned, of this many from this one on
 abbrev pub version_in : ℕ → ℕ → List Op → Op → Option ℕ
 version_in v left [] o = None
 version_in v zero (x ∷ xs) o = None

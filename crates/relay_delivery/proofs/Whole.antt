@@ -58,7 +58,7 @@ module _ (g : Config) (past : Write → Type 0) (c : Core) (f : CoreFacts g past
   pub reports_once : AllDistinct (map (λ (r : Report). r.name) c.reports)
   reports_once = reported_once c.reports (λ n. let a = f.apart n in let b = taken_once c.taken distinct n in omega (arith, a, b))
 
-  -- where nothing is held, each operation that was taken was applied or is reported
+  -- if nothing is held, each operation that was taken was applied or is reported
   pub accounted : c.held ≡ [] → (o : Op) → Mem o c.taken → IsAppliedAs g c o ⊎ Mem (name_of o) (map (λ (r : Report). r.name) c.reports)
   accounted none o m =
       let at = Mem-at o c.taken m in
@@ -74,7 +74,7 @@ module _ (g : Config) (past : Write → Type 0) (c : Core) (f : CoreFacts g past
       z)
       (f.nothing_lost at.0 o at.1)
 
--- ---- where nothing is of the past
+-- ---- if nothing is of the past
 
 module _ (g : Config) (c : Core) (f : CoreFacts g none_past c) (distinct : AllDistinct (map name_of c.taken)) where
   of_one : (k : Document) (w : Write) → Mem w (c.outside.applied k) → IsOfOne g c.taken w

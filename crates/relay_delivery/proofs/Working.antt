@@ -13,7 +13,7 @@ use Rattle.relay_results.proofs.Same.{bytes_eq-self}
 use Rattle.relay_delivery.proofs.Played.{apart, was, conflict_of, stored_self, applied_self, applied_two}
 use Rattle.relay_delivery.specs.Machine.{Core, Held, Report, IsEligible, MaySend}
 use Rattle.relay_delivery.specs.Delivery.{taken_of, names_of, ops_of, IsComplete}
-use Rattle.relay_delivery.specs.Worked.{waiting, MachineWorks, StoredVersionsBelow, EarlierOnesFirst, OneVersionForAllTries}
+use Rattle.relay_delivery.specs.Examples.{waiting, MachineWorks, StoredVersionsBelow, EarlierOnesFirst, OneVersionForAllTries}
 
 alone : (h : Held) → h.flies ≡ None → (k : Held) → IsEligible (h ∷ []) h
 alone h w k = record {
@@ -66,7 +66,7 @@ machine_works key source =
       attributed_to = ap (ops_of 1 (o ∷ [])) (applied_self (document_of key) w);
     }
 
--- ---- beside a version that was stored
+-- ---- with a version that was stored
 
 -- what is attributed to no writes is none
 none_of : (accepted : ℕ → List Op) (k : Document) (ops : List Op) → IsAttribution accepted k [] ops → ops ≡ []

@@ -103,8 +103,8 @@ pub record IsTrueDealt (max : ℕ) (s : Outside) (o : Op) (dealt : Option ℕ) (
   pub is_dealt : dealt ≡ Some version
   pub of_write : IsTrueOf max s (write_for o version) c
 
--- Spent: no request carried the operation, under the version that it was assigned, if any, and its lane took more
--- Puts than it assigns versions.
+-- Spent: no request carried the operation, with the version that it was assigned, if any, and its
+-- lane took more Puts than it assigns versions.
 pub record IsTrueSpent (t : Terms) (s : Outside) (o : Op) (dealt : Option ℕ) (c : Cause) : Type 0 where
   pub cause_is : c ≡ cause.Spent
   pub never_sent : (v : ℕ) → dealt ≡ Some v → count (carries (write_for o v)) s.requests ≡ 0

@@ -86,7 +86,8 @@ HasTotals c = length c.held + (c.applied + c.already) + length c.reports ≡ len
 abbrev pub TotalAlways : Type 0
 TotalAlways = (g : Config) (c : Core) → CameAbout g c → HasTotals c
 
--- each write that was sent is that of an operation that was taken, under the version assigned for its place
+-- each write that was sent is that of an operation that was taken, with the version assigned for
+-- its place
 pub record IsDealtWrite (g : Config) (taken : List Op) (w : Write) : Type 0 where
   pub op : Op
   pub place : ℕ

@@ -134,7 +134,7 @@ after_answer_to s number a = after_settling s (from_zero number) (writes_at (fro
 
 -- ---- the outside that a lane fits
 
--- the core that the state stands for
+-- the core that the state represents
 pub record IsOf (s : State) (c : Core) : Type 0 where
   pub taken : s.taken ≡ length c.taken
   pub held : held_of s.held ≡ c.held

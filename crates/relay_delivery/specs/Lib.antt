@@ -5,12 +5,12 @@ pub mod Delivery
 pub mod Bound
 pub mod Lane
 pub mod Counts
-pub mod Reached
-pub mod Numbered
+pub mod Reach
+pub mod Renumbering
 pub mod Lanes
 pub mod Together
 pub mod Restarts
-pub mod Accounted
+pub mod Incarnations
 pub mod Schedules
-pub mod Worked
+pub mod Examples
 pub mod Laws

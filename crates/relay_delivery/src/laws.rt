@@ -3,10 +3,11 @@
 ghost use Rattle.relay_delivery.specs.Schedules.{LostThenAlready, LateRunChangesNothing, RunTwice};
 ghost use Rattle.relay_delivery.specs.Schedules.{RefusedOrRejected, NoVersionLeft, BusyThenNext};
 ghost use Rattle.relay_delivery.specs.Schedules.{GivenUpAndApplied, ThreeThenOne, HalvedThenAlone};
-ghost use Rattle.relay_delivery.specs.Worked.{MachineWorks, StoredVersionsBelow, EarlierOnesFirst};
-ghost use Rattle.relay_delivery.specs.Worked.{OneVersionForAllTries};
+ghost use Rattle.relay_delivery.specs.Examples.{MachineWorks, StoredVersionsBelow};
+ghost use Rattle.relay_delivery.specs.Examples.{EarlierOnesFirst};
+ghost use Rattle.relay_delivery.specs.Examples.{OneVersionForAllTries};
 ghost use Rattle.relay_delivery.specs.Counts.{CountsAlways, CountsWhereItFits};
-ghost use Rattle.relay_delivery.specs.Reached.{FreshReached, CallReached, ReachedHolds};
+ghost use Rattle.relay_delivery.specs.Reach.{FreshReached, CallReached, ReachedHolds};
 ghost use Rattle.relay_delivery.specs.Laws.{NoneTwice, NoneOutOfOrder, NoneOfOtherAction};
 ghost use Rattle.relay_delivery.specs.Laws.{NoneOfOtherDocument, NoneUnaccepted, NoneLeftOut};
 ghost use Rattle.relay_delivery.specs.Laws.{NotGivenUpAfterOne, NotGivenUpWhenSettled};

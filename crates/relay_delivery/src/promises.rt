@@ -9,13 +9,13 @@ ghost use Rattle.relay_delivery.specs.Lane.{TotalWhereItFits, WritesWhereItFits}
 ghost use Rattle.relay_delivery.specs.Lane.{EarliestWhereItFits, OneFliesWhereItFits, SendTakesTry};
 ghost use Rattle.relay_delivery.specs.Lane.{AnswerGivesNoTry};
 ghost use Rattle.relay_delivery.specs.Lanes.{NothingAfterClose};
-ghost use Rattle.relay_delivery.specs.Numbered.{TakesOn, CandidatesOn, SendsOn, WritesOn};
-ghost use Rattle.relay_delivery.specs.Numbered.{SettlesOn, FliesOn, AnswersOn};
+ghost use Rattle.relay_delivery.specs.Renumbering.{TakesOn, CandidatesOn, SendsOn, WritesOn};
+ghost use Rattle.relay_delivery.specs.Renumbering.{SettlesOn, FliesOn, AnswersOn};
 ghost use Rattle.relay_delivery.specs.Restarts.{EpochsAreAbove};
-ghost use Rattle.relay_delivery.specs.Accounted.{SoundTogether, CompleteTogether, FreshTogether};
-ghost use Rattle.relay_delivery.specs.Accounted.{ActTogether, RestartTogether, TogetherMay};
-ghost use Rattle.relay_delivery.specs.Accounted.{TogetherRuns, TogetherContinues, ActsKeepNames};
-ghost use Rattle.relay_delivery.specs.Accounted.{RestartsKeepNames};
+ghost use Rattle.relay_delivery.specs.Incarnations.{SoundTogether, CompleteTogether, FreshTogether};
+ghost use Rattle.relay_delivery.specs.Incarnations.{ActTogether, RestartTogether, TogetherMay};
+ghost use Rattle.relay_delivery.specs.Incarnations.{TogetherRuns, TogetherContinues, ActsKeepNames};
+ghost use Rattle.relay_delivery.specs.Incarnations.{RestartsKeepNames};
 
 /// After any steps of a lane and the outside, starting from a fresh lane: the writes that the index
 /// applied are those of distinct operations that the lane took, each producer's in order; each
@@ -29,7 +29,7 @@ pub fn delivery_is_exact()
     ensures outside { ContinuesAlways }
 {}
 
-/// Each write that was sent is that of an operation that was taken, under the version assigned when
+/// Each write that was sent is that of an operation that was taken, with the version assigned when
 /// it was taken; and at most one operation of a document is in flight at a time, the earliest that
 /// is held.
 pub fn one_is_in_flight()
@@ -51,8 +51,8 @@ pub fn requests_are_bounded()
     ensures held { FewRequests }
 {}
 
-/// Each call of a lane is a step beside its outside, so a lane that fits an outside before the call
-/// fits the outside after it.
+/// Each call of a lane is a step of its core and the outside, so a lane that fits an outside before
+/// the call fits the outside after it.
 pub fn calls_are_steps()
     ensures fresh { FreshFits }
     ensures clock { ClockFits }
@@ -62,8 +62,8 @@ pub fn calls_are_steps()
     ensures answer { AnswerFits }
 {}
 
-/// A lane that numbers its requests from the beginning again after a restart makes the same calls
-/// as one that numbers them on.
+/// A lane that numbers its requests from 1 again after a restart makes the same calls as one that
+/// continues the numbers.
 pub fn requests_are_numbered_on()
     ensures take { TakesOn }
     ensures candidates { CandidatesOn }
@@ -103,7 +103,7 @@ pub fn lanes_together_deliver()
     ensures complete { CompleteTogether }
 {}
 
-/// Fresh lanes are reachable, and each act and each restart leads on from there. What may happen
+/// Fresh lanes are reachable, and so is every state after an act or a restart. What may happen
 /// outside all lanes may happen outside one of them; a run of a lane's item is one step of the
 /// common outside, and changes nothing of another document; the common outside came about from an
 /// opening by events that may happen; and nothing is accepted from a producer that has closed.

@@ -8,8 +8,8 @@ use relay_lane::{Wire, WireFault, WireReply};
 use relay_ndjson::bulk_len;
 use std::alloc::Global;
 
-/// What a wire returned: a number of entries and the status of the first, or a status for the
-/// request as a whole, or a fault; or nothing was asked, since an allocation failed before.
+/// What a wire returned: the number of entries and the status of the first, or a status for the
+/// request as a whole, or a fault; or nothing was sent, since an allocation failed before.
 #[derive(Clone, Copy, Debug, PartialEq, Eq)]
 pub enum Told {
     Entries(usize, u16),

@@ -3,7 +3,7 @@ use relay_batch::Limits;
 use relay_core::config::DEAL_LIMIT;
 use relay_lane::RelayConfig;
 
-/// Batches of ten operations and 4,096 bytes that are sent at once.
+/// Batches of ten operations and 4,096 bytes that are sent immediately.
 pub const LIMITS: Limits = Limits {
     count: 10,
     bytes: 4_096,

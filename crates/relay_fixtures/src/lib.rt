@@ -2,8 +2,8 @@
 //! records its pauses, wires that lose and refuse, and deletes that are sent over any wire. Only
 //! test crates depend on it.
 //!
-//! Its contracts say what the proofs of the tests need: which requests are out on a wire, and which
-//! are in flight in a lane.
+//! Its contracts say what the proofs of the tests need: which requests are outstanding on a wire,
+//! and which are in flight in a lane.
 #![tactic(auto)]
 
 pub mod applied;

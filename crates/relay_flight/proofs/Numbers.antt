@@ -38,7 +38,7 @@ Lacks-position n rs e =
       | inr past ↦ lacks_by n rs (λ k d lt. fails_before_first (has_number n) rs k d (omega arith))
     ]
 
--- rising numbers are above a number below the least
+-- increasing numbers are above a number below the lowest
 pub lacks_below : (n least next : ℕ) (rs : List Request) → n < least → AreNumbered least next rs → Lacks n rs
 lacks_below n least next [] lt a = tt
 lacks_below n least next (r ∷ rs) lt a = (
@@ -51,7 +51,7 @@ pub lacks_next : (least next : ℕ) (rs : List Request) → AreNumbered least ne
 lacks_next least next [] a = tt
 lacks_next least next (r ∷ rs) a = (ne_eqb _ _ (λ e. omega (arith, a.1, e)), lacks_next (r.number + 1) next rs a.2)
 
--- ---- where the place of a number was found
+-- ---- the place of a number
 
 find-get_or : (n : ℕ) (rs : List Request) (i : ℕ) (d : Request) → i < length rs → has_number n (get_or rs i d) ≡ true → ((k : ℕ) → k < i → has_number n (get_or rs k d) ≡ false) → find (has_number n) rs ≡ Some (get_or rs i d)
 find-get_or n [] i d lt same h = absurd (omega arith)
@@ -118,7 +118,7 @@ find-push k (r ∷ rs) x l =
       | inr asked ↦ let miss = asked.0 in rw miss (find-push k rs x l.1)
     ]
 
--- ---- the numbers rise on
+-- ---- the numbers still increase
 
 pub numbered_push : (least next : ℕ) (rs : List Request) (x : Request) → least ≤ next → x.number ≡ next → AreNumbered least next rs → AreNumbered least (next + 1) (rs ++ x ∷ [])
 numbered_push least next [] x le e a = (omega (arith, le, e), omega (arith, e), tt)
@@ -148,7 +148,7 @@ fewer_others n (r ∷ rs) =
       | inr stays ↦ let kept = stays.0 in rw kept (omega (arith, rest))
     ]
 
--- ---- the first of rising numbers
+-- ---- the first of increasing numbers
 
 -- what is found is not below the least
 pub least_found : (least next k : ℕ) (rs : List Request) → AreNumbered least next rs → IsSome (find (has_number k) rs) → least ≤ k

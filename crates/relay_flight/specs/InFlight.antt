@@ -17,12 +17,13 @@ has_number number r = r.number == number
 abbrev pub request_at : ℕ → InFlight → Option Request
 request_at number f = find (has_number number) f.requests
 
--- the numbers rise, from the lowest on and below the next
+-- the numbers increase, from the lowest on and below the next
 abbrev pub AreNumbered : ℕ → ℕ → List Request → Type 0
 AreNumbered least next [] = Unit {0}
 AreNumbered least next (r ∷ rs) = (least ≤ r.number) × (r.number < next) × AreNumbered (r.number + 1) next rs
 
--- numbers start at 1 and rise, so none is used twice, and at most the maximum number of requests is in flight
+-- numbers start at 1 and increase, so none is used twice, and at most the maximum number of
+-- requests is in flight
 pub record IsInFlight (f : InFlight) : Type 0 where
   pub begun : 1 ≤ f.next
   pub numbered : AreNumbered 1 f.next f.requests

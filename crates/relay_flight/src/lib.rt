@@ -2,8 +2,8 @@
 //! `relay_action` and `relay_batch`.
 //!
 //! What is proved: the table is a map from numbers to requests, each with its batch and its writes;
-//! numbers rise from 1 and none is used again, and settling a number returns what was added under
-//! it. Once the table is made, no call allocates.
+//! numbers increase from 1 and none is used again, and settling a number returns what was added
+//! under it. Once the table is made, no call allocates.
 #![tactic(auto)]
 
 pub mod flight;

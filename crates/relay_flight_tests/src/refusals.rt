@@ -1,4 +1,4 @@
-//! A table of requests, of whose allocations any one may be refused (`make refusals`).
+//! A table of requests, with any one of its allocations refused (`make refusals`).
 use crate::tests::gathered;
 use relay_batch::Batch;
 use relay_flight::Flight;
@@ -28,7 +28,7 @@ fn enters(alloc: Global, flight: &mut Flight, number: u64) -> Option<bool> {
     Some(flight.enter(batch, Vec::new(alloc)).ok()? == number)
 }
 
-// A table that was made has its places.
+// A table that was made has its room, so no later call is refused.
 #[test]
 fn refused_tables(rt: HostRuntime) {
     let Some(mut flight) = flight_of(rt.alloc()) else {

@@ -9,7 +9,7 @@ use Rattle.relay_delay.specs.declared.entry.Entry.{Entry}
 use Rattle.relay_delay.specs.Waiting.{Delays, without}
 use Rattle.relay_results.proofs.Lists.{apart_tests, none_some, some_same}
 use Rattle.relay_held.specs.declared.kept.Kept.{Kept}
-use Rattle.relay_held.specs.Kept.{waits_here, launch_one}
+use Rattle.relay_held.specs.Operations.{waits_here, launch_one}
 use Rattle.relay_held.specs.Queues.{AllUnder, AllWait, same_key, first_of, with_first, without_first, on_first, merge_of, queue_of, first_name, Changes}
 use Rattle.relay_held.specs.Shelf.{Shelf, IsHeld, slot_of, KeepsSlots, entry_at, entry_after}
 use Rattle.relay_held.proofs.Merging.{same_self}
@@ -25,7 +25,7 @@ pub record Moved (w : Shelf) (n : ℕ) (d : Delays) (o : Option Entry) (hs : Lis
 head_after : (v w : Shelf) (key : DocKey) (q : List Kept) → Changes v.queues w.queues key q → slice_get (queue_of w.queues key) 0 ≡ slice_get q 0
 head_after v w key q c = ap (λ p. slice_get p 0) (c.queues key ∙ ap (λ b. cond b q (queue_of v.queues key)) (same_self key))
 
--- the first of a document, where one is held, is in flight
+-- the first of a document, if one is held, is in flight
 abbrev pub Flies : List Kept → DocKey → Type 0
 Flies hs key = (h : Kept) → first_of key hs ≡ Some h → waits_here h.flies ≡ false
 

@@ -11,7 +11,7 @@ use Rattle.relay_results.specs.Documents.{Document, document_of, same_document}
 use Rattle.relay_results.specs.Words.{Mem}
 use Rattle.relay_results.proofs.Lists.{apart_tests, true_or_false, some_same, and_left, and_right, and_both, not_true, Mem-filter, filter-Mem, Mem-map, any_true, or_left}
 use Rattle.relay_held.specs.declared.kept.Kept.{Kept}
-use Rattle.relay_held.specs.Kept.{waits_here}
+use Rattle.relay_held.specs.Operations.{waits_here}
 use Rattle.relay_held.specs.Queues.{AllAbove, Rises, same_key, is_of, first_of, is_later_kept, is_candidate_kept, is_eligible_kept, candidates_kept, eligible, IsMerge}
 use Rattle.relay_held.proofs.Merging.{same_self, same_along, same_back, apart_back, no_lt, rises_filter}
 use Rattle.relay_held.proofs.Changing.{first_is, same_queue, same_key_laws}
@@ -22,7 +22,7 @@ pub above_mem : (v : ℕ) (hs : List Kept) (x : Kept) → AllAbove v hs → Mem 
 above_mem v [] x a m = elim m [ ]
 above_mem v (h ∷ hs) x a m = ⊎_elim (λ e. let w = ap (λ (y : Kept). y.version) e in omega (arith, a.0, w)) (λ n. above_mem v hs x a.1 n) m
 
--- two that are held under one version are one
+-- two that are held with the same version are equal
 pub one_version : (hs : List Kept) (x y : Kept) → Rises hs → Mem x hs → Mem y hs → x.version ≡ y.version → x ≡ y
 one_version [] x y r m n e = elim m [ ]
 one_version (h ∷ hs) x y r m n e =

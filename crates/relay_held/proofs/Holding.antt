@@ -7,7 +7,7 @@ use Rattle.relay_action.specs.declared.key.DocKey.{DocKey}
 use Rattle.relay_action.specs.declared.write.Write.{Write}
 use Rattle.relay_results.proofs.Lists.{true_or_false, none_some}
 use Rattle.relay_held.specs.declared.kept.Kept.{Kept}
-use Rattle.relay_held.specs.Kept.{launch_one, back_at, halved_at}
+use Rattle.relay_held.specs.Operations.{launch_one, back_at, halved_at}
 use Rattle.relay_held.specs.Queues.{AllUnder, same_key, is_of, first_of, with_first, without_first, on_first, merge_of, queue_of, AllWait, OnlyFirstsFly, IsHolding, Changes}
 use Rattle.relay_held.proofs.Changing.{Keeps, push_merges, with_merges, without_merges, holds_of, first_is, filter_push, filter_with_same, filter_with_apart, filter_without_same, filter_without_apart}
 
@@ -41,7 +41,7 @@ without_none k (h ∷ hs) e = ⊎_elim {C = without_first k (h ∷ hs) ≡ h ∷
     (λ g. rw g (ap (λ ys. h ∷ ys) (without_none k hs (sym (ap (λ b. if b then Some h else first_of k hs) g) ∙ e))))
     (true_or_false (is_of k h))
 
--- ---- what stands behind the first waits
+-- ---- everything after the first waits
 
 drop_on_first : (f : Kept → Kept) (q : List Kept) → drop 1 (on_first f q) ≡ drop 1 q
 drop_on_first f [] = refl

@@ -1,4 +1,4 @@
--- All queues together are the held list: where each queue is what is held of its document, merging gives what is held.
+-- All queues together are the held list: if each queue is what is held of its document, merging them gives what is held.
 use Rattle.std.proofs.Common.{◌≡◌, ℕ, ◌<◌, ◌≤◌, List, [], ◌∷◌, Some, None, Bool, true, false, refl, sym, ap, ◌∙◌, ⊎_elim, arith}
 use Rattle.std.specs.Prelude.{if◌then◌else◌, not, nat_lt, filter, unwrap_or}
 use Rattle.std.specs.List.{IsDistinct, AllByRecursion}

@@ -10,7 +10,7 @@ use Rattle.relay_delay.specs.Waiting.{Delays, insert, without, has_version, is_d
 use Rattle.relay_results.specs.Words.{Mem}
 use Rattle.relay_results.proofs.Lists.{apart_tests, true_or_false, none_some, some_same, equal, equal_test, Mem-filter, filter-Mem, Mem-map, any_true, at-Mem}
 use Rattle.relay_held.specs.declared.kept.Kept.{Kept}
-use Rattle.relay_held.specs.Kept.{waits_here}
+use Rattle.relay_held.specs.Operations.{waits_here}
 use Rattle.relay_held.specs.Queues.{AllAbove, Rises, same_key, is_of, first_of, candidates_kept, eligible, first_due_kept, insert_one, merge_of, queue_of, IsMerge, IsHolding, Changes}
 use Rattle.relay_held.specs.Shelf.{Shelf, IsHeld, slot_of, KeepsSlots, entry_at, entry_of, with_entry}
 use Rattle.relay_held.proofs.Merging.{same_self, rises_filter}
@@ -18,7 +18,7 @@ use Rattle.relay_held.proofs.Changing.{first_is, same_queue}
 use Rattle.relay_held.proofs.Shelving.{found_along}
 use Rattle.relay_held.proofs.Heads.{above_mem, one_version, first_mem, eligible_is, eligible_first, eligible_rises, due_eligible, few_eligible}
 
--- ---- lists in rising version
+-- ---- lists in ascending order of version
 
 -- two that have the same elements are one
 pub same_rising : (xs ys : List Kept) → Rises xs → Rises ys → ((z : Kept) → Mem z xs → Mem z ys) → ((z : Kept) → Mem z ys → Mem z xs) → xs ≡ ys
@@ -243,7 +243,7 @@ slice_map f (x ∷ xs) (suc n) = slice_map f xs n
 
 -- ---- what is held, and the delay queue
 
--- an entry that joins is that of the first that waits now and did not; else the first waits as before
+-- an entry that joins is that of the first that waits now and did not; otherwise the first waits as before
 abbrev pub Joins : Shelf → Shelf → DocKey → List Kept → Option Entry → Type 0
 Joins v w key q o =
     ((o ≡ None) × ((x : Kept) → WaitsFirst q x → WaitsFirst (queue_of v.queues key) x) × ((x : Kept) → WaitsFirst (queue_of v.queues key) x → WaitsFirst q x))

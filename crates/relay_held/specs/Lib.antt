@@ -1,3 +1,3 @@
-pub mod Kept
+pub mod Operations
 pub mod Queues
 pub mod Shelf

@@ -6,7 +6,7 @@ use Rattle.relay_action.specs.declared.key.DocKey.{DocKey}
 use Rattle.relay_action.specs.declared.operation.OpName.{OpName}
 use Rattle.relay_results.specs.Documents.{Document, document_of, same_document}
 use Rattle.relay_held.specs.declared.kept.Kept.{Kept}
-use Rattle.relay_held.specs.Kept.{waits_here}
+use Rattle.relay_held.specs.Operations.{waits_here}
 
 -- ---- the held list
 
@@ -14,7 +14,7 @@ abbrev pub AllAbove : ℕ → List Kept → Type 0
 AllAbove v [] = Unit {0}
 AllAbove v (h ∷ hs) = (v < h.version) × AllAbove v hs
 
--- versions rise
+-- versions increase
 abbrev pub Rises : List Kept → Type 0
 Rises [] = Unit {0}
 Rises (h ∷ hs) = AllAbove h.version hs × Rises hs
@@ -78,7 +78,7 @@ abbrev pub AllWait : List Kept → Type 0
 AllWait [] = Unit {0}
 AllWait (h ∷ hs) = (h.flies ≡ None) × AllWait hs
 
--- what stands behind the first of a document waits
+-- everything after the first of a document waits
 abbrev pub OnlyFirstsFly : List Kept → Type 0
 OnlyFirstsFly hs = (k : DocKey) → AllWait (drop 1 (filter (is_of k) hs))
 
@@ -92,12 +92,12 @@ documents hs = map (λ (h : Kept). document_of h.key) hs
 
 -- ---- what callers see
 
--- what is held, in rising version, and the clock, in ticks
+-- what is held, in ascending order of version, and the clock, in ticks
 pub record Holding : Type 0 where
   pub list : List Kept
   pub clock : ℕ
 
--- a tick later; the clock stays at its end
+-- a tick later; the clock saturates
 abbrev pub later : ℕ → ℕ
 later clock = if nat_lt clock 18446744073709551615 then clock + 1 else clock
 
@@ -118,7 +118,7 @@ abbrev pub insert_all : List Kept → List Kept → List Kept
 insert_all [] hs = hs
 insert_all (x ∷ xs) hs = insert_one x (insert_all xs hs)
 
--- all queues together, in rising version
+-- all queues together, in ascending order of version
 abbrev pub merge_of : List (DocKey × List Kept) → List Kept
 merge_of [] = []
 merge_of (e ∷ es) = insert_all e.1 (merge_of es)
@@ -140,6 +140,6 @@ pub record IsHolding (es : List (DocKey × List Kept)) (n : ℕ) : Type 0 where
   pub counted : n ≡ length (merge_of es)
   pub behind : OnlyFirstsFly (merge_of es)
 
--- the queue of one document is another one now, and each other document has the queue that it had
+-- the queue of one document has changed, and each other document has the queue that it had
 pub record Changes (es fs : List (DocKey × List Kept)) (key : DocKey) (q : List Kept) : Type 0 where
   pub queues : (k : DocKey) → queue_of fs k ≡ cond (same_key key k) q (queue_of es k)

@@ -1,4 +1,4 @@
--- Where the queues are: each document has a slot, and its queue is there. And the delay queue beside them.
+-- Where the queues are: each document has a slot, and its queue is there. Also the delay queue.
 use Rattle.std.specs.Prelude.{◌≡◌, ◌≢◌, ℕ, ◌<◌, ◌≤◌, List, [], ◌∷◌, Option, Some, None, unwrap_or, true, map, length, slice_get}
 use Rattle.std.specs.List.{IsDistinct}
 use Rattle.std.specs.Map.{lookup, keys_of}
@@ -11,7 +11,7 @@ use Rattle.relay_held.specs.Queues.{same_key, eligible, merge_of, queue_of, IsHo
 
 -- ---- the queues, each in its slot
 
--- the queue in a slot; none is empty, so this is empty where there is none
+-- the queue in a slot; none is empty, so this is empty if there is none
 abbrev pub queue_in : Slab (List Kept) → ℕ → List Kept
 queue_in s slot = unwrap_or (get s slot) []
 
@@ -30,7 +30,7 @@ pub record IsShelf (ss : List (DocKey × ℕ)) (s : Slab (List Kept)) : Type 0 w
   pub filled : (k : DocKey) (slot : ℕ) → lookup (same_key k) ss ≡ Some slot → 0 < length (queue_in s slot)
   pub apart : (j k : DocKey) (slot : ℕ) → lookup (same_key j) ss ≡ Some slot → lookup (same_key k) ss ≡ Some slot → same_key j k ≡ true
 
--- the queue in one slot is another one now
+-- the queue in one slot has changed
 pub record Sets (old new : Slab (List Kept)) (slot : ℕ) (q : List Kept) : Type 0 where
   pub here : queue_in new slot ≡ q
   pub others : (other : ℕ) → other ≢ slot → queue_in new other ≡ queue_in old other

@@ -10,7 +10,7 @@ ghost use Rattle.slab.specs.Slab.{HasRoomFor};
 ghost use Rattle.relay_action.specs.declared.key.DocKey.{DocKey};
 ghost use Rattle.relay_held.specs.declared.kept.Kept.{Kept};
 ghost use Rattle.relay_held.specs.declared.documents.Taken.{Taken};
-ghost use Rattle.relay_held.specs.Kept.{launch_one, back_at, halved_at, candidate_of};
+ghost use Rattle.relay_held.specs.Operations.{launch_one, back_at, halved_at, candidate_of};
 ghost use Rattle.relay_held.specs.Queues.{same_key, on_first, first_name, queue_of, Changes};
 ghost use Rattle.relay_held.specs.Queues.{NoneEmpty};
 ghost use Rattle.relay_held.specs.Shelf.{queue_in, queues_in, IsShelf, Sets, slot_of, KeepsSlots};

@@ -1,6 +1,6 @@
 //! A held operation, as it is in memory.
 ghost use Rattle.std.specs.Prelude.{◌≡◌};
-ghost use Rattle.relay_held.specs.Kept.{candidate_of};
+ghost use Rattle.relay_held.specs.Operations.{candidate_of};
 
 use relay_action::{ActionKind, DocKey, OpName, Write};
 

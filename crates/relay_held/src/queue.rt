@@ -1,7 +1,7 @@
 //! The queue of one document.
 ghost use Rattle.std.specs.Prelude.{◌≡◌, ◌++◌, ◌∷◌, [], ◌<◌, Some, None, drop, slice_get, OnOk};
 ghost use Rattle.std.specs.Prelude.{OnErr, IfErr, IfSome, IfNone, length, option_map};
-ghost use Rattle.relay_held.specs.Kept.{launch_one, back_at, halved_at};
+ghost use Rattle.relay_held.specs.Operations.{launch_one, back_at, halved_at};
 ghost use Rattle.relay_held.specs.Queues.{on_first, first_name};
 ghost use Rattle.relay_held.specs.Shelf.{entry_at};
 

@@ -6,7 +6,7 @@ use Rattle.relay_action.specs.declared.key.DocKey.{DocKey}
 use Rattle.relay_results.proofs.Lists.{true_or_false}
 use Rattle.relay_held.specs.declared.kept.Kept.{Kept}
 use Rattle.relay_held.specs.declared.kept.Candidate.{Candidate}
-use Rattle.relay_held.specs.Kept.{launch_one, candidate_of}
+use Rattle.relay_held.specs.Operations.{launch_one, candidate_of}
 use Rattle.relay_held.specs.Queues.{AllUnder, is_of, with_first, without_first, candidates_kept, Holding}
 use Rattle.relay_held.proofs.Changing.{Keeps}
 use Rattle.relay_held.proofs.Holding.{launch_keeps}

@@ -1,7 +1,7 @@
 //! Held operations whose versions rise one by one.
 ghost use Rattle.std.specs.Prelude.{◌≡◌, Some, None, false, IfSome};
 ghost use Rattle.relay_held.specs.declared.kept.Kept.{Kept};
-ghost use Rattle.relay_held.specs.Kept.{waits_here};
+ghost use Rattle.relay_held.specs.Operations.{waits_here};
 ghost use Rattle.relay_held.specs.Queues.{AllUnder, first_of};
 ghost use Rattle.relay_held_tests.specs.Under.{AllUnder-prop};
 

@@ -1,4 +1,4 @@
-//! What is held, of whose allocations any one may be refused (`make refusals`).
+//! What is held, with any one of its allocations refused (`make refusals`).
 use crate::desk::{candidate, empty_desk, push};
 
 // The operation is held when it is pushed again, and may be sent when it is asked for again.

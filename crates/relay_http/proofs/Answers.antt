@@ -26,7 +26,7 @@ joined status reason digits e t1 t2 t3 t4 t5 t6 t7 keep e1 e2 e3 e4 e5 e6 e7 e8 
     regroup : (a s x r b d z : List ℕ) → (((((a ++ s) ++ x) ++ r) ++ b) ++ d) ++ z ≡ a ++ (s ++ (x ++ (r ++ (b ++ (d ++ z)))))
     regroup a s x r b d z = simp (append_assoc)
 
--- the head of an answer, appended part by part, where the last part was
+-- the head of an answer, appended part by part, if the last part was
 pub answer_joined : {A E : Type 0} (last : Result A E) (status reason digits e t1 t2 t3 t4 t5 t6 t7 : List ℕ) (keep : Bool)
     → t1 ≡ codes "HTTP/1.1 "
     → t2 ≡ t1 ++ status
@@ -40,7 +40,7 @@ pub answer_joined : {A E : Type 0} (last : Result A E) (status reason digits e t
 answer_joined (Ok u) status reason digits e t1 t2 t3 t4 t5 t6 t7 keep e1 e2 e3 e4 e5 e6 e7 e8 = joined status reason digits e t1 t2 t3 t4 t5 t6 t7 keep e1 e2 e3 e4 e5 e6 e7 e8
 answer_joined (Err f) status reason digits e t1 t2 t3 t4 t5 t6 t7 keep e1 e2 e3 e4 e5 e6 e7 e8 = tt
 
--- a head and a body behind it, where the body was appended
+-- a head and a body after it, if the body was appended
 pub answer_ended : {A E : Type 0} (last : Result A E) (head before body given new : List ℕ)
     → before ≡ head
     → given ≡ body

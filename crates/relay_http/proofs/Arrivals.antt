@@ -1,4 +1,4 @@
--- Requests at the front of what stands.
+-- Requests at the front of what is to come.
 use Rattle.std.proofs.Common.{◌≡◌, ℕ, ◌<◌, ◌≤◌, Bool, false, ◌&&◌, List, [], ◌∷◌, ◌++◌, length, take, drop, map, refl, ap, ◌∙◌, sym, subst, arith, length-append, Option, Some, None, Result, Ok, Err}
 use Rattle.std.proofs.lemmas.Grind.{common_steps}
 use Rattle.std.specs.Io.KnownBytes.{IsAtEnd, prepend_known}
@@ -102,7 +102,7 @@ printed_some h some = more (print_blank h.blank) h.method h.target (print_versio
     more : (a m t v e s : List ℕ) → 0 < length m → 0 < length (a ++ m ++ 32 ∷ t ++ 32 ∷ v ++ e ++ s)
     more a m t v e s some = grind (arith, common_steps, some)
 
--- no head stands where nothing does, and no request
+-- if nothing is to come, there is no head, and no request
 pub request_head_some : (s : List ℕ) → Begins IsRequestInfo s → 0 < length s
 request_head_some s h =
     let some = printed_some h.message.head h.message.fits.grammar.method.0 in
@@ -113,7 +113,7 @@ request_head_some s h =
 request_some : (s : List ℕ) → Begins IsRequest s → 0 < length s
 request_some s b = request_head_some s (begins_then IsRequestInfo IsRequestBody s b)
 
--- where the window is empty and the stream at its end, nothing stands
+-- if the window is empty and the stream at its end, nothing is to come
 pub nothing_there : (w : List ℕ) (left : Option (List ℕ)) (s : List ℕ) → length w ≡ 0 → IsAtEnd left → prepend_known w left ≡ Some s → ¬ (Begins IsRequestInfo s)
 nothing_there w None s l a e b = absurd (cc)
 nothing_there w (Some xs) s l a e b =

@@ -1,4 +1,4 @@
--- A chunked body behind a size line.
+-- A chunked body after a size line.
 use Rattle.std.proofs.Common.{◌≡◌, ℕ, ◌+◌, ◌<◌, ◌≤◌, Bool, true, false, List, [], ◌∷◌, ◌++◌, length, flat_map, refl, ap, ◌∙◌, sym, subst, arith, append_assoc, append-nil, length-append, take, drop, suc, zero, ◌⊎◌, inl, inr}
 use Rattle.std.proofs.lemmas.List.{take_at, drop_at}
 use Rattle.std.proofs.lemmas.Bool.{false≢true}
@@ -13,12 +13,12 @@ use Rattle.httparse.proofs.ChunkLemmas.{chunk_line_unique}
 use Rattle.relay_http.specs.Forms.{Begins, Gives}
 use Rattle.relay_http.proofs.Leading.{Leads}
 use Rattle.relay_http.specs.Steps.{IsLine, IsTrailer, IsCrlf, IsDataAfter, IsLastAfter}
-use Rattle.relay_http.specs.Chunked.{FitsLine, IsSizeLine, Chunk, IsChunk, print_chunk, IsTrailerText, IsChunkedAfter}
+use Rattle.relay_http.specs.ChunkedBody.{FitsLine, IsSizeLine, Chunk, IsChunk, print_chunk, IsTrailerText, IsChunkedAfter}
 
 pub first_line : (t s : List ℕ) (l k : ChunkLine) (rest : List ℕ) → FitsLine l → FitsLine k → t ≡ print_chunk_line l → t ++ s ≡ print_chunk_line k ++ rest → (l ≡ k) × (s ≡ rest)
 first_line t s l k rest fl fk e f = chunk_line_unique (t ++ s) l k s rest (fl.grammar, ap (λ w. w ++ s) e) (fk.grammar, f)
 
--- behind a size line that is not 0 there are its data, CRLF and further chunks
+-- after a size line that is not 0 there are its data, CRLF and further chunks
 behind_size : (limit : ℕ) (before t s : List ℕ) (l : ChunkLine) → FitsLine l → t ≡ print_chunk_line l → 0 < chunk_size l
     → (chunks : List Chunk) (zero_line : ChunkLine) (trailer rest content : List ℕ) (ends : Bool)
     → AllByRecursion IsChunk chunks → FitsLine zero_line → chunk_size zero_line ≡ 0 → IsTrailerText trailer → content ≡ before ++ flat_map (λ c. c.content) chunks → length content ≤ limit
@@ -82,7 +82,7 @@ same_front s x y u v e f l = (
   sym (drop_at x u (length x) refl) ∙ ap (drop (length x)) (sym e ∙ f) ∙ drop_at y v (length x) (sym l),
 )
 
--- behind the content of a chunk and CRLF there are further chunks
+-- after the content of a chunk and CRLF there are further chunks
 pub chunk_leads : (limit : ℕ) (before piece : List ℕ) (n : ℕ) → length piece ≡ n → Leads (IsDataAfter limit before n) (IsChunkedAfter limit (before ++ piece)) (piece ++ crlf_bytes)
 chunk_leads limit before piece n size = record {
   peel = λ s b.
@@ -104,7 +104,7 @@ chunk_leads limit before piece n size = record {
   build = λ x e a m. record { piece = piece; more = x; size_is = size; chunked = m; bytes_are = append_assoc piece crlf_bytes x };
 }
 
--- behind a size line of 0 there is the trailer
+-- after a size line of 0 there is the trailer
 behind_zero : (limit : ℕ) (before t s : List ℕ) (l : ChunkLine) → FitsLine l → t ≡ print_chunk_line l → chunk_size l ≡ 0
     → (chunks : List Chunk) (zero_line : ChunkLine) (trailer rest content : List ℕ) (ends : Bool)
     → AllByRecursion IsChunk chunks → FitsLine zero_line → IsTrailerText trailer → content ≡ before ++ flat_map (λ c. c.content) chunks → length content ≤ limit

@@ -1,4 +1,4 @@
--- A request that goes out piece by piece.
+-- A request that is sent piece by piece.
 use Rattle.std.proofs.Common.{◌≡◌, ℕ, ◌+◌, ◌<◌, ◌≤◌, List, [], ◌++◌, length, take, drop, get_or, subst, Option, None, Some, Result, Ok, Err, refl, ap, sym, ◌∙◌, inl, inr, arith, append_assoc, append-nil, length-append}
 use Rattle.std.proofs.lemmas.Grind.{common_steps, flat_map-append}
 use Rattle.std.proofs.lemmas.List.{take-append-drop, take-append-le}
@@ -21,7 +21,7 @@ append_known-nil (Some bytes) = ap Some (append-nil bytes)
 pub lines_more : (ws : List Write) (i : ℕ) (w : Write) → i < length ws → w ≡ get_or ws i w → text_of (take (i + 1) ws) ≡ text_of (take i ws) ++ write_text w
 lines_more ws i w h is = grind (arith, common_steps)
 
--- the front of what is to go out on top of what went out is the front of all
+-- the front of what is still to be sent, after what was sent, is the front of all
 pub front_behind : (old now new : Option (List ℕ)) (out piece rest all : List ℕ) → now ≡ append_known old out → all ≡ (out ++ piece) ++ rest → SendsFront piece now new → SendsFront all old new
 front_behind old now new out piece rest all e is f =
     let total = ap length is ∙ length-append (out ++ piece) rest in
@@ -54,7 +54,7 @@ text_behind head ws i =
 
 -- ---- one write more
 
--- so much went out and is gathered of the request, after the lines of the first writes
+-- this much of the request was sent and is gathered, after the lines of the first writes
 pub record IsUnderWay (host : List ℕ) (ws : List Write) (i : ℕ) (old now : Option (List ℕ)) (text : List ℕ) : Type 0 where
   pub out : List ℕ
   pub went : now ≡ append_known old out
@@ -132,7 +132,7 @@ last_piece host ws i old now new text after (Err fault.Read) h u f = f
 last_piece host ws i old now new text after (Err fault.TooManyInterim) h u f = f
 last_piece host ws i old now new text after (Err fault.Broken) h u f = f
 
--- ---- what was gathered cannot go out
+-- ---- what was gathered cannot be sent
 
 pub not_flushed : (lines text after left : List ℕ) (now new : Option (List ℕ)) (f : HttpFault) → Flushes text after now new (Err f) → Gathers lines text left now new (Err f)
 not_flushed lines text after left now new fault.Write s =
@@ -151,7 +151,7 @@ not_flushed lines text after left now new fault.Read s = s
 not_flushed lines text after left now new fault.TooManyInterim s = s
 not_flushed lines text after left now new fault.Broken s = s
 
--- ---- a source goes out from where it lies
+-- ---- a source is sent from where it is
 
 lines_cut : (before first source le lines : List ℕ) (line : List ℕ) → first ≡ before ++ line → lines ≡ line ++ (source ++ le) → before ++ lines ≡ (first ++ source) ++ le
 lines_cut before first source le lines line e f =
@@ -194,7 +194,7 @@ head_fails host ws old new text fault.Read b = b
 head_fails host ws old new text fault.TooManyInterim b = b
 head_fails host ws old new text fault.Broken b = b
 
--- a gathered head goes out
+-- a gathered head is sent
 pub head_flushed : (head text after : List ℕ) (old new : Option (List ℕ)) (r : Result (Unit {0}) HttpFault) → text ≡ head → Flushes text after old new r → Begun head after old new r
 head_flushed head text after old new (Ok done) e f = (text, f.0, ap (λ x. text ++ x) f.1 ∙ append-nil text ∙ e)
 head_flushed head text after old new (Err fault.Write) e f = subst (λ (x : List ℕ). SendsFront x old new) e f

@@ -1,4 +1,4 @@
--- Messages behind a front that was read.
+-- Messages after a front that was read.
 use Rattle.std.proofs.Common.{◌≡◌, ℕ, Bool, List, [], ◌++◌, refl, ap, ◌∙◌, sym, subst, append_assoc, Option, inl, inr, ◌⊎◌}
 use Rattle.std.specs.Io.KnownBytes.{prepend_known}
 use Rattle.relay_http.specs.Forms.{Form, Begins, Gives, Took, Stopped, Refused, Fails}
@@ -11,7 +11,7 @@ pub record Leads {A : Type 0} (M N : Form A) (front : List ℕ) : Type 0 where
   pub peel : (stream : List ℕ) (b : Begins M (front ++ stream)) → (c : Begins N stream) × Gives b.value b.rest c
   pub build : (bytes : List ℕ) (ends : Bool) (value : A) → N bytes ends value → M (front ++ bytes) ends value
 
--- a fault that a head gives
+-- a fault that a head states
 abbrev pub IsStated : HttpFault → Type 0
 IsStated f = (f ≡ fault.Malformed) ⊎ ((f ≡ fault.BodyLong) ⊎ ((f ≡ fault.CodedBody) ⊎ ((f ≡ fault.BothLengths) ⊎ (f ≡ fault.TooManyInterim))))
 
@@ -55,7 +55,7 @@ stopped_behind M N x old mid left f e r = record {
   none = λ b. r.none (f r.read b);
 }
 
--- what fails behind a front fails
+-- what fails after a front fails
 pub fails_behind : {A B : Type 0} (M : Form A) (N : Form B) (x : List ℕ) (old mid left : Option (List ℕ)) (f : HttpFault) → ((s : List ℕ) → Begins M (x ++ s) → Begins N s) → old ≡ prepend_known x mid → Fails N mid left f → Fails M old left f
 fails_behind M N x old mid left fault.Malformed step e r = refused_behind M N x old mid left step e r
 fails_behind M N x old mid left fault.HeadLong step e r = refused_behind M N x old mid left step e r

@@ -8,7 +8,7 @@ use Rattle.httparse.specs.Grammar.{ChunkLine, print_chunk_line, chunk_size}
 use Rattle.relay_http.specs.Forms.{Begins, Took}
 use Rattle.relay_http.specs.Body.{IsSized, IsLongRest}
 use Rattle.relay_http.specs.Steps.{Moved, IsLine, IsChunkThere, IsCrlf, TookChunk}
-use Rattle.relay_http.specs.Chunked.{FitsLine, IsSizeLine, Chunk, IsChunk, print_chunk, IsLongChunked}
+use Rattle.relay_http.specs.ChunkedBody.{FitsLine, IsSizeLine, Chunk, IsChunk, print_chunk, IsLongChunked}
 use Rattle.relay_http.proofs.Chunks.{first_line, same_front}
 use Rattle.relay_http.proofs.Stands.{no_bytes, prepend_known-nil}
 use Rattle.relay_http.proofs.Unique.{shown}
@@ -27,7 +27,7 @@ long_begins limit before s b = first b.chunks b.each b.split
     first [] d e = line_of b.line b.rest b.fits e
     first (k ∷ ks) d e = line_of k.line (k.content ++ (crlf_bytes ++ (flat_map print_chunk ks ++ (print_chunk_line b.line ++ b.rest)))) d.0.fits (e ∙ regroup (print_chunk_line k.line) k.content crlf_bytes (flat_map print_chunk ks) (print_chunk_line b.line ++ b.rest))
 
--- what stands after a size line that does not pass the limit: a chunk, and then chunks that pass it
+-- what follows a size line that does not exceed the limit: a chunk, and then chunks that pass it
 pub record AfterLine (limit : ℕ) (before s : List ℕ) (n : ℕ) : Type 0 where
   pub content : List ℕ
   pub rest : List ℕ
@@ -96,7 +96,7 @@ not_long limit most body after s old mid new left e m short f long =
     let zero : length r.0 ≡ 0 = ap length none in
     omega (arith, same, parts, zero, short, long)
 
--- the content of a chunk and CRLF stand there
+-- the content of a chunk and CRLF are there
 pub content_there : (size : ℕ) (s : List ℕ) → IsChunkThere size s → Begins (IsSized size) s
 content_there size s t = record { front = t.content; ends = false; value = t.content; rest = crlf_bytes ++ t.rest; message = record { length_is = t.size_is; same = refl }; split = t.split; last = λ x. absurd (false≢true x) }
 

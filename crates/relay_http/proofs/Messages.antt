@@ -21,7 +21,7 @@ begins_then H T s b = record {
 abbrev pub head_there : {I : Type 0} (H : Form I) (t : List ℕ) (info : I) → H t false info → (s : List ℕ) → Begins H (t ++ s)
 head_there H t info h s = record { front = t; ends = false; value = info; rest = s; message = h; split = refl; last = λ e. absurd (false≢true e) }
 
--- after a head stands what it leads to
+-- after a head comes what it leads to
 pub then_leads : {I A : Type 0} (H : Form I) (T : I → Form A) → IsUnique H → (t : List ℕ) (info : I) → H t false info → Leads (IsHeadThen H T) (T info) t
 then_leads H T unique t info h = record {
   peel = λ s b.
@@ -40,7 +40,7 @@ then_leads H T unique t info h = record {
   build = λ x ends a r. record { info = info; head = t; head_is = h; text = x; text_is = r; bytes_are = refl };
 }
 
--- where heads and what follows them are unique, so are messages
+-- if heads and what follows them are unique, so are messages
 pub then_unique : {I A : Type 0} (H : Form I) (T : I → Form A) → IsUnique H → ((info : I) → IsUnique (T info)) → IsUnique (IsHeadThen H T)
 then_unique H T unique tails = record {
   same = λ s b c.

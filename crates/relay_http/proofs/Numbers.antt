@@ -1,4 +1,4 @@
--- Digits say one number exactly where they are the same from the first that is not 0.
+-- Digits say one number exactly if they are the same from the first that is not 0 on.
 use Rattle.std.proofs.Common.{◌≡◌, ◌≢◌, ℕ, ◌+◌, ◌*◌, ◌<◌, Bool, true, false, cond, eqb, List, [], ◌∷◌, ◌++◌, reverse, refl, ap, ◌∙◌, sym, subst, arith, ◌⊎◌, inl, inr}
 use Rattle.std.specs.Prelude.{bytes_eq}
 use Rattle.std.specs.Char.{digit_value, is_ascii_digit}
@@ -15,7 +15,7 @@ use Rattle.relay_http.proofs.Written.{both, reversed_digits}
 reverse-cons : (c : ℕ) (cs : List ℕ) → reverse (c ∷ cs) ≡ reverse cs ++ c ∷ []
 reverse-cons c cs = reverse-append (c ∷ []) cs
 
--- the number of digits that stand from the last to the first
+-- the number of digits from the last to the first
 abbrev backward : List ℕ → ℕ
 backward [] = 0
 backward (c ∷ cs) = backward cs * 10 + digit_value c
@@ -78,7 +78,7 @@ tells c = from (eqb_tells c 48)
     from (inl x) = inl x.0
     from (inr x) = inr x
 
--- what stands from the first digit that is not 0
+-- the digits from the first that is not 0 on
 record Kept (ds : List ℕ) : Type 0 where
   number_is : number (significant ds) ≡ number ds
   digits : list_all is_ascii_digit (significant ds) ≡ true

@@ -9,7 +9,7 @@ use Rattle.relay_http.proofs.Stands.{prepend_known-append}
 pub stood_behind : (x y : List ℕ) (old mid new : Option (List ℕ)) → old ≡ prepend_known x mid → mid ≡ prepend_known y new → old ≡ prepend_known (x ++ y) new
 stood_behind x y old mid new e f = e ∙ ap (prepend_known x) f ∙ sym (prepend_known-append x y new)
 
--- what never begins behind a front is refused, with the window read too
+-- what never begins after a front is refused, with the window read too
 pub refused_here : {A : Type 0} (M : Form A) (x : List ℕ) (old : Option (List ℕ)) (window : List ℕ) (left : Option (List ℕ)) → old ≡ prepend_known x (prepend_known window left) → ((s : List ℕ) → ¬ (Begins M (x ++ s))) → Refused M old left
 refused_here M x old window left e never = record {
   read = x ++ window;

@@ -1,4 +1,4 @@
--- Which fault is answered, and what stands in the stream then.
+-- Which fault is returned, and what is in the stream then.
 use Rattle.std.proofs.Common.{◌≡◌, ◌≢◌, ◌⊎◌, cond, ℕ, ◌+◌, ◌-◌, ◌<◌, ◌≤◌, min, Bool, true, false, List, [], ◌∷◌, ◌++◌, length, take, drop, flat_map, refl, ap, ◌∙◌, sym, subst, arith, inl, inr, append_assoc, append-nil, length-append, Option, Some, Result, Ok, Err}
 use Rattle.std.proofs.lemmas.Grind.{flat_map-append}
 use Rattle.std.proofs.lemmas.List.{take_at, take-append-drop, take-append-le, length-take}
@@ -12,7 +12,7 @@ use Rattle.httparse.specs.Spans.{ResponseExceeds, RequestExceeds, SectionExceeds
 use Rattle.relay_action.specs.Streams.{one_more}
 use Rattle.relay_http.specs.Connection.{is_read}
 use Rattle.relay_http.specs.Body.{IsLongBody, IsLongRest}
-use Rattle.relay_http.specs.Chunked.{IsSizeLine, FitsLine, Chunk, IsChunk, print_chunk, IsLongChunked}
+use Rattle.relay_http.specs.ChunkedBody.{IsSizeLine, FitsLine, Chunk, IsChunk, print_chunk, IsLongChunked}
 use Rattle.relay_http.specs.Forms.{Form, Begins, Took, IsOutside, IsThatOrOutside}
 use Rattle.relay_http.specs.Fields.{Header, agrees, elements_named, has_field, number, values_named}
 use Rattle.relay_http.specs.Framing.{framing_of_fields, framing_of_request, is_chunked, is_interim, is_plain, reply_limit, request_limit, framing_by_length}
@@ -38,13 +38,13 @@ use Rattle.relay_http.proofs.Unique.{shown}
 pub never_more : (Q : List ℕ → Type 0) (buf : List ℕ) → ((more : List ℕ) → Q (buf ++ more)) → (more next : List ℕ) → Q ((buf ++ more) ++ next)
 never_more Q buf h more next = subst Q (sym (append_assoc buf more next)) (h (more ++ next))
 
--- so many bytes stay in front
+-- this many bytes stay in front
 pub full_front : (Q : List ℕ → Type 0) (limit : ℕ) (buf more : List ℕ) → length buf ≡ limit → Q buf → (limit ≤ length (buf ++ more)) × Q (take limit (buf ++ more))
 full_front Q limit buf more e h =
     let total = length-append buf more in
     (omega (arith, e, total), subst Q (sym (take_at buf more limit e)) h)
 
--- the same where the front of the window is looked at
+-- the same if the front of the window is looked at
 pub short_front : (Q : List ℕ → Type 0) (limit n : ℕ) (buf more : List ℕ) → n ≡ min (length buf) limit → limit ≤ length buf → Q (take n buf) → (limit ≤ length (buf ++ more)) × Q (take limit (buf ++ more))
 short_front Q limit n buf more e long h =
     let total = length-append buf more in
@@ -118,7 +118,7 @@ length_and_one xs x = length-append xs (x ∷ [])
 
 -- ---- heads of replies
 
--- so many interim heads were passed
+-- this many interim heads were passed
 pub record IsBehindInterim (old now : Option (List ℕ)) (passed : ℕ) : Type 0 where
   pub interim : List ResponseHead
   pub count : length interim ≡ passed
@@ -182,7 +182,7 @@ chunk_passed old one two new body after line b t some d =
       split = stood_behind (all ++ t.front) (d.piece ++ crlf_bytes) old two new (stood_behind all t.front old one two b.split t.split) d.split ∙ ap (λ w. prepend_known w new) bytes;
     }
 
--- a fault behind the chunks so far
+-- a fault after the chunks so far
 pub line_refused : (limit : ℕ) (old one : Option (List ℕ)) (body : List ℕ) (f : HttpFault) → IsBehindChunks old one body
     → ((r : List ℕ) → one ≡ Some r → PieceFault BreaksChunk OverrunsChunk r f) → (s : List ℕ) → old ≡ Some s → BodyFault limit framing.Chunked s f
 line_refused limit old one body f b why s e =
@@ -210,7 +210,7 @@ after_size : (P : ℕ → List ℕ → Type 0) (one two : Option (List ℕ)) (li
 after_size P one two line t r q e h =
     record { line = t.message.line; fits = t.message.fits; rest = q; there = subst (λ n. P n q) t.message.size_is h; split = e ∙ ap (λ w. w ++ q) t.message.bytes_are }
 
--- of the trailer behind a line of size 0
+-- of the trailer after a line of size 0
 pub trailer_refused : (one two : Option (List ℕ)) (line : SizeLine) (f : HttpFault) → Took IsLine one two line → line.size ≡ 0
     → ((q : List ℕ) → two ≡ Some q → PieceFault NeverHasSection OverrunsTrailer q f) → (r : List ℕ) → one ≡ Some r → PieceFault BreaksChunk OverrunsChunk r f
 trailer_refused one two line f t none why r e =
@@ -218,7 +218,7 @@ trailer_refused one two line f t none why r e =
     fault_as NeverHasSection OverrunsTrailer BreaksChunk OverrunsChunk q.0 r f
     (λ h. inr (after_size BreaksAfterLine one two line t r q.0 q.2 (inl (none, h)))) (λ h. inr (after_size OverrunsAfterLine one two line t r q.0 q.2 (none, h))) (why q.0 q.1)
 
--- of the content behind a line of another size
+-- of the content after a line of another size
 pub content_refused : (one two : Option (List ℕ)) (line : SizeLine) (f : HttpFault) → Took IsLine one two line → 0 < line.size
     → ((q : List ℕ) → two ≡ Some q → PieceFault (HasNoChunkEnd line.size) OverrunsNever q f) → (r : List ℕ) → one ≡ Some r → PieceFault BreaksChunk OverrunsChunk r f
 content_refused one two line f t some why r e =
@@ -280,7 +280,7 @@ states_fault s f (inr (inr (inl e))) h = subst (ReplyFault s) (sym e) (subst (Re
 states_fault s f (inr (inr (inr (inl e)))) h = subst (ReplyFault s) (sym e) (subst (ReplyStates s) e h)
 states_fault s f (inr (inr (inr (inr e)))) h = subst (ReplyFault s) (sym e) (subst (ReplyStates s) e h)
 
--- what a head states is no failed read
+-- what a head states is not a failed read
 pub no_read : (A : Type 0) (f : HttpFault) → IsStated f → is_read {A = A} (Err f) ≡ false
 no_read A f (inl e) = ap (λ (x : HttpFault). is_read {A = A} (Err x)) e
 no_read A f (inr (inl e)) = ap (λ (x : HttpFault). is_read {A = A} (Err x)) e

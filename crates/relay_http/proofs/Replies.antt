@@ -112,7 +112,7 @@ begins_head most s b = first b.message.interim b.message.dropped (b.split ∙ ap
 
 -- ---- heads are unique
 
--- where the first head is the last one, it is all
+-- if the first head is the last one, it is all
 only : (most : ℕ) (s : List ℕ) (b : Begins (IsHeadsWith most) s) (h : Begins IsHead s) → (is_interim h.value.status ≡ true → most ≡ 0) → Gives h.value h.rest b
 only most s b h last = alone b.message.interim b.message.few b.message.dropped (b.split ∙ ap (λ w. w ++ b.rest) b.message.bytes_are)
   where

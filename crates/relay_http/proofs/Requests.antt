@@ -78,7 +78,7 @@ head_joined host digits t1 t2 t3 t4 t5 e1 e2 e3 e4 e5 =
     regroup : (a h b d z : List ℕ) → (((a ++ h) ++ b) ++ d) ++ z ≡ a ++ (h ++ (b ++ (d ++ z)))
     regroup a h b d z = simp (append_assoc)
 
--- so it is where the last part was appended
+-- so it is if the last part was appended
 pub head_ended : {A E : Type 0} (last : Result A E) (host digits e t1 t2 t3 t4 t5 : List ℕ)
     → t1 ≡ codes "POST /_bulk HTTP/1.1" ++ (crlf_bytes ++ codes "Host: ")
     → t2 ≡ t1 ++ host

@@ -1,8 +1,9 @@
--- Messages at the front of what stands.
-use Rattle.std.proofs.Common.{◌≡◌, ℕ, ◌<◌, ◌≤◌, min, Bool, false, List, [], ◌∷◌, ◌++◌, length, take, drop, refl, ap, ◌∙◌, sym, subst, arith, Option, Some, None, append_assoc, inl, inr, ◌⊎◌}
+-- Messages at the front of what is to come.
+use Rattle.std.proofs.Common.{◌≡◌, ℕ, ◌<◌, ◌≤◌, min, Bool, false, List, [], ◌∷◌, ◌++◌, length, take, drop, refl, ap, ◌∙◌, sym, subst, arith, Option, Some, None, Result, Ok, Err, append_assoc, inl, inr, ◌⊎◌}
 use Rattle.std.proofs.lemmas.Grind.{common_steps}
 use Rattle.std.proofs.lemmas.List.{take_at, take-append-drop, take-append-le, length-take-le, drop_all}
 use Rattle.std.proofs.lemmas.Bool.{false≢true}
+use Rattle.std.specs.Prelude.{IfOk}
 use Rattle.std.specs.Io.KnownBytes.{IsAtEnd}
 use Rattle.std.specs.Io.KnownBytes.{prepend_known}
 use Rattle.relay_http.specs.Steps.{Grown, Moved}
@@ -14,7 +15,7 @@ pub prepend_known-append : (xs ys : List ℕ) (shown : Option (List ℕ)) → pr
 prepend_known-append xs ys None = refl
 prepend_known-append xs ys (Some bytes) = ap Some (append_assoc xs ys bytes)
 
--- what stands stays when the window grows
+-- what is to come is unchanged when the window grows
 pub grown_stands : (before after : List ℕ) (old new : Option (List ℕ)) (n : ℕ) → Grown before after old new n → prepend_known before old ≡ prepend_known after new
 grown_stands before after old new n g = ap (prepend_known before) g.stream ∙ sym (prepend_known-append before g.bytes new) ∙ ap (λ w. prepend_known w new) (sym g.window)
 
@@ -68,7 +69,7 @@ pub no_bytes : (bytes : List ℕ) → length bytes ≡ 0 → bytes ≡ []
 no_bytes [] l = refl
 no_bytes (b ∷ bytes) l = absurd (omega (arith, l))
 
--- where none came, nothing was left, and nothing is
+-- if none came, nothing was left, and nothing is
 pub none_came : (before after : List ℕ) (old new : Option (List ℕ)) (n : ℕ) → Grown before after old new n → n ≡ 0 → old ≡ new
 none_came before after old new n g z = g.stream ∙ ap (λ b. prepend_known b new) (no_bytes g.bytes (g.length_is ∙ z)) ∙ prepend_known-nil new
 
@@ -83,13 +84,13 @@ stopped_window M total before after old new n g z stands none =
       none = none;
     }
 
--- a window that is still empty after it was filled stands at the end
+-- if a window is still empty after it was filled, the stream is at its end
 pub empty_ended : (before after : List ℕ) (old new : Option (List ℕ)) (n : ℕ) → Grown before after old new n → length after ≡ 0 → IsAtEnd new
 empty_ended before after old new n g l =
     let z : n ≡ 0 = grind (arith, common_steps, g.length_is, g.window, l) in
     subst IsAtEnd (none_came before after old new n g z) (g.end z)
 
--- bytes went straight from the stream to the end of a list, where the window is empty
+-- bytes went straight from the stream to the end of a list, if the window is empty
 pub moved_straight : (window : List ℕ) (old new : Option (List ℕ)) (before after : List ℕ) (most n : ℕ) → length window ≡ 0 → n ≤ most → Grown before after old new n → Moved (prepend_known window old) (prepend_known window new) new before after most n
 moved_straight window old new before after most n empty bound g = record {
   bytes = g.bytes;
@@ -102,6 +103,12 @@ moved_straight window old new before after most n empty bound g = record {
   where
     bare : (shown : Option (List ℕ)) → prepend_known window shown ≡ shown
     bare shown = ap (λ w. prepend_known w shown) (no_bytes window empty) ∙ prepend_known-nil shown
+
+-- the same of the result of a read
+pub moves_straight : {E : Type 0} (r : Result ℕ E) (window : List ℕ) (old new : Option (List ℕ)) (before after : List ℕ) (most : ℕ) → length window ≡ 0
+    → IfOk r (λ n. n ≤ most) → IfOk r (Grown before after old new) → IfOk r (Moved (prepend_known window old) (prepend_known window new) new before after most)
+moves_straight (Ok n) window old new before after most empty bound g = moved_straight window old new before after most n empty bound g
+moves_straight (Err e) window old new before after most empty bound g = tt
 
 -- bytes of the window were moved to the end of a list
 pub moved_front : (old left : Option (List ℕ)) (window list after : List ℕ) (most n : ℕ) → old ≡ prepend_known window left → n ≡ min (length window) most → 0 < most → (length window ≡ 0 → IsAtEnd left) → after ≡ list ++ take n window

@@ -1,4 +1,4 @@
--- A stream begins with one body at most, and what stands there is what is answered.
+-- A stream begins with one body at most, and what is there is what is returned.
 use Rattle.std.proofs.Common.{◌≡◌, ℕ, List, [], ◌++◌, refl, ap, ◌∙◌, sym, subst, append-nil, Option, Some, None, inl, inr, Result, Ok, Err}
 use Rattle.std.specs.Io.KnownBytes.{IsAtEnd}
 use Rattle.std.specs.Io.KnownBytes.{prepend_known}
@@ -37,7 +37,7 @@ body_unique limit framing.ToEnd = rest_unique limit
 pub ok_is : (f g : Framing) → ◌≡◌ {A = Result Framing HttpFault} (Ok f) (Ok g) → f ≡ g
 ok_is f g h = cc
 
--- ---- what stands is what is answered
+-- ---- what is there is what is returned
 
 pub shown : (x : List ℕ) (new : Option (List ℕ)) (s : List ℕ) → prepend_known x new ≡ Some s → (r : List ℕ) × (new ≡ Some r) × (s ≡ x ++ r)
 shown x None s e = absurd (cc)
@@ -74,9 +74,9 @@ fails_found M old left fault.TooManyInterim r s b e = absurd (refused_lost M old
 fails_found M old left fault.Memory r s b e = inr refl
 fails_found M old left fault.Broken r s b e = absurd r
 
--- ---- what the head there states is what is answered
+-- ---- what the head there states is what is returned
 
--- a head stands there, so none is missing
+-- a head is there, so none is missing
 pub stated_outside : {I : Type 0} (H : Form I) (old left : Option (List ℕ)) (answer f : HttpFault) → Fails H old left answer → (s : List ℕ) → Begins H s → old ≡ Some s → IsThatOrOutside f answer
 stated_outside H old left answer f r s b e = inr (fails_found H old left answer r s b e)
 

@@ -1,6 +1,6 @@
 -- The body of a message (RFC 9112, section 6).
 use Rattle.std.specs.Prelude.{◌≡◌, ℕ, ◌<◌, ◌≤◌, Bool, true, List, [], length}
-use Rattle.relay_http.specs.Chunked.{IsChunked, IsLongChunked}
+use Rattle.relay_http.specs.ChunkedBody.{IsChunked, IsLongChunked}
 use Rattle.relay_http.specs.Forms.{Form}
 use Rattle.relay_http.specs.declared.framing.Framing.{Framing}
 use Rattle.relay_http.specs.declared.framing.Framing.TheVariants.{Absent, Sized, Chunked, ToEnd}

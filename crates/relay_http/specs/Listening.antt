@@ -1,8 +1,8 @@
--- What a listener shows: the connections that it hands out, and those that it takes back.
+-- What a listener shows: the connections that it provides, and those that it takes back.
 use Rattle.std.specs.Prelude.{◌≡◌, ℕ, List, [], ◌∷◌, ◌++◌, Option, None, option_map}
 use Rattle.relay_action.specs.Streams.{one_more}
 
--- what a stream shows: the bytes that reads will give, those that writes gave it, and how many of its calls failed
+-- what a stream shows: the bytes that reads will return, those that were written to it, and how many of its calls failed
 pub record Shown : Type 0 where
   pub left : Option (List ℕ)
   pub written : Option (List ℕ)
@@ -11,8 +11,8 @@ pub record Shown : Type 0 where
 abbrev pub shown_by : Option (List ℕ) → Option (List ℕ) → ℕ → Shown
 shown_by left written failed = record { left = left; written = written; failed = failed }
 
--- The connections that it will hand out, and those that it took back, each in their order; a listener that shows none
--- has None. And how many it handed out, and how many of its calls failed; at 2^64 - 1 a count stays.
+-- The connections that it will provide, and those that it took back, each in their order; a listener that shows none
+-- has None. And how many it provided, and how many of its calls failed; a count saturates at 2^64 - 1.
 pub record Listening : Type 0 where
   pub coming : Option (List Shown)
   pub done : Option (List Shown)
@@ -27,7 +27,7 @@ prepend_shown s known = option_map (λ rest. s ∷ rest) known
 abbrev pub append_shown : Option (List Shown) → Shown → Option (List Shown)
 append_shown known s = option_map (λ before. before ++ s ∷ []) known
 
--- this connection was handed out
+-- this connection was provided
 pub record HandsOut (old : Listening) (s : Shown) (new : Listening) : Type 0 where
   pub coming : old.coming ≡ prepend_shown s new.coming
   pub done : new.done ≡ old.done

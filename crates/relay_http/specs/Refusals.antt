@@ -5,7 +5,7 @@ use Rattle.httparse.specs.Ascii.{crlf_bytes}
 use Rattle.httparse.specs.Grammar.{ResponseHead, print_response, HasNoResponse, NeverHasResponse, HasNoRequest, NeverHasRequest, HasNoSection, NeverHasSection, ChunkLine, chunk_size, print_chunk_line, HasNoChunkLine, NeverHasChunkLine}
 use Rattle.httparse.specs.Spans.{ResponseExceeds, RequestExceeds, SectionExceeds}
 use Rattle.relay_http.specs.Body.{IsLongBody}
-use Rattle.relay_http.specs.Chunked.{size_line_limit, trailer_limit, trailer_fields, FitsLine, Chunk, IsChunk, print_chunk}
+use Rattle.relay_http.specs.ChunkedBody.{size_line_limit, trailer_limit, trailer_fields, FitsLine, Chunk, IsChunk, print_chunk}
 use Rattle.relay_http.specs.Forms.{Begins}
 use Rattle.relay_http.specs.Framing.{reply_limit, request_limit}
 use Rattle.relay_http.specs.Reply.{head_limit, field_limit, interim_limit, IsInterim, IsHeads, ReplyStates, ReplyPasses}

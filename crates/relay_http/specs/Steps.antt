@@ -5,7 +5,7 @@ use Rattle.std.specs.Io.KnownBytes.{IsAtEnd, append_known, prepend_known}
 use Rattle.std.specs.List.{list_all}
 use Rattle.std.specs.Str.Parse.{digits_value}
 use Rattle.httparse.specs.Ascii.{crlf_bytes}
-use Rattle.relay_http.specs.Chunked.{IsSizeLine, IsTrailerText, IsChunkedAfter}
+use Rattle.relay_http.specs.ChunkedBody.{IsSizeLine, IsTrailerText, IsChunkedAfter}
 use Rattle.relay_http.specs.Forms.{Form, Begins, Took, Fails}
 use Rattle.relay_http.specs.WrittenRequest.{SendsFront}
 use Rattle.relay_http.specs.declared.buffered.Buffered.{Buffered}

@@ -35,10 +35,7 @@ impl<S: ByteIn + Drop> Buffered<S> {
         if most < WINDOW_SIZE || !self.window.as_slice().is_empty() {
             return self.take_held(most, into);
         }
-        match into.fill(&mut self.stream, most) {
-            Err(fault) => Err(fault),
-            Ok(count) => Ok(count),
-        }
+        into.fill(&mut self.stream, most)
     }
 
     // The same through the window.
@@ -53,15 +50,10 @@ impl<S: ByteIn + Drop> Buffered<S> {
             self.old.stream) }
         ensures written { S.written self.new.stream ≡ S.written self.old.stream }
     {
-        match self.ready() {
-            Err(_) => return Err(HttpFault::Read),
-            Ok(()) => {}
-        }
+        self.ready()?;
         let count = self.window.as_slice().len().min(most);
-        match into.append(&self.window.as_slice()[..count]) {
-            Err(_) => return Err(HttpFault::Memory),
-            Ok(()) => {}
-        }
+        into.append(&self.window.as_slice()[..count])
+            .map_err(|_| HttpFault::Memory)?;
         self.window.skip(count);
         Ok(count)
     }

@@ -31,10 +31,9 @@ impl<S: ByteIn + Drop> Buffered<S> {
             (S.failed self.old.stream)) }
         ensures written { S.written self.new.stream ≡ S.written self.old.stream }
     {
-        match self.window.fill(&mut self.stream) {
-            Ok(count) => Ok(count),
-            Err(_) => Err(HttpFault::Read),
-        }
+        self.window
+            .fill(&mut self.stream)
+            .map_err(|_| HttpFault::Read)
     }
 
     // Fills the window if it is empty.
@@ -51,9 +50,7 @@ impl<S: ByteIn + Drop> Buffered<S> {
         if !self.window.as_slice().is_empty() {
             return Ok(());
         }
-        match self.fill() {
-            Err(fault) => Err(fault),
-            Ok(_) => Ok(()),
-        }
+        self.fill()?;
+        Ok(())
     }
 }

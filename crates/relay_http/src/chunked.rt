@@ -6,7 +6,7 @@ ghost use Rattle.relay_http.specs.Refusals.{BodyFault, HasNoChunkEnd, OverrunsNe
 ghost use Rattle.relay_http.specs.declared.framing.Framing.TheVariants as framing;
 ghost use Rattle.relay_http.specs.Steps.{TookData, IsChunkThere, IsDataAfter, TookChunk, pending};
 ghost use Rattle.relay_http.specs.Connection.{is_read};
-ghost use Rattle.relay_http.specs.Chunked.{IsChunked, IsLongChunked};
+ghost use Rattle.relay_http.specs.ChunkedBody.{IsChunked, IsLongChunked};
 ghost use Rattle.relay_http.specs.Forms.{Took, Fails, IsOutside, IsThatOrOutside};
 ghost use Rattle.relay_http.specs.declared.fault.HttpFault.{HttpFault};
 

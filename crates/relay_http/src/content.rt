@@ -16,7 +16,7 @@ use std::marker::Model;
 pub const PIECE: usize = 65_536;
 
 /// The content of a body so far, in a vector with some spare room. The room grows with what has
-/// arrived, and never at once to the length that a head announces.
+/// arrived, and never straight to the length that a head announces.
 #[derive(Drop)]
 pub struct Content {
     bytes: Vec<u8>,
@@ -73,18 +73,13 @@ impl Content {
             ≡ (if is_read result then one_more (S.failed stream.old) else S.failed stream.old) }
         ensures written { S.written stream.new ≡ S.written stream.old }
     {
-        match make_room(&mut self.bytes, self.filled, most.min(PIECE)) {
-            Err(_) => return Err(HttpFault::Memory),
-            Ok(()) => {}
-        }
+        make_room(&mut self.bytes, self.filled, most.min(PIECE)).map_err(|_| HttpFault::Memory)?;
         let to = self.filled + most.min(self.bytes.len() - self.filled);
-        match read_behind(stream, self.bytes.as_mut_slice(), self.filled, to) {
-            Err(_) => Err(HttpFault::Read),
-            Ok(count) => {
-                self.filled += count;
-                Ok(count)
-            }
-        }
+        let count = read_behind(stream, self.bytes.as_mut_slice(), self.filled, to).map_err(
+            |_| HttpFault::Read,
+        )?;
+        self.filled += count;
+        Ok(count)
     }
 
     /// The bytes.

@@ -4,17 +4,17 @@ ghost use Rattle.relay_action.specs.Streams.{one_more};
 
 use thiserror::Error;
 
-/// No stream could be had. The call is not repeated.
+/// No stream could be opened. The call is not repeated.
 #[derive(Clone, Copy, Debug, PartialEq, Eq, Error)]
 #[error("dial failed")]
 pub struct DialFault;
 
 /// What makes a stream to the index for each connection.
 pub trait Dial<S> {
-    /// How many of its calls failed. At 2^64 - 1 the count stays.
+    /// How many of its calls failed; it saturates at 2^64 - 1.
     ghost failed: { Self → ℕ };
 
-    /// How many calls were made. At 2^64 - 1 the count stays.
+    /// How many calls were made; it saturates at 2^64 - 1.
     ghost dialled: { Self → ℕ };
 
     /// A fresh stream. After [`DialFault`] there is none.

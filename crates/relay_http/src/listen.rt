@@ -11,7 +11,7 @@ use thiserror::Error;
 #[error("accept failed")]
 pub struct AcceptFailed;
 
-/// What hands out the streams of connections, one after another, and takes them back when they are
+/// What provides the streams of connections, one after another, and takes them back when they are
 /// over.
 pub trait Listen<S: ByteStream> {
     /// What it shows of the connections, and how many calls failed.

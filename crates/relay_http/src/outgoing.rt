@@ -137,10 +137,8 @@ fn gather_lines<S: ByteOut>(
     ensures left { S.left stream.new ≡ S.left stream.old }
 {
     if let Err(_) = append_write(alloc, text, write) {
-        return match flush(stream, text) {
-            Ok(()) => Err(HttpFault::Memory),
-            Err(fault) => Err(fault),
-        };
+        flush(stream, text)?;
+        return Err(HttpFault::Memory);
     }
     if text.len() < PIECE {
         return Ok(());
@@ -164,10 +162,8 @@ fn send_source<S: ByteOut>(
     ensures left { S.left stream.new ≡ S.left stream.old }
 {
     if let Err(_) = append_action_line(alloc, text, write) {
-        return match flush(stream, text) {
-            Ok(()) => Err(HttpFault::Memory),
-            Err(fault) => Err(fault),
-        };
+        flush(stream, text)?;
+        return Err(HttpFault::Memory);
     }
     send_both(stream, text.as_slice(), source)?;
     keep_line_end(text);

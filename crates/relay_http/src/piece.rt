@@ -96,10 +96,7 @@ impl<S: ByteIn + Drop> Buffered<S> {
             if ended {
                 return Err(HttpFault::Ended);
             }
-            match self.fill_line(P::most()) {
-                Err(_) => return Err(HttpFault::Read),
-                Ok(more) => ended = !more,
-            }
+            ended = !self.fill_line(P::most())?;
         }
     }
 }

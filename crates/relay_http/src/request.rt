@@ -55,17 +55,12 @@ impl<S: ByteIn + Drop> Buffered<S> {
             self.old.stream) }
         ensures written { S.written self.new.stream ≡ S.written self.old.stream }
     {
-        match self.ready() {
-            Err(_) => return Err(HttpFault::Read),
-            Ok(()) => {}
-        }
+        self.ready()?;
         if self.window.as_slice().is_empty() {
             return Ok(None);
         }
-        match self.read_whole_request(alloc) {
-            Err(fault) => Err(fault),
-            Ok(request) => Ok(Some(request)),
-        }
+        let request = self.read_whole_request(alloc)?;
+        Ok(Some(request))
     }
 
     fn read_whole_request(&mut self, alloc: Global) -> Result<HttpRequest, HttpFault>

@@ -112,8 +112,5 @@ pub(crate) fn read_behind<S: ByteIn>(
         ≡ (if is_ok result then S.failed stream.old else one_more (S.failed stream.old)) }
     ensures written { S.written stream.new ≡ S.written stream.old }
 {
-    match stream.read(&mut bytes[at..to]) {
-        Ok(count) => Ok(count),
-        Err(failed) => Err(failed),
-    }
+    stream.read(&mut bytes[at..to])
 }

@@ -144,8 +144,8 @@ fn long_sources(rt: HostRuntime) {
 }
 
 // An id with a quote needs an allocation when its line is written, and the head is sent before. The
-// test passes whichever allocation fails, so that each can be refused in turn (`rt try --test
-// --fail-alloc N`): then nothing was sent, or the whole head and part of the body.
+// test passes whichever allocation fails, so that each can be refused in turn (`make
+// refusals`): then nothing was sent, or the whole head and part of the body.
 #[test]
 fn memory_that_is_refused(rt: HostRuntime) {
     for size in [100, 30_000] {

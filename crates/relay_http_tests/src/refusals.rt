@@ -1,5 +1,5 @@
-//! Messages read and written, of whose allocations any one may be refused (`make refusals`): the refusal is
-//! told, the connection is broken after it, and another one carries the message.
+//! Messages read and written, with any one of their allocations refused (`make refusals`): the
+//! refusal is reported, the connection is broken after it, and another one carries the message.
 use crate::large::{request_named, writes_named};
 use crate::reading::over_failing;
 use relay_action::{MemStream, Write};
@@ -11,7 +11,7 @@ fn stream_once(alloc: Global, bytes: &[u8]) -> Option<MemStream> {
     MemStream::new(alloc, bytes.to_vec(alloc).ok()?, 1_000, 7, 0).ok()
 }
 
-// A connection over a stream, by a second call over the stream that came back if the window was refused.
+// A connection over a stream, by a second call over the returned stream if the first was refused.
 fn conn_over(alloc: Global, stream: MemStream) -> Option<Conn<MemStream>> {
     match Conn::new(alloc, stream) {
         Ok(conn) => Some(conn),
@@ -19,7 +19,7 @@ fn conn_over(alloc: Global, stream: MemStream) -> Option<Conn<MemStream>> {
     }
 }
 
-// Whether a connection is made, and its stream has what it had.
+// Whether a connection is made, and its stream has what it had before.
 fn opens(alloc: Global) -> Option<bool> {
     let stream = stream_once(alloc, REQUESTS[0]).or_else(|| stream_once(alloc, REQUESTS[0]))?;
     let mut conn = conn_over(alloc, stream)?;
@@ -35,7 +35,7 @@ fn refused_connections(rt: HostRuntime) {
     assert!(rt; opens(rt.alloc()) == Some(true));
 }
 
-// A connection over these bytes, whose stream takes so many.
+// A connection over these bytes, whose stream takes `room` bytes.
 fn conn_of(alloc: Global, bytes: &[u8], room: usize) -> Option<Conn<MemStream>> {
     match over_failing(alloc, bytes, 7, room, 0) {
         Ok(conn) => Some(conn),
@@ -43,14 +43,14 @@ fn conn_of(alloc: Global, bytes: &[u8], room: usize) -> Option<Conn<MemStream>> 
     }
 }
 
-/// What is read of a connection: a reply or a request.
+/// What is read from a connection: a reply or a request.
 #[derive(Clone, Copy)]
 enum Side {
     Reply,
     Request,
 }
 
-/// A body by its length and in chunks.
+/// A body with a length and one in chunks.
 const REPLIES: [&[u8]; 2] = [
     b"HTTP/1.1 200 OK\r\nContent-Length: 70\r\n\r\n0123456789012345678901234567890123456789012345678901234567890123456789",
     b"HTTP/1.1 200 OK\r\nTransfer-Encoding: chunked\r\n\r\n28\r\n0123456789012345678901234567890123456789\r\n1e\r\n012345678901234567890123456789\r\n0\r\n\r\n",
@@ -87,7 +87,7 @@ fn read(alloc: Global, conn: &mut Conn<MemStream>, side: Side) -> Result<bool, H
     }
 }
 
-// Whether a message is read. `Err`: it was refused, and whether the connection is broken after it.
+// Whether a message is read. `Err`: it was refused, with whether the connection is broken then.
 fn read_once(alloc: Global, bytes: &[u8], side: Side) -> Option<Result<bool, bool>> {
     let mut conn = conn_of(alloc, bytes, 0)?;
     Some(match read(alloc, &mut conn, side) {
@@ -127,8 +127,8 @@ const ANSWER: &[u8] =
 
 const TEXT: &str = "0123456789012345678901234567890123456789012345678901234567890123456789";
 
-// Whether an answer goes out. `Err`: it was refused, and whether nothing went out and the connection is
-// broken.
+// Whether an answer is written. `Err`: it was refused, with whether nothing was written and the
+// connection is broken.
 fn answer_once(alloc: Global) -> Option<Result<bool, bool>> {
     let mut conn = conn_of(alloc, b"", 1_000)?;
     let done = conn.write_answer(alloc, 200, TEXT, true);
@@ -140,7 +140,7 @@ fn answer_once(alloc: Global) -> Option<Result<bool, bool>> {
     })
 }
 
-// Whether an answer goes out, over another connection if it was refused.
+// Whether an answer is written, over another connection if it was refused.
 fn answers(alloc: Global) -> bool {
     match answer_once(alloc) {
         Some(Ok(right)) => right,
@@ -154,8 +154,8 @@ fn refused_answers(rt: HostRuntime) {
     assert!(rt; answers(rt.alloc()));
 }
 
-// Whether nothing went out, or the head and the two lines of each of the first writes, fewer than all; the
-// body has so many bytes.
+// Whether nothing was written, or the head and both lines of each of the first writes, fewer than
+// all; the body has `body` bytes.
 fn is_front(written: &[u8], wanted: &[u8], body: usize) -> bool {
     let head = wanted.len().saturating_sub(body);
     let Some(lines) = written.get(head..) else {
@@ -168,8 +168,8 @@ fn is_front(written: &[u8], wanted: &[u8], body: usize) -> bool {
         && lines.last().is_none_or(|last| *last == b'\n')
 }
 
-// Whether a bulk request goes out. `Err`: it was refused, and whether a front of it went out and the
-// connection is broken.
+// Whether a bulk request is written. `Err`: it was refused, with whether a prefix of it was written
+// and the connection is broken.
 fn send_once(alloc: Global, writes: &[Write], wanted: &[u8]) -> Option<Result<bool, bool>> {
     if writes.len() > 10_000 || bulk_len(writes) > 16_777_216 {
         return None;
@@ -187,7 +187,7 @@ fn send_once(alloc: Global, writes: &[Write], wanted: &[u8]) -> Option<Result<bo
     })
 }
 
-// Whether a bulk request goes out, over another connection if it was refused.
+// Whether a bulk request is written, over another connection if it was refused.
 fn sends(alloc: Global, writes: &[Write], wanted: &[u8]) -> bool {
     match send_once(alloc, writes, wanted) {
         Some(Ok(right)) => right,
@@ -203,7 +203,7 @@ fn request_of(alloc: Global, size: usize) -> Option<String> {
     }
 }
 
-// The same of three writes whose ids have quotes, with sources of so many bytes.
+// The same for three writes whose ids have quotes, with sources of this many bytes.
 fn sends_writes(alloc: Global, size: usize) -> Option<bool> {
     let writes = writes_named(alloc, "\"", 3, size).or_else(|| writes_named(alloc, "\"", 3, size))?;
     let wanted = request_of(alloc, size)?;

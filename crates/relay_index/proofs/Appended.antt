@@ -28,7 +28,7 @@ same_document-at a b k e = ap (λ c. same_document k c) (same_document-true a b 
 
 -- ---- the list of a document
 
--- a list with the write behind it, where the test holds
+-- a list with the write at its end, if the test holds
 abbrev pub more_if : Bool → List Write → Write → List Write
 more_if b ws w = ws ++ (if b then w ∷ [] else [])
 
@@ -103,7 +103,7 @@ NoneEmpty-with_write (e ∷ es) w h = by (same_document (document_of w.key) (doc
     by true f rest = rw f (push_nonempty e.1 w, h.1)
     by false f rest = rw f (h.0, rest)
 
--- one write more is in the lists
+-- one more write is in the lists
 total-with_write : (es : List (DocKey × List Write)) (w : Write) → total (with_write es w) ≡ total es + 1
 total-with_write [] w = refl
 total-with_write (e ∷ es) w = by (same_document (document_of w.key) (document_of e.0)) refl (total-with_write es w)
@@ -130,7 +130,7 @@ IsIndex-appended s w h newer = record {
         RiseFrom-push None (applied_writes s k) w (h.rising k) (rw top-stored (subst (λ j. is_above (stored_version s j) w.version ≡ true) place newer))
     rise_at k false e = subst (RiseFrom None) (sym (more_none _ w)) (h.rising k)
 
--- the version that is stored is the write's, where the document is its own
+-- the stored version is that of the write, if the document is its own
 pub stored-appended : (s : State) (w : Write) (k : Document)
     → stored_version (index_after s w) k ≡ (if same_document k (document_of w.key) then Some w.version else stored_version s k)
 stored-appended s w k = rw (applied-with_write s.documents w k) (by (same_document k (document_of w.key)) refl)
@@ -159,7 +159,7 @@ within s w n own others k v e = by (same_document k (document_of w.key)) refl
     by true f = let same : Some w.version ≡ Some v = rw f at (sym (stored-appended s w k) ∙ e) in let is : w.version ≡ v = cc in omega arith
     by false f = others k v (rw f at (sym (stored-appended s w k) ∙ e))
 
--- the greatest version before, where the write's is not above it, is still that of its document
+-- the greatest version before is still that of its document, if the write's is not above it
 still : (s : State) (w : Write) (k : Document) (n : ℕ) → is_newer s w ≡ true → w.version ≤ n → stored_version s k ≡ Some n → stored_version (index_after s w) k ≡ Some n
 still s w k n newer below e = stored-appended s w k ∙ by (same_document k (document_of w.key)) refl
   where

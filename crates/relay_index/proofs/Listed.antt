@@ -74,7 +74,7 @@ none_rise : IsStrictlySortedBy key_order []
 unfolding IsStrictlySortedBy
 none_rise = tt
 
--- keys that do not fall and are distinct rise
+-- keys that do not decrease and are distinct increase
 rising_keys : (ks : List DocKey) → IsSortedBy (λ x y. is_lt (key_order x y)) ks → IsDistinct same_key ks → IsStrictlySortedBy key_order ks
 rising_keys [] up apart = none_rise
 rising_keys (x ∷ xs) up apart = sorted_from_all_adjacent key_total (x ∷ xs) x
@@ -96,7 +96,7 @@ stored_some [] h = absurd (h refl)
 stored_some (x ∷ []) h = refl
 stored_some (x ∷ y ∷ ys) h = rw (last_of-step x y ys) (stored_some (y ∷ ys) (λ e. cc))
 
--- a document has a version where it has a list
+-- a document has a version if it has a list
 listed : (es : List (DocKey × List Write)) (k : Document) → NoneEmpty es
     → is_some (lookup (λ key. same_document k (document_of key)) es) ≡ is_some (option_map (λ (w : Write). w.version) (last_of (applied_among es k)))
 listed [] k h = refl

@@ -36,7 +36,7 @@ success_of kind.Index false = refl
 success_of kind.Delete true = refl
 success_of kind.Delete false = refl
 
--- the outcome says that the write was applied exactly where it was
+-- the outcome says that the write was applied exactly if it was
 pub is_applied-done_of : (s : State) (w : Write) (choice : Choice) → is_applied w (outcome_of_run (done_of s w choice)) ≡ is_run s w choice
 is_applied-done_of s w (Refuse status) = refl
 is_applied-done_of s w Run = by (is_newer s w) refl

@@ -10,7 +10,7 @@ use Rattle.relay_index.specs.Lists.{with_write}
 some_none : (ws : List Write) → Some ws ≡ None → ⊥
 some_none ws e = cc
 
--- the list that a document has is put back with the write behind it
+-- the list of a document is put back with the write at its end
 pub set_value-with_write : (es : List (DocKey × List Write)) (w : Write) (ws : List Write) → lookup (same_key w.key) es ≡ Some ws
     → set_value (same_key w.key) es (ws ++ w ∷ []) ≡ with_write es w
 set_value-with_write [] w ws e = absurd (some_none ws (sym e))

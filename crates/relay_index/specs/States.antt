@@ -47,7 +47,7 @@ abbrev pub AreOf : Document → List Write → Type 0
 AreOf k [] = Unit {0}
 AreOf k (w ∷ ws) = (document_of w.key ≡ k) × AreOf k ws
 
--- the versions of the writes rise strictly, each above this one, if one is given
+-- the versions of the writes increase strictly, each above this one, if one is given
 abbrev pub RiseFrom : Option ℕ → List Write → Type 0
 RiseFrom low [] = Unit {0}
 RiseFrom None (w ∷ ws) = RiseFrom (Some w.version) ws

@@ -1,10 +1,10 @@
-//! Calls of the index, of whose allocations any one may be refused (`make refusals`): the refusal says what was run, and the
-//! call does its work when it is made again.
+//! Calls of the index, with any one of their allocations refused (`make refusals`): the refusal
+//! says what was run, and the call succeeds when it is repeated.
 use relay_action::{Action, DocKey, Write};
 use relay_index::{Choice, Index, Script};
 use std::alloc::{AllocError, Global};
 
-/// Ids and sources longer than what a value holds by itself.
+/// Ids and sources that are too long to be stored in the value itself.
 const IDS: [&str; 3] = [
     "the first document of more than thirty-eight bytes",
     "the second document of more than thirty-eight bytes",
@@ -38,7 +38,7 @@ fn applies(index: &mut Index, write: &Write) -> bool {
     }
 }
 
-// Writes each document twice, each time under a higher version.
+// Writes each document twice, each time with a higher version.
 fn fills(alloc: Global, index: &mut Index) -> Option<bool> {
     let mut version = 0u64;
     let mut good = true;
@@ -51,7 +51,7 @@ fn fills(alloc: Global, index: &mut Index) -> Option<bool> {
     Some(good)
 }
 
-// Whether each document has two writes, the last of them under one of the last three versions.
+// Whether each document has two writes, the last of them with one of the last three versions.
 fn is_filled(index: &Index, keys: &[DocKey]) -> bool {
     let same = keys.iter().all(|key| index.applied(key).len() == 2
         && index.version(key).is_some_and(|version| version > 3)
@@ -78,7 +78,7 @@ fn refused_runs(rt: HostRuntime) {
     assert!(rt; runs(rt.alloc()) == Some(true));
 }
 
-// A refusal of an item, noted by a second call if the first was refused.
+// Adds the refusal of an item to the script, by a second call if the first was refused.
 fn notes(script: &mut Script, place: u64) -> bool {
     match script.refuse(place, 429) {
         Ok(()) => true,
@@ -98,8 +98,8 @@ fn count(alloc: Global, index: &Index) -> Option<u64> {
     Some(count)
 }
 
-// Whether a body is served with this status. If there was no memory, as many items were run as the fault says, and none of
-// them is applied again by the second call.
+// Whether a body is served with this status. If an allocation failed, the fault says how many items
+// were run, and the second call applies none of them again.
 fn serves(alloc: Global, body: &str, status: u16, applied: u64) -> Option<bool> {
     let mut index = Index::new(alloc);
     let mut script = Script::new(alloc);

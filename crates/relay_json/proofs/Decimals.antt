@@ -25,7 +25,7 @@ digit_behind n d some small digit =
     let last : (n * 10 + d) % 10 ≡ d = omega arith in
     decimal_step (n * 10 + d) (omega arith) (omega arith) ∙ (λ i. decimal (front i) ++ ((48 + last i) ∷ []))
 
--- a digit behind a number makes it longer
+-- a digit after a number makes it longer
 pub digit_more : (bytes : List ℕ) (n d count : ℕ) → 0 < n → n < 10 ^ 18 → 1 ≤ length bytes → length bytes - 1 ≤ count → 48 + d ≡ get_or bytes 0 0 → d < 10 → decimal n ++ bytes ≡ decimal (n * 10 + d) ++ take count (drop 1 bytes)
 digit_more bytes n d count some small one enough is digit =
     let rest = take count (drop 1 bytes) in
@@ -52,14 +52,15 @@ pub front_of_digit : (bytes : List ℕ) → BeginsWithDigit bytes → (1 ≤ len
 front_of_digit [] digit = absurd digit
 front_of_digit (b ∷ bs) digit = (omega arith, digit.0, digit.1)
 
--- where no digit stands in front, there is no number
+-- if there is no digit in front, there is no number
 pub no_decimal : (bytes : List ℕ) → (BeginsWithDigit bytes → ⊥) → (n : ℕ) (rest : List ℕ) → bytes ≡ decimal n ++ rest → IsWhole n rest → ⊥
 no_decimal bytes none n rest same whole =
     let short : n < 10 ^ 18 = whole.0 in
     let digits = (decimal_is_IsNumeral n (omega arith)).0 in
     none (subst BeginsWithDigit (sym same) (begins (decimal n) rest digits.1 digits.0))
 
--- what follows a text that is no longer than the digits in front begins with a digit, where one follows them
+-- what follows a text that is no longer than the digits in front begins with a digit if one follows
+-- them
 begins_later : (ds later text rest : List ℕ) → AllDigits 10 ds → BeginsWithDigit later → length text ≤ length ds → ds ++ later ≡ text ++ rest → BeginsWithDigit rest
 begins_later [] later [] rest h digit short same = subst BeginsWithDigit same digit
 begins_later [] later (t ∷ ts) rest h digit short same = absurd (let no : ⊥ = omega arith in no)
@@ -77,12 +78,12 @@ long_enough n long short =
     let no : length (decimal n) ≤ 17 → ⊥ = λ h. omega (arith, less h) in
     omega (arith, no)
 
--- what begins with a digit above 0 is no 0 with something behind it
+-- what begins with a digit above 0 is not a 0 with something after it
 first_of_zero : (ds later rest : List ℕ) → 48 < get_or ds 0 0 → ds ++ later ≡ 48 ∷ rest → ⊥
 first_of_zero [] later rest h same = omega arith
 first_of_zero (d ∷ ds) later rest h same = let first : d ≡ 48 = ap (λ bs. get_or bs 0 0) same in omega arith
 
--- where a digit stands behind 18 digits, no number stands in front
+-- if a digit follows 18 digits, there is no number in front
 pub too_long : (n : ℕ) (later : List ℕ) → 10 ^ 17 ≤ n → n < 10 ^ 18 → BeginsWithDigit later → (m : ℕ) (rest : List ℕ) → decimal n ++ later ≡ decimal m ++ rest → IsWhole m rest → ⊥
 too_long n later long short digit m rest same whole =
     let small : m < 10 ^ 18 = whole.0 in

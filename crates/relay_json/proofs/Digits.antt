@@ -35,7 +35,7 @@ unfolding number_of
 number_of-digits ds h some short =
     rw (ne_eqb (get_or ds 0 0) 45 (no_minus ds h some)) (ap (λ p. is_some (number_from false p)) (scan-digits ds h) ∙ number_from-digits ds h some short)
 
--- one digit more
+-- one more digit
 pub digits_on : (bs : List ℕ) (i b : ℕ) → i < length bs → b ≡ get_or bs i b → 48 ≤ b → b ≤ 57 → (AllDigits 10 (drop i bs) → AllDigits 10 bs) → AllDigits 10 (drop (i + 1) bs) → AllDigits 10 bs
 digits_on bs i b h e low high before rest =
     let here : drop i bs ≡ b ∷ drop (i + 1) bs = drop_more bs i b h ∙ ap (λ y. y ∷ drop (i + 1) bs) (sym e) in

@@ -1,4 +1,4 @@
--- What is no array and no object.
+-- What is neither an array nor an object.
 use Rattle.std.proofs.Common.{◌≡◌, None, refl, ap}
 use Rattle.serde_json.specs.Data.{Data}
 use Rattle.serde_json.specs.Find.{as_array, as_object}

@@ -1,4 +1,4 @@
--- What is behind a minus is no integer without a sign.
+-- What follows a minus is not an integer without a sign.
 use Rattle.std.proofs.Common.{◌≡◌, ◌^◌, Bool, true, false, Some, None, option_and_then, refl}
 use Rattle.std.specs.Prelude.{◌&&◌, nat_lt, nat_le, if◌then◌else◌}
 use Rattle.std.specs.Float.{binary64, float_is_finite}

@@ -33,16 +33,16 @@ plain_ascii text h = grind (arith, common_steps)
 pub utf8_plain : (text : List ℕ) → IsPlain text → IsUtf8 text
 utf8_plain text h = IsUtf8-from_ascii text (plain_ascii text h)
 
--- ---- where no plain text stands before a quote
+-- ---- when there is no plain text before a quote
 
--- where no quote stands before an index, a text that a quote follows reaches up to it
+-- if there is no quote before an index, a text that a quote follows reaches up to it
 reaches : (text rest bytes : List ℕ) (end : ℕ) → Nowhere (Passes (is_byte 34) bytes) 0 end → bytes ≡ text ++ 34 ∷ rest → end ≤ length text
 reaches text rest bytes end none same =
     let here : get_or bytes (length text) 0 ≡ 34 = ap (λ bs. get_or bs (length text) 0) same ∙ get_or-append_seam text 34 rest 0 in
     let within : length text < end → ⊥ = λ h. none (length text) (omega arith) h (ap (λ b. b == 34) here) in
     omega (arith, within)
 
--- without a quote no text stands before one
+-- without a quote there is no text before one
 pub no_quote : (bytes : List ℕ) → Nowhere (Passes (is_byte 34) bytes) 0 (length bytes) → (text rest : List ℕ) → bytes ≡ text ++ 34 ∷ rest → IsPlain text → ⊥
 no_quote bytes none text rest same plain =
     let all : length bytes ≡ length (text ++ 34 ∷ rest) = ap length same in
@@ -55,7 +55,7 @@ plain_take text i plain =
     let parts : (list_all is_plain_ascii (take i text) && list_all is_plain_ascii (drop i text)) ≡ true = sym (list_all-append is_plain_ascii (take i text) (drop i text)) ∙ cut in
     grind (arith, common_steps)
 
--- where what stands before the first quote is not plain, no plain text stands before any quote
+-- if what precedes the first quote is not plain, no plain text precedes any quote
 pub not_plain : (bytes : List ℕ) (end : ℕ) → Nowhere (Passes (is_byte 34) bytes) 0 end → (IsPlain (take end bytes) → ⊥) → (text rest : List ℕ) → bytes ≡ text ++ 34 ∷ rest → IsPlain text → ⊥
 not_plain bytes end none front text rest same plain =
     let short : take end bytes ≡ take end text = ap (take end) same ∙ take-append-le end text (34 ∷ rest) (reaches text rest bytes end none same) in

@@ -1,4 +1,4 @@
--- Items that are told of one after another.
+-- Items that are passed one after another.
 use Rattle.std.proofs.Common.{◌≡◌, List, Option, Some, None, refl, ap}
 use Rattle.json.specs.Token.{Token}
 use Rattle.json.specs.Json.{parse_map}

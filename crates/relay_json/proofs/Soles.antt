@@ -1,4 +1,4 @@
--- The one member of an object, found as its members are told of.
+-- The one member of an object, found as its members are passed.
 use Rattle.std.proofs.Common.{◌≡◌, ℕ, Bool, true, false, List, Option, Some, None, Ordering, Less, Equal, Greater, nat_cmp, is_eq, is_some, if◌then◌else◌, option_and_then, refl, ap, sym, ◌∙◌, subst, true≢false, Bor}
 use Rattle.std.specs.Prelude.{bytes_eq}
 use Rattle.std.specs.Cmp.Lexicographic.{slice_cmp}
@@ -78,7 +78,7 @@ several no_members h = absurd h
 several (member k d no_members) h = absurd h
 several (member k d (member l e ms)) h = refl
 
--- of the one member, where its value is this object
+-- of the one member, if its value is this object
 one_object : (name : List ℕ) (d : Data) (ms inner : Members) → ms ≡ member name d no_members → as_object d ≡ Some inner → sole_object (object ms) ≡ Some (name, object inner)
 one_object name d ms inner is e =
     let P : Members → Type 0 = λ x. sole_object (object x) ≡ Some (name, object inner) in

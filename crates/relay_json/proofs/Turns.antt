@@ -1,4 +1,5 @@
--- Values, items and members of a text under the conversion to data, a turn of the grammar at a time.
+-- Values, items and members of a text under the conversion to data, one step of the grammar at a
+-- time.
 use Rattle.std.proofs.Common.{◌≡◌, ℕ, zero, suc, ◌+◌, ◌-◌, ◌<◌, ◌≤◌, List, [], ◌∷◌, length, Option, Some, None, option_map, option_and_then, refl, ap, ◌∙◌, arith}
 use Rattle.json.specs.Token.{Token, begin_array, begin_object}
 use Rattle.json.specs.Json as json
@@ -26,7 +27,7 @@ refused : {B : Type 0} (r : List Token) (x : Option B) → option_map {U = B × 
 refused r None e = refl
 refused r (Some y) e = absurd (cc)
 
--- a value has a token at least
+-- a value has at least one token
 pub read-shorter : (depth : ℕ) (ts : List Token) (d : Data) (rest : List Token) → Reads depth ts d rest → length rest < length ts
 read-shorter depth ts d rest e = let j = converted_some of_json (value depth ts) d rest e in skip_value-shorter depth ts rest (ap left j.1)
 

@@ -1,5 +1,5 @@
-//! Texts read with room that grows, of whose allocations any one may be refused (`make refusals`). A refusal in a text is told
-//! or made good: the answer is right or Memory.
+//! Texts read with room that grows, with any one of the allocations refused (`make refusals`). A
+//! refusal is reported or recovered from: the result is right or Memory.
 ghost use Rattle.std.specs.Prelude.{⊤};
 
 use relay_json::{
@@ -7,7 +7,7 @@ use relay_json::{
 };
 use std::alloc::Global;
 
-// How many members or items were told of, and whether the text of the last was the long one.
+// How many members or items were passed, and whether the text of the last was the long one.
 #[derive(Clone, Copy, PartialEq, Drop)]
 struct Count {
     count: u64,
@@ -56,7 +56,7 @@ impl<'t> Collect<'t> for Count {
     }
 }
 
-// What each way of reading a value counted.
+// What each way of reading a value has counted.
 #[derive(Clone, Copy, PartialEq, Drop)]
 struct Ways {
     object: Option<Count>,
@@ -91,7 +91,7 @@ const UNREAD: Ways = Ways {
     sole: None,
 };
 
-// What the escapes of the texts below say.
+// What the texts with escapes below say.
 const LONG: &str = "a text with \"quotes\" that is longer than what fits anywhere by itself";
 
 const TEXT: &[u8] = b"{\
@@ -115,7 +115,7 @@ fn is_read(found: Option<Ways>) -> bool {
         })
 }
 
-// Whether a text is read, by a second call where the first was refused.
+// Whether a text is read, by a second call if the first was refused.
 fn reads(alloc: Global) -> bool {
     let mut scratch = Scratch::new(alloc);
     match read_object(TEXT, &mut scratch, UNREAD) {

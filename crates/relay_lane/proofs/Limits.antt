@@ -175,7 +175,7 @@ lines_short bytes w h =
     let len = ap length h.6 ∙ length-append h.1 h.2 in
     omega (arith, front, rest, len)
 
--- the text of one write is far below a wire's limit
+-- the text of one write is far below the limit of a wire
 one_short : (w : Write) → w.version ≤ last_version → length (text_of (w ∷ [])) ≤ 16777216
 one_short w v =
     let b = bulk_text_is_bulk (w ∷ []) (All-cons (λ (x : Write). x.version ≤ last_version) w [] v (All-nil (λ (x : Write). x.version ≤ last_version))) in

@@ -1,4 +1,4 @@
--- Which numbers are out while requests are sent and answered.
+-- Which numbers are outstanding while requests are sent and answered.
 use Rattle.std.proofs.Common.{◌≡◌, ℕ, ◌+◌, ◌<◌, ◌≤◌, List, [], ◌∷◌, ◌++◌, length, Some, None, Bool, true, false, ◌==◌, ◌||◌, refl, sym, ap, ◌∙◌, subst, ⊎_elim, inl, inr, arith}
 use Rattle.std.specs.Prelude.{not, filter, unwrap_or, if◌then◌else◌}
 use Rattle.std.specs.List.{list_any}
@@ -116,7 +116,7 @@ module _ (s : State) (l : IsLane s) (items : List BatchItem) (some : next_batch 
   unfolding its_flight
   request_writes = ap (writes_at (from_zero s.flights.next)) flying_is ∙ ap (λ n. writes_at n (s.core.flying ++ its_flight ∷ [])) zero_is ∙ writes_last s.core.requests s.core.flying its_flight refl none_like_it
 
-  -- it is out
+  -- it is outstanding
   pub out_sent : out_of (after_send s) ≡ s.flights.next ∷ out_of s
   unfolding its_flight
   out_sent = ap numbers_of flying_is ∙ numbers_push s.core.flying its_flight ∙ ap (λ n. n ∷ out_of s) (sym l.next)
@@ -137,7 +137,7 @@ module _ (s : State) (l : IsLane s) (items : List BatchItem) (some : next_batch 
   pub out_failed : out_of (after_fail s) ≡ out_of s
   out_failed = ap numbers_of flying_again
 
--- its number was not out
+-- its number was not outstanding
 pub next_is_new : (s : State) → IsLane s → Mem s.flights.next (out_of s) → ⊥
 next_is_new s l m = let r = (is_between 0 s.core.requests s.core.flying s.flights.next l.numbered m).1 in let n = l.next in absurd (omega (arith, r, n))
 

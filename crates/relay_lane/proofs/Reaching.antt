@@ -9,14 +9,14 @@ use Rattle.relay_results.specs.Numbers.{from_one}
 use Rattle.relay_results.specs.Outside.{Answer, Unanswered, Lost}
 use Rattle.relay_results.proofs.Lists.{equal_test, any_from, Mem-last}
 use Rattle.relay_delivery.specs.Lane.{Flying, candidates, writes_of_all}
-use Rattle.relay_delivery.specs.Reached.{Takes, Ticks, Sends, Answers, Reached}
+use Rattle.relay_delivery.specs.Reach.{Takes, Ticks, Sends, Answers, Reached}
 use Rattle.relay_delivery.proofs.Reached.{reached_holds, fresh_reached, call_reached}
 use Rattle.relay_core.specs.State.{State, config_of, later, bytes_of, gathering, next_entries, next_batch, after_request, is_flying, first_number, oldest, after_answer_to}
 use Rattle.relay_core.proofs.Batched.{next_keeps}
 use Rattle.relay_core.proofs.Tying.{chosen_sub}
 use Rattle.relay_lane.specs.Turns.{Turn, Settles, Pauses, after_turn, MayTurn, after_turns, AllMayTurn, Worked}
 use Rattle.relay_lane.specs.Turns as turns
-use Rattle.relay_lane.specs.Reached.{IsReached, FreshIsReached, TakeIsReached, TurnIsReached, WorkIsReached, ReachedIsOrderly}
+use Rattle.relay_lane.specs.Reach.{IsReached, FreshIsReached, TakeIsReached, TurnIsReached, WorkIsReached, ReachedIsOrderly}
 
 pub fresh_is_reached : FreshIsReached
 fresh_is_reached c = record { core = fresh_reached (config_of c); next = refl }

@@ -114,7 +114,7 @@ request_takes s items some =
 
 -- ---- an answer
 
--- where it is halved its cap falls
+-- if it is halved, its cap decreases
 abbrev Falls : Fate → Entry → Type 0
 Falls x e = (cap : ℕ) → x ≡ Halved cap → halvings cap + 1 ≤ halvings e.held.cap
 
@@ -143,7 +143,7 @@ module _ (g : Config) (clock n : ℕ) (ws : List Write) (a : Answer) (answers : 
   fate_at : Held → Place → Fate
   fate_at h p = fate (tries_at h) ws p.place (kind_of h.op.action) a
 
-  -- where a request is halved, its writes keep the cap of one that flies in it
+  -- if a request is halved, its writes keep the cap of one that flies in it
   abbrev pub Room : Entry → Type 0
   Room e = a ≡ Whole 413 → (p : Place) → e.held.flies ≡ Some p → p.request ≡ n → 1 < length ws → length ws ≤ e.held.cap
 
@@ -224,6 +224,6 @@ from_kept g clock n ws a (e ∷ es) d m = ⊎_elim {C = (x : Entry) × Mem x (e 
 pub from_answered : (s : State) (number : ℕ) (a : Answer) (d : Entry) → Mem d (after_answer_to s number a).core.held → (e : Entry) × Mem e s.core.held × (d.held.version ≡ e.held.version)
 from_answered s number a d m = from_kept s.core.config s.core.clock (from_zero number) (writes_at (from_zero number) s.core.flying) a s.core.held d m
 
--- where nothing is held an answer leaves nothing
+-- if nothing is held, an answer leaves nothing
 pub none_left : (s : State) (number : ℕ) (a : Answer) → s.core.held ≡ [] → (after_answer_to s number a).core.held ≡ []
 none_left s number a none = ap (kept_entries s.core.config s.core.clock (from_zero number) (writes_at (from_zero number) s.core.flying) a) none

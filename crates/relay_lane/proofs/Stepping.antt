@@ -1,4 +1,4 @@
--- One turn of a loop: what it keeps and what falls.
+-- One turn of a loop: what it preserves and what decreases.
 use Rattle.std.proofs.Common.{◌≡◌, ◌≢◌, ℕ, ◌+◌, ◌*◌, ◌<◌, ◌≤◌, List, length, Option, Some, None, Bool, true, false, refl, sym, ap, ◌∙◌, subst, ⊎_elim, inl, inr, arith}
 use Rattle.std.specs.Prelude.{◌⊎◌, is_some, not}
 use Rattle.std.specs.List.{list_all}
@@ -22,9 +22,10 @@ use Rattle.relay_lane.proofs.Sends.{request_takes, fail_takes, left_answered, fr
 use Rattle.relay_lane.proofs.Counting.{works_on, worked_turn, some_batch, turn_keeps, left_at_most}
 use Rattle.relay_lane.proofs.Carrying.{goes_on}
 
--- ---- what each turn of a loop gives
+-- ---- what follows from each turn of a loop
 
--- a turn was taken: so many requests were sent, and of what may be sent and of what flies so much is left
+-- a turn was taken: how many requests were sent, and what is left of what may be sent and of what
+-- flies
 pub record Turned (x : Turn) (s t : State) : Type 0 where
   pub may : MayTurn x s
   pub reached : t ≡ after_turn x s

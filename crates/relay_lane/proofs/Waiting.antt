@@ -1,4 +1,4 @@
--- Where nothing is to be sent, the first operation that may be sent is due later.
+-- If nothing is to be sent, the first operation that may be sent is due later.
 use Rattle.std.proofs.Common.{◌≡◌, ℕ, ◌-◌, ◌<◌, ◌≤◌, List, [], ◌∷◌, length, Option, Some, None, Bool, true, false, refl, sym, ap, ◌∙◌, subst, ⊎_elim, inl, inr, arith}
 use Rattle.std.specs.Prelude.{◌==◌, ◌&&◌, ◌||◌, not, nat_lt, nat_le, map, filter, min, option_map, if◌then◌else◌}
 use Rattle.std.specs.List.{list_any}

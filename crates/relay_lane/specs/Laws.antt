@@ -7,7 +7,7 @@ use Rattle.relay_core.specs.State.{State, fresh, after_take, IsLane}
 use Rattle.relay_lane.specs.Out.{out_of}
 use Rattle.relay_lane.specs.Turns.{Turn, Worked, Stays, requests, ticks, sends_left}
 
--- ---- what is out
+-- ---- what is outstanding
 
 -- nothing of a fresh lane is outstanding, and taking a message does not change what is
 abbrev pub NothingIsOut : Type 0
@@ -27,7 +27,7 @@ pub record Keeps (sent passed : ℕ) (s t : State) : Type 0 where
 abbrev pub TurnsKeep : Type 0
 TurnsKeep = (going : Turn → State → Bool) (s t : State) → (w : Worked going s t) → Keeps (requests w.turns) (ticks w.turns) s t
 
--- a call that is repeated goes on from where the first one stopped
+-- a call that is repeated continues from where the first one stopped
 abbrev pub WorksOn : Type 0
 WorksOn = (going : Turn → State → Bool) (s t u : State) → Worked going s t → Worked going t u → Worked going s u
 

@@ -3,5 +3,5 @@ pub mod Out
 pub mod Turns
 pub mod Steps
 pub mod Delivers
-pub mod Reached
+pub mod Reach
 pub mod Laws

@@ -9,7 +9,7 @@ use Rattle.relay_lane.specs.declared.wire.WireFault.{WireFault}
 
 -- ---- what is answered
 
--- what the lane is told for a request: each fault is a loss
+-- what a result means to the lane: each fault is a loss
 abbrev pub answer_of : Result WireReply WireFault → Answer
 answer_of (Ok (reply.Items outcomes)) = Items outcomes.items
 answer_of (Ok (reply.Whole status)) = Whole status
@@ -59,7 +59,7 @@ pub record ExchangesOn (number : ℕ) (ws : List Write) (a : Answer) (o p : Outs
 
 -- ---- how a wire shows it
 
--- so many requests were sent that this is the number of the next one
+-- this is the number of the next request
 abbrev pub IsNext : ℕ → Outside → Type 0
 IsNext number o = number ≡ from_one (length o.requests)
 
@@ -73,7 +73,7 @@ abbrev pub ShowsNext : {S : Type 0} → Bool → (S → Outside → Type 0) → 
 ShowsNext describes fits old new number R =
     IsTrue describes → (o : Outside) → fits old o → IsNext number o → (p : Outside) × fits new p × R o p
 
--- ---- which numbers are out
+-- ---- which numbers are outstanding
 
 abbrev pub without : ℕ → List ℕ → List ℕ
 without n [] = []

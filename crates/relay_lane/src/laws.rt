@@ -1,7 +1,7 @@
 //! What follows from the definitions. These functions do nothing; their contracts are the laws.
 ghost use Rattle.relay_core.specs.Ties.{FreshFits, TakeFits};
-ghost use Rattle.relay_lane.specs.Reached.{FreshIsReached, TakeIsReached, TurnIsReached};
-ghost use Rattle.relay_lane.specs.Reached.{WorkIsReached, ReachedIsOrderly};
+ghost use Rattle.relay_lane.specs.Reach.{FreshIsReached, TakeIsReached, TurnIsReached};
+ghost use Rattle.relay_lane.specs.Reach.{WorkIsReached, ReachedIsOrderly};
 ghost use Rattle.relay_lane.specs.Laws.{NothingIsOut, TakeKeepsOut, TurnsKeep, WorksOn, LeftAtMost};
 ghost use Rattle.relay_lane.specs.Laws.{LeftIsTries};
 
@@ -18,7 +18,7 @@ pub fn lanes_begin()
 {}
 
 /// What turns add up to: their requests and ticks. A call that is repeated after a failed
-/// allocation goes on from where the first one stopped.
+/// allocation continues from where the first one stopped.
 pub fn turns_add_up()
     ensures keep { TurnsKeep }
     ensures on { WorksOn }
@@ -31,9 +31,9 @@ pub fn requests_are_bounded()
     ensures tries { LeftIsTries }
 {}
 
-/// Whatever the wire returns, even if it describes no outside: a new lane is reachable, and each
-/// message and each turn leads on from there, so a lane that only took messages and worked is
-/// reachable. Then what is held and in flight is what was taken, under the versions assigned; no
+/// Whatever the wire returns, even if it describes no outside: a new lane is reachable, and so is
+/// the lane after each message and each turn, so a lane that only took messages and worked is
+/// reachable. Then what is held and in flight is what was taken, with the versions assigned; no
 /// document is in flight twice; and the counts add up.
 pub fn lanes_stay_orderly()
     ensures fresh { FreshIsReached }

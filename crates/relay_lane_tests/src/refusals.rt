@@ -1,4 +1,5 @@
-//! A lane at work, of whose allocations any one may be refused (`make refusals`): the call is made again, and the work goes on.
+//! A lane at work, with any one of its allocations refused (`make refusals`): the call is repeated,
+//! and the work continues.
 ghost use Rattle.relay_lane.specs.Out.{out_of};
 ghost use Rattle.std.specs.Option.{option_to_list};
 ghost use Rattle.std.specs.Prelude.{◌≡◌, [], IfSome};
@@ -12,13 +13,13 @@ use relay_index::Index;
 use relay_lane::{Lane, RelayConfig, drain, make_room, pump, send_ready, settle_next};
 use std::alloc::{AllocError, Global};
 
-/// Room for the three operations, and no more.
+/// Room for the first three operations only.
 const SMALL: RelayConfig = RelayConfig {
     max_held: 3,
     ..CONFIG
 };
 
-/// Ids and sources longer than what a value holds by itself.
+/// Ids and sources that are too long to be stored in the value itself.
 const IDS: [&str; 4] = [
     "the first document of more than thirty-eight bytes",
     "the second document of more than thirty-eight bytes",
@@ -61,8 +62,8 @@ fn pumps(lane: &mut Lane, wire: &mut IndexWire) -> bool
     }
 }
 
-// Sends the first request without a wait, by a second call if the first was refused and left the lane
-// as it was.
+// Sends the first request without waiting, by a second call if the first was refused and left the
+// lane as it was.
 fn sends(lane: &mut Lane, wire: &mut IndexWire) -> bool
     requires { option_to_list wire.old.flying ≡ out_of lane.old.state }
     ensures { option_to_list wire.new.flying ≡ out_of lane.new.state }
@@ -76,7 +77,8 @@ fn sends(lane: &mut Lane, wire: &mut IndexWire) -> bool
     }
 }
 
-// Settles the request in flight; the wire may have been refused memory, so that none is.
+// Settles the request in flight. There may be none, since an allocation of the wire may have been
+// refused.
 fn settles_one(lane: &mut Lane, wire: &mut IndexWire) -> bool
     requires { option_to_list wire.old.flying ≡ out_of lane.old.state }
     ensures { option_to_list wire.new.flying ≡ out_of lane.new.state }
@@ -85,7 +87,7 @@ fn settles_one(lane: &mut Lane, wire: &mut IndexWire) -> bool
     settle_next(lane, wire) == flies
 }
 
-// Has the first request settled, by a pump or by a request and its answer.
+// Settles the first request, by a pump or by a request and its answer.
 fn settles_first(lane: &mut Lane, wire: &mut IndexWire, by_pump: bool) -> bool
     requires { option_to_list wire.old.flying ≡ out_of lane.old.state }
     ensures { option_to_list wire.new.flying ≡ out_of lane.new.state }
@@ -109,7 +111,7 @@ fn makes_room(lane: &mut Lane, wire: &mut IndexWire) -> bool
     }
 }
 
-// Empties a closed lane, by a second call if the first was refused.
+// Drains a closed lane, by a second call if the first was refused.
 fn drains(lane: &mut Lane, wire: &mut IndexWire) -> bool
     requires { option_to_list wire.old.flying ≡ out_of lane.old.state }
     ensures { option_to_list wire.new.flying ≡ out_of lane.new.state }

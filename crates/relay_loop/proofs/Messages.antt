@@ -1,4 +1,4 @@
--- Messages that stand whole in a stream are read from it.
+-- Messages that are complete in a stream are read from it.
 use Rattle.std.proofs.Common.{◌≡◌, ◌≤◌, ℕ, List, [], length, ◌&&◌, true, false, Option, Some, IsFalse, refl, sym, subst}
 use Rattle.std.specs.Io.KnownBytes.{append_known}
 use Rattle.std.proofs.lemmas.List.{append-nil}

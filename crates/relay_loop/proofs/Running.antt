@@ -31,7 +31,7 @@ use Rattle.relay_lane.specs.Wires.{AreRuns, RunsOn, IsWireReply as IsTold}
 use Rattle.relay_http.specs.Framing.{reply_limit}
 use Rattle.relay_http.specs.Reply.{Reply}
 use Rattle.relay_http.specs.WrittenAnswer.{IsAnswerStatus}
-use Rattle.relay_wires.specs.Told.{Tells}
+use Rattle.relay_wires.specs.Meaning.{Tells}
 use Rattle.relay_loop.specs.Loops.{Stops, Serves, IsRefused, IsServed, Reads, ReadsWhole, IsExchange}
 
 -- ---- runs one after another
@@ -74,7 +74,7 @@ pub record RanItems (number place : ℕ) (s : State) (o : Outside) (found : List
   pub keeps : (r : Ran) → Mem r o.runs → Mem r after.runs
   pub each : EachWasRun after.runs number place found
 
--- these writes stand in a request from this place on
+-- these writes are in a request from this place on
 abbrev pub AreSent : ℕ → ℕ → List Write → Outside → Type 0
 AreSent number place ws o = (i : ℕ) (w : Write) → slice_get ws i ≡ Some w → write_at o.requests number (place + i) ≡ Some w
 
@@ -116,7 +116,7 @@ ran_then n place s t o x found a b = record {
   each = (was_still a.after.runs b.after.runs n place x b.keeps a.each.0, b.each);
 }
 
--- the writes that are run one after another are run as items of a request where they stand
+-- the writes that are run one after another are run as the items of a request at their places
 pub ran_all : (ws : List Write) (old new : Server) (items : List ItemDone) (n place : ℕ) (o : Outside) → AreSent n place ws o → Shows o old.index → RunsAll old ws items new → RanItems n place new.index o (outcomes_of items)
 ran_all [] old new items n place o at shows r =
     subst (λ ds. RanItems n place new.index o (outcomes_of ds)) (sym r.0) (ran_none n place new.index o (subst (λ (x : Server). Shows o x.index) (sym r.1) shows))
@@ -192,7 +192,7 @@ stops_after_all ws old new text r =
 
 -- ---- what comes back
 
--- a reply that says these outcomes is read so, unless memory runs out
+-- a reply that says these outcomes is read as that, unless an allocation fails
 pub reads_entries : (r : Reply) (os : List Outcome) (result : Result WireReply WireFault) → r.status ≡ 200 → IsBulkReply r.body os → Tells r result → Reads os result
 reads_entries r os (Ok (reply.Items outcomes)) success is t = one_reply r.body outcomes.items os t.1 is
 reads_entries r os (Ok (reply.Whole status)) success is t = absurd (t.0 success)
@@ -233,7 +233,7 @@ reads_status r status (Err fault.Memory) e other t = tt
 pub not_success : (status : ℕ) → status ≡ 413 → status ≢ 200
 not_success status e s = omega (arith, e, s)
 
--- a body that is too long is answered so, or its answer is lost
+-- a body that is too long gets that answer, or its answer is lost
 pub exchange_of_refusal : (ws : List Write) (old new : Server) (lost : Bool) (status : ℕ) (text : List ℕ) (result : Result WireReply WireFault) → lost ≡ false → IsRefused ws old new status text
     → ReadsWhole status result → IsExchange lost ws old new result
 exchange_of_refusal ws old new lost status text (Ok (reply.Items outcomes)) kept r reads = absurd reads

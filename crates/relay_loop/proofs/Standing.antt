@@ -1,4 +1,4 @@
--- What stands outside a wire in memory, before and after its calls.
+-- The outside of a wire in memory, before and after its calls.
 use Rattle.std.proofs.Common.{⊎_elim, ◌≡◌, ◌≢◌, ℕ, ◌<◌, List, [], ◌∷◌, ◌++◌, length, Some, Bool, Result, Ok, Err, refl, sym, ap, ◌∙◌, subst, arith, inl, inr}
 use Rattle.std.proofs.lemmas.Bool.Decides.{eqb_tells}
 use Rattle.std.proofs.lemmas.List.{append-nil}
@@ -17,12 +17,12 @@ use Rattle.relay_lane.specs.declared.wire.WireReply.TheVariants as reply
 use Rattle.relay_lane.specs.declared.wire.WireFault.{WireFault}
 use Rattle.relay_lane.specs.declared.wire.WireFault.TheVariants as fault
 use Rattle.relay_lane.specs.Wires.{answer_of, SendsOn, AnswersOn, ExchangesOn, IsNext}
-use Rattle.relay_wires.specs.Numbered.{numbers, entry_of, besides}
+use Rattle.relay_wires.specs.Numbers.{numbers, entry_of, besides}
 use Rattle.relay_loop.specs.Loops.{Loop, new_loop, bytes_of, MayGo, IsOut, AllBefore, AreOut, Fits, Opens, IsExchange, Receives, TakesIn, is_lost, server}
 use Rattle.relay_wires.proofs.Numbers.{entry_of-Mem}
 use Rattle.relay_loop.proofs.Running.{no_runs, RanItems, ran_request, ran_front, stops_unread, not_success}
 
--- ---- what is out stays
+-- ---- what is outstanding stays
 
 out_still : (number : ℕ) (bytes : List ℕ) (o p : Outside) → slice_get p.requests (from_zero number) ≡ slice_get o.requests (from_zero number) → IsOut number bytes o → IsOut number bytes p
 out_still number bytes o p same x = record { writes = x.writes; sent = same ∙ x.sent; may = x.may; bytes_are = x.bytes_are }
@@ -181,7 +181,7 @@ received_fits w v o number result taken m received x =
         let ran = ran_front (from_zero number) ws (server w) (server v) o (record { writes = ws; answer = Unanswered }, sent, refl) x.shows r in
         answered_fits w v o number ws Lost (outcomes_of r.1.items) taken m x.out sent ran tt
 
--- what becomes of the bytes that were out becomes of the request that they are
+-- what happens to the outstanding bytes happens to the request that they are
 pub receives : (w v inside : Loop) (number : ℕ) (ws : List Write) (lost : Bool) (taken carried : List ℕ) (result : Result WireReply WireFault) → inside ≡ w → lost ≡ is_lost number w
     → entry_of number inside.out ≡ Some taken → carried ≡ taken → entry_of number w.out ≡ Some (bytes_of ws)
     → (carried ≡ bytes_of ws → IsExchange lost ws (server inside) (server v) result) → Receives number ws w v result

@@ -21,7 +21,7 @@ use Rattle.relay_lane.specs.declared.wire.WireReply.{WireReply}
 use Rattle.relay_lane.specs.declared.wire.WireReply.TheVariants as reply
 use Rattle.relay_lane.specs.declared.wire.WireFault.{WireFault}
 use Rattle.relay_lane.specs.declared.wire.WireFault.TheVariants as fault
-use Rattle.relay_wires.specs.Numbered.{numbers, besides}
+use Rattle.relay_wires.specs.Numbers.{numbers, besides}
 
 -- ---- the wire
 
@@ -88,7 +88,7 @@ pub record TakesIn (number : ℕ) (old new : Loop) : Type 0 where
   pub out : new.out ≡ besides number old.out
   pub lost : new.lost ≡ old.lost
 
--- ---- what stands outside
+-- ---- what is outside
 
 -- the request with this number was sent with writes that may go, and not answered; these are its bytes
 pub record IsOut (number : ℕ) (bytes : List ℕ) (o : Outside) : Type 0 where
@@ -120,7 +120,7 @@ pub record Opens (w : Loop) : Type 0 where
   pub fits : Fits w opening
   pub each : (o : Outside) → IsOpening o → Shows o w.index → Fits w o
 
--- ---- what private steps answer
+-- ---- the results of private steps
 
 -- a reply with these outcomes was read, unless an allocation failed
 abbrev pub Reads : List Outcome → Result WireReply WireFault → Type 0

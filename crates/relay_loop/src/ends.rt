@@ -15,7 +15,7 @@ use std::alloc::{AllocError, Global};
 // The host in the requests.
 const HOST: &str = "loop";
 
-// More bytes than any head has that is written here.
+// More bytes than the head of any message that is written here has.
 const HEAD_ROOM: usize = 1024;
 
 // The maximum number of bytes that a call of a stream moves.

@@ -91,7 +91,7 @@ impl Wire for LoopWire {
     ghost use Rattle.relay_results.specs.Words.{Mem};
     ghost use Rattle.relay_lane.specs.Wires.{answer_of, IsWireReply, SendsOn, AnswersOn};
     ghost use Rattle.relay_lane.specs.Wires.{ExchangesOn, Shows, ShowsNext, without};
-    ghost use Rattle.relay_wires.specs.Numbered.{numbers, entry_of};
+    ghost use Rattle.relay_wires.specs.Numbers.{numbers, entry_of};
     ghost use Rattle.relay_loop.specs.Loops.{Fits, MayGo, bytes_of, Receives, TakesIn};
 
     ghost out = { λ w. numbers w.out };

@@ -7,7 +7,7 @@ use Rattle.relay_ndjson.specs.Bulk.{write_text, text_of}
 lines_more : (ws : List Write) (i : ℕ) (w : Write) → i < length ws → w ≡ get_or ws i w → text_of (take (i + 1) ws) ≡ text_of (take i ws) ++ write_text w
 lines_more ws i w h is = grind (arith, common_steps)
 
--- those of one write more
+-- those of one more write
 pub one_appended : (before text after : List ℕ) (ws : List Write) (i : ℕ) (w : Write) → i < length ws → w ≡ get_or ws i w
     → text ≡ before ++ text_of (take i ws) → after ≡ text ++ write_text w → after ≡ before ++ text_of (take (i + 1) ws)
 one_appended before text after ws i w h is e f =

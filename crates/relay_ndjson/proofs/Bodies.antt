@@ -11,7 +11,7 @@ use Rattle.relay_ndjson.specs.declared.kind.LineKind.{LineKind}
 use Rattle.relay_ndjson.specs.declared.kind.LineKind.TheVariants as kind
 use Rattle.relay_ndjson.specs.Lines.{IsRaw, IsLine, line_limit}
 use Rattle.relay_ndjson.specs.Operations.{line_count}
-use Rattle.relay_ndjson.specs.Versioned.{SaysVersioned}
+use Rattle.relay_ndjson.specs.VersionedLines.{SaysVersioned}
 use Rattle.relay_ndjson.specs.Bodies.{IsLinesOf, IsBulk, lines_of, BeginsWithLine, LacksLine, IsNoSource, BreaksWriteAt, BreaksBulk}
 use Rattle.relay_ndjson.specs.Steps.{BeginsWithWrite, BeginsWithSource}
 use Rattle.relay_ndjson.proofs.Deciding.{key_none}
@@ -62,7 +62,7 @@ source_lost bytes mid text key version place k b s (inr l) =
 
 -- ---- how far a body was read
 
--- these writes stand before the rest, in so many lines
+-- these writes precede the rest, in this many lines
 pub record HasRead (body rest : List ℕ) (ws : List Write) (lines : ℕ) : Type 0 where
   pub front : List ℕ
   pub writes : IsBulk front ws
@@ -96,7 +96,7 @@ all_read body rest ws lines h e =
 pub read_broken : (body rest : List ℕ) (ws : List Write) (lines place : ℕ) (k : LineKind) → HasRead body rest ws lines → BreaksWriteAt rest place k → BreaksBulk body (lines + place) k
 read_broken body rest ws lines place k h b = (ws, h.front, rest, place, h.writes, h.split, b, ap (λ n. n + place) h.count)
 
--- ---- each line has a byte at least
+-- ---- each line has at least one byte
 
 line_some : (text line : List ℕ) → IsLine text line → 1 ≤ length line
 line_some text line l = let n : length line ≡ length l.0 + 1 = ap length l.4 ∙ length-append l.0 (10 ∷ []) in omega (arith, n)

@@ -1,4 +1,4 @@
--- A text has no fault exactly where it asks for an action.
+-- A text has no fault exactly if it asks for an action.
 use Rattle.std.proofs.Common.{◌≡◌, ℕ, List, [], codes, true, Option, None, Some, refl, ap, sym, ◌∙◌, subst, arith, inl, inr, option_map, unwrap_or, bytes_eq, if◌then◌else◌}
 use Rattle.std.proofs.lemmas.Slice.Eq.{bytes_eq-Decides}
 use Rattle.relay_action.specs.declared.fault.ActionFault.{ActionFault}

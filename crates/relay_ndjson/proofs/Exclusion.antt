@@ -1,4 +1,4 @@
--- No operation begins where a fault is said, and there is one first fault.
+-- No operation begins where there is a fault, and there is one first fault.
 use Rattle.std.proofs.Common.{◌≡◌, ◌⊎◌, ℕ, zero, suc, ◌<◌, ◌≤◌, List, [], Option, None, Some, refl, ap, sym, ◌∙◌, subst, arith, inl, inr, option_map}
 use Rattle.std.specs.Io.KnownBytes.{IsAtEnd}
 use Rattle.std.proofs.lemmas.Str.{IsUtf8-had}
@@ -19,9 +19,9 @@ use Rattle.relay_ndjson.proofs.Asking.{source_line_fault-text}
 use Rattle.relay_ndjson.proofs.Deciding.{says_none, key_none, not_empty, one_name}
 use Rattle.relay_ndjson.proofs.Fronts.{Shows, shows_on, one_text, no_text_at_end, no_text_at_long, no_long_at_end}
 
--- ---- after as many blank lines as may be
+-- ---- after the maximum number of blank lines
 
--- a blank line follows only where no more may be
+-- a blank line follows only if the maximum is reached
 abbrev pub Stops : ℕ → Option (List ℕ) → Type 0
 Stops n mid = (new : Option (List ℕ)) → TakesText mid new [] → n ≡ blank_limit
 

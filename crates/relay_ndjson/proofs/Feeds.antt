@@ -1,4 +1,4 @@
--- Where the last line feed of a piece stands.
+-- The position of the last line feed of a piece.
 use Rattle.std.proofs.Common.{◌≡◌, ◌↔◌, ℕ, ◌+◌, ◌-◌, ◌<◌, ◌≤◌, List, length, take, drop, get_or, ap, sym, ◌∙◌, arith, inl, inr}
 use Rattle.std.proofs.lemmas.Grind.{common_steps}
 use Rattle.std.proofs.lemmas.List.{get_or-take, get_or-drop}
@@ -12,7 +12,7 @@ at_range bytes from to k h = get_or-take (to - from) (drop from bytes) k 0 h ∙
 length-range : (bytes : List ℕ) (from to : ℕ) → to ≤ length bytes → length (take (to - from) (drop from bytes)) ≡ to - from
 length-range bytes from to h = grind (arith, common_steps, h)
 
--- a line feed stands in the rest of a range just where the last one stands there
+-- a line feed is in the rest of a range exactly if the last one is
 pub feed_from : (bytes : List ℕ) (from to ends start : ℕ) → to ≤ length bytes → EndsLinesAt ends to bytes → (start < ends - from) ↔ HoldsFeedFrom start (take (to - from) (drop from bytes))
 feed_from bytes from to ends start h e =
     let count = length-range bytes from to h in (

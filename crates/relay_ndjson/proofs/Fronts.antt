@@ -25,7 +25,7 @@ pub not_unbroken : (xs r : List ℕ) → IsUnbroken (xs ++ 10 ∷ r) → ⊥
 not_unbroken [] r h = unbroken_head 10 r h refl
 not_unbroken (x ∷ xs) r h = not_unbroken xs r (unbroken_tail x (xs ++ 10 ∷ r) h)
 
--- unbroken bytes at the front stand before the first line end
+-- unbroken bytes at the front precede the first line end
 pub prefix : (xs raw r t : List ℕ) → IsUnbroken raw → xs ++ 10 ∷ r ≡ raw ++ t → (u : List ℕ) × (xs ≡ raw ++ u)
 prefix xs [] r t h e = (xs, refl)
 prefix [] (y ∷ raw) r t h e = let f : y ≡ 10 = cc in absurd (unbroken_head y raw h f)
@@ -161,7 +161,7 @@ one_text old new mid text other s t u =
 pub at_end : (old : Option (List ℕ)) (bytes : List ℕ) → old ≡ Some bytes → IsAtEnd old → bytes ≡ []
 at_end old bytes e h = subst IsAtEnd e h
 
--- where there is a line, the stream has not ended
+-- if there is a line, the stream has not ended
 pub no_text_at_end : (old new : Option (List ℕ)) (text : List ℕ) → Shows old → TakesText old new text → IsAtEnd old → ⊥
 no_text_at_end old new text s t h =
     let r = shown_rest old new t.bytes s t.taken in

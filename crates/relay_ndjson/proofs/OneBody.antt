@@ -9,7 +9,7 @@ use Rattle.relay_ndjson.specs.declared.kind.LineKind.{LineKind}
 use Rattle.relay_ndjson.specs.Lines.{IsUnbroken, TakesText, IsLong}
 use Rattle.relay_ndjson.specs.Metadata.{source_line_fault}
 use Rattle.relay_ndjson.specs.Operations.{line_count}
-use Rattle.relay_ndjson.specs.Versioned.{SaysWrite, write_line_fault}
+use Rattle.relay_ndjson.specs.VersionedLines.{SaysWrite, write_line_fault}
 use Rattle.relay_ndjson.specs.Bodies.{IsSourceOf, IsBulk, lines_of, BeginsWithLine, IsOpen, LacksLine, BreaksLine, IsNoSource, BreaksWriteAt}
 use Rattle.relay_ndjson.specs.Steps.{BeginsWithWrite}
 use Rattle.relay_ndjson.specs.Laws.{OneBulk, NoFaultInBulk, OneBulkFault}
@@ -65,7 +65,7 @@ one_line_fault fault_of bytes k l (inr a) (inl b) = absurd (line_not_lacking byt
 one_line_fault fault_of bytes k l (inr a) (inr b) =
     let e = one_line bytes a.1 b.1 a.0 b.0 a.2 b.2 in some_kind k l (sym a.3 ∙ (ap fault_of e.1 ∙ b.3))
 
--- where nothing is left no line breaks it
+-- if nothing is left, no line breaks it
 no_line_breaking : (fault_of : List ℕ → Option LineKind) (bytes : List ℕ) (k : LineKind) → bytes ≡ [] → BreaksLine fault_of bytes k → ⊥
 no_line_breaking fault_of bytes k e (inl (inl l)) = no_long_at_end (Some bytes) (bytes, refl) l.0 e
 no_line_breaking fault_of bytes k e (inl (inr o)) = o.0.1 e
@@ -164,7 +164,7 @@ one_bulk bytes (w ∷ ws) (v ∷ vs) a b =
     let rec = one_bulk b.1 ws vs (subst (λ (r : List ℕ). IsBulk r ws) one.0 a.3) b.3 in
     ap (λ x. x ∷ ws) one.1 ∙ ap (λ xs. v ∷ xs) rec
 
--- the writes before the rest begin it
+-- the writes before the rest are its beginning
 behind : (all front rest : List ℕ) (w : Write) (ws : List Write) (b : IsBulk front (w ∷ ws)) → all ≡ front ++ rest → BeginsWithWrite all (b.1 ++ rest) w
 behind all front rest w ws b e = (b.0, b.2, e ∙ (ap (λ x. x ++ rest) b.4 ∙ append_assoc b.0 b.1 rest))
 

@@ -1,4 +1,4 @@
--- A stream's front has one operation, and none where a read failed.
+-- A stream's front has one operation, and none if a read failed.
 use Rattle.std.proofs.Common.{◌≡◌, ◌≢◌, ℕ, zero, suc, ◌+◌, ◌-◌, ◌<◌, ◌≤◌, List, [], ◌∷◌, ◌++◌, length, Option, Some, refl, ap, sym, ◌∙◌, subst, arith, inl, inr, append_assoc, length-append, append-nil}
 use Rattle.std.specs.Io.KnownBytes.{prepend_known}
 use Rattle.relay_action.specs.declared.key.DocKey.{DocKey}
@@ -63,9 +63,9 @@ one_operation default new other bytes n m op next t u =
     let one = one_action default u.0 new other op.0 next.0 op.1 next.1 r (subst (λ (o : Option (List ℕ)). TakesAction default o new op.0 op.1) same.1 t.3) u.3 in
     (one.0, same.0, ap (λ k. (k, op.1)) one.1 ∙ ap (λ a. (next.0, a)) one.2)
 
--- ---- what is left gets less
+-- ---- what is left decreases
 
--- as much is left as later, or more
+-- at least as much is left as later
 record Shrinks (old new : Option (List ℕ)) : Type 0 where
   before : List ℕ
   after : List ℕ
@@ -102,9 +102,9 @@ action_shrinks default mid new k Delete s t = text_shrinks mid new t.0 s t.1
 action_shrinks default mid new k (Index x) s t =
     shrinks_on mid t.1 new (text_shrinks mid t.1 t.0 s t.2) (text_shrinks t.1 new x.text (shows_on mid t.1 t.0 s t.2) t.4)
 
--- ---- an operation goes on where its beginning ended
+-- ---- an operation continues where its beginning ended
 
--- a line stands there, and after it as much is left as later, or more
+-- there is a line, and after it at least as much is left as later
 abbrev GoesOn : Option (List ℕ) → Option (List ℕ) → Type 0
 GoesOn front new = (mid : Option (List ℕ)) × (text : List ℕ) × TakesText front mid text × Shrinks mid new
 
@@ -137,7 +137,7 @@ not_before n m default old mid front new k a s h t u act below =
     stopped_short (inr (inl c)) f = let e = f c.1 c.2 in omega (arith, e, below, h)
     stopped_short (inr (inr c)) f = let e = c.0 in omega (arith, e, below)
 
--- an index action's source is what goes on
+-- what continues is the source of an index action
 source_goes_on : (default mid front new : Option (List ℕ)) (k : DocKey) (a : Action) (text index id : List ℕ) → Shows mid → TakesText mid front text → Says default text action.Index index id → TakesAction default mid new k a → GoesOn front new
 source_goes_on default mid front new k Delete text index id s t says act =
     let e = one_text mid front new text act.0 s t act.1 in
@@ -217,7 +217,7 @@ lift_beginning default xs ys more taken ne (inr b) =
     let left = some_left s.0 ys ne (text_shrinks (Some s.0) (Some ys) b.2 (s.0, refl) line) in
     inr (b.0, Some (s.0 ++ more), b.2, b.3, b.4, b.5, lift_blank b.0 xs s.0 more left blank, lift_text s.0 ys more b.2 ne line, b.8, b.9, b.10)
 
--- ---- where a read failed
+-- ---- if a read failed
 
 none_held : (default front : Option (List ℕ)) (bytes used later : List ℕ) (taken : ℕ) → TakesBeginning default (Some (bytes ++ later)) front taken → IsUnbroken used → front ≡ Some (used ++ later) → HoldsOperation default bytes → ⊥
 none_held default front bytes used (y ∷ ys) taken b u e h =

@@ -30,7 +30,7 @@ pub length-opening : (a : Action) → length (opening a) ≡ length (kind_name (
 length-opening (Index s) = refl
 length-opening Delete = refl
 
--- its length: 64 bytes beside the name, the texts and the number
+-- its length: 64 bytes in addition to the name, the texts and the number
 pub length-action_text : (w : Write) → length (action_text w) ≡ length (kind_name (kind_of w.action)) + length (escape w.key.id) + length (escape w.key.index) + length (decimal w.version) + 64
 length-action_text w =
     let last : length (codes ",\"version_type\":\"external\"}}") ≡ 28 = refl in
@@ -49,7 +49,7 @@ module _ (n k : ℕ) (low : 10 ^ k ≤ n) (high : n < 10 * 10 ^ k) (fits : n < 2
       let no : length (decimal n) ≤ k → ⊥ = λ h. omega (arith, less h) in
       omega (arith, no)
 
-  -- a number from a power of ten on, and below the next, has a digit more than the power
+  -- a number from a power of ten on, and below the next, has one more digit than the power
   pub length-decimal : length (decimal n) ≡ k + 1
   length-decimal = let upper = length-decimal-le (suc k) n (omega arith) (omega (arith, high)) fits in omega (arith, long_enough)
 

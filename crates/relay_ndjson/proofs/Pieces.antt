@@ -51,7 +51,7 @@ unbroken_cons x xs h k = grind (arith, common_steps)
 unbroken_append : (xs ys : List ℕ) → IsUnbroken xs → IsUnbroken ys → IsUnbroken (xs ++ ys)
 unbroken_append xs ys h k = grind (arith, common_steps)
 
--- where no byte is a line feed
+-- if no byte is a line feed
 pub nowhere_unbroken : (bytes : List ℕ) → Nowhere (Passes (is_byte 10) bytes) 0 (length bytes) → IsUnbroken bytes
 nowhere_unbroken [] h = refl
 nowhere_unbroken (x ∷ xs) h =
@@ -69,7 +69,7 @@ first_feed bytes end f =
           sym (take-append-drop end bytes) ∙ ap (λ r. take end bytes ++ r) (d ∙ (ap (λ b. b ∷ drop (suc end) bytes) at ∙ ap (λ k. 10 ∷ drop k bytes) (sym (add-one end))))),
     )
 
--- ---- what a piece gives of a line
+-- ---- what a piece contributes to a line
 
 pub part_refused : (begun piece text rest : List ℕ) (end : ℕ) (k : LineKind) → IsUnbroken begun → IsFirstByte (is_byte 10) piece (Some end) → IsAddFault (begun ++ take end piece) k → TakesPart begun piece text rest (Err k)
 part_refused begun piece text rest end k u f a =
@@ -104,7 +104,7 @@ whole_unbroken begun piece u f = unbroken_append begun piece u (nowhere_unbroken
 pub whole_refused : (begun piece text rest : List ℕ) (k : LineKind) → IsUnbroken begun → IsFirstByte (is_byte 10) piece None → IsAddFault (begun ++ piece) k → TakesPart begun piece text rest (Err k)
 whole_refused begun piece text rest k u f a = (begun ++ piece, [], whole_unbroken begun piece u f, sym (append-nil (begun ++ piece)), a)
 
--- ---- what it gives of the stream
+-- ---- what it contributes of the stream
 
 rejoined : (begun piece raw later : List ℕ) (old left : Option (List ℕ)) → old ≡ prepend_known begun (prepend_known piece left) → begun ++ piece ≡ raw ++ later → old ≡ prepend_known raw (prepend_known later left)
 rejoined begun piece raw later old left e f =

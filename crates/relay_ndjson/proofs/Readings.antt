@@ -1,4 +1,4 @@
--- A step of a reader that goes on.
+-- A step of a reader that continues.
 use Rattle.std.proofs.Common.{◌≡◌, Option, Result, subst, sym}
 use Rattle.relay_ndjson.specs.Operations.{Operation}
 use Rattle.relay_ndjson.specs.declared.kind.InputFault.{InputFault}

@@ -108,7 +108,7 @@ blank_stops default old new n e t c =
       stop = stops_after last.0 new.ahead new.held [] kind.LineLong last.2 refl;
     }
 
--- an action line that breaks the grammar, or for which there is no memory
+-- an action line that breaks the grammar, or for which an allocation failed
 pub action_stops : (default : Option (List ℕ)) (old new : Position) (text : List ℕ) (k : LineKind) → SkipsBlank old new text (Ok true) → (k ≡ kind.Memory) ⊎ (line_fault default text ≡ Some k) → Stops default old new (record { line = new.count; kind = k })
 action_stops default old new text k s f =
     let no : is_read k ≡ false = elim f [ inl m ↦ ap is_read m | inr e ↦ no_read_line default text k e ] in record {
@@ -119,13 +119,13 @@ action_stops default old new text k s f =
       stop = stops_after s.1 new.ahead new.held text k s.4 no;
     }
 
--- a line that is no source, or for which there is no memory
+-- a line that is not a source, or for which an allocation failed
 pub line_stops : (old new : Position) (line : ℕ) (text : List ℕ) (k : LineKind) → TakesNext old.ahead new.ahead old.count new.count text (Ok true) → (k ≡ kind.Memory) ⊎ (source_line_fault text ≡ Some k) → StopsInSource old new line (record { line = new.count; kind = k })
 line_stops old new line text k t f =
     let no : is_read k ≡ false = elim f [ inl m ↦ ap is_read m | inr e ↦ no_read_source text k e ] in
     inl (t.1, stops_after old.ahead new.ahead new.held text k t.0 no)
 
--- a source that is none, or for which there is no memory
+-- a source that is invalid, or for which an allocation failed
 pub source_stops : (default : Option (List ℕ)) (old mid new : Position) (text : List ℕ) (key : DocKey) (e : InputFault) → SkipsBlank old mid text (Ok true) → Says default text action.Index key.index key.id → StopsInSource mid new mid.count e → Stops default old new e
 source_stops default old mid new text key e s says (inl f) = record {
   taken = s.0 + 1;

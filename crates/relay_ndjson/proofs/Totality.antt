@@ -47,7 +47,7 @@ trim_more : (x y : ℕ) (ys : List ℕ) → ((text : List ℕ) × IsRaw text (y 
 trim_more x y ys (text, inl e) = (x ∷ text, inl (ap (λ zs. x ∷ zs) e))
 trim_more x y ys (text, inr e) = (x ∷ y ∷ ys, inr (refl, last_more x y ys e.1))
 
--- what stands on a line
+-- what is on a line
 trim : (raw : List ℕ) → (text : List ℕ) × IsRaw text raw
 trim [] = ([], inr (refl, λ e. omega (arith, e)))
 trim (x ∷ []) = elim (decide_nat x 13) [ inl e ↦ ([], inl (ap (λ y. y ∷ []) e)) | inr n ↦ (x ∷ [], inr (refl, n)) ]
@@ -61,7 +61,7 @@ past_limit text raw (inr e) h =
     let n : length raw ≡ length text = ap length e.0 in
     (omega (arith, n, h), λ m k. e.1 (let at : length raw - 1 ≡ line_limit = omega (arith, m) in ap (λ i. get_or raw i 0) at ∙ k))
 
--- what stands at the front
+-- what is at the front
 abbrev Front : List ℕ → Type 0
 Front bytes = (bytes ≡ []) ⊎ (IsLong (Some bytes)) ⊎ ((text : List ℕ) × (rest : List ℕ) × TakesText (Some bytes) (Some rest) text)
 
@@ -88,7 +88,7 @@ option_cases : (o : Option LineKind) → (o ≡ None) ⊎ ((k : LineKind) × (o 
 option_cases None = inl refl
 option_cases (Some k) = inr (k, refl)
 
--- it is settled what stands after n blank lines
+-- one of the cases applies after n blank lines
 abbrev Settled : Option (List ℕ) → ℕ → Option (List ℕ) → Type 0
 Settled default n mid = HasLines default mid ⊎ IsAtEnd mid ⊎ ((place : ℕ) × (k : LineKind) × BreaksAt default n mid place k)
 

@@ -1,4 +1,4 @@
--- Two line feeds after a byte that ends no line.
+-- Two line feeds after a byte that is not a line end.
 use Rattle.std.proofs.Common.{◌≡◌, ◌↔◌, ℕ, ◌+◌, ◌-◌, ◌<◌, ◌≤◌, List, length, take, drop, get_or, None, Some, Bool, IsTrue, true, false, ◌==◌, ap, sym, ◌∙◌, arith, inl, inr}
 use Rattle.std.proofs.lemmas.Grind.{common_steps}
 use Rattle.std.proofs.lemmas.List.{take_rest}
@@ -27,11 +27,11 @@ feed_of x e = grind (arith, e)
 no_feed : (x : ℕ) → is_line_end x ≡ false → x ≡ 10 → ⊥
 no_feed x h e = grind (arith, h, e)
 
--- the first byte that ends no line is the first
+-- the first byte that is not a line end is the first
 from_start : (bytes : List ℕ) (s i : ℕ) → ((k : ℕ) → k < s → is_line_end (get_or bytes k 0) ≡ true) → is_line_end (get_or bytes i 0) ≡ false → s ≤ i
 from_start bytes s i first ne = elim (decide_le s i) [ inl h ↦ h | inr h ↦ (let t = first i h in cc) ]
 
--- no line feed stands from a place on
+-- there is no line feed from a place on
 none_from : (bytes : List ℕ) (s f : ℕ) → IsFirstByte (is_byte 10) (rest bytes s) None → s ≤ f → f < length bytes → get_or bytes f 0 ≡ 10 → ⊥
 none_from bytes s f m h below e =
     let n = length-rest bytes s in

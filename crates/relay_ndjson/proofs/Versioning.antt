@@ -11,7 +11,7 @@ use Rattle.relay_action.specs.declared.action.ActionKind.TheVariants as action
 use Rattle.relay_ndjson.specs.declared.kind.LineKind.TheVariants as kind
 use Rattle.relay_ndjson.specs.Names.{has_only}
 use Rattle.relay_ndjson.specs.Metadata.{is_field, index_of, id_of, fault_or, document_fault, action_of}
-use Rattle.relay_ndjson.specs.Versioned.{version_of, is_external, IsVersioned, AsksVersioned, SaysVersioned, versioned_fault, write_fault, write_line_fault}
+use Rattle.relay_ndjson.specs.VersionedLines.{version_of, is_external, IsVersioned, AsksVersioned, SaysVersioned, versioned_fault, write_fault, write_line_fault}
 use Rattle.relay_ndjson.specs.Laws.{VersionedTextDecides}
 use Rattle.relay_action.proofs.Actions.{one_kind}
 use Rattle.relay_ndjson.proofs.Asking.{decide}
@@ -41,7 +41,7 @@ some_same x y e = cc
 pub same_object : (name other : List ℕ) (ms ns : Members) → object (member name (object ms) no_members) ≡ object (member other (object ns) no_members) → (name ≡ other) × (ms ≡ ns)
 same_object name other ms ns e = (cc, cc)
 
--- what two texts that are one ask for
+-- what two equal texts ask for
 pub record AsksOne (a b : ActionKind) (index id other name : List ℕ) (version later : ℕ) : Type 0 where
   pub same_kind : a ≡ b
   pub same_index : index ≡ other

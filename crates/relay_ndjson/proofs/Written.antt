@@ -15,7 +15,7 @@ use Rattle.relay_action.specs.declared.write.Write.{Write}
 use Rattle.relay_action.specs.Limits.{last_version}
 use Rattle.relay_ndjson.specs.Bulk.{action_text, action_data, source_line, line_end, write_text, text_of}
 use Rattle.relay_ndjson.specs.Lines.{IsUnbroken, IsLine, line_limit}
-use Rattle.relay_ndjson.specs.Versioned.{AsksVersioned, SaysWrite, within_last}
+use Rattle.relay_ndjson.specs.VersionedLines.{AsksVersioned, SaysWrite, within_last}
 use Rattle.relay_ndjson.specs.Bodies.{IsSourceOf, IsLinesOf, AreDealt}
 use Rattle.relay_ndjson.specs.Laws.{BulkTextIsBulk}
 use Rattle.relay_ndjson.proofs.Parts.{length-action_text}

@@ -15,7 +15,7 @@ use Rattle.relay_ndjson.specs.Bulk.{text_of}
 use Rattle.relay_ndjson.specs.Lines.{IsUnbroken, IsLine, IsLong, line_limit}
 use Rattle.relay_ndjson.specs.Metadata.{source_line_fault}
 use Rattle.relay_ndjson.specs.Operations.{line_count}
-use Rattle.relay_ndjson.specs.Versioned.{SaysVersioned, SaysWrite, write_line_fault}
+use Rattle.relay_ndjson.specs.VersionedLines.{SaysVersioned, SaysWrite, write_line_fault}
 
 -- ---- bodies
 

@@ -1,4 +1,4 @@
--- Escapes in JSON strings: RFC 8259, section 7, with the short form where there is one.
+-- Escapes in JSON strings: RFC 8259, section 7, with the short form if there is one.
 use Rattle.std.specs.Prelude.{◌≡◌, ℕ, ◌+◌, ◌/◌, ◌%◌, List, [], ◌∷◌, ◌++◌, Bool, not, ◌&&◌, if◌then◌else◌, ◌==◌, nat_lt, nat_le, codes, Option, None, Some, string_bytes}
 use Rattle.std.specs.declared.string.String.{String}
 use Rattle.std.specs.declared.alloc.Global.{Global}

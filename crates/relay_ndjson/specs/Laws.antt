@@ -11,7 +11,7 @@ use Rattle.relay_ndjson.specs.Lines.{TakesText, TakesBlank}
 use Rattle.relay_ndjson.specs.Metadata.{Says, line_fault, source_line_fault}
 use Rattle.relay_ndjson.specs.Operations.{Operation, blank_limit, TakesOperation, HoldsNoMore, Breaks, Position, Stops}
 use Rattle.relay_ndjson.specs.Bulk.{text_of}
-use Rattle.relay_ndjson.specs.Versioned.{SaysVersioned, write_line_fault}
+use Rattle.relay_ndjson.specs.VersionedLines.{SaysVersioned, write_line_fault}
 use Rattle.relay_ndjson.specs.Bodies.{AreDealt, IsBulk, BreaksBulk}
 
 -- a text has no fault exactly if it asks for an action on a valid document
@@ -19,7 +19,7 @@ abbrev pub TextDecides : Type 0
 TextDecides = (default : Option (List ℕ)) (text : List ℕ) →
     (line_fault default text ≡ None) ↔ ((a : ActionKind) × (index : List ℕ) × (id : List ℕ) × Says default text a index id × (key_fault index id ≡ None))
 
--- where there is a fault no operation begins
+-- if there is a fault, no operation begins
 abbrev pub NoOperationAtFault : Type 0
 NoOperationAtFault = (default new : Option (List ℕ)) (bytes : List ℕ) (n at : ℕ) (op : Operation) (k : LineKind) →
     TakesOperation default (Some bytes) new n op → Breaks default (Some bytes) at k → ⊥

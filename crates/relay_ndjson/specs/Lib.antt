@@ -11,6 +11,6 @@ pub mod Fields
 pub mod Operations
 pub mod Reading
 pub mod Laws
-pub mod Versioned
+pub mod VersionedLines
 pub mod Bodies
 pub mod Steps

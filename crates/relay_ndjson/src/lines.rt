@@ -67,7 +67,7 @@ impl LineEnd {
 pub enum Part {
     /// The rest of the line, with its end.
     End,
-    /// All that the piece held; the line goes on.
+    /// All that the piece held; the line continues.
     More,
 }
 

@@ -2,8 +2,9 @@
 ghost use Rattle.std.specs.Prelude.{◌≡◌, ◌<◌, ◌⊎◌, Some, None, Err, IfOk, IfErr, length};
 ghost use Rattle.json.specs.Scratch.{room};
 ghost use Rattle.serde_json.specs.Data.{Members, object};
-ghost use Rattle.relay_ndjson.specs.Versioned.{version_of, is_external, IsVersioned};
-ghost use Rattle.relay_ndjson.specs.Versioned.{SaysVersioned, versioned_fault, write_line_fault};
+ghost use Rattle.relay_ndjson.specs.VersionedLines.{version_of, is_external, IsVersioned};
+ghost use Rattle.relay_ndjson.specs.VersionedLines.{SaysVersioned, versioned_fault};
+ghost use Rattle.relay_ndjson.specs.VersionedLines.{write_line_fault};
 ghost use Rattle.relay_ndjson.specs.Fields.{HoldsMembers};
 
 use crate::action_line::action_of;

@@ -207,7 +207,7 @@ fn steps(parser: &mut Parser, stream: &mut MemStream) -> bool {
     good
 }
 
-// Whether a parser goes through these steps if the text is read at once.
+// Whether a parser goes through these steps if the text is read in one piece.
 fn is_parsed_in_steps(alloc: Global, text: &[u8]) -> Result<bool, AllocError> {
     let mut stream = MemStream::new(alloc, text.to_vec(alloc)?, 0, 1000, 0)?;
     let mut parser = Parser::new(alloc, None);

@@ -1,5 +1,5 @@
-//! Calls over bulk text, of whose allocations any one may be refused (`make refusals`): the refusal is
-//! told, and says what it leaves.
+//! Calls over bulk text, with any one of their allocations refused (`make refusals`): the refusal
+//! is reported, and says what it leaves.
 use relay_action::{Action, ActionKind, DocKey, MemStream, Write};
 use relay_json::Scratch;
 use relay_ndjson::action_line::action_of;
@@ -13,7 +13,7 @@ const ID: &str = "an id with a \"quote\", of more than thirty-eight bytes";
 
 const SOURCE: &str = "{\"title\":\"a source of more than thirty-eight bytes\"}";
 
-/// An index action on that document under version 7, and a delete under version 8.
+/// An index action on that document with version 7, and a delete with version 8.
 const INDEXED: &[u8] =
     b"x{\"index\":{\"_id\":\"an id with a \\\"quote\\\", of more than thirty-eight bytes\",\"_index\":\"books\",\"version\":7,\"version_type\":\"external\"}}\n{\"title\":\"a source of more than thirty-eight bytes\"}\n";
 
@@ -44,7 +44,7 @@ fn begun(alloc: Global) -> Option<Vec<u8>> {
     BEGUN.to_vec(alloc).or_else(|_| BEGUN.to_vec(alloc)).ok()
 }
 
-// Appends the lines of a write, or its action line alone.
+// Appends the lines of a write, or only its action line.
 fn append(alloc: Global, text: &mut Vec<u8>, write: &Write, whole: bool) -> Result<(), AllocError> {
     if whole {
         append_write(alloc, text, write)
@@ -61,7 +61,7 @@ fn appends(alloc: Global, text: &mut Vec<u8>, write: &Write, whole: bool) -> boo
     }
 }
 
-// Whether a text has the lines of a write, or its action line, after what it had.
+// Whether the lines of a write, or its action line, are added to the end of a text.
 fn has_lines(alloc: Global, write: &Write, whole: bool) -> Option<bool> {
     let mut text = begun(alloc)?;
     let good = appends(alloc, &mut text, write, whole);
@@ -82,8 +82,8 @@ fn refused_lines(rt: HostRuntime) {
     }
 }
 
-// Whether the lines of two writes are appended, by a second call if the first was refused and left those of a front of them,
-// fewer than all.
+// Whether the lines of two writes are appended, by a second call if the first was refused and left
+// the lines of some of the first writes, fewer than all.
 fn appends_all(text: &mut Vec<u8>, writes: &[Write]) -> bool {
     match append_bulk(text, writes) {
         Ok(()) => true,
@@ -131,7 +131,8 @@ fn stream_of(alloc: Global, input: &[u8]) -> Option<MemStream> {
     stream_once(alloc, input).or_else(|| stream_once(alloc, input))
 }
 
-// Whether the lines of a write go out, by a second call if the first was refused before anything went out.
+// Whether the lines of a write are written, by a second call if the first was refused before
+// anything was written.
 fn goes_out(alloc: Global, out: &mut MemStream, write: &Write) -> bool {
     match write_write(alloc, out, write) {
         Ok(()) => true,
@@ -227,7 +228,7 @@ fn reads_key(alloc: Global, line: &[u8], id: &str) -> bool {
     }
 }
 
-// Whether an action line says by itself that it indexes, and gives a document's index and id.
+// Whether an action line is an index action with an index, an id and no other member.
 fn read_members(line: &[u8], scratch: &mut Scratch) -> Result<bool, LineKind> {
     match action_of(line, scratch) {
         Ok((kind, metadata)) => {
@@ -280,7 +281,7 @@ fn refused_action_lines(rt: HostRuntime) {
 const INPUT: &[u8] =
     b"{\"delete\":{\"_index\":\"books\",\"_id\":\"an id with a \\\"quote\\\", of more than thirty-eight bytes\"}}\n\n{\"index\":{\"_index\":\"books\",\"_id\":\"an id with a \\\"quote\\\", of more than thirty-eight bytes\"}}\n{\"title\":\"a source of more than thirty-eight bytes\"}\n";
 
-/// What a step through an input gives.
+/// The result of a step through an input.
 #[derive(Clone, Copy, PartialEq)]
 enum Step {
     Deletes,
@@ -308,7 +309,7 @@ fn step_of(found: Result<Option<(DocKey, Action)>, InputFault>) -> Step {
     }
 }
 
-/// An input that is asked for a step after another, and the line of the operation that it gave last.
+/// An input that is read step by step, and the line of the operation that it returned last.
 trait Steps {
     fn step(&mut self) -> Step;
 
@@ -346,13 +347,14 @@ impl Steps for Parsing {
 #[derive(Clone, Copy, PartialEq)]
 enum Reading {
     Whole,
-    /// To a line of the next operation for which there was no memory, and failed on it from then on.
+    /// Up to a line of the next operation for which an allocation failed; after that it returned
+    /// Failed.
     Refused,
     Wrong,
 }
 
-// How an input goes on after a step that did not give the operation after this line. Its next operation is on the lines from
-// here to there.
+// How an input continues after a step that did not return the operation after this line. Its next
+// operation is on the lines `from` to `to`.
 fn stopped<S: Steps>(input: &mut S, step: Step, line: u64, from: u64, to: u64) -> Reading {
     let Step::Breaks(fault) = step else {
         return Reading::Wrong;
@@ -416,7 +418,7 @@ fn refused_parser(rt: HostRuntime) {
     assert!(rt; first == Some(Reading::Whole) || parse_input(rt.alloc()) == Some(Reading::Whole));
 }
 
-/// Lines of which no two have the same end, and what holds them.
+/// Lines no two of which have the same end, and what holds them.
 const LINES: [&[u8]; 3] = [
     b"the first line, of more than thirty-eight bytes, and it ends in 1",
     b"",
@@ -426,8 +428,8 @@ const LINES: [&[u8]; 3] = [
 const TEXT: &[u8] =
     b"the first line, of more than thirty-eight bytes, and it ends in 1\n\nthe third line, of more than thirty-eight bytes, and it ends in 3\n";
 
-// Whether the next line is this one. If it is refused it is not counted, and a second call gives what
-// is left of it.
+// Whether the next line is this one. If an allocation is refused, the line is not counted, and a
+// second call returns the rest of it.
 fn takes_line(lines: &mut LineReader, stream: &mut MemStream, line: &[u8]) -> bool {
     let count = lines.count();
     match lines.next(stream) {

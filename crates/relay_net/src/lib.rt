@@ -1,11 +1,11 @@
-//! Sockets of TCP behind the traits of the relay: `TcpDial` makes a connection to an index for each
-//! stream that a wire over HTTP asks for, `PatientDial` has it try again while the index is away,
-//! and `TcpListen` hands out the connections that come to a server. The streams of both are
-//! `StdStream`s of `relay_action`, which can be asked whether something came. It depends on
-//! `relay_http` for what a dial and a listener are.
+//! TCP sockets behind the traits of the relay: `TcpDial` makes a connection to an index for each
+//! stream that a wire over HTTP asks for, `PatientDial` keeps trying while the index is down, and
+//! `TcpListen` accepts the connections to a server. The streams of both are `StdStream`s of
+//! `relay_action`, which can be asked whether something has arrived. It depends on `relay_http` for
+//! what a dial and a listener are.
 //!
-//! What a socket gives or takes, and when it waits, no contract says. What is promised is that a
-//! failed call is answered as one, and counted.
+//! No contract says what a socket sends or receives, or when it waits. What is promised is that a
+//! failed call is returned as one, and counted.
 #![tactic(auto)]
 
 pub mod dial;

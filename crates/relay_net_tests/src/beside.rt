@@ -33,7 +33,7 @@ fn serves<R: Net>(alloc: Global, mut listener: TcpListen<R>, requests: u64) -> u
     }
 }
 
-// What three deletes of one document with versions 2, 1 and 3 are told.
+// The results of three deletes of one document with versions 2, 1 and 3.
 fn asks_all<W: Wire>(alloc: Global, wire: &mut W) -> [Told; 3]
     requires { W.out wire.old ≡ [] }
 {
@@ -42,7 +42,7 @@ fn asks_all<W: Wire>(alloc: Global, wire: &mut W) -> [Told; 3]
     [second, first, asks(alloc, wire, 1, "2", 3)]
 }
 
-// Sends them to this address.
+// Sends them to this address, and returns their results.
 fn asks_at<R: Net + Copy>(alloc: Global, net: R, address: String) -> [Told; 3] {
     match wired(alloc, net, address) {
         Some(mut wire) => asks_all(alloc, &mut wire),
@@ -50,7 +50,7 @@ fn asks_at<R: Net + Copy>(alloc: Global, net: R, address: String) -> [Told; 3] {
     }
 }
 
-// What they are told over sockets, and how many of them the server applied.
+// Their results over sockets, and how many of them the server applied.
 fn asks_beside<R>(rt: R, alloc: Global) -> Option<([Told; 3], usize)>
 where
     R: Net<Listener = TcpListener, Stream = TcpStream> + Threads + Wait + Copy + Send + 'static,

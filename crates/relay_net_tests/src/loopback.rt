@@ -9,7 +9,7 @@ use relay_wires::{Dial, Wire};
 use std::alloc::Global;
 use std::net::Net;
 
-// What a delete is told over a wire to a listener. The request is small enough to wait in the
+// The result of a delete over a wire to a listener. The request is small enough to wait in the
 // socket until the connection is accepted.
 fn exchange<R: Net, W: Wire>(alloc: Global, listener: &mut TcpListen<R>, wire: &mut W) -> Told
     requires { W.out wire.old ≡ [] }
@@ -48,7 +48,7 @@ fn around<R: Net>(alloc: Global, net: &R, address: &str) -> (Option<bool>, bool)
     (dialled, TcpListen::bind(net, address).is_ok())
 }
 
-// That of the address of a listener while it listens.
+// The same for the address of a listener while it listens.
 fn around_listener<R: Net>(alloc: Global, net: &R) -> Option<(String, (Option<bool>, bool))> {
     let listener = TcpListen::bind(net, "localhost:0").ok()?;
     let address = address_of(alloc, &listener)?;
@@ -56,8 +56,8 @@ fn around_listener<R: Net>(alloc: Global, net: &R) -> Option<(String, (Option<bo
     Some((address, found))
 }
 
-// Whether it can be dialled while it listens and not listened at, and the other way round when it
-// is gone.
+// Whether the address of a listener can be dialled and not listened at while it listens, and the
+// other way round when it is gone.
 fn with_and_without<R: Net>(alloc: Global, net: &R) -> bool {
     match around_listener(alloc, net) {
         Some((address, found)) => {

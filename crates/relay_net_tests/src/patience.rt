@@ -61,7 +61,8 @@ impl Dial<()> for Failing<'_> {
     }
 }
 
-// Whether a dial that fails this many times returns a stream at last, and after how many seconds.
+// Whether a dial that fails this many times returns a stream in the end, and after how many
+// seconds.
 fn dials(patience: u32, failures: u32, cost: u64, is_read: bool) -> (bool, u64) {
     let seconds = AtomicU64::new(0);
     let clock = Slept {

@@ -7,7 +7,7 @@ use std::alloc::Global;
 use std::net::Net;
 use std::time::{Clock, Duration, Instant};
 
-// Whether a read on a connection fails on which nothing arrives.
+// Whether a read fails on a connection on which nothing arrives.
 fn read_fails<R: Net>(net: &R, address: String) -> Option<bool> {
     let mut stream = TcpDial::new(net, address).with_timeout(1).dial().ok()?;
     Some(stream.read(&mut [0; 1]).is_err())

@@ -1,4 +1,4 @@
--- No lane was found gone where the count is 0.
+-- No lane was found gone if the count is 0.
 use Rattle.std.proofs.Common.{◌≡◌, ℕ, ◌+◌, ◌↔◌, true, false, cond, List, [], ◌∷◌, sym, refl, ◌∙◌, arith}
 use Rattle.std.specs.List.{All, count_by}
 use Rattle.std.proofs.lemmas.List.Sums.{sum_by-cons}

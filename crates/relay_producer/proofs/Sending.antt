@@ -13,7 +13,7 @@ use Rattle.relay_producer.specs.States.{IsControl}
 use Rattle.relay_producer.proofs.Closing.{puts_of-append}
 use Rattle.relay_producer.specs.Ends.{Takes, IsSent, with_mark, count_sent, open_puts, identity, identities, IsSentToAll}
 
--- the first lanes were sent the message, which so many took, and the others are as before
+-- the first lanes were sent the message, which this many took, and the others are as before
 pub record IsSentBelow (body : Body) (lane taken : ℕ) (old now : List OpenEnd) : Type 0 where
   pub lanes : length now ≡ length old
   pub done : (k : ℕ) (d : OpenEnd) → k < lane → IsSent body (get_or old k d) (get_or now k d)
@@ -36,7 +36,7 @@ set_identity lane [] x y lt at e = refl
 set_identity zero (z ∷ zs) x y lt at e = ap (λ p. p ∷ identities (open_puts zs)) (e ∙ ap (λ (w : OpenEnd). identity w.put) at)
 set_identity (suc lane) (z ∷ zs) x y lt at e = ap (λ l. identity z.put ∷ l) (set_identity lane zs x y (omega arith) at e)
 
--- one lane more
+-- one more lane
 pub goes_on : (body : Body) (lane taken more : ℕ) (old now : List OpenEnd) (x y : OpenEnd) → IsSentBelow body lane taken old now → lane < length now → x ≡ get_or now lane x → IsSent body x y → length y.put.sent ≡ length x.put.sent + more → more ≤ 1
     → IsSentBelow body (lane + 1) (taken + more) old (set now lane y)
 goes_on body lane taken more old now x y h lt at sent grown most =
@@ -64,7 +64,7 @@ all_sent body lane taken old now h le = record { lanes = h.lanes; each = λ k d 
 
 -- ---- the control afterwards
 
--- a message that is no operation adds none
+-- a message that is not an operation adds none
 no_put_sent : (body : Body) (x y : OpenEnd) → puts_in body ≡ [] → IsSent body x y → puts_of x.put.sent ≡ [] → puts_of y.put.sent ≡ []
 no_put_sent body x y silent h none =
     ⊎_elim (λ (t : Takes body x y).

@@ -39,14 +39,14 @@ impl OpenEnd {
         if self.gone {
             return Err((PutRefusal::Gone, body));
         }
-        match self.put.put(rt, body) {
-            Ok(_) => Ok(()),
-            Err((PutRefusal::Gone, body)) => {
-                self.gone = true;
-                Err((PutRefusal::Gone, body))
-            }
-            Err((PutRefusal::Spent, body)) => Err((PutRefusal::Spent, body)),
+        let (refusal, body) = match self.put.put(rt, body) {
+            Ok(_) => return Ok(()),
+            Err(refused) => refused,
+        };
+        if refusal == PutRefusal::Gone {
+            self.gone = true;
         }
+        Err((refusal, body))
     }
 
     // Sends a message other than Done as `send` does, and returns whether the queue took it.

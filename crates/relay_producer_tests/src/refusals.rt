@@ -1,5 +1,5 @@
-//! Handles of senders, of whose allocations any one may be refused (`make refusals`): the ends are dropped
-//! with the handle that was refused, and another one is made over other lanes.
+//! Handles of senders, with any one of their allocations refused (`make refusals`): the ends are
+//! dropped with the handle that was refused, and another one is made over other lanes.
 use crate::lanes::{Lanes, Said, document, make, takes};
 use relay_action::Action;
 use relay_producer::{Control, Producer};
@@ -7,10 +7,10 @@ use relay_queue::LaneTake;
 use std::alloc::{AllocError, Global};
 use std::sync::Wait;
 
-/// What comes of a handle: `None` if its lanes were not made.
+/// The result of making a handle: `None` if its lanes were not made.
 type Made<T> = Option<Result<(Vec<LaneTake>, T), bool>>;
 
-// Whether each taker is told that all ends of its senders are dropped.
+// Whether each taker finds all ends of its senders dropped.
 fn are_gone<R: Wait>(rt: &R, lanes: &mut Vec<LaneTake>) -> bool {
     let mut gone = lanes.len() == 2;
     for take in lanes.iter_mut() {
@@ -19,7 +19,8 @@ fn are_gone<R: Wait>(rt: &R, lanes: &mut Vec<LaneTake>) -> bool {
     gone
 }
 
-// A producer of two lanes, and their takers. `Err`: it was refused, and whether the ends are dropped.
+// A producer of two lanes, and their takers. `Err`: it was refused, with whether the ends are
+// dropped.
 fn make_producer<R: Wait>(rt: &R, alloc: Global) -> Made<Producer> {
     let Lanes {
         mut takes,
@@ -45,7 +46,7 @@ fn puts<R: Wait>(rt: &R, alloc: Global, producer: &mut Producer, lanes: &mut [La
     }
 }
 
-// Whether a producer that is made puts. `Err`: what came of one that is not.
+// Whether a producer, if it is made, puts. `Err`: as for one that is refused.
 fn produces<R: Wait>(rt: &R, alloc: Global) -> Option<Result<bool, bool>> {
     match make_producer(rt, alloc)? {
         Ok((mut lanes, mut producer)) => Some(Ok(puts(rt, alloc, &mut producer, &mut lanes))),
@@ -60,7 +61,8 @@ fn refused_producer(rt: HostRuntime) {
     assert!(rt; first == Some(Ok(true)) || produces(&rt, rt.alloc()) == Some(Ok(true)));
 }
 
-// The control of two lanes, and their takers. `Err`: it was refused, and whether the ends are dropped.
+// The control of two lanes, and their takers. `Err`: it was refused, with whether the ends are
+// dropped.
 fn make_control<R: Wait>(rt: &R, alloc: Global) -> Made<Control> {
     let Lanes {
         mut takes,
@@ -82,7 +84,7 @@ fn ticks<R: Wait>(rt: &R, control: &mut Control, lanes: &mut [LaneTake]) -> bool
     good
 }
 
-// Whether a control that is made ticks. `Err`: what came of one that is not.
+// Whether a control, if it is made, ticks. `Err`: as for one that is refused.
 fn controls<R: Wait>(rt: &R, alloc: Global) -> Option<Result<bool, bool>> {
     match make_control(rt, alloc)? {
         Ok((mut lanes, mut control)) => Some(Ok(ticks(rt, &mut control, &mut lanes))),

@@ -3,11 +3,11 @@ use Rattle.std.proofs.Common.{◌≡◌, ℕ, if◌then◌else◌, Ok, Err, OnOk
 use Rattle.std.specs.Prelude.{Result, is_ok}
 use Rattle.std.specs.declared.alloc.AllocError.{AllocError}
 
--- two pieces more
+-- two more pieces
 pub more : (new mid text a b : List ℕ) → new ≡ mid ++ b → mid ≡ text ++ a → new ≡ text ++ (a ++ b)
 more new mid text a b n m = n ∙ ap (λ t. t ++ b) m ∙ append_assoc text a b
 
--- a text of which the front was added, and the last part where there was memory
+-- a text whose front was added, and its last part unless an allocation failed
 pub with_end : (r : Result Unit AllocError) (new mid text front end : List ℕ) → new ≡ (if is_ok r then mid ++ end else mid) → mid ≡ text ++ front → OnOk r (new ≡ text ++ (front ++ end))
 with_end (Ok x) new mid text front end n m = n ∙ ap (λ t. t ++ end) m ∙ append_assoc text front end
 with_end (Err e) new mid text front end n m = tt

@@ -36,7 +36,7 @@ struct Seen {
 
 /// Writes the progress of a run until every sender of `ended` is gone, and once more then: a line
 /// every second, if asked for, and immediately that no connection can be made, or when one is made
-/// again. What cannot be written, or not be allocated, is left out.
+/// again. What cannot be written or allocated is left out.
 pub fn show_progress<R: Wait + Clock, E: ByteOut>(
     rt: &R,
     alloc: Global,

@@ -67,7 +67,7 @@ impl<W: Wire> Wire for CountedWire<W> {
     }
 }
 
-// Counts a request that was sent, or lost at once.
+// Counts a request that was sent, or could not be sent.
 fn count_sent(
     counts: &Counts,
     sizes: &mut Vec<(u64, u64)>,
@@ -109,7 +109,7 @@ fn count_received(counts: &Counts, operations: u64, came: &Result<WireReply, Wir
     }
 }
 
-// Whether a status asks to send again.
+// Whether this status means that the operation is sent again.
 fn is_busy(status: u16) -> bool {
     status == 429 || status == 503
 }

@@ -1,4 +1,5 @@
-//! Counts and the lines that say them, of whose allocations any one may be refused (`make refusals`).
+//! Counts and the lines that show them, with any one of their allocations refused (`make
+//! refusals`).
 use crate::lines::{SOME, SOME_LINE};
 use crate::wires::asks_counted;
 use relay_fixtures::asking::Told;
@@ -60,8 +61,8 @@ fn refused_counts(rt: HostRuntime) {
     assert!(rt; counts_of(rt.alloc()).is_some_and(|counts| counts.requests() == 0));
 }
 
-// Asks over a counted wire. Whether it is answered, if so many requests are counted as sent and ended by then,
-// and one answer if it is.
+// Sends a request over a counted wire, and returns whether it is answered, if this many requests
+// are counted as sent and ended by then, and one answer if so.
 fn asks(alloc: Global, counts: &Shared, sent: u64) -> Option<bool> {
     let shared = Arc::try_clone(counts).ok()?;
     let told = asks_counted(alloc, Way::Answers(404), Some(shared));
@@ -71,8 +72,8 @@ fn asks(alloc: Global, counts: &Shared, sent: u64) -> Option<bool> {
     (asked && counts.answers() == answers).then_some(answered)
 }
 
-// Whether a request over a counted wire is answered, by a second one if the wire was refused memory for the
-// first.
+// Whether a request over a counted wire is answered; if an allocation of the wire was refused for
+// the first one, the second.
 fn is_counted(alloc: Global) -> Option<bool> {
     let counts = counts_of(alloc)?;
     Some(asks(alloc, &counts, 1)? || asks(alloc, &counts, 2)?)

@@ -100,7 +100,7 @@ sends state n pass Met x open_one places mine number now queued passes room h at
 abbrev after_take : History → Mail → History
 after_take history x = record history { taken = history.taken ++ x ∷ [] }
 
--- what the other passes know stays true, since the taker has but one
+-- what the other passes know stays true, since the taker has only one
 others_take : (history : History) (x : Mail) (j : ℕ) (u : Knowledge) → j ≢ history.taker → Fits history j u → Fits (after_take history x) j u
 others_take history x j (Sender capacity sender sent closed) apart h = record { places = h.places; own = h.own; all = h.all; done = h.done }
 others_take history x j (Taker capacity senders taken met) apart h = absurd (apart h.own)
@@ -159,7 +159,7 @@ well_taken-nil senders = record { in_order = λ p. well_sent-nil; no_other = λ 
 
 -- ---- a new sender
 
--- the history with one more sender, which has this pass, and with so many places
+-- the history with one more sender, which has this pass, and with this many places
 abbrev after_split : History → ℕ → ℕ → ℕ → History
 after_split history places sender pass = record history { capacity = places; pass_of = pass_at history.pass_of sender (some pass) }
 
@@ -281,7 +281,7 @@ taker-met (Sender capacity sender sent closed) w h = h
 taker-met (Taker capacity senders taken met) w h = tt
 taker-met Met w h = h
 
--- what a reading tells of the sender that was met last
+-- what a reading shows of the sender that was met last
 pub met_tells : (v u w : Knowledge) (queued : List Mail) → IsTaker v → w ≡ with_met v u → step.Learns w queued → (length queued ≤ capacity_of v) × (sender_of u < senders_of v) × IsAllOf (taken_of v ++ queued) (sender_of u) (sent_of u) true
 met_tells (Sender capacity sender sent closed) u w queued is_taker e tells = absurd is_taker
 met_tells Met u w queued is_taker e tells = absurd is_taker

@@ -33,7 +33,7 @@ has_mail p a b x e n =
     let there : mail_of p (a ++ x ∷ b) ≡ mail_of p a ++ x ∷ mail_of p b = mail_of-append p a (x ∷ b) ∙ ap (λ l. mail_of p a ++ l) (rw (eq-eqb x.sender p e)) in
     not_empty (mail_of p a) (mail_of p b) x (sym there ∙ n)
 
--- where no sender has a message, there is none
+-- if no sender has a message, there is none
 pub no_mail : (a b : List Mail) → ((p : ℕ) → mail_of p (a ++ b) ≡ []) → b ≡ []
 no_mail a [] h = refl
 no_mail a (x ∷ xs) h = absurd (has_mail x.sender a xs x refl (h x.sender))
@@ -58,7 +58,7 @@ last-front : (a b : List Mail) → NothingAfterDone (a ++ b) → NothingAfterDon
 last-front [] b h = tt
 last-front (m ∷ ms) b h = ((λ d. (both_empty ms b (h.0 d)).0), last-front ms b h.1)
 
--- after a list with a Done nothing stands
+-- nothing follows a list with a Done
 pub nothing_after : (a b : List Mail) → NothingAfterDone (a ++ b) → HasDone a → b ≡ []
 nothing_after [] b h d = absurd d
 nothing_after (m ∷ ms) b h d = ⊎_elim (λ (e : IsDone m). (both_empty ms b (h.0 e)).1) (λ (e : HasDone ms). nothing_after ms b h.1 e) d

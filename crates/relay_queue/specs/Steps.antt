@@ -88,7 +88,7 @@ with_met (Sender capacity sender sent closed) w = Sender capacity sender sent cl
 with_met (Taker capacity senders taken met) w = Taker capacity senders taken (record { sender = sender_of w; sent = sent_of w } ∷ met)
 with_met Met w = Met
 
--- ---- what the steps tell
+-- ---- what the steps show
 
 -- a send: the message was added to the sender's list, which is well sent, with a Done exactly if the sender has
 -- closed

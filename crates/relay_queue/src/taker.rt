@@ -63,7 +63,7 @@ impl LaneTake {
         self.take_waiting(rt)
     }
 
-    /// Takes the message at the front if one is queued, and else returns `None`. It does not wait
+    /// Takes the message at the front if one is queued, otherwise returns `None`. It does not wait
     /// and does not allocate. When a message that was sent is seen is not promised; [`Self::take`]
     /// waits for it. `Gone` is as there.
     pub fn try_take<R: Wait>(&mut self, rt: &R) -> Result<Option<Mail>, Gone>

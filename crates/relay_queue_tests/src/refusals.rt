@@ -1,4 +1,4 @@
-//! A queue, of whose allocations any one may be refused (`make refusals`).
+//! A queue, with any one of its allocations refused (`make refusals`).
 use relay_action::Body;
 use relay_queue::{Gone, LanePut, LaneTake, lane_queue};
 use std::alloc::{AllocError, Global};

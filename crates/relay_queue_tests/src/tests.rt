@@ -324,7 +324,7 @@ fn in_one_thread(rt: HostRuntime) -> Result<(), Fail> {
     Ok(())
 }
 
-// What a put returns that finds the taker gone.
+// The result of a put, if it finds the taker gone.
 fn given_back<R: Wait>(rt: &R, put: &mut LanePut, body: Body) -> Option<Said>
     requires { body ≢ Body.Done }
 {
@@ -373,7 +373,7 @@ fn put_one_each<R: Wait>(rt: &R, puts: Vec<LanePut>) -> bool {
     good
 }
 
-// That the senders are gone is reported again and again.
+// Each further call also reports that the senders are gone.
 #[test]
 fn after_the_senders(rt: HostRuntime) -> Result<(), Fail> {
     let (mut take, puts) = made(rt.alloc(), 4, 2)?;
@@ -383,7 +383,8 @@ fn after_the_senders(rt: HostRuntime) -> Result<(), Fail> {
     Ok(())
 }
 
-// What a look at the queue gives: the next message as numbers, nothing, or that all senders are gone.
+// The result of a look at the queue: the next message as numbers, nothing, or that all senders are
+// gone.
 fn seen<R: Wait>(rt: &R, take: &mut LaneTake) -> Result<Option<(u32, u64, Said)>, Gone> {
     match take.try_take(rt)? {
         Some(mail) => Ok(Some((mail.sender, mail.number, said_of(&mail.body)))),
@@ -391,7 +392,7 @@ fn seen<R: Wait>(rt: &R, take: &mut LaneTake) -> Result<Option<(u32, u64, Said)>
     }
 }
 
-// Whether looks give a tick between none and none.
+// Whether looks at the queue find nothing, then a tick, then nothing.
 fn sees_a_tick<R: Wait>(rt: &R, take: &mut LaneTake, put: &mut LanePut) -> bool {
     seen(rt, take) == Ok(None)
         && put.put(rt, Body::Tick).ok() == Some(1)

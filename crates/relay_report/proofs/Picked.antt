@@ -54,7 +54,7 @@ written_all : (all text : List ℕ) (before mid after : Option (List ℕ)) → M
 written_all all text before mid after m e =
     e ∙ (ap (λ s. append_known s text) m.written ∙ (append_known-append before m.moved text ∙ ap (append_known before) (sym m.whole)))
 
--- the first bytes that went out
+-- the first bytes that were written
 pub front_sent : (text : List ℕ) (sent : ℕ) (before after : Option (List ℕ)) → after ≡ append_known before (take sent text) → WritesFront before after text
 front_sent text sent before after e = (take sent text, drop sent text, sym (take-append-drop sent text), e)
 
@@ -80,7 +80,7 @@ picked-same : (f g : ℕ → Bool) → ((k : ℕ) → f k ≡ g k) → (n : ℕ)
 picked-same f g h n [] = refl
 picked-same f g h n (x ∷ xs) = ap (λ b. (if b then x else []) ++ picked_lines f (suc n) xs) (h n) ∙ ap (λ t. (if g n then x else []) ++ t) (picked-same f g h (suc n) xs)
 
--- ---- under way: so many operations were taken, and of their text this is still to be written
+-- ---- under way: this many operations were taken, and of their text this is still to be written
 
 pub record Underway (wanted : ℕ → Bool) (default old now before written : Option (List ℕ)) (text : List ℕ) (taken lines : ℕ) : Type 0 where
   pub items : List (List ℕ)
@@ -177,7 +177,7 @@ stops_at_write wanted default old now before written written' text text' taken l
   written = front_of (picked_lines wanted 1 u.items) text before written written' u.moves f;
 }
 
--- which calls failed, where the fault is that of an input
+-- which calls failed, if the fault is that of an input
 pub no_write_fails : (wanted : ℕ → Bool) (k : ℕ) (default : Option (List ℕ)) (old new : Position) (text text' : List ℕ) (e : PickFault) (before after : ℕ) → PicksNext wanted k default old new text text' (Err e) → after ≡ before → WritesFail {U = ℕ} before after (Err e)
 no_write_fails wanted k default old new text text' (fault.Input e) before after p s = s
 no_write_fails wanted k default old new text text' fault.Write before after p s = absurd p

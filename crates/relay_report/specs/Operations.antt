@@ -27,7 +27,7 @@ HasLines default old new key Delete lines =
     (text : List ℕ) × (first : LineEnd) × TakesBytes old new text first
     × Says default text action.Delete key.index key.id × (lines ≡ whole_line text first)
 
--- these many lines were taken: blank lines, and then those of an operation
+-- this many lines were taken: blank lines, and then those of an operation
 pub record TakesLines (default old new : Option (List ℕ)) (count : ℕ) (lines : List ℕ) : Type 0 where
   pub blank : ℕ
   pub front : Option (List ℕ)

@@ -21,7 +21,7 @@ TakesAll default old new count [] = (new ≡ old) × (count ≡ 0)
 TakesAll default old new count (lines ∷ more) =
     (mid : Option (List ℕ)) × (n : ℕ) × (m : ℕ) × TakesLines default old mid n lines × TakesAll default mid new m more × (count ≡ n + m)
 
--- the lines of the operations that are wanted, where the first has this number
+-- the lines of the operations that are wanted; the first one has this number
 abbrev pub picked_lines : (ℕ → Bool) → ℕ → List (List ℕ) → List ℕ
 picked_lines wanted k [] = []
 picked_lines wanted k (lines ∷ more) = (if wanted k then lines else []) ++ picked_lines wanted (suc k) more

@@ -1,5 +1,5 @@
-//! Reports and what is printed of them, of whose allocations any one may be refused (`make refusals`): the
-//! refusal says what it leaves, and the call does its work when it is made again.
+//! Reports and what is printed of them, with any one of their allocations refused (`make
+//! refusals`): the refusal says what it leaves, and the call succeeds when it is repeated.
 use relay_action::{DocKey, MemStream, OpName, Text};
 use relay_core::Report;
 use relay_report::{
@@ -124,7 +124,8 @@ const NAMED: &[Named] = &[
     },
 ];
 
-// How a report of two lines is read, if the names that it gives are the first of the two, and how many.
+// The result of reading a report of two lines, and the number of names that it returns, if they are
+// the first of the two.
 fn read_once(alloc: Global) -> Option<(Result<(), ReportFault>, usize)> {
     let mut stream = stream_of(alloc, LINES)?;
     let mut names = Vec::new(alloc);
@@ -155,7 +156,8 @@ const INPUT: &[u8] =
 const PICKED: &[u8] =
     b"{\"delete\":{\"_id\":\"a document of more than thirty-eight bytes\",\"_index\":\"books\"}}\n{\"index\":{\"_id\":\"\\u0061 document of more than thirty-eight bytes\",\"_index\":\"books\"}}\n{\"a\":\"a source of more than thirty-eight bytes\"}\n";
 
-// How the second and the third operation are picked, if what goes out is a front of them, and how much it is.
+// The result of picking the second and the third operation, and how many bytes are written, if they
+// are a prefix of the two.
 fn pick_once(alloc: Global) -> Option<(Result<u64, PickFault>, usize)> {
     let mut input = stream_of(alloc, INPUT)?;
     let mut writer = stream_of(alloc, b"")?;
@@ -166,7 +168,8 @@ fn pick_once(alloc: Global) -> Option<(Result<u64, PickFault>, usize)> {
         .then_some((found, written.len()))
 }
 
-// Whether they are picked, by a second call if the first was refused when a front of them had gone out.
+// Whether they are picked, by a second call if the first was refused after it had written a prefix
+// of them.
 fn picks(alloc: Global) -> bool {
     let whole = Some((Ok(3), PICKED.len()));
     match pick_once(alloc) {

@@ -72,7 +72,7 @@ items_say : (t : Tries) (ws : List Write) (place : ℕ) (kind : ActionKind) (os 
 items_say t ws place kind os true m = entry_says t ws place kind os (slice_get os place) refl m
 items_say t ws place kind os false m = by_tried (Says t ws place kind (Items os)) t (λ lt. (lt, (λ y. absurd (cc (y, m))), refl)) (λ le. (refl, le, (λ y. absurd (cc (y, m))), refl))
 
--- what is tried again as it is was not too large
+-- what is retried unchanged was not too large
 small_retried : (status : ℕ) → is_retried_whole status ≡ true → is_too_large status ≡ false
 small_retried status y = ⊎_elim {C = is_too_large status ≡ false}
     (λ t. let e = ap is_retried_whole (equal status 413 t) in absurd (cc (y, e)))
@@ -96,7 +96,7 @@ fate_says t ws place kind (Items os) = items_say t ws place kind os (matches os 
 fate_says t ws place kind (Whole s) = whole_says t ws place kind s
 fate_says t ws place kind Lost = by_tried (Says t ws place kind Lost) t (λ lt. (lt, tt, refl)) (λ le. (refl, le, tt, refl))
 
--- what it says where it is this fate
+-- what it says if it is this fate
 pub says_as : (t : Tries) (ws : List Write) (place : ℕ) (kind : ActionKind) (a : Answer) (f : Fate) → fate t ws place kind a ≡ f → Says t ws place kind a f
 says_as t ws place kind a f e = subst (λ x. Says t ws place kind a x) e (fate_says t ws place kind a)
 

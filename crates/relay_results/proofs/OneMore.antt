@@ -13,7 +13,7 @@ use Rattle.relay_results.specs.Parts.{SayUpTo}
 
 -- ---- one more member
 
--- what a name's value gives, after a member of this name
+-- what the value of a name contributes, after a member of this name
 pub told_here : {A : Type 0} (f : Data → Option A) (k name : List ℕ) (d : Data) (ms : Members) (found : Option A) → name ≡ k → found ≡ f d
     → found ≡ option_and_then f (get_member k (put name d ms))
 told_here f k name d ms found same is =
@@ -49,7 +49,7 @@ still_bad no_items place d h = absurd h
 still_bad (item x ds) zero d h = h
 still_bad (item x ds) (suc place) d h = (h.0, still_bad ds place d h.1)
 
--- entries are passed after the first that says no outcome
+-- entries are passed after the first that states no outcome
 pub passes : (ds : Items) (os : List Outcome) (d : Data) (bad : Bool) → bad ≡ true → SayUpTo ds os bad → SayUpTo (and_item ds d) os bad
 passes ds os d true is h = still_bad ds (length os) d h
 passes ds os d false is h = absurd (true≢false (sym is))

@@ -170,7 +170,7 @@ printed action.Index (Some t) index id result v a b c n p s ts = refl
 printed action.Delete None index id result v a b c n p s ts = refl
 printed action.Delete (Some t) index id result v a b c n p s ts = refl
 
--- what follows the strings, without the commas that stand in front
+-- what follows the strings, without the commas in front of them
 abbrev from_shards : (a b c n p s : ℕ) → List ℕ → List ℕ
 from_shards a b c n p s rest =
     codes "\"_shards\":{\"total\":" ++ (decimal a ++ (codes ",\"successful\":" ++ (decimal b ++ (codes ",\"failed\":" ++ (decimal c ++ (codes "},\"_seq_no\":" ++ (decimal n ++ (codes ",\"_primary_term\":" ++ (decimal p ++ (codes ",\"status\":" ++ (decimal s ++ (codes "}}" ++ rest))))))))))))

@@ -13,7 +13,7 @@ fn is_entry_for(outcome: &Outcome, write: &Write) -> bool
     outcome.kind == write.action.kind() && outcome.id.as_str() == write.key.id()
 }
 
-// Whether each entry has the action kind and the id of the write beside it.
+// Whether each entry has the action kind and the id of the write at its position.
 fn are_entries_for(outcomes: &[Outcome], writes: &[Write]) -> bool
     ensures { result ≡ list_all (λ p. is_entry_for p.0 p.1) (zip outcomes.now writes.now) }
 {

@@ -1,5 +1,5 @@
-//! Replies, of whose allocations any one may be refused (`make refusals`): the refusal is told, and the call does its work when
-//! it is made again.
+//! Replies, with any one of their allocations refused (`make refusals`): the refusal is reported,
+//! and the call succeeds when it is repeated.
 use relay_action::{ActionKind, DocKey};
 use relay_results::{DoneResult, ItemDone, Outcome, ReplyFault, read_reply, write_reply};
 use std::alloc::{AllocError, Global};

@@ -15,7 +15,7 @@ use Rattle.relay_producer.specs.States.{ProducerState, ClosedProducerState, lane
 use Rattle.relay_producer.proofs.Putting.{put_more, same_marked}
 use Rattle.relay_producer.proofs.Closing.{put_kept}
 use Rattle.relay_threads.specs.Relay.{AreNew, new_producer}
-use Rattle.relay_threads.specs.Delivered.{HavePut, AllDelivered}
+use Rattle.relay_threads.specs.DeliveryOfAll.{HavePut, AllDelivered}
 use Rattle.relay_threads.specs.declared.fault.FinishFault.{FinishFault}
 use Rattle.relay_threads.specs.declared.summary.Summary.{Summary}
 use Rattle.relay_run.specs.declared.feed.FeedFault.{FeedFault}
@@ -29,7 +29,7 @@ use Rattle.relay_run.specs.Handles.{Given, given_to, all_given, EndsFed, AllEndF
 
 -- ---- one producer
 
--- the operations that it was fed join what it had put, under their names
+-- the operations that it was fed are added to what it had put, with their names
 put_on : (s : ProducerState) (done : List Op) (ops : List Operation) → HasPut s.producer s.put (open_puts s.ends) done
     → HasPut s.producer (after_puts s ops).put (open_puts (after_puts s ops).ends) (done ++ named_ops s.epoch s.producer (s.put + 1) ops)
 put_on s done [] h = subst (HasPut s.producer s.put (open_puts s.ends)) (sym (append-nil done)) h

@@ -14,7 +14,7 @@ use Rattle.relay_run.specs.Outcomes.{total, reports_of}
 
 -- ---- files
 
--- a line of which the front was added, and the last part where there was memory
+-- a line whose front was added, and its last part unless an allocation failed
 pub ended_line : (r : Result Unit AllocError) (new mid text name file end line : List ℕ) → new ≡ (if is_ok r then mid ++ end else mid) → mid ≡ text ++ name → name ≡ file
     → file ++ end ≡ line → OnOk r (new ≡ text ++ line)
 ended_line (Ok x) new mid text name file end line n m f l = n ∙ ap (λ t. t ++ end) m ∙ append_assoc text name end ∙ ap (λ t. text ++ (t ++ end)) f ∙ ap (λ t. text ++ t) l
@@ -25,7 +25,7 @@ pub begins_on : (r : Result Unit AllocError) (new mid text name end : List ℕ) 
 begins_on (Ok x) new mid text name end n m = ap (take (length text)) (n ∙ ap (λ t. t ++ end) m ∙ append_assoc text name end) ∙ take-append_seam text (name ++ end)
 begins_on (Err e) new mid text name end n m = ap (take (length text)) (n ∙ m) ∙ take-append_seam text name
 
--- what is said of one file more
+-- what is said of one more file
 pub said_on : (files : List (List ℕ)) (opened : List Bool) (stops : List (Option FeedFault)) (place : ℕ) (file : List ℕ) (d : Bool) (e : Option FeedFault) (text new all : List ℕ)
     → place < length files → place < length opened → place < length stops
     → file ≡ get_or files place file → new ≡ text ++ said_of file (file_fault (get_or opened place d) (get_or stops place e))

@@ -4,7 +4,7 @@ ghost use Rattle.std.specs.Prelude.{is_some, length, map, option_map, string_byt
 ghost use Rattle.relay_core.specs.Limits.{is_valid};
 ghost use Rattle.relay_http.specs.WrittenRequest.{is_host};
 ghost use Rattle.relay_threads.specs.Relay.{NoneOut};
-ghost use Rattle.relay_wires.specs.Numbered.{numbers};
+ghost use Rattle.relay_wires.specs.Numbers.{numbers};
 ghost use Rattle.std.specs.Io.KnownBytes.{append_known};
 ghost use Rattle.relay_action.specs.Streams.{FailedSince};
 ghost use Rattle.relay_run.specs.Faults.{worse, file_fault, said_of, worse_by, faults_text};

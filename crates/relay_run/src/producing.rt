@@ -154,7 +154,7 @@ fn own_text(alloc: Global, text: Option<&str>) -> Result<Option<String>, AllocEr
 /// Starts a thread for each producer, which puts the operations of the reader at its position, if
 /// there is one, and closes. Operations without an index name get this index, if one is given. Each
 /// thread drops its clone of `ended` at its end. `Memory`: an allocation for what a thread is given
-/// failed. `Thread`: one could not be started. Threads that were started then go on.
+/// failed. `Thread`: one could not be started. Threads that were started then continue.
 pub(crate) fn spawn_producers<R, S>(
     rt: R,
     alloc: Global,

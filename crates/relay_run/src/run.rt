@@ -6,7 +6,7 @@ ghost use Rattle.relay_ndjson.specs.Metadata.{bytes_given};
 ghost use Rattle.relay_ndjson.specs.Operations.{Operation};
 ghost use Rattle.relay_queue.specs.Ends.{Queue};
 ghost use Rattle.relay_threads.specs.Relay.{NoneOut};
-ghost use Rattle.relay_threads.specs.Delivered.{AllDelivered};
+ghost use Rattle.relay_threads.specs.DeliveryOfAll.{AllDelivered};
 ghost use Rattle.relay_run.specs.Readers.{named_ops, AreFedFrom};
 
 use crate::feed::FeedFault;
@@ -43,8 +43,8 @@ pub struct Ran<W> {
 ///
 /// `StartFault`: `BadConfig` if the config is not valid, `WireCount` if there is not one wire and
 /// one pace for each lane; then nothing was started. `Thread`: a thread could not be started;
-/// `Memory`: an allocation for what the threads are given failed. Threads that were started then go
-/// on.
+/// `Memory`: an allocation for what the threads are given failed. Threads that were started then
+/// continue.
 pub fn run<R, W, P, S>(
     rt: R,
     alloc: Global,

@@ -18,7 +18,7 @@ pub(crate) struct Counters {
 }
 
 /// Counts for all of a run if its progress is shown, and for its dials also on a terminal, where
-/// trouble is shown at once. `AllocError`: allocation failed.
+/// trouble is shown immediately. `AllocError`: allocation failed.
 pub(crate) fn counters_of(
     alloc: Global,
     progress: bool,

@@ -1,7 +1,7 @@
-//! Runs and what is said of them, of whose allocations any one may be refused (`make refusals`): they end well,
-//! or tell of the refusal, and then the next one ends well.
+//! Runs and their output, with any one of their allocations refused (`make refusals`): they
+//! succeed, or they report the refusal and the next one succeeds.
 ghost use Rattle.std.specs.Prelude.{◌≡◌, ◌∷◌, [], IfSome};
-ghost use Rattle.relay_wires.specs.Numbered.{numbers};
+ghost use Rattle.relay_wires.specs.Numbers.{numbers};
 
 use crate::loopback::CONFIG;
 use relay_action::{DocKey, MemStream, OpName, Text};
@@ -77,7 +77,7 @@ fn report_of(alloc: Global) -> Option<Vec<Report>> {
 const OUTCOME: &[u8] =
     b"report 1:3 books/a document of more than thirty-eight bytes Refused 400 mapper_parsing_exception\napplied 7 already 2 reported 1\n";
 
-// Whether an outcome is told, by a second call if the first was refused.
+// Whether an outcome is printed, by a second call if the first was refused.
 fn tells(alloc: Global) -> Option<bool> {
     let mut reports = report_of(alloc)?;
     let text = match outcome_text(alloc, &mut reports, 7, 2) {
@@ -106,17 +106,17 @@ const SAVED: &[u8] =
 const NOT_SAVED: &[u8] =
     b"a-file-whose-name-has-more-than-thirty-eight-bytes.ndjson: write failed\n";
 
-/// What came of reports that were to be saved: how the program ends, if it does, how many bytes went into the
-/// file, and what was said.
+/// The result of saving reports: how the program ends, if it does, how many bytes were written to
+/// the file, and what was printed.
 #[derive(Clone, Copy, PartialEq)]
 enum Saving {
     Done(Exit, usize),
-    /// Nothing was said, and the file is not whole.
+    /// Nothing was printed, and the file is not complete.
     Refused,
     Wrong,
 }
 
-// Saves reports in a file, and says what is to be said.
+// Saves reports in a file, and checks what is printed.
 fn save(
     alloc: Global,
     reports: &[Report],
@@ -137,7 +137,7 @@ fn save(
     }
 }
 
-// Saves reports in a file that takes so many bytes.
+// Saves reports in a file that takes this many bytes.
 fn save_once(alloc: Global, room: usize, said: &[u8]) -> Option<Saving> {
     let reports = report_of(alloc)?;
     let mut file = stream_of(alloc, b"", room)?;
@@ -145,7 +145,8 @@ fn save_once(alloc: Global, room: usize, said: &[u8]) -> Option<Saving> {
     Some(save(alloc, &reports, &mut file, &mut err, said))
 }
 
-// Whether they are saved, or that they could not be is said, by a second call if the first was refused.
+// Whether they are saved, or a message says that they could not be, by a second call if the first
+// was refused.
 fn saves(alloc: Global, room: usize, exit: Exit, said: &[u8]) -> bool {
     let done = Some(Saving::Done(exit, room.min(SAVED.len())));
     match save_once(alloc, room, said) {
@@ -178,14 +179,14 @@ fn producer_once(alloc: Global) -> Option<(LaneTake, Producer)> {
 /// How a producer was fed: how it ended, and the line of the last operation that was put.
 type Fed = (Result<(), FeedFault>, u64);
 
-// Feeds a producer, whose ends are dropped after it.
+// Feeds a producer, and then drops its ends.
 fn feed_all<R: Wait>(rt: &R, alloc: Global, mut producer: Producer) -> Option<Fed> {
     let mut input = Input::new(alloc, stream_of(alloc, INPUT, 0)?, None);
     let end = feed(rt, &mut input, &mut producer);
     Some((end, input.line()))
 }
 
-// How many messages a lane's queue has, of which all senders are gone.
+// How many messages are in the queue of a lane whose senders are all gone.
 fn count<R: Wait>(rt: &R, take: &mut LaneTake) -> u64 {
     let mut taken = 0u64;
     for _ in 0..4u64 {
@@ -203,7 +204,7 @@ fn feed_once<R: Wait>(rt: &R, alloc: Global) -> Option<(Fed, u64)> {
     Some((fed, count(rt, &mut take)))
 }
 
-// Whether a feed was refused at a line after this one, when the operations up to it had been put.
+// Whether a feed was refused at a line after this one, and the operations up to it had been put.
 fn is_cut(end: Result<(), FeedFault>, line: u64, put: u64) -> bool {
     let before = match line {
         0 => put == 0,
@@ -281,8 +282,8 @@ where
     run_over(rt, alloc, wire_of(alloc)?)
 }
 
-// Whether a run was whole: each producer was fed its three operations, and each is applied, or reported as a
-// conflict of its document with the other producer's.
+// Whether a run was complete: each producer was fed its three operations, and each is applied, or
+// reported as a conflict with the write of its document by the other producer.
 fn is_whole(ran: &Ran<LoopWire>) -> bool {
     let fed = ran.faults.iter().all(|fault| fault.is_none());
     let taken = match &ran.end {
@@ -298,7 +299,7 @@ fn is_whole(ran: &Ran<LoopWire>) -> bool {
     fed && taken
 }
 
-// Whether a fault of a producer, or of a relay's end, may come of a refusal.
+// Whether a fault of a producer, or of the end of a relay, can be due to a refusal.
 fn is_refused(fault: &Option<FeedFault>) -> bool {
     match fault {
         Some(FeedFault::Input(fault)) => fault.kind == LineKind::Memory,
@@ -308,7 +309,7 @@ fn is_refused(fault: &Option<FeedFault>) -> bool {
     }
 }
 
-// Whether a run tells of a refusal, by a fault of a producer or at its end, and of nothing else.
+// Whether a run reports a refusal, by a fault of a producer or at its end, and nothing else.
 fn tells_refusal(ran: &Ran<LoopWire>) -> bool {
     let (told, right) = match &ran.end {
         Ok(_) => (false, true),
@@ -321,11 +322,11 @@ fn tells_refusal(ran: &Ran<LoopWire>) -> bool {
     (told || faults) && right && ran.faults.iter().all(is_refused)
 }
 
-/// What a run came to.
+/// The outcome of a run.
 #[derive(Clone, Copy, PartialEq)]
 enum Came {
     Whole,
-    /// It tells of a refusal, or an allocation of the test was refused.
+    /// It reports a refusal, or an allocation of the test was refused.
     Refused,
     Wrong,
 }

@@ -21,7 +21,7 @@ not_space x e d =
     let s = space_is_none in
     omega (arith, s, rw same at d)
 
--- digits alone hold no space
+-- digits contain no space
 digits_word : (xs : List ℕ) → AllDigits 10 xs → IsWord xs
 digits_word [] all = refl
 digits_word (x ∷ xs) all =
@@ -38,7 +38,7 @@ pub more_numbers : (text word rest : List ℕ) (n : ℕ) (ns : List ℕ) → Beg
 more_numbers text word rest n [] b h r = absurd r
 more_numbers text word rest n (m ∷ ns) b h r = (word, rest, b, h, r)
 
--- where a text is cut, its numbers are a number and the numbers of the rest
+-- if a text is cut, its numbers are a number and the numbers of the rest
 pub record Splits (word rest : List ℕ) (ns : List ℕ) : Type 0 where
   pub n : ℕ
   pub later : List ℕ

@@ -7,7 +7,7 @@ use Rattle.std.proofs.lemmas.List.{get_or-take}
 use Rattle.std.proofs.lemmas.List.Sums.{passes_at_first, split_at_first, fails_before_first}
 use Rattle.relay_scenario.specs.Words.{Begins, IsWord}
 
--- no element is a space, so no space stands in the text
+-- no element is a space, so the text contains no space
 none_is : (text : List ℕ) → ((k : ℕ) → k < length text → (get_or text k 0 == 32) ≡ false) → IsWord text
 none_is [] h = refl
 none_is (x ∷ xs) h =
@@ -18,14 +18,14 @@ none_is (x ∷ xs) h =
 whole_word : (text : List ℕ) → position_or_len (λ b. b == 32) text ≡ length text → IsWord text
 whole_word text e = none_is text (λ k lt. fails_before_first (λ b. b == 32) text k 0 (omega (arith, e, lt)))
 
--- what stands before the first space is a word
+-- what precedes the first space is a word
 front_word : (text : List ℕ) → position_or_len (λ b. b == 32) text < length text → IsWord (before_first (λ b. b == 32) text)
 front_word text lt =
     none_is (before_first (λ b. b == 32) text)
     (λ k h. let below : k < position_or_len (λ b. b == 32) text = grind (arith, common_steps, h) in
     rw (get_or-take (position_or_len (λ b. b == 32) text) text k 0 below) (fails_before_first (λ b. b == 32) text k 0 below))
 
--- the parts round the first space
+-- the parts on both sides of the first space
 parts_begin : (text front back : List ℕ) → front ≡ before_first (λ b. b == 32) text → back ≡ after_first (λ b. b == 32) text → position_or_len (λ b. b == 32) text < length text → Begins text front back
 parts_begin text front back f b lt = record {
   is_word = rw f (front_word text lt);

@@ -1,4 +1,4 @@
--- What is no line of a script.
+-- What is not a line of a script.
 use Rattle.std.proofs.Common.{◌≡◌, ◌≢◌, ℕ, ◌<◌, ◌^◌, List, None, Some, Result, Ok, Err, IfErr, codes, true, false, not, refl, ap, sym, ◌∙◌, subst, arith, inl, inr, unwrap_or, bytes_eq}
 use Rattle.relay_action.specs.Faults.{key_fault, source_fault}
 use Rattle.relay_action.specs.declared.fault.ActionFault.{ActionFault}
@@ -23,7 +23,7 @@ use Rattle.relay_scenario.specs.declared.event_line.LineFault.TheVariants as fau
 use Rattle.relay_scenario.proofs.Cutting.{same_cut, no_cut}
 use Rattle.relay_scenario.proofs.Counting.{same_numbers}
 
--- two texts that a test tells apart
+-- two texts that a test distinguishes
 pub differ : (a b : List ℕ) → false ≡ bytes_eq a b → a ≢ b
 differ a b e s = let h : bytes_eq a b ≡ true = rw s (bytes_eq-self b) in cc
 
@@ -40,7 +40,7 @@ no_id text index rest b w key more h =
     let same = same_cut text index key.index rest h.middle b h.index in
     no_cut h.middle key.id more (subst (λ (t : List ℕ). IsWord t) same.1 w) h.id
 
--- two words that a document has are at fault for lack of memory alone
+-- two words of a document can only fail because of an allocation
 memory_alone : (index id : List ℕ) (key : DocKey) (e : ActionFault) → index ≡ key.index → id ≡ key.id → e ≡ unwrap_or (key_fault index id) action.Memory → fault_of e ≡ fault.Memory
 memory_alone index id key e i d f =
     let none : key_fault index id ≡ None = rw (i, d) (key_none key.index key.id key.index_ok key.id_ok) in
@@ -81,7 +81,7 @@ memory_of text source e b f Delete h = absurd (no_cut text (codes "index") sourc
 pub no_source : (text source : List ℕ) (e : ActionFault) → Begins text (codes "index") source → e ≡ unwrap_or (source_fault source) action.Memory → IsActionFault text (fault_of e)
 no_source text source e b f = action_at_fault text (fault_of e) (memory_of text source e b f)
 
--- a word asks for a deletion alone
+-- a word asks only for a deletion
 pub word_action : (text : List ℕ) → IsWord text → text ≢ codes "delete" → (a : Action) → AsksFor text a → ⊥
 word_action text w ne (Index s) h = no_cut text (codes "index") s.text w h
 word_action text w ne Delete h = ne h

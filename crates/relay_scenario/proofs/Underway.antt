@@ -29,7 +29,7 @@ append_known-nil (Some xs) = ap Some (append-nil xs)
 same_sink : (s t : Sink) → s.shown ≡ t.shown → s.sent ≡ t.sent → s ≡ t
 same_sink s t e f = λ i. record { shown = e i; sent = f i }
 
--- nothing goes out
+-- nothing is written
 sends_none : (w : Sink) → w.sent ≤ most → w ≡ with_sent w []
 sends_none w h = same_sink w (with_sent w []) (sym (append_known-nil w.shown)) (omega (arith, h))
 
@@ -41,7 +41,7 @@ sends_both w xs ys =
 pub flows_none : (text : List ℕ) (written : Sink) → written.sent ≤ most → Flows [] text written text written
 flows_none text written h = record { front = []; whole = append-nil text; writes = sends_none written h }
 
--- more comes after what came before, and some of all that is written after what was
+-- more follows what came before, and some of all that is written after what was written
 pub flows_on : (a b text mid rest : List ℕ) (w u v : Sink) → Flows a text w mid u → Flows b mid u rest v → Flows (a ++ b) text w rest v
 flows_on a b text mid rest w u v f g = record {
   front = f.front ++ g.front;
@@ -113,7 +113,7 @@ cut_at text sent count before after m =
 pub breaks_last : (text : List ℕ) (written after : Sink) → IsWrittenInPart written after text → Breaks text written after
 breaks_last text written after c = record { more = []; cut = subst (λ (xs : List ℕ). IsWrittenInPart written after xs) (sym (append-nil text)) c }
 
--- no text is not cut
+-- the empty text is not cut
 pub none_cut : (written after : Sink) (text : List ℕ) → text ≡ [] → IsWrittenInPart written after text → ⊥
 none_cut written after text t c =
     let n = length-append c.front c.later in
@@ -155,7 +155,7 @@ underway_written first now start w count before text rest written after u f = re
   flows = subst (λ (xs : List ℕ). Flows xs [] before rest after) (append-nil u.out) (flows_on u.out [] [] text rest before written after u.flows f);
 }
 
--- one event more was played
+-- one more event was played
 pub underway_more : (first now new : Option (List ℕ)) (start w next : World) (count after : ℕ) (before : Sink) (text longer : List ℕ) (written : Sink) (e : Event) (line : List ℕ) → written.sent ≤ most → Underway first now start w count before text written → TakesEvent now new count after (Ok (Some e)) → PlaysOne w e next line → longer ≡ text ++ line → Underway first new start next after before longer written
 underway_more first now new start w next count after before text longer written e line h u t p l = record {
   events = u.events ++ e ∷ [];

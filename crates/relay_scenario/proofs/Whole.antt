@@ -45,7 +45,7 @@ halts_at_end first now start w count before text rest written after r u e p = re
   leaves = leaves_after now u.out text rest before written after r e u.flows p;
 }
 
--- no read fails where the ending is written
+-- no read fails if the ending is written
 pub reads_after : (text rest : List ℕ) (written after : Sink) (r : Result Unit ScriptFault) (old new : ℕ) → PassesText text written rest after r → new ≡ old → new ≡ failed_by r old
 reads_after text rest written after (Ok x) old new p e = e
 reads_after text rest written after (Err (fault.BadLine line)) old new p e = absurd p
@@ -53,7 +53,7 @@ reads_after text rest written after (Err fault.Read) old new p e = absurd p
 reads_after text rest written after (Err (fault.Write sent)) old new p e = e
 reads_after text rest written after (Err fault.Memory) old new p e = e
 
--- memory ran out before the first event
+-- an allocation failed before the first event
 pub halts_at_once : (first : Option (List ℕ)) (start : World) (before : Option (List ℕ)) (text : List ℕ) (written : Sink) → text ≡ [] → written ≡ fresh_sink before → Halts first first start (fresh_sink before) text written (Err fault.Memory)
 halts_at_once first start before text written t w = record {
   events = [];
@@ -69,7 +69,7 @@ halts_at_once first start before text written t w = record {
 
 -- ---- what was left is written
 
--- of an answer that stays, all went out
+-- for a result that stays, everything was written
 writes_all : (rest before : Option (List ℕ)) (written : Sink) (after : Option (List ℕ)) (text out : List ℕ) (answer : Result Unit ScriptFault) → Leaves rest (fresh_sink before) text written out answer → after ≡ append_known written.shown text → ((sent : ℕ) → answer ≡ Err (fault.Write sent) → ⊥) → Writes rest before after out answer
 writes_all rest before written after text out (Ok x) l e n = (l.0, flows_out (out ++ l.0) text (fresh_sink before) written after l.1 e)
 writes_all rest before written after text out (Err (fault.BadLine line)) l e n = flows_out out text (fresh_sink before) written after l e
@@ -78,7 +78,7 @@ writes_all rest before written after text out (Err (fault.Write sent)) l e n = a
 writes_all rest before written after text out (Err fault.Memory) l e n =
     (l.0, l.1, record { front = out ++ l.0; later = []; whole = sym (append-nil (out ++ l.0)); writes = flows_out (out ++ l.0) text (fresh_sink before) written after l.2 e })
 
--- of all but a failed write there was some text to be written, of which some was
+-- except for a failed write, there was text to be written, and some of it was
 pub record HasText (rest : Option (List ℕ)) (before written : Sink) (text out : List ℕ) : Type 0 where
   pub ending : List ℕ
   pub may : MayEnd rest ending
@@ -99,7 +99,7 @@ has_text events rest before written text out (Err fault.Memory) s l n = record {
 cut_at_end : (rest : Option (List ℕ)) (before written after : Sink) (text out : List ℕ) → HasText rest before written text out → IsWrittenInPart written after text → (ending : List ℕ) × MayEnd rest ending × IsWrittenInPart before after (out ++ ending)
 cut_at_end rest before written after text out h c = (h.ending, h.may, cut_last (out ++ h.ending) text before written after h.flows c)
 
--- what is said of the result, where that is said of the answer
+-- what is said of the result, if that is said of the answer
 pub record Ends (events : ℕ) (rest before after : Option (List ℕ)) (out : List ℕ) (result : Result Unit ScriptFault) : Type 0 where
   pub stops : Stops events rest result
   pub writes : Writes rest before after out result
@@ -173,7 +173,7 @@ is_script front left before written after held text failed count answer result p
 is_script front left before written after held text failed count answer result p (inr h) c =
     inr (no_world front before written after text failed count answer result h.0 h.2 h.3 c, record { held = held; one_piece = p; uses = h.1 })
 
--- ---- the answer, where it stays and where it does not
+-- ---- the answer, if it stays and if it does not
 
 pub closes_at_once : (answer : Result Unit ScriptFault) (text : List ℕ) (written : Sink) (failed : ℕ) → is_failed_write answer ≡ true → Closes answer text written failed written.shown failed answer
 closes_at_once (Ok x) text written failed e = absurd (cc)

@@ -61,7 +61,7 @@ pub record UsesOneLine (old new : Option (List ℕ)) : Type 0 where
   pub part : IsOfOneLine bytes
   pub short : length bytes ≤ line_limit + 2
 
--- The same, given what the reader has left: besides, at most one piece was read beyond the line.
+-- The same, given what the reader has left: and at most one piece was read beyond the line.
 pub record ReadsOn (front left : Option (List ℕ)) : Type 0 where
   pub held : List ℕ
   pub one_piece : length held ≤ piece_limit

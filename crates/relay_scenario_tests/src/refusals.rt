@@ -1,5 +1,5 @@
-//! Scripts, of whose allocations any one may be refused (`make refusals`): what went out is a front
-//! of what goes out without the refusal.
+//! Scripts, with any one of their allocations refused (`make refusals`): what was written is a
+//! prefix of what is written without the refusal.
 use crate::scripts::{ITS_ANSWERS, THREE_THEN_ONE};
 use relay_action::MemStream;
 use relay_core::RelayConfig;
@@ -30,7 +30,7 @@ fn event_of(alloc: Global, line: &[u8]) -> Option<Event> {
     }
 }
 
-// A number by which the events of the lines below are told apart.
+// A number that differs for the events of the lines below.
 fn number_of(event: &Event) -> usize {
     match event {
         Event::Put(_, key, _) => key.id().len(),
@@ -65,7 +65,7 @@ fn stream_of(alloc: Global, input: &[u8]) -> Option<MemStream> {
     stream_once(alloc, input).or_else(|| stream_once(alloc, input))
 }
 
-// What a worked script is answered, and what was written.
+// The result of a worked script, and what was written.
 fn play(alloc: Global) -> Option<(Result<(), ScriptFault>, MemStream)> {
     let mut reader = stream_of(alloc, THREE_THEN_ONE)?;
     let mut writer = stream_of(alloc, b"")?;
@@ -73,8 +73,8 @@ fn play(alloc: Global) -> Option<(Result<(), ScriptFault>, MemStream)> {
     Some((found, writer))
 }
 
-// Whether it is played, by a second run if the first was refused when a front of the answers had
-// gone out.
+// Whether it is played, by a second run if the first was refused after it had written a prefix of
+// the answers.
 fn plays(alloc: Global) -> Option<bool> {
     let (found, writer) = play(alloc)?;
     if found.is_ok() {

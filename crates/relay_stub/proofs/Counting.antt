@@ -1,4 +1,4 @@
--- How many connections a listener has handed out.
+-- How many connections a listener has provided.
 use Rattle.std.proofs.Common.{◌≡◌, ℕ, suc, zero, ◌+◌, ◌≤◌, ap, ◌∙◌, arith}
 use Rattle.relay_action.specs.Streams.{most, one_more}
 use Rattle.relay_index.specs.Serving.{Server}

@@ -54,8 +54,8 @@ impl<'a> Desk<'a> {
         self.handed == visits && self.closed == visits && self.wrong == 0
     }
 
-    /// Whether that many connections were handed out and taken back, and each was written its
-    /// answer or nothing.
+    /// Whether that many connections were provided and taken back, and to each its answer or
+    /// nothing was written.
     pub fn answered_or_dropped(&self, visits: usize) -> bool {
         self.handed == visits && self.closed == visits && self.wrong == self.unanswered
     }

@@ -1,6 +1,6 @@
-//! Connections served in memory, of whose allocations any one may be refused (`make refusals`):
-//! each is answered, or dropped with nothing written, and no write is applied twice when the
-//! request comes again.
+//! Connections served in memory, with any one of their allocations refused (`make refusals`): each
+//! is answered, or dropped with nothing written, and no write is applied twice when the request is
+//! repeated.
 use crate::desk::{Desk, Visit};
 use crate::ends::{ANSWER, DELETES, LINES};
 use relay_action::MemStream;
@@ -36,7 +36,7 @@ fn lines_of(alloc: Global, index: &Index) -> Option<Vec<u8>> {
     }
 }
 
-// How many writes an index applied, a line each.
+// How many writes an index applied; its listing has a line for each.
 fn count(alloc: Global, index: &Index) -> Option<u64> {
     let lines = lines_of(alloc, index)?;
     Some(lines.iter().filter(|byte| **byte == b'\n').count() as u64)
@@ -47,12 +47,12 @@ fn count(alloc: Global, index: &Index) -> Option<u64> {
 enum Came {
     Answered,
     Dropped,
-    /// After so many items were run.
+    /// After this many items were run.
     Refused(u64),
     Wrong,
 }
 
-// Serves a connection, whose answer begins so.
+// Serves a connection, whose answer begins with this.
 fn connect(alloc: Global, index: &mut Index, script: &mut Script, answer: &[u8]) -> Option<Came> {
     let stream = stream_of(alloc, DELETES)?;
     let (served, stream) = serve_connection(alloc, stream, index, script);
@@ -65,8 +65,8 @@ fn connect(alloc: Global, index: &mut Index, script: &mut Script, answer: &[u8])
     })
 }
 
-// Whether a fresh index has applied as many writes as how its first connection was served tells, of
-// whose four items the script refused the second.
+// Whether a fresh index has applied the number of writes that follows from how its first connection
+// was served. The script refused the second of its four items.
 fn is_right(came: Came, applied: u64) -> bool {
     match came {
         Came::Answered => applied == 3,
@@ -76,7 +76,7 @@ fn is_right(came: Came, applied: u64) -> bool {
     }
 }
 
-// Whether two of three connections with the same request are answered, of which one may be refused.
+// Whether two of three connections with the same request are answered; one of them may be refused.
 fn answers_two(alloc: Global, index: &mut Index, script: &mut Script) -> Option<bool> {
     let first = connect(alloc, index, script, ANSWER)?;
     let mut right = is_right(first, count(alloc, index)?);
@@ -115,18 +115,18 @@ const VISITS: [Visit<'static>; 1] = [Visit {
     wanted: ANSWER,
 }];
 
-/// What came of a listener or of the command.
+/// The outcome of a listener, or of the command.
 #[derive(Clone, Copy, PartialEq)]
 enum End {
     /// The connection was answered, and its writes applied.
     Whole,
-    /// A refusal was told, or dropped the connection.
+    /// A refusal was reported, or the connection was dropped because of it.
     Refused,
     Wrong,
 }
 
-// What the end of a listener's connection says. The items are run in an order of which each front
-// is a tail of the lines.
+// The outcome of serving a listener's connection. The items are run in the reverse order of the
+// lines, so what was applied is at the end of the lines.
 fn end_of(desk: &Desk<'_>, served: Result<(), ServeError>, lines: &[u8]) -> End {
     let closed = desk.answered_or_dropped(1);
     let right = match served {
@@ -159,7 +159,7 @@ fn refused_serving(rt: HostRuntime) {
     assert!(rt; first == Some(End::Whole) || serve_once(rt.alloc()) == Some(End::Whole));
 }
 
-// What the end of the command says: it wrote the lines of what was applied, or nothing.
+// The outcome of the command: it wrote the lines of what was applied, or nothing.
 fn end_of_command(desk: &Desk<'_>, done: Result<(), StubFault>, written: &[u8]) -> End {
     let closed = desk.answered_or_dropped(1);
     let right = match done {

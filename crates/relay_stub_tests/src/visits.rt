@@ -184,7 +184,7 @@ fn one_after_another(rt: HostRuntime) {
     assert!(rt; leaves(rt.alloc(), &visits, 5, &[], Ok(()), lines));
 }
 
-// Positions count over all requests, and those that are not bulk have none.
+// Positions are counted over all requests; a request that is not bulk has none.
 #[test]
 fn refusals(rt: HostRuntime) {
     let visits = [

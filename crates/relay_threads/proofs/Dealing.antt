@@ -1,4 +1,4 @@
--- The ends of the senders, dealt out from the last sender to the first.
+-- The ends of the senders, distributed from the last sender to the first.
 use Rattle.std.proofs.Common.{◌≡◌, ℕ, zero, suc, ◌+◌, ◌<◌, ◌≤◌, List, [], ◌∷◌, ◌++◌, length, map, sym, refl, ap, ◌∙◌, subst, arith, add-one, length-append}
 use Rattle.std.specs.declared.thread.PromisedHandle.{PromisedHandle}
 use Rattle.relay_queue.specs.Ends.{Queue, SenderEnd, fresh, fresh_puts}
@@ -62,7 +62,7 @@ fresh_each n [] k d lt = absurd (omega arith)
 fresh_each n (q ∷ qs) zero d lt = refl
 fresh_each n (q ∷ qs) (suc k) d lt = fresh_each n qs k d (omega arith)
 
--- what was dealt to one sender, and what is left
+-- what one sender got, and what is left
 pub record DealsOne (n : ℕ) (qs : List Queue) (news : List (List SenderEnd)) (lasts : List SenderEnd) : Type 0 where
   pub left : news ≡ map (λ q. fresh_puts q n) qs
   pub dealt : lasts ≡ map (λ q. fresh q n) qs

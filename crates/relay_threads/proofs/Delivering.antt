@@ -27,10 +27,10 @@ use Rattle.relay_threads.specs.declared.summary.LaneSummary.{LaneSummary}
 use Rattle.relay_threads.specs.Course.{puts_of}
 use Rattle.relay_threads.specs.Relay.{AreRows, rows_of}
 use Rattle.relay_threads.specs.Sums.{IsMetAt, AreMetAt}
-use Rattle.relay_threads.specs.Finished.{FinishedLane, AllFinished}
+use Rattle.relay_threads.specs.Ending.{FinishedLane, AllFinished}
 use Rattle.relay_threads.proofs.Popping.{long_map}
 use Rattle.relay_threads.proofs.Summing.{row_long}
-use Rattle.relay_threads.specs.Delivered.{HavePut, DeliveredLane, AllDelivered}
+use Rattle.relay_threads.specs.DeliveryOfAll.{HavePut, DeliveredLane, AllDelivered}
 
 -- ---- operations of one producer
 

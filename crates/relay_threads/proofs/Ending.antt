@@ -77,7 +77,7 @@ module _ {S : Type 0} (d : Bool) (fits : S → Outside → Type 0) where
     none_held = λ f. collected_none s t worked (x.none_held f);
   }
 
-  -- where it finished, it took each sender's Done
+  -- if it finished, it took each sender's Done
   pub all_closed_there : (start w : S) (c : RelayConfig) (taken : List Mail) (kind : LaneEndKind) (s : State) (senders : ℕ) → EndsAs d fits start w c taken kind s → senders ≡ c.producers + 1 → kind ≡ Finished
       → (sender : ℕ) → sender < senders → HasDone (mail_of sender taken)
   all_closed_there start w c taken kind s senders x count f sender lt =

@@ -1,4 +1,4 @@
--- Where no lane went wrong, all have finished.
+-- If no lane went wrong, all have finished.
 use Rattle.std.proofs.Common.{◌≡◌, ◌≢◌, ◌++◌, append-nil, length-append, ℕ, suc, ◌+◌, ◌<◌, ◌≤◌, Bool, true, false, ◌||◌, List, [], ◌∷◌, length, map, sym, refl, ap, ◌∙◌, subst, arith}
 use Rattle.std.specs.Prelude.{nat_le}
 use Rattle.std.proofs.lemmas.List.{length-map}
@@ -9,7 +9,7 @@ use Rattle.relay_action.specs.declared.operation.Op.{Op}
 use Rattle.relay_results.specs.Outside.{Outside}
 use Rattle.relay_delivery.specs.Delivery.{HasDistinctNames, IsSound, IsComplete, applied_ops}
 use Rattle.relay_delivery.specs.Machine.{Config, Report}
-use Rattle.relay_delivery.specs.Reached.{Reached}
+use Rattle.relay_delivery.specs.Reach.{Reached}
 use Rattle.relay_queue.specs.Ends.{Queue}
 use Rattle.relay_queue.specs.Messages.{IsWellTaken}
 use Rattle.relay_core.specs.declared.config.RelayConfig.{RelayConfig}
@@ -29,7 +29,7 @@ use Rattle.relay_threads.specs.Course.{puts_of, HasHeard}
 use Rattle.relay_threads.specs.Promises.{KeepsCourse}
 use Rattle.relay_threads.specs.Lanes.{queues_of, wires_of, AreLanesOf, EndAsPromised}
 use Rattle.relay_threads.specs.Faults.{ends_as, is_memory, is_gone_kind, is_gone_in, is_gone_in_any, is_gone_lane}
-use Rattle.relay_threads.specs.Finished.{EndsOn, AllEndOn, Carries, FinishedLane, AllFinished}
+use Rattle.relay_threads.specs.Ending.{EndsOn, AllEndOn, Carries, FinishedLane, AllFinished}
 use Rattle.relay_threads.specs.Relay.{RelayState, AreRows, rows_of}
 use Rattle.relay_threads.specs.Sums.{AreMetAt, NoneGoneIn, NoneGone, queues_of_ends, AreDone, SumsUp, AllSumUp}
 use Rattle.relay_threads.proofs.Popping.{long_map}

@@ -56,7 +56,7 @@ done-split (m ∷ ms) b h =
     ⊎_elim (λ (d : IsDone m). inl (inl d))
     (λ (d : HasDone (ms ++ b)). ⊎_elim (λ (x : HasDone ms). inl (inr x)) (λ (y : HasDone b). inr y) (done-split ms b d)) h
 
--- a message that is no Done of this sender leaves it open
+-- a message that is not this sender's Done leaves it open
 open_more : (p : ℕ) (heard : List Mail) (m : Mail) → (m.sender ≡ p → ¬ IsDone m) → ¬ HasDone (mail_of p heard) → ¬ HasDone (mail_of p (heard ++ m ∷ []))
 open_more p heard m other none d =
     ⊎_elim (λ (t : (eqb m.sender p ≡ true) × (m.sender ≡ p)).
@@ -89,7 +89,7 @@ open_body s heard m body.Done e lt h = open_close s.closed heard m lt h
 pub open_take : (s : State) (heard : List Mail) (m : Mail) → m.sender < length s.closed → KnowsOpen s.closed heard → KnowsOpen (after_take s m.sender m.body).closed (heard ++ m ∷ [])
 open_take s heard m lt h = open_body s heard m m.body refl lt h
 
--- where not all have closed, one has not
+-- if not all have closed, one has not
 one_at : (closed : List Bool) → list_all (λ (b : Bool). b) closed ≡ false → (p : ℕ) × (p < length closed) × (get_or closed p false ≡ false)
 one_at [] e = absurd (cc)
 one_at (false ∷ bs) e = (0, omega arith, refl)

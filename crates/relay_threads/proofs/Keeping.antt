@@ -1,4 +1,4 @@
--- The course of a lane goes on while it works and takes.
+-- The course of a lane continues while it works and takes.
 use Rattle.std.proofs.Common.{◌≡◌, ◌≢◌, ◌+◌, ◌<◌, List, [], ◌∷◌, ◌++◌, Bool, Result, Ok, Err, OnOk, OnErr, refl, sym, ap, ◌∙◌, subst, arith, length, length-append}
 use Rattle.std.proofs.lemmas.List.{length-replicate}
 use Rattle.relay_action.specs.declared.mail.Mail.{Mail}
@@ -10,7 +10,7 @@ use Rattle.relay_core.specs.Ties.{Fits, ops_of}
 use Rattle.relay_core.proofs.Tying.{fresh_fits, take_fits}
 use Rattle.relay_lane.specs.Turns.{Turn, Worked, Stays}
 use Rattle.relay_lane.specs.Delivers.{Delivers}
-use Rattle.relay_lane.specs.Reached.{IsReached}
+use Rattle.relay_lane.specs.Reach.{IsReached}
 use Rattle.relay_lane.specs.Out.{out_of}
 use Rattle.relay_lane.proofs.Out.{take_keeps_out}
 use Rattle.relay_lane.proofs.Carrying.{goes_on}
@@ -50,7 +50,7 @@ module _ {S : Type 0} (d : Bool) (fits : S → Outside → Type 0) where
 
   -- ---- it works
 
-  -- what was delivered until now goes on over requests
+  -- what was delivered until now continues over requests
   further : (start v w : S) (s t : State) (c : RelayConfig) (heard : List Mail) → Delivers d fits v w s t → DeliversFrom d fits start v c heard s → DeliversFrom d fits start w c heard t
   further start v w s t c heard new old is o f opening below =
       let x = old is o f opening below in
@@ -122,7 +122,7 @@ pub keeps_on : {S : Type 0} (d e : Bool) (fits : S → Outside → Type 0) (u v 
 keeps_on d e fits u v w r s t a b c same x y start g k =
     subst (λ z. Course z fits start w g c t) same (y start g (subst (λ z. Course z fits start v g b s) (sym same) (x start g k)))
 
--- a message that was taken, or refused, leaves what is out
+-- a message that was taken, or refused, leaves what is outstanding
 pub out_after : {A E : Type 0} (r : Result A E) (s t : State) (m : Mail) → OnOk r (t ≡ after_take s m.sender m.body) → OnErr r (t ≡ s) → out_of t ≡ out_of s
 out_after (Ok x) s t m ok err = ap out_of ok ∙ take_keeps_out s m.sender m.body
 out_after (Err x) s t m ok err = ap out_of err

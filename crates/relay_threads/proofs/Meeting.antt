@@ -5,7 +5,7 @@ use Rattle.relay_queue.specs.Ends.{Queue}
 use Rattle.relay_producer.specs.declared.ends.ClosedEnd.{ClosedEnd}
 use Rattle.relay_threads.specs.Sums.{IsClosedOn, AreClosedOn, IsMet, AreMet}
 
--- so many were met, and the others are left
+-- this many were met, and the others are left
 pub record MeetsOn (queue : Queue) (taken : List Mail) (column left : List ClosedEnd) (sender : ℕ) : Type 0 where
   pub met : List ClosedEnd
   pub all : column ≡ met ++ left

@@ -2,7 +2,7 @@
 use Rattle.std.proofs.Common.{◌≡◌, ℕ, zero, suc, ◌+◌, ◌<◌, List, [], ◌∷◌, ◌++◌, length, map, set, get_or, sym, refl, ap, ◌∙◌, subst, arith, append-nil, length-append}
 use Rattle.relay_threads.specs.Rows.{HaveSome, LoseLast}
 
--- so many lists have lost their last element, and the others are as before
+-- this many lists have lost their last element, and the others are as before
 pub record PopsOn {A : Type 0} (old now : List (List A)) (lasts : List A) (i : ℕ) : Type 0 where
   pub olds : List (List A)
   pub news : List (List A)

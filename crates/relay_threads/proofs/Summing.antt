@@ -138,7 +138,7 @@ module _ {W : Type 0} where
   sums_none n rows ends all e own none done count =
       record { past = []; ended = sym (append-nil ends); summed = subst (AllSumUp rows (length ends) []) (sym e) tt; fronts = fronts_same rows; owned = own; none_gone = none; done = done; count = count }
 
-  -- what stands before the last lane that is left is summed up
+  -- what precedes the last lane that is left is summed up
   pub record SumsNext (n : ℕ) (rows : List (List ClosedEnd)) (ends' : List (LaneEnd W)) (e : LaneEnd W) : Type 0 where
     pub some : HaveSome rows
     pub done : (sender : ℕ) → sender < n → HasDone (mail_of sender e.taken.taken)

@@ -23,7 +23,7 @@ use Rattle.relay_core.specs.Walk.{report_of}
 use Rattle.relay_producer.specs.Puts.{AreNumberedBy, ops_for}
 use Rattle.relay_producer.specs.States.{ClosedProducerState}
 use Rattle.relay_threads.specs.declared.summary.LaneSummary.{LaneSummary}
-use Rattle.relay_threads.specs.Delivered.{HavePut, DeliveredLane, AllDelivered}
+use Rattle.relay_threads.specs.DeliveryOfAll.{HavePut, DeliveredLane, AllDelivered}
 use Rattle.relay_threads.specs.Together.{ops_by, reports_at, IsOnPut, AreReportedOnce, BeginsBeside, EndsBeside, IsTrueTogether, IsSoundTogether, IsCompleteTogether, DeliversTogether, AreDeliveredTogether}
 use Rattle.relay_threads.proofs.Delivering.{distinct_numbered, distinct_all}
 
@@ -159,7 +159,7 @@ none_applied (w ∷ ws) [] same none = absurd same
 none_applied (w ∷ ws) (o ∷ os) same none = absurd (none o (inl refl))
 
 module _ {W : Type 0} (describes : W → Bool) (fits : W → Outside → Type 0) (c : RelayConfig) (puts : ℕ → List Op) (wires : List W) (lanes : List (LaneSummary W)) where
-  -- how a lane ended beside an outside
+  -- how a lane and an outside ended
   record EndOfLane (l : ℕ) (taken : List Op) (before : Outside) : Type 0 where
     after : Outside
     ends : (s : LaneSummary W) → slice_get lanes l ≡ Some s → EndsBeside fits s before after
@@ -233,7 +233,7 @@ module _ {W : Type 0} (describes : W → Bool) (fits : W → Outside → Type 0)
         };
       }
 
-  -- where a number is that of a lane, and where it is not
+  -- if a number is that of a lane, and if it is not
   record IsLaneAt (ws : List W) (ss : List (LaneSummary W)) (lane i : ℕ) : Type 0 where
     start : W
     summary : LaneSummary W

@@ -10,7 +10,7 @@ use Rattle.relay_core.specs.declared.config.RelayConfig.{RelayConfig}
 use Rattle.relay_core.specs.State.{State, all_closed, is_put}
 use Rattle.relay_core.specs.Ties.{ops_of}
 use Rattle.relay_lane.specs.Delivers.{GoesOn}
-use Rattle.relay_lane.specs.Reached.{IsReached}
+use Rattle.relay_lane.specs.Reach.{IsReached}
 use Rattle.relay_threads.specs.declared.lane_end.LaneEndKind.{LaneEndKind}
 use Rattle.relay_threads.specs.declared.lane_end.LaneEndKind.TheVariants.{Finished, Memory, Gone}
 use Rattle.relay_delivery.specs.Machine.{first_in}

@@ -1,8 +1,8 @@
 pub mod Course
 pub mod Steps
-pub mod Delivered
+pub mod DeliveryOfAll
 pub mod Faults
-pub mod Finished
+pub mod Ending
 pub mod Promises
 pub mod Lanes
 pub mod Relay

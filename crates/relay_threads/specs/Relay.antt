@@ -37,7 +37,7 @@ AreNew queues epoch p (x ∷ xs) = (x ≡ new_producer queues epoch p) × AreNew
 abbrev pub new_control : List Queue → ℕ → ControlState
 new_control queues sender = record { sender = sender; ends = map (λ q. open_end (fresh q sender)) queues }
 
--- ---- the handles that are given back
+-- ---- the handles that are returned
 
 -- the ends of these queues that a sender has
 abbrev pub ends_of : List Queue → ℕ → List (Queue × ℕ)

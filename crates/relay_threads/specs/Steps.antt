@@ -13,7 +13,7 @@ pub record Takes (s t : State) (old new : List Mail) : Type 0 where
   pub sender : mail.sender < length s.closed
   pub reached : t ≡ after_take s mail.sender mail.body
 
--- wherever the lane began, its course goes on
+-- wherever the lane began, its course continues
 abbrev pub KeepsOn : {S : Type 0} → Bool → (S → Outside → Type 0) → S → S → State → State → List Mail → List Mail → Type 0
 KeepsOn {S = S} describes fits old new s t before now =
     (start : S) (c : RelayConfig) → Course describes fits start old c before s → Course describes fits start new c now t

@@ -5,10 +5,10 @@ ghost use Rattle.relay_action.specs.declared.operation.Op.{Op};
 ghost use Rattle.relay_queue.specs.Messages.{mail_of, HasDone};
 ghost use Rattle.relay_producer.specs.Ends.{is_gone, closed_puts};
 ghost use Rattle.relay_producer.specs.Puts.{HaveNoPuts};
-ghost use Rattle.relay_threads.specs.Delivered.{HavePut, AllDelivered};
+ghost use Rattle.relay_threads.specs.DeliveryOfAll.{HavePut, AllDelivered};
 ghost use Rattle.relay_threads.specs.Faults.{FirstOf, TellsFault, is_gone_in, is_gone_in_any};
 ghost use Rattle.relay_threads.specs.Faults.{is_gone_lane, ends_as, is_memory, is_gone_kind};
-ghost use Rattle.relay_threads.specs.Finished.{AllFinished, HasFault};
+ghost use Rattle.relay_threads.specs.Ending.{AllFinished, HasFault};
 ghost use Rattle.relay_threads.specs.Relay.{AreRows, rows_of};
 ghost use Rattle.relay_threads.specs.Sums.{IsClosedOn, AreClosedOn, IsMet, AreMet, AreDone};
 ghost use Rattle.relay_threads.specs.Sums.{NoneGone, queues_of_ends, SumsUp, AllSumUp};
@@ -124,7 +124,7 @@ pub fn fault_of<W: Drop>(ends: &Vec<LaneEnd<W>>, rows: &Vec<Vec<ClosedEnd>>) -> 
     })
 }
 
-// ---- what is given back
+// ---- what is returned
 
 // The closed ends of the senders, in order. There is room for all.
 fn give_back(

@@ -1,4 +1,4 @@
--- The handles that are given back are those that were given out.
+-- The handles that are returned are those that were handed out.
 use Rattle.std.proofs.Common.{◌≡◌, ℕ, zero, suc, ◌+◌, ◌<◌, List, [], ◌∷◌, ◌++◌, length, map, set, get_or, sym, refl, ap, ◌∙◌, subst, arith}
 use Rattle.relay_queue.specs.Ends.{Queue, fresh}
 use Rattle.relay_producer.specs.Ends.{open_end, identities, open_puts, closed_puts}
@@ -36,7 +36,7 @@ same_count (x ∷ xs) (y ∷ ys) e = let tails : closed_names xs ≡ open_names 
 pub control_fits : (qs : List Queue) (n : ℕ) (k : ControlState) (c : ClosedControlState) → k ≡ new_control qs n → identities (closed_puts c.ends) ≡ identities (open_puts k.ends) → identities (closed_puts c.ends) ≡ ends_of qs n
 control_fits qs n k c is e = e ∙ ap (λ (x : ControlState). identities (open_puts x.ends)) is ∙ fresh_names qs n
 
--- one more wire on which no number is out
+-- one more wire on which no number is outstanding
 none_more : {W : Type 0} (out : W → List ℕ) (ws : List W) (w : W) → NoneOut out ws → out w ≡ [] → NoneOut out (ws ++ w ∷ [])
 none_more out [] w all here = (here, tt)
 none_more out (x ∷ xs) w all here = (all.0, none_more out xs w all.1 here)

@@ -25,7 +25,7 @@ pub struct Gate<C> {
     pub passed: bool,
 }
 
-// Waits until so many flags are raised, at most 10,000 turns of a millisecond.
+// Waits until this many flags are raised, for at most 10,000 turns of a millisecond.
 fn wait_for<C: Clock>(clock: &C, flags: &AtomicU32, count: u32) -> bool {
     for _ in 0..10_000 {
         if flags.load(Ordering::SeqCst) >= count {

@@ -1,5 +1,5 @@
-//! The tests of `relay_threads`: lanes that run beside the threads of their senders, over a wire in
-//! memory that loses its first reply.
+//! The tests of `relay_threads`: lanes whose senders are in threads, over a wire in memory that
+//! loses its first reply.
 #![tactic(auto)]
 
 #[cfg(test)]

@@ -1,5 +1,5 @@
-//! Lanes and relays beside the threads of their senders, of whose allocations any one may be refused (`make
-//! refusals`): they end well, or tell of the refusal, and then the next run ends well.
+//! Lanes and relays with senders in threads, with any one of their allocations refused (`make
+//! refusals`): they succeed, or they report the refusal and the next run succeeds.
 use crate::operations::{is_whole, losing_wire};
 use crate::relays::{CONFIG, RunFault, run_one};
 use crate::tests::run;
@@ -26,8 +26,8 @@ fn is_delivered(alloc: Global, summary: &Summary<IndexWire>) -> Option<bool> {
     }
 }
 
-// Whether a fault may come of a refusal, at the start, in the run or at its end. A put that the test could
-// not make, or that found its lane gone, is one of them.
+// Whether a fault can be due to a refusal, at the start, in the run or at its end. A put that the
+// test could not make, or that found its lane gone, is one of these.
 fn may_be(fault: RunFault) -> bool {
     match fault {
         RunFault::Memory | RunFault::NotPut => true,
@@ -38,8 +38,8 @@ fn may_be(fault: RunFault) -> bool {
     }
 }
 
-// The end of a relay to which two producers put a hundred operations each: whether it delivers them,
-// or the fault.
+// The end of a relay to which two producers put a hundred operations each: whether it delivers
+// them, or the fault.
 fn run_once<R: Threads + Wait + Copy + Send + 'static>(
     rt: R,
     alloc: Global,
@@ -86,7 +86,7 @@ fn is_accounted_for(lane: &Lane) -> bool {
 enum Ended {
     /// Each of its operations is applied.
     Finished,
-    /// For want of memory, or since a sender went that could not make its operation.
+    /// An allocation failed, or a sender ended that could not make its operation.
     Refused,
     Wrong,
 }

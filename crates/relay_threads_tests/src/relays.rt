@@ -3,7 +3,7 @@ ghost use Rattle.std.specs.Prelude.{◌≡◌, [], ◌∷◌, IfOk};
 ghost use Rattle.std.specs.Option.{option_to_list};
 ghost use Rattle.relay_producer.specs.Ends.{identities, closed_puts, open_puts};
 ghost use Rattle.relay_threads.specs.Relay.{NoneOut};
-ghost use Rattle.relay_wires.specs.Numbered.{numbers};
+ghost use Rattle.relay_wires.specs.Numbers.{numbers};
 ghost use Rattle.relay_threads_tests.specs.Handles.{open_names, closed_names};
 
 use crate::gates::{AheadWire, GateWire, LANES, ahead_of, gate_of};
@@ -48,7 +48,7 @@ const FOUR_IN_FLIGHT: RelayConfig = RelayConfig {
     ..CONFIG
 };
 
-/// Why a run did not end well.
+/// Why a run failed.
 #[derive(Clone, Copy, Debug, PartialEq, Eq)]
 pub enum RunFault {
     Memory,
@@ -92,7 +92,7 @@ fn put_one<R: Wait>(rt: &R, alloc: Global, producer: &mut Producer, number: u32,
     }
 }
 
-// Puts an operation by each producer, so often, and counts them. Whether all were put.
+// Puts this many operations by each producer, and counts them. Returns whether all were put.
 fn put_all<R: Wait>(
     rt: &R,
     alloc: Global,
@@ -167,7 +167,8 @@ fn close_all<R: Wait>(
     Ok(closed)
 }
 
-// A relay from start to finish, to which each producer puts so many operations, which are counted.
+// A relay from start to finish, to which each producer puts this many operations, which are
+// counted.
 fn run<R, W, P>(
     rt: R,
     alloc: Global,

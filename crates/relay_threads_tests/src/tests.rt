@@ -1,4 +1,4 @@
-//! A lane's thread beside the threads of its senders.
+//! A lane's thread, and the threads of its senders.
 ghost use Rattle.std.specs.Prelude.{◌≢◌, IfSome};
 
 use crate::operations::{AtOnce, action_of, is_whole, key_of, losing_wire};
@@ -72,7 +72,7 @@ fn start_senders<R: Threads + Wait + Copy + Send + 'static>(
     Ok(())
 }
 
-/// A lane beside its senders' threads.
+/// Runs a lane, with its senders in threads.
 pub fn run<R: Threads + Wait + Copy + Send + 'static>(
     rt: R,
     alloc: Global,

@@ -1,7 +1,7 @@
 //! Connections that are used again or not, dials and streams that fail, and the maximum number of
 //! outstanding requests.
 ghost use Rattle.std.specs.Prelude.{◌≡◌, [], true, length};
-ghost use Rattle.relay_wires.specs.Numbered.{numbers};
+ghost use Rattle.relay_wires.specs.Numbers.{numbers};
 
 use crate::streams::{BUSY, Wired, wired};
 use relay_fixtures::asking::{Told, asks};

@@ -8,7 +8,8 @@ use relay_fixtures::desk::{Desk, closes, desk_of, puts};
 use relay_lane::RelayConfig;
 use std::alloc::Global;
 
-/// One lane and one producer, batches of many documents that are sent at once, and three attempts.
+/// One lane and one producer, batches of many documents that are sent immediately, and three
+/// attempts.
 pub const CONFIG: RelayConfig = RelayConfig {
     max_held: 2_000,
     limits: Limits {

@@ -1,7 +1,7 @@
 //! Lanes that are drained over wires.
 ghost use Rattle.std.specs.Prelude.{◌≡◌};
 ghost use Rattle.relay_lane.specs.Out.{out_of};
-ghost use Rattle.relay_wires.specs.Numbered.{numbers};
+ghost use Rattle.relay_wires.specs.Numbers.{numbers};
 
 use crate::desk::numbered;
 use crate::loops::looped;

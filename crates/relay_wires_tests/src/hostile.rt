@@ -18,7 +18,7 @@ const USUAL: &[u8] =
 // The outcome of a drain, and how often the operation was sent, if it was given up.
 type End = (Came, Option<u32>);
 
-// The operation is applied at once, or at the second try.
+// The operation is applied at the first try, or at the second.
 const AT_ONCE: End = (
     Came {
         requests: 1,

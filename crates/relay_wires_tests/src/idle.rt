@@ -36,7 +36,7 @@ const NOT_SENT: Told = Told::Fault(WireFault::Send);
 const STREAMS: &[(&[Turns<'static>], (Told, Told))] = &[
     // Nothing arrived: the connection is used again, and a second dial would fail.
     (&[&[BUSY, GATE]], BUSY_THEN_GATE),
-    // A second reply, half of one and one byte: the next request is dialled for.
+    // A second reply, half of one, or one byte: the next request gets another connection.
     (&[&[BUSY_TWICE, BUSY], &[GATE]], BUSY_THEN_GATE),
     (&[&[BUSY_AND_HALF, BUSY], &[GATE]], BUSY_THEN_GATE),
     (&[&[BUSY_AND_ONE, BUSY], &[GATE]], BUSY_THEN_GATE),

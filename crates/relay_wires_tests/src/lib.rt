@@ -1,6 +1,6 @@
-//! Tests of `relay_wires` and of `relay_loop`, over their public items, most of them over both wires:
-//! lanes that are drained, one request at a time and several, statuses and bodies of replies,
-//! connections that are used again or not, those on which something came that nobody asked for, dials
+//! Tests of `relay_wires` and of `relay_loop`, over their public items, most of them over both
+//! wires: lanes that are drained, one request at a time and several, statuses and bodies of
+//! replies, connections that are used again or not, those on which unrequested bytes arrive, dials
 //! and streams that fail, replies that are refused, and requests and replies of many items.
 #![tactic(auto)]
 

@@ -1,7 +1,7 @@
 //! The maximum number of outstanding requests.
 ghost use Rattle.std.specs.Prelude.{◌≡◌, ◌∷◌, ◌≤◌, [], length, MatchResult};
 ghost use Rattle.relay_results.specs.Words.{Mem};
-ghost use Rattle.relay_wires.specs.Numbered.{numbers};
+ghost use Rattle.relay_wires.specs.Numbers.{numbers};
 
 use crate::streams::{BUSY, Wired, wired};
 use relay_index::{Index, Script};

@@ -1,8 +1,8 @@
-//! Wires, and a lane that is drained over one, of whose allocations any one may be refused (`make refusals`). A refusal inside a
-//! wire is a lost request.
+//! Wires, and a lane that is drained over one, with any one of their allocations refused (`make
+//! refusals`). A refusal inside a wire is a lost request.
 ghost use Rattle.std.specs.Prelude.{◌≡◌, [], IfSome};
 ghost use Rattle.relay_lane.specs.Out.{out_of};
-ghost use Rattle.relay_wires.specs.Numbered.{numbers};
+ghost use Rattle.relay_wires.specs.Numbers.{numbers};
 
 use crate::desk::CONFIG;
 use crate::streams::{Wired, wired};
@@ -17,7 +17,7 @@ use relay_loop::LoopWire;
 use relay_wires::told::tell;
 use std::alloc::{AllocError, Global};
 
-// A wire round an empty index that loses the reply to one number; 0: none.
+// A wire to an empty index that loses the reply to one number; 0: none.
 fn loop_once(alloc: Global, lost: u64) -> Option<LoopWire>
     ensures { IfSome result (λ w. w.out ≡ []) }
 {
@@ -42,7 +42,7 @@ fn loop_wire(alloc: Global, lost: u64) -> Option<LoopWire>
 
 const ID: &str = "a document with a \"quote\", of more than thirty-eight bytes";
 
-// Whether a delete is answered, by a second request if the first was lost for want of memory.
+// Whether a delete is answered, by a second request if an allocation for the first failed.
 fn is_told<W: Wire>(alloc: Global, wire: &mut W) -> bool
     requires { W.out wire.old ≡ [] }
     ensures { W.out wire.new ≡ [] }
@@ -96,7 +96,7 @@ fn refused_request_over_http(rt: HostRuntime) {
 const BODY: &[u8] =
     b"{\"items\":[{\"delete\":{\"_id\":\"a document of more than thirty-eight bytes\",\"status\":404}}]}";
 
-// Whether a reply of one entry tells it, by a second call if the first was refused.
+// Whether a reply with one entry is read as that, by a second call if the first was refused.
 fn tells_one_entry(alloc: Global) -> Option<bool> {
     let body = BODY.to_vec(alloc).or_else(|_| BODY.to_vec(alloc)).ok()?;
     let reply = HttpReply {

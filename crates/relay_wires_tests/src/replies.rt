@@ -1,11 +1,11 @@
-//! What replies tell, by their statuses and their bodies.
+//! What replies mean to a lane, by their statuses and their bodies.
 
 use crate::streams::wired;
 use relay_fixtures::asking::{Told, asks};
 use relay_lane::WireFault;
 use std::alloc::Global;
 
-// What a delete is told by these bytes.
+// The result of a delete if these bytes are the reply.
 fn told_by(alloc: Global, bytes: &[u8]) -> Told {
     let inputs = [bytes];
     match wired(alloc, &inputs, 1000, 0, 1) {

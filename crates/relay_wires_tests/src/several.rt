@@ -1,7 +1,7 @@
 //! Several requests in flight over a wire in memory: what is sent and received, in which order.
 ghost use Rattle.std.specs.Prelude.{◌≡◌, [], IfSome};
 ghost use Rattle.relay_lane.specs.Out.{out_of};
-ghost use Rattle.relay_wires.specs.Numbered.{numbers};
+ghost use Rattle.relay_wires.specs.Numbers.{numbers};
 
 use crate::desk::CONFIG;
 use crate::loops::looped;
@@ -159,7 +159,7 @@ const DRAINS: &[(u32, &[&str], u64, &[i64], u64, u64)] = &[
     // Everything in flight is answered before a pause.
     (2, &["1", "2"], 1, &[1, 2, -1, -2, 3, -3], 3, 1),
     (8, &["1", "2", "3"], 2, &[1, 2, 3, -1, -2, -3, 4, -4], 4, 1),
-    // What an answer frees is sent at once.
+    // What an answer frees is sent immediately.
     (8, &["1", "1", "2"], 0, &[1, 2, -1, 3, -2, -3], 3, 0),
 ];
 

@@ -1,6 +1,6 @@
 //! Streams in memory, dialled one after another.
 ghost use Rattle.std.specs.Prelude.{◌≡◌, [], Ok, IfSome};
-ghost use Rattle.relay_wires.specs.Numbered.{numbers};
+ghost use Rattle.relay_wires.specs.Numbers.{numbers};
 
 use relay_action::MemStream;
 use relay_http::is_host;

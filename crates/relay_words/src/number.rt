@@ -2,7 +2,8 @@
 ghost use Rattle.std.specs.Prelude.{ℕ, IfSome, IfNone};
 ghost use Rattle.relay_words.specs.Numbers.{IsNumber};
 
-/// The number that decimal digits are, without a sign. `None`: the word is no such number of 64 bits.
+/// The number that decimal digits are, without a sign. `None`: the word is not a 64-bit number in
+/// this form.
 pub fn number_of(word: &str) -> Option<u64>
     ensures some { IfSome result (IsNumber word.now) }
     ensures none { IfNone result ((n : ℕ) → IsNumber word.now n → ⊥) }

@@ -72,8 +72,8 @@ pub fn add_cause(text: &mut Vec<u8>, cause: &Cause) -> Result<(), AllocError>
     done
 }
 
-// Appends a space and a number. After an error, part of it may be there; so with the functions
-// below.
+// Appends a space and a number. After an error, part of it may be there; this also holds for the
+// functions below.
 fn append_spaced(text: &mut Vec<u8>, number: u64) -> Result<(), AllocError>
     ensures ok { OnOk result (text.new.items ≡ text.old.items ++ spaced_number number) }
     ensures front { Begins text.old.items text.new.items }

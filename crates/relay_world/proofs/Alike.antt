@@ -7,7 +7,7 @@ use Rattle.relay_results.specs.Words.{update}
 use Rattle.relay_results.proofs.Lists.{or_right, equal_test, equal_or_not, at-update_same, at-update_other}
 use Rattle.relay_delivery.specs.Machine.{Core}
 use Rattle.relay_delivery.specs.Lane as delivery
-use Rattle.relay_delivery.specs.Numbered.{numbered_on}
+use Rattle.relay_delivery.specs.Renumbering.{numbered_on}
 use Rattle.relay_delivery.specs.Lanes.{with_added, with_value}
 use Rattle.relay_delivery.specs.Together.{Together}
 use Rattle.relay_core.specs.declared.config.RelayConfig.{RelayConfig}
@@ -97,7 +97,7 @@ lanes_from w t n producers accepted closed desks = record {
   works = λ l. (desks l).works;
 }
 
--- what the machines took, as the desks took more
+-- what the machines took, if the desks took more
 pub takes_more : (w new : World) (t u : Together) (n k : ℕ → ℕ) → AreLanes w t n → AreLanes new u k → TakesMore w new → (l : ℕ) → (os : List Op) × ((u.lanes.lane l).taken ≡ (t.lanes.lane l).taken ++ os)
 takes_more w new t u n k a b more l = ((more l).0, b.taken l ∙ (more l).1 ∙ ap (λ os. os ++ (more l).0) (sym (a.taken l)))
 

@@ -13,7 +13,7 @@ use Rattle.relay_delivery.proofs.Numbered.{unanswered_on, answer_on}
 use Rattle.relay_delivery.proofs.Accounts.{act_together}
 use Rattle.relay_delivery.proofs.Sharing.{TogetherFacts, happens_in_lanes}
 use Rattle.relay_delivery.proofs.Lives.{IsOfThese, facts_together}
-use Rattle.relay_delivery.specs.Numbered.{numbered_on}
+use Rattle.relay_delivery.specs.Renumbering.{numbered_on}
 use Rattle.relay_core.specs.State as lane
 use Rattle.relay_core.specs.State.{config_of}
 use Rattle.relay_world.specs.State.{Desk, Sent, World, ended_of, desk_at, lane_of, op_with, writes_of, has_closed}

@@ -12,14 +12,14 @@ use Rattle.relay_delivery.specs.Lane as delivery
 use Rattle.relay_delivery.specs.Together.{Together}
 use Rattle.relay_delivery.proofs.Accounts.{fresh_together}
 use Rattle.relay_delivery.specs.Machine.{first_in}
-use Rattle.relay_delivery.specs.Numbered.{numbered_on}
+use Rattle.relay_delivery.specs.Renumbering.{numbered_on}
 use Rattle.relay_core.specs.State.{config_of}
 use Rattle.relay_world.specs.declared.sender.Sender.{Sender}
 use Rattle.relay_world.specs.State.{Desk, fresh, fresh_desk, has_closed, lane_of, IsBelow, taken_of}
 use Rattle.relay_world.specs.Ties.{queue_of, core_of, IsLaneOf, IsTied, FreshIsBelow, HighestIsBelow, FreshIsWorld}
 use Rattle.relay_world.proofs.Starting.{at-all}
 
--- nothing stands at any place of a list of empty ones
+-- there is nothing at any place of a list of empty ones
 pub none_at_all : (n p : ℕ) → unwrap_or (slice_get (replicate n (let e : List Op = [] in e)) p) [] ≡ []
 none_at_all zero p = refl
 none_at_all (suc n) zero = refl

@@ -9,13 +9,13 @@ use Rattle.relay_results.specs.Outside.{Answer}
 use Rattle.relay_results.proofs.Lists.{at-left, at-Mem, Mem-at, at-update-cases, some_same}
 use Rattle.relay_core.specs.declared.config.RelayConfig.{RelayConfig}
 use Rattle.relay_delivery.specs.Machine.{first_in}
-use Rattle.relay_delivery.specs.Accounted.{op_dealt}
+use Rattle.relay_delivery.specs.Incarnations.{op_dealt}
 use Rattle.relay_world.specs.State.{Desk, Item, Sent, Past, World, desk_at, running, incarnations, incarnation, is_version_in, op_among, op_with, writes_from, writes_of, taken_of}
 use Rattle.relay_world.specs.Changes.{after_restart}
 use Rattle.relay_world.specs.Headline.{request_of}
 use Rattle.relay_world.specs.Ties.{versions_of}
 
--- ---- the writes of operations, by the versions that they were dealt
+-- ---- the writes of operations, by the versions that they were assigned
 
 abbrev pub writes_by : (ℕ → Option Op) → List ℕ → List Write
 writes_by f [] = []
@@ -61,7 +61,8 @@ taken_at [] l = refl
 taken_at (d ∷ ds) zero = refl
 taken_at (d ∷ ds) (suc l) = taken_at ds l
 
--- an incarnation in whose place one of the same epoch stands that took more has the operations of its versions
+-- if an incarnation is replaced by one of the same epoch that took more, that one has the
+-- operations of its versions
 op_more : (deal : ℕ) (is : List Past) (p q : Past) (l v : ℕ) (o : Op) (more : List Op) → q.epoch ≡ p.epoch → took q l ≡ took p l ++ more → op_among deal (is ++ p ∷ []) l v ≡ Some o → op_among deal (is ++ q ∷ []) l v ≡ Some o
 op_more deal [] p q l v o more same taken e =
     ap (λ n. if is_version_in deal n v then slice_get (took q l) (v - first_in n) else None) same ∙ by (is_version_in deal p.epoch v) e
@@ -115,14 +116,14 @@ keeps w new config ended more l v o e =
     ∙ op_more w.config.deal w.ended (running w) (running new) l v o (more l).0 (ap (λ (c : RelayConfig). c.epoch) config)
     (taken_at new.desks l ∙ (more l).1 ∙ ap (λ os. os ++ (more l).0) (sym (taken_at w.desks l))) e
 
--- what was dealt before a restart
+-- what was assigned before a restart
 pub keeps_restart : (w : World) (epoch : ℕ) → Keeps w (after_restart w epoch)
 keeps_restart w epoch l v o e = op_push w.config.deal (incarnations w) (running (after_restart w epoch)) l v o e
 
 pub found_kept : (w new : World) → Keeps w new → (l : ℕ) (vs : List ℕ) → AllFound (op_with w l) vs → AllFound (op_with new l) vs
 found_kept w new k l vs found v m = let p = found v m in (p.0, k l v p.0 p.1)
 
--- a request that has the same versions and is answered so carries the same writes
+-- a request with the same versions, answered like this, carries the same writes
 pub request_kept : (w new : World) (s z : Sent) (a : Answer) → Keeps w new → AllFound (op_with w s.lane) (versions_of s) → z.lane ≡ s.lane → versions_of z ≡ versions_of s → z.answer ≡ a
     → request_of new z ≡ record { writes = writes_of w s; answer = a }
 request_kept w new s z a k found lane versions answer =
@@ -136,19 +137,19 @@ pub map-kept : {A B : Type 0} (f g : A → B) (xs : List A) → ((x : A) → Mem
 map-kept f g [] same = refl
 map-kept f g (x ∷ xs) same = let rest = map-kept f g xs (λ y m. same y (inr m)) in λ i. same x (inl refl) i ∷ rest i
 
--- one of them changed, and what the other function gives changed likewise
+-- one of them changed, and what the other function returns changed likewise
 pub map-update : {A B : Type 0} (f g : A → B) (h : A → A) (q : B → B) (n : ℕ) (xs : List A) → ((x : A) → Mem x xs → f x ≡ g x) → ((x : A) → Mem x xs → f (h x) ≡ q (g x)) → map f (update n h xs) ≡ update n q (map g xs)
 map-update f g h q n [] same here = refl
 map-update f g h q zero (x ∷ xs) same here = let rest = map-kept f g xs (λ y m. same y (inr m)) in λ i. here x (inl refl) i ∷ rest i
 map-update f g h q (suc n) (x ∷ xs) same here = let rest = map-update f g h q n xs (λ y m. same y (inr m)) (λ y m. here y (inr m)) in λ i. same x (inl refl) i ∷ rest i
 
--- one of them changed, and what the function gives did not
+-- one of them changed, and what the function returns did not
 pub map-unmoved : {A B : Type 0} (f g : A → B) (h : A → A) (n : ℕ) (xs : List A) → ((x : A) → Mem x xs → f x ≡ g x) → ((x : A) → Mem x xs → f (h x) ≡ g x) → map f (update n h xs) ≡ map g xs
 map-unmoved f g h n [] same here = refl
 map-unmoved f g h zero (x ∷ xs) same here = let rest = map-kept f g xs (λ y m. same y (inr m)) in λ i. here x (inl refl) i ∷ rest i
 map-unmoved f g h (suc n) (x ∷ xs) same here = let rest = map-unmoved f g h n xs (λ y m. same y (inr m)) (λ y m. here y (inr m)) in λ i. same x (inl refl) i ∷ rest i
 
--- what stands in a list of which one was changed is one of it, or the changed one
+-- an element of a list in which one was changed is an old one, or the changed one
 pub Mem-update : {A : Type 0} (n : ℕ) (h : A → A) (xs : List A) (y : A) → Mem y (update n h xs) → Mem y xs ⊎ ((x : A) × Mem x xs × (y ≡ h x))
 Mem-update n h xs y m =
     let p = Mem-at y (update n h xs) m in

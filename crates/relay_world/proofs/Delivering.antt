@@ -15,8 +15,8 @@ use Rattle.relay_delivery.specs.Lane as delivery
 use Rattle.relay_delivery.specs.Lanes.{IsFinished}
 use Rattle.relay_delivery.specs.Together.{Together}
 use Rattle.relay_delivery.specs.Restarts.{with_running}
-use Rattle.relay_delivery.specs.Accounted.{accepted_over, accepted_in, attributed_together}
-use Rattle.relay_delivery.specs.Numbered.{entry_on}
+use Rattle.relay_delivery.specs.Incarnations.{accepted_over, accepted_in, attributed_together}
+use Rattle.relay_delivery.specs.Renumbering.{entry_on}
 use Rattle.relay_delivery.specs.Together as together
 use Rattle.relay_delivery.proofs.Accounts.{sound_together, complete_together}
 use Rattle.relay_delivery.proofs.Versions.{version_in, version_of, none_over}

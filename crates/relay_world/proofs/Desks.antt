@@ -78,7 +78,7 @@ below-more : (n : ℕ) (bs : List (ℕ × List BatchItem)) (b : List BatchItem) 
 below-more n [] b a = (omega arith, tt)
 below-more n (x ∷ bs) b a = (let lt = a.0 in omega (arith, lt), below-more n bs b a.1)
 
--- under a number that is above all others, the last batch is found
+-- with a number that is above all others, the last batch is found
 pub found_last : (n : ℕ) (bs : List (ℕ × List BatchItem)) (b : List BatchItem) → AllBelow n bs → lookup (λ k. k == n) (bs ++ (n, b) ∷ []) ≡ Some b
 found_last n [] b a = by (n == n) refl
   where

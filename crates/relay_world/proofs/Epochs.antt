@@ -4,7 +4,7 @@ use Rattle.std.specs.Prelude.{slice_get, unwrap_or, map, ◌==◌, if◌then◌e
 use Rattle.relay_action.specs.declared.operation.Op.{Op}
 use Rattle.relay_results.proofs.Lists.{equal_test}
 use Rattle.relay_delivery.specs.Machine.{first_in}
-use Rattle.relay_delivery.specs.Accounted.{accepted_in}
+use Rattle.relay_delivery.specs.Incarnations.{accepted_in}
 use Rattle.relay_core.specs.declared.config.RelayConfig.{RelayConfig}
 use Rattle.relay_world.specs.State.{Past, is_version_in, place_dealt, op_among, incarnation}
 use Rattle.relay_world.proofs.Places.{not_equal}

@@ -36,7 +36,7 @@ use Rattle.relay_world.proofs.Restarting.{restart_world}
 
 -- ---- no cause holds
 
--- where there is no refusal, the first cause does not hold, and no later one
+-- if there is no refusal, neither the first cause holds nor a later one
 pub unrefused : (b : Bool) (r : Refusal) (next : Option Refusal) → cause_if b r next ≡ None → (b ≡ false) × (next ≡ None)
 unrefused true r next e = absurd (cc)
 unrefused false r next e = (refl, e)
@@ -54,7 +54,7 @@ some_is : {A : Type 0} (o : Option A) → is_some o ≡ true → (x : A) × (o �
 some_is None e = absurd (cc)
 some_is (Some x) e = (x, refl)
 
--- the element with a number stands one place before it
+-- the element with a number is at the place one below it
 at_number : {A : Type 0} (xs : List A) (n : ℕ) (x : A) → element_at xs n ≡ Some x → slice_get xs (n - 1) ≡ Some x
 at_number xs n x e = by (n == 0) e
   where
@@ -73,7 +73,7 @@ run_by_mem : (os : List RunOutcome) (pick : Option ℕ) (o : RunOutcome) → run
 run_by_mem os None o e = at-Mem os (length os - 1) o e
 run_by_mem os (Some number) o e = at-Mem os (number - 1) o (at_number os number o e)
 
--- what an entry says is what one of its item's runs gave
+-- what an entry says is what one of its item's runs returned
 record SaysRun (i : Item) (e : Outcome) : Type 0 where
   run : RunOutcome
   among : Mem run i.runs
@@ -124,7 +124,7 @@ each_says w l picks log request (i ∷ is) place at os e logged =
           (λ n j p o mo. subst (λ k. LoggedRun request k log o) (omega arith) (logged (suc n) j p o mo)),
     )
 
--- the entries of a reply are what its items' runs gave
+-- the entries of a reply are what its items' runs returned
 entries_say : (w : World) (t : Together) (b : ℕ → ℕ) (i : IsTied w t b) (k : ℕ) (s : Sent) (picks : List ℕ) (os : List Outcome) → slice_get w.sent k ≡ Some s → entries w s picks ≡ Some os → EachWasRun t.runs k 0 os
 entries_say w t b i k s picks os here e =
     each_says w s.lane picks t.runs k s.items 0 0 os (by (are_picks picks s) e)
@@ -139,7 +139,7 @@ entries_say w t b i k s picks os here e =
         ap (λ q. runs_of (option_and_then (λ (z : Sent). slice_get z.items n) q)) here
         ∙ ap runs_of at
 
--- ---- what is known where an event is accepted
+-- ---- what is known if an event is accepted
 
 front_is : (s : lane.State) (ms : List Mail) → front_refusal s ms ≡ None → (m : Mail) × (rest : List Mail) × (ms ≡ m ∷ rest)
 front_is s [] e = absurd (cc)
@@ -173,7 +173,7 @@ answers_keep w new k request s a x was flies c honest =
           (ap (flies_at s.number) (sym c.there) ∙ and_right (s.epoch == w.config.epoch) (flies_at s.number (desk_at w s.lane)) flies) honest;
     })
 
--- the request flies, where no cause was found
+-- the request flies, if no cause was found
 flying_is : (w : World) (request : ℕ) (s : Sent) (f : Sent → Option Refusal) (r : Refusal) → request_at w request ≡ Some s → at_request (request_at w request) (λ z. cause_if (not (is_flying w z)) r (f z)) ≡ None
     → (is_flying w s ≡ true) × (f s ≡ None)
 flying_is w request s f r was q =

@@ -12,7 +12,7 @@ use Rattle.relay_delivery.specs.Lane as delivery
 use Rattle.relay_delivery.specs.Lanes.{Lanes, Fetches, after_fetch}
 use Rattle.relay_delivery.specs.Together.{Together, Plain}
 use Rattle.relay_delivery.specs.Restarts.{CameAboutTogether}
-use Rattle.relay_delivery.specs.Numbered.{numbered_on}
+use Rattle.relay_delivery.specs.Renumbering.{numbered_on}
 use Rattle.relay_delivery.proofs.Numbered.{take_on}
 use Rattle.relay_delivery.proofs.Accounts.{act_together}
 use Rattle.relay_core.specs.State as lane
@@ -68,7 +68,7 @@ module _ (w : World) (t : Together) (b : ℕ → ℕ) (i : IsTied w t b) (l : �
         index = index_kept w desks_now w.accepted w.sent t u i.index i.came_about same (takes_more w new t u b b i.lanes lanes more_taken);
       }
 
-  -- ---- a message that is no put
+  -- ---- a message that is not a put
 
   -- what the lane becomes is of the same core
   pub quiet_tied : ops_of m.body ≡ [] → (new_lane : lane.State) → lane.after_take d.lane m.sender m.body ≡ new_lane → ((c : Core) → delivery.IsOf (numbered_on (b l) d.lane.core) c → delivery.IsOf (numbered_on (b l) new_lane.core) c)

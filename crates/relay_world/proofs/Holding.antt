@@ -55,7 +55,7 @@ module _ {A E : Type 0} (r : Result A E) (w : World) (l : ℕ) (f : Desk → Des
   pub same_result : OnErr r (e ≡ d) → OnErr r (record w { desks = slice_set w.desks l e } ≡ w)
   same_result err = on_err r (e ≡ d) (record w { desks = slice_set w.desks l e } ≡ w) (λ is. lane_same w l d e there is) err
 
--- ---- desks work on
+-- ---- desks continue to work
 
 pub posted_works : (w : World) (sender : ℕ) (b : Body) → Works w (after_post sender b)
 posted_works w sender b d k = record { config = k.config; senders = length-update sender (after_mail b) d.senders ∙ k.senders }
@@ -77,7 +77,7 @@ sent_works w d k = requested_works w (lane.next_batch d.lane) d k
 pub answered_works : (w : World) (number : ℕ) (a : Answer) → Works w (answered_desk number a)
 answered_works w number a d k = record { config = k.config; senders = k.senders }
 
--- ---- what follows where nothing is refused
+-- ---- what follows if nothing is refused
 
 no_cause : (b : Bool) (r : Refusal) (next : Option Refusal) → cause_if b r next ≡ None → (b ≡ false) × (next ≡ None)
 no_cause true r next e = absurd (cc)
@@ -104,7 +104,7 @@ open_by w p l (Some d) e a lt f n c =
     let s = (a.works l d e).senders in
     record { desk = d; there = e; is_open = opens p d (omega (arith, s, lt)) (c d refl) }
 
--- who has closed nowhere has not closed here
+-- a sender that has closed nowhere has not closed here
 not_here : (w : World) (p l : ℕ) (d : Desk) → is_closed w p ≡ false → desk_at w l ≡ Some d → has_closed p d ≡ false
 not_here w p l d c there = any_false (has_closed p) d w.desks c (at-Mem w.desks l d there)
 

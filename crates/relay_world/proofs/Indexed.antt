@@ -1,4 +1,4 @@
--- What the outside of the machines shows of the index stays, where none of its writes is run.
+-- What the outside of the machines shows of the index is unchanged if none of its writes is run.
 use Rattle.std.proofs.Common.{◌≡◌, ℕ, List, ◌++◌, ap, ◌∙◌}
 use Rattle.std.specs.Prelude.{map}
 use Rattle.relay_action.specs.declared.operation.Op.{Op}
@@ -7,7 +7,7 @@ use Rattle.relay_results.specs.Outside.{Outside}
 use Rattle.relay_delivery.specs.Machine.{Config}
 use Rattle.relay_delivery.specs.Together.{Together}
 use Rattle.relay_delivery.specs.Restarts.{CameAboutTogether}
-use Rattle.relay_delivery.specs.Accounted.{attributed_together}
+use Rattle.relay_delivery.specs.Incarnations.{attributed_together}
 use Rattle.relay_delivery.proofs.Lives.{facts_of_life}
 use Rattle.relay_delivery.proofs.Naming.{names_kept}
 use Rattle.relay_core.specs.State.{config_of}

@@ -1,4 +1,4 @@
--- What one event keeps, whether there was memory for it or not.
+-- What one event preserves, whether or not an allocation failed.
 use Rattle.std.proofs.Common.{◌≡◌, ℕ, ◌+◌, List, [], ◌∷◌, take, sym, subst}
 use Rattle.std.specs.Prelude.{OnErr, IfOk, IfErr, Ok, Err, Result}
 use Rattle.relay_world.specs.declared.event.Event.{Event}

@@ -9,7 +9,7 @@ use Rattle.relay_world.specs.Headline.{outcomes_at, runs_of}
 use Rattle.relay_world.specs.Changes.{with_outcome}
 use Rattle.relay_world.proofs.Places.{not_equal}
 
--- a run's outcome, where it is of this item
+-- a run's outcome, if it is of this item
 abbrev pub outcome_if : ℕ → ℕ → Ran → List RunOutcome
 outcome_if request place r = if (r.request == request) && (r.place == place) then r.outcome ∷ [] else []
 
@@ -42,7 +42,7 @@ logged_run request place (r ∷ rs) o m = ⊎_elim
     (λ x. let p = logged_run request place rs o x in record { run = p.run; among = inr p.among; of_request = p.of_request; of_place = p.of_place; outcome = p.outcome })
     (Mem-cases o (outcome_if request place r) (outcomes_at request place rs) m)
 
--- ---- one request more, whose items were not run
+-- ---- one more request, whose items were not run
 
 pub pushed_at : {A : Type 0} (g : Option A → List RunOutcome) (xs : List A) (y : A) (n : ℕ) → g None ≡ [] → g (Some y) ≡ [] → g (slice_get (xs ++ y ∷ []) n) ≡ g (slice_get xs n)
 pushed_at g [] y zero none e = e ∙ sym none

@@ -24,9 +24,9 @@ use Rattle.relay_delivery.proofs.Facts.{IsSent}
 use Rattle.relay_delivery.proofs.Sharing.{TogetherFacts, sent_lane}
 use Rattle.relay_delivery.proofs.Lives.{IsOfThese, facts_together}
 use Rattle.relay_delivery.proofs.Parts.{ops_over-append}
-use Rattle.relay_delivery.specs.Numbered.{numbered_on}
+use Rattle.relay_delivery.specs.Renumbering.{numbered_on}
 use Rattle.relay_delivery.specs.Restarts.{Incarnation, with_running}
-use Rattle.relay_delivery.specs.Accounted.{op_dealt, ops_over}
+use Rattle.relay_delivery.specs.Incarnations.{op_dealt, ops_over}
 use Rattle.relay_world.proofs.Past.{running_seen}
 use Rattle.relay_core.specs.State.{config_of}
 use Rattle.relay_world.specs.State.{Item, Named, Sent, World, ended_of, incarnations, desk_at, lane_of, op_with, writes_of, names_at, before_at, taken_of}
@@ -40,7 +40,7 @@ use Rattle.relay_world.proofs.Ran.{and_false}
 
 -- ---- what a run makes of an outside
 
--- the write, where it is of this document and was applied
+-- the write, if it is of this document and was applied
 abbrev write_if : Bool → Write → List Write
 write_if b x = if b then x ∷ [] else []
 
@@ -268,7 +268,7 @@ module _ (w : World) (t : Together) (b : ℕ → ℕ) (i : IsTied w t b) (k n : 
       (λ ne. ap (λ (y : Core). y.taken) (changed_other t.lanes.lane s.lane core_now l ne))
       (equal_or_not l s.lane)
 
-  -- the index applied it exactly where the outcome says so
+  -- the index applied it exactly if the outcome says so
   grown : (d : Document) → (is_run w.index x c && same_document d (document_of op.key)) ≡ grows d
   grown d = ap (λ b. b && same_document d (document_of op.key)) (sym (is_applied-done_of w.index x c))
 
@@ -278,7 +278,7 @@ module _ (w : World) (t : Together) (b : ℕ → ℕ) (i : IsTied w t b) (k n : 
   shown : Shows (ran_of (outside_of (lane_of w) t) (run_at k n o) (Some x)) new_index
   shown = of_outside.shows (outside_of (lane_of w) t) (run_at k n o) i.index.shows refl
 
-  -- the operation of the write, where it was applied to a document of this lane
+  -- the operation of the write, if it was applied to a document of this lane
   abbrev all : List Incarnation
   all = with_running (ended_of w) g t
 

@@ -1,4 +1,4 @@
--- The incarnations of a world are those of its machines, and their epochs rise.
+-- The incarnations of a world are those of its machines, and their epochs increase.
 use Rattle.std.proofs.Common.{◌≡◌, ℕ, ◌<◌, List, [], ◌∷◌, ◌++◌, length, refl, sym, ap, ◌∙◌, ⊎_elim, arith}
 use Rattle.std.specs.Prelude.{map}
 use Rattle.std.proofs.lemmas.List.{map-append, length-map}

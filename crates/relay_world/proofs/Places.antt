@@ -5,7 +5,7 @@ use Rattle.relay_results.specs.Words.{IsSubsequence, update}
 use Rattle.relay_results.proofs.Lists.{equal, true_or_false}
 use Rattle.relay_world.specs.State.{element_at}
 
--- numbers that differ test false
+-- the test of two different numbers is false
 pub not_equal : (m n : ℕ) → m ≢ n → (m == n) ≡ false
 not_equal m n ne = ⊎_elim (λ t. absurd (ne (equal m n t))) (λ f. f) (true_or_false (m == n))
 
@@ -14,7 +14,7 @@ pub either : {A E : Type 0} (r : Result A E) (P Q C : Type 0) → OnOk r P → O
 either (Ok x) P Q C p q f g = f p
 either (Err x) P Q C p q f g = g q
 
--- what is read at a place stands there
+-- what is read at a place is there
 pub at_index : {A : Type 0} (xs : List A) (n : ℕ) (x : A) → n < length xs → x ≡ get_or xs n x → slice_get xs n ≡ Some x
 at_index [] n x lt e = absurd (omega arith)
 at_index (y ∷ xs) zero x lt e = ap Some (sym e)
@@ -60,7 +60,7 @@ pub on_err : {A E : Type 0} (r : Result A E) (P Q : Type 0) → (P → Q) → On
 on_err (Ok x) P Q f p = p
 on_err (Err x) P Q f p = f p
 
--- where the outcome is good, so is the fact on it
+-- if the outcome is good, so is the fact about it
 pub ok_fact : {A E : Type 0} (r : Result A E) (P : Type 0) → IsOk r → OnOk r P → P
 ok_fact (Ok x) P i p = p
 ok_fact (Err x) P i p = absurd (cc)

@@ -8,7 +8,7 @@ use Rattle.std.proofs.Common.{sym, subst, ap}
 use Rattle.relay_world.specs.State.{World}
 use Rattle.relay_world.specs.Steps.{Steps, Plays, counts_after}
 
--- one event more
+-- one more event
 pub plays-push : (w : World) (n : RunEnd) (es : List Event) (end : RunEnd) (mid : World) (e : Event) (x : StepAnswer) (new : World) → Plays w n es end mid → Steps mid e x new
     → Plays w n (es ++ e ∷ []) (counts_after x end) new
 plays-push w n [] end mid e x new p s =

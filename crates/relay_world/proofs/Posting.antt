@@ -66,8 +66,8 @@ module _ (w : World) (t : Together) (n : ℕ → ℕ) (i : IsTied w t n) (l s : 
   more_posted : (accepted : List (List Op)) → TakesMore w (over_same w desks_now accepted w.sent)
   more_posted accepted = takes_none w l (after_post s b) accepted w.sent (λ x. refl)
 
-  -- the machines of a world to which a message was posted, where a put's operation stands at the back of its queue and a Done
-  -- has closed its sender
+  -- the machines of a world to which a message was posted, with the operation of a put at the back
+  -- of its queue and a Done has closed its sender
   pub posted_tied : (accepted : List (List Op)) (u : Together) → length accepted ≡ w.config.producers → CameAboutTogether (config_of w.config) (lane_of w) (ended_of w) u
       → ((p : ℕ) → u.lanes.accepted p ≡ accepted_from (over_same w desks_now accepted w.sent) p)
       → ((p : ℕ) → u.lanes.closed p ≡ is_closed (over_same w desks_now accepted w.sent) p)

@@ -19,9 +19,9 @@ use Rattle.relay_delivery.proofs.Numbered.{chosen_on, may_send_on, send_on, sent
 use Rattle.relay_delivery.proofs.Lives.{IsOfThese, facts_together, facts_of_life}
 use Rattle.relay_delivery.proofs.Parts.{op_of_write}
 use Rattle.relay_delivery.proofs.Accounts.{next, all_above, act_together}
-use Rattle.relay_delivery.specs.Numbered.{numbered_on, held_on}
+use Rattle.relay_delivery.specs.Renumbering.{numbered_on, held_on}
 use Rattle.relay_delivery.specs.Restarts.{Incarnation, incarnation_of, with_running}
-use Rattle.relay_delivery.specs.Accounted.{op_dealt}
+use Rattle.relay_delivery.specs.Incarnations.{op_dealt}
 use Rattle.relay_world.proofs.Past.{running_seen}
 use Rattle.relay_core.specs.State as lane
 use Rattle.relay_core.specs.State.{config_of, next_entries, next_batch, gathering}
@@ -43,14 +43,14 @@ versions_in : (es : List Entry) → map (λ (i : Item). i.version) (map item_of 
 versions_in [] = refl
 versions_in (e ∷ es) = ap (λ vs. e.held.version ∷ vs) (versions_in es)
 
--- the writes of operations that were taken under these versions
+-- the writes of operations that were taken with these versions
 writes_in : (f : ℕ → Option Op) (hs : List Held) → ((h : Held) → Mem h hs → f h.version ≡ Some h.op) → writes_by f (map (λ (h : Held). h.version) hs) ≡ map write_of hs
 writes_in f [] all = refl
 writes_in f (h ∷ hs) all =
     let rest = writes_in f hs (λ x m. all x (inr m)) in
     λ i. option_to_list (option_map (λ o. write_for o h.version) (all h (inl refl) i)) ++ rest i
 
--- what is chosen stands among it, numbered on
+-- what is chosen is among it, with numbers counted on
 own_chosen : (n : ℕ) (es : List Entry) (h : Held) → Mem h (held_of es) → Mem (held_on n h) (chosen_on n es)
 own_chosen n [] h m = elim m [ ]
 own_chosen n (e ∷ es) h (inl same) = inl (ap (held_on n) same)

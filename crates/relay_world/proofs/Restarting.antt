@@ -1,4 +1,5 @@
--- A restart keeps a world tied: its machines go on with their requests, and its lanes begin to number theirs anew.
+-- A restart keeps a world tied: its machines continue their requests, and its lanes number theirs
+-- from the start.
 use Rattle.std.proofs.Common.{◌≡◌, ℕ, ◌+◌, ◌<◌, ◌≤◌, [], ◌∷◌, length, Option, Some, None, refl, sym, ap, ◌∙◌, subst, ⊎_elim, arith, false}
 use Rattle.std.specs.Prelude.{slice_get, map, replicate}
 use Rattle.std.proofs.lemmas.List.{map-append}
@@ -11,8 +12,8 @@ use Rattle.relay_delivery.specs.Lane as delivery
 use Rattle.relay_delivery.specs.Together.{Together}
 use Rattle.relay_delivery.specs.Restarts.{Incarnation, CameAboutTogether, with_running, restarted_core}
 use Rattle.relay_delivery.specs.Restarts as restarts
-use Rattle.relay_delivery.specs.Accounted.{attributed_together}
-use Rattle.relay_delivery.specs.Numbered.{numbered_on}
+use Rattle.relay_delivery.specs.Incarnations.{attributed_together}
+use Rattle.relay_delivery.specs.Renumbering.{numbered_on}
 use Rattle.relay_delivery.proofs.Accounts.{restart_together, epochs_are_above}
 use Rattle.relay_delivery.proofs.Naming.{restarts_keep_names}
 use Rattle.relay_delivery.proofs.Numbered.{fresh_on}

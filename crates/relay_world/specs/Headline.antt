@@ -6,7 +6,7 @@ use Rattle.relay_results.specs.Documents.{Document, document_of, name_of}
 use Rattle.relay_results.specs.Outside.{Request, RunOutcome, Ran, Outside}
 use Rattle.relay_index.specs.States as index
 use Rattle.relay_delivery.specs.Attribution.{IsAttribution, IsInProducerOrder, AreByEpoch, is_in}
-use Rattle.relay_delivery.specs.Accounted.{accepted_over, accepted_in}
+use Rattle.relay_delivery.specs.Incarnations.{accepted_over, accepted_in}
 use Rattle.relay_delivery.specs.Causes.{Terms, IsAssignment, IsTrueCause}
 use Rattle.relay_delivery.specs.Machine.{Report, first_in}
 use Rattle.relay_delivery.specs.Delivery.{names_of}

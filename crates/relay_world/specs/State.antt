@@ -207,7 +207,7 @@ ended_of w = map (incarnation w.config) w.ended
 abbrev pub incarnations_of : World → List Incarnation
 incarnations_of w = map (incarnation w.config) (incarnations w)
 
--- the write of an item: that of its operation, under the version that was assigned to it
+-- the write of an item: that of its operation, with the version that was assigned to it
 abbrev pub write_of : World → Sent → Item → Option Write
 write_of w s i = option_map (λ o. write_for o i.version) (op_with w s.lane i.version)
 

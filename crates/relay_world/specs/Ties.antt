@@ -14,8 +14,8 @@ use Rattle.relay_delivery.specs.Machine.{Config, first_in}
 use Rattle.relay_delivery.specs.Lane as delivery
 use Rattle.relay_delivery.specs.Together.{Together}
 use Rattle.relay_delivery.specs.Restarts.{Incarnation, CameAboutTogether}
-use Rattle.relay_delivery.specs.Accounted.{attributed_together}
-use Rattle.relay_delivery.specs.Numbered.{numbered_on}
+use Rattle.relay_delivery.specs.Incarnations.{attributed_together}
+use Rattle.relay_delivery.specs.Renumbering.{numbered_on}
 use Rattle.relay_delivery.specs.Together as together
 use Rattle.relay_core.specs.State.{config_of}
 use Rattle.relay_core.specs.Ties.{ops_of}

@@ -18,7 +18,7 @@ ghost use Rattle.relay_world.specs.Refusals.{entry_at, entries, is_above};
 ghost use Rattle.relay_world.specs.Changes.{after_put, at_lane, after_post, took_front};
 ghost use Rattle.relay_world.specs.Changes.{with_answer};
 ghost use Rattle.relay_world.specs.Changes.{answered_desk, after_restart, RunsItem};
-ghost use Rattle.relay_delivery.specs.Accounted.{accepted_in};
+ghost use Rattle.relay_delivery.specs.Incarnations.{accepted_in};
 ghost use Rattle.relay_world.specs.Steps.{Steps};
 ghost use Rattle.relay_world.specs.Memory.{answer_of, IsItemOf, IsWriteAt, IsThere, IsOpenIn};
 ghost use Rattle.relay_world.specs.Memory.{IsSent, IsSettledAt, Forms, ArePartsOf};

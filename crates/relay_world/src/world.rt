@@ -7,7 +7,7 @@ ghost use Rattle.relay_core.specs.Walk.{report_of};
 ghost use Rattle.relay_world.specs.State.{fresh, accepted_from, applied_writes, names_at, reports};
 ghost use Rattle.relay_world.specs.State.{write_at, is_finished, incarnations_of, AreKeysOf};
 ghost use Rattle.relay_world.specs.State.{IsBelow};
-ghost use Rattle.relay_delivery.specs.Accounted.{accepted_in};
+ghost use Rattle.relay_delivery.specs.Incarnations.{accepted_in};
 ghost use Rattle.relay_delivery.specs.Machine.{first_in};
 ghost use Rattle.relay_world.specs.Headline.{Delivered, StaysClosed};
 ghost use Rattle.relay_world.specs.Memory.{IsWriteAt};
@@ -126,7 +126,7 @@ impl World {
         play(&mut self.parts, event)
     }
 
-    /// Plays events, going on after refused ones, and returns how many were accepted and how many
+    /// Plays events, continuing after refused ones, and returns how many were accepted and how many
     /// refused. An error has the number of events before the one for which an allocation failed;
     /// that one changed nothing. Whatever the events and their order, including restarts, all that
     /// was accepted is exactly accounted for afterwards; and if the epoch is still the same,

@@ -1,4 +1,4 @@
-//! Worlds over an index that has versions from before.
+//! Worlds over an index that already has versions.
 ghost use Rattle.std.specs.Prelude.{◌≡◌, ◌+◌, ◌*◌, ◌^◌, true};
 ghost use Rattle.relay_world.specs.State.{IsBelow};
 

@@ -1,4 +1,4 @@
-//! Sixteen producers and eight lanes, all at once, and a world over an index that has writes from before.
+//! Sixteen producers and eight lanes together, and a world over an index that already has writes.
 use crate::script::{THREE, accepts, world_of};
 use relay_action::{Action, DocKey, List};
 use relay_batch::Limits;

@@ -1,5 +1,5 @@
-//! Events, of whose allocations any one may be refused (`make refusals`): the refusal changes nothing, and the event does its
-//! work when it comes again.
+//! Events, with any one of their allocations refused (`make refusals`): the refusal changes
+//! nothing, and the event succeeds when it is repeated.
 use crate::script::{Row, Says, THREE, accepts, ends_with, event_of, events_of, is_said};
 use crate::worked::{APPLIED_BUT_GIVEN_UP, Ends, GIVEN_UP, THREE_APPLIED, THREE_THEN_ONE, TWO};
 use relay_action::{Action, DocKey};
@@ -19,7 +19,7 @@ fn world_of(alloc: Global, config: RelayConfig) -> Option<World> {
     }
 }
 
-/// A document of a long id, and one of a long source, in two requests, and a restart.
+/// A document with a long id, and one with a long source, in two requests, and a restart.
 const LONG: [(Row<'static>, Says); 21] = [
     (
         Row::Put(0, "a document of more than thirty-eight bytes", ""),
@@ -54,8 +54,8 @@ const LONG: [(Row<'static>, Says); 21] = [
     (Row::Take(0), Says::Ok),
 ];
 
-/// What is seen of a world: how much was accepted now and before the restart, reported and applied, under how many names, how
-/// many items were sent, and whether it is finished.
+/// What is seen of a world: how many operations were accepted now and before the restart, reported
+/// and applied, with how many names, how many items were sent, and whether it is finished.
 type Seen = ([usize; 5], usize, bool);
 
 fn count_sent(world: &World) -> usize {
@@ -81,7 +81,8 @@ fn seen(world: &World, key: &DocKey) -> Seen {
     (counts, count_sent(world), world.finished())
 }
 
-// Whether an event is answered as it is to be, by a second call if the first was refused and changed nothing.
+// Whether an event gets the expected answer, by a second call if the first was refused and changed
+// nothing.
 fn steps(world: &mut World, event: &Event, says: Says, key: &DocKey) -> bool {
     let before = seen(world, key);
     match world.step(event) {
@@ -114,7 +115,7 @@ fn keys_of(world: &World) -> Option<Vec<DocKey>> {
     }
 }
 
-// Whether rows are answered as they are to be, and so many documents have writes then.
+// Whether rows get the expected answers, and this many documents have writes then.
 fn steps_rows(alloc: Global, rows: &[(Row<'_>, Says)], documents: usize) -> Option<bool> {
     let mut world = world_of(alloc, THREE)?;
     let key = key_of(alloc, "b", "1")?;
@@ -129,7 +130,7 @@ fn refused_steps(rt: HostRuntime) {
     assert!(rt; steps_rows(rt.alloc(), &THREE_THEN_ONE, 3) == Some(true));
 }
 
-// Runs events. If one is refused, they are taken up again at that one.
+// Plays events. If one is refused, it continues with that one.
 fn runs(world: &mut World, events: &[Event]) -> Option<bool> {
     match world.run(events) {
         Ok(_) => Some(true),
@@ -141,7 +142,8 @@ fn runs(world: &mut World, events: &[Event]) -> Option<bool> {
     }
 }
 
-// Whether the events of rows leave a world with so many accepted, and what becomes of them is this.
+// Whether the events of rows leave a world with this many accepted operations, and with this
+// outcome.
 fn runs_rows(
     alloc: Global,
     config: RelayConfig,
@@ -197,7 +199,7 @@ fn is_in_flight(world: &World) -> bool {
         && world.sent(1, 2).is_none()
 }
 
-/// Whether that world is restarted in epoch 1, or memory was refused to it and it is as it was.
+/// Whether that world is restarted in epoch 1, or an allocation was refused and it is unchanged.
 fn restarts_or_stays(world: &mut World) -> bool {
     match world.step(&Event::Restart(1)) {
         Ok(answer) => {
@@ -209,7 +211,7 @@ fn restarts_or_stays(world: &mut World) -> bool {
     }
 }
 
-// One that is refused before the restart ends the test.
+// The test ends if an allocation is refused before the restart.
 #[test]
 fn restart_out_of_memory(rt: HostRuntime) {
     if let Ok(Some(mut world)) = in_flight(rt.alloc()) {

@@ -406,7 +406,7 @@ const HALVED: [(Row<'static>, Says); 15] = [
     (Row::Send(0), Says::Request(4)),
 ];
 
-/// Whether an item of a request is this document under this version.
+/// Whether an item of a request is this document with this version.
 fn has_item(alloc: Global, world: &World, request: u64, item: u64, id: &str) -> Result<bool, Fail> {
     let key = DocKey::new(alloc, "b", id)?;
     Ok(match world.sent(request, item) {
@@ -415,7 +415,7 @@ fn has_item(alloc: Global, world: &World, request: u64, item: u64, id: &str) -> 
     })
 }
 
-/// Whether these are exactly the documents of the requests, each under the version of its number.
+/// Whether these are exactly the documents of the requests, each with the version of its number.
 fn has_requests(alloc: Global, world: &World) -> Result<bool, Fail> {
     let items: [(u64, u64, &str, u64); 6] = [
         (1, 1, "1", 1),

@@ -9,7 +9,7 @@ use std::alloc::{AllocError, Global};
 use std::test::Fail;
 
 /// One lane and one producer, queues of ten, batches of ten documents and 4,096 bytes that are sent
-/// at once, three attempts, and a thousand versions.
+/// immediately, three attempts, and a thousand versions.
 pub const THREE: RelayConfig = RelayConfig {
     deal: 1_000,
     ..CONFIG

@@ -60,7 +60,7 @@ answered with `no NAME` and changes nothing; the first of these that applies:
     restart       NotAbove
 
 The lines at the end are `accepted P COUNT` for each producer, `applied INDEX/ID VERSION P:N` for each write
-that the index applied, by document, `report LANE P:N INDEX/ID CAUSE` for each operation that was given up,
+that the index applied, by document, `report LANE P:N INDEX/ID CAUSE` for each operation that is reported,
 with Refused STATUS TYPE, Request STATUS, Conflict, GaveUp SENDS or Spent, and `finished yes` if all senders
 have closed at all lanes and nothing is queued or held, otherwise `finished no`. An example:
 

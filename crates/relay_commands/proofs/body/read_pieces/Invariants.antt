@@ -3,7 +3,7 @@ use Rattle.std.specs.Io.KnownBytes.{prepend_known}
 use Rattle.relay_commands.specs.Applies.{body_limit}
 use Rattle.relay_commands.proofs.body.read_pieces.Given as goal
 
--- the body so far stands in front of what is left
+-- the body so far is in front of what is left
 abbrev pub invariant-pieces : goal.invariant-pieces
 invariant-pieces g l =
     let r = g.R.ByteStream in

@@ -5,7 +5,7 @@ use Rattle.relay_batch.specs.declared.offer.Offer.TheVariants.{Busy, Closed, Add
 use Rattle.relay_batch.specs.Gathering.{answer_to, after_offer}
 use Rattle.relay_held.specs.declared.kept.Candidate.{Candidate}
 use Rattle.relay_held.specs.declared.kept.Kept.{Kept}
-use Rattle.relay_held.specs.Kept.{candidate_of}
+use Rattle.relay_held.specs.Operations.{candidate_of}
 use Rattle.relay_held.specs.Queues.{Holding, candidates_kept}
 use Rattle.relay_core.specs.Rule.{gathering_after, closes}
 use Rattle.relay_core.specs.Walk.{item_of_kept}

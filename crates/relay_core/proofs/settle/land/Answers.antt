@@ -1,6 +1,6 @@
 use Rattle.std.proofs.Common.{◌+◌, ◌∙◌, ap, min, sym}
 use Rattle.relay_delivery.specs.Lane.{backoff}
-use Rattle.relay_held.specs.Kept.{back_at}
+use Rattle.relay_held.specs.Operations.{back_at}
 use Rattle.relay_core.specs.Walk.{back}
 use Rattle.relay_core.proofs.Passing.{with_first_same}
 use Rattle.relay_core.proofs.settle.land.Goals as goal

@@ -1,6 +1,6 @@
 use Rattle.std.proofs.Common.{sym, subst}
 use Rattle.relay_held.specs.Queues.{AllUnder}
-use Rattle.relay_held.specs.Kept.{halved_at}
+use Rattle.relay_held.specs.Operations.{halved_at}
 use Rattle.relay_held.proofs.Holding.{halved_keeps}
 use Rattle.relay_held_tests.proofs.Under.{under_with}
 use Rattle.relay_held_tests.proofs.desk.halve.Goals as goal

@@ -1,6 +1,6 @@
 use Rattle.std.proofs.Common.{sym, subst}
 use Rattle.relay_held.specs.Queues.{AllUnder}
-use Rattle.relay_held.specs.Kept.{back_at}
+use Rattle.relay_held.specs.Operations.{back_at}
 use Rattle.relay_held.proofs.Holding.{back_keeps}
 use Rattle.relay_held_tests.proofs.Under.{under_with}
 use Rattle.relay_held_tests.proofs.desk.land.Goals as goal

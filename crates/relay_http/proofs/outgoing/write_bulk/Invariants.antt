@@ -2,7 +2,7 @@ use Rattle.std.proofs.Common.{◌≡◌}
 use Rattle.relay_http.proofs.Gathering.{IsUnderWay}
 use Rattle.relay_http.proofs.outgoing.write_bulk.Given as goal
 
--- so much of the request went out and is gathered
+-- this much of the request was sent and is gathered
 abbrev pub invariant-loop-write : goal.invariant-loop-write
 invariant-loop-write g l =
     let show = g.S.ByteStream in

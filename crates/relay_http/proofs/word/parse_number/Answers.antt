@@ -13,7 +13,7 @@ use Rattle.relay_http.proofs.word.parse_number.Goals as goal
 no_number : (ds : List ℕ) → fits_number ds ≡ false → None ≡ cond (fits_number ds) (Some (digits_value 10 ds)) None
 no_number ds e = sym (cond-false _ _ _ e)
 
--- where the first digits do not fit, the whole does not
+-- if the first digits do not fit, the whole does not
 too_large : (ds : List ℕ) (i : ℕ) → i < length ds → 2 ^ 64 ≤ digits_value 10 (take i ds) * 10 + digit_value (get_or ds i 0) → fits_number ds ≡ false
 too_large ds i inside large =
     and_right _ _ (and_right _ _ (le-ltb (digits_value 10 ds) (2 ^ 64) (omega (arith, digits_value_more 10 ds i inside, digits_value-take-le 10 (i + 1) ds (omega arith)))))

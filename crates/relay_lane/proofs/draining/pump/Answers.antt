@@ -35,7 +35,7 @@ returns-else-flying-places-clause-delivers g c =
     delivers_on (g.W.Wire.describes c.args.wire.now) (g.W.Wire.describes c.turns.wire) g.W.Wire.fits c.args.wire.now c.turns.wire c.send_next.new.wire c.args.lane.now.state c.turns.lane.state c.send_next.new.lane.state
     c.turns.invariant.describes c.turns.invariant.delivers c.send_next.ensures.delivers
 
--- ---- where a request was sent
+-- ---- if a request was sent
 
 pub turns-smaller-then-branch : goal.turns-smaller-then-branch
 turns-smaller-then-branch g c =
@@ -64,7 +64,7 @@ turns-preserved-then-branch g c =
       delivers = delivers_on (g.W.Wire.describes c.args.wire.now) (g.W.Wire.describes c.turns.wire) g.W.Wire.fits c.args.wire.now c.turns.wire c.send_next.new.wire s0 s t i.describes i.delivers c.send_next.ensures.delivers;
     }
 
--- ---- where no place is free
+-- ---- if no place is free
 
 pub turns-smaller : goal.turns-smaller
 turns-smaller g c =

@@ -31,7 +31,7 @@ returns-else-branch-clause-delivers g c =
     delivers_on (g.W.Wire.describes c.args.wire.now) (g.W.Wire.describes c.turns.wire) g.W.Wire.fits c.args.wire.now c.turns.wire c.send_next.new.wire c.args.lane.now.state c.turns.lane.state c.send_next.new.lane.state
     c.turns.invariant.describes c.turns.invariant.delivers c.send_next.ensures.delivers
 
--- ---- where a request was sent
+-- ---- if a request was sent
 
 pub turns-smaller : goal.turns-smaller
 turns-smaller g c =

@@ -1,6 +1,6 @@
 use Rattle.std.proofs.Common.{◌≡◌, Err, ap, inl, inr}
 use Rattle.std.proofs.lemmas.Result.{err_from_is_err_and}
-use Rattle.relay_ndjson.specs.Versioned.{versioned_fault}
+use Rattle.relay_ndjson.specs.VersionedLines.{versioned_fault}
 use Rattle.relay_ndjson.specs.declared.kind.LineKind.TheVariants.{Memory}
 use Rattle.relay_ndjson.proofs.Asking.{metadata_kind, metadata_none}
 use Rattle.relay_ndjson.proofs.versioned_line.read_versioned.Goals as goal

@@ -1,6 +1,6 @@
 use Rattle.relay_producer_tests.proofs.lanes.add_lane.Goals as goal
 
--- the ends are dealt from the last one: the control's, and then each producer's
+-- the ends are distributed from the last one on: the control's, and then each producer's
 pub returns-clause-control : goal.returns-clause-control
 returns-clause-control c = c.in_ok-deal.ensures.row c.in_ok-take.take.queue 2 c.in_ok-take.ensures.senders
 

@@ -5,7 +5,7 @@ use Rattle.relay_results.specs.Replies.{IsEntry, IsNoEntry}
 use Rattle.relay_results.proofs.OneMore.{entry_is}
 use Rattle.relay_results.proofs.reading.read_entry.Goals as goal
 
--- what was said of a value stays where its error alone was mapped
+-- what was said of a value stays if only its error was mapped
 ok_stays : {A D E : Type 0} (r : Result A E) (mapped : Result A D) (x : A) (P : A → Type 0) (Q : E → Type 0) → mapped ≡ Ok x → ((e : E) → Q e → ⊥)
     → MatchResult r (λ y. mapped ≡ Ok y) Q → IfOk r P → P x
 ok_stays (Ok y) mapped x P Q is never same p = let e : y ≡ x = cc in subst P e p

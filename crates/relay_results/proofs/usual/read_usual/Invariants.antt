@@ -2,7 +2,7 @@ use Rattle.std.proofs.Common.{length}
 use Rattle.relay_results.specs.Usual.{HasRead}
 use Rattle.relay_results.proofs.usual.read_usual.Given as goal
 
--- the outcomes so far stand before the rest
+-- the outcomes so far precede the rest
 abbrev pub invariant-entries : goal.invariant-entries
 invariant-entries l = HasRead l.bytes l.outcomes.items l.rest
 

@@ -1,5 +1,5 @@
 use Rattle.std.proofs.Common.{ap, arith}
-use Rattle.relay_wires.specs.Numbered.{numbers}
+use Rattle.relay_wires.specs.Numbers.{numbers}
 use Rattle.relay_run.proofs.Handing.{none_out_push}
 use Rattle.relay_run.proofs.files.make_wires.Goals as goal
 

@@ -1,6 +1,6 @@
 use Rattle.std.proofs.Common.{◌≡◌, vec_len}
 use Rattle.relay_threads.specs.Relay.{NoneOut}
-use Rattle.relay_wires.specs.Numbered.{numbers}
+use Rattle.relay_wires.specs.Numbers.{numbers}
 use Rattle.relay_run.proofs.files.make_wires.Given as goal
 
 abbrev pub invariant-lanes : goal.invariant-lanes

@@ -64,7 +64,7 @@ returns-in_err-batch-clause-candidates c =
     let m = ap length (offers_seen (state_of a).core (writes_in a.flight.requests) a.held.list refl) in
     err_holds c.from_residual.result _ (subst (λ (s : State). 0 < length (candidates s.core)) (ap (λ (v : Seen). v.state) c.self.view_is) (let some = c.in_err-batch.ensures.err in omega (arith, some, n, m)))
 
--- what is held is the same, and only the looks and the room are others
+-- what is held is the same, and only the looks and the room differ
 sound_still : (i : Inside) (h : Holding) (looks : ℕ) (room : Room) → h ≡ i.held → IsSound i
     → (is_roomy room ≡ true → IsQuiet i.held.clock i.mark (list_all (λ (b : Bool). b) i.closed.items) i.config.limits (items_of_kept i.held.list i.held.clock i.held.list) room)
     → IsSound (record i { held = h; looks = looks; room = room })

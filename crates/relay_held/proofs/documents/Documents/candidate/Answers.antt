@@ -1,5 +1,5 @@
 use Rattle.std.proofs.Common.{◌∙◌, ap, Some}
-use Rattle.relay_held.specs.Kept.{candidate_of}
+use Rattle.relay_held.specs.Operations.{candidate_of}
 use Rattle.relay_results.proofs.Lists.{some_same, none_some}
 use Rattle.relay_held.proofs.Shelving.{head_shown}
 use Rattle.relay_held.proofs.documents.Documents.candidate.Goals as goal

@@ -1,7 +1,7 @@
 use Rattle.std.proofs.Common.{subst}
 use Rattle.std.specs.List.{IsDistinct}
 use Rattle.std.specs.Map.{keys_of}
-use Rattle.relay_held.specs.Kept.{halved_at}
+use Rattle.relay_held.specs.Operations.{halved_at}
 use Rattle.relay_held.specs.Queues.{same_key}
 use Rattle.relay_held.specs.Shelf.{Shelf, queue_in, slot_of}
 use Rattle.relay_held.proofs.Shelving.{keys_shown, on_shown, on_none, entry_shown, no_entry, set_shelf, length_on, unique_shelved}

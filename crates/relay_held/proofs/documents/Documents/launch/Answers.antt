@@ -1,6 +1,6 @@
 use Rattle.std.proofs.Common.{◌≡◌, subst}
 use Rattle.std.specs.Prelude.{IfSome}
-use Rattle.relay_held.specs.Kept.{launch_one}
+use Rattle.relay_held.specs.Operations.{launch_one}
 use Rattle.relay_held.proofs.Shelving.{slot_shown, head_shown, keys_shown, on_shown, set_shelf, length_on, unique_shelved}
 use Rattle.relay_held.specs.Shelf.{queue_in}
 use Rattle.relay_held.proofs.documents.Documents.launch.Goals as goal

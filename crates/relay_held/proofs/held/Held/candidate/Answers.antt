@@ -1,7 +1,7 @@
 use Rattle.std.proofs.Common.{◌∙◌, ◌<◌, sym, ap, subst, length}
 use Rattle.std.specs.Prelude.{slice_get, option_map}
 use Rattle.relay_delay.specs.declared.entry.Entry.{Entry}
-use Rattle.relay_held.specs.Kept.{candidate_of}
+use Rattle.relay_held.specs.Operations.{candidate_of}
 use Rattle.relay_held.specs.Queues.{Holding, candidates_kept}
 use Rattle.relay_held.proofs.Counting.{on_err_of}
 use Rattle.relay_held.proofs.Waiting.{due_count, is_due_at, none_due}

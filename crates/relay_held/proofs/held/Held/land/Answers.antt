@@ -1,5 +1,5 @@
 use Rattle.std.proofs.Common.{◌∙◌, refl, sym, ap, subst}
-use Rattle.relay_held.specs.Kept.{back_at}
+use Rattle.relay_held.specs.Operations.{back_at}
 use Rattle.relay_held.specs.Queues.{Holding, with_first}
 use Rattle.relay_held.specs.Shelf.{IsHeld}
 use Rattle.relay_held.proofs.Holding.{back_keeps}

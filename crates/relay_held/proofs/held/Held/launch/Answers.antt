@@ -3,7 +3,7 @@ use Rattle.std.specs.Prelude.{slice_get}
 use Rattle.relay_delay.specs.declared.entry.Entry.{Entry}
 use Rattle.relay_results.proofs.Lists.{some_same}
 use Rattle.relay_held.specs.declared.kept.Kept.{Kept}
-use Rattle.relay_held.specs.Kept.{launch_one}
+use Rattle.relay_held.specs.Operations.{launch_one}
 use Rattle.relay_held.specs.Queues.{Holding, with_first, candidates_kept, merge_of}
 use Rattle.relay_held.specs.Shelf.{IsHeld}
 use Rattle.relay_held.proofs.Waiting.{is_due_at, none_due, none_there}

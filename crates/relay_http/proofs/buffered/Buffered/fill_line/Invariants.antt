@@ -3,7 +3,7 @@ use Rattle.relay_http.specs.Steps.{pending}
 use Rattle.relay_http.specs.Window.{window_size}
 use Rattle.relay_http.proofs.buffered.Buffered.fill_line.Given as goal
 
--- what stood still stands
+-- what was to come is still to come
 abbrev pub invariant-filling : goal.invariant-filling
 invariant-filling g l =
     let show = g.S.ByteStream in

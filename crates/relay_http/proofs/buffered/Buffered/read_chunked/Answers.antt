@@ -4,7 +4,7 @@ use Rattle.httparse.specs.Ascii.{crlf_bytes}
 use Rattle.relay_http.specs.Forms.{Begins}
 use Rattle.relay_http.proofs.Leading.{Leads}
 use Rattle.relay_http.specs.Steps.{IsLine, IsTrailer, IsDataAfter, IsLastAfter}
-use Rattle.relay_http.specs.Chunked.{IsChunked, IsChunkedAfter, IsLongChunked}
+use Rattle.relay_http.specs.ChunkedBody.{IsChunked, IsChunkedAfter, IsLongChunked}
 use Rattle.relay_http.proofs.Stands.{prepend_known-nil}
 use Rattle.relay_http.proofs.Leading.{leads_none, leads_on, fails_behind, took_behind}
 use Rattle.relay_http.proofs.Passing.{stood_behind, refused_here}

@@ -3,10 +3,10 @@ use Rattle.std.specs.Io.KnownBytes.{prepend_known}
 use Rattle.relay_http.specs.Steps.{pending}
 use Rattle.relay_http.proofs.Leading.{Leads}
 use Rattle.relay_http.proofs.Refusing.{IsBehindChunks}
-use Rattle.relay_http.specs.Chunked.{IsChunked, IsChunkedAfter, IsLongChunked}
+use Rattle.relay_http.specs.ChunkedBody.{IsChunked, IsChunkedAfter, IsLongChunked}
 use Rattle.relay_http.proofs.buffered.Buffered.read_chunked.Given as goal
 
--- behind the chunks so far, there is what may follow their content
+-- after the chunks so far, there is what may follow their content
 abbrev pub invariant-chunks : goal.invariant-chunks
 invariant-chunks g l =
     let show = g.S.ByteStream in

@@ -5,7 +5,7 @@ use Rattle.relay_http.specs.Steps.{pending}
 use Rattle.relay_http.specs.Window.{window_size}
 use Rattle.relay_http.proofs.buffered.Buffered.read_piece.Given as goal
 
--- what stood still stands
+-- what was to come is still to come
 abbrev pub invariant-reading : goal.invariant-reading
 invariant-reading g l =
     let show = g.S.ByteStream in

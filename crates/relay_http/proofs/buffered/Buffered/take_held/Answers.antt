@@ -4,5 +4,5 @@ use Rattle.relay_http.proofs.buffered.Buffered.take_held.Goals as goal
 
 pub returns-clause-moved : goal.returns-clause-moved
 returns-clause-moved g c =
-    let stands = sym (c.in-Ok.ensures.stands) in
-    rw c.skip.ensures (moved_front _ (g.S.ByteStream.left c.ready.new.self.stream) c.ready.new.self.window c.args.into.now c.append.new.self c.args.most c.min-count.result stands (search rules) c.requires c.in-Ok.ensures.end (search rules))
+    let stands = sym (c.in_ok-ready.ensures.stands) in
+    rw c.skip.ensures (moved_front _ (g.S.ByteStream.left c.ready.new.self.stream) c.ready.new.self.window c.args.into.now c.append.new.self c.args.most c.min-count.result stands (search rules) c.requires c.in_ok-ready.ensures.end (search rules))

@@ -6,7 +6,7 @@ use Rattle.relay_ndjson.specs.Bodies.{IsBulkFault}
 use Rattle.relay_index.specs.Serving.{Server, Answer, under, answer_of, IsRejection, Answers, Replies, RunsFirst}
 use Rattle.relay_index.proofs.index.Index.serve_body.Goals as goal
 
--- a fault other than that memory ran out breaks the body, and its answer is that of the body
+-- a fault other than a failed allocation breaks the body, and its answer is that of the body
 rejected : (body : List ℕ) (server : Server) (fault : BulkFault) (reply : Answer) → takes server.script (length body) ≡ true → IsBulkFault body fault → IsRejection fault reply
     → Answers body server reply server
 rejected body server fault reply within is answer = inr (inl (record {

@@ -1,5 +1,5 @@
 use Rattle.std.proofs.Common.{sym, ap, ◌∙◌}
-use Rattle.relay_wires.specs.Numbered.{besides}
+use Rattle.relay_wires.specs.Numbers.{besides}
 use Rattle.relay_loop.specs.Loops.{Loop}
 use Rattle.relay_wires.proofs.Numbers.{entry_of-Mem, numbers-besides}
 use Rattle.relay_loop.proofs.Standing.{receives, received_fits}

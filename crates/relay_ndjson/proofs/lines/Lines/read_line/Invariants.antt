@@ -4,7 +4,7 @@ use Rattle.relay_ndjson.specs.Lines.{IsUnbroken, line_limit}
 use Rattle.relay_ndjson.specs.Steps.{IsStart}
 use Rattle.relay_ndjson.proofs.lines.Lines.read_line.Given as goal
 
--- the line so far, what the piece holds and what the stream has left are what stood at the front
+-- the line so far, what the piece holds and what the stream has left are what was at the front
 abbrev pub invariant-pieces : goal.invariant-pieces
 invariant-pieces g l =
     let left = g.R.ByteStream.left in

@@ -4,7 +4,7 @@ use Rattle.relay_ndjson.specs.Lines.{TakesBlank}
 use Rattle.relay_ndjson.specs.Operations.{saturating_count}
 use Rattle.relay_ndjson.proofs.lines.Lines.skip_blank.Given as goal
 
--- so many blank lines were taken
+-- this many blank lines were taken
 abbrev pub invariant-loop-blank : goal.invariant-loop-blank
 invariant-loop-blank g l =
     let left = g.R.ByteStream.left in

@@ -14,7 +14,7 @@ absorb-requires-clause-rule c = meets _ _ _ _ c.self.invariant.1 c.closed.invari
 pub learn_as-requires-clause-rule : goal.learn_as-requires-clause-rule
 learn_as-requires-clause-rule c = reads _ _ (subst IsTaker (sym c.absorb.ensures.rule) (taker-met _ _ c.self.invariant.1))
 
--- what is queued, and what the reading tells of it and of the closed sender
+-- what is queued, and what the reading shows of it and of the closed sender
 told : (c : goal.After-drop-channel) → (queued : List Mail) × (length queued ≤ c.args.self.queue.capacity) × (c.args.closed.sender < c.args.self.senders) × IsAllOf (c.args.self.taken ++ queued) c.args.closed.sender c.args.closed.sent true
 told c =
     let r = c.learn_as.ensures.rule in

@@ -3,7 +3,7 @@ use Rattle.std.specs.Prelude.{Option}
 use Rattle.std.proofs.lemmas.Result.{err_from_is_err_and}
 use Rattle.relay_producer.specs.declared.ends.ClosedEnd.{ClosedEnd}
 use Rattle.relay_threads.specs.Faults.{FirstOf, TellsFault, ends_as, is_memory, is_gone_lane}
-use Rattle.relay_threads.specs.Finished.{AllFinished}
+use Rattle.relay_threads.specs.Ending.{AllFinished}
 use Rattle.relay_threads.specs.Relay.{AreRows, rows_of}
 use Rattle.relay_threads.proofs.Popping.{long_map}
 use Rattle.relay_threads.proofs.Delivering.{are_long, all_delivered}
@@ -15,7 +15,7 @@ use Rattle.relay_threads.specs.declared.fault.FinishFaultKind.TheVariants as kin
 use Rattle.relay_threads.specs.declared.lane_end.LaneEnd.{LaneEnd}
 use Rattle.relay_threads.proofs.relay.Relay.finish.Goals as goal
 
--- the rows that were given back are those of the handles
+-- the rows that were returned are those of the handles
 given_fault : {W : Type 0} (ends : List (LaneEnd W)) (rows given : List (List ClosedEnd)) (fault : Option FinishFault) → rows ≡ given → TellsFault ends rows fault → TellsFault ends given fault
 given_fault ends rows given fault same told = subst (λ r. TellsFault ends r fault) same told
 

@@ -1,6 +1,6 @@
 use Rattle.std.proofs.Common.{◌≡◌, drop, ◌++◌, ◌∷◌, []}
 use Rattle.std.specs.Prelude.{map}
-use Rattle.relay_delivery.specs.Accounted.{accepted_in}
+use Rattle.relay_delivery.specs.Incarnations.{accepted_in}
 use Rattle.relay_world.specs.State.{incarnation, incarnations_of, running}
 use Rattle.relay_world.proofs.parts.Parts.accepted_in.Given as goal
 

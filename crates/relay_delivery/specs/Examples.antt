@@ -25,7 +25,7 @@ config = record { epoch = 0; first = 1; deals = 10; max = 3; cap = 2 }
 abbrev pub begun : Outside → Core
 begun out = record { taken = []; held = []; reports = []; applied = 0; already = 0; outside = out }
 
--- an operation as it is held, under a version and after this many sends, all of them tries
+-- an operation as it is held, with a version and after this many sends, all of them tries
 abbrev pub waiting : Op → ℕ → ℕ → Held
 waiting o version sends = record { op = o; version = version; sends = sends; attempts = sends; cap = 2; flies = None }
 
@@ -121,7 +121,7 @@ EarlierOnesFirst = (key : DocKey) (source other : Source) → LosesFirst (op 1 k
 
 -- ---- one version for all tries
 
--- a repeat is sent under a fresh version; the first attempt is run late, and then the repeat
+-- a repeat is sent with a fresh version; the first attempt is run late, and then the repeat
 abbrev pub fresh_at_retry : Write → Write → List Event
 fresh_at_retry w x =
     outside.Sends (w ∷ []) ∷ outside.Answers 0 Lost ∷ outside.Sends (x ∷ [])

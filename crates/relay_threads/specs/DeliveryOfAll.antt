@@ -9,7 +9,7 @@ use Rattle.relay_producer.specs.Puts.{ops_for, HasPut}
 use Rattle.relay_producer.specs.States.{ClosedProducerState}
 use Rattle.relay_threads.specs.declared.summary.LaneSummary.{LaneSummary}
 use Rattle.relay_threads.specs.Course.{IsBelow}
-use Rattle.relay_threads.specs.Finished.{CameTo, Carries}
+use Rattle.relay_threads.specs.Ending.{CameTo, Carries}
 use Rattle.relay_delivery.specs.Machine.{first_in}
 
 -- the producers numbered p, p + 1 and so on put exactly these operations

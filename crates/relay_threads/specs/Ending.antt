@@ -6,7 +6,7 @@ use Rattle.relay_results.specs.Outside.{Outside, IsOpening, Continues}
 use Rattle.relay_delivery.specs.Counts.{applied_answers, settled_already}
 use Rattle.relay_delivery.specs.Delivery.{HasDistinctNames, IsSound, IsComplete, applied_ops}
 use Rattle.relay_delivery.specs.Lane as delivery
-use Rattle.relay_delivery.specs.Reached.{Reached}
+use Rattle.relay_delivery.specs.Reach.{Reached}
 use Rattle.relay_queue.specs.Ends.{Queue}
 use Rattle.relay_queue.specs.Messages.{mail_of, HasDone, IsWellTaken}
 use Rattle.relay_core.specs.declared.config.RelayConfig.{RelayConfig}

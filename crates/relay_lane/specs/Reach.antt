@@ -3,7 +3,7 @@
 use Rattle.std.specs.Prelude.{◌≡◌, ◌+◌, ℕ, List, [], ◌++◌, Bool}
 use Rattle.relay_action.specs.declared.mail.Body.{Body}
 use Rattle.relay_action.specs.declared.operation.Op.{Op}
-use Rattle.relay_delivery.specs.Reached.{Reached, IsOrderly}
+use Rattle.relay_delivery.specs.Reach.{Reached, IsOrderly}
 use Rattle.relay_core.specs.declared.config.RelayConfig.{RelayConfig}
 use Rattle.relay_core.specs.State.{State, fresh, after_take}
 use Rattle.relay_core.specs.Ties.{ops_of}
