@@ -1,8 +1,8 @@
-"""Shows the program's commands on the files of this folder: `python3 examples/demo.py`, at the top, by `make demo`.
+"""Shows the program's commands on the files of this folder. `make demo` runs `python3 examples/demo.py` at the top.
 
-The program is built without proof, and with run-time checks, so that it is there within minutes: `make build` proves
-it. Each `rt try` builds it once: one for the commands that read standard input, and two more, side by side, for
-`relay stub` and `relay run`.
+The program is built without proof and with run-time checks, which takes only minutes; `make build` proves it. Each
+`rt try` builds it once: one for the commands that read standard input, and two more, in parallel, for `relay stub` and
+`relay run`.
 """
 import os
 import subprocess
@@ -16,22 +16,22 @@ PORT = 19200
 # A command, the file that is its standard input, and what it shows.
 CASES = (
     ("lines --first 7", "books.ndjson", "each operation gets the next external version"),
-    ("lines", "broken.ndjson", "line 4 is at fault, as it says on standard error: what stands before it goes out"),
+    ("lines", "broken.ndjson", "line 4 is invalid, as a message on standard error says; the operations before it are written"),
     ("apply --refuse 2:429", "books.bulk", "the reply of a fresh stand-in index, which refuses the second item"),
-    ("world", "lost_reply.script", "a reply is lost after the write was applied: the second send finds that it was"),
+    ("world", "lost_reply.script", "a reply is lost after the write was applied: the second send finds that out"),
 )
 STUB = "stub --listen 127.0.0.1:%d --requests 3 --refuse 2:429,3:400" % PORT
 RUN = "run --to 127.0.0.1:%d --patience 120 books.ndjson" % PORT
 
 
 def tried(arguments, *flags):
-    """A command of the program, built without proof."""
+    """Starts a command of the program, built without proof."""
     command = ["rt", "try", "--seconds", "170", *flags, "--", *arguments.split()]
     return subprocess.Popen(command, cwd=CRATE, stdin=subprocess.DEVNULL, stdout=subprocess.PIPE, stderr=subprocess.PIPE, text=True)
 
 
 def cases(folder):
-    """All cases in one folder, as `rt try --cases` takes them."""
+    """Writes all cases into one folder, as `rt try --cases` expects them."""
     for at, (arguments, name, _) in enumerate(CASES):
         with open(os.path.join(EXAMPLES, name)) as file, open(os.path.join(folder, "%d" % at), "w") as copy:
             copy.write(file.read())
@@ -40,7 +40,7 @@ def cases(folder):
 
 
 def outputs(text):
-    """What each case printed, by its place."""
+    """Returns what each case printed, by its position."""
     found, name = {}, None
     for line in text.splitlines():
         if line.startswith("== "):
