@@ -1,18 +1,16 @@
 -- Connections that may carry further messages.
-use Rattle.std.proofs.Common.{◌≡◌, ℕ, List, [], ◌∷◌, ◌++◌, append_assoc, length-append, ◌<◌, ◌≤◌, ◌+◌, arith, Some, None, Bool, true, false, Result, Ok, Err, IsTrue, refl, subst, sym, ap, ◌∙◌, inl, inr}
+use Rattle.std.proofs.Common.{◌≡◌, ℕ, List, [], ◌∷◌, ◌++◌, append_assoc, length-append, ◌<◌, ◌≤◌, ◌+◌, arith, Some, Bool, true, false, Result, Ok, Err, IsTrue, refl, subst, sym, ap, ◌∙◌, inl, inr}
 use Rattle.std.proofs.lemmas.Bool.Decides.{eqb_tells}
 use Rattle.std.specs.Prelude.{if◌then◌else◌, ◌==◌, ◌&&◌, length, MatchResult, IsErrAnd}
 use Rattle.relay_action.specs.Streams.{one_more}
 use Rattle.relay_action.specs.declared.write.Write.{Write}
-use Rattle.relay_http.specs.Connection.{Connection, fresh, is_open, phase_of, after_reply}
+use Rattle.relay_http.specs.Connection.{Connection, is_open, phase_of, after_reply}
 use Rattle.relay_http.specs.declared.fault.HttpFault.{HttpFault}
 use Rattle.relay_http.specs.declared.reply.HttpReply.{HttpReply}
 use Rattle.relay_lane.specs.declared.wire.WireFault.{WireFault}
 use Rattle.relay_lane.specs.declared.wire.WireFault.TheVariants as fault
 use Rattle.relay_wires.specs.Numbers.{entry_of, besides}
-use Rattle.relay_ndjson.specs.Bulk.{text_of}
-use Rattle.relay_http.specs.WrittenRequest.{request}
-use Rattle.relay_wires.specs.Carriers.{Carrier, AllFree, IsFree, AllOutOpen, Picks, PicksOne, Carries, IsToldWritten, IsWritten, Sends, WritesOn, fault_sent, out_after, with_written}
+use Rattle.relay_wires.specs.Carriers.{Carrier, AllFree, IsFree, AllOutOpen, Picks, PicksOne, IsToldWritten, Sends, WritesOn, fault_sent, out_after}
 
 pub free_push : (cs : List Connection) (c : Connection) → AllFree cs → IsFree c → AllFree (cs ++ c ∷ [])
 free_push [] c all last = (last, tt)
@@ -61,40 +59,10 @@ all_free_after reply d free is all = elim (eqb_tells (length d.held) 0) [
     without true = all
     without false = all
 
--- ---- a connection that could not be had
-
-pub pick_fails : (number : ℕ) (ws : List Write) (host : List ℕ) (most : ℕ) (out : List (ℕ × Connection)) (free later : List Connection) (failed counted before after : ℕ) (f : WireFault)
-    → PicksOne free later failed counted before after (Err f)
-    → Carries number ws (record { host = host; most = most; out = out; free = free; failed = failed; dialled = before }) (record { host = host; most = most; out = out; free = later; failed = counted; dialled = after }) (Err f)
-pick_fails number ws host most out free later failed counted before after fault.Send p = inr (inl (same p.0 p.1 p.2))
-  where
-    of : List Connection → ℕ → ℕ → Carrier
-    of x n m = record { host = host; most = most; out = out; free = x; failed = n; dialled = m }
-
-    same : later ≡ [] → counted ≡ one_more failed → after ≡ one_more before → of later counted after ≡ of [] (one_more failed) (one_more before)
-    same a b c = ap (λ x. of x counted after) a ∙ ap (λ n. of [] n after) b ∙ ap (of [] (one_more failed)) c
-pick_fails number ws host most out free later failed counted before after fault.Lost p = absurd p
-pick_fails number ws host most out free later failed counted before after fault.Unreadable p = absurd p
-pick_fails number ws host most out free later failed counted before after fault.Memory p =
-    (fresh None None 0, inr (p.0, (None, None, 0, refl), p.2), ap (λ n. record { host = host; most = most; out = out; free = later; failed = n; dialled = after }) p.1)
-
 -- ---- a request on the connection that was picked
 
 abbrev carrier : (host : List ℕ) (most : ℕ) (out : List (ℕ × Connection)) (free : List Connection) (failed dialled : ℕ) → Carrier
 carrier host most out free failed dialled = record { host = host; most = most; out = out; free = free; failed = failed; dialled = dialled }
-
-pub carry_fails : (number : ℕ) (ws : List Write) (host : List ℕ) (most : ℕ) (out : List (ℕ × Connection)) (free later : List Connection) (failed counted before after : ℕ) (c d : Connection) (text : List ℕ) (f : WireFault)
-    → PicksOne free later failed counted before after (Ok c) → IsWritten c d text (Err f) → Carries number ws (carrier host most out free failed before) (carrier host most out later counted after) (Err f)
-carry_fails number ws host most out free later failed counted before after c d text f p (inl e) =
-    subst (λ (x : WireFault). Carries number ws (carrier host most out free failed before) (carrier host most out later counted after) (Err x)) (sym e)
-    (inr (inr (c, p.0, ap (λ n. carrier host most out later n after) p.2)))
-carry_fails number ws host most out free later failed counted before after c d text f p (inr e) =
-    subst (λ (x : WireFault). Carries number ws (carrier host most out free failed before) (carrier host most out later counted after) (Err x)) (sym e)
-    (c, p.0, ap (λ n. carrier host most out later n after) p.2)
-
-pub carry_succeeds : (number : ℕ) (ws : List Write) (host : List ℕ) (most : ℕ) (out items : List (ℕ × Connection)) (free later : List Connection) (failed counted before after : ℕ) (c d : Connection)
-    → PicksOne free later failed counted before after (Ok c) → d ≡ with_written c (request host (text_of ws)) → items ≡ (number, d) ∷ out → Carries number ws (carrier host most out free failed before) (carrier host most items later counted after) (Ok tt)
-carry_succeeds number ws host most out items free later failed counted before after c d p w e = (c, p.0, p.1, p.2, e ∙ ap (λ x. (number, x) ∷ out) w)
 
 -- ---- the fault of sending
 
@@ -127,9 +95,13 @@ sends_on number ws host most out items free later failed counted before after c 
 
 -- ---- what always holds, after a request was sent
 
-pub open_after : (number : ℕ) (out items : List (ℕ × Connection)) (c d : Connection) (text : List ℕ) → IsTrue (is_open c.phase) → d ≡ with_written c text → items ≡ (number, d) ∷ out → AllOutOpen out → AllOutOpen items
-open_after number out items c d text h w e all =
-    subst AllOutOpen (sym e) (subst (λ (x : Connection). IsTrue (is_open x.phase)) (sym w) h, all)
+-- a connection on which a request was written may carry further messages
+pub open_written : (r : Result (Unit {0}) HttpFault) (d : Connection) → IsToldWritten r (Ok tt) → d.phase ≡ after_write true r → IsTrue (is_open d.phase)
+open_written (Ok u) d told is = ap is_open is
+open_written (Err e) d told is = absurd (cc)
+
+pub open_after : (number : ℕ) (host : List ℕ) (ws : List Write) (out items : List (ℕ × Connection)) (c d : Connection) → WritesOn host ws c d (Ok tt) → items ≡ (number, d) ∷ out → AllOutOpen out → AllOutOpen items
+open_after number host ws out items c d w e all = subst AllOutOpen (sym e) (open_written w.write d w.told w.writes.phase, all)
 
 pub few_after : (number most before after : ℕ) (out items : List (ℕ × Connection)) (free later : List Connection) (c d : Connection) → Picks free later before after c → items ≡ (number, d) ∷ out → length out + length free ≤ most → length out < most → length items + length later ≤ most
 few_after number most before after out items free later c d (inl t) e few room =

@@ -1,13 +1,11 @@
 -- A wire over HTTP connections.
 use Rattle.std.specs.Prelude.{◌≡◌, ◌==◌, ◌&&◌, ◌⊎◌, ℕ, ◌+◌, ◌≤◌, true, List, [], ◌∷◌, ◌++◌, length, Option, Some, None, IsTrue, Result, Ok, Err, MatchResult, if◌then◌else◌}
-use Rattle.std.specs.Io.KnownBytes.{append_known}
 use Rattle.relay_action.specs.Streams.{one_more}
 use Rattle.relay_action.specs.declared.write.Write.{Write}
-use Rattle.relay_ndjson.specs.Bulk.{text_of}
 use Rattle.relay_http.specs.Connection.{Connection, IsQuiet, ahead, fresh, is_open, after_reply, after_write, failed_reading, failed_writing}
 use Rattle.relay_http.specs.Forms.{Begins, Took, Fails, IsOutside, IsThatOrOutside}
 use Rattle.relay_http.specs.Reply.{IsReplyMessage, ReplyStates, ReplyPasses, reply_view}
-use Rattle.relay_http.specs.WrittenRequest.{is_host, request, SendsRequest}
+use Rattle.relay_http.specs.WrittenRequest.{is_host, SendsRequest}
 use Rattle.relay_http.specs.declared.fault.HttpFault.{HttpFault}
 use Rattle.relay_http.specs.declared.fault.HttpFault.TheVariants as http
 use Rattle.relay_http.specs.declared.reply.HttpReply.{HttpReply}
@@ -72,25 +70,6 @@ IsFresh c = (left : Option (List ℕ)) × (written : Option (List ℕ)) × (fail
 abbrev pub Picks : List Connection → List Connection → ℕ → ℕ → Connection → Type 0
 Picks old new before after c = (TakesFree old new c × (after ≡ before)) ⊎ ((new ≡ []) × IsFresh c × (after ≡ one_more before))
 
--- the connection after this was written on it
-abbrev pub with_written : Connection → List ℕ → Connection
-with_written c text = record c { written = append_known c.written text }
-
--- Sending a request with these writes. Sent: the request was written on a connection, on which it is now outstanding.
--- Otherwise nothing more is outstanding; it was not sent because the maximum number is outstanding, because no free
--- connection is quiet and the dial failed, or because the connection that was picked could not carry it.
-abbrev pub Carries : ℕ → List Write → Carrier → Carrier → Result (Unit {0}) WireFault → Type 0
-Carries number ws old new (Ok u) =
-    (c : Connection) × Picks old.free new.free old.dialled new.dialled c × IsTrue (is_open c.phase) × (new.failed ≡ old.failed)
-    × (new.out ≡ (number, with_written c (request old.host (text_of ws))) ∷ old.out)
-Carries number ws old new (Err fault.Send) =
-    ((old.most ≤ length old.out) × (new ≡ old))
-    ⊎ (new ≡ record old { free = []; failed = one_more old.failed; dialled = one_more old.dialled })
-    ⊎ ((c : Connection) × Picks old.free new.free old.dialled new.dialled c × (new ≡ record old { free = new.free; dialled = new.dialled }))
-Carries number ws old new (Err fault.Lost) = ⊥
-Carries number ws old new (Err fault.Unreadable) = ⊥
-Carries number ws old new (Err fault.Memory) = (c : Connection) × Picks old.free new.free old.dialled new.dialled c × (new ≡ record old { free = new.free; dialled = new.dialled })
-
 -- the result of writing the request with these writes to this host on a connection, and the connection afterwards
 pub record Writes (host : List ℕ) (ws : List Write) (c d : Connection) (r : Result (Unit {0}) HttpFault) : Type 0 where
   pub lasts : IsTrue (is_open c.phase)
@@ -138,8 +117,8 @@ pub record SendsOn (number : ℕ) (ws : List Write) (old new : Carrier) (result 
   pub carried : WritesOn old.host ws connection left result
   pub after : new ≡ record old { out = out_after number result left old.out; free = new.free; dialled = new.dialled }
 
--- No connection was picked: the maximum number of requests is outstanding, or the dial failed; or allocating the window
--- of a fresh connection did.
+-- No connection was picked: the maximum number of requests is outstanding, or no free connection is quiet and the dial
+-- failed, or allocating the window of a fresh connection did.
 abbrev pub PicksNone : Carrier → Carrier → Result (Unit {0}) WireFault → Type 0
 PicksNone old new (Ok u) = ⊥
 PicksNone old new (Err fault.Send) =
@@ -149,7 +128,7 @@ PicksNone old new (Err fault.Lost) = ⊥
 PicksNone old new (Err fault.Unreadable) = ⊥
 PicksNone old new (Err fault.Memory) = new ≡ record old { free = []; dialled = one_more old.dialled }
 
--- Sending a request with these writes: its fault is that of writing it, unless no connection was picked.
+-- Sending a request with these writes: it is written on the connection that was picked, if one was.
 abbrev pub Sends : ℕ → List Write → Carrier → Carrier → Result (Unit {0}) WireFault → Type 0
 Sends number ws old new result = SendsOn number ws old new result ⊎ PicksNone old new result
 
@@ -219,11 +198,6 @@ PicksOne old new failed later before after (Err fault.Send) = (new ≡ []) × (l
 PicksOne old new failed later before after (Err fault.Lost) = ⊥
 PicksOne old new failed later before after (Err fault.Unreadable) = ⊥
 PicksOne old new failed later before after (Err fault.Memory) = (new ≡ []) × (later ≡ failed) × (after ≡ one_more before)
-
--- a request was written, or its connection could not carry it
-abbrev pub IsWritten : Connection → Connection → List ℕ → Result (Unit {0}) WireFault → Type 0
-IsWritten c d text (Ok u) = d ≡ with_written c text
-IsWritten c d text (Err e) = (e ≡ fault.Send) ⊎ (e ≡ fault.Memory)
 
 -- a reply was read from a connection, which is then free if it may be
 pub record BringsFrom (connection : Connection) (old new : List Connection) (result : Result WireReply WireFault) : Type 0 where

@@ -1,14 +1,14 @@
 //! One request on one connection.
 ghost use Rattle.std.specs.Prelude.{◌≡◌, ◌==◌, ◌&&◌, ◌∷◌, ◌++◌, []};
 ghost use Rattle.std.specs.Prelude.{if◌then◌else◌, ◌+◌, ◌<◌, ◌≤◌};
-ghost use Rattle.std.specs.Prelude.{length, vec_len, vec_capacity, IfOk, IsTrue};
+ghost use Rattle.std.specs.Prelude.{length, vec_len, vec_capacity, IsTrue};
 ghost use Rattle.relay_ndjson.specs.Bulk.{text_of};
 ghost use Rattle.relay_http.specs.Connection.{is_open};
 ghost use Rattle.relay_http.specs.Framing.{request_limit};
-ghost use Rattle.relay_http.specs.WrittenRequest.{is_host, request};
+ghost use Rattle.relay_http.specs.WrittenRequest.{is_host};
 ghost use Rattle.relay_lane.specs.Wires.{IsWireReply};
-ghost use Rattle.relay_wires.specs.Carriers.{AllFree, IsFree, FindsFree, PicksOne};
-ghost use Rattle.relay_wires.specs.Carriers.{IsWritten, WritesOn, fault_sent};
+ghost use Rattle.relay_wires.specs.Carriers.{AllFree, FindsFree, PicksOne};
+ghost use Rattle.relay_wires.specs.Carriers.{WritesOn, fault_sent};
 ghost use Rattle.relay_wires.specs.Carriers.{BringsFrom, fault_received};
 
 use crate::told::tell;
@@ -62,7 +62,6 @@ pub(crate) fn carry<S: ByteOut + Drop>(
     requires host { IsTrue (is_host host.now) }
     requires few { length writes.now ≤ 10000 }
     requires size { length (text_of writes.now) ≤ request_limit }
-    ensures written { IsWritten conn.old conn.new (request host.now (text_of writes.now)) result }
     ensures on { WritesOn host.now writes.now conn.old conn.new result }
 {
     conn.write_request(alloc, host, writes).map_err(fault_sent)

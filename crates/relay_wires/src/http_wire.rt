@@ -82,13 +82,13 @@ impl<S: ByteStream + Drop, D: Dial<S> + Drop> HttpWire<S, D> {
 }
 
 impl<S: ByteIn + ByteOut + Peek + Drop, D: Dial<S> + Drop> Wire for HttpWire<S, D> {
-    ghost use Rattle.std.specs.Prelude.{false, ℕ, ◌∷◌, ◌≤◌, length, MatchResult};
+    ghost use Rattle.std.specs.Prelude.{false, ◌∷◌, ◌≤◌, length, MatchResult};
     ghost use Rattle.relay_ndjson.specs.Bodies.{AreDealt};
     ghost use Rattle.relay_ndjson.specs.Bulk.{text_of};
     ghost use Rattle.relay_results.specs.Words.{Mem};
     ghost use Rattle.relay_lane.specs.Wires.{IsWireReply, without};
     ghost use Rattle.relay_wires.specs.Numbers.{numbers};
-    ghost use Rattle.relay_wires.specs.Carriers.{Carries, Sends, Brings, FitsNone};
+    ghost use Rattle.relay_wires.specs.Carriers.{Sends, Brings, FitsNone};
 
     ghost out = { λ w. numbers w.out };
 
@@ -109,10 +109,9 @@ impl<S: ByteIn + ByteOut + Peek + Drop, D: Dial<S> + Drop> Wire for HttpWire<S, 
         ensures out { MatchResult result
             (λ _. numbers self.new.out ≡ number ∷ numbers self.old.out)
             (λ _. numbers self.new.out ≡ numbers self.old.out) }
-        // What is sent is the request with these writes.
-        ensures carries { Carries number writes.now self.old self.new result }
-        // An error is the one that the fault of writing the request maps to; if no connection was
-        // picked, it is Send, or Memory if the window of a fresh one could not be allocated.
+        // What is written is the request with these writes. An error is the one that the fault of
+        // writing it maps to; if no connection was picked, it is Send, or Memory if the window of
+        // a fresh one could not be allocated.
         ensures sends { Sends number writes.now self.old self.new result }
     {
         if self.out.len() >= self.most as usize {

@@ -1,44 +1,8 @@
-use Rattle.std.proofs.Common.{rules, ◌≡◌, Err, Ok, refl, ap, subst, string_bytes, ◌∙◌}
+use Rattle.std.proofs.Common.{rules, ◌≡◌, Err, Ok, refl, subst, string_bytes}
 use Rattle.std.proofs.lemmas.Result.{err_from_is_err_and}
-use Rattle.relay_ndjson.specs.Bulk.{text_of}
-use Rattle.relay_http.specs.WrittenRequest.{request}
-use Rattle.relay_wires.specs.Carriers.{with_written}
-use Rattle.relay_wires.specs.Carriers.{Carrier, Carries, Sends, WritesOn}
-use Rattle.relay_wires.proofs.Connections.{carry_succeeds, carry_fails, few_after, few_left, open_after, pick_fails, sends_none, sends_on}
+use Rattle.relay_wires.specs.Carriers.{Carrier, Sends, WritesOn}
+use Rattle.relay_wires.proofs.Connections.{few_after, few_left, open_after, sends_none, sends_on}
 use Rattle.relay_wires.proofs.http_wire.HttpWireWire.send.Goals as goal
-
-pub returns-in_err-conn-clause-carries : goal.returns-in_err-conn-clause-carries
-returns-in_err-conn-clause-carries g c =
-    let p = err_from_is_err_and c.from_residual.result c.from_residual.ensures.1 in
-    let now : Carrier = record {
-      host = string_bytes c.self.inside.host;
-      most = c.self.inside.most;
-      out = c.self.inside.out.items;
-      free = c.pick.new.free.items;
-      failed = g.D.Dial.failed c.pick.new.dial;
-      dialled = g.D.Dial.dialled c.pick.new.dial;
-    } in
-    rw (p.1, p.2)
-    (subst (λ (w : Carrier). Carries c.args.number c.args.writes.now w now (Err c.in_err-conn.field-0.0)) c.self.view_is
-    (pick_fails c.args.number c.args.writes.now (string_bytes c.self.inside.host) c.self.inside.most c.self.inside.out.items c.self.inside.free.items c.pick.new.free.items
-    (g.D.Dial.failed c.self.inside.dial) (g.D.Dial.failed c.pick.new.dial) (g.D.Dial.dialled c.self.inside.dial) (g.D.Dial.dialled c.pick.new.dial) c.in_err-conn.field-0.0 c.in_err-conn.ensures.picks))
-
-pub returns-in_err-carry-clause-carries : goal.returns-in_err-carry-clause-carries
-returns-in_err-carry-clause-carries g c =
-    let p = err_from_is_err_and c.from_residual-in_err-carry.result c.from_residual-in_err-carry.ensures.1 in
-    let now : Carrier = record {
-      host = string_bytes c.self.inside.host;
-      most = c.self.inside.most;
-      out = c.self.inside.out.items;
-      free = c.pick.new.free.items;
-      failed = g.D.Dial.failed c.pick.new.dial;
-      dialled = g.D.Dial.dialled c.pick.new.dial;
-    } in
-    rw (p.1, p.2)
-    (subst (λ (w : Carrier). Carries c.args.number c.args.writes.now w now (Err c.in_err-carry.field-0.0)) c.self.view_is
-    (carry_fails c.args.number c.args.writes.now (string_bytes c.self.inside.host) c.self.inside.most c.self.inside.out.items c.self.inside.free.items c.pick.new.free.items
-    (g.D.Dial.failed c.self.inside.dial) (g.D.Dial.failed c.pick.new.dial) (g.D.Dial.dialled c.self.inside.dial) (g.D.Dial.dialled c.pick.new.dial) c.in_ok-conn.conn c.carry.new.conn (request c.deref.result.now (text_of c.args.writes.now))
-    c.in_err-carry.field-0.0 c.in_ok-conn.ensures.picks c.in_err-carry.ensures.written))
 
 pub invariant_of-self-in_err-carry : goal.invariant_of-self-in_err-carry
 invariant_of-self-in_err-carry g c =
@@ -55,32 +19,15 @@ invariant_of-self-in_err-carry g c =
 pub invariant_of-self-2 : goal.invariant_of-self-2
 invariant_of-self-2 g c =
     let picks = c.in_ok-conn.ensures.picks in
-    let written = c.in_ok-carry.ensures.written in
     let items = c.push_front_reserved.ensures.items in
     record {
       host = c.self.invariant.host;
-      out = open_after c.args.number c.self.inside.out.items c.push_front_reserved.new.self.items c.in_ok-conn.conn c.carry.new.conn _ picks.1 written items c.self.invariant.out;
+      out = open_after c.args.number _ c.args.writes.now c.self.inside.out.items c.push_front_reserved.new.self.items c.in_ok-conn.conn c.carry.new.conn c.in_ok-carry.ensures.on items c.self.invariant.out;
       free = c.in_ok-conn.ensures.free_left;
       few = few_after c.args.number c.self.inside.most _ _ c.self.inside.out.items c.push_front_reserved.new.self.items c.self.inside.free.items c.pick.new.free.items c.in_ok-conn.conn c.carry.new.conn picks.0 items c.self.invariant.few (search rules);
       places = rw c.push_front_reserved.ensures.capacity c.self.invariant.places;
       spare = rw c.in_ok-conn.ensures.capacity c.self.invariant.spare;
     }
-
-pub returns-clause-carries : goal.returns-clause-carries
-returns-clause-carries g c =
-    let host : c.deref.result.now ≡ string_bytes c.self.inside.host = c.deref.ensures in
-    let now : Carrier = record {
-      host = string_bytes c.self.inside.host;
-      most = c.self.inside.most;
-      out = c.push_front_reserved.new.self.items;
-      free = c.pick.new.free.items;
-      failed = g.D.Dial.failed c.pick.new.dial;
-      dialled = g.D.Dial.dialled c.pick.new.dial;
-    } in
-    subst (λ (w : Carrier). Carries c.args.number c.args.writes.now w now (Ok tt)) c.self.view_is
-    (carry_succeeds c.args.number c.args.writes.now (string_bytes c.self.inside.host) c.self.inside.most c.self.inside.out.items c.push_front_reserved.new.self.items c.self.inside.free.items c.pick.new.free.items
-    (g.D.Dial.failed c.self.inside.dial) (g.D.Dial.failed c.pick.new.dial) (g.D.Dial.dialled c.self.inside.dial) (g.D.Dial.dialled c.pick.new.dial) c.in_ok-conn.conn c.carry.new.conn
-    c.in_ok-conn.ensures.picks (c.in_ok-carry.ensures.written ∙ ap (λ h. with_written c.in_ok-conn.conn (request h (text_of c.args.writes.now))) host) c.push_front_reserved.ensures.items)
 
 pub returns-in_err-conn-clause-sends : goal.returns-in_err-conn-clause-sends
 returns-in_err-conn-clause-sends g c =
