@@ -1,5 +1,5 @@
 -- The first of those that may go are sent, one after another.
-use Rattle.std.proofs.Common.{length-append, ◌≡◌, ℕ, zero, suc, ◌+◌, ◌-◌, ◌<◌, ◌≤◌, List, [], ◌∷◌, ◌++◌, length, Option, Some, None, Bool, true, false, ◌==◌, ◌&&◌, refl, sym, ap, ◌∙◌, subst, ⊎_elim, inl, inr, arith, drop, take, get_or}
+use Rattle.std.proofs.Common.{length-append, ◌≡◌, ℕ, zero, suc, ◌+◌, ◌-◌, ◌<◌, ◌≤◌, List, [], ◌∷◌, ◌++◌, length, Option, Some, None, Bool, true, false, ◌==◌, ◌&&◌, refl, sym, ap, ◌∙◌, ⊎_elim, inl, inr, arith, drop, take}
 use Rattle.std.specs.Prelude.{if◌then◌else◌, filter, map, slice_get, option_to_list, option_map, not, nat_lt, nat_le}
 use Rattle.relay_action.specs.declared.key.DocKey.{DocKey}
 use Rattle.relay_batch.specs.declared.item.BatchItem.{BatchItem}

@@ -6,7 +6,7 @@ use Rattle.relay_action.specs.declared.write.Write.{Write}
 use Rattle.relay_results.specs.Documents.{document_of, same_document}
 use Rattle.relay_core.specs.State.{State, is_eligible, first_due, sooner, due_in}
 use Rattle.relay_delivery.specs.Lane as delivery
-use Rattle.relay_delivery.specs.Lane.{Entry, Flying, writes_at, held_of, waits, is_later, is_candidate, candidates}
+use Rattle.relay_delivery.specs.Lane.{Flying, writes_at, held_of, waits, is_later, is_candidate, candidates}
 use Rattle.relay_results.proofs.Lists.{true_or_false, equal}
 use Rattle.relay_held.specs.declared.kept.Kept.{Kept}
 use Rattle.relay_held.specs.declared.kept.Spot.{Spot}

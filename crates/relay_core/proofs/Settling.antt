@@ -13,7 +13,7 @@ use Rattle.relay_results.specs.Outside.{Answer}
 use Rattle.relay_results.specs.declared.cause.Cause.TheVariants as cause
 use Rattle.relay_results.specs.Fates.{Fate, Flies, Applied, Already, Retried, Halved, Reported, Tries, tried_again, fate, fate_of_entry, fate_of_verdict}
 use Rattle.relay_delivery.specs.Machine.{Config, fate_of, reported_one, reports_from, how_many}
-use Rattle.relay_delivery.specs.Lane.{Entry, held_of, kept_entry, kept_entries}
+use Rattle.relay_delivery.specs.Lane.{held_of, kept_entry, kept_entries}
 use Rattle.relay_results.proofs.Lists.{true_or_false, equal_test}
 use Rattle.relay_held.specs.declared.kept.Kept.{Kept}
 use Rattle.relay_core.proofs.Keeping.{one_less}

@@ -1,5 +1,5 @@
 //! What an answer means for one operation.
-ghost use Rattle.std.specs.Prelude.{◌≡◌, [], unwrap_or};
+ghost use Rattle.std.specs.Prelude.{◌≡◌, unwrap_or};
 ghost use Rattle.relay_results.specs.Fates.{fate_of_item, fate_of_entry};
 ghost use Rattle.relay_core.specs.Walk.{said, fate_or};
 

@@ -1,10 +1,8 @@
 //! The lane.
-ghost use Rattle.std.specs.Prelude.{◌≡◌, ◌≢◌, unwrap_or, ◌≤◌, ◌<◌, ◌+◌, ◌-◌, ◌/◌, ◌++◌, ◌∷◌, []};
+ghost use Rattle.std.specs.Prelude.{◌≡◌, ◌≢◌, unwrap_or, ◌≤◌, ◌<◌, ◌+◌, ◌-◌, ◌/◌, []};
 ghost use Rattle.std.specs.Prelude.{true, Some, None, IfOk, OnOk, OnErr, IfErr, IfSome, OnSome};
 ghost use Rattle.std.specs.Prelude.{IfNone, map, option_map, is_some, is_ok, if◌then◌else◌, length};
-ghost use Rattle.std.specs.Prelude.{vec_len, vec_capacity};
 ghost use Rattle.std.specs.List.{list_all};
-ghost use Rattle.relay_results.specs.Numbers.{from_zero};
 ghost use Rattle.relay_results.specs.Outside.{Answer, Lost, Whole, Items};
 ghost use Rattle.relay_results.specs.Matching.{matches};
 ghost use Rattle.relay_results.specs.Verdicts.{is_halved, is_retried_whole};
@@ -429,10 +427,8 @@ impl Lane {
     pub fn items(&self, number: u64) -> Option<&[BatchItem]>
         ensures { option_map (λ b. b.now) result ≡ batch_at number self.now.state.flights }
     {
-        match self.flight.batch(number) {
-            Some(batch) => Some(batch.items()),
-            None => None,
-        }
+        let batch = self.flight.batch(number)?;
+        Some(batch.items())
     }
 }
 

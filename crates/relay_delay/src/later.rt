@@ -74,7 +74,7 @@ impl Model for Later {
 }
 
 impl Later {
-    ghost use Rattle.relay_delay.specs.Waiting.{insert, has_version, is_due, first_due, Rises};
+    ghost use Rattle.relay_delay.specs.Waiting.{insert, has_version, is_due, first_due};
     ghost use Rattle.relay_delay.specs.Heaps.{NoneDue};
 
     /// An empty heap. It does not allocate.
@@ -125,10 +125,8 @@ impl Later {
     pub(crate) fn first_due(&self) -> Option<u64>
         ensures { result ≡ first_due self.now.entries }
     {
-        match self.heap.peek() {
-            Some(top) => Some(top.0.due),
-            None => None,
-        }
+        let top = self.heap.peek()?;
+        Some(top.0.due)
     }
 
     fn pop(&mut self) -> Option<Entry>

@@ -1,10 +1,10 @@
 //! The delay queue.
-ghost use Rattle.std.specs.Prelude.{◌≡◌, ◌+◌, ◌<◌, ◌≤◌, ◌++◌, [], true, false, length, slice_get};
+ghost use Rattle.std.specs.Prelude.{◌≡◌, ◌+◌, ◌<◌, ◌≤◌, ◌++◌, [], false, length, slice_get};
 ghost use Rattle.std.specs.Prelude.{IfOk, OnOk, OnErr, MatchOption};
 ghost use Rattle.std.specs.VecDeque.{deque_capacity};
 ghost use Rattle.relay_delay.specs.Waiting.{insert, without, has_version, due_entries, due_in};
 ghost use Rattle.relay_delay.specs.Waiting.{Rises};
-ghost use Rattle.relay_delay.specs.Heaps.{insert_all, AllDue, NoneDue, AllUpTo, IsMoving};
+ghost use Rattle.relay_delay.specs.Heaps.{insert_all, AllDue, NoneDue, IsMoving};
 
 use crate::entry::Entry;
 use crate::later::Later;
@@ -237,9 +237,7 @@ impl DelayQueue {
         if self.count_due() > 0 {
             return Some(0);
         }
-        match self.later.first_due() {
-            Some(due) => Some(due - self.clock),
-            None => None,
-        }
+        let due = self.later.first_due()?;
+        Some(due - self.clock)
     }
 }

@@ -195,6 +195,10 @@ queue_shown s ss key slot v e l = ap (λ (v : Shelf). queue_of v.queues key) (sy
 pub none_shown : (s : Slab (List Kept)) (ss : List (DocKey × ℕ)) (key : DocKey) (v : Shelf) → Shows s ss v → None ≡ lookup (same_key key) v.slots → queue_of v.queues key ≡ []
 none_shown s ss key v e l = ap (λ (v : Shelf). queue_of v.queues key) (sym e) ∙ queue_none s ss key (lookup_shown s ss key None v e l)
 
+pub no_queue : (s : Slab (List Kept)) (ss : List (DocKey × ℕ)) (key : DocKey) (v : Shelf) (slot : Option ℕ) → Shows s ss v → slot ≡ lookup (same_key key) v.slots → IfNone slot (queue_of v.queues key ≡ [])
+no_queue s ss key v None e l = none_shown s ss key v e l
+no_queue s ss key v (Some n) e l = tt
+
 pub slot_shown : (s : Slab (List Kept)) (ss : List (DocKey × ℕ)) (k : DocKey) (h : Kept) (slot : ℕ) (v : Shelf) → Shows s ss v → slice_get (queue_of v.queues k) 0 ≡ Some h → slot_of v.slots k ≡ slot
     → Some slot ≡ lookup (same_key k) v.slots
 slot_shown s ss k h slot v e is at =

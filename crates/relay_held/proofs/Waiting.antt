@@ -11,7 +11,7 @@ use Rattle.relay_results.specs.Words.{Mem}
 use Rattle.relay_results.proofs.Lists.{apart_tests, true_or_false, none_some, some_same, equal, equal_test, Mem-filter, filter-Mem, Mem-map, any_true, at-Mem}
 use Rattle.relay_held.specs.declared.kept.Kept.{Kept}
 use Rattle.relay_held.specs.Operations.{waits_here}
-use Rattle.relay_held.specs.Queues.{AllAbove, Rises, same_key, is_of, first_of, candidates_kept, eligible, first_due_kept, insert_one, merge_of, queue_of, IsMerge, IsHolding, Changes}
+use Rattle.relay_held.specs.Queues.{AllAbove, Rises, same_key, first_of, candidates_kept, eligible, first_due_kept, insert_one, merge_of, queue_of, IsMerge, IsHolding, Changes}
 use Rattle.relay_held.specs.Shelf.{Shelf, IsHeld, slot_of, KeepsSlots, entry_at, entry_of, with_entry}
 use Rattle.relay_held.proofs.Merging.{same_self, rises_filter}
 use Rattle.relay_held.proofs.Changing.{first_is, same_queue}

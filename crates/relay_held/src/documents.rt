@@ -57,20 +57,14 @@ pub struct Taken {
 fn head_in(queues: &Slab<Queue>, slot: usize) -> Option<&Kept>
     ensures { option_copied result ≡ slice_get (queue_in queues.now slot) 0 }
 {
-    match queues.get(slot) {
-        Some(queue) => Some(queue.head()),
-        None => None,
-    }
+    Some(queues.get(slot)?.head())
 }
 
 // The name of the first operation of the queue in a slot.
 fn name_in(queues: &Slab<Queue>, slot: usize) -> Option<OpName>
     ensures { result ≡ first_name (queue_in queues.now slot) }
 {
-    match head_in(queues, slot) {
-        Some(one) => Some(one.name),
-        None => None,
-    }
+    Some(head_in(queues, slot)?.name)
 }
 
 // Sends the first operation of the queue in a slot, and takes its write out.
@@ -79,10 +73,7 @@ fn launch_in(queues: &mut Slab<Queue>, slot: usize, number: u64, place: u64) -> 
         (on_first (launch_one number place) (queue_in queues.old slot)) }
     ensures write { IfSome (slice_get (queue_in queues.old slot) 0) (λ h. result ≡ h.write) }
 {
-    match queues.get_mut(slot) {
-        Some(queue) => queue.launch(number, place),
-        None => None,
-    }
+    queues.get_mut(slot)?.launch(number, place)
 }
 
 // Lets the first operation of the queue in a slot wait again.
@@ -91,13 +82,9 @@ fn land_in(queues: &mut Slab<Queue>, slot: usize, due: u64, write: Write) -> Opt
         (on_first (back_at due write) (queue_in queues.old slot)) }
     ensures entry { result ≡ option_map (entry_at slot) (slice_get (queue_in queues.new slot) 0) }
 {
-    match queues.get_mut(slot) {
-        Some(queue) => {
-            queue.land(due, write);
-            Some(queue.entry(slot))
-        }
-        None => None,
-    }
+    let queue = queues.get_mut(slot)?;
+    queue.land(due, write);
+    Some(queue.entry(slot))
 }
 
 // Lets the first operation of the queue in a slot wait again under this cap.
@@ -112,13 +99,9 @@ fn halve_in(
         (on_first (halved_at due cap write) (queue_in queues.old slot)) }
     ensures entry { result ≡ option_map (entry_at slot) (slice_get (queue_in queues.new slot) 0) }
 {
-    match queues.get_mut(slot) {
-        Some(queue) => {
-            queue.halve(due, cap, write);
-            Some(queue.entry(slot))
-        }
-        None => None,
-    }
+    let queue = queues.get_mut(slot)?;
+    queue.halve(due, cap, write);
+    Some(queue.entry(slot))
 }
 
 // Adds an operation at the end of the queue in a slot.
@@ -147,16 +130,10 @@ fn next_in(queues: &mut Slab<Queue>, slot: usize) -> Option<Taken>
     ensures last { IfNone result (drop 1 (queue_in queues.old slot) ≡ []) }
     ensures unchanged { IfNone result (queues.new ≡ queues.old) }
 {
-    let Some(queue) = queues.get_mut(slot) else {
-        return None;
-    };
-    match queue.next() {
-        Some(name) => {
-            let next = Some(queue.entry(slot));
-            Some(Taken { name, next })
-        }
-        None => None,
-    }
+    let queue = queues.get_mut(slot)?;
+    let name = queue.next()?;
+    let next = Some(queue.entry(slot));
+    Some(Taken { name, next })
 }
 
 // Adds a document with its first operation. There is room for both.
@@ -251,10 +228,10 @@ fn remove(
     let name = name_in(queues, slot);
     let _ = slots.swap_remove(key);
     let _ = queues.try_remove(slot);
-    match name {
-        Some(name) => Some(Taken { name, next: None }),
-        None => None,
-    }
+    Some(Taken {
+        name: name?,
+        next: None,
+    })
 }
 
 // Takes the first operation of the document in a slot out. The document goes with its last one.
@@ -308,7 +285,8 @@ impl Documents {
 
     // The slot of a document's queue.
     fn slot(&self, key: &DocKey) -> Option<usize>
-        ensures { result ≡ lookup (same_key key.now) self.now.slots }
+        ensures found { result ≡ lookup (same_key key.now) self.now.slots }
+        ensures none { IfNone result (queue_of self.now.queues key.now ≡ []) }
     {
         self.slots.get(key).copied()
     }
@@ -319,20 +297,16 @@ impl Documents {
             → slot_of self.now.slots k ≡ slot
             → result ≡ Some (candidate_of h) }
     {
-        match head_in(&self.queues, slot) {
-            Some(one) => Some(candidate_of(one)),
-            None => None,
-        }
+        let one = head_in(&self.queues, slot)?;
+        Some(candidate_of(one))
     }
 
     /// The first operation of a document.
     pub(crate) fn first(&self, key: &DocKey) -> Option<&Kept>
         ensures { option_copied result ≡ slice_get (queue_of self.now.queues key.now) 0 }
     {
-        match self.slot(key) {
-            Some(slot) => head_in(&self.queues, slot),
-            None => None,
-        }
+        let slot = self.slot(key)?;
+        head_in(&self.queues, slot)
     }
 
     /// Adds an operation of its document after those that are there, and returns its entry if it is
@@ -383,10 +357,8 @@ impl Documents {
         ensures keys { keys_of self.new.queues ≡ keys_of self.old.queues }
         ensures unique { IsDistinct same_key (keys_of self.new.queues) }
     {
-        match self.slot(&write.key) {
-            Some(slot) => land_in(&mut self.queues, slot, due, write),
-            None => None,
-        }
+        let slot = self.slot(&write.key)?;
+        land_in(&mut self.queues, slot, due, write)
     }
 
     /// Lets the first operation of a write's document wait again under this cap, and returns its
@@ -400,10 +372,8 @@ impl Documents {
         ensures keys { keys_of self.new.queues ≡ keys_of self.old.queues }
         ensures unique { IsDistinct same_key (keys_of self.new.queues) }
     {
-        match self.slot(&write.key) {
-            Some(slot) => halve_in(&mut self.queues, slot, due, cap, write),
-            None => None,
-        }
+        let slot = self.slot(&write.key)?;
+        halve_in(&mut self.queues, slot, due, cap, write)
     }
 
     /// Takes the first operation of a document out. The document goes with its last one.
@@ -419,9 +389,7 @@ impl Documents {
         ensures fewer { length (keys_of self.new.queues) ≤ length (keys_of self.old.queues) }
         ensures unique { IsDistinct same_key (keys_of self.new.queues) }
     {
-        match self.slot(key) {
-            Some(slot) => take_in(&mut self.slots, &mut self.queues, key, slot),
-            None => None,
-        }
+        let slot = self.slot(key)?;
+        take_in(&mut self.slots, &mut self.queues, key, slot)
     }
 }

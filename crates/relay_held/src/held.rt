@@ -196,14 +196,10 @@ impl Held {
         ensures name { result ≡ name_in (first_of key.now self.old.list) }
         ensures clock { self.new.clock ≡ self.old.clock }
     {
-        match self.documents.take(key) {
-            Some(Taken { name, next }) => {
-                wait(&mut self.waiting, next);
-                self.count -= 1;
-                Some(name)
-            }
-            None => None,
-        }
+        let Taken { name, next } = self.documents.take(key)?;
+        wait(&mut self.waiting, next);
+        self.count -= 1;
+        Some(name)
     }
 
     /// The number of ticks until the first operation is due, of those that wait and are the first

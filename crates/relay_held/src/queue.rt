@@ -131,13 +131,9 @@ impl Queue {
         ensures none { IfNone result (drop 1 self.old ≡ []) }
         ensures unchanged { IfNone result (self.new ≡ self.old) }
     {
-        match self.behind.pop_front() {
-            Some(second) => {
-                let name = self.head.name;
-                self.head = second;
-                Some(name)
-            }
-            None => None,
-        }
+        let second = self.behind.pop_front()?;
+        let name = self.head.name;
+        self.head = second;
+        Some(name)
     }
 }

@@ -29,7 +29,6 @@ use Rattle.std.proofs.lemmas.List.{length-map}
 use Rattle.relay_batch.specs.declared.item.BatchItem.{BatchItem}
 use Rattle.relay_delivery.specs.Lane.{candidates}
 use Rattle.relay_held.specs.Queues.{Holding, Rises, candidates_kept}
-use Rattle.relay_core.specs.Rule.{batch_of}
 use Rattle.relay_core.specs.State.{all_closed}
 use Rattle.relay_core.specs.Quiet.{IsQuiet}
 use Rattle.relay_core.specs.Walk.{items_of_kept}

@@ -1,4 +1,4 @@
-use Rattle.std.proofs.Common.{subst}
+use Rattle.std.proofs.Common.{◌∙◌, subst}
 use Rattle.std.specs.List.{IsDistinct}
 use Rattle.std.specs.Map.{keys_of}
 use Rattle.relay_held.specs.Operations.{back_at}
@@ -7,28 +7,28 @@ use Rattle.relay_held.specs.Shelf.{Shelf, queue_in, slot_of}
 use Rattle.relay_held.proofs.Shelving.{keys_shown, on_shown, on_none, entry_shown, no_entry, set_shelf, length_on, unique_shelved}
 use Rattle.relay_held.proofs.documents.Documents.land.Goals as goal
 
-pub returns-in-Some-clause-landed : goal.returns-in-Some-clause-landed
-returns-in-Some-clause-landed c =
-    on_shown (back_at c.args.due c.args.write) c.self.inside.queues c.land_in.new.queues c.self.inside.slots.entries c.args.write.key c.in-Some.slot c.args.self.now c.self.view_is c.self.invariant c.in-Some.ensures c.land_in.ensures.landed
+pub returns-clause-landed : goal.returns-clause-landed
+returns-clause-landed c =
+    on_shown (back_at c.args.due c.args.write) c.self.inside.queues c.land_in.new.queues c.self.inside.slots.entries c.args.write.key c.in_ok-slot.slot c.args.self.now c.self.view_is c.self.invariant c.in_ok-slot.ensures.found c.land_in.ensures.landed
 
-pub returns-in-Some-clause-entry : goal.returns-in-Some-clause-entry
-returns-in-Some-clause-entry c =
-    entry_shown c.self.inside.queues c.land_in.new.queues c.self.inside.slots.entries c.args.write.key c.in-Some.slot c.args.self.now c.land_in.result c.self.view_is c.in-Some.ensures c.land_in.ensures.entry
+pub returns-clause-entry : goal.returns-clause-entry
+returns-clause-entry c =
+    entry_shown c.self.inside.queues c.land_in.new.queues c.self.inside.slots.entries c.args.write.key c.in_ok-slot.slot c.args.self.now c.land_in.result c.self.view_is c.in_ok-slot.ensures.found c.land_in.ensures.entry
 
-pub returns-in-Some-clause-keys : goal.returns-in-Some-clause-keys
-returns-in-Some-clause-keys c = keys_shown c.self.inside.queues c.land_in.new.queues c.self.inside.slots.entries c.args.self.now c.self.view_is
+pub returns-clause-keys : goal.returns-clause-keys
+returns-clause-keys c = keys_shown c.self.inside.queues c.land_in.new.queues c.self.inside.slots.entries c.args.self.now c.self.view_is
 
-pub returns-in-Some-clause-unique : goal.returns-in-Some-clause-unique
-returns-in-Some-clause-unique c =
+pub returns-clause-unique : goal.returns-clause-unique
+returns-clause-unique c =
     unique_shelved c.land_in.new.queues c.self.inside.slots.entries
-    (set_shelf c.self.inside.queues c.land_in.new.queues c.self.inside.slots.entries c.in-Some.slot _ c.self.invariant c.land_in.ensures.landed
-    (length_on (back_at c.args.due c.args.write) (queue_in c.self.inside.queues c.in-Some.slot)))
+    (set_shelf c.self.inside.queues c.land_in.new.queues c.self.inside.slots.entries c.in_ok-slot.slot _ c.self.invariant c.land_in.ensures.landed
+    (length_on (back_at c.args.due c.args.write) (queue_in c.self.inside.queues c.in_ok-slot.slot)))
 
-pub returns-in-None-clause-landed : goal.returns-in-None-clause-landed
-returns-in-None-clause-landed c = on_none (back_at c.args.due c.args.write) c.self.inside.queues c.self.inside.slots.entries c.args.write.key c.args.self.now c.self.view_is c.in-None.ensures
+pub returns-in_err-slot-clause-landed : goal.returns-in_err-slot-clause-landed
+returns-in_err-slot-clause-landed c = on_none (back_at c.args.due c.args.write) c.self.inside.queues c.self.inside.slots.entries c.args.write.key c.args.self.now c.self.view_is c.in_err-slot.ensures.found
 
-pub returns-in-None-clause-entry : goal.returns-in-None-clause-entry
-returns-in-None-clause-entry c = no_entry c.self.inside.queues c.self.inside.slots.entries c.args.write.key (slot_of c.args.self.now.slots c.args.write.key) c.args.self.now c.self.view_is c.in-None.ensures
+pub returns-in_err-slot-clause-entry : goal.returns-in_err-slot-clause-entry
+returns-in_err-slot-clause-entry c = c.from_residual.ensures ∙ no_entry c.self.inside.queues c.self.inside.slots.entries c.args.write.key (slot_of c.args.self.now.slots c.args.write.key) c.args.self.now c.self.view_is c.in_err-slot.ensures.found
 
-pub returns-in-None-clause-unique : goal.returns-in-None-clause-unique
-returns-in-None-clause-unique c = subst (λ (v : Shelf). IsDistinct same_key (keys_of v.queues)) c.self.view_is (unique_shelved c.self.inside.queues c.self.inside.slots.entries c.self.invariant)
+pub returns-in_err-slot-clause-unique : goal.returns-in_err-slot-clause-unique
+returns-in_err-slot-clause-unique c = subst (λ (v : Shelf). IsDistinct same_key (keys_of v.queues)) c.self.view_is (unique_shelved c.self.inside.queues c.self.inside.slots.entries c.self.invariant)

@@ -11,12 +11,12 @@ returns-in_err-push_in-clause-unique c = unique_shown c.self.inside.queues c.pus
 pub returns-in-Some-clause-ok : goal.returns-in-Some-clause-ok
 returns-in-Some-clause-ok c =
     subst (λ q. Changes c.args.self.now.queues (queues_in c.push_in.new.queues c.self.inside.slots.entries) c.args.one.key (q ++ c.args.one ∷ []))
-    (sym (queue_shown c.self.inside.queues c.self.inside.slots.entries c.args.one.key c.in-Some.slot c.args.self.now c.self.view_is c.in-Some.ensures))
-    (set_shown c.self.inside.queues c.push_in.new.queues c.self.inside.slots.entries c.args.one.key c.in-Some.slot _ c.args.self.now c.self.view_is c.self.invariant c.in-Some.ensures c.in_ok-push_in.ensures.ok)
+    (sym (queue_shown c.self.inside.queues c.self.inside.slots.entries c.args.one.key c.in-Some.slot c.args.self.now c.self.view_is c.in-Some.ensures.found))
+    (set_shown c.self.inside.queues c.push_in.new.queues c.self.inside.slots.entries c.args.one.key c.in-Some.slot _ c.args.self.now c.self.view_is c.self.invariant c.in-Some.ensures.found c.in_ok-push_in.ensures.ok)
 
 pub returns-in-Some-clause-entry : goal.returns-in-Some-clause-entry
 returns-in-Some-clause-entry c =
-    old_entry c.self.inside.queues c.self.inside.slots.entries c.args.one.key c.in-Some.slot (slot_of c.self.inside.slots.entries c.args.one.key) c.args.one c.args.self.now c.self.view_is c.self.invariant c.in-Some.ensures
+    old_entry c.self.inside.queues c.self.inside.slots.entries c.args.one.key c.in-Some.slot (slot_of c.self.inside.slots.entries c.args.one.key) c.args.one c.args.self.now c.self.view_is c.self.invariant c.in-Some.ensures.found
 
 pub returns-in-Some-clause-more : goal.returns-in-Some-clause-more
 returns-in-Some-clause-more c =
@@ -29,15 +29,15 @@ returns-in-Some-clause-unique c = unique_shown c.self.inside.queues c.push_in.ne
 
 pub returns-clause-ok : goal.returns-clause-ok
 returns-clause-ok c =
-    new_shown c.self.inside.queues c.push_new.new.queues c.self.inside.slots.entries c.push_new.new.slots.entries c.args.one.key c.args.one c.args.self.now c.self.view_is c.in_default.ensures c.in_ok-entry.ensures.ok
+    new_shown c.self.inside.queues c.push_new.new.queues c.self.inside.slots.entries c.push_new.new.slots.entries c.args.one.key c.args.one c.args.self.now c.self.view_is c.in_default.ensures.found c.in_ok-entry.ensures.ok
 
 pub returns-clause-entry : goal.returns-clause-entry
 returns-clause-entry c =
-    ap Some c.in_ok-entry.ensures.entry ∙ new_entry c.self.inside.queues c.self.inside.slots.entries c.args.one.key (slot_of c.push_new.new.slots.entries c.args.one.key) c.args.one c.args.self.now c.self.view_is c.in_default.ensures
+    ap Some c.in_ok-entry.ensures.entry ∙ new_entry c.self.inside.queues c.self.inside.slots.entries c.args.one.key (slot_of c.push_new.new.slots.entries c.args.one.key) c.args.one c.args.self.now c.self.view_is c.in_default.ensures.found
 
 pub returns-clause-slots : goal.returns-clause-slots
 returns-clause-slots c =
-    new_slots c.self.inside.queues c.push_new.new.queues c.self.inside.slots.entries c.push_new.new.slots.entries c.args.one.key c.args.self.now c.self.view_is c.in_default.ensures c.in_ok-entry.ensures.others
+    new_slots c.self.inside.queues c.push_new.new.queues c.self.inside.slots.entries c.push_new.new.slots.entries c.args.one.key c.args.self.now c.self.view_is c.in_default.ensures.found c.in_ok-entry.ensures.others
 
 pub returns-clause-more : goal.returns-clause-more
 returns-clause-more c =
