@@ -1,6 +1,6 @@
 //! A stream in memory, for tests and for streams within one process.
 ghost use Rattle.std.specs.Prelude.{◌≡◌, ◌++◌, ◌-◌, ◌<◌, ◌≤◌, min, [], length, take, drop, not};
-ghost use Rattle.std.specs.Prelude.{None, Some, IfOk, OnErr, is_ok, if◌then◌else◌};
+ghost use Rattle.std.specs.Prelude.{Some, IfOk, OnErr, is_ok, if◌then◌else◌};
 ghost use Rattle.std.specs.Io.KnownBytes.{append_known, prepend_known, IsAtEnd};
 ghost use Rattle.relay_action.specs.Streams.{fresh, is_call, is_full, after_call, after_failure};
 ghost use Rattle.relay_action.specs.Streams.{after_read};

@@ -1,5 +1,5 @@
 //! Byte streams, which show contracts what went through them if they can, and count failed calls.
-ghost use Rattle.std.specs.Prelude.{◌≡◌, ◌<◌, ◌≤◌, ℕ, List, [], length, take, Option, IfOk, IfErr};
+ghost use Rattle.std.specs.Prelude.{◌≡◌, ◌<◌, ◌≤◌, ℕ, List, length, take, Option, IfOk, IfErr};
 ghost use Rattle.std.specs.Prelude.{OnOk, OnErr, is_ok, if◌then◌else◌};
 ghost use Rattle.std.specs.Io.KnownBytes.{append_known, prepend_known, IsAtEnd};
 ghost use Rattle.relay_action.specs.Streams.{one_more, takes_some, FailedSince};

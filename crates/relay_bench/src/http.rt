@@ -1,5 +1,5 @@
 //! Reading or writing HTTP messages over streams in memory, many times.
-ghost use Rattle.std.specs.Prelude.{◌≡◌, ◌<◌, ◌≤◌, ◌^◌, IfOk, length};
+ghost use Rattle.std.specs.Prelude.{◌<◌, ◌≤◌, ◌^◌, IfOk, length};
 ghost use Rattle.relay_ndjson.specs.Bulk.{text_of};
 
 use crate::fault::BenchFault;

@@ -1,5 +1,5 @@
 -- Versions below the next one stay below it, and the one that is out stays out.
-use Rattle.std.proofs.Common.{◌≡◌, ℕ, ◌+◌, ◌<◌, ◌≤◌, List, [], ◌∷◌, Option, Some, None, Bool, true, false, refl, sym, ap, ◌∙◌, subst, ⊎_elim, arith, eqb}
+use Rattle.std.proofs.Common.{◌≡◌, ℕ, ◌+◌, ◌<◌, List, [], ◌∷◌, Option, Some, None, Bool, false, refl, sym, subst, ⊎_elim, arith, eqb}
 use Rattle.std.specs.Prelude.{filter, not, slice_get, MatchOption}
 use Rattle.std.proofs.lemmas.Bool.{cases_Bool, eqb-false}
 use Rattle.relay_delay.specs.declared.entry.Entry.{Entry}

@@ -9,7 +9,7 @@ use Rattle.relay_results.specs.Words.{Mem, update, count, one_if}
 use Rattle.relay_results.specs.Documents.{Document, document_of, write_for}
 use Rattle.relay_results.specs.Verdicts.{is_success}
 use Rattle.relay_results.specs.Outside.{Answer, Unanswered, Request, Ran, RunOutcome, Outside, WasRun, IsHonest, MayAnswer, is_applied}
-use Rattle.relay_results.specs.Fates.{Fate, Flies, Applied, Already, Retried, Halved, Reported, Tries, IsRetried, HasEntry, says_too_large}
+use Rattle.relay_results.specs.Fates.{Fate, Flies, Applied, Already, Retried, Halved, Reported, IsRetried, HasEntry, says_too_large}
 use Rattle.relay_results.specs.declared.cause.Cause.{Cause}
 use Rattle.relay_results.specs.Laws.{Says}
 use Rattle.relay_results.specs.declared.cause.Cause.TheVariants as cause

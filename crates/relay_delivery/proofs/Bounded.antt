@@ -3,10 +3,9 @@ use Rattle.std.proofs.Common.{◌≡◌, ◌≢◌, ℕ, ◌+◌, ◌-◌, ◌*�
 use Rattle.std.specs.Prelude.{slice_get, map, nat_lt}
 use Rattle.std.proofs.Math.Nat.{suc-mul}
 use Rattle.std.proofs.lemmas.List.{length-map}
-use Rattle.relay_action.specs.declared.write.Write.{Write}
 use Rattle.relay_action.specs.declared.operation.Op.{Op}
 use Rattle.relay_results.specs.Words.{Mem, update}
-use Rattle.relay_results.specs.Outside.{Answer, Request, Ran, Outside, MayRun, MayAnswer, after}
+use Rattle.relay_results.specs.Outside.{Answer, Request, Outside, MayAnswer, after}
 use Rattle.relay_results.specs.Outside as outside
 use Rattle.relay_results.proofs.Steps.{step_runs_item}
 use Rattle.relay_results.specs.Fates.{Fate, Flies, Applied, Already, Retried, Halved, Reported}
@@ -14,7 +13,7 @@ use Rattle.relay_delivery.specs.Machine.{Config, Core, Held, Place, Step, Takes,
 use Rattle.relay_delivery.specs.Bound.{IsDraining, AllDraining, sent_of, tries_left, halvings, WithinTriesLeft, FewRequests}
 use Rattle.relay_results.proofs.Lists.{Mem-cases, Mem-one, Mem-map, length-update, at-left, at-last, at-Mem, at-update_same, at-update_other, equal_or_not, some_same}
 use Rattle.relay_delivery.proofs.Dealt.{with_answer}
-use Rattle.relay_delivery.proofs.Send.{no_place, launched_here, IsLaunched}
+use Rattle.relay_delivery.proofs.Send.{no_place, launched_here}
 use Rattle.relay_delivery.proofs.Fates.{turn, kept-from, retried_left, away_or_here}
 use Rattle.relay_delivery.proofs.Halving.{halvings-half, halvings_few, halvings-below}
 use Rattle.relay_delivery.proofs.Facts.{CoreFacts}

@@ -1,7 +1,7 @@
 -- What counts as applied, and as already, is what the answers say.
-use Rattle.std.proofs.Common.{◌≡◌, ◌≢◌, ℕ, zero, suc, ◌+◌, ◌-◌, ◌≤◌, ◌<◌, List, [], ◌∷◌, ◌++◌, Option, Some, None, Bool, true, false, ◌==◌, refl, sym, ap, ◌∙◌, subst, ⊎_elim, inl, inr, arith, length}
-use Rattle.std.specs.Prelude.{◌⊎◌, ◌&&◌, not, nat_le, nat_lt, slice_get, map, if◌then◌else◌, ◌/◌}
-use borrow.Author.Tests.{ltb-true, ltb-false, leb-true, leb-false}
+use Rattle.std.proofs.Common.{◌≡◌, ℕ, suc, ◌+◌, ◌-◌, ◌≤◌, List, [], ◌∷◌, ◌++◌, Option, Some, None, Bool, true, false, ◌==◌, refl, sym, ap, ◌∙◌, subst, ⊎_elim, inl, inr, arith, length}
+use Rattle.std.specs.Prelude.{◌⊎◌, ◌&&◌, nat_le, nat_lt, slice_get, map, if◌then◌else◌, ◌/◌}
+use borrow.Author.Tests.{leb-true, leb-false}
 use Rattle.std.proofs.lemmas.Bool.{le-leb}
 use Rattle.relay_action.specs.Actions.{kind_of}
 use Rattle.relay_action.specs.declared.write.Write.{Write}
@@ -13,19 +13,18 @@ use Rattle.relay_results.specs.Verdicts.{is_halved, is_retried_whole}
 use Rattle.relay_results.specs.Matching.{matches}
 use Rattle.relay_results.specs.Outside.{Answer, Unanswered, Items, Whole, Lost, Request, Ran, Outside, MayRun, MayAnswer, after}
 use Rattle.relay_results.specs.Outside as outside
-use Rattle.relay_results.specs.Fates.{Fate, Flies, Applied, Already, Retried, Halved, Reported, Tries, tried_again, fate, fate_of_entry, fate_of_item}
+use Rattle.relay_results.specs.Fates.{Fate, Flies, Applied, Already, Retried, Halved, Reported, Tries, tried_again, fate, fate_of_entry}
 use Rattle.relay_results.proofs.Steps.{step_runs_item}
-use Rattle.relay_results.proofs.Lists.{none_some, true_or_false, equal, equal_test, some_same, at-Mem, at-left, at-cases, at-within, at-map, map-at, at-update-cases, at-update_other, Mem-left, Mem-right, Mem-cases, Mem-map, map-Mem, count-push, distinct_places, none_at, none_in}
+use Rattle.relay_results.proofs.Lists.{none_some, true_or_false, equal, equal_test, some_same, at-Mem, at-cases, at-within, at-map, map-at, at-update-cases, Mem-left, Mem-right, Mem-cases, Mem-map, map-Mem, count-push, distinct_places, none_at, none_in}
 use Rattle.relay_delivery.specs.Causes.{carries}
 use Rattle.relay_delivery.specs.Machine.{Config, Core, Held, Place, Step, Takes, Sends, Runs, Answers, write_of, held_if, place_of, launched_at, after_launch, kept_one, still_held, writes_or, how_many, is_applied_fate, is_already_fate, settle, step, steps_of, MaySend, MayStep, AllMayStep, IsFresh}
-use Rattle.relay_delivery.specs.Lane.{State, Fits}
 use Rattle.relay_delivery.specs.Counts.{PlaceTest, says_applied, says_already, entries_that, places_that, places_from, applied_answers, settled_already, CountsAlways, CountsWhereItFits}
-use Rattle.relay_delivery.proofs.Facts.{IsFlying, AreRising, CoreFacts}
+use Rattle.relay_delivery.proofs.Facts.{AreRising, CoreFacts}
 use Rattle.relay_delivery.proofs.Dealt.{with_answer, carries_its}
 use Rattle.relay_delivery.proofs.Take.{is_new_held}
 use Rattle.relay_delivery.proofs.Send.{no_place, launched_here}
 use Rattle.relay_delivery.proofs.Answer.{no_unanswered}
-use Rattle.relay_delivery.proofs.Fates.{turn, kept-from, IsAway, IsHere, away_or_here}
+use Rattle.relay_delivery.proofs.Fates.{turn, kept-from, IsHere, away_or_here}
 use Rattle.relay_delivery.proofs.Keeps.{none_past, fresh_facts, step_keeps}
 use Rattle.relay_delivery.proofs.Tallies.{first, first_left, first_whole, first_carries, from-push, from-answered, IsFateOf, again_none, of_applied, of_already}
 

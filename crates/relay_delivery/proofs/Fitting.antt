@@ -9,7 +9,7 @@ use Rattle.relay_action.specs.declared.write.Write.{Write}
 use Rattle.relay_action.specs.declared.operation.Op.{Op}
 use Rattle.relay_results.specs.Words.{Mem, IsSubsequence, AllDistinct}
 use Rattle.relay_results.specs.Documents.{document_of, same_document, name_of}
-use Rattle.relay_results.specs.Outside.{Answer, Unanswered, Request, Ran, Outside, Event, IsOpening, MayRun, MayAnswer, after, after_all, AllMayHappen}
+use Rattle.relay_results.specs.Outside.{Answer, Unanswered, Request, Ran, Outside, MayRun, MayAnswer, after}
 use Rattle.relay_results.specs.Outside as outside
 use Rattle.relay_results.specs.Fates.{Fate, Flies, Applied, Already, Retried, Halved, Reported}
 use Rattle.relay_results.proofs.Same.{same_document-self}

@@ -5,7 +5,7 @@ use Rattle.std.specs.Prelude.{slice_get, option_and_then, map, if◌then◌else�
 use Rattle.relay_action.specs.declared.write.Write.{Write}
 use Rattle.relay_results.specs.declared.outcome.Outcome.{Outcome}
 use Rattle.relay_results.specs.Documents.{Document, document_of, same_document}
-use Rattle.relay_results.specs.Outside.{Answer, Unanswered, Request, writes_of, write_at, Ran, RunOutcome, Outside, Event, is_applied, IsOutcomeOf, WasRun, EachWasRun, IsHonest, MayHappen, MayRun, MayAnswer, ran_of, with_run, with_applied, after, Continues}
+use Rattle.relay_results.specs.Outside.{Answer, Unanswered, writes_of, write_at, Ran, RunOutcome, Outside, Event, is_applied, IsOutcomeOf, WasRun, EachWasRun, IsHonest, MayHappen, ran_of, with_run, with_applied, after, Continues}
 use Rattle.relay_results.specs.Outside as outside
 use Rattle.relay_results.proofs.Lists.{equal, equal_test, at-Mem, some_same}
 use Rattle.relay_results.proofs.Same.{same_document-true}

@@ -6,7 +6,7 @@ use Rattle.relay_action.specs.declared.operation.Op.{Op}
 use Rattle.relay_results.specs.declared.outcome.Outcome.{Outcome}
 use Rattle.relay_results.specs.Words.{Mem, update, count, one_if}
 use Rattle.relay_results.specs.Documents.{Document, document_of, write_for}
-use Rattle.relay_results.specs.Outside.{Answer, Unanswered, Request, writes_of, write_at, Ran, RunOutcome, Outside, is_applied, IsOutcomeOf, WasRun, EachWasRun, IsHonest, MayRun, MayAnswer, ran_of, with_run, with_applied, after}
+use Rattle.relay_results.specs.Outside.{Answer, Unanswered, Request, writes_of, Ran, RunOutcome, Outside, is_applied, IsOutcomeOf, WasRun, EachWasRun, IsHonest, MayRun, MayAnswer, ran_of, with_run, with_applied, after}
 use Rattle.relay_results.specs.Outside as outside
 use Rattle.relay_results.specs.declared.cause.Cause.{Cause}
 use Rattle.relay_results.specs.declared.cause.Cause.TheVariants as cause

@@ -5,7 +5,7 @@ use Rattle.relay_action.specs.declared.write.Write.{Write}
 use Rattle.relay_action.specs.declared.operation.Op.{Op}
 use Rattle.relay_results.specs.Words.{Mem, AllDistinct, IsSubsequence}
 use Rattle.relay_results.specs.Documents.{Document, document_of, name_of, write_for}
-use Rattle.relay_results.specs.Outside.{Outside, Event, Continues}
+use Rattle.relay_results.specs.Outside.{Outside, Continues}
 use Rattle.relay_results.specs.Outside as outside
 use Rattle.relay_delivery.specs.Attribution.{IsAttribution, IsInProducerOrder, is_from}
 use Rattle.relay_delivery.specs.Machine.{Config, Core, Report, Takes, Sends, Runs, Answers, Step, step, steps_of, MayStep, AllMayStep, write_of}

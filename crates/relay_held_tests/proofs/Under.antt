@@ -1,6 +1,6 @@
 -- Versions below a bound stay below it.
-use Rattle.std.proofs.Common.{◌≡◌, ℕ, ◌+◌, ◌<◌, ◌≤◌, List, [], ◌∷◌, ◌++◌, true, false, refl, sym, ap, ◌∙◌, subst, ⊎_elim, arith}
-use Rattle.std.specs.Prelude.{if◌then◌else◌, Result, Ok, Err, OnOk, OnErr, Option, Some, None, slice_get, option_map}
+use Rattle.std.proofs.Common.{◌≡◌, ℕ, ◌+◌, List, [], ◌∷◌, ◌++◌, refl, sym, ap, ◌∙◌, subst, ⊎_elim, arith}
+use Rattle.std.specs.Prelude.{Result, Ok, Err, OnOk, OnErr, Option, Some, None, slice_get, option_map}
 use Rattle.relay_held.specs.declared.held.NotHeld.{NotHeld}
 use Rattle.relay_action.specs.declared.key.DocKey.{DocKey}
 use Rattle.relay_results.proofs.Lists.{true_or_false}

@@ -1,25 +1,25 @@
 -- Which fault is returned, and what is in the stream then.
-use Rattle.std.proofs.Common.{◌≡◌, ◌≢◌, ◌⊎◌, cond, ℕ, ◌+◌, ◌-◌, ◌<◌, ◌≤◌, min, Bool, true, false, List, [], ◌∷◌, ◌++◌, length, take, drop, flat_map, refl, ap, ◌∙◌, sym, subst, arith, inl, inr, append_assoc, append-nil, length-append, Option, Some, Result, Ok, Err}
+use Rattle.std.proofs.Common.{◌≡◌, ◌≢◌, cond, ℕ, ◌+◌, ◌-◌, ◌<◌, ◌≤◌, min, Bool, true, false, List, [], ◌∷◌, ◌++◌, length, take, drop, flat_map, refl, ap, ◌∙◌, sym, subst, arith, inl, inr, append_assoc, append-nil, length-append, Option, Some, Result, Ok, Err}
 use Rattle.std.proofs.lemmas.Grind.{flat_map-append}
-use Rattle.std.proofs.lemmas.List.{take_at, take-append-drop, take-append-le, length-take}
-use Rattle.std.specs.List.{AllByRecursion, list_all, list_any}
+use Rattle.std.proofs.lemmas.List.{take_at, take-append-drop, take-append-le}
+use Rattle.std.specs.List.{AllByRecursion, list_all}
 use Rattle.std.specs.Prelude.{IfErr, codes, nat_le, not, ◌&&◌, ◌||◌}
 use Rattle.std.specs.Io.KnownBytes.{IsAtEnd, prepend_known}
 use Rattle.httparse.specs.Ascii.{crlf_bytes}
-use Rattle.httparse.specs.Grammar.{ResponseHead, print_response, status_code, HasNoResponse, NeverHasResponse, NeverHasRequest, HasNoChunkLine, NeverHasChunkLine, NeverHasSection, ChunkLine, print_chunk_line, chunk_size}
+use Rattle.httparse.specs.Grammar.{ResponseHead, print_response, NeverHasResponse, NeverHasRequest, NeverHasChunkLine, NeverHasSection, chunk_size}
 use Rattle.std.specs.Prelude.{if◌then◌else◌}
 use Rattle.httparse.specs.Spans.{ResponseExceeds, RequestExceeds, SectionExceeds}
 use Rattle.relay_action.specs.Streams.{one_more}
 use Rattle.relay_http.specs.Connection.{is_read}
-use Rattle.relay_http.specs.Body.{IsLongBody, IsLongRest}
-use Rattle.relay_http.specs.ChunkedBody.{IsSizeLine, FitsLine, Chunk, IsChunk, print_chunk, IsLongChunked}
-use Rattle.relay_http.specs.Forms.{Form, Begins, Took, IsOutside, IsThatOrOutside}
+use Rattle.relay_http.specs.Body.{IsLongRest}
+use Rattle.relay_http.specs.ChunkedBody.{Chunk, IsChunk, print_chunk, IsLongChunked}
+use Rattle.relay_http.specs.Forms.{Form, Begins, Took, IsThatOrOutside}
 use Rattle.relay_http.specs.Fields.{Header, agrees, elements_named, has_field, number, values_named}
-use Rattle.relay_http.specs.Framing.{framing_of_fields, framing_of_request, is_chunked, is_interim, is_plain, reply_limit, request_limit, framing_by_length}
-use Rattle.relay_http.specs.Refusals.{OverrunsHead, OverrunsRequestHead, OverrunsTrailer, OverrunsLine, OverrunsNever, NeverHasCrlf, PieceFault, AfterChunks, AfterSizeLine, HasNoChunkEnd, BreaksAfterLine, OverrunsAfterLine, BreaksChunk, OverrunsChunk, BreaksBody, OverrunsBody, BodyFault, AfterInterim, AfterHeads, ReplyFault, AfterRequestHead, RequestFault}
+use Rattle.relay_http.specs.Framing.{framing_of_fields, is_chunked, is_interim, is_plain, reply_limit, request_limit, framing_by_length}
+use Rattle.relay_http.specs.Refusals.{OverrunsHead, OverrunsRequestHead, OverrunsTrailer, OverrunsLine, OverrunsNever, NeverHasCrlf, PieceFault, AfterChunks, AfterSizeLine, HasNoChunkEnd, BreaksAfterLine, OverrunsAfterLine, BreaksChunk, OverrunsChunk, BodyFault, AfterInterim, ReplyFault, RequestFault}
 use Rattle.relay_http.specs.Reply.{IsHead, IsHeads, IsInterim, ReplyStates}
 use Rattle.relay_http.specs.Request.{IsRequestInfo, RequestStates, request_headers}
-use Rattle.relay_http.specs.Steps.{IsLine, IsCrlf, TookData, TookChunk}
+use Rattle.relay_http.specs.Steps.{IsLine, TookData, TookChunk}
 use Rattle.relay_http.specs.declared.chunk.SizeLine.{SizeLine}
 use Rattle.relay_http.specs.declared.fault.HttpFault.{HttpFault}
 use Rattle.relay_http.specs.declared.fault.HttpFault.TheVariants as fault

@@ -1,5 +1,5 @@
 -- Why a message is refused: what is at the front of the stream, for each fault.
-use Rattle.std.specs.Prelude.{◌≡◌, ◌⊎◌, ℕ, ◌<◌, ◌≤◌, List, [], ◌++◌, length, take, flat_map, Ok}
+use Rattle.std.specs.Prelude.{◌≡◌, ◌⊎◌, ℕ, ◌<◌, ◌≤◌, List, ◌++◌, length, take, flat_map, Ok}
 use Rattle.std.specs.List.{AllByRecursion}
 use Rattle.httparse.specs.Ascii.{crlf_bytes}
 use Rattle.httparse.specs.Grammar.{ResponseHead, print_response, HasNoResponse, NeverHasResponse, HasNoRequest, NeverHasRequest, HasNoSection, NeverHasSection, ChunkLine, chunk_size, print_chunk_line, HasNoChunkLine, NeverHasChunkLine}
@@ -7,7 +7,6 @@ use Rattle.httparse.specs.Spans.{ResponseExceeds, RequestExceeds, SectionExceeds
 use Rattle.relay_http.specs.Body.{IsLongBody}
 use Rattle.relay_http.specs.ChunkedBody.{size_line_limit, trailer_limit, trailer_fields, FitsLine, Chunk, IsChunk, print_chunk}
 use Rattle.relay_http.specs.Forms.{Begins}
-use Rattle.relay_http.specs.Framing.{reply_limit, request_limit}
 use Rattle.relay_http.specs.Reply.{head_limit, field_limit, interim_limit, IsInterim, IsHeads, ReplyStates, ReplyPasses}
 use Rattle.relay_http.specs.Request.{IsRequestInfo, RequestStates, RequestPasses}
 use Rattle.relay_http.specs.declared.fault.HttpFault.{HttpFault}

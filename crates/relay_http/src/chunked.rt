@@ -1,10 +1,10 @@
 //! Chunked bodies (RFC 9112, section 7.1).
-ghost use Rattle.std.specs.Prelude.{◌≡◌, ◌<◌, ◌≤◌, ◌++◌, ℕ, List, [], length, Some, IfErr};
+ghost use Rattle.std.specs.Prelude.{◌≡◌, ◌<◌, ℕ, List, [], Some, IfErr};
 ghost use Rattle.std.specs.Prelude.{MatchResult, if◌then◌else◌};
 ghost use Rattle.relay_action.specs.Streams.{one_more};
 ghost use Rattle.relay_http.specs.Refusals.{BodyFault, HasNoChunkEnd, OverrunsNever, PieceFault};
 ghost use Rattle.relay_http.specs.declared.framing.Framing.TheVariants as framing;
-ghost use Rattle.relay_http.specs.Steps.{TookData, IsChunkThere, IsDataAfter, TookChunk, pending};
+ghost use Rattle.relay_http.specs.Steps.{IsChunkThere, IsDataAfter, TookChunk, pending};
 ghost use Rattle.relay_http.specs.Connection.{is_read};
 ghost use Rattle.relay_http.specs.ChunkedBody.{IsChunked, IsLongChunked};
 ghost use Rattle.relay_http.specs.Forms.{Took, Fails, IsOutside, IsThatOrOutside};

@@ -1,5 +1,5 @@
 //! A connection that carries one message after another (RFC 9112, section 9).
-ghost use Rattle.std.specs.Prelude.{◌≡◌, ◌≤◌, ◌++◌, ◌&&◌, not, ℕ, List, [], length, true, false};
+ghost use Rattle.std.specs.Prelude.{◌≡◌, ◌≤◌, ◌&&◌, ℕ, List, [], length, true, false};
 ghost use Rattle.std.specs.Prelude.{IfOk, IfErr, MatchResult, Some, Err, None, IsTrue, IsFalse};
 ghost use Rattle.relay_ndjson.specs.Bulk.{text_of};
 ghost use Rattle.relay_http.specs.Forms.{Took, Fails, Begins, IsOutside, IsThatOrOutside};

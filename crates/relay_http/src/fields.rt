@@ -1,6 +1,6 @@
 //! What the fields of a head say.
 ghost use Rattle.std.specs.Prelude.{◌≡◌, ◌<◌, ◌∷◌, ◌++◌, [], ℕ, List, length, map, All, Result, Ok};
-ghost use Rattle.std.specs.Prelude.{Err, codes, Bool, if◌then◌else◌, nat_le};
+ghost use Rattle.std.specs.Prelude.{Err, codes, if◌then◌else◌, nat_le};
 ghost use Rattle.std.specs.List.{list_all, list_any};
 ghost use Rattle.httparse.specs.Spans.{IsHeaderWithin, header_bytes};
 ghost use Rattle.relay_http.specs.Fields.{Header, same_word, has_field, values_named};

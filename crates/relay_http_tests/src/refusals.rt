@@ -65,19 +65,16 @@ const BODY: &[u8] = b"0123456789012345678901234567890123456789012345678901234567
 
 // Whether the next reply is a 200 with the body.
 fn read_reply(alloc: Global, conn: &mut Conn<MemStream>) -> Result<bool, HttpFault> {
-    match conn.read_reply(alloc) {
-        Ok(reply) => Ok(reply.status == 200 && reply.body.as_slice() == BODY && reply.keep),
-        Err(fault) => Err(fault),
-    }
+    let reply = conn.read_reply(alloc)?;
+    Ok(reply.status == 200 && reply.body.as_slice() == BODY && reply.keep)
 }
 
 // Whether the next request is a bulk request with the body.
 fn read_request(alloc: Global, conn: &mut Conn<MemStream>) -> Result<bool, HttpFault> {
-    match conn.read_request(alloc) {
-        Ok(Some(request)) => { Ok(request.bulk && request.body.as_slice() == BODY && request.keep) }
-        Ok(None) => Ok(false),
-        Err(fault) => Err(fault),
-    }
+    let Some(request) = conn.read_request(alloc)? else {
+        return Ok(false);
+    };
+    Ok(request.bulk && request.body.as_slice() == BODY && request.keep)
 }
 
 fn read(alloc: Global, conn: &mut Conn<MemStream>, side: Side) -> Result<bool, HttpFault> {

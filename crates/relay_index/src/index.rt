@@ -1,17 +1,17 @@
 //! The index.
-ghost use Rattle.std.specs.Prelude.{◌≡◌, ◌∷◌, [], Some, IsTrue, option_map, unwrap_or, max, IfOk};
+ghost use Rattle.std.specs.Prelude.{◌≡◌, [], Some, IsTrue, option_map, unwrap_or, max, IfOk};
 ghost use Rattle.std.specs.Prelude.{OnOk, OnErr};
 ghost use Rattle.std.specs.List.{IsDistinct};
 ghost use Rattle.relay_results.specs.Documents.{document_of};
 ghost use Rattle.relay_results.specs.Outside.{Outside, Ran, IsOutcomeOf, ran_of};
-ghost use Rattle.relay_index.specs.States.{fresh, applied_writes, stored_version, live, is_live};
+ghost use Rattle.relay_index.specs.States.{fresh, applied_writes, stored_version, live};
 ghost use Rattle.relay_index.specs.States.{IsHighest};
 ghost use Rattle.relay_index.specs.States.{IsIndex};
 ghost use Rattle.relay_index.specs.Choices.{MayChoose};
 ghost use Rattle.relay_index.specs.Keys.{document_order, same_key, AreKeys};
 ghost use Rattle.indexmap.specs.IndexMap.{keys as keys_of};
 ghost use Rattle.relay_index.specs.Lists.{with_write, index_after, after_run};
-ghost use Rattle.relay_index.specs.Runs.{is_newer, is_run, status_by, result_of, applied_result};
+ghost use Rattle.relay_index.specs.Runs.{is_newer, status_by, result_of, applied_result};
 ghost use Rattle.relay_index.specs.Runs.{status_of, done_of, outcome_of_run, Effect, Shows};
 
 use crate::choice::Choice;

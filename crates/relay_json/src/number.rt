@@ -1,9 +1,7 @@
 //! Numbers, from their texts.
-ghost use Rattle.std.specs.Prelude.{◌≡◌, ◌<◌, ◌==◌, ℕ, true, false, IsTrue, length, slice_index};
-ghost use Rattle.std.specs.Prelude.{Some, None, is_some, option_and_then, option_map};
+ghost use Rattle.std.specs.Prelude.{◌≡◌, ◌<◌, ◌==◌, true, false, IsTrue, length, slice_index};
+ghost use Rattle.std.specs.Prelude.{Some, None, is_some, option_and_then};
 ghost use Rattle.std.specs.Str.Parse.{AllDigits};
-ghost use Rattle.fast_float.specs.Text.{Parts};
-ghost use Rattle.serde_json.specs.Data.{Num};
 ghost use Rattle.serde_json.specs.Find.{as_i64, as_u64};
 ghost use Rattle.serde_json.specs.Read.{number_of, number_from, float_of};
 
@@ -111,14 +109,7 @@ pub(crate) fn to_u64(text: &str) -> Option<u64>
 fn positive_of(numeral: &Numeral<'_>) -> Option<i64>
     ensures { result ≡ option_and_then as_i64 (number_from false numeral.now) }
 {
-    match numeral.to_u64() {
-        Some(n) => if n <= i64::MAX as u64 {
-            Some(n as i64)
-        } else {
-            None
-        },
-        None => None,
-    }
+    i64::try_from(numeral.to_u64()?).ok()
 }
 
 // The value of a numeral after a minus, if it is a signed 64-bit integer and not 0.

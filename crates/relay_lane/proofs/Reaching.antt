@@ -14,7 +14,7 @@ use Rattle.relay_delivery.proofs.Reached.{reached_holds, fresh_reached, call_rea
 use Rattle.relay_core.specs.State.{State, config_of, later, bytes_of, gathering, next_entries, next_batch, after_request, is_flying, first_number, oldest, after_answer_to}
 use Rattle.relay_core.proofs.Batched.{next_keeps}
 use Rattle.relay_core.proofs.Tying.{chosen_sub}
-use Rattle.relay_lane.specs.Turns.{Turn, Settles, Pauses, after_turn, MayTurn, after_turns, AllMayTurn, Worked}
+use Rattle.relay_lane.specs.Turns.{Turn, Settles, Pauses, after_turn, after_turns, AllMayTurn}
 use Rattle.relay_lane.specs.Turns as turns
 use Rattle.relay_lane.specs.Reach.{IsReached, FreshIsReached, TakeIsReached, TurnIsReached, WorkIsReached, ReachedIsOrderly}
 

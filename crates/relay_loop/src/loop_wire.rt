@@ -83,7 +83,7 @@ impl LoopWire {
 }
 
 impl Wire for LoopWire {
-    ghost use Rattle.std.specs.Prelude.{true, ℕ, ◌≤◌, length, List, IfErr, MatchResult, Some};
+    ghost use Rattle.std.specs.Prelude.{true, ◌≤◌, length, List, IfErr, MatchResult, Some};
     ghost use Rattle.relay_action.specs.declared.write.Write.{Write};
     ghost use Rattle.relay_ndjson.specs.Bodies.{AreDealt};
     ghost use Rattle.relay_ndjson.specs.Bulk.{text_of};

@@ -1,5 +1,5 @@
 //! The body of a bulk request, as the index reads it.
-ghost use Rattle.std.specs.Prelude.{◌≡◌, ◌≢◌, ◌⊎◌, ◌≤◌, ℕ, List, [], IfOk, IfErr};
+ghost use Rattle.std.specs.Prelude.{◌≡◌, ◌≢◌, ◌⊎◌, ◌≤◌, [], IfOk, IfErr};
 ghost use Rattle.relay_ndjson.specs.Lines.{IsRaw};
 ghost use Rattle.relay_ndjson.specs.Operations.{line_count};
 ghost use Rattle.relay_ndjson.specs.Bodies.{BeginsWithLine, LacksLine, IsNoSource};

@@ -1,7 +1,7 @@
 //! Lengths of bulk lines, computed without writing them.
 ghost use Rattle.std.specs.Prelude.{◌≡◌, ◌*◌, ◌^◌, ◌<◌, ◌≤◌, length, decimal};
 ghost use Rattle.json.specs.Print.{escape, escape_byte};
-ghost use Rattle.relay_ndjson.specs.Bulk.{action_text, source_line, write_text, text_of};
+ghost use Rattle.relay_ndjson.specs.Bulk.{action_text, write_text, text_of};
 
 use crate::quoted::is_plain;
 use relay_action::{Action, Write};

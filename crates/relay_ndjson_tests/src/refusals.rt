@@ -211,12 +211,8 @@ const ACTIONS: &[(&[u8], &str)] = &[
 
 // Whether an action line is read as the index action on the document of this id.
 fn read_key(alloc: Global, line: &[u8], scratch: &mut Scratch, id: &str) -> Result<bool, LineKind> {
-    match read_action(alloc, None, line, scratch) {
-        Ok((kind, key)) => {
-            Ok(kind == ActionKind::Index && key.index() == "books" && key.id() == id)
-        }
-        Err(kind) => Err(kind),
-    }
+    let (kind, key) = read_action(alloc, None, line, scratch)?;
+    Ok(kind == ActionKind::Index && key.index() == "books" && key.id() == id)
 }
 
 // The same, by a second call with the same scratch if the first was refused.
@@ -230,13 +226,9 @@ fn reads_key(alloc: Global, line: &[u8], id: &str) -> bool {
 
 // Whether an action line is an index action with an index, an id and no other member.
 fn read_members(line: &[u8], scratch: &mut Scratch) -> Result<bool, LineKind> {
-    match action_of(line, scratch) {
-        Ok((kind, metadata)) => {
-            let document = metadata.index.is_some() && metadata.id.is_some();
-            Ok(kind == ActionKind::Index && document && !metadata.has_other)
-        }
-        Err(kind) => Err(kind),
-    }
+    let (kind, metadata) = action_of(line, scratch)?;
+    let document = metadata.index.is_some() && metadata.id.is_some();
+    Ok(kind == ActionKind::Index && document && !metadata.has_other)
 }
 
 // The same, by a second call with the same scratch if the first was refused.
@@ -256,10 +248,8 @@ fn is_source(action: &Action) -> bool {
 }
 
 fn read_text(alloc: Global) -> Result<bool, LineKind> {
-    match read_source(alloc, SOURCE.as_bytes()) {
-        Ok(action) => Ok(is_source(&action)),
-        Err(kind) => Err(kind),
-    }
+    let action = read_source(alloc, SOURCE.as_bytes())?;
+    Ok(is_source(&action))
 }
 
 fn reads_text(alloc: Global) -> bool {

@@ -1,5 +1,5 @@
 //! Dials that wait for an index that is down.
-ghost use Rattle.std.specs.Prelude.{◌≡◌, ◌+◌, ◌≤◌, is_ok, if◌then◌else◌, OnErr, IfOk};
+ghost use Rattle.std.specs.Prelude.{◌≡◌, ◌+◌, ◌≤◌, is_ok, if◌then◌else◌, OnErr};
 ghost use Rattle.relay_action.specs.Streams.{one_more, FailedSince};
 
 use relay_http::{Dial, DialFault};

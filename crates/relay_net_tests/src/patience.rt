@@ -1,5 +1,4 @@
 //! Dials that try again, by a clock that advances while they wait.
-ghost use Rattle.std.specs.Prelude.{◌≡◌};
 
 use relay_net::PatientDial;
 use relay_wires::{Dial, DialFault};

@@ -1,6 +1,6 @@
 //! A producer's handle, which puts operations, each to the lane of its document.
 ghost use Rattle.std.specs.Prelude.{◌≡◌, ◌+◌, ◌<◌, ◌^◌, ◌↔◌, [], ◌∷◌, ◌++◌};
-ghost use Rattle.std.specs.Prelude.{List, true, false, map, Some, IfOk};
+ghost use Rattle.std.specs.Prelude.{List, true, false, map, IfOk};
 ghost use Rattle.std.specs.Prelude.{IfErr, OnOk, OnErr, IsErrAnd};
 ghost use Rattle.std.specs.List.{All, count_by};
 ghost use Rattle.relay_action.specs.declared.operation.Op.{Op};

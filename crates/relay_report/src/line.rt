@@ -1,7 +1,7 @@
 //! Reading a line of a report.
-ghost use Rattle.std.specs.Prelude.{◌≡◌, ◌^◌, ℕ, Option, Some, Err, IfOk, codes, is_some};
-ghost use Rattle.std.specs.Prelude.{option_map, option_and_then, bytes_eq};
-ghost use Rattle.serde_json.specs.Find.{as_number, as_str, as_u64, get};
+ghost use Rattle.std.specs.Prelude.{◌≡◌, ◌^◌, Option, Some, Err, IfOk, codes, is_some};
+ghost use Rattle.std.specs.Prelude.{option_map};
+ghost use Rattle.serde_json.specs.Find.{as_str, as_u64, get};
 ghost use Rattle.serde_json.specs.View.{view};
 ghost use Rattle.relay_report.specs.Naming.{IsNamedBy, below, count_of, details_of, epoch_count};
 ghost use Rattle.relay_report.specs.Naming.{epoch_of, is_whole, name_of, number_at, text_at};

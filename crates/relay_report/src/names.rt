@@ -1,8 +1,7 @@
 //! The operations that a report names.
-ghost use Rattle.std.specs.Prelude.{◌≡◌, ◌+◌, ℕ, [], IfOk, IfErr, length};
+ghost use Rattle.std.specs.Prelude.{◌≡◌, []};
 ghost use Rattle.std.specs.Io.KnownBytes.{prepend_known};
-ghost use Rattle.relay_ndjson.specs.Operations.{saturating_count};
-ghost use Rattle.relay_report.specs.Names.{NamesNext, ReadsNames, TakesName, ends_failed};
+ghost use Rattle.relay_report.specs.Names.{NamesNext, ReadsNames, ends_failed};
 ghost use Rattle.relay_report.specs.Names.{line_fault};
 
 use crate::line::read_name;

@@ -1,10 +1,8 @@
 //! Reading replies.
 ghost use Rattle.std.specs.Prelude.{◌≡◌, false, Option, Some, None, Err, IfOk};
-ghost use Rattle.std.specs.Prelude.{IfErr, OnOk, MatchOption, option_map};
+ghost use Rattle.std.specs.Prelude.{IfErr, MatchOption, option_map};
 ghost use Rattle.serde_json.specs.Data.{Data, object, Items, no_items};
-ghost use Rattle.serde_json.specs.Data.{Members, member, no_members, put};
-ghost use Rattle.relay_json.specs.Items.{and_item};
-ghost use Rattle.relay_json.specs.Sole.{IsSoleObject};
+ghost use Rattle.serde_json.specs.Data.{Members, member, no_members};
 ghost use Rattle.relay_json.specs.Walks.{IsLeaf, IsRead, IsRefused, IsPast};
 ghost use Rattle.relay_results.specs.Replies.{IsTruncated, error_limit, IsEntry};
 ghost use Rattle.relay_results.specs.Replies.{IsNoEntry, IsBulkReply, IsFaultOf};

@@ -1,6 +1,6 @@
 //! Replies in the usual form, which are read without a JSON reader.
-ghost use Rattle.std.specs.Prelude.{◌≡◌, ◌≤◌, ◌<◌, ◌∷◌, ◌++◌, [], length};
-ghost use Rattle.std.specs.Prelude.{codes, decimal, IsTrue, IfSome};
+ghost use Rattle.std.specs.Prelude.{◌≡◌, ◌≤◌, ◌<◌, ◌∷◌, ◌++◌, []};
+ghost use Rattle.std.specs.Prelude.{codes, IsTrue, IfSome};
 ghost use Rattle.relay_json.specs.Plain.{IsPlain};
 ghost use Rattle.relay_results.specs.declared.usual.Entry.{Entry as EntryModel};
 ghost use Rattle.relay_results.specs.Replies.{IsBulkReply};

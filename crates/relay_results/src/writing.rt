@@ -1,7 +1,7 @@
 //! Writing replies.
 ghost use Rattle.std.specs.Prelude.{◌≡◌, IfOk, string_bytes};
 ghost use Rattle.serde_json.specs.Data.{object, array};
-ghost use Rattle.serde_json.specs.View.{view, items_view};
+ghost use Rattle.serde_json.specs.View.{view};
 ghost use Rattle.std.specs.List.{list_any};
 ghost use Rattle.relay_results.specs.Done.{failure, result_name, fields_by, entry_data};
 ghost use Rattle.relay_results.specs.Done.{entries_data, is_failure, reply_data};

@@ -1,5 +1,5 @@
 //! Reading and writing replies, matching, verdicts, and failed allocations.
-use relay_action::{Action, ActionFault, ActionKind, DocKey, Text, Write};
+use relay_action::{Action, ActionFault, ActionKind, DocKey, Write};
 use relay_results::{
     DoneResult, ItemDone, ItemVerdict, Outcome, ReplyFault, matches, read_reply, verdict,
     write_reply,

@@ -255,10 +255,7 @@ fn file_fault(opened: bool, stop: Option<FeedFault>) -> Option<FileFault>
     if !opened {
         return Some(FileFault::Open);
     }
-    match stop {
-        Some(stop) => Some(FileFault::Feed(stop)),
-        None => None,
-    }
+    stop.map(FileFault::Feed)
 }
 
 // Adds the message for a file, if there is a fault.

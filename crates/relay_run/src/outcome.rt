@@ -1,5 +1,5 @@
 //! The lines at the end of a run.
-ghost use Rattle.std.specs.Prelude.{◌≡◌, ◌++◌, ◌*◌, ◌+◌, ◌^◌, flat_map, length, IsPermutation};
+ghost use Rattle.std.specs.Prelude.{◌≡◌, ◌++◌, ◌*◌, ◌+◌, flat_map, IsPermutation};
 ghost use Rattle.std.specs.Prelude.{OnOk, IfOk};
 ghost use Rattle.relay_run.specs.Outcomes.{report_line, counts_line, outcome_text, place_of};
 ghost use Rattle.relay_run.specs.Outcomes.{AreInOrder};

@@ -1,5 +1,5 @@
 //! The first line of a script, which is the config.
-ghost use Rattle.std.specs.Prelude.{◌≡◌, ℕ, List, [], ◌∷◌, ◌<◌, ◌^◌, Some, true};
+ghost use Rattle.std.specs.Prelude.{◌≡◌, ◌<◌, Some, true};
 ghost use Rattle.std.specs.Prelude.{IfOk, IfErr, IfSome, IfNone};
 ghost use Rattle.relay_core.specs.Limits.{is_valid};
 ghost use Rattle.relay_scenario.specs.Config.{IsConfigFault, IsConfigLine, config_of};

@@ -52,37 +52,25 @@ fn lane_of(numbers: &[u64]) -> Option<u32>
 fn tick_of(numbers: &[u64]) -> Option<Event>
     ensures { result ≡ of_lane event.Tick numbers.now }
 {
-    match lane_of(numbers) {
-        Some(lane) => Some(Event::Tick(lane)),
-        None => None,
-    }
+    Some(Event::Tick(lane_of(numbers)?))
 }
 
 fn flush_of(numbers: &[u64]) -> Option<Event>
     ensures { result ≡ of_lane event.Flush numbers.now }
 {
-    match lane_of(numbers) {
-        Some(lane) => Some(Event::Flush(lane)),
-        None => None,
-    }
+    Some(Event::Flush(lane_of(numbers)?))
 }
 
 fn take_of(numbers: &[u64]) -> Option<Event>
     ensures { result ≡ of_lane event.Take numbers.now }
 {
-    match lane_of(numbers) {
-        Some(lane) => Some(Event::Take(lane)),
-        None => None,
-    }
+    Some(Event::Take(lane_of(numbers)?))
 }
 
 fn send_of(numbers: &[u64]) -> Option<Event>
     ensures { result ≡ of_lane event.Send numbers.now }
 {
-    match lane_of(numbers) {
-        Some(lane) => Some(Event::Send(lane)),
-        None => None,
-    }
+    Some(Event::Send(lane_of(numbers)?))
 }
 
 fn run_of(numbers: &[u64]) -> Option<Event>

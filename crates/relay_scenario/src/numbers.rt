@@ -1,5 +1,5 @@
 //! The numbers in a line.
-ghost use Rattle.std.specs.Prelude.{◌≡◌, ℕ, List, [], ◌∷◌, ◌++◌, IfOk, IfErr, OnOk};
+ghost use Rattle.std.specs.Prelude.{◌≡◌, ℕ, [], ◌∷◌, ◌++◌, IfOk, IfErr, OnOk};
 ghost use Rattle.relay_words.specs.Numbers.{IsNumber};
 ghost use Rattle.relay_scenario.specs.Numbers.{AreNumbers, IsNumbersFault, IsWordFault};
 

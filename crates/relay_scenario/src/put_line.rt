@@ -32,10 +32,7 @@ fn producer_of(word: &str) -> Option<u32>
     ensures some { IfSome result (IsNumber word.now) }
     ensures none { IfNone result ((n : ℕ) → IsNumber word.now n → n < 2 ^ 32 → ⊥) }
 {
-    match number_of(word) {
-        Some(number) => u32::try_from(number).ok(),
-        None => None,
-    }
+    u32::try_from(number_of(word)?).ok()
 }
 
 fn fault_of(fault: ActionFault) -> LineFault

@@ -1,11 +1,10 @@
 //! One request on a connection.
-ghost use Rattle.std.specs.Prelude.{◌≡◌, ◌≤◌, length, IsTrue, IsFalse};
+ghost use Rattle.std.specs.Prelude.{IsTrue, IsFalse};
 ghost use Rattle.relay_index.specs.Serving.{under};
 ghost use Rattle.relay_http.specs.Connection.{is_broken, is_open};
 ghost use Rattle.relay_http.specs.WrittenAnswer.{IsAnswerStatus};
 ghost use Rattle.relay_http.specs.Listening.{shown_by};
 ghost use Rattle.relay_stub.specs.Visits.{IsAnswered, IsServed, Exchanges, Meets, MeetsBulk};
-ghost use Rattle.relay_stub.specs.Visits.{not_bulk};
 
 use relay_action::{ByteIn, ByteOut};
 use relay_http::{Conn, HttpRequest, REPLY_LIMIT};

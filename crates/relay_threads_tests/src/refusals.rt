@@ -44,17 +44,15 @@ fn run_once<R: Threads + Wait + Copy + Send + 'static>(
     rt: R,
     alloc: Global,
 ) -> Result<Option<bool>, RunFault> {
-    match run_one(
+    let summary = run_one(
         rt,
         alloc,
         CONFIG,
         losing_wire(alloc),
         100,
         &AtomicU32::new(0),
-    ) {
-        Ok(summary) => Ok(is_delivered(alloc, &summary)),
-        Err(fault) => Err(fault),
-    }
+    )?;
+    Ok(is_delivered(alloc, &summary))
 }
 
 // Whether a relay delivers what its producers put, by a second run if the first was refused.

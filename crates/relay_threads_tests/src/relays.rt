@@ -1,7 +1,7 @@
 //! Relays from start to finish.
 ghost use Rattle.std.specs.Prelude.{◌≡◌, [], ◌∷◌, IfOk};
 ghost use Rattle.std.specs.Option.{option_to_list};
-ghost use Rattle.relay_producer.specs.Ends.{identities, closed_puts, open_puts};
+ghost use Rattle.relay_producer.specs.Ends.{identities, open_puts};
 ghost use Rattle.relay_threads.specs.Relay.{NoneOut};
 ghost use Rattle.relay_wires.specs.Numbers.{numbers};
 ghost use Rattle.relay_threads_tests.specs.Handles.{open_names, closed_names};

@@ -1,6 +1,5 @@
 //! Requests over a wire in memory, one after another and several at a time.
 ghost use Rattle.std.specs.Prelude.{◌≡◌, [], IfSome};
-ghost use Rattle.relay_wires.specs.Numbers.{numbers};
 
 use relay_fixtures::asking::{Told, asks};
 use relay_fixtures::keys::key_of;

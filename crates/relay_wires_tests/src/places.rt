@@ -1,5 +1,5 @@
 //! The maximum number of outstanding requests.
-ghost use Rattle.std.specs.Prelude.{◌≡◌, ◌∷◌, ◌≤◌, [], length, MatchResult};
+ghost use Rattle.std.specs.Prelude.{◌≡◌, ◌∷◌, [], MatchResult};
 ghost use Rattle.relay_results.specs.Words.{Mem};
 ghost use Rattle.relay_wires.specs.Numbers.{numbers};
 

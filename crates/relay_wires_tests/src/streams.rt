@@ -1,11 +1,10 @@
 //! Streams in memory, dialled one after another.
 ghost use Rattle.std.specs.Prelude.{◌≡◌, [], Ok, IfSome};
-ghost use Rattle.relay_wires.specs.Numbers.{numbers};
 
 use relay_action::MemStream;
 use relay_http::is_host;
 use relay_wires::{Dial, DialFault, HttpWire};
-use std::alloc::{AllocError, Global};
+use std::alloc::Global;
 
 /// A reply after which the connection may be used again.
 pub const BUSY: &[u8] = b"HTTP/1.1 503 Busy\r\nContent-Length: 0\r\n\r\n";

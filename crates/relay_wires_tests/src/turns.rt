@@ -1,6 +1,5 @@
 //! Streams that return a reply once a request was written, dialled one after another.
 ghost use Rattle.std.specs.Prelude.{◌≡◌, [], None, Ok, IfSome};
-ghost use Rattle.relay_wires.specs.Numbers.{numbers};
 
 use relay_action::{ByteIn, ByteOut, ByteStream, StreamFailed};
 use relay_http::is_host;

@@ -1,5 +1,5 @@
 -- One more operation.
-use Rattle.std.proofs.Common.{◌≡◌, ℕ, List, [], ◌∷◌, ◌++◌, refl, subst}
+use Rattle.std.proofs.Common.{ℕ, List, [], ◌∷◌, ◌++◌, refl, subst}
 use Rattle.relay_ndjson.specs.Operations.{Operation}
 use Rattle.relay_ndjson.specs.Reading.{Reading, Takes}
 use Rattle.relay_words.specs.Taken.{TakesAll}

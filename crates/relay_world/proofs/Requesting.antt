@@ -12,7 +12,7 @@ use Rattle.relay_results.specs.Numbers.{from_zero}
 use Rattle.relay_results.proofs.Lists.{equal_or_not, Mem-cases, Mem-one, Mem-map, Mem-last, at-left, at-last, at-cases}
 use Rattle.relay_delivery.specs.Machine.{Config, Core, Held, Sends, MaySend, write_of, step}
 use Rattle.relay_delivery.specs.Lane as delivery
-use Rattle.relay_delivery.specs.Lane.{Entry, held_of, candidates, is_candidate}
+use Rattle.relay_delivery.specs.Lane.{Entry, held_of, candidates}
 use Rattle.relay_delivery.specs.Together.{Together, SendsFrom, act}
 use Rattle.relay_delivery.proofs.Facts.{CoreFacts}
 use Rattle.relay_delivery.proofs.Numbered.{chosen_on, may_send_on, send_on, sent_on}
@@ -31,7 +31,7 @@ use Rattle.relay_core.proofs.Forming.{items_of_operations}
 use Rattle.relay_core.proofs.Batched.{next_keeps}
 use Rattle.relay_world.specs.State.{Desk, Item, Sent, World, ended_of, incarnations, desk_at, lane_of, op_with, has_closed}
 use Rattle.relay_world.specs.Headline as headline
-use Rattle.relay_world.specs.Headline.{runs_of, runs_at, outcomes_at, IsLog}
+use Rattle.relay_world.specs.Headline.{runs_of}
 use Rattle.relay_world.specs.Changes.{item_of, items_of, sent_request, request_of, sent_by, after_send}
 use Rattle.relay_world.specs.Ties.{versions_of, IsOriginOf, IsLaneOf, AreLanes, AreRequests, IsTied}
 use Rattle.relay_world.proofs.Carried.{writes_by, writes_are, dealt_among, one_listed, Keeps, TakesMore, keeps, found_kept, request_kept, map-kept}

@@ -10,7 +10,7 @@ use Rattle.relay_results.proofs.Lists.{Mem-cases, Mem-one}
 use Rattle.relay_delivery.specs.Machine.{Config}
 use Rattle.relay_delivery.specs.Lane as delivery
 use Rattle.relay_delivery.specs.Together.{Together}
-use Rattle.relay_delivery.specs.Restarts.{Incarnation, CameAboutTogether, with_running, restarted_core}
+use Rattle.relay_delivery.specs.Restarts.{Incarnation, CameAboutTogether, restarted_core}
 use Rattle.relay_delivery.specs.Restarts as restarts
 use Rattle.relay_delivery.specs.Incarnations.{attributed_together}
 use Rattle.relay_delivery.specs.Renumbering.{numbered_on}

@@ -1,6 +1,6 @@
 //! A lane with its queue.
-ghost use Rattle.std.specs.Prelude.{◌≡◌, if◌then◌else◌, ℕ, ◌+◌, ◌≤◌, ◌≢◌, [], ◌∷◌, ◌++◌, None};
-ghost use Rattle.std.specs.Prelude.{Some, true, IsTrue, OnOk, OnErr, IfOk, IfSome, OnSome, IfNone};
+ghost use Rattle.std.specs.Prelude.{◌≡◌, if◌then◌else◌, ◌+◌, ◌≤◌, ◌≢◌, [], ◌∷◌, ◌++◌, None};
+ghost use Rattle.std.specs.Prelude.{Some, true, OnOk, OnErr, IfOk, IfSome};
 ghost use Rattle.std.specs.Prelude.{map, option_map, is_some, is_ok, length, nat_le, nat_lt};
 ghost use Rattle.std.specs.Prelude.{replicate, slice_get, vec_capacity};
 ghost use Rattle.std.specs.List.{list_all};

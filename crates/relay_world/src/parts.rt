@@ -214,10 +214,7 @@ impl Parts {
             ≡ op_among self.now.config.deal (running self.now ∷ []) lane version }
     {
         let place = self.dealt_at(self.config.epoch, version)?;
-        match self.desk(lane) {
-            Some(desk) => desk.op_at(place),
-            None => None,
-        }
+        self.desk(lane)?.op_at(place)
     }
 
     // Whether each sender has closed at each lane, nothing is queued, and no lane holds an

@@ -1,5 +1,5 @@
 //! Sent requests.
-ghost use Rattle.std.specs.Prelude.{◌≡◌, ℕ, ◌-◌, ◌<◌, [], ◌∷◌, ◌++◌, ◌&&◌, option_map, OnOk, OnErr};
+ghost use Rattle.std.specs.Prelude.{◌≡◌, ◌-◌, ◌<◌, [], ◌∷◌, ◌++◌, ◌&&◌, option_map, OnOk, OnErr};
 ghost use Rattle.std.specs.Prelude.{IfOk, length, if◌then◌else◌};
 ghost use Rattle.relay_results.specs.Documents.{Document, document_of, same_document};
 ghost use Rattle.relay_results.specs.Outside.{Unanswered};

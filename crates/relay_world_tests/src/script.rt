@@ -5,7 +5,7 @@ use relay_fixtures::config::CONFIG;
 use relay_fixtures::desk::action_of;
 use relay_index::{Choice, Index};
 use relay_world::{Event, Refusal, StepAnswer, World};
-use std::alloc::{AllocError, Global};
+use std::alloc::Global;
 use std::test::Fail;
 
 /// One lane and one producer, queues of ten, batches of ten documents and 4,096 bytes that are sent

@@ -1,6 +1,6 @@
 use Rattle.std.proofs.Common.{◌∙◌}
 use Rattle.std.proofs.lemmas.Result.{err_from_is_err_and}
-use Rattle.relay_http.proofs.Gathering.{head_fails, head_gathered, one_further, stops_there, last_piece}
+use Rattle.relay_http.proofs.Gathering.{head_fails, one_further, stops_there, last_piece}
 use Rattle.relay_http.proofs.outgoing.write_bulk.Goals as goal
 
 pub returns-in_err-gather-clause-sent : goal.returns-in_err-gather-clause-sent

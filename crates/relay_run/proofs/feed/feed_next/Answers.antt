@@ -1,4 +1,3 @@
-use Rattle.std.proofs.Common.{Err}
 use Rattle.std.proofs.lemmas.Result.{err_from_is_err_and}
 use Rattle.relay_ndjson.proofs.Readings.{answers_of}
 use Rattle.relay_run.proofs.Feeding.{refused_stops}
