@@ -4,7 +4,7 @@
 beginning of its first cell; `CODE` is the heading of rules that concern only the code and no format. `OUTSIDE` lists, for
 each heading, the suites of this folder that test it with the built program. `pointers.py` checks both.
 """
-CODE = "Rules of the code alone"
+CODE = "Rules about the code only"
 
 BULK, INPUT, KINDS, BODIES = "Bulk text", "Producer input", "Kinds of faults", "Bulk bodies"
 LINES, APPLY, WORLD, RUN, PICK, STUB = ("`relay %s`" % it for it in ("lines", "apply", "world", "run", "pick", "stub"))
