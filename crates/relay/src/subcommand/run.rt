@@ -42,11 +42,12 @@ position of its file, from 0) and number, and then the counts. In an epoch E abo
     report P:N INDEX/ID Spent                  its lane had no version left for it
     applied A already B reported C
 
-A counts the operations that an answered request applied, B those that an earlier request had applied whose
-answer was lost. An operation that is reported may still have been applied, once and in order. Standard error
-gets a line for each file that could not be put in full, once all have ended: `FILE: open failed`,
-`FILE: read failed`, `FILE: out of memory`, `FILE: line N: KIND` or `FILE: NumbersSpent`; its operations before
-that were put. `lane N: KIND` means that a lane did not finish, and `start: KIND` that nothing was started.
+A counts the operations that an answered request applied, and B those that an earlier request, whose answer
+was lost, had already applied. An operation that is reported may still have been applied, once and in order.
+Standard error gets a line for each file that could not be put in full, once all have ended:
+`FILE: open failed`, `FILE: read failed`, `FILE: out of memory`, `FILE: line N: KIND` or `FILE: NumbersSpent`;
+its operations before that were put. `lane N: KIND` means that a lane did not finish, and `start: KIND` that
+nothing was started.
 
 With --report FILE the reports are also saved, one JSON object per line: cause, id, index, number and
 producer; kind, status and sends if the cause has them; and epoch if it is above 0. Unlike in the printed
@@ -72,8 +73,8 @@ answered. Reports are kept in memory until the end: a run that is killed prints 
 
 Versions are --epoch times 2^40 plus a count from 1 in each lane. Every version that the index has stored for
 these documents must be at most --epoch times 2^40, and nobody else may write them during the run. Give each
-run over the same documents an epoch above those of all earlier runs; otherwise each write is a conflict and
-is reported.
+run over the same documents an epoch above those of all earlier runs; otherwise its writes are reported as
+conflicts.
 
 After a crash, make sure that the old process is gone, and run the same files again with the next epoch. A
 request of the old run that still arrives is applied before the new writes of its document, or not at all. If
