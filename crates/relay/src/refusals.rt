@@ -5,8 +5,8 @@ use relay_commands::refuse_list::{ListFault, refuse_list};
 use relay_index::Script;
 use relay_words::Exit;
 
-/// The script of the option `--refuse`, or the exit status if its value is not a valid list; then a
-/// message was printed.
+/// The script of the option `--refuse`. If its value is not a valid list, prints a message and
+/// returns the exit status.
 pub fn script_of<R: Eprint + AllocGlobal>(
     rt: &R,
     matches: &ArgMatches<'_>,

@@ -1,4 +1,4 @@
-//! Messages if a command fails.
+//! The messages printed when a command fails.
 use relay_words::Exit;
 
 /// Prints that an allocation failed.

@@ -19,8 +19,8 @@ takes_some (Err e) bytes = false
 
 -- ---- a stream in memory
 
--- what is left to read and was written, how many bytes may be written in all, how many move in a call, which call
--- fails, and how many were made and failed
+-- what is left to read, what was written, how many bytes may be written in all, how many may move in a call, which call
+-- fails, how many calls were made, and how many failed
 pub record Memory : Type 0 where
   pub left : List ℕ
   pub written : List ℕ
@@ -49,14 +49,14 @@ after_call s = record s { calls = one_more s.calls }
 abbrev pub after_failure : Memory → Memory
 after_failure s = record s { failed = one_more s.failed }
 
--- how many bytes a read moves into a buffer of this size, and a write takes of as many
+-- how many bytes a read moves into a buffer of this size, and how many of this many bytes a write takes
 abbrev pub given_count : Memory → ℕ → ℕ
 given_count s buffer = min buffer (min s.piece (length s.left))
 
 abbrev pub taken_count : Memory → ℕ → ℕ
 taken_count s bytes = min bytes (min s.piece (s.room - length s.written))
 
--- these many bytes were read; these were written
+-- this many bytes were read; these bytes were written
 abbrev pub after_read : Memory → ℕ → Memory
 after_read s n = record s { left = drop n s.left }
 

@@ -8,8 +8,8 @@ use std::io;
 use std::marker::Model;
 
 /// A stream over a reader or a writer of `std`. It shows no bytes, since a device has none to show,
-/// and counts the calls that failed. Each call makes one call of the reader or writer, whose every
-/// error becomes [`StreamFailed`]. If the contract of the reader or writer says which bytes moved,
+/// and counts the calls that failed. Each call makes one call of the reader or writer, any error of
+/// which becomes [`StreamFailed`]. If the contract of the reader or writer says which bytes moved,
 /// so does that of the stream.
 #[derive(Drop)]
 pub struct StdStream<T> {

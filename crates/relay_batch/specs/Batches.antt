@@ -16,7 +16,7 @@ abbrev pub count_of : ℕ → List BatchItem → ℕ
 count_of count [] = count
 count_of count (i ∷ is) = min i.cap (count_of count is)
 
--- a batch keeps its limits: its documents are distinct, and two or more items are within the limit's count, the cap
+-- a batch is within its limits: its documents are distinct, and two or more items are within the limit's count, the cap
 -- of each, and the limit's bytes; a single item may exceed any of them
 pub record IsBatch (limits : Limits) (items : List BatchItem) : Type 0 where
   pub distinct : HasDistinctDocuments items

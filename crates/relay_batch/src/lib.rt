@@ -2,9 +2,9 @@
 //! each offer is the first that applies in a fixed order. It depends on `relay_action`, for the
 //! names of operations.
 //!
-//! What is proved: a batch has distinct documents and keeps its limits and the caps of its items,
-//! except that a single item may exceed any of them; and each offer gets exactly the answer that
-//! the limits demand.
+//! What is proved: a batch has distinct documents and is within its limits and the caps of its
+//! items, except that a single item may exceed any of them; and each offer gets exactly the answer
+//! that the limits demand.
 #![tactic(auto)]
 
 pub mod batch;

@@ -13,7 +13,7 @@ use std::time::{Clock, Instant};
 // More bytes than any request head has.
 const HEAD_ROOM: usize = 1024;
 
-// The number of bytes that a write to a stream moves at most.
+// The maximum number of bytes that a write to a stream moves.
 const PIECE: usize = 65_536;
 
 /// The result of reading a reply many times.

@@ -186,7 +186,7 @@ fn drive<R: Clock>(
     })
 }
 
-/// Measures a lane that takes and holds operations of 100 bytes each on these many documents.
+/// Measures a lane that takes and holds operations of 100 bytes each on this many documents.
 pub fn measure<R: Clock>(
     rt: &R,
     alloc: Global,

@@ -1,6 +1,6 @@
 //! The part of the benchmark that is written in Rattle: a tool that `bench/run.py` drives, to
 //! compare its figures with those of plain Rust programs. It depends on `relay_queue`,
-//! `relay_core`, `relay_results` and `relay_http`, and promises nothing of the product. Without
+//! `relay_core`, `relay_results` and `relay_http`, and promises nothing about the product. Without
 //! arguments it prints nothing.
 //!
 //! The measurement of the queue starts threads and waits for them.

@@ -7,11 +7,11 @@ use Rattle.relay_commands.specs.declared.lines.LinesFault.TheVariants as lines
 use Rattle.relay_commands.specs.declared.apply.ApplyFault.{ApplyFault}
 use Rattle.relay_commands.specs.declared.apply.ApplyFault.TheVariants as apply
 
--- none failed, by the counts of a stream before and after
+-- no call failed, by the counts of a stream before and after
 abbrev pub NoneFails : ℕ → ℕ → Type 0
 NoneFails old new = new ≡ old
 
--- one failed; counts saturate at 2^64 - 1
+-- one call failed; counts saturate at 2^64 - 1
 abbrev pub OneFails : ℕ → ℕ → Type 0
 OneFails old new = new ≡ one_more old
 

@@ -60,8 +60,8 @@ abbrev pub failed_by : {T : Type 0} → Result T LinesFault → ℕ → ℕ
 failed_by (Err (fault.Input e)) n = if is_read e.kind then one_more n else n
 failed_by other n = n
 
--- A write failed: of the lines that are written before a read, and then nothing more was read; or of the last lines,
--- and then this would have been the result.
+-- A write failed: of lines that were to be written before a read, and then nothing more was read; or of the last lines,
+-- and then this would otherwise have been the result.
 abbrev pub IsCutOff : ℕ → ℕ → Reading → Reading → List Operation → Type 0
 IsCutOff first failed rest new ops =
     ((new ≡ rest) × (new.failed ≡ failed))
@@ -87,9 +87,9 @@ Writes before after text (Err (fault.Write sent)) =
 Writes before after text (Err fault.Memory) = (cut : ℕ) × (after ≡ append_known before (take cut text))
 Writes before after text other = after ≡ append_known before text
 
--- There are operations that were taken from the front, with a version for each; this is why there were no more, given
--- what the reader has left and how many of its calls failed, and at most one piece was read of what follows; and this
--- was written of their bulk text.
+-- Operations were taken from the front, with a version for each. The result says why there were no more, given what the
+-- reader has left and how many of its calls failed; at most one piece was read of what follows; and this much of the
+-- operations' bulk text was written.
 pub record Streams (first : ℕ) (old : Reading) (left : Option (List ℕ)) (failed : ℕ) (before after : Option (List ℕ)) (result : Result ℕ LinesFault) : Type 0 where
   pub ops : List Operation
   pub rest : Reading

@@ -53,7 +53,7 @@ IsNoWrite version old new (fault.VersionsSpent line) = IsPast version old new li
 IsNoWrite version old new (fault.Write sent) = ⊥
 IsNoWrite version old new fault.Memory = LacksMemory old new
 
--- the next write, or the end, or why there is none
+-- the next write, or the end, or why there is neither
 abbrev pub IsNext : ℕ → Reading → Reading → Result (Option Write) LinesFault → Type 0
 IsNext version old new (Ok (Some w)) = IsWrite version old new w
 IsNext version old new (Ok None) = Ends old new

@@ -27,7 +27,7 @@ pub record MovesPart (text : List ℕ) (sent : ℕ) (before after : Option (List
   pub writes : after ≡ append_known before (take cut text)
   pub count_is : count ≡ min (sent + cut) most
 
--- a write failed in between, of those that would have written the text
+-- one of the writes that were to write the text failed
 pub record BreaksOff (text : List ℕ) (sent : ℕ) (before : Option (List ℕ)) (failed : ℕ) (after : Option (List ℕ)) (count : ℕ) (total : ℕ) : Type 0 where
   pub part : MovesPart text sent before after total
   pub call : OneFails failed count

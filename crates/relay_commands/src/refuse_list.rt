@@ -25,8 +25,8 @@ pub enum ListFault {
     Memory,
 }
 
-/// The script of a list of refusals, such as `2:429,5:400`: pairs of a position and a status, in
-/// decimal digits, with a colon inside and commas between them. Positions count the items from 1,
+/// The script of a list of refusals, such as `2:429,5:400`: pairs of a position and a status in
+/// decimal digits, with a colon in each pair and commas between them. Positions count items from 1,
 /// up to 2^64 - 1; a status is from 400 to 599, except 404 and 409. Leading zeros are allowed,
 /// signs and spaces are not. If a position is given twice, its last status counts.
 ///

@@ -44,7 +44,7 @@ impl Subcommand {
         }
     }
 
-    /// The subcommand with this name. `None`: there is none.
+    /// The subcommand with this name. `None`: no subcommand has it.
     pub fn named(name: &str) -> Option<Subcommand>
         ensures { result ≡ subcommand_of name.now }
     {

@@ -25,11 +25,11 @@ EarlierOnesSettled = (s : State) (e : Entry) → Mem e (next_entries s) → MayG
 abbrev pub ItemsAreOfOperations : Type 0
 ItemsAreOfOperations = (s : State) (items : List BatchItem) → next_batch s ≡ Some items → items ≡ map item_of (next_entries s)
 
--- The items keep the limits of a batch, and their bytes add up to those of the bulk text of the writes.
+-- The items are within the limits of a batch, and their bytes add up to those of the bulk text of the writes.
 pub record KeepsLimits (s : State) (items : List BatchItem) : Type 0 where
   pub batch : IsBatch s.config.limits items
   pub bytes : bytes_of items ≡ length (text_of (writes_of_all (next_entries s)))
 
--- the next request of a lane does
+-- this holds for the next request of a lane
 abbrev pub RequestsKeepLimits : Type 0
 RequestsKeepLimits = (s : State) (items : List BatchItem) → IsLane s → next_batch s ≡ Some items → KeepsLimits s items

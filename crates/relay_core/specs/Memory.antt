@@ -87,14 +87,14 @@ pub record IsMet (number place : ℕ) (h : Kept) (ws : List Write) : Type 0 wher
   pub spot : h.flies ≡ Some (record { request = number; place = place })
   pub matches : IsWriteOf h write
 
--- those in flight in a request have its writes, in order
+-- the operations in flight in a request have its writes, in order
 abbrev pub Carries : ℕ → ℕ → List Kept → List Write → Type 0
 Carries number place [] ws = ws ≡ []
 Carries number place (h ∷ hs) ws =
     Given (flies_here number h.flies) (IsMet number place h ws)
     × Carries number (further (flies_here number h.flies) place) hs (rest_if (flies_here number h.flies) ws)
 
--- those in flight in a request of this many keep its size within their caps
+-- a request with this many operations is within the cap of each that is in flight in it, unless there is only one
 abbrev pub HasRoom : ℕ → ℕ → List Kept → Type 0
 HasRoom number len [] = Unit {0}
 HasRoom number len (h ∷ hs) = Given (flies_here number h.flies) (1 < len → len ≤ h.cap) × HasRoom number len hs
@@ -138,13 +138,13 @@ tries_left max (h ∷ hs) = (max - h.attempts) + halvings h.cap + tries_left max
 abbrev pub SaysAs : Answer → List Write → Way → List Outcome → Type 0
 SaysAs a ws whole os = (t : Tries) (p : ℕ) (kind : ActionKind) → fate t ws p kind a ≡ fate_or whole (fate_of_entry t kind (slice_get os p))
 
--- what is halved were two or more, and the cap is half their number
+-- a request that is halved had two or more writes, and the cap is half their number
 abbrev pub IsHalf : Way → ℕ → Type 0
 IsHalf way.ByEntry len = Unit {0}
 IsHalf (way.Reported status) len = Unit {0}
 IsHalf (way.Halved cap) len = (2 ≤ len) × (cap ≡ len / 2)
 
--- an operation as it is held when it was taken
+-- an operation as it is held just after it was taken
 abbrev pub kept_new : Op → ℕ → ℕ → ℕ → ℕ → Kept
 kept_new o version bytes clock cap = record {
   name = record { epoch = o.epoch; producer = o.producer; number = o.number };

@@ -21,7 +21,7 @@ no_room = record { items = 0; bytes = 0 }
 abbrev pub less : ℕ → Room → Room
 less bytes r = if nat_lt bytes r.bytes then record { items = r.items - 1; bytes = r.bytes - bytes } else no_room
 
--- What is gathered of these items waits: it is not empty, nothing was Closed, nothing demands it yet, and as many
+-- What is gathered of these items waits: it is not empty, no offer was Closed, nothing demands it yet, and as many
 -- more items and bytes as there is room for, with caps of at least the limit's count, do not fill it.
 pub record IsQuiet (clock mark : ℕ) (all_closed : Bool) (limits : Limits) (is : List BatchItem) (room : Room) : Type 0 where
   pub some : 0 < length (gathering_after is (empty limits)).items

@@ -27,11 +27,11 @@ abbrev pub closes : List BatchItem → Gathering → Bool
 closes [] g = false
 closes (i ∷ is) g = by_answer (answer_to i g) (closes is g) true (closes is (with_item i g))
 
--- its version numbers the document, since nothing older is held of it
+-- its version serves as the number of the document, since nothing older is held of that document
 abbrev pub item_of : Entry → BatchItem
 item_of e = record { name = name_of e.held.op; doc = e.held.version; version = e.held.version; bytes = e.bytes; cap = e.held.cap; taken_at = e.taken_at }
 
--- those that were added
+-- the entries that were added
 abbrev pub chosen_entries : List Entry → Gathering → List Entry
 chosen_entries [] g = []
 chosen_entries (e ∷ es) g = by_answer (answer_to (item_of e) g) (chosen_entries es g) [] (e ∷ chosen_entries es (with_item (item_of e) g))

@@ -100,7 +100,7 @@ is_full s body.Tick = false
 is_full s body.Flush = false
 is_full s body.Done = false
 
--- only an operation is allocated for, and may be refused because of it
+-- only taking an operation allocates, so nothing else is refused because an allocation failed
 abbrev pub is_put : Body → Bool
 is_put (body.Put o) = true
 is_put body.Tick = false
@@ -238,7 +238,7 @@ pub record IsInOrder (s : State) (e : delivery.Entry) : Type 0 where
   pub attempts : e.held.attempts ≤ s.core.config.max
   pub halved : e.held.sends + halvings e.held.cap ≤ e.held.attempts + 14
 
--- each is held with a version above those before it
+-- each is held with a version above those of the operations before it
 abbrev pub VersionsRise : List Held → Type 0
 VersionsRise [] = Unit {0}
 VersionsRise (h ∷ hs) = ((j : Held) → Mem j hs → h.version < j.version) × VersionsRise hs

@@ -1,4 +1,4 @@
--- Each call of a lane is a step of delivery, or none: if a lane fits an outside, each call keeps that.
+-- Each call of a lane is a step of delivery, or does not concern it: a lane that fits an outside still fits afterwards.
 use Rattle.std.specs.Prelude.{◌≡◌, ℕ, List, [], ◌∷◌, ◌++◌, Some, true, ◌<◌}
 use Rattle.relay_action.specs.declared.operation.Op.{Op}
 use Rattle.relay_action.specs.declared.mail.Body.{Body}
@@ -13,7 +13,7 @@ use Rattle.relay_delivery.specs.Lane.{writes_of_all}
 use Rattle.relay_core.specs.declared.config.RelayConfig.{RelayConfig}
 use Rattle.relay_core.specs.State.{State, fresh, after_take, is_flying, after_answer_to, next_batch, next_entries, after_request}
 
--- a lane that took these operations, and an outside, that came about by the same steps
+-- a lane that took these operations and an outside came about by the same steps
 abbrev pub Fits : State → List Op → Outside → Type 0
 Fits s taken out = delivery.Fits s.core taken out
 

@@ -48,15 +48,15 @@ abbrev pub freight : List Kept → List BatchItem → List Write
 freight [] is = []
 freight (h ∷ hs) is = if is_next is h then option_to_list h.write ++ freight hs (drop 1 is) else freight hs is
 
--- ---- an answer comes
+-- ---- an answer arrives
 
--- by the status of the whole request, otherwise by its entry
+-- the fate by the status of the whole request, or else by the operation's entry
 abbrev pub fate_or : Way → of.Fate → of.Fate
 fate_or way.ByEntry f = f
 fate_or (way.Reported status) f = of.Reported (cause.Request status)
 fate_or (way.Halved cap) f = of.Halved cap
 
--- the definition's value for the code's
+-- the fate of the definitions for that of the code
 abbrev pub said : Fate → of.Fate
 said code.Applied = of.Applied
 said code.Already = of.Already
@@ -109,7 +109,7 @@ abbrev pub tally : Bool → ℕ
 tally true = 1
 tally false = 0
 
--- what is left of one in flight, if its write is there
+-- what is left of an operation in flight, if its write is there
 abbrev pub met_maybe : ℕ → of.Fate → Option Write → List Kept → List Kept
 met_maybe clock f None hs = []
 met_maybe clock f (Some w) hs = met_list clock f w hs
@@ -122,7 +122,7 @@ abbrev pub tally_maybe : (of.Fate → Bool) → of.Fate → Option Write → ℕ
 tally_maybe p f None = 0
 tally_maybe p f (Some w) = tally (p f)
 
--- those in flight in a request get its writes and the entries of its reply, one after another
+-- the operations in flight in a request get its writes and the entries of its reply, one after another
 abbrev pub kept_walk : List Kept → ℕ → ℕ → ℕ → Way → List Write → List Outcome → List Kept
 kept_walk [] max clock number whole ws os = []
 kept_walk (h ∷ hs) max clock number whole ws os =

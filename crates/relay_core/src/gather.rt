@@ -113,8 +113,8 @@ pub struct Due {
     /// Nothing is to be sent until more than this was taken, unless a tick passes, a flush or an
     /// answer arrives, or a sender closes.
     pub room: Room,
-    /// How much may be taken while the batch is in flight: as much as one request
-    /// carries, or nothing if some operation that may be sent is left.
+    /// How much may be taken while the batch is in flight: as much as one request carries, or
+    /// nothing if some operation that may be sent is left.
     pub ahead: Room,
 }
 

@@ -390,10 +390,10 @@ impl Lane {
     }
 
     /// Whether the next request is still being gathered: none would be formed now, and more may be
-    /// taken before [`Lane::request`] is worth a call or an answer is worth waiting for. So it is
-    /// while what may be sent is less than a batch and nobody asks for it, and, if all places in
-    /// flight are taken, while what was taken since is less than a batch and nothing was left over.
-    /// `false` promises nothing.
+    /// taken before [`Lane::request`] is worth a call or an answer is worth waiting for. This is
+    /// the case while what may be sent is less than a batch and nothing demands it, and, if all
+    /// places in flight are taken, while what was taken since is less than a batch and nothing was
+    /// left over. `false` promises nothing.
     pub fn is_gathering(&self) -> bool
         ensures { result ≡ true → next_batch self.now.state ≡ None }
     {

@@ -67,7 +67,7 @@ abbrev pub StartsUpTo : ℕ → List Entry → Type 0
 StartsUpTo v [] = ⊥
 StartsUpTo v (e ∷ es) = e.version ≤ v
 
--- the first of these is at most each of the others; if there is none, there are no others
+-- no version in the second list is below the first one in the first list; if the first list is empty, so is the second
 abbrev pub Leads : List Entry → List Entry → Type 0
 Leads [] es = es ≡ []
 Leads (x ∷ xs) es = AllFrom x.version es

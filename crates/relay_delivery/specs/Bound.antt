@@ -21,7 +21,7 @@ abbrev pub halvings_in : ℕ → ℕ → ℕ
 halvings_in zero n = 0
 halvings_in (suc looks) n = if n == 0 then 0 else suc (halvings_in looks (n / 2))
 
--- how often it can in all: `n` steps are enough
+-- how often a number can be halved in all: `n` steps are enough
 abbrev pub halvings : ℕ → ℕ
 halvings n = halvings_in n n
 
@@ -36,7 +36,7 @@ WithinTriesLeft =
     (g : Config) (c : Core) (more : List Step) → 0 < g.max → CameAbout g c → AllMayStep g more c → AllDraining more →
     sent_of (steps_of g more c) + tries_left g.max (steps_of g more c).held ≤ sent_of c + tries_left g.max c.held
 
--- so there are at most `max + 14` for each operation held, if operations begin with a cap below 2 to the 14
+-- so there are at most `max + 14` for each operation held, if operations begin with a cap below 2^14
 abbrev pub FewRequests : Type 0
 FewRequests =
     (g : Config) (c : Core) (more : List Step) → 0 < g.max → g.cap < 2 ^ 14 → CameAbout g c → AllMayStep g more c →

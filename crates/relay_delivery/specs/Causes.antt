@@ -27,18 +27,18 @@ IsAssignment versions =
 abbrev pub carries : Write → Request → Bool
 carries w q = list_any (same_write w) q.writes
 
--- and was not answered as too large: it counts as a try
+-- a request carried the write and was not answered as too large: it counts as a try
 abbrev pub is_try : Write → Request → Bool
 is_try w q = carries w q && not (says_too_large q.answer)
 
--- a request carried it at this place
+-- the request with this number carried the write at this place
 pub record CarriedAt (requests : List Request) (w : Write) (number place : ℕ) (q : Request) : Type 0 where
   pub write : Write
   pub sent : slice_get requests number ≡ Some q
   pub stands : slice_get q.writes place ≡ Some write
   pub same : same_write w write ≡ true
 
--- a request that carried the write was answered with matching entries; this is the one for the write, and one of the
+-- a request that carried the write was answered with matching entries; this is the entry for the write, and one of the
 -- item's runs gave it
 pub record IsAnswered (s : Outside) (w : Write) (o : Outcome) : Type 0 where
   pub number : ℕ
@@ -59,8 +59,8 @@ pub record IsAnsweredWhole (s : Outside) (w : Write) (status : ℕ) : Type 0 whe
 
 -- ---- true causes
 
--- Refused: it was answered with this status and this type of error, which one of its runs gave, and the verdict on
--- which is Refused.
+-- Refused: the write was answered with this status and this type of error, which one of its runs gave, and the verdict
+-- on them is Refused.
 pub record IsTrueRefusal (s : Outside) (w : Write) (status : ℕ) (error : List ℕ) : Type 0 where
   pub outcome : Outcome
   pub answered : IsAnswered s w outcome
@@ -68,15 +68,15 @@ pub record IsTrueRefusal (s : Outside) (w : Write) (status : ℕ) (error : List 
   pub status_is : outcome.status ≡ status
   pub error_is : unwrap_or outcome.error [] ≡ error
 
--- Conflict: exactly one request carried it, and that was answered with 409, which one of its runs gave.
+-- Conflict: exactly one request carried the write, and the answer for it was 409, which one of its runs gave.
 pub record IsTrueConflict (s : Outside) (w : Write) : Type 0 where
   pub once : count (carries w) s.requests ≡ 1
   pub outcome : Outcome
   pub answered : IsAnswered s w outcome
   pub conflict : is_conflict outcome.status ≡ true
 
--- GaveUp: exactly `sends` requests carried it; at least `max` of them were not answered as too large; and each got an
--- answer that is retried.
+-- GaveUp: exactly `sends` requests carried the write; at least `max` of them were not answered as too large; and each
+-- got an answer that is retried.
 pub record GaveUpAfter (requests : List Request) (w : Write) (max sends : ℕ) : Type 0 where
   pub exactly : count (carries w) requests ≡ sends
   pub enough : max ≤ count (is_try w) requests
@@ -90,8 +90,8 @@ IsTrueOf max s w cause.Conflict = IsTrueConflict s w
 IsTrueOf max s w (cause.GaveUp sends) = GaveUpAfter s.requests w max sends
 IsTrueOf max s w cause.Spent = ⊥
 
--- what the causes of a lane are judged by, besides the outside: how many tries an operation has, how many versions
--- the lane assigns, and how many Puts it took from its queue
+-- what the causes of a lane's reports are judged by, besides the outside: how many tries an operation has, how many
+-- versions the lane assigns, and how many Puts it took from its queue
 pub record Terms : Type 0 where
   pub max : ℕ
   pub deals : ℕ
@@ -103,8 +103,8 @@ pub record IsTrueDealt (max : ℕ) (s : Outside) (o : Op) (dealt : Option ℕ) (
   pub is_dealt : dealt ≡ Some version
   pub of_write : IsTrueOf max s (write_for o version) c
 
--- Spent: no request carried the operation, with the version that it was assigned, if any, and its
--- lane took more Puts than it assigns versions.
+-- Spent: no request carried the operation under the version that it was assigned, if it was assigned one; and its lane
+-- took more Puts than it assigns versions.
 pub record IsTrueSpent (t : Terms) (s : Outside) (o : Op) (dealt : Option ℕ) (c : Cause) : Type 0 where
   pub cause_is : c ≡ cause.Spent
   pub never_sent : (v : ℕ) → dealt ≡ Some v → count (carries (write_for o v)) s.requests ≡ 0

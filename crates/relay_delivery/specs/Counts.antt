@@ -34,14 +34,14 @@ entries_that test sent [] os = 0
 entries_that test sent (w ∷ ws) [] = 0
 entries_that test sent (w ∷ ws) (o ∷ os) = one_if (test (count (carries w) sent) w o) + entries_that test sent ws os
 
--- only an answer with matching entries has any
+-- the number of such items in one answer; only an answer with matching entries has any
 abbrev pub places_that : PlaceTest → List Request → List Write → Answer → ℕ
 places_that test sent ws Unanswered = 0
 places_that test sent ws (Items os) = if matches os ws then entries_that test sent ws os else 0
 places_that test sent ws (Whole status) = 0
 places_that test sent ws Lost = 0
 
--- over all requests in the order in which they were sent, where these were sent before
+-- the number over all requests, in the order in which they were sent, given those that were sent before them
 abbrev pub places_from : PlaceTest → List Request → List Request → ℕ
 places_from test before [] = 0
 places_from test before (q ∷ qs) = places_that test (before ++ q ∷ []) q.writes q.answer + places_from test (before ++ q ∷ []) qs

@@ -35,8 +35,8 @@ abbrev pub assigned_at : Config → ℕ → Option ℕ
 assigned_at g place = if nat_lt place g.deals then Some (version_at g place) else None
 
 -- The writes applied to each document are those of distinct operations that were taken, each producer's in order;
--- each report has a true cause, by one assignment of versions, which is that by the places of what was taken; and
--- none is reported twice.
+-- each report has a true cause, by one assignment of versions, which goes by the places of what was taken; and no
+-- operation is reported twice.
 pub record IsSound (g : Config) (taken : List Op) (reports : List Report) (s : Outside) (ops : Document → List Op) : Type 0 where
   pub attribution : (k : Document) → IsAttribution (taken_of taken) k (s.applied k) (ops k)
   pub in_order : (k : Document) → IsInProducerOrder (taken_of taken) (ops k)
@@ -59,7 +59,7 @@ abbrev pub ops_of : ℕ → List Op → List Write → List Op
 ops_of first taken [] = []
 ops_of first taken (w ∷ ws) = option_to_list (slice_get taken (w.version - first)) ++ ops_of first taken ws
 
--- those of the writes applied to a document
+-- the operations of the writes applied to a document
 abbrev pub applied_ops : Config → List Op → Outside → Document → List Op
 applied_ops g taken s k = ops_of g.first taken (s.applied k)
 
@@ -67,7 +67,7 @@ applied_ops g taken s k = ops_of g.first taken (s.applied k)
 abbrev pub HasDistinctNames : List Op → Type 0
 HasDistinctNames taken = AllDistinct (map name_of taken)
 
--- after any steps from a fresh lane on, delivery is sound
+-- after any steps from a fresh lane, delivery is sound
 abbrev pub SoundAlways : Type 0
 SoundAlways =
     (g : Config) (c : Core) → CameAbout g c → HasDistinctNames c.taken →
@@ -106,7 +106,7 @@ EarliestFlies =
     (g : Config) (c : Core) → CameAbout g c → (h j : Held) (f : Place) → Mem h c.held → Mem j c.held → h.flies ≡ Some f →
     document_of j.op.key ≡ document_of h.op.key → h.version ≤ j.version
 
--- so two of the same document in flight are the same
+-- so two operations of the same document in flight are one and the same
 abbrev pub OneFlies : Type 0
 OneFlies =
     (g : Config) (c : Core) → CameAbout g c → (h j : Held) (f k : Place) → Mem h c.held → Mem j c.held →

@@ -41,7 +41,7 @@ lost_then_conflict o =
     ∷ Answers 1 (Items (failed_entry (write_for o 1) 409 conflict ∷ []))
     ∷ []
 
--- ---- one that meets the promises
+-- ---- a schedule that satisfies the promises
 
 -- this may happen, starting from a fresh lane; then nothing is held or reported, and the one write is attributed to
 -- the operation
@@ -56,10 +56,10 @@ pub record EndsAlready (key : DocKey) (o : Op) : Type 0 where
 abbrev pub MachineWorks : Type 0
 MachineWorks = (key : DocKey) (source : Source) → EndsAlready key (op 1 key (Index source))
 
--- ---- none may be left out
+-- ---- no condition may be left out
 
--- Whatever operations the applied writes are attributed to, one that was taken is not accounted for, though nothing
--- is held.
+-- Whatever operations the applied writes are attributed to, an operation that was taken is not accounted for, though
+-- nothing is held.
 pub record LosesOperation (c : Core) : Type 0 where
   pub none_held : c.held ≡ []
   pub lost : (ops : Document → List Op) → ((k : Document) → IsAttribution (taken_of c.taken) k (c.outside.applied k) (ops k))
@@ -80,7 +80,7 @@ lost_and_stale o =
     ∷ Answers 1 (Items (failed_entry (write_for o 1) 409 conflict ∷ []))
     ∷ []
 
--- Stored versions must be below the first one assigned: with an opening where one is not, an operation is lost.
+-- Stored versions must be below the first one assigned: from an opening in which one is not, an operation is lost.
 pub record LosesBesideStored (o : Op) : Type 0 where
   pub opening : IsOpening (stored_everywhere 5)
   pub may : AllMayStep config (lost_and_stale o) (begun (stored_everywhere 5))

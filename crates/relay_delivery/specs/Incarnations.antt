@@ -42,7 +42,7 @@ abbrev pub ops_over : List Incarnation → ℕ → List Write → List Op
 ops_over is l [] = []
 ops_over is l (w ∷ ws) = op_dealt is l w.version ++ ops_over is l ws
 
--- those of the writes applied to a document
+-- the operations of the writes applied to a document
 abbrev pub attributed_together : Config → (Document → ℕ) → List Incarnation → Together → Document → List Op
 attributed_together g lane_of ended s k = ops_over (with_running ended g s) (lane_of k) ((outside_of lane_of s).applied k)
 
@@ -64,8 +64,8 @@ pub record IsTrueTogether (g : Config) (lane_of : Document → ℕ) (s : Togethe
 
 -- Over all incarnations the writes applied to each document are those of distinct accepted operations, in each
 -- incarnation each producer's in order, and those of an earlier incarnation before those of every later one. In the
--- last incarnation each report has a true cause, by one assignment of versions, which is that of all lanes; and none
--- is reported twice.
+-- last incarnation each report has a true cause, by one assignment of versions, the same for all lanes; and no
+-- operation is reported twice.
 pub record IsSoundTogether (g : Config) (lane_of : Document → ℕ) (ended : List Incarnation) (s : Together) (ops : Document → List Op) : Type 0 where
   pub attribution : (k : Document) → IsAttribution (accepted_over (with_running ended g s)) k ((outside_of lane_of s).applied k) (ops k)
   pub in_order : (k : Document) (e : ℕ) → IsInProducerOrder (accepted_in (with_running ended g s) e) (filter (is_in e) (ops k))
@@ -122,7 +122,7 @@ TogetherMay =
     (g : Config) (lane_of : Document → ℕ) (ended : List Incarnation) (s : Together) → CameAboutTogether g lane_of ended s →
     HappensInLanes g lane_of s
 
--- a run of one lane's item is one step of the common outside, and changes nothing of another document
+-- a run of one lane's item is one step of the common outside, and changes nothing for any other document
 abbrev pub TogetherRuns : Type 0
 TogetherRuns =
     (g : Config) (lane_of : Document → ℕ) (ended : List Incarnation) (s : Together) (i place : ℕ) (o : RunOutcome)

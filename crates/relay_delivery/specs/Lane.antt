@@ -153,7 +153,7 @@ pub record Fits (s : State) (taken : List Op) (out : Outside) : Type 0 where
   pub took : core.taken ≡ taken
   pub outside : core.outside ≡ out
 
--- ---- each call keeps it
+-- ---- each call keeps the lane fitting
 
 abbrev pub fresh_state : Config → State
 fresh_state g = record { config = g; clock = 0; taken = 0; requests = 0; held = []; flying = []; reports = []; applied = 0; already = 0 }

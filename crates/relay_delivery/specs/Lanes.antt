@@ -13,11 +13,11 @@ pub record Lanes : Type 0 where
   pub queue : ℕ → List Op
   pub lane : ℕ → Core
 
--- a function of numbers, with one more element at the end of this list
+-- a function of numbers, with one more element at the end of the list for this number
 abbrev pub with_added : {A : Type 0} → (ℕ → List A) → ℕ → A → ℕ → List A
 with_added f n x m = if m == n then f m ++ x ∷ [] else f m
 
--- a function of numbers, with another value for this one
+-- a function of numbers, with another value for this number
 abbrev pub with_value : {A : Type 0} → (ℕ → A) → ℕ → A → ℕ → A
 with_value f n x m = if m == n then x else f m
 

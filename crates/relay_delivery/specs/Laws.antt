@@ -20,7 +20,7 @@ NoneTwice =
     (accepted : ℕ → List Op) (k : Document) (w x : Write) (o : Op) →
     IsAttribution accepted k (w ∷ x ∷ []) (o ∷ o ∷ []) → ⊥
 
--- an applied write is of an operation with another action, of another document, that was not accepted, or of none
+-- an applied write is attributed to an operation with another action, of another document, or not accepted; or to none
 abbrev pub NoneOfOtherAction : Type 0
 NoneOfOtherAction =
     (accepted : ℕ → List Op) (k : Document) (w : Write) (o : Op) → source_of o.action ≢ source_of w.action →
@@ -100,7 +100,7 @@ NotReportedUnsent =
     (o : Op) (v : ℕ) (t : Terms) (s : Outside) (c : Cause) → 1 ≤ t.max → count (carries (write_for o v)) s.requests ≡ 0 →
     IsTrueCause t s o (Some v) c → c ≡ cause.Spent
 
--- no request was answered so; one was, and that is retried
+-- no request was answered with this status; requests answered with this status are retried
 abbrev pub NotRejectedWithoutAnswer : Type 0
 NotRejectedWithoutAnswer =
     (o : Op) (dealt : Option ℕ) (t : Terms) (s : Outside) (status : ℕ) →
@@ -112,14 +112,14 @@ NotRejectedWhenRetried =
     (o : Op) (dealt : Option ℕ) (t : Terms) (s : Outside) (status : ℕ) → is_retried_whole status ≡ true →
     IsTrueCause t s o dealt (cause.Request status) → ⊥
 
--- of three requests that carried it two were too large: only one counts as a try
+-- of three requests that carried it, two were too large: only one counts as a try
 abbrev pub NotGivenUpForHalves : Type 0
 NotGivenUpForHalves = (o : Op) (v deals taken sends : ℕ) (x y : Write) (runs : List Ran) →
     let w = write_for o v in
     let requests = request (w ∷ x ∷ y ∷ []) (Whole 413) ∷ request (w ∷ x ∷ []) (Whole 413) ∷ request (w ∷ []) Lost ∷ [] in
     IsTrueCause (terms 2 deals taken) (outside_with requests runs) o (Some v) (cause.GaveUp sends) → ⊥
 
--- no request had it alone
+-- no request carried it alone
 abbrev pub NotRejectedWhenHalved : Type 0
 NotRejectedWhenHalved =
     (o : Op) (dealt : Option ℕ) (t : Terms) (s : Outside) →

@@ -104,7 +104,7 @@ pub record IsEligible (held : List Held) (h : Held) : Type 0 where
   pub waits : h.flies ≡ None
   pub first : (j : Held) → Mem j held → document_of j.op.key ≡ document_of h.op.key → h.version ≤ j.version
 
--- two or more operations are within the cap of each
+-- two or more operations in a request are within the cap of each
 abbrev pub KeepsCaps : List Held → Type 0
 KeepsCaps chosen = 1 < length chosen → (h : Held) → Mem h chosen → length chosen ≤ h.cap
 
@@ -114,12 +114,12 @@ pub record MaySend (c : Core) (chosen : List Held) : Type 0 where
   pub distinct : AllDistinct (map (λ (h : Held). h.version) chosen)
   pub caps : KeepsCaps chosen
 
--- the place among them of the operation with this version
+-- the place of the operation with this version among these
 abbrev pub place_of : ℕ → List Held → Option ℕ
 place_of version [] = None
 place_of version (h ∷ hs) = if h.version == version then Some 0 else option_map suc (place_of version hs)
 
--- each of them is in flight, with one more send and one more try
+-- an operation that was sent is in flight, with one more send and one more try
 abbrev pub launched_at : ℕ → Held → Option ℕ → Held
 launched_at number h None = h
 launched_at number h (Some place) = record {

@@ -49,7 +49,7 @@ taken_by (Ticks clock) = []
 taken_by (Sends chosen) = []
 taken_by (Answers number a) = []
 
--- those that the calls take, in order
+-- the operations that the calls take, in order
 abbrev pub taken_in : List Call → List Op
 taken_in [] = []
 taken_in (c ∷ cs) = taken_by c ++ taken_in cs
@@ -92,9 +92,9 @@ abbrev pub documents_of : List Flying → List Document
 documents_of [] = []
 documents_of (f ∷ fs) = map (λ (w : Write). document_of w.key) f.writes ++ documents_of fs
 
--- Held operations have ascending versions. Each was taken, and so was that of each write in flight, under the version
--- assigned for its place; a write in flight is that of a held operation that is in flight there, and the other way
--- round. No document is in flight twice, in one request or in two. Each operation that was taken is held, ended as
+-- Held operations have ascending versions. Each of them, and the operation of each write in flight, was taken, and has
+-- the version assigned for its place; a write in flight is that of a held operation that is in flight there, and vice
+-- versa. No document is in flight twice, in one request or in two. Each operation that was taken is held, ended as
 -- applied, or was reported.
 pub record IsOrderly (s : State) (taken : List Op) : Type 0 where
   pub rising : (i j : ℕ) (e d : Entry) → i < j → slice_get s.held i ≡ Some e → slice_get s.held j ≡ Some d → e.held.version < d.held.version

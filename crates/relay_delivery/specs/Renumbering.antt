@@ -1,5 +1,6 @@
--- A lane that starts afresh after a restart numbers its requests from the beginning again. With their numbers counted
--- on from those that it had sent before, it is the lane beside its outside, and each call is the same call there.
+-- A lane that starts afresh after a restart numbers its requests from the beginning again, while its outside counts on
+-- from those that it had sent before. Renumbered in the same way, the lane is the one beside that outside, and each of
+-- its calls is the same call there.
 use Rattle.std.specs.Prelude.{◌≡◌, true, ℕ, ◌+◌, List, Option, Some, None, map}
 use Rattle.relay_action.specs.declared.operation.Op.{Op}
 use Rattle.relay_action.specs.declared.write.Write.{Write}
@@ -20,7 +21,7 @@ entry_on n e = record { held = held_on n e.held; bytes = e.bytes; taken_at = e.t
 abbrev pub flying_on : ℕ → Flying → Flying
 flying_on n f = record { request = n + f.request; writes = f.writes }
 
--- with this many requests before
+-- a lane whose requests are numbered on from this many
 abbrev pub numbered_on : ℕ → State → State
 numbered_on n s = record s { requests = n + s.requests; held = map (entry_on n) s.held; flying = map (flying_on n) s.flying }
 

@@ -48,7 +48,7 @@ after_restart s = record { lanes = restarted_lanes s.lanes; sent = s.sent; origi
 
 -- ---- what happens
 
--- the current incarnation makes an act, or it ends and a new one begins
+-- the current incarnation performs an act, or it ends and a new one begins
 pub data Happening : Type 0 where
   Acts : Act → Happening
   Restarts : Config → Happening
@@ -77,7 +77,7 @@ abbrev pub MayBe : Happening → Life → Type 0
 MayBe (Acts a) l = MayAct l.config a l.together × IsOfNow l.ended a
 MayBe (Restarts g) l = IsAbove l.config g
 
--- after a sequence of them
+-- after a sequence of happenings
 abbrev pub after_happenings : (Document → ℕ) → List Happening → Life → Life
 after_happenings lane_of [] l = l
 after_happenings lane_of (h ∷ hs) l = after_happenings lane_of hs (happen lane_of h l)

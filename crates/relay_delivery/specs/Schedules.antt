@@ -168,7 +168,7 @@ BusyThenNext = (key : DocKey) (source other : Source) →
     × becomes (tries_after 2 3) (w ∷ []) 0 (Index source) (Items (entry w 201 ∷ [])) of.Applied
     × becomes (tries_after 1 3) (x ∷ []) 0 (Index other) (Items (entry x 200 ∷ [])) of.Applied
 
--- both replies of the first are lost, and it is given up after two tries; its first request is run late, before the
+-- both replies to the first are lost, and it is given up after two tries; its first request is run late, before the
 -- second operation, and its second request after it
 abbrev pub given_up_then_next : Write → Write → List Event
 given_up_then_next w x =
@@ -214,8 +214,8 @@ ThreeThenOne = (k l m : DocKey) (source other : Source) →
 
 -- ---- a request that is too large
 
--- a request of two items is too large and is halved; alone, one is still too large and is reported, and the reply of
--- the other is lost, which was its only try
+-- a request of two items is too large and is halved; alone, one is still too large and is reported, and the reply to
+-- the other, its only try, is lost
 abbrev pub halved_then_alone : Write → Write → List Event
 halved_then_alone w x =
     Sends (w ∷ x ∷ []) ∷ Answers 0 (Whole 413)

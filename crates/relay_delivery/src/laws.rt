@@ -62,7 +62,7 @@ pub fn conditions_are_needed()
 {}
 
 /// No attribution has an operation twice, a producer's operations out of order, an operation with
-/// another action, of another document or that was not accepted, or none for a write.
+/// another action, of another document or that was not accepted, or a write without an operation.
 pub fn attributions_exclude()
     ensures twice { NoneTwice }
     ensures order { NoneOutOfOrder }
@@ -72,7 +72,7 @@ pub fn attributions_exclude()
     ensures left_out { NoneLeftOut }
 {}
 
-/// No cause is true that is not supported by the requests, the runs and the answers.
+/// A cause is true only if the requests, the runs and the answers support it.
 pub fn causes_exclude()
     ensures one_lost { NotGivenUpAfterOne }
     ensures settled { NotGivenUpWhenSettled }
@@ -89,7 +89,7 @@ pub fn causes_exclude()
     ensures no_conflict { NoConflictWithoutRun }
 {}
 
-/// If delivery is sound, no operation is reported twice, and none that was not taken.
+/// If delivery is sound, only operations that were taken are reported, and none of them twice.
 pub fn reports_exclude()
     ensures twice { NoneReportedTwice }
     ensures untaken { NoneReportedUntaken }

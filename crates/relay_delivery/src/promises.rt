@@ -19,9 +19,9 @@ ghost use Rattle.relay_delivery.specs.Incarnations.{RestartsKeepNames};
 
 /// After any steps of a lane and the outside, starting from a fresh lane: the writes that the index
 /// applied are those of distinct operations that the lane took, each producer's in order; each
-/// report has a true cause; and none is reported twice. If nothing is held, each operation that the
-/// lane took was applied or is reported, by the same attribution. The only condition is that no two
-/// operations that it took have the same name.
+/// report has a true cause; and no operation is reported twice. If nothing is held, each operation
+/// that the lane took was applied or is reported, by the same attribution. The only condition is
+/// that no two operations that it took have the same name.
 pub fn delivery_is_exact()
     ensures sound { SoundAlways }
     ensures complete { CompleteAtTheEnd }
@@ -105,8 +105,8 @@ pub fn lanes_together_deliver()
 
 /// Fresh lanes are reachable, and so is every state after an act or a restart. What may happen
 /// outside all lanes may happen outside one of them; a run of a lane's item is one step of the
-/// common outside, and changes nothing of another document; the common outside came about from an
-/// opening by events that may happen; and nothing is accepted from a producer that has closed.
+/// common outside, and changes nothing for any other document; the common outside came about from
+/// an opening by events that may happen; and nothing is accepted from a producer that has closed.
 pub fn acts_lead_on()
     ensures fresh { FreshTogether }
     ensures act { ActTogether }

@@ -74,7 +74,7 @@ pub fn sends<W: Wire>(
     send(wire, number, &writes)
 }
 
-/// Sends it and receives the answer.
+/// Sends such a delete and receives the answer.
 pub fn asks<W: Wire>(alloc: Global, wire: &mut W, number: u64, id: &str, version: u64) -> Told
     requires out { W.out wire.old ≡ [] }
     requires version { version ≤ 9000000000000000000 }

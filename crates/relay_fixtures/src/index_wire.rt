@@ -1,4 +1,4 @@
-//! A wire to an index in memory, which fails as asked for, and describes nothing.
+//! A wire to an index in memory, which fails as it is told to. It does not describe the outside.
 ghost use Rattle.std.specs.Prelude.{◌≡◌, None};
 ghost use Rattle.relay_lane.specs.Wires.{IsWireReply};
 

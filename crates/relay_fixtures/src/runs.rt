@@ -19,7 +19,8 @@ fn run_one(alloc: Global, index: &mut Index, write: &Write) -> Result<Outcome, A
     done.outcome(alloc)
 }
 
-/// Runs the items of a request, in order. `AllocError`: some of them were run.
+/// Runs the items of a request, in order. `AllocError`: allocation failed, and some of them may
+/// have been run.
 pub fn run_all(
     alloc: Global,
     index: &mut Index,

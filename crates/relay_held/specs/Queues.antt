@@ -49,7 +49,7 @@ abbrev pub on_first : (Kept → Kept) → List Kept → List Kept
 on_first f [] = []
 on_first f (h ∷ hs) = f h ∷ hs
 
--- the name of one that may be there
+-- the name of an operation, if there is one
 abbrev pub name_in : Option Kept → Option OpName
 name_in o = option_map (λ (h : Kept). h.name) o
 
@@ -82,7 +82,7 @@ AllWait (h ∷ hs) = (h.flies ≡ None) × AllWait hs
 abbrev pub OnlyFirstsFly : List Kept → Type 0
 OnlyFirstsFly hs = (k : DocKey) → AllWait (drop 1 (filter (is_of k) hs))
 
--- how many documents these are
+-- the number of distinct documents
 abbrev pub distinct : List Document → ℕ
 distinct [] = 0
 distinct (d ∷ ds) = if list_any (same_document d) ds then distinct ds else distinct ds + 1

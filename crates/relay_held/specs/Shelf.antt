@@ -11,7 +11,7 @@ use Rattle.relay_held.specs.Queues.{same_key, eligible, merge_of, queue_of, IsHo
 
 -- ---- the queues, each in its slot
 
--- the queue in a slot; none is empty, so this is empty if there is none
+-- the queue in a slot; since no queue is empty, an empty list means that the slot has none
 abbrev pub queue_in : Slab (List Kept) → ℕ → List Kept
 queue_in s slot = unwrap_or (get s slot) []
 
@@ -38,7 +38,7 @@ pub record Sets (old new : Slab (List Kept)) (slot : ℕ) (q : List Kept) : Type
 abbrev pub slot_of : List (DocKey × ℕ) → DocKey → ℕ
 slot_of ss k = unwrap_or (lookup (same_key k) ss) 0
 
--- a document of which something was held and is held has the slot that it had
+-- a document that had held operations before, and still has some, keeps its slot
 abbrev pub KeepsSlots : Shelf → Shelf → Type 0
 KeepsSlots old new = (k : DocKey) (g h : Kept) → slice_get (queue_of old.queues k) 0 ≡ Some g → slice_get (queue_of new.queues k) 0 ≡ Some h → slot_of new.slots k ≡ slot_of old.slots k
 
@@ -50,17 +50,17 @@ entry_at slot h = record { version = h.version; due = h.due; slot = slot }
 abbrev pub entry_of : List (DocKey × ℕ) → Kept → Entry
 entry_of ss h = entry_at (slot_of ss h.key) h
 
--- the entry of one that is held after these of its document
+-- the entry of an operation that is held after these of its document: it has one only if it is the first
 abbrev pub entry_after : List Kept → ℕ → Kept → Option Entry
 entry_after [] slot h = Some (entry_at slot h)
 entry_after (x ∷ xs) slot h = None
 
--- an entry joins those that are there, if there is one
+-- the entries with one more, if it is given
 abbrev pub with_entry : Option Entry → List Entry → List Entry
 with_entry None es = es
 with_entry (Some e) es = insert e es
 
--- the delay queue has an entry for each of them, and room for one of each document
+-- the delay queue has an entry for each of these operations, and room for one entry per document
 pub record IsHeld (v : Shelf) (n : ℕ) (d : Delays) : Type 0 where
   pub holding : IsHolding v.queues n
   pub entries : d.entries ≡ map (entry_of v.slots) (eligible (merge_of v.queues))

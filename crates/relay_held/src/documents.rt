@@ -26,7 +26,7 @@ use slab::Slab;
 use std::alloc::{AllocError, Global};
 use std::marker::Model;
 
-/// The queues of all documents. Each document keeps its slot as long as something is held of it.
+/// The queues of all documents. A document keeps its slot as long as it has held operations.
 #[derive(Debug, Drop)]
 pub struct Documents {
     slots: IndexMap<DocKey, usize>,
@@ -118,7 +118,7 @@ fn push_in(queues: &mut Slab<Queue>, slot: usize, one: Kept) -> Result<(), NotHe
     }
 }
 
-// Takes the first operation of the queue in a slot out, unless it is the last one.
+// Takes out the first operation of the queue in a slot, unless it is the only one.
 fn next_in(queues: &mut Slab<Queue>, slot: usize) -> Option<Taken>
     ensures left { Sets queues.old queues.new slot (queue_in queues.new slot) }
     ensures name { IfSome result (λ t. Some t.name ≡ first_name (queue_in queues.old slot)) }
@@ -234,7 +234,8 @@ fn remove(
     })
 }
 
-// Takes the first operation of the document in a slot out. The document goes with its last one.
+// Takes out the first operation of the document in a slot. A document without further operations is
+// removed.
 fn take_in(
     slots: &mut IndexMap<DocKey, usize>,
     queues: &mut Slab<Queue>,
@@ -263,7 +264,7 @@ fn take_in(
 }
 
 impl Documents {
-    /// Empty. It does not allocate.
+    /// No queues. It does not allocate.
     pub(crate) fn new(alloc: Global) -> Documents
         ensures { result ≡ record { queues = []; slots = [] } }
     {
@@ -376,7 +377,8 @@ impl Documents {
         halve_in(&mut self.queues, slot, due, cap, write)
     }
 
-    /// Takes the first operation of a document out. The document goes with its last one.
+    /// Takes out the first operation of a document. A document without further operations is
+    /// removed.
     pub(crate) fn take(&mut self, key: &DocKey) -> Option<Taken>
         ensures taken { Changes self.old.queues self.new.queues key.now
             (drop 1 (queue_of self.old.queues key.now)) }

@@ -162,7 +162,7 @@ impl Held {
         }
     }
 
-    /// Lets the first operation of a write's document wait again, which must be in flight if one is
+    /// Lets the first operation of a write's document wait again; it must be in flight if one is
     /// held. It does not allocate.
     pub fn land(&mut self, due: u64, write: Write)
         requires flies { (h : Kept) → first_of write.key self.old.list ≡ Some h
@@ -202,8 +202,8 @@ impl Held {
         Some(name)
     }
 
-    /// The number of ticks until the first operation is due, of those that wait and are the first
-    /// of their document; 0 if one is due now.
+    /// The number of ticks until an operation is due, among those that wait and are the first of
+    /// their document: 0 if one is due now, `None` if there are none.
     pub fn due_in(&self) -> Option<u64>
         ensures { result ≡ option_map (λ due. due - self.now.clock)
             (first_due_kept (filter (is_eligible_kept self.now.list) self.now.list)) }

@@ -83,14 +83,14 @@ impl Queue {
         }
     }
 
-    /// The first.
+    /// The first operation.
     pub(crate) fn head(&self) -> &Kept
         ensures { self.now ≡ result.now ∷ drop 1 self.now }
     {
         &self.head
     }
 
-    /// The first, as it waits in a slot.
+    /// The entry of the first operation in the delay queue, if this queue has that slot.
     pub(crate) fn entry(&self, slot: usize) -> Entry
         ensures { Some result ≡ option_map (entry_at slot) (slice_get self.now 0) }
     {

@@ -22,8 +22,8 @@ pub record Connection : Type 0 where
 abbrev pub ahead : Connection → Option (List ℕ)
 ahead c = prepend_known c.held c.left
 
--- Nothing has arrived that was not asked for: no byte was read beyond the messages so far, and the stream shows
--- neither bytes that are left nor its end. A stream that shows its bytes shows one or the other.
+-- Nothing unrequested has arrived: no byte was read beyond the messages so far, and the stream shows neither bytes that
+-- are left nor its end. A stream that shows its bytes shows one or the other.
 pub record IsQuiet (c : Connection) : Type 0 where
   pub held : c.held ≡ []
   pub left : c.left ≡ None
@@ -42,14 +42,15 @@ is_broken phase.Open = false
 is_broken phase.Closing = false
 is_broken phase.Broken = true
 
--- after a message that keeps the connection, or does not; after a request its answer may still be written
+-- The phase after a message that does or does not keep the connection, and the phase after such a request, to which an
+-- answer may still be written.
 abbrev pub phase_of : Bool → Phase
 phase_of keep = if keep then phase.Open else phase.Broken
 
 abbrev pub phase_with : Bool → Phase
 phase_with keep = if keep then phase.Open else phase.Closing
 
--- after a reply, after a request, and after a message that was written
+-- the phase after reading a reply, after reading a request, and after writing a message
 abbrev pub after_reply : Result HttpReply HttpFault → Phase
 after_reply (Ok reply) = phase_of reply.keep
 after_reply (Err f) = phase.Broken

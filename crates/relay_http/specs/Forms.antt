@@ -1,4 +1,4 @@
--- Messages at the front of a stream, and what a call that reads one says of the bytes there.
+-- Messages at the front of a stream, and what the result of reading one says about the bytes there.
 use Rattle.std.specs.Prelude.{◌≡◌, ◌⊎◌, ℕ, List, [], ◌++◌, Bool, true, false, Option}
 use Rattle.std.specs.Io.KnownBytes.{IsAtEnd}
 use Rattle.std.specs.Io.KnownBytes.{prepend_known}
@@ -66,7 +66,7 @@ IsOutside f = (f ≡ fault.Read) ⊎ (f ≡ fault.Memory)
 abbrev pub IsThatOrOutside : HttpFault → HttpFault → Type 0
 IsThatOrOutside f answer = (answer ≡ f) ⊎ IsOutside answer
 
--- when reading a message fails
+-- what each fault of reading a message says about the bytes that were read
 abbrev pub Fails : {A : Type 0} → Form A → Option (List ℕ) → Option (List ℕ) → HttpFault → Type 0
 Fails M old left fault.Malformed = Refused M old left
 Fails M old left fault.HeadLong = Refused M old left

@@ -11,19 +11,19 @@ pub record Shown : Type 0 where
 abbrev pub shown_by : Option (List ℕ) → Option (List ℕ) → ℕ → Shown
 shown_by left written failed = record { left = left; written = written; failed = failed }
 
--- The connections that it will provide, and those that it took back, each in their order; a listener that shows none
--- has None. And how many it provided, and how many of its calls failed; a count saturates at 2^64 - 1.
+-- The connections that it will provide, and those that it took back, in order; None for a listener that does not show
+-- them. Then how many it provided, and how many of its calls failed; these counts saturate at 2^64 - 1.
 pub record Listening : Type 0 where
   pub coming : Option (List Shown)
   pub done : Option (List Shown)
   pub accepted : ℕ
   pub failed : ℕ
 
--- a connection, and then those that are known
+-- a connection, followed by the known ones
 abbrev pub prepend_shown : Shown → Option (List Shown) → Option (List Shown)
 prepend_shown s known = option_map (λ rest. s ∷ rest) known
 
--- those that are known, and then a connection
+-- the known connections, followed by one more
 abbrev pub append_shown : Option (List Shown) → Shown → Option (List Shown)
 append_shown known s = option_map (λ before. before ++ s ∷ []) known
 
@@ -34,7 +34,7 @@ pub record HandsOut (old : Listening) (s : Shown) (new : Listening) : Type 0 whe
   pub accepted : new.accepted ≡ one_more old.accepted
   pub failed : new.failed ≡ old.failed
 
--- none was, since the call failed
+-- no connection was provided, since the call failed
 abbrev pub after_failure : Listening → Listening
 after_failure l = record l { failed = one_more l.failed }
 

@@ -16,7 +16,7 @@ use Rattle.relay_http.specs.declared.framing.Framing.TheVariants as framing
 
 -- ---- pieces
 
--- It is too long: these many bytes without an end, or too many fields.
+-- A piece is too long: it does not end within the maximum number of bytes, or it has too many fields.
 abbrev pub OverrunsHead : List ℕ → Type 0
 OverrunsHead s = ((head_limit ≤ length s) × HasNoResponse (take head_limit s)) ⊎ ResponseExceeds field_limit s
 
@@ -84,7 +84,7 @@ BreaksAfterLine size s = ((size ≡ 0) × NeverHasSection s) ⊎ ((0 < size) × 
 abbrev pub OverrunsAfterLine : ℕ → List ℕ → Type 0
 OverrunsAfterLine size s = (size ≡ 0) × OverrunsTrailer s
 
--- a chunk, or the end of the body, that breaks the grammar; and one with a line or a trailer that is too long
+-- what follows, a chunk or the end of the body, breaks the grammar; or its line or its trailer is too long
 abbrev pub BreaksChunk : List ℕ → Type 0
 BreaksChunk s = NeverHasChunkLine s ⊎ AfterSizeLine BreaksAfterLine s
 

@@ -53,8 +53,8 @@ pub record IsInterim (h : ResponseHead) : Type 0 where
   pub fits : FitsHead h
   pub status : is_interim (status_code h) ≡ true
 
--- the bytes are at most `most` interim heads and one more head, which says this; that one is interim only after
--- `most` others
+-- the bytes are at most `most` interim heads and one more head, which says this; the last head is interim only if
+-- `most` others precede it
 pub record IsHeadsWith (most : ℕ) (bytes : List ℕ) (ends : Bool) (info : HeadInfo) : Type 0 where
   pub interim : List ResponseHead
   pub few : length interim ≤ most
@@ -99,6 +99,6 @@ pub record ReplyPasses (stream : List ℕ) : Type 0 where
   pub framed : heads.value.framing ≡ Ok framing
   pub long : IsLongBody reply_limit framing heads.rest
 
--- a reply, wherever it is in memory
+-- the reply that a value in memory represents
 abbrev pub reply_view : HttpReply → Reply
 reply_view r = record { status = r.status; body = r.body.items; keep = r.keep }

@@ -72,7 +72,7 @@ pub record RequestPasses (stream : List ℕ) : Type 0 where
   pub framed : head.value.framing ≡ Ok framing
   pub long : IsLongBody request_limit framing head.rest
 
--- a request, wherever it is in memory
+-- the request that a value in memory represents
 abbrev pub request_view : HttpRequest → Request
 request_view r = record { bulk = r.bulk; body = r.body.items; keep = r.keep }
 

@@ -17,7 +17,7 @@ use Rattle.relay_http.specs.declared.fault.HttpFault.TheVariants as fault
 abbrev pub pending : {S : Type 0} → (S → Option (List ℕ)) → Buffered S → Option (List ℕ)
 pending left c = prepend_known c.window (left c.stream)
 
--- these many bytes moved from the front of the stream to the end of the window, and none only at the end
+-- this many bytes moved from the front of the stream to the end of the window; 0 only at the end of the stream
 pub record Grown (before after : List ℕ) (old new : Option (List ℕ)) (count : ℕ) : Type 0 where
   pub bytes : List ℕ
   pub length_is : length bytes ≡ count
@@ -25,7 +25,7 @@ pub record Grown (before after : List ℕ) (old new : Option (List ℕ)) (count 
   pub stream : old ≡ prepend_known bytes new
   pub end : count ≡ 0 → IsAtEnd old
 
--- some bytes moved from the front to the end of a list, and none only at the end of the stream
+-- this many bytes, at most `most`, moved from the front to the end of a list; 0 only at the end of the stream
 pub record Moved (old new left : Option (List ℕ)) (before after : List ℕ) (most n : ℕ) : Type 0 where
   pub bytes : List ℕ
   pub length_is : length bytes ≡ n
@@ -41,8 +41,8 @@ pub record TookData (size : ℕ) (old new : Option (List ℕ)) (before after : L
   pub split : old ≡ prepend_known piece new
   pub appended : after ≡ before ++ piece
 
--- what a search for a message at the front of a buffer finds: one with its length, none so far, or none whatever
--- follows
+-- the result of a search for a message at the front of a buffer: a message and its length; none so far; or none,
+-- whatever bytes follow
 abbrev pub Finds : {A : Type 0} → Form A → List ℕ → Result (Option (A × ℕ)) HttpFault → Type 0
 Finds M bytes (Ok (Some found)) = (found.1 ≤ length bytes) × M (take found.1 bytes) false found.0
 Finds M bytes (Ok None) = ¬ (Begins M bytes)
@@ -51,7 +51,8 @@ Finds M bytes (Err f) = IsOfBytes f × ((more : List ℕ) → ¬ (Begins M (byte
     IsOfBytes : HttpFault → Type 0
     IsOfBytes f = (f ≡ fault.Malformed) ⊎ (f ≡ fault.HeadLong)
 
--- the result of reading a message, where `old` and `new` are to come before and after it, and `left` is not yet read
+-- the result of reading a message, where `old` and `new` are the bytes to come before and after the call, and `left`
+-- those not yet read after it
 abbrev pub Answers : {A : Type 0} → Form A → Option (List ℕ) → Option (List ℕ) → Option (List ℕ) → Result A HttpFault → Type 0
 Answers M old new left (Ok value) = Took M old new value
 Answers M old new left (Err f) = Fails M old left f

@@ -56,7 +56,7 @@ written_head host digits = record {
 abbrev pub head_room : ℕ
 head_room = 512
 
--- a prefix of a text was sent, less than all of it
+-- a proper prefix of a text was sent
 abbrev pub SendsFront : List ℕ → Option (List ℕ) → Option (List ℕ) → Type 0
 SendsFront text old new = (sent : ℕ) × (sent < length text) × (new ≡ append_known old (take sent text))
 

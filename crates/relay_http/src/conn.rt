@@ -101,9 +101,9 @@ impl<S: ByteStream> Conn<S> {
 }
 
 impl<S: Peek> Conn<S> {
-    /// Whether nothing has arrived that was not asked for: no byte was read beyond the messages so
-    /// far, and neither a byte nor the end of the stream has arrived since. It does not wait, and
-    /// it reads nothing.
+    /// Whether nothing unrequested has arrived: no byte was read beyond the messages so far, and
+    /// neither a byte nor the end of the stream has arrived since. It does not wait, and it reads
+    /// nothing.
     pub fn is_quiet(&self) -> bool
         ensures { IsTrue result → IsQuiet self.now }
     {

@@ -9,7 +9,7 @@ use thiserror::Error;
 #[error("dial failed")]
 pub struct DialFault;
 
-/// What makes a stream to the index for each connection.
+/// Opens a stream to the index for each connection.
 pub trait Dial<S> {
     /// How many of its calls failed; it saturates at 2^64 - 1.
     ghost failed: { Self → ℕ };
@@ -17,7 +17,7 @@ pub trait Dial<S> {
     /// How many calls were made; it saturates at 2^64 - 1.
     ghost dialled: { Self → ℕ };
 
-    /// A fresh stream. After [`DialFault`] there is none.
+    /// Opens a fresh stream. [`DialFault`]: none could be opened.
     fn dial(&mut self) -> Result<S, DialFault>
         ensures failed { failed self.new
             ≡ (if is_ok result then failed self.old else one_more (failed self.old)) }

@@ -11,13 +11,13 @@ use thiserror::Error;
 #[error("accept failed")]
 pub struct AcceptFailed;
 
-/// What provides the streams of connections, one after another, and takes them back when they are
-/// over.
+/// Provides the streams of connections, one after another, and takes them back when the connections
+/// are over.
 pub trait Listen<S: ByteStream> {
     /// What it shows of the connections, and how many calls failed.
     ghost shows: { Self → Listening };
 
-    /// The stream of the next connection. After [`AcceptFailed`] there is none.
+    /// Waits for the next connection, and returns its stream. [`AcceptFailed`]: there is none.
     fn accept(&mut self) -> Result<S, AcceptFailed>
         ensures ok { IfOk result
             (λ s. HandsOut (shows self.old) (shown_by (S.left s) (S.written s) (S.failed s))

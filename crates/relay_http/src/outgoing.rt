@@ -186,7 +186,7 @@ fn send_both<S: ByteOut>(stream: &mut S, first: &[u8], second: &[u8]) -> Result<
     Ok(())
 }
 
-// Leaves only a line end of what was gathered; it has room.
+// Replaces what was gathered by a line end, for which there is room.
 fn keep_line_end(text: &mut Vec<u8>)
     requires { 0 < length text.old.items }
     ensures { text.new.items ≡ line_end }

@@ -71,7 +71,7 @@ impl<S: ByteIn + Drop> Buffered<S> {
         }
     }
 
-    // Reads a reply. One at the front is found, and so is a fault in the heads there.
+    // Reads a reply. A reply at the front is found, and so is a fault in its heads.
     pub(crate) fn next_reply(&mut self, alloc: Global) -> Result<HttpReply, HttpFault>
         ensures answer { MatchResult result
             (λ reply. Took IsReplyMessage (pending S.left self.old) (pending S.left self.new)

@@ -24,8 +24,8 @@ same_key a b = same_document (document_of a) (document_of b)
 abbrev pub is_among : Document → List DocKey → Bool
 is_among k keys = list_any (λ key. same_document k (document_of key)) keys
 
--- The keys are exactly those of the documents to which a write was applied, including deleted ones: no other, none
--- twice, and in order.
+-- The keys are exactly those of the documents to which a write was applied, including deleted ones, in order and
+-- without repetition.
 pub record AreKeys (s : State) (keys : List DocKey) : Type 0 where
   pub rising : IsStrictlySortedBy key_order keys
   pub written : (k : Document) → is_among k keys ≡ is_some (stored_version s k)

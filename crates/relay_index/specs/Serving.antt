@@ -52,7 +52,7 @@ pub record Replies (old : Server) (ws : List Write) (text : List ℕ) (new : Ser
   pub text_of : text ≡ reply_text 0 items
   pub reads_back : IsBulkReply text (outcomes_of items)
 
--- ---- a body that is no bulk request
+-- ---- a body that is not a bulk request
 
 -- the text that names the bad line of a body and its fault, with its keys in byte order
 abbrev pub fault_data : ℕ → List ℕ → Data
@@ -72,7 +72,7 @@ pub record IsRejection (fault : BulkFault) (answer : Answer) : Type 0 where
 
 -- ---- a body that is too large
 
--- the text that says so, with its keys in byte order
+-- the text that says that a body is too large, with its keys in byte order
 abbrev pub too_large_data : Data
 too_large_data =
     object (member (codes "error") (object (member (codes "type") (string (codes "TooLarge")) no_members))
@@ -81,7 +81,7 @@ too_large_data =
 unfoldable pub too_large_text : List ℕ
 too_large_text = compact_text too_large_data
 
--- the answer to it
+-- the answer to a body that is too large
 pub record IsTooLarge (answer : Answer) : Type 0 where
   pub failure : answer.status ≡ 413
   pub text_of : answer.text ≡ too_large_text
@@ -96,7 +96,7 @@ pub record Serves (body : List ℕ) (old : Server) (answer : Answer) (new : Serv
   pub success : answer.status ≡ 200
   pub replies : Replies old writes answer.text new
 
--- the body is not: 400, and the text that names the first bad line; nothing is run
+-- the body is not a bulk request: 400, and the text that names the first bad line; nothing is run
 pub record Rejects (body : List ℕ) (old : Server) (answer : Answer) (new : Server) : Type 0 where
   pub within : takes old.script (length body) ≡ true
   pub line : ℕ
@@ -106,7 +106,7 @@ pub record Rejects (body : List ℕ) (old : Server) (answer : Answer) (new : Ser
   pub text_of : answer.text ≡ fault_text line (name_of kind)
   pub stays : new ≡ old
 
--- the script's limit is below its length: 413; nothing is read or run
+-- the body is longer than the script's limit: 413; nothing is read or run
 pub record RefusesLength (body : List ℕ) (old : Server) (answer : Answer) (new : Server) : Type 0 where
   pub over : takes old.script (length body) ≡ false
   pub too_large : IsTooLarge answer

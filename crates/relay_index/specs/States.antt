@@ -16,7 +16,7 @@ pub record State : Type 0 where
 abbrev pub fresh : State
 fresh = record { documents = []; count = 0 }
 
--- the list of a document: the writes that were applied to it, in their order
+-- the list of a document: the writes that were applied to it, in order
 abbrev pub applied_among : List (DocKey × List Write) → Document → List Write
 applied_among documents k = unwrap_or (lookup (λ key. same_document k (document_of key)) documents) []
 

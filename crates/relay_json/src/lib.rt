@@ -2,7 +2,7 @@
 //! reader of `json` and the definitions of `serde_json`: a text has the same value here as there.
 //!
 //! Numbers stay text until they are asked for. A text with a number that is too large for a float
-//! is refused even if nobody asks for that number.
+//! is refused even if that number is never asked for.
 #![tactic(auto)]
 
 mod decimal;

@@ -39,8 +39,8 @@ pub fn read_object<'t, G: Gather<'t>>(
 
 /// Reads a text as [`read_object`] does, and returns the name of its only member, and what was
 /// gathered from that member's value. `None`: the value is not an object, it has no member or
-/// members with different names, or the value of the member is not an object. `scratch` is used as
-/// there.
+/// members with different names, or the value of the member is not an object. `scratch` is used in
+/// the same way.
 pub fn read_sole_object<'t, F: Fields<'t>>(
     text: &'t [u8],
     scratch: &'t mut Scratch,

@@ -127,8 +127,8 @@ fn pass_members(reader: &mut Reader<'_>, depth: usize) -> Result<(), Invalid>
 /// them.
 ///
 /// A walk only moves forward. An error ends the reading of its text: the walk is then at the value
-/// that could not be read, inside it or after it, and what a later call reads is the rest of that
-/// one, or of what follows it, and not a value of the text.
+/// that could not be read, inside it or after it, and a later call would read the rest of that
+/// value, or of what follows it, rather than a value of the text.
 #[derive(Drop)]
 pub struct Walk<'t> {
     reader: Reader<'t>,

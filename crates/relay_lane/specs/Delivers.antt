@@ -16,8 +16,8 @@ pub record IsDelivered (s : State) (taken : List Op) (o : Outside) : Type 0 wher
   pub applied : s.core.applied ≡ applied_answers o.requests
   pub already : s.core.already ≡ settled_already o.requests
 
--- there is an outside that fits the wire now and continues the one before; the lane and it came about by the same steps,
--- and delivery is as promised
+-- there is an outside that fits the wire now and continues the one before; it and the lane came about by the same
+-- steps, and delivery is as promised
 pub record GoesOn {S : Type 0} (fits : S → Outside → Type 0) (wire : S) (s : State) (taken : List Op) (before : Outside) : Type 0 where
   pub outside : Outside
   pub fitting : fits wire outside

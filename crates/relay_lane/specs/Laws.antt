@@ -9,7 +9,7 @@ use Rattle.relay_lane.specs.Turns.{Turn, Worked, Stays, requests, ticks, sends_l
 
 -- ---- what is outstanding
 
--- nothing of a fresh lane is outstanding, and taking a message does not change what is
+-- a fresh lane has nothing outstanding, and taking a message does not change what is outstanding
 abbrev pub NothingIsOut : Type 0
 NothingIsOut = (c : RelayConfig) → out_of (fresh c) ≡ []
 

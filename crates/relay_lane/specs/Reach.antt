@@ -26,11 +26,11 @@ TakeIsReached = (s : State) (sender : ℕ) (b : Body) (taken : List Op) → IsRe
 abbrev pub TurnIsReached : Type 0
 TurnIsReached = (t : Turn) (s : State) (taken : List Op) → MayTurn t s → IsReached s taken → IsReached (after_turn t s) taken
 
--- so it is at work too
+-- so the lane is reachable after any work
 abbrev pub WorkIsReached : Type 0
 WorkIsReached = (going : Turn → State → Bool) (s t : State) (taken : List Op) → Worked going s t → IsReached s taken → IsReached t taken
 
--- What holds then: of held operations and writes in flight each is of what was taken, under its version; no document is in
--- flight twice; and the counts add up.
+-- What holds then: each held operation and each write in flight is of what was taken, with its version; no document is
+-- in flight twice; and the counts add up.
 abbrev pub ReachedIsOrderly : Type 0
 ReachedIsOrderly = (s : State) (taken : List Op) → IsReached s taken → IsOrderly s.core taken

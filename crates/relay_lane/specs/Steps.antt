@@ -19,7 +19,8 @@ Settled s t = (a : Answer) × (a ≢ Unanswered) × (t ≡ after_answer a s)
 abbrev pub IsPressed : State → Type 0
 IsPressed s = (e : Entry) → Mem e s.core.held → (all_closed s ≡ true) ⊎ (e.held.version ≤ s.mark)
 
--- the first operation that may be sent is due after this many ticks, at least one, and the clock does not end before
+-- the first operation that may be sent is due after this many ticks, at least one, and the clock does not saturate
+-- before
 pub record IsDueLater (s : State) : Type 0 where
   pub ticks : ℕ
   pub due : due_in s ≡ Some ticks

@@ -71,7 +71,7 @@ sends_in Fails = 1
 sends_in (Settles a) = 0
 sends_in (Pauses n) = 0
 
--- the number of ticks that pass in it
+-- the number of ticks that pass in a turn
 abbrev pub ticks_in : Turn → ℕ
 ticks_in Sends = 0
 ticks_in Fails = 0
@@ -86,7 +86,7 @@ abbrev pub ticks : List Turn → ℕ
 ticks [] = 0
 ticks (t ∷ ts) = ticks_in t + ticks ts
 
--- what a pace shows rose by this many ticks, if it shows a number and that does not end
+-- the number of ticks that a pace shows rose by this many, if it shows one and the sum does not saturate
 abbrev pub Paused : ℕ → Option ℕ → Option ℕ → Type 0
 Paused n old new = (p : ℕ) → old ≡ Some p → p + n ≤ last_tick → new ≡ Some (p + n)
 

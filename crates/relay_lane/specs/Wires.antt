@@ -63,8 +63,7 @@ pub record ExchangesOn (number : ℕ) (ws : List Write) (a : Answer) (o p : Outs
 abbrev pub IsNext : ℕ → Outside → Type 0
 IsNext number o = number ≡ from_one (length o.requests)
 
--- if the wire describes the outside: for each outside that fitted before the call, one fits after it to which it
--- leads
+-- if the wire describes the outside: each outside that fitted before the call leads to one that fits after it
 abbrev pub Shows : {S : Type 0} → Bool → (S → Outside → Type 0) → S → S → (Outside → Outside → Type 0) → Type 0
 Shows describes fits old new R = IsTrue describes → (o : Outside) → fits old o → (p : Outside) × fits new p × R o p
 

@@ -5,7 +5,7 @@ ghost use Rattle.relay_lane.specs.Reach.{WorkIsReached, ReachedIsOrderly};
 ghost use Rattle.relay_lane.specs.Laws.{NothingIsOut, TakeKeepsOut, TurnsKeep, WorksOn, LeftAtMost};
 ghost use Rattle.relay_lane.specs.Laws.{LeftIsTries};
 
-/// Nothing of a new lane is outstanding, and it fits every opening, in which nothing was sent and
+/// A new lane has nothing outstanding, and it fits every opening, in which nothing was sent and
 /// every stored version is below the first one assigned; whatever message it takes, what is
 /// outstanding is unchanged, and it still fits. So a lane that only took messages and worked with
 /// [`crate::pump`], [`crate::collect`], [`crate::make_room`] and [`crate::drain`] satisfies their
@@ -31,10 +31,10 @@ pub fn requests_are_bounded()
     ensures tries { LeftIsTries }
 {}
 
-/// Whatever the wire returns, even if it describes no outside: a new lane is reachable, and so is
-/// the lane after each message and each turn, so a lane that only took messages and worked is
-/// reachable. Then what is held and in flight is what was taken, with the versions assigned; no
-/// document is in flight twice; and the counts add up.
+/// Whatever the wire returns, even if it does not describe the outside: a new lane is reachable,
+/// and so is the lane after each message and each turn, so a lane that only took messages and
+/// worked is reachable. Then what is held and in flight is what was taken, with the versions
+/// assigned; no document is in flight twice; and the counts add up.
 pub fn lanes_stay_orderly()
     ensures fresh { FreshIsReached }
     ensures take { TakeIsReached }

@@ -41,8 +41,8 @@ pub enum WireFault {
 /// The way from a lane to an index. Requests are identified by number, from 1; a number is
 /// outstanding from a `send` that returns `Ok` until its `receive`.
 ///
-/// A wire may describe the outside: then, for each outside that fits it before a call, one fits it
-/// after the call to which the call led. If it does not, `describes` says so, and `fits` has no
+/// A wire may describe the outside: then each outside that fits it before a call leads, by that
+/// call, to one that fits it afterwards. If it does not, `describes` says so, and `fits` has no
 /// meaning.
 pub trait Wire {
     /// The outstanding numbers.

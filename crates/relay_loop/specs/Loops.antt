@@ -83,7 +83,7 @@ IsExchange lost ws old new (Err fault.Memory) = (ran : ℕ) × RunsFirst ran old
 abbrev pub Receives : ℕ → List Write → Loop → Loop → Result WireReply WireFault → Type 0
 Receives number ws old new result = IsExchange (is_lost number old) ws (server old) (server new) result
 
--- exactly these are outstanding now, and the same replies are to be lost
+-- the request with this number is no longer outstanding, and the same replies are to be lost
 pub record TakesIn (number : ℕ) (old new : Loop) : Type 0 where
   pub out : new.out ≡ besides number old.out
   pub lost : new.lost ≡ old.lost
@@ -112,8 +112,8 @@ pub record Fits (w : Loop) (o : Outside) : Type 0 where
   pub shows : Shows o w.index
   pub out : AreOut w.out o
 
--- there is an outside with nothing sent that fits, and each such outside fits that has the versions and the lists of
--- the index
+-- an outside in which nothing was sent fits, and so does each such outside that has the versions and the lists of the
+-- index
 pub record Opens (w : Loop) : Type 0 where
   pub opening : Outside
   pub opens : IsOpening opening
@@ -155,7 +155,7 @@ pub record IsRefused (ws : List Write) (old new : Server) (status : ℕ) (text :
 abbrev pub IsServed : List Write → Server → Server → ℕ → List ℕ → Type 0
 IsServed ws old new status text = Serves ws old new status text ⊎ IsRefused ws old new status text
 
--- exactly the first writes were run
+-- exactly the first few writes, perhaps none or all, were run
 abbrev pub Stops : List Write → Server → Server → Type 0
 Stops ws old new = (ran : ℕ) × RunsFirst ran old ws new
 

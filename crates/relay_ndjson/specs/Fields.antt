@@ -27,7 +27,7 @@ pub record HoldsMembers (m : Metadata) (ms : Members) : Type 0 where
   pub version_type : IsLeafOf m.version_type (get_member (codes "version_type") ms)
   pub has_other : m.has_other ≡ not (all_names is_field ms)
 
--- the text says this action, with these metadata
+-- the text says this action, with this metadata
 abbrev pub SaysAction : List ℕ → ActionKind → Metadata → Type 0
 SaysAction text a m =
     IsUtf8 text × (d : Data) × (read text ≡ Some d) × (ms : Members) × (d ≡ object (member (kind_name a) (object ms) no_members)) × HoldsMembers m ms

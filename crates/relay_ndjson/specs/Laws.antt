@@ -84,7 +84,7 @@ BulkTextIsBulk = (ws : List Write) → AreDealt ws → IsBulk (text_of ws) ws
 abbrev pub OneBulk : Type 0
 OneBulk = (bytes : List ℕ) (ws vs : List Write) → IsBulk bytes ws → IsBulk bytes vs → ws ≡ vs
 
--- and no fault
+-- a body with a list of writes has no fault
 abbrev pub NoFaultInBulk : Type 0
 NoFaultInBulk = (bytes : List ℕ) (ws : List Write) (at : ℕ) (k : LineKind) → IsBulk bytes ws → BreaksBulk bytes at k → ⊥
 

@@ -26,7 +26,7 @@ pub record LineReading : Type 0 where
 abbrev pub holds_end : List ℕ → Bool
 holds_end bytes = list_any (λ b. b == 10) bytes
 
--- a line with this text was taken and counted; or none was left; or why none was taken, with its number
+-- a line with this text was taken and counted; or none was left; or this is why none was taken, with the line's number
 abbrev pub TakesNext : Option (List ℕ) → Option (List ℕ) → ℕ → ℕ → List ℕ → Result Bool InputFault → Type 0
 TakesNext old new count after text (Ok true) = TakesText old new text × (after ≡ one_more count)
 TakesNext old new count after text (Ok false) = IsAtEnd old × (new ≡ old) × (after ≡ count)

@@ -26,7 +26,7 @@ EndsLinesAt ends to bytes =
 abbrev pub HoldsFeedFrom : ℕ → List ℕ → Type 0
 HoldsFeedFrom start bytes = (feed : ℕ) × (start ≤ feed) × (feed < length bytes) × (slice_index bytes feed ≡ 10)
 
--- `raw` is a line before its line feed: the text, and maybe one carriage return
+-- `raw` is a line before its line feed: the text, possibly followed by one carriage return
 abbrev pub IsRaw : List ℕ → List ℕ → Type 0
 IsRaw text raw = (raw ≡ text ++ 13 ∷ []) ⊎ ((raw ≡ text) × (slice_index raw (length raw - 1) ≢ 13))
 
@@ -72,8 +72,8 @@ abbrev pub is_read : LineKind → Bool
 is_read kind.Read = true
 is_read other = false
 
--- a fault of the first line: nothing beyond this line was used, and if a read failed it was inside the line, and what
--- is held does not end it
+-- a fault of the first line: nothing beyond this line was used; and if a read failed, it failed inside the line, and
+-- what is held does not end the line
 pub record StopsInLine (old new : Option (List ℕ)) (held : List ℕ) (k : LineKind) : Type 0 where
   pub used : List ℕ
   pub rest : old ≡ prepend_known used new

@@ -55,7 +55,7 @@ index_of default metadata = text_or default (get (codes "_index") metadata)
 
 -- ---- the grammar
 
--- the metadata name a document
+-- the metadata names a document
 abbrev pub IsDocument : Option (List ℕ) → Data → List ℕ → List ℕ → Type 0
 IsDocument default m index id = (has_only is_document m ≡ true) × (index_of default m ≡ Some index) × (id_of m ≡ Some id)
 
@@ -64,22 +64,22 @@ abbrev pub Asks : Option (List ℕ) → Data → ActionKind → List ℕ → Lis
 Asks default d a index id =
     (ms : Members) × (d ≡ object (member (kind_name a) (object ms) no_members)) × IsDocument default (object ms) index id
 
--- the text does
+-- the text asks for an action on a document
 abbrev pub Says : Option (List ℕ) → List ℕ → ActionKind → List ℕ → List ℕ → Type 0
 Says default text a index id = IsUtf8 text × (d : Data) × (read text ≡ Some d) × Asks default d a index id
 
 -- ---- the first fault, in the order of the table
 
--- a fault if there is nothing, otherwise what follows
+-- a fault if the value is missing, otherwise the fault of the value
 abbrev pub fault_or : {A : Type 0} → LineKind → (A → Option LineKind) → Option A → Option LineKind
 fault_or k f None = Some k
 fault_or k f (Some a) = f a
 
--- of an id, if it is one
+-- the fault of an id, or that it is missing
 abbrev pub id_fault : List ℕ → Option (List ℕ) → Option LineKind
 id_fault index = fault_or kind.MissingId (λ id. option_map kind.Action (key_fault index id))
 
--- of metadata whose members are allowed
+-- the fault of metadata whose members are allowed
 abbrev pub document_fault : Option (List ℕ) → Data → Option LineKind
 document_fault default m = fault_or kind.MissingIndex (λ index. id_fault index (id_of m)) (index_of default m)
 

@@ -91,8 +91,8 @@ IsFault default old count e =
 
 -- ---- where the reader stops
 
--- this many lines were taken, the beginning of an operation: blank lines, or these and the line of
--- an index action
+-- this many lines were taken, the beginning of an operation: blank lines, possibly followed by the line of an index
+-- action
 abbrev pub TakesBeginning : Option (List ℕ) → Option (List ℕ) → Option (List ℕ) → ℕ → Type 0
 TakesBeginning default old new count =
     ((count ≤ blank_limit) × TakesBlank count old new)

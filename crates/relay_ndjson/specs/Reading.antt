@@ -77,7 +77,7 @@ Answers old new (Ok (Some op)) = (n : ℕ) × Takes old new n op
 Answers old new (Ok None) = Ends old new
 Answers old new (Err e) = Fails old new e
 
--- after the end there is none, and after a fault `Failed` is returned with its line
+-- after the end there are no more operations, and after a fault `Failed` is returned with its line
 abbrev pub Steps : Phase → Reading → Reading → Result (Option Operation) InputFault → Type 0
 Steps phase.Open old new result = Answers old new result
 Steps phase.Ended old new result = (result ≡ Ok None) × (new ≡ old)

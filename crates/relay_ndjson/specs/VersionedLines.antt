@@ -28,7 +28,7 @@ is_external m = unwrap_or (option_map (λ t. bytes_eq t (codes "external")) (opt
 
 -- ---- the grammar
 
--- the metadata name a document and an external version for it
+-- the metadata names a document and an external version for it
 abbrev pub IsVersioned : Data → List ℕ → List ℕ → ℕ → Type 0
 IsVersioned m index id version =
     (has_only is_field m ≡ true) × (version_of m ≡ Some version) × (is_external m ≡ true) × (index_of None m ≡ Some index) × (id_of m ≡ Some id)
@@ -38,7 +38,7 @@ abbrev pub AsksVersioned : Data → ActionKind → List ℕ → List ℕ → ℕ
 AsksVersioned d a index id version =
     (ms : Members) × (d ≡ object (member (kind_name a) (object ms) no_members)) × IsVersioned (object ms) index id version
 
--- the text does
+-- the text asks for an action on a document, at a version
 abbrev pub SaysVersioned : List ℕ → ActionKind → List ℕ → List ℕ → ℕ → Type 0
 SaysVersioned text a index id version = IsUtf8 text × (d : Data) × (read text ≡ Some d) × AsksVersioned d a index id version
 

@@ -18,7 +18,7 @@ use std::alloc::Global;
 /// The writes of a body. Each line ends with a line feed, one carriage return before it is dropped,
 /// and no line is blank; an action line has the members `_index`, `_id`, `version` and
 /// `version_type`, and an index action is followed by its source. An empty body has no writes. The
-/// fault names the first bad line and no writes are returned, or an allocation failed.
+/// fault names the first bad line, or says that an allocation failed; no writes are returned then.
 pub fn read_bulk(alloc: Global, body: &[u8]) -> Result<Vec<Write>, BulkFault>
     ensures ok { IfOk result (λ ws. IsBulk body.now ws.items) }
     ensures err { IfErr result (IsBulkFault body.now) }

@@ -15,7 +15,7 @@ pub enum LineKind {
     NotOneAction,
     /// The member is named neither `index` nor `delete`.
     UnsupportedAction,
-    /// The metadata have a member other than `_index`, `_id`, `version` and `version_type`.
+    /// The metadata has a member other than `_index`, `_id`, `version` and `version_type`.
     UnsupportedField,
     /// `_index` is absent and there is no default, or it is not a string.
     MissingIndex,

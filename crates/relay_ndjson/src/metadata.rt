@@ -68,7 +68,7 @@ impl<'t> Fields<'t> for Metadata<'t> {
     }
 }
 
-/// The document of metadata that have only allowed members.
+/// The document of metadata that has only allowed members.
 pub fn document_of<'t>(
     alloc: Global,
     default_index: Option<&'t str>,

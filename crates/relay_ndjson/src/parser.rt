@@ -68,9 +68,9 @@ impl<'a> Parser<'a> {
 
     /// The next operation, or `None` at the end. The fault names the first line that breaks the
     /// producer grammar, or the line that was being read when a read or an allocation failed. At
-    /// most the bad line and 64 KiB more are read. A failed read is not retried; no whole operation
-    /// was unread before it. After `None`, further calls return `None`; after a fault, they return
-    /// `Failed` with its line. Neither reads.
+    /// most the bad line and 64 KiB more are read. A failed read is not retried; what had been read
+    /// before it does not hold a further whole operation. After `None`, further calls return
+    /// `None`; after a fault, they return `Failed` with its line. Neither reads.
     pub fn next<R: ByteIn>(
         &mut self,
         reader: &mut R,

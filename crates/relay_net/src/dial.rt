@@ -91,7 +91,7 @@ impl<R: Net> Dial<StdStream<R::Stream>> for TcpDial<R> {
     /// system does, or within the limit.
     ///
     /// `DialFault`: the address is invalid, its name is unknown, none responds, the system has no
-    /// socket, or the limit cannot be set.
+    /// socket left, or the limit cannot be set.
     fn dial(&mut self) -> Result<StdStream<R::Stream>, DialFault>
         ensures count { self.new.1 ≡ (if is_ok result then self.old.1 else one_more self.old.1) }
         ensures dialled { self.new.2 ≡ one_more self.old.2 }

@@ -9,7 +9,7 @@ use std::time::{Clock, Duration, Instant};
 
 /// A dial that keeps trying, once a second, until a number of seconds has passed. Contracts see the
 /// dial that it uses, for how many seconds it tries, how many calls failed and how many were made;
-/// the counts saturate at 2^64 - 1. All its tries are one call.
+/// the counts saturate at 2^64 - 1. A call counts once, however often it tries.
 #[derive(Drop)]
 pub struct PatientDial<D, C: Clock> {
     dial: D,
@@ -28,8 +28,7 @@ impl<D, C: Clock> Model for PatientDial<D, C> {
 }
 
 impl<D, C: Clock> PatientDial<D, C> {
-    /// A dial that tries with this dial for `patience` seconds, by this clock. With 0 it tries
-    /// once.
+    /// A dial that tries this one for `patience` seconds, by this clock. With 0 it tries once.
     pub fn new(dial: D, clock: C, patience: u32) -> PatientDial<D, C>
         ensures { result ≡ (dial, patience, 0, 0) }
     {
@@ -73,8 +72,8 @@ impl<S, D: Dial<S>, C: Clock> Dial<S> for PatientDial<D, C> {
 
     /// The first stream that a try of the dial returns. The first try is made immediately, and at
     /// most `patience` more follow, each a second after the previous one, as long as the seconds
-    /// since the start of the call are below `patience`. Without a clock only their number ends
-    /// them.
+    /// since the start of the call are below `patience`. If the clock cannot be read, only their
+    /// number is limited.
     ///
     /// `DialFault`: each try failed.
     fn dial(&mut self) -> Result<S, DialFault>

@@ -15,7 +15,7 @@ use std::marker::Model;
 use std::sync::Wait;
 
 /// The control's handle. The control is a sender like the producers, numbered one above the last of
-/// them, which sends no operations. Contracts see its number and its end of each lane's queue.
+/// them, but sends no operations. Contracts see its number and its end of each lane's queue.
 ///
 /// Once a lane's queue reports that the lane is gone, the lane is marked, and nothing more is sent
 /// to it.

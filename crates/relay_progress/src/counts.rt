@@ -6,7 +6,7 @@ use std::sync::atomic::{AtomicU64, Ordering};
 /// Why no connection can be made.
 #[derive(Clone, Copy, Debug, PartialEq, Eq)]
 pub enum Trouble {
-    /// None is known.
+    /// No trouble is known.
     None,
     /// Nobody listens at the address.
     Refused,
@@ -31,7 +31,7 @@ impl Trouble {
     }
 }
 
-/// The counts of a run. Each is read by itself, so together they need not be of the same moment.
+/// The counts of a run. Each is read separately, so they need not all be from the same moment.
 #[derive(Drop)]
 pub struct Counts {
     read: AtomicU64,
@@ -77,14 +77,14 @@ impl Counts {
         self.operations.fetch_add(operations, Ordering::SeqCst);
     }
 
-    /// Counts an answer that settled these many operations, and did not settle the others.
+    /// Counts an answer that settled `settled` operations, and did not settle `others`.
     pub fn add_answer(&self, settled: u64, others: u64) {
         self.answers.fetch_add(1, Ordering::SeqCst);
         self.settled.fetch_add(settled, Ordering::SeqCst);
         self.add_loss(others);
     }
 
-    /// Counts a request that was lost, and did not settle these many operations.
+    /// Counts a request that was lost, and so did not settle this many operations.
     pub fn add_loss(&self, others: u64) {
         self.ended.fetch_add(1, Ordering::SeqCst);
         self.repeats.fetch_add(others, Ordering::SeqCst);

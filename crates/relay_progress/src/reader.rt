@@ -20,7 +20,7 @@ impl<S> Model for CountedReader<S> {
 }
 
 impl<S> CountedReader<S> {
-    /// A reader that counts in these counts.
+    /// A reader that adds to these counts.
     pub fn new(reader: S, counts: Option<Shared>) -> CountedReader<S>
         ensures { result ≡ reader }
     {

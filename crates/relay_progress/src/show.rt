@@ -20,7 +20,7 @@ pub struct Show {
     pub size: Option<u64>,
 }
 
-// How often the counts are read, in milliseconds, and after how many times a line is written.
+// The time between two looks at the counts, in milliseconds, and the number of looks per line.
 const LOOK: u64 = 100;
 
 const LOOKS_A_LINE: u32 = 10;
@@ -34,9 +34,9 @@ struct Seen {
     trouble: Trouble,
 }
 
-/// Writes the progress of a run until every sender of `ended` is gone, and once more then: a line
-/// every second, if asked for, and immediately that no connection can be made, or when one is made
-/// again. What cannot be written or allocated is left out.
+/// Writes the progress of a run until every sender of `ended` is gone, and once more at the end: a
+/// line every second if asked for, and without delay that no connection can be made, or that one
+/// was made again. What cannot be written or allocated is left out.
 pub fn show_progress<R: Wait + Clock, E: ByteOut>(
     rt: &R,
     alloc: Global,

@@ -25,7 +25,7 @@ impl<W> Model for CountedWire<W> {
 }
 
 impl<W> CountedWire<W> {
-    /// A wire that counts in these counts. It does not allocate.
+    /// A wire that adds to these counts. It does not allocate.
     pub fn new(alloc: Global, wire: W, counts: Option<Shared>) -> CountedWire<W>
         ensures { result ≡ wire }
     {

@@ -25,7 +25,7 @@ pub record OfSender : Type 0 where
   pub closed : Bool
 
 -- what the taker's pass knows: the number of places, the number of senders that were made, what was taken, and what
--- the senders sent that were met
+-- the senders that were met sent
 pub record OfTaker : Type 0 where
   pub capacity : ℕ
   pub senders : ℕ
@@ -45,7 +45,7 @@ pub record IsUnmade (history : History) (sender : ℕ) : Type 0 where
   pub no_pass : history.pass_of sender ≡ none
   pub nothing : mail_of sender history.log ≡ []
 
--- a sender that was met has no pass any more, is closed, and sent what the log has of it
+-- a sender that was met no longer has a pass, is closed, and sent what the log has of it
 pub record WasMet (history : History) (senders : ℕ) (met : SentList) : Type 0 where
   pub made : met.sender < senders
   pub no_pass : history.pass_of met.sender ≡ none
@@ -53,7 +53,7 @@ pub record WasMet (history : History) (senders : ℕ) (met : SentList) : Type 0 
   pub done : HasDone met.sent
 
 -- the taker's pass is the only one of its kind; it knows what was taken, that later senders are not made, and what
--- the senders sent that it met
+-- the senders that it met sent
 pub record FitsTaker (history : History) (pass : ℕ) (known : OfTaker) : Type 0 where
   pub places : known.capacity ≡ history.capacity
   pub own : pass ≡ history.taker

@@ -40,7 +40,7 @@ sent_of (Sender capacity sender sent closed) = sent
 sent_of (Taker capacity senders taken met) = []
 sent_of Met = []
 
--- the number of senders that the taker's pass made, what it took, and what the senders sent that it met
+-- the number of senders that the taker's pass made, what it took, and what the senders that it met sent
 abbrev pub senders_of : Knowledge → ℕ
 senders_of (Sender capacity sender sent closed) = 0
 senders_of (Taker capacity senders taken met) = senders

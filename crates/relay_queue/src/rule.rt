@@ -40,10 +40,10 @@ pub enum Knowledge {
         senders: u64,
         /// What it took.
         taken: LinkedList<Mail>,
-        /// What those senders sent whose closed ends it met.
+        /// What the senders whose closed ends it met had sent.
         met: LinkedList<SentList>,
     },
-    /// The pass of a closed end that was met knows nothing any more.
+    /// Nothing: the pass of a closed end that was met.
     Met,
 }
 

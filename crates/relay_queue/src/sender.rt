@@ -34,7 +34,7 @@ pub(crate) fn pause(turn: u32) {
 
 /// A sender's end of a queue. Contracts see its queue, its number and the list of what it sent.
 ///
-/// Until it is dropped, the taker learns of no disconnect.
+/// Until this end is dropped, the taker learns of no disconnect.
 #[derive(Drop)]
 pub struct LanePut {
     pub(crate) channel: MailSender,
@@ -198,7 +198,7 @@ impl LanePut {
 /// A sender's end after the close, to be met with what the taker took. Contracts see it as a
 /// [`LanePut`].
 ///
-/// It keeps its end of the channel: until it is dropped, the taker learns of no disconnect.
+/// It keeps its end of the channel, and until it is dropped, the taker learns of no disconnect.
 #[derive(Drop)]
 pub struct ClosedPut {
     pub(crate) channel: MailSender,

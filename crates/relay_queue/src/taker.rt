@@ -64,8 +64,8 @@ impl LaneTake {
     }
 
     /// Takes the message at the front if one is queued, otherwise returns `None`. It does not wait
-    /// and does not allocate. When a message that was sent is seen is not promised; [`Self::take`]
-    /// waits for it. `Gone` is as there.
+    /// and does not allocate. There is no promise about when a message that was sent is seen;
+    /// [`Self::take`] waits for it. `Gone` has the same meaning as there.
     pub fn try_take<R: Wait>(&mut self, rt: &R) -> Result<Option<Mail>, Gone>
         ensures same { (self.new.queue ≡ self.old.queue) × (self.new.senders ≡ self.old.senders) }
         ensures taken { IfOk result
@@ -133,9 +133,10 @@ impl Model for Taken {
 }
 
 impl Taken {
-    /// Compares what was taken with what a closed sender of the same queue sent. For proofs alone,
-    /// this shows that the taker took a prefix of what that sender sent, that the rest is no longer
-    /// than the queue has places, and that it is empty if Done was taken. It does not allocate.
+    /// Compares what was taken with what a closed sender of the same queue sent. In proofs, and
+    /// only there, this shows that the taker took a prefix of what that sender sent, that the rest
+    /// is no longer than the queue has places, and that it is empty if Done was taken. It does not
+    /// allocate.
     pub fn meet(mut self, closed: ClosedPut) -> Taken
         requires { self.queue ≡ closed.queue }
         ensures same { result ≡ self }

@@ -7,7 +7,7 @@ use Rattle.relay_report.specs.declared.names.Named.{Named}
 abbrev pub is_found : List ℕ → Named → Bool
 is_found counts name = nat_lt 0 name.number && nat_le name.number (slice_index counts name.producer)
 
--- the line of the first that is not there
+-- the line of the first name that no input has
 abbrev pub first_missing : List ℕ → List Named → Option ℕ
 first_missing counts [] = None
 first_missing counts (name ∷ more) = if is_found counts name then first_missing counts more else Some name.line

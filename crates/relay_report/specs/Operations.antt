@@ -37,7 +37,7 @@ pub record TakesLines (default old new : Option (List ℕ)) (count : ℕ) (lines
   pub own : HasLines default front new op.0 op.1 lines
   pub count_is : count ≡ blank + line_count op.1
 
--- what is at the front with its lines is an operation of the producer grammar
+-- what is taken from the front with its lines is an operation of the producer grammar
 abbrev pub LinesAreOperations : Type 0
 LinesAreOperations = (default old new : Option (List ℕ)) (count : ℕ) (lines : List ℕ) (t : TakesLines default old new count lines) →
     TakesOperation default old new t.blank t.op

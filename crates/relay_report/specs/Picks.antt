@@ -57,7 +57,7 @@ pub record Picks (names : List Named) (producer : ℕ) (default old before after
   pub stops : Stops (is_named names producer) default rest count items result
   pub written : Writes before after (picked_lines (is_named names producer) 1 items) result
 
--- the number of failed calls of the input; it is left open after a failed write or allocation
+-- the number of failed calls of the input; nothing is promised about it after a failed write or allocation
 abbrev pub ReadsFail : {U : Type 0} → ℕ → ℕ → Result U PickFault → Type 0
 ReadsFail old new (Ok _) = new ≡ old
 ReadsFail old new (Err (fault.Input e)) = new ≡ (if is_read e.kind then one_more old else old)

@@ -86,7 +86,7 @@ fn add_number(
     put(members, alloc, name, Value::from(value))
 }
 
-// Adds the members for the name of the operation. In epoch 0 there is none for the epoch.
+// Adds the members for the name of the operation. In epoch 0 the one for the epoch is omitted.
 fn add_name(alloc: Global, members: &mut Map<String, Value>, name: OpName) -> Result<(), AllocError>
     ensures { OnOk result
         (members_view members.new.entries ≡ and_name name (members_view members.old.entries)) }

@@ -99,7 +99,7 @@ abbrev pub MayAlwaysRun : Type 0
 MayAlwaysRun = (s : Outside) (number place : ℕ) (w : Write) → write_at s.requests number place ≡ Some w →
     (o : RunOutcome) × MayRun s (record { request = number; place = place; outcome = o }) × (IsRefusal o → ⊥)
 
--- while the stored version is not below that of a write, as it is once the write was applied, no run applies it
+-- no run applies a write while the stored version is not below its version, as is the case once it was applied
 abbrev pub NotAppliedAgain : Type 0
 NotAppliedAgain =
     (w : Write) (stored : ℕ) (o : RunOutcome) → w.version ≤ stored → IsOutcomeOf (Some stored) w o →

@@ -5,6 +5,6 @@ use Rattle.std.specs.Prelude.{ℕ, ◌+◌, ◌-◌}
 abbrev pub from_one : ℕ → ℕ
 from_one count = count + 1
 
--- and back
+-- the count from 0 of a request with a number from 1
 abbrev pub from_zero : ℕ → ℕ
 from_zero number = number - 1

@@ -22,7 +22,7 @@ HoldsType e ms = option_map (λ t. t.now) e.text ≡ text_at (codes "type") ms
 abbrev pub told_error : Data → Option (List ℕ)
 told_error d = if is_some (as_null d) then None else Some (error_type d)
 
--- an outcome keeps a prefix of it
+-- an outcome keeps a prefix of the type of an error
 abbrev pub KeepsError : Option (List ℕ) → Option (List ℕ) → Type 0
 KeepsError None kept = kept ≡ None
 KeepsError (Some text) kept = (front : List ℕ) × IsTruncated error_limit text front × (kept ≡ Some front)
@@ -42,7 +42,7 @@ pub record HoldsFields (fields : EntryFields) (ms : Members) : Type 0 where
 
 -- ---- entries
 
--- all of them are valid, or the first invalid one follows these outcomes
+-- all entries are valid, or the first invalid one follows these outcomes
 abbrev pub SayUpTo : Items → List Outcome → Bool → Type 0
 SayUpTo ds os false = AreEntries ds os
 SayUpTo ds os true = IsBadAt ds (length os)

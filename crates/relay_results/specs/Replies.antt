@@ -9,8 +9,8 @@ use Rattle.relay_results.specs.declared.outcome.Outcome.{Outcome}
 use Rattle.relay_results.specs.declared.reading.ReplyFault.{ReplyFault}
 use Rattle.relay_results.specs.declared.reading.ReplyFault.TheVariants as fault
 
--- the bytes are UTF-8, and JSON for this value (RFC 8259, as `serde_json` reads it: nested at most 127 deep, and of
--- members with the same name the last)
+-- the bytes are UTF-8, and JSON for this value (RFC 8259, as `serde_json` reads it: nested at most 127 deep; of members
+-- with the same name the last counts)
 pub record ReadsAs (text : List ℕ) (d : Data) : Type 0 where
   pub utf8 : IsUtf8 text
   pub value : read text ≡ Some d
@@ -75,7 +75,7 @@ pub record IsBulkReply (text : List ℕ) (os : List Outcome) : Type 0 where
   pub items : HasItems value entries
   pub each : AreEntries entries os
 
--- ---- what is no reply
+-- ---- what is not a reply
 
 -- the value is not a valid entry
 abbrev pub IsNoEntry : Data → Type 0

@@ -18,7 +18,7 @@ abbrev pub start_text : ActionKind → List ℕ
 start_text action.Index = codes "{\"index\":{\"_index\":\""
 start_text action.Delete = codes "{\"delete\":{\"_index\":\""
 
--- the member that indexes with types had
+-- the member `_type` if it is given, as it was for indexes with types
 abbrev pub type_text : Option (Bor (List ℕ)) → List ℕ → List ℕ
 type_text None rest = rest
 type_text (Some t) rest = codes "\"_type\":\"" ++ (t.now ++ (codes "\"," ++ rest))

@@ -25,8 +25,8 @@ is_conflict status = status == 409
 abbrev pub is_retried_item : ℕ → Bool
 is_retried_item status = (status == 429) || (status == 503)
 
--- the index, or a gateway before it, cannot serve the request now (429: RFC 6585, section 4; 502, 503 and 504: RFC 9110,
--- sections 15.6.3 to 15.6.5)
+-- the index, or a gateway in front of it, cannot serve the request now (429: RFC 6585, section 4; 502, 503 and 504:
+-- RFC 9110, sections 15.6.3 to 15.6.5)
 abbrev pub is_retried_whole : ℕ → Bool
 is_retried_whole status = ((status == 429) || (status == 502)) || ((status == 503) || (status == 504))
 

@@ -1,7 +1,7 @@
 -- Definitions on lists.
 use Rattle.std.specs.Prelude.{◌≡◌, ◌⊎◌, ℕ, zero, suc, ◌+◌, List, [], ◌∷◌, Bool, true, false}
 
--- it is an element
+-- this is an element of the list
 abbrev pub Mem : {A : Type 0} → A → List A → Type 0
 Mem x [] = ⊥
 Mem x (y ∷ ys) = (x ≡ y) ⊎ Mem x ys
@@ -12,7 +12,7 @@ update n f [] = []
 update zero f (x ∷ xs) = f x ∷ xs
 update (suc n) f (x ∷ xs) = x ∷ update n f xs
 
--- the first list is part of the second, in the same order, maybe with others in between
+-- the elements of the first list occur in the second in the same order, possibly with others in between
 abbrev pub IsSubsequence : {A : Type 0} → List A → List A → Type 0
 IsSubsequence [] ys = Unit {0}
 IsSubsequence (x ∷ xs) [] = ⊥

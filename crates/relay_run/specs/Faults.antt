@@ -17,7 +17,7 @@ line_fault_text line kind.Read = codes "read failed"
 line_fault_text line kind.Memory = codes "out of memory"
 line_fault_text line other = codes "line " ++ decimal line ++ codes ": " ++ name_of other
 
--- the line of a file; there is none for a lane that is gone, which has its own message
+-- the message line for a file; empty for a lane that is gone, which has a message of its own
 abbrev pub file_fault_line : List ℕ → FileFault → List ℕ
 file_fault_line file fault.Open = file ++ codes ": open failed\n"
 file_fault_line file (fault.Feed (feed.Input e)) = file ++ codes ": " ++ line_fault_text e.line e.kind ++ codes "\n"
@@ -30,15 +30,15 @@ file_fault false stop = Some fault.Open
 file_fault true None = None
 file_fault true (Some stop) = Some (fault.Feed stop)
 
--- a file that cannot be opened or read is a device's fault
+-- a file that cannot be opened or read counts as a device fault
 abbrev pub exit_of_file : FileFault → Exit
 exit_of_file fault.Open = exit.Device
 exit_of_file (fault.Feed (feed.Input e)) = exit_of_kind e.kind
 exit_of_file (fault.Feed feed.NumbersSpent) = exit.Input
 exit_of_file (fault.Feed feed.LaneGone) = exit.Done
 
--- of several the one with the highest rank is the exit status: a failed allocation, a device, an input, operations
--- reported
+-- of several exit statuses the one with the highest rank is used; from the highest: a failed allocation, a device
+-- fault, an input fault, a usage error, reported operations
 abbrev pub rank : Exit → ℕ
 rank exit.Done = 0
 rank exit.Reported = 1
@@ -61,14 +61,14 @@ abbrev pub worse_by : Exit → Option FileFault → Exit
 worse_by end None = end
 worse_by end (Some f) = worse end (exit_of_file f)
 
--- for files, in order, each with whether it was opened and what stopped its producer
+-- the messages for files, in order, given for each whether it was opened and what stopped its producer
 abbrev pub faults_text : List (List ℕ) → List Bool → List (Option FeedFault) → List ℕ
 faults_text [] opened stops = []
 faults_text (file ∷ files) [] stops = []
 faults_text (file ∷ files) (was ∷ opened) [] = []
 faults_text (file ∷ files) (was ∷ opened) (stop ∷ stops) = said_of file (file_fault was stop) ++ faults_text files opened stops
 
--- the exit status after them, if it would have been this one
+-- the exit status after these faults, if it would otherwise have been this one
 abbrev pub exit_of_files : Exit → List Bool → List (Option FeedFault) → Exit
 exit_of_files end [] stops = end
 exit_of_files end (was ∷ opened) [] = end

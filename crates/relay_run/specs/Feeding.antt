@@ -19,7 +19,7 @@ after_puts s [] = s
 after_puts s (op ∷ ops) = after_puts (after_put op.0 op.1 s) ops
 
 -- Why no more was put: only blank lines were left; or what follows has a fault, or a read or an allocation for it
--- failed; or there is one more operation, for which there is no number, or whose lane is gone.
+-- failed; or there is one more operation, but no number is left for it or its lane is gone.
 abbrev pub Stops : Reading → Reading → ProducerState → ProducerState → Result Unit FeedFault → Type 0
 Stops rest new fed after (Ok u) = Ends rest new × (after ≡ fed)
 Stops rest new fed after (Err (fault.Input e)) = Fails rest new e × (after ≡ fed)
@@ -47,8 +47,8 @@ FeedsNext old new before after (Ok next.Put) =
 FeedsNext old new before after (Ok next.Ended) = Ends old new × (after ≡ before)
 FeedsNext old new before after (Err e) = Stops old new before after (Err e)
 
--- There are operations that were taken from the front of the input, and that the producer put, one after another in
--- that order; and this is why there were no more.
+-- Some operations were taken from the front of the input, and the producer put them in that order; the result says why
+-- there were no more.
 pub record Feeds (old new : Reading) (before after : ProducerState) (result : Result Unit FeedFault) : Type 0 where
   pub ops : List Operation
   pub rest : Reading

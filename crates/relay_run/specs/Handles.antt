@@ -21,11 +21,11 @@ module _ {S : Type 0} where
   all_given index readers [] = []
   all_given index readers (p ∷ ps) = (p, first_reader readers, index) ∷ all_given index (other_readers readers) ps
 
-  -- a thread that was given this has ended like this
+  -- a thread that was given this has ended with this closed producer and this fault
   abbrev pub EndsFed : (S → Option (List ℕ)) → (S → ℕ) → Given S → ClosedProducerState → Option FeedFault → Type 0
   EndsFed left failed g closed fault = IsFed left failed g.2 g.1 g.0 closed fault
 
-  -- all of them have, in order
+  -- this holds for all threads, in order
   abbrev pub AllEndFed : (S → Option (List ℕ)) → (S → ℕ) → List (Given S) → List ClosedProducerState → List (Option FeedFault) → Type 0
   AllEndFed left failed [] [] [] = Unit {0}
   AllEndFed left failed [] [] (f ∷ fs) = ⊥

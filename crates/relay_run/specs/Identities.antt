@@ -4,7 +4,7 @@ use Rattle.relay_queue.specs.Ends.{Queue}
 use Rattle.relay_producer.specs.Ends.{identities, open_puts, closed_puts}
 use Rattle.relay_producer.specs.States.{ProducerState, ClosedProducerState}
 
--- which producer it is, and which queue each of its ends is of
+-- which producer it is, and which queue each of its ends belongs to
 abbrev pub Identity : Type 0
 Identity = ℕ × List (Queue × ℕ)
 

@@ -41,7 +41,7 @@ exit_of_reports [] = exit.Done
 exit_of_reports (r ∷ rs) = exit.Reported
 
 module _ {W : Type 0} where
-  -- the sum of all lanes so far and this one; it saturates
+  -- the sum of a count over all lanes, on top of the sum so far; it saturates
   abbrev pub total : (LaneSummary W → ℕ) → ℕ → List (LaneSummary W) → ℕ
   total count sum [] = sum
   total count sum (s ∷ ss) = total count (saturating_count (sum + count s)) ss
@@ -66,7 +66,7 @@ start_fault_text start.WireCount = codes "start: WireCount\n"
 start_fault_text start.Memory = codes "start: Memory\n"
 start_fault_text start.Thread = codes "start: Thread\n"
 
--- the name of a fault at the end
+-- the name of a fault of `finish`
 abbrev pub kind_name : FinishFaultKind → List ℕ
 kind_name kind.LaneMemory = codes "LaneMemory"
 kind_name kind.LaneGone = codes "LaneGone"

@@ -22,13 +22,13 @@ Written = Option (List ℕ) × ℕ
 abbrev pub IsSaid : List ℕ → Written → Written → Type 0
 IsSaid text old new = FailedSince old.1 new.1 ⊎ ((new.0 ≡ append_known old.0 text) × (new.1 ≡ old.1))
 
--- a lane that is gone is a device's fault
+-- a lane that is gone counts as a device fault
 abbrev pub exit_of_finish : FinishFaultKind → Exit
 exit_of_finish kind.LaneMemory = exit.Memory
 exit_of_finish kind.LaneGone = exit.Device
 exit_of_finish kind.Memory = exit.Memory
 
--- a failed write of the summary has a message, and is a device's fault
+-- a failed write of the summary has a message, and counts as a device fault
 abbrev pub failed_text : List ℕ
 failed_text = codes "write failed\n"
 
@@ -39,7 +39,7 @@ SaysSummary lanes reports before out out' err err' end =
     × (((out'.0 ≡ append_known out.0 text) × (out'.1 ≡ out.1) × (err' ≡ err) × (end ≡ worse before reported))
     ⊎ (FailedSince out.1 out'.1 × IsSaid failed_text err err' × (end ≡ worse before exit.Device)))
 
--- The faults of the files were written before, in this text. If the relay did not finish well, a message followed,
+-- The faults of the files were written first, as this text. If the relay did not finish well, a message followed,
 -- nothing was written to `out`, and there are no reports; otherwise the summary was written.
 abbrev pub Concludes : {W : Type 0} → List ℕ → Exit → Result (Summary W) FinishFault → List Report → Written → Written → Written → Written → Exit → Type 0
 Concludes text before (Ok summary) reports out out' err err' end =
@@ -53,7 +53,7 @@ abbrev pub file_failed_text : List ℕ → List ℕ → List ℕ
 file_failed_text name what = name ++ codes ": " ++ what ++ codes " failed\n"
 
 -- The reports were written to the file with this name, one object per line, and there was no message; or a write of
--- it failed, which had a message, and is a device's fault.
+-- it failed, which had a message, and counts as a device fault.
 abbrev pub SavesReports : List ℕ → List Report → Exit → Written → Written → Written → Written → Exit → Type 0
 SavesReports name reports before file file' err err' end =
     ((file'.0 ≡ append_known file.0 (flat_map saved_line reports)) × (file'.1 ≡ file.1) × (err' ≡ err) × (end ≡ before))

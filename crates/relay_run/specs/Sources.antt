@@ -12,11 +12,11 @@ abbrev pub is_standard : Source → Bool
 is_standard (source.File f) = false
 is_standard (source.Standard s) = true
 
--- how many of these names are this one
+-- how many of these names equal this one
 abbrev pub named_count : List ℕ → List (List ℕ) → ℕ
 named_count wanted names = count_by (λ name. bytes_eq name wanted) names
 
--- whether a path, if there is one, is not one of these and not that of standard input
+-- whether a path, if there is one, is neither one of these nor that of standard input
 abbrev pub stands_apart : Option (List ℕ) → List (List ℕ) → Bool
 stands_apart None names = true
 stands_apart (Some path) names = not (bytes_eq path standard_name) && (named_count path names == 0)

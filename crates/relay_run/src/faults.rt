@@ -12,7 +12,7 @@ use std::alloc::AllocError;
 /// Why not all operations of a file were put.
 #[derive(Clone, Copy, Debug, PartialEq, Eq)]
 pub enum FileFault {
-    /// The file could not be opened. None was put.
+    /// The file could not be opened. No operation was put.
     Open,
     /// What stopped it. All operations before it were put.
     Feed(FeedFault),
@@ -74,7 +74,8 @@ fn append_line_fault(text: &mut Vec<u8>, line: u64, kind: LineKind) -> Result<()
     }
 }
 
-/// The exit status after it. For a lane that is gone it is that of the lane.
+/// The exit status for a file's fault. For a lane that is gone it is `Done`: the fault of
+/// `Relay::finish` decides the exit status then.
 pub fn exit_of_file(fault: FileFault) -> Exit
     ensures { result ≡ exit_of_file fault }
 {
@@ -100,8 +101,8 @@ fn rank(exit: Exit) -> u8
     }
 }
 
-/// The one of two exit statuses that takes precedence: a failed allocation over a device's fault,
-/// that over an input's, and that over reports.
+/// The one of two exit statuses that takes precedence: a failed allocation over a device fault,
+/// that over an input fault, and that over reports.
 pub fn worse(one: Exit, other: Exit) -> Exit
     ensures { result ≡ worse one other }
 {

@@ -15,9 +15,9 @@ pub enum FeedFault {
     /// A line breaks the producer grammar, a read failed, or an allocation for a line did. All
     /// operations before it were put.
     Input(InputFault),
-    /// The producer has put 2^40 operations. The next one was read, and was not put.
+    /// The producer has put 2^40 operations. The next one was read, but not put.
     NumbersSpent,
-    /// The lane of the next operation is gone. The operation was read, and was not put.
+    /// The lane of the next operation is gone. The operation was read, but not put.
     LaneGone,
 }
 

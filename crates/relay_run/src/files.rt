@@ -58,7 +58,7 @@ pub struct RunOptions {
     pub patience: u32,
     /// The path of the file in which the reports are saved, if they are.
     pub report: Option<String>,
-    /// Whether to show on standard error how far the run is.
+    /// Whether to show on standard error how far the run has got.
     pub progress: bool,
 }
 
@@ -86,7 +86,7 @@ impl RunOptions {
         count_named(&self.files, STANDARD_NAME) <= 1
     }
 
-    /// Whether the path for the reports is not one of the files that are read, and not `-`.
+    /// Whether the path for the reports is neither one of the files that are read nor `-`.
     pub fn saves_apart(&self) -> bool
         ensures { result ≡ stands_apart (option_map string_bytes self.now.report)
             (map string_bytes self.now.files.items) }
@@ -98,7 +98,7 @@ impl RunOptions {
     }
 }
 
-// Whether a path is not that of another file, and not `-`.
+// Whether a path is neither that of another file nor `-`.
 fn is_apart(path: &str, files: &[String]) -> bool
     ensures { result ≡ stands_apart (Some path.now) (map string_bytes files.now) }
 {
@@ -204,7 +204,8 @@ fn open_files(
     Ok(sources)
 }
 
-// Their total size in bytes, if each is known. A file that could not be opened has none.
+// Their total size in bytes, if the size of each is known. A file that could not be opened counts
+// as empty.
 fn whole_size(sources: &[Option<Source>]) -> Option<u64> {
     let mut size = 0u64;
     for source in sources {
@@ -218,7 +219,7 @@ fn whole_size(sources: &[Option<Source>]) -> Option<u64> {
 /// A counted reader of a file.
 type Reader = CountedReader<StdStream<Source>>;
 
-// A reader for each that could be opened.
+// A reader for each file that could be opened.
 fn make_readers(
     alloc: Global,
     sources: Vec<Option<Source>>,
@@ -237,7 +238,7 @@ fn make_readers(
     Ok(readers)
 }
 
-// Which of the readers are there.
+// For each file, whether it has a reader, that is, could be opened.
 fn are_opened<S>(alloc: Global, readers: &[Option<S>]) -> Result<Vec<bool>, AllocError>
     ensures { IfOk result (λ v. v.items ≡ map is_some readers.now) }
 {
@@ -268,7 +269,7 @@ fn add_said(text: &mut Vec<u8>, file: &str, fault: Option<FileFault>) -> Result<
     }
 }
 
-// The exit status after it.
+// The exit status after the fault of a file, if there is one.
 fn worse_by(exit: Exit, fault: Option<FileFault>) -> Exit
     ensures { result ≡ worse_by exit fault }
 {
@@ -539,7 +540,8 @@ fn say_start<E: ByteOut>(fault: StartFault, err: &mut E) -> Exit {
     }
 }
 
-// The same, and saves the reports, if asked for, in a file that is created before anything is put.
+// Does the same, and saves the reports, if asked for, in a file that is created before anything is
+// put.
 fn run_all<R, O, E>(
     rt: R,
     host: HostRuntime,
@@ -571,12 +573,12 @@ where
 /// in order, and for a lane that did not finish; on `out` a line for each operation that could not
 /// be settled, by producer and number, and how many were applied, already applied and reported. If
 /// asked for, the reports are also saved: the file for them is created first, and if it cannot be,
-/// nothing is put. If progress is asked for, or standard error is a terminal, it shows meanwhile
-/// how far the run is, or that no connection can be made.
+/// nothing is put. If progress is asked for, standard error shows meanwhile how far the run has
+/// got, and when no connection can be made; a terminal shows the latter in any case.
 ///
 /// The exit status is `Usage` if the options are invalid, name standard input twice, or save the
 /// reports in a file that is read; then nothing is done. Otherwise a failed allocation takes
-/// precedence over a device's fault, that over an input's, and that over reported operations.
+/// precedence over a device fault, that over an input fault, and that over reported operations.
 pub fn run_files<R, O, E>(
     rt: R,
     host: HostRuntime,

@@ -10,10 +10,10 @@ use relay_report::report_text;
 use relay_words::Exit;
 use std::alloc::{AllocError, Global};
 
-/// Saves reports in the file with this name, one object per line, or writes that a write of it
-/// failed, and returns the exit status of a program that would have ended with `exit`.
-/// `AllocError`: allocation failed. Nothing was written to `err`, and nothing to the file either
-/// unless a write of it failed.
+/// Saves reports in the file with this name, one object per line, and says on `err` if a write of
+/// the file failed. Returns the exit status of a program that would otherwise have ended with
+/// `exit`. `AllocError`: allocation failed. Nothing was written to `err`, and nothing to the file
+/// either unless a write of it failed.
 pub fn save_reports<P: ByteOut, E: ByteOut>(
     alloc: Global,
     exit: Exit,

@@ -56,7 +56,7 @@ impl Source {
     }
 }
 
-/// How many of the names are this one.
+/// How many of the names equal this one.
 pub fn count_named(names: &[String], wanted: &str) -> usize
     ensures { result ≡ named_count wanted.now (map string_bytes names.now) }
 {

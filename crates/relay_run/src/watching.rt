@@ -17,8 +17,9 @@ pub(crate) struct Counters {
     pub dials: Option<Shared>,
 }
 
-/// Counts for all of a run if its progress is shown, and for its dials also on a terminal, where
-/// trouble is shown immediately. `AllocError`: allocation failed.
+/// The counts of a run: of everything if its progress is shown, otherwise of its dials alone on a
+/// terminal, where trouble is always shown, and of nothing elsewhere. `AllocError`: allocation
+/// failed.
 pub(crate) fn counters_of(
     alloc: Global,
     progress: bool,

@@ -42,7 +42,7 @@ abbrev pub IsNoLine : ℕ → Option (List ℕ) → Type 0
 IsNoLine count front =
     IsLong front ⊎ ((text : List ℕ) × (rest : Option (List ℕ)) × TakesText front rest text × (line_count ≤ count))
 
--- the same, or no event has it
+-- the next line is too long, or one more than a script may have, or no event has it
 abbrev pub IsNoEvent : ℕ → Option (List ℕ) → Type 0
 IsNoEvent count front =
     IsNoLine count front
@@ -153,7 +153,7 @@ line_fault_by e other = fault.BadLine e.line
 abbrev pub line_fault : InputFault → ScriptFault
 line_fault e = line_fault_by e e.kind
 
--- the next line was taken; or there is none; or why not
+-- the next line was taken; or there is none; or this is why none was taken
 abbrev pub TakesLine : Option (List ℕ) → Option (List ℕ) → ℕ → ℕ → List ℕ → Result Bool ScriptFault → Type 0
 TakesLine old new count after text (Ok true) = TakesText old new text × (after ≡ count + 1) × (after ≤ line_count)
 TakesLine old new count after text (Ok false) = IsAtEnd old × (new ≡ old) × (after ≡ count)
@@ -161,7 +161,7 @@ TakesLine old new count after text (Err (fault.BadLine line)) = (line ≡ count 
 TakesLine old new count after text (Err (fault.Write sent)) = ⊥
 TakesLine old new count after text (Err other) = Unit {0}
 
--- the config of the first line was taken; or why not
+-- the config of the first line was taken; or this is why it was not
 abbrev pub TakesConfig : Option (List ℕ) → Option (List ℕ) → ℕ → Result RelayConfig ScriptFault → Type 0
 TakesConfig old new after (Ok config) =
     (text : List ℕ) × TakesText old new text × IsConfigLine text config × (after ≡ 1)
@@ -175,7 +175,7 @@ HasNoEvent old count (fault.BadLine line) = (line ≡ count + 1) × IsNoEvent co
 HasNoEvent old count (fault.Write sent) = ⊥
 HasNoEvent old count other = Unit {0}
 
--- the event of the next line was taken; or there is no line; or why not
+-- the event of the next line was taken; or there is no line; or this is why none was taken
 abbrev pub TakesEvent : Option (List ℕ) → Option (List ℕ) → ℕ → ℕ → Result (Option Event) ScriptFault → Type 0
 TakesEvent old new count after (Ok (Some e)) =
     (text : List ℕ) × TakesText old new text × IsEventLine text e × (after ≡ count + 1) × (after ≤ line_count)
@@ -198,7 +198,8 @@ abbrev pub fault_at : LineFault → ℕ → ScriptFault
 fault_at bad.Bad line = fault.BadLine line
 fault_at bad.Memory line = fault.Memory
 
--- the event of the next line was taken and played, and its answer was added to a text; or there is none; or why not
+-- the event of the next line was taken and played, and its answer was added to a text; or there is no line; or this is
+-- why none was played
 abbrev pub PlaysNext : Option (List ℕ) → Option (List ℕ) → ℕ → ℕ → World → World → List ℕ → List ℕ → Result Next ScriptFault → Type 0
 PlaysNext old new count after w next text longer (Ok Played) =
     (e : Event) × (line : List ℕ) × TakesEvent old new count after (Ok (Some e)) × PlaysOne w e next line × (longer ≡ text ++ line)

@@ -12,7 +12,7 @@ use relay_words::number_of;
 use relay_world::Event;
 use std::alloc::Global;
 
-/// The event of the text after `put`. `Bad`: there is none. `Memory`: allocation failed.
+/// The event of the text after `put`. `Bad`: no event has this text. `Memory`: allocation failed.
 pub fn read_put(alloc: Global, text: &str) -> Result<Event, LineFault>
     ensures ok { IfOk result (Puts text.now) }
     ensures err { IfErr result (IsPutFault text.now) }

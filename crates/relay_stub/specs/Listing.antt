@@ -17,7 +17,7 @@ applied_line w =
 abbrev pub listing : State → List DocKey → List ℕ
 listing s keys = flat_map (λ key. flat_map applied_line (applied_writes s (document_of key))) keys
 
--- this is the listing of the documents of an index, in their order
+-- this is the listing of the documents of an index, in order
 pub record IsListing (s : State) (text : List ℕ) : Type 0 where
   pub keys : List DocKey
   pub all : AreKeys s keys

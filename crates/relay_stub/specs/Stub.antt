@@ -14,7 +14,7 @@ use Rattle.relay_stub.specs.declared.stub.ServeError.TheVariants as error
 use Rattle.relay_stub.specs.declared.command.StubFault.{StubFault}
 use Rattle.relay_stub.specs.declared.command.StubFault.TheVariants as fault
 
--- all connections were served with an index that was fresh, and this is the server afterwards
+-- all connections were served with an index that was fresh, and this is the index afterwards
 abbrev pub ServesFresh : ℕ → Plan → Listening → Listening → State → Type 0
 ServesFresh requests script from to end = (left : Plan) × Serves requests from (under fresh script) to (under end left) (Ok tt)
 

@@ -49,7 +49,7 @@ pub record Goes (status : ℕ) (text : List ℕ) (c d : Connection) : Type 0 whe
   pub message : WritesText (answer status text false) c.written d.written outcome
   pub failed : d.failed ≡ failed_writing outcome c.failed
 
--- one that is longer than a reply may be was not written
+-- an answer that is longer than a reply may be was not written
 pub record IsTooLong (text : List ℕ) (c d : Connection) : Type 0 where
   pub passes : reply_limit < length text
   pub written : d.written ≡ c.written
@@ -83,7 +83,7 @@ abbrev pub Drops : Server → Server → Connection → Connection → Result (U
 Drops old new c d (Ok u) = (new ≡ old) × (d ≡ c)
 Drops old new c d (Err e) = ⊥
 
--- by what was read
+-- what is done with a connection, by what was read
 abbrev pub Handles : Result (Option HttpRequest) HttpFault → Server → Server → Connection → Connection → Result (Unit {0}) ServeFault → Type 0
 Handles (Ok (Some request)) old new c d result = Meets request old new c d result
 Handles (Ok None) old new c d result = Drops old new c d result
@@ -117,7 +117,7 @@ pub record Visits (from : Listening) (old : Server) (to : Listening) (new : Serv
   pub serves : IsServed before after old new result
   pub back : to ≡ with_done at after
 
--- this many were, one after the other
+-- this many connections were served, one after the other
 abbrev pub VisitsAll : ℕ → Listening → Server → Listening → Server → Type 0
 VisitsAll zero from old to new = (to ≡ from) × (new ≡ old)
 VisitsAll (suc n) from old to new =

@@ -98,8 +98,8 @@ fn run<S: ByteOut + Drop>(
     Ok(())
 }
 
-// Writes an answer, unless it is too long. A fault of the connection is ignored, since it carries
-// nothing more.
+// Writes an answer, unless it is too long. A fault of the connection is ignored, since the
+// connection carries nothing more.
 fn reply<S: ByteOut + Drop>(alloc: Global, conn: &mut Conn<S>, status: u16, text: &str)
     requires phase { IsFalse (is_broken conn.old.phase) }
     requires status { IsAnswerStatus status }

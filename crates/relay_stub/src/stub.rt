@@ -26,8 +26,8 @@ pub enum ServeError {
 /// [`serve_connection`] does. A connection whose request is invalid, or whose answer could not be
 /// written, counts like any other.
 ///
-/// The index and the script go through the requests in order. `Accept`: the listener had no
-/// connection, and those before it were served. `Memory`: an allocation for a connection or for
+/// The index and the script go through the requests in order. `Accept`: a connection could not be
+/// accepted, and those before it were served. `Memory`: an allocation for a connection or for
 /// running its request failed; that connection and those before it were given back.
 ///
 /// [`serve_connection`]: crate::serve_connection

@@ -49,8 +49,8 @@ HasTotals s = length s.core.held + (s.core.applied + s.core.already) + length s.
 abbrev pub IsBelow : ℕ → Outside → Type 0
 IsBelow first o = (k : Document) (u : ℕ) → o.stored k ≡ Some u → u < first
 
--- from each opening that fitted the wire at the start an outside came about that fits it now, for which delivery of
--- what was heard is as promised, if the wire describes it
+-- if the wire describes the outside: each opening that fitted the wire at the start led to an outside that fits it now,
+-- for which delivery of what was heard is as promised
 abbrev pub DeliversFrom : {S : Type 0} → Bool → (S → Outside → Type 0) → S → S → RelayConfig → List Mail → State → Type 0
 DeliversFrom describes fits start now c heard s =
     IsTrue describes → (o : Outside) → fits start o → IsOpening o → IsBelow (first_in c.epoch) o → GoesOn fits now s (puts_of heard) o

@@ -19,9 +19,8 @@ HavePut puts p (c ∷ cs) = HasPut p c.put (closed_puts c.ends) (puts p) × Have
 
 module _ {W : Type 0} (describes : W → Bool) (fits : W → Outside → Type 0) (c : RelayConfig) (puts : ℕ → List Op) where
   -- What a lane has delivered: exactly the operations on its documents that the producers put, each producer's in
-  -- order. Each of them was applied or is reported, and the lane reached that by calls that it may make. For each
-  -- opening that fitted the wire at the start an outside continues it to the end, for which delivery is sound and
-  -- complete.
+  -- order. Each of them was applied or is reported, and the lane reached that by calls that it may make. Each opening
+  -- that fitted the wire at the start is continued to the end by an outside for which delivery is sound and complete.
   pub record DeliveredLane (lane : ℕ) (start : W) (s : LaneSummary W) : Type 0 where
     pub taken : List Op
     pub own : (p : ℕ) → p < c.producers → taken_of taken p ≡ ops_for c.lanes lane (puts p)

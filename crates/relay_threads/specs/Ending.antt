@@ -25,14 +25,14 @@ use Rattle.relay_delivery.specs.Machine.{first_in}
 module _ {W : Type 0} (describes : W → Bool) (fits : W → Outside → Type 0) (c : RelayConfig) where
   -- ---- how the lanes ended
 
-  -- a lane that began with this queue and this wire has ended like this
+  -- this is how a lane that began with this queue and this wire has ended
   pub record EndsOn (queue : Queue) (start : W) (end : LaneEnd W) : Type 0 where
     pub of_queue : end.taken.queue ≡ queue
     pub well_taken : IsWellTaken (c.producers + 1) end.taken.taken
     pub ends : EndsAs (describes start) fits start end.wire c end.taken.taken end.kind end.lane.state
     pub closed : end.kind ≡ Finished → (sender : ℕ) → sender < c.producers + 1 → HasDone (mail_of sender end.taken.taken)
 
-  -- all of them have, in order
+  -- this holds for all lanes, in order
   abbrev pub AllEndOn : List Queue → List W → List (LaneEnd W) → Type 0
   AllEndOn [] [] [] = Unit {0}
   AllEndOn [] [] (e ∷ es) = ⊥
@@ -52,8 +52,8 @@ module _ {W : Type 0} (describes : W → Bool) (fits : W → Outside → Type 0)
   -- ---- delivery
 
   -- An outside fits the wire of the summary and continues the one before. For it delivery of these operations is
-  -- sound and complete, this many requests were sent, and this many operations ended as applied, and as already
-  -- applied, by their answers.
+  -- sound and complete, and the summary's counts are right: of the requests that were sent, and of the operations
+  -- that ended as applied, and as already applied, by their answers.
   pub record Carries (ops : List Op) (s : LaneSummary W) (before : Outside) : Type 0 where
     pub outside : Outside
     pub fitting : fits s.wire outside
@@ -79,7 +79,7 @@ module _ {W : Type 0} (describes : W → Bool) (fits : W → Outside → Type 0)
 
   -- A lane that has finished took from its queue exactly what each sender sent there, each of which has closed and
   -- has not marked the lane. Each operation that it took was applied or is reported, and it reached that by calls
-  -- that it may make. For each opening that fitted the wire at the start an outside continues it to the end.
+  -- that it may make. Each opening that fitted the wire at the start is continued to the end by an outside.
   pub record FinishedLane (rows : List (List ClosedEnd)) (lane : ℕ) (start : W) (s : LaneSummary W) : Type 0 where
     pub messages : List Mail
     pub met : AreMetAt lane 0 messages rows

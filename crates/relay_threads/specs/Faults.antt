@@ -24,7 +24,7 @@ is_gone_kind Finished = false
 is_gone_kind Memory = false
 is_gone_kind Gone = true
 
--- the lane has ended like this
+-- the lane has ended in a way that passes the test
 abbrev pub ends_as : {W : Type 0} → (LaneEndKind → Bool) → List (LaneEnd W) → ℕ → Bool
 ends_as test [] lane = false
 ends_as test (e ∷ es) zero = test e.kind
@@ -36,7 +36,7 @@ is_gone_in [] lane = false
 is_gone_in (e ∷ es) zero = is_gone e
 is_gone_in (e ∷ es) (suc lane) = is_gone_in es lane
 
--- one of them has
+-- one of the closed handles has marked the lane
 abbrev pub is_gone_in_any : List (List ClosedEnd) → ℕ → Bool
 is_gone_in_any [] lane = false
 is_gone_in_any (row ∷ rows) lane = is_gone_in row lane || is_gone_in_any rows lane
@@ -47,7 +47,7 @@ is_gone_lane ends rows lane = ends_as is_gone_kind ends lane || is_gone_in_any r
 
 -- ---- faults
 
--- no lane ended as Memory; nor did one end as Gone, or was marked
+-- no lane ended as Memory; no lane ended as Gone or was marked
 abbrev pub NoneMemory : {W : Type 0} → List (LaneEnd W) → Type 0
 NoneMemory ends = FirstOf (ends_as is_memory ends) (length ends) None
 

@@ -15,7 +15,7 @@ module _ {W : Type 0} where
   abbrev pub wires_of : List (PromisedHandle (LaneEnd W) (LanePromise W)) → List W
   wires_of lanes = map (λ h. h.promise.wire.value) lanes
 
-  -- they have this config, and each queue has its senders
+  -- the lanes have this config, and each queue has its senders
   abbrev pub AreLanesOf : RelayConfig → List (PromisedHandle (LaneEnd W) (LanePromise W)) → Type 0
   AreLanesOf c [] = Unit {0}
   AreLanesOf c (h ∷ hs) = ((h.promise.config.value ≡ c) × (h.promise.take.value.senders ≡ c.producers + 1)) × AreLanesOf c hs

@@ -1,12 +1,12 @@
 -- Lists of lists whose last elements are taken.
 use Rattle.std.specs.Prelude.{◌≡◌, ◌<◌, List, [], ◌∷◌, ◌++◌, length}
 
--- each of them has an element
+-- each list has an element
 abbrev pub HaveSome : {A : Type 0} → List (List A) → Type 0
 HaveSome [] = Unit {0}
 HaveSome (r ∷ rs) = (0 < length r) × HaveSome rs
 
--- each of the old lists is the new one and its last element
+-- each old list is the new one followed by the element that was taken
 abbrev pub LoseLast : {A : Type 0} → List (List A) → List (List A) → List A → Type 0
 LoseLast [] [] [] = Unit {0}
 LoseLast [] [] (x ∷ xs) = ⊥

@@ -13,17 +13,17 @@ use Rattle.relay_threads.specs.declared.summary.LaneSummary.{LaneSummary}
 
 -- ---- one lane's column of closed ends
 
--- it is the closed end of this sender on this queue
+-- this is the closed end of this sender on this queue
 abbrev pub IsClosedOn : Queue → ℕ → ClosedEnd → Type 0
 IsClosedOn queue sender (Closed put) = (put.queue ≡ queue) × (put.sender ≡ sender)
 IsClosedOn queue sender (Gone put) = ⊥
 
--- they are those of the senders p, p + 1 and so on
+-- these are the closed ends of the senders p, p + 1 and so on
 abbrev pub AreClosedOn : Queue → ℕ → List ClosedEnd → Type 0
 AreClosedOn queue p [] = Unit {0}
 AreClosedOn queue p (e ∷ es) = IsClosedOn queue p e × AreClosedOn queue (p + 1) es
 
--- what was taken of this sender is what it sent by this end, which is closed
+-- what was taken from this sender is what it sent by this end, which is closed
 abbrev pub IsMet : ℕ → List Mail → ClosedEnd → Type 0
 IsMet sender taken (Closed put) = mail_of sender taken ≡ put.sent
 IsMet sender taken (Gone put) = ⊥
@@ -35,7 +35,7 @@ AreMet p taken (e ∷ es) = IsMet p taken e × AreMet (p + 1) taken es
 
 -- ---- all lanes
 
--- what each sender sent to this lane, by its end of it
+-- what was taken from this sender is what it sent to the lane, by its end of the lane's queue, which it has
 abbrev pub IsMetAt : Option ClosedEnd → ℕ → List Mail → Type 0
 IsMetAt None sender taken = ⊥
 IsMetAt (Some e) sender taken = IsMet sender taken e

@@ -38,8 +38,8 @@ pub record IsOnPut (c : RelayConfig) (puts : ℕ → List Op) (l : ℕ) (r : Rep
   pub name : r.name ≡ name_of op
   pub document : r.document ≡ document_of op.key
 
--- Whatever the wires returned: each report names an operation of its lane that a producer put, and none is reported
--- twice, by one lane or by two.
+-- Whatever the wires returned: each report names an operation of its lane that a producer put, and no operation is
+-- reported twice, by one lane or by two.
 pub record AreReportedOnce {W : Type 0} (c : RelayConfig) (puts : ℕ → List Op) (lanes : List (LaneSummary W)) : Type 0 where
   pub named : (l : ℕ) (r : Report) → Mem r (reports_at lanes l) → IsOnPut c puts l r
   pub once : (l : ℕ) → AllDistinct (names_of (reports_at lanes l))
@@ -47,7 +47,7 @@ pub record AreReportedOnce {W : Type 0} (c : RelayConfig) (puts : ℕ → List O
 
 -- ---- the outside of a lane
 
--- before its lane begins it is an opening, which fits the wire, and each stored version is below the first one
+-- before its lane begins, the outside is an opening that fits the wire, and each stored version is below the first one
 -- assigned
 pub record BeginsBeside {W : Type 0} (describes : W → Bool) (fits : W → Outside → Type 0) (c : RelayConfig) (start : W) (before : Outside) : Type 0 where
   pub is_described : IsTrue (describes start)
@@ -55,8 +55,9 @@ pub record BeginsBeside {W : Type 0} (describes : W → Bool) (fits : W → Outs
   pub opening : IsOpening before
   pub below : IsBelow (first_in c.epoch) before
 
--- when its lane has ended it fits the wire of the summary and continues what it was: this many requests were sent, by
--- whose answers this many operations ended as applied, and as already applied
+-- after its lane has ended, the outside fits the wire of the summary and continues what it was, and the summary's
+-- counts are right: of the requests sent, and of the operations that ended as applied, and as already applied, by their
+-- answers
 pub record EndsBeside {W : Type 0} (fits : W → Outside → Type 0) (s : LaneSummary W) (before after : Outside) : Type 0 where
   pub fitting : fits s.wire after
   pub continues : Continues before after
@@ -74,7 +75,7 @@ pub record IsTrueTogether (c : RelayConfig) (puts : ℕ → List Op) (taken : �
 
 -- Over all lanes the writes applied to each document are those of distinct operations that were put, each producer's
 -- in order; they were sent by the document's lane, and no other lane's outside has one. Each report has a true cause,
--- by one assignment of versions, which is that of all lanes.
+-- by one assignment of versions, the same for all lanes.
 pub record IsSoundTogether {W : Type 0} (c : RelayConfig) (puts : ℕ → List Op) (lanes : List (LaneSummary W)) (taken : ℕ → List Op) (after : ℕ → Outside) (ops : Document → List Op) : Type 0 where
   pub attribution : (k : Document) → IsAttribution (ops_by c puts) k ((after (lane_of c.lanes k)).applied k) (ops k)
   pub in_order : (k : Document) → IsInProducerOrder (ops_by c puts) (ops k)
@@ -90,7 +91,7 @@ IsCompleteTogether c puts lanes ops =
     (p : ℕ) (o : Op) → Mem o (ops_by c puts p) →
     Mem o (ops (document_of o.key)) ⊎ Mem (name_of o) (names_of (reports_at lanes (lane_of c.lanes (document_of o.key))))
 
--- from these outsides, one for each lane, others came about, for which delivery over all lanes is sound and complete
+-- these outsides, one for each lane, led to others for which delivery over all lanes is sound and complete
 pub record DeliversTogether {W : Type 0} (fits : W → Outside → Type 0) (c : RelayConfig) (puts : ℕ → List Op) (lanes : List (LaneSummary W)) (taken : ℕ → List Op) (before : ℕ → Outside) : Type 0 where
   pub after : ℕ → Outside
   pub ends : (l : ℕ) (s : LaneSummary W) → slice_get lanes l ≡ Some s → EndsBeside fits s (before l) (after l)
@@ -98,9 +99,9 @@ pub record DeliversTogether {W : Type 0} (fits : W → Outside → Type 0) (c : 
   pub sound : IsSoundTogether c puts lanes taken after ops
   pub complete : IsCompleteTogether c puts lanes ops
 
--- There is a summary for each lane. It took exactly what the producers put for it, each producer's in order; each
--- report is on one of these, and none is reported twice. With an outside for each lane that its wire describes,
--- delivery over all lanes is sound and complete.
+-- There is a summary for each lane. The lane took exactly what the producers put for it, each producer's in order; each
+-- report is on one of these operations, and no operation is reported twice. With an outside for each lane that its wire
+-- describes, delivery over all lanes is sound and complete.
 pub record AreDeliveredTogether {W : Type 0} (describes : W → Bool) (fits : W → Outside → Type 0) (c : RelayConfig) (puts : ℕ → List Op) (wires : List W) (lanes : List (LaneSummary W)) : Type 0 where
   pub all_lanes : length lanes ≡ c.lanes
   pub taken : ℕ → List Op

@@ -10,7 +10,7 @@ pub enum StartFault {
     /// The config is not valid.
     #[error("BadConfig")]
     BadConfig,
-    /// The number of wires or of paces is not that of the lanes.
+    /// The number of wires or of paces differs from the number of lanes.
     #[error("WireCount")]
     WireCount,
     /// An allocation for a queue, a lane or a handle failed.

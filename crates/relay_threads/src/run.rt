@@ -18,8 +18,8 @@ use relay_queue::{Gone, LaneTake};
 use std::alloc::AllocError;
 use std::sync::Wait;
 
-// If the lane holds its maximum number of operations, sends and settles until there is room for
-// one.
+// Makes room for one operation if the lane holds its maximum number: sends and settles until there
+// is.
 fn make_place<W: Wire, P: Pace>(
     lane: &mut Lane,
     wire: &mut W,
@@ -260,8 +260,8 @@ fn work<R: Wait, W: Wire, P: Pace>(
 /// of operations, takes one message, and sends what is ready. If no place in flight is free, it
 /// takes at most as many operations as one request carries, and then, or once nothing is queued,
 /// waits for the oldest answer and settles it; after a Tick or a Flush it waits for every answer.
-/// Then it works until nothing is held. It waits for messages, for the wire and for the pace, and
-/// nothing else. However it ends, it first waits for what is in flight and settles it.
+/// Then it works until nothing is held. It waits only for messages, for the wire and for the pace.
+/// However it ends, it first waits for what is in flight and settles it.
 ///
 /// It ends as Memory if the allocation for an operation that it took or for a request failed, and
 /// as Gone if the queue says that all senders are dropped but not all had closed; [`LaneEnd`] says

@@ -56,8 +56,8 @@ pub record IsCarrier (c : Carrier) (for_out for_free : ℕ) : Type 0 where
 
 -- ---- a request is sent
 
--- The free connection that is quiet and was freed last is taken. Those freed after it are dropped: unrequested bytes,
--- or the end, arrived on them.
+-- The quiet free connection that was freed last is taken. Those freed after it are dropped: unrequested bytes, or the
+-- end of the stream, arrived on them.
 pub record TakesFree (old new : List Connection) (c : Connection) : Type 0 where
   pub dropped : List Connection
   pub free : old ≡ new ++ (c ∷ dropped)
@@ -66,7 +66,7 @@ pub record TakesFree (old new : List Connection) (c : Connection) : Type 0 where
 abbrev pub IsFresh : Connection → Type 0
 IsFresh c = (left : Option (List ℕ)) × (written : Option (List ℕ)) × (failed : ℕ) × (c ≡ fresh left written failed)
 
--- So a free connection is picked, and none is dialled; or, if none is left, one is dialled, and it is the fresh one.
+-- So either a free connection is picked and nothing is dialled, or no free one is left and a fresh one is dialled.
 abbrev pub Picks : List Connection → List Connection → ℕ → ℕ → Connection → Type 0
 Picks old new before after c = (TakesFree old new c × (after ≡ before)) ⊎ ((new ≡ []) × IsFresh c × (after ≡ one_more before))
 
@@ -104,7 +104,7 @@ pub record WritesOn (host : List ℕ) (ws : List Write) (c d : Connection) (resu
   pub writes : Writes host ws c d write
   pub told : IsToldWritten write result
 
--- the request is then outstanding on that connection, which a fault drops
+-- the request is then outstanding on that connection; after a fault the connection is dropped
 abbrev pub out_after : ℕ → Result (Unit {0}) WireFault → Connection → List (ℕ × Connection) → List (ℕ × Connection)
 out_after number (Ok u) d out = (number, d) ∷ out
 out_after number (Err f) d out = out
@@ -170,7 +170,8 @@ abbrev pub free_after : Result HttpReply HttpFault → Connection → List Conne
 free_after (Ok reply) d free = if reply.keep && (length d.held == 0) then free ++ d ∷ [] else free
 free_after (Err f) d free = free
 
--- Receiving the reply to a number: it is read from the connection of that request, and returned by the table of statuses.
+-- Receiving the reply to the request with a number: it is read from the connection of that request, and what is
+-- returned follows from it by the table of statuses.
 pub record Brings (number : ℕ) (old new : Carrier) (result : Result WireReply WireFault) : Type 0 where
   pub connection : Connection
   pub out_on : entry_of number old.out ≡ Some connection
@@ -180,7 +181,7 @@ pub record Brings (number : ℕ) (old new : Carrier) (result : Result WireReply 
   pub told : IsTold read result
   pub after : new ≡ record old { out = besides number old.out; free = free_after read left old.free }
 
--- no outside fits: it describes none
+-- no outside fits, since this wire does not describe the outside
 abbrev pub FitsNone : Carrier → Outside → Type 0
 FitsNone w o = ⊥
 
@@ -199,7 +200,7 @@ PicksOne old new failed later before after (Err fault.Lost) = ⊥
 PicksOne old new failed later before after (Err fault.Unreadable) = ⊥
 PicksOne old new failed later before after (Err fault.Memory) = (new ≡ []) × (later ≡ failed) × (after ≡ one_more before)
 
--- a reply was read from a connection, which is then free if it may be
+-- a reply was read from a connection, which is then free if it may be used again
 pub record BringsFrom (connection : Connection) (old new : List Connection) (result : Result WireReply WireFault) : Type 0 where
   pub left : Connection
   pub read : Result HttpReply HttpFault

@@ -9,8 +9,8 @@ use Rattle.relay_results.specs.declared.reading.ReplyFault.{ReplyFault}
 use Rattle.relay_results.specs.declared.reading.ReplyFault.TheVariants as unread
 use Rattle.relay_results.specs.Replies.{IsBulkReply, IsFaultOf}
 
--- The table of statuses: 200 with a readable body means its entries, 200 with another body that it could not be read,
--- and any other status itself. Only reading a body allocates.
+-- The table of statuses: 200 with a readable body means the entries of the body, 200 with any other body means that it
+-- could not be read, and any other status means that status. Only reading a body allocates.
 abbrev pub Tells : Reply → Result WireReply WireFault → Type 0
 Tells r (Ok (reply.Items outcomes)) = (r.status ≡ 200) × IsBulkReply r.body outcomes.items
 Tells r (Ok (reply.Whole status)) = (r.status ≢ 200) × (status ≡ r.status)

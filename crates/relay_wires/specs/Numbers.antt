@@ -10,7 +10,7 @@ abbrev pub entry_of : {A : Type 0} → ℕ → List (ℕ × A) → Option A
 entry_of number [] = None
 entry_of number (e ∷ es) = if e.0 == number then Some e.1 else entry_of number es
 
--- what else is outstanding
+-- the rest of what is outstanding
 abbrev pub besides : {A : Type 0} → ℕ → List (ℕ × A) → List (ℕ × A)
 besides number [] = []
 besides number (e ∷ es) = if e.0 == number then es else e ∷ besides number es

@@ -13,14 +13,14 @@ use std::collections::VecDeque;
 use std::marker::Model;
 
 /// A wire to an index over HTTP. Each outstanding request has its own connection. After a reply
-/// that keeps the connection, and with which no byte beyond it was read, the connection is free,
-/// and is used again before another one is dialled. A fault drops the connection.
+/// that keeps the connection, and beyond which no byte was read, the connection is free; free
+/// connections are used before another one is dialled. After a fault the connection is dropped.
 ///
 /// Before a free connection is used again, it is checked without waiting: if a byte or the end of
-/// the stream has arrived, it is dropped, since an unrequested reply would be taken for that of the
-/// next request.
+/// the stream has arrived, it is dropped, since an unrequested reply would be mistaken for the
+/// reply to the next request.
 ///
-/// It describes no outside: what happens there depends on its streams.
+/// It does not describe the outside: what happens there depends on its streams.
 #[derive(Drop)]
 pub struct HttpWire<S: ByteStream, D: Dial<S>> {
     alloc: Global,
@@ -131,7 +131,7 @@ impl<S: ByteIn + ByteOut + Peek + Drop, D: Dial<S> + Drop> Wire for HttpWire<S, 
         requires { Mem number (numbers self.old.out) }
         ensures out { numbers self.new.out ≡ without number (numbers self.old.out) }
         ensures reply { IsWireReply result }
-        // What is returned is the reply that was read there, by the table of statuses.
+        // What is returned follows from the reply that was read there, by the table of statuses.
         ensures brings { Brings number self.old self.new result }
     {
         let Some(conn) = take(&mut self.out, number) else {

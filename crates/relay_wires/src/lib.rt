@@ -3,8 +3,8 @@
 //! `relay_results` for the entries of replies.
 //!
 //! What is proved: an `HttpWire` writes the request for the writes that it is given, and returns
-//! the reply that was on that connection, by the table of statuses. `numbered` (the outstanding
-//! requests) and `told` (the table of statuses) also serve the wire of `relay_loop`.
+//! what the table of statuses says of the reply that was on that connection. `numbered` (the
+//! outstanding requests) and `told` (the table of statuses) also serve the wire of `relay_loop`.
 #![tactic(auto)]
 
 mod carrying;

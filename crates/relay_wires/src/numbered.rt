@@ -13,7 +13,7 @@ fn place_of<T>(out: &VecDeque<(u64, T)>, number: u64) -> Option<usize>
     out.iter().position(|entry| entry.0 == number)
 }
 
-/// Takes what is out under this number, if something is. `None`: nothing is, and nothing changes.
+/// Takes what is outstanding under this number. `None`: nothing is, and nothing changes.
 pub fn take<T>(out: &mut VecDeque<(u64, T)>, number: u64) -> Option<T>
     ensures found { result ≡ entry_of number out.old.items }
     ensures besides { out.new.items ≡ besides number out.old.items }

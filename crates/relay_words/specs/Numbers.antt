@@ -1,4 +1,4 @@
--- The number that a word is.
+-- Words that are numbers.
 use Rattle.std.specs.Prelude.{◌≡◌, ℕ, ◌<◌, ◌^◌, List}
 use Rattle.std.specs.Str.Parse.{IsNumeral, digits_value}
 

@@ -1,9 +1,9 @@
-//! The number that a word is.
+//! Words that are numbers.
 ghost use Rattle.std.specs.Prelude.{ℕ, IfSome, IfNone};
 ghost use Rattle.relay_words.specs.Numbers.{IsNumber};
 
-/// The number that decimal digits are, without a sign. `None`: the word is not a 64-bit number in
-/// this form.
+/// The value of a word of decimal digits, without a sign. `None`: the word is not a 64-bit number
+/// in this form.
 pub fn number_of(word: &str) -> Option<u64>
     ensures some { IfSome result (IsNumber word.now) }
     ensures none { IfNone result ((n : ℕ) → IsNumber word.now n → ⊥) }

@@ -41,7 +41,7 @@ is_done_mail body.Tick = false
 is_done_mail body.Flush = false
 is_done_mail body.Done = true
 
--- after one more message of the sender; a Done closes it there
+-- a sender at a lane after one more message; a Done closes it there
 abbrev pub after_mail : Body → Sender → Sender
 after_mail b s = record { count = one_more s.count; closed = s.closed || is_done_mail b }
 
@@ -159,7 +159,7 @@ pub record Answers (w : World) (request : ℕ) (s : Sent) (a : Answer) (x : Step
 abbrev pub AnswersBy : World → ℕ → Answer → StepAnswer → World → Type 0
 AnswersBy w request a x new = (s : Sent) × (request_at w request ≡ Some s) × Answers w request s a x new
 
--- with entries of its items' runs
+-- the request is answered with entries from its items' runs
 abbrev pub RepliesBy : World → ℕ → List ℕ → StepAnswer → World → Type 0
 RepliesBy w request picks x new =
     (s : Sent) × (os : List Outcome) × (request_at w request ≡ Some s) × (entries w s picks ≡ Some os)

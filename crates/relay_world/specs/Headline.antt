@@ -66,7 +66,7 @@ pub record IsTrueReport (w : World) (log : List Ran) (versions : Op → Option �
 
 -- ---- the promise
 
--- each is above all before it
+-- each is above all those before it
 abbrev pub AreRising : List ℕ → Type 0
 AreRising [] = Unit {0}
 AreRising (n ∷ ns) = ((m : ℕ) → Mem m ns → n < m) × AreRising ns
@@ -76,10 +76,10 @@ AreRising (n ∷ ns) = ((m : ℕ) → Mem m ns → n < m) × AreRising ns
 -- (`attribution`); within each epoch each producer's in the order in which it put them (`in_order`); and those of an
 -- earlier epoch before all those of a later one (`by_epoch`). Each incarnation has a higher epoch than those before it
 -- (`rising`).
--- Of the current incarnation: one assignment of versions, no two operations of one document the same (`assignment`), is what
--- all lanes assigned (`assigned`), and by it the cause of each report is true, which names an accepted operation
--- (`true_reports`); none is reported twice, by one lane or by two (`once`, `in_one_lane`); and when the world is
--- finished, each accepted operation was applied or is reported (`complete`).
+-- In the current incarnation: one assignment of versions, never the same to two operations of one document
+-- (`assignment`), is what all lanes assigned (`assigned`); each report names an accepted operation, and its cause is
+-- true by that assignment (`true_reports`); no operation is reported twice, by one lane or by two (`once`,
+-- `in_one_lane`); and when the world is finished, each accepted operation was applied or is reported (`complete`).
 pub record Delivered (w : World) : Type 0 where
   pub log : List Ran
   pub ran : IsLog w log

@@ -81,12 +81,12 @@ pub record ArePartsOf (w : World) : Type 0 where
   pub producers : length w.accepted ≡ w.config.producers
   pub works : (l : ℕ) (d : Desk) → slice_get w.desks l ≡ Some d → WorksAs w.config d
 
--- there is such a lane
+-- there is a lane with this number
 pub record IsThere (w : World) (l : ℕ) : Type 0 where
   pub desk : Desk
   pub there : desk_at w l ≡ Some desk
 
--- there is such a lane, and the sender is known and has not closed there
+-- there is a lane with this number, and the sender is known and has not closed there
 pub record IsOpenIn (w : World) (sender l : ℕ) : Type 0 where
   pub desk : Desk
   pub there : desk_at w l ≡ Some desk

@@ -143,8 +143,8 @@ applied_writes w k = drop (before_at w k) (index.applied_writes w.index k)
 abbrev pub is_written : World → Document → Bool
 is_written w k = not (length (applied_writes w k) == 0)
 
--- The keys are exactly those of the documents to which a write was applied since the start, including deleted ones:
--- no other, none twice, and in order.
+-- The keys are exactly those of the documents to which a write was applied since the start, including deleted ones,
+-- in order and without repetition.
 pub record AreKeysOf (w : World) (keys : List DocKey) : Type 0 where
   pub rising : IsStrictlySortedBy key_order keys
   pub written : (k : Document) → is_among k keys ≡ is_written w k
@@ -223,7 +223,7 @@ writes_from f (i ∷ is) = option_to_list (f i) ++ writes_from f is
 abbrev pub writes_of : World → Sent → List Write
 writes_of w s = writes_from (write_of w s) s.items
 
--- a sender has closed at a lane; at any lane; at all
+-- whether a sender has closed at a lane; whether it has at any lane; and whether all senders have closed at a lane
 abbrev pub has_closed : ℕ → Desk → Bool
 has_closed p d = unwrap_or (option_map (λ (s : Sender). s.closed) (slice_get d.senders p)) false
 

@@ -69,8 +69,8 @@ pub record IsOriginOf (w : World) (t : Together) (n : ℕ → ℕ) (k : ℕ) (s 
   pub not_later : s.epoch ≤ w.config.epoch
   pub of_now : s.epoch ≡ w.config.epoch → (number ≡ from_zero (n s.lane + s.number)) × ((p : Incarnation) → Mem p (ended_of w) → p.sent ≤ k)
 
--- the requests are theirs, in the order in which they were sent, and so are the runs; the version of each item was
--- assigned to its operation
+-- the requests and the runs are those of the machines, in their order; the version of each item was assigned to its
+-- operation
 pub record AreRequests (w : World) (t : Together) (n : ℕ → ℕ) : Type 0 where
   pub sent : t.sent ≡ map (request_of w) w.sent
   pub origins : (k : ℕ) (s : Sent) → slice_get w.sent k ≡ Some s → IsOriginOf w t n k s
@@ -78,7 +78,7 @@ pub record AreRequests (w : World) (t : Together) (n : ℕ → ℕ) : Type 0 whe
   pub runs : IsLog w t.runs
   pub found : (s : Sent) → Mem s w.sent → (v : ℕ) → Mem v (versions_of s) → (o : Op) × (op_with w s.lane v ≡ Some o)
 
--- the index is what their outside shows, and the kept names are those of the operations whose writes it applied
+-- the index is what the machines' outside shows, and the kept names are those of the operations whose writes it applied
 pub record IsIndexOf (w : World) (t : Together) : Type 0 where
   pub applied : (k : Document) → (together.outside_of (lane_of w) t).applied k ≡ applied_writes w k
   pub before : (k : Document) → (together.outside_of (lane_of w) t).before k ≡ take (before_at w k) (index.applied_writes w.index k)

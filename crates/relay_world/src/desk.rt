@@ -268,7 +268,7 @@ impl Desk {
         }
     }
 
-    // Why the lane takes nothing, if it does not.
+    // Why the lane may not take the front of its queue, if it may not.
     pub(crate) fn front_refusal(&self, max_held: u32) -> Option<Refusal>
         requires { self.now.lane.config.max_held ≡ max_held }
         ensures { result ≡ front_refusal self.now.lane self.now.queue }

@@ -73,7 +73,7 @@ pub enum Refusal {
     /// The request was answered already, or it was sent before the last restart.
     #[error("NotFlying")]
     NotFlying,
-    /// An item has no such run, or the number of picks is not that of the items.
+    /// An item has no such run, or the number of picks differs from the number of items.
     #[error("NotRun")]
     NotRun,
     /// The index may not refuse an item with this status, or a whole request may not be answered

@@ -12,8 +12,8 @@ pub fn tied_worlds_deliver()
     ensures deliver { WorldsDeliver }
 {}
 
-/// The condition that `World::new` has for its index: an index to which nothing was applied is
-/// below every version, and any other is if its highest version is.
+/// The condition of `World::new` on its index: an index to which nothing was applied is below every
+/// version, and any other index is below a version if its highest version is.
 pub fn indexes_are_below()
     ensures fresh { FreshIsBelow }
     ensures highest { HighestIsBelow }

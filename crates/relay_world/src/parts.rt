@@ -425,7 +425,7 @@ impl Parts {
 
 // Lanes take and send.
 impl Parts {
-    // Why a lane takes nothing, if it does not.
+    // Why a lane may not take the front of its queue, if it may not.
     fn take_refusal(&self, lane: u32) -> Option<Refusal>
         ensures { result ≡ take_refusal self.now lane }
     {
@@ -435,7 +435,7 @@ impl Parts {
         }
     }
 
-    // Takes the front of a lane's queue, which is not refused.
+    // Takes the front of a lane's queue. The take must not be one that is refused.
     fn take_front(&mut self, lane: u32) -> Result<(), AllocError>
         requires { take_refusal self.old lane ≡ None }
         ensures ok { OnOk result (self.new ≡ at_lane lane took_front self.old) }

@@ -102,7 +102,8 @@ fn names_of<R: Eprint + AllocGlobal>(
     Ok(read_names(rt.alloc(), &mut report, names))
 }
 
-// Extracts the operations from the files, one file after another, and prints which one no file has.
+// Extracts the operations from the files, one file after another. Prints the report's line of the
+// first operation that no file has.
 fn pick_all<R: Print + Eprint + AllocGlobal>(
     rt: &R,
     host: HostRuntime,

@@ -157,7 +157,7 @@ const NUMBERS: &[NumberOption] = &[
     },
 ];
 
-// The seconds of a week.
+// The number of seconds in a week.
 const WEEK: u64 = 604_800;
 
 // The options in seconds, in the order of the help.
@@ -200,7 +200,7 @@ fn with_numbers<'a>(alloc: Global, command: Command<'a>) -> Result<Command<'a>, 
     Ok(command)
 }
 
-// The options of what is saved and shown.
+// The options for what is saved and shown.
 fn with_outputs<'a>(alloc: Global, command: Command<'a>) -> Result<Command<'a>, AllocError> {
     let report = Arg::new(alloc, "report")
         .long("report")
