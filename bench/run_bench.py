@@ -247,7 +247,7 @@ def measure_flights(folder, relay, tools, operations):
 
 
 def measure_progress(folder, relay, tools, operations):
-    """The cost of counting, and of showing how far a run is."""
+    """The cost of counting, and of showing how far a run has got."""
     paths = make_files(folder, 1, operations, SIZES[0])
     for nanoseconds, called in SERVERS:
         runs = {(): [], ("--progress",): []}

@@ -1,5 +1,5 @@
-"""What `relay stub` answers to a client by others: Python's Elasticsearch helpers, major version 7, which Debian has as
-python3-elasticsearch. If they are not installed, the tests print that and are skipped."""
+"""What `relay stub` answers to a third-party client: Python's Elasticsearch helpers, major version 7, which Debian has
+as python3-elasticsearch. If they are not installed, the tests print that and are skipped."""
 import json
 import os
 import random

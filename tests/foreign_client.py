@@ -1,5 +1,5 @@
-"""A client by others: reads actions as JSON from standard input, passes them to `streaming_bulk` of the Elasticsearch helpers,
-and prints what that returns for each, one JSON text per line.
+"""A third-party client: reads actions as JSON from standard input, passes them to `streaming_bulk` of the Elasticsearch
+helpers, and prints what that returns for each, one JSON text per line.
 
 The client would first ask whether the server is Elasticsearch, which the stand-in index does not answer. That check is
 skipped here; everything else that is sent and read is the client's own.

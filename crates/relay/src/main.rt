@@ -6,8 +6,8 @@
 //! with their queues over an index.
 //!
 //! The program reads its command line, wraps standard input and output in the streams of
-//! `relay_action`, opens sockets with `relay_net`, and prints what stopped a command. What is
-//! proved are the contracts of the functions that it calls, over any reader and writer.
+//! `relay_action`, opens sockets with `relay_net`, and prints what stopped a command. The contracts
+//! of the functions that it calls are proved, over any reader and writer.
 #![tactic(auto)]
 
 mod command;

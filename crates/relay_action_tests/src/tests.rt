@@ -93,7 +93,7 @@ const NAMES: &[(ActionFault, &str)] = &[
     (ActionFault::Memory, "Memory"),
 ];
 
-// Whether a fault has this name and is printed as it.
+// Whether a fault has this name, and is printed as that name.
 fn is_named(alloc: Global, fault: ActionFault, name: &str) -> Result<bool, AllocError> {
     Ok(fault.name() == name && format!(in alloc; "{fault}")?.as_str() == name)
 }

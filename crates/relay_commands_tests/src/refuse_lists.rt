@@ -44,7 +44,7 @@ fn lists_that_are_none(rt: HostRuntime) {
     }
 }
 
-// The version that an index stores of a document.
+// The version that an index stores for a document.
 fn version(alloc: Global, index: &Index, id: &str) -> Result<Option<u64>, ActionFault> {
     let key = DocKey::new(alloc, "b", id)?;
     Ok(index.version(&key))

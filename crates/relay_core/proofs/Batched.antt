@@ -1,4 +1,4 @@
--- What is gathered keeps the limits of a batch, and the caps of its items.
+-- What is gathered is within the limits of a batch and the caps of its items.
 use Rattle.std.proofs.Common.{◌≡◌, ℕ, ◌+◌, ◌<◌, ◌≤◌, List, [], ◌∷◌, ◌++◌, length, refl, ap, subst, inl, inr, arith}
 use Rattle.std.specs.Prelude.{map, Some}
 use Rattle.std.proofs.lemmas.List.{length-map}

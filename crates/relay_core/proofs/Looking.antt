@@ -1,4 +1,4 @@
--- A request looks at most at one operation of each document that is held.
+-- A request looks at no more than one operation of each document held.
 use Rattle.std.proofs.Common.{◌≡◌, ℕ, ◌+◌, ◌≤◌, List, [], ◌∷◌, refl, sym, ap, ◌∙◌, arith}
 use Rattle.std.specs.Prelude.{map}
 use Rattle.relay_action.specs.declared.write.Write.{Write}

@@ -1,4 +1,4 @@
--- Each call of a lane is a step of delivery, or none.
+-- Each call of a lane is a step of delivery, or does not concern it.
 use Rattle.std.proofs.Common.{◌≡◌, List, [], ◌∷◌, ◌++◌, refl, sym, ap, subst, inl, inr}
 use Rattle.relay_action.specs.declared.mail.Body.TheVariants as body
 use Rattle.relay_batch.specs.Gathering.{Gathering, answer_to}

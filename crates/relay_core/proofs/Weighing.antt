@@ -1,4 +1,4 @@
--- What is gathered keeps the limits of a batch, and its bytes are those of the text that is sent.
+-- What is gathered is within the limits of a batch, and its bytes are those of the text that is sent.
 use Rattle.std.proofs.Common.{◌≡◌, List, [], ◌∷◌, length, refl, ap, ◌∙◌, inl, inr, arith, length-append}
 use Rattle.std.specs.Prelude.{map}
 use Rattle.std.proofs.lemmas.List.Sums.{sum_by-cons}

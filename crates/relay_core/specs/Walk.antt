@@ -56,7 +56,7 @@ fate_or way.ByEntry f = f
 fate_or (way.Reported status) f = of.Reported (cause.Request status)
 fate_or (way.Halved cap) f = of.Halved cap
 
--- the fate of the definitions for that of the code
+-- the fate in the definitions that corresponds to one in the code
 abbrev pub said : Fate → of.Fate
 said code.Applied = of.Applied
 said code.Already = of.Already

@@ -88,7 +88,7 @@ fn bring(front: &mut VecDeque<Entry>, ready: &mut Ready)
     }
 }
 
-// Moves due operations to the front until `count` are there, or none is left.
+// Moves due operations to the front until it has `count`, or none is left.
 fn bring_all(front: &mut VecDeque<Entry>, ready: &mut Ready, count: usize) -> Result<(), AllocError>
     requires { count ≤ length front.old.items + length ready.old.entries }
     ensures ok { OnOk result (count ≤ length front.new.items) }

@@ -10,7 +10,7 @@ use Rattle.relay_delay.specs.Waiting.{has_version}
 abbrev pub AllUnder : ℕ → List Entry → Type 0
 AllUnder next es = AllByRecursion (λ (e : Entry). e.version < next) es
 
--- so is that of the operation that is out, and no waiting one has it
+-- the version of the operation that is out is below the next one too, and no waiting operation has it
 abbrev pub IsApart : ℕ → Option Entry → List Entry → Type 0
 IsApart next None es = Unit {0}
 IsApart next (Some e) es = (e.version < next) × (has_version e.version es ≡ false)

@@ -15,7 +15,7 @@ pub struct Desk {
     ghost apart: { IsApart next out queue.entries } by { IsApart-prop next out queue.entries },
 }
 
-/// Nothing waits and none is out.
+/// No operation waits, and none is out.
 pub fn empty_desk(alloc: Global) -> Desk {
     Desk {
         queue: DelayQueue::new(alloc),
@@ -55,7 +55,7 @@ pub fn push(desk: &mut Desk, due: u64, slot: usize) -> Option<Entry> {
     Some(one)
 }
 
-/// Takes out the first operation that is due, if none is out. Returns whether none was.
+/// Takes out the first operation that is due, unless one is already out. Returns whether none was.
 pub fn take(desk: &mut Desk) -> bool {
     if desk.out.is_some() {
         return false;
@@ -64,7 +64,7 @@ pub fn take(desk: &mut Desk) -> bool {
     true
 }
 
-/// Puts the operation back that is out. `None`: none is out.
+/// Puts back the operation that is out. `None`: none is.
 pub fn put_back(desk: &mut Desk, due: u64) -> Option<Entry> {
     let Some(one) = desk.out else {
         return None;

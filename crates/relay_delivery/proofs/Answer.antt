@@ -84,7 +84,7 @@ module _ (g : Config) (past : Write → Type 0) (c : Core) (f : CoreFacts g past
   one_of_both true false = (omega arith, omega arith)
   one_of_both false x = (omega arith, omega arith)
 
-  -- at most one try less
+  -- at most one try fewer
   tries-one_less : (w : Write) → count (is_try w) requests ≤ count (is_try w) new + 1
   tries-one_less w =
       let e = tries-counted w in
@@ -105,7 +105,7 @@ module _ (g : Config) (past : Write → Type 0) (c : Core) (f : CoreFacts g past
       let m = ap (λ b. one_if (b && true)) none in
       omega (arith, e, n, m)
 
-  -- what flies elsewhere it does not carry
+  -- it does not carry what flies elsewhere
   not_carried : (h : Held) → Mem h c.held → IsAway g number q.writes a h → carries (write_of h) q ≡ false
   not_carried h m w = ⊎_elim {C = carries (write_of h) q ≡ false}
       (λ t.

@@ -1,4 +1,4 @@
--- How many requests a lane sends that takes nothing more.
+-- How many requests a lane sends if it takes nothing more.
 use Rattle.std.proofs.Common.{◌≡◌, ◌≢◌, ℕ, ◌+◌, ◌-◌, ◌*◌, ◌^◌, ◌<◌, ◌≤◌, List, [], ◌∷◌, ◌++◌, length, Option, Some, None, Bool, true, false, refl, sym, ap, ◌∙◌, subst, ⊎_elim, inl, inr, arith, length-append}
 use Rattle.std.specs.Prelude.{slice_get, map, nat_lt}
 use Rattle.std.proofs.Math.Nat.{suc-mul}
@@ -55,7 +55,7 @@ new_tries g requests false n o some h m = absurd m
 
 -- ---- send
 
--- a request more changes nothing of what flies
+-- one more request changes nothing of what flies
 tries-more : (g : Config) (requests : List Request) (q : Request) (h : Held) → HasTries g requests h → HasTries g (requests ++ q ∷ []) h
 tries-more g requests q h f = record {
   waiting = f.waiting;

@@ -1,4 +1,4 @@
--- Each call of a lane is the same call if the numbers of its requests are counted on.
+-- Each call of a lane is the same call if its requests are numbered on from those sent before.
 use Rattle.std.proofs.Common.{◌≡◌, ℕ, suc, ◌+◌, ◌-◌, ◌≤◌, List, [], ◌∷◌, ◌++◌, Option, Some, None, Bool, true, false, ◌==◌, refl, sym, ap, ◌∙◌, subst, ⊎_elim, inl, inr, length, arith}
 use Rattle.std.specs.Prelude.{◌&&◌, ◌||◌, nat_lt, nat_le, not, slice_get, option_map, map, filter, if◌then◌else◌}
 use Rattle.std.specs.List.{list_any}

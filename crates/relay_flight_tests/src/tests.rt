@@ -189,7 +189,7 @@ fn stands(flight: &Flight, number: u64, doc: Option<u64>) -> bool {
     flight.batch(number).and_then(document) == doc && flight.writes(number).and_then(version) == doc
 }
 
-// Whether it has until it is settled, and then none.
+// Whether a number has that request until it is settled, and none afterwards.
 fn settles(flight: &mut Flight, number: u64, doc: Option<u64>) -> bool {
     stands(flight, number, doc)
         && flight.settle(number).map(|request| holds(&request)) == doc.map(|_| (number, doc, doc))

@@ -1,4 +1,4 @@
--- As many documents have queues as are held, since no queue is empty.
+-- As many documents have queues as have held operations, since no queue is empty.
 use Rattle.std.proofs.Common.{◌≡◌, ℕ, ◌+◌, ◌<◌, List, [], ◌∷◌, length, Some, None, Bool, true, false, ◌||◌, refl, sym, ap, ◌∙◌, subst, ⊎_elim, arith}
 use Rattle.std.specs.Prelude.{if◌then◌else◌, cond, not, filter, Result, Ok, Err, IsOk, is_err, OnOk, OnErr}
 use Rattle.std.specs.List.{IsDistinct, list_any}

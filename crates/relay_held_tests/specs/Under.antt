@@ -1,4 +1,4 @@
--- What a desk says of its versions is one fact, in whatever way it is shown.
+-- That versions are below the next one is a proposition: any two proofs of it are equal.
 use Rattle.std.specs.Prelude.{ℕ, List, [], ◌∷◌}
 use Rattle.std.specs.Coded.{le_prop}
 use Rattle.relay_held.specs.declared.kept.Kept.{Kept}

@@ -1,4 +1,4 @@
--- The answer that is written is a reply, and no such is a proper prefix of another.
+-- The answer that is written is a reply, and no such answer is a proper prefix of another.
 use Rattle.std.proofs.Common.{◌≡◌, ℕ, ◌<◌, ◌≤◌, ◌^◌, Bool, true, false, List, [], ◌∷◌, ◌++◌, map, refl, ap, ◌∙◌, sym, arith, Ok, append-nil}
 use Rattle.std.specs.Fmt.{decimal}
 use Rattle.std.proofs.lemmas.Bool.{false≢true}

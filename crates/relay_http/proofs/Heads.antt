@@ -1,4 +1,4 @@
--- What httparse answers is what the head says.
+-- What httparse returns is what the head says.
 use Rattle.std.proofs.Common.{◌≡◌, ℕ, ◌≤◌, Bool, false, List, ◌++◌, length, take, drop, map, refl, ap, ◌∙◌, sym, arith, Result}
 use Rattle.std.proofs.lemmas.List.{take_at, length-take, length-map}
 use Rattle.httparse.specs.Grammar.{Field, ResponseHead, print_response, HasNoResponse}

@@ -17,7 +17,7 @@ pub trait Listen<S: ByteStream> {
     /// What it shows of the connections, and how many calls failed.
     ghost shows: { Self → Listening };
 
-    /// Waits for the next connection, and returns its stream. [`AcceptFailed`]: there is none.
+    /// Accepts the next connection, and returns its stream. [`AcceptFailed`]: none was accepted.
     fn accept(&mut self) -> Result<S, AcceptFailed>
         ensures ok { IfOk result
             (λ s. HandsOut (shows self.old) (shown_by (S.left s) (S.written s) (S.failed s))

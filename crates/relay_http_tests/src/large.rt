@@ -106,8 +106,8 @@ fn is_front(written: &[u8], wanted: &[u8], body: usize) -> bool {
         || (wanted.starts_with(written) && written.len().saturating_add(body) >= wanted.len())
 }
 
-// Whether a request is written as expected whose ids begin with a text that has this form in a JSON
-// string. `None`: an allocation of the test failed.
+// Whether a request whose ids begin with a text that has this form in a JSON string is written as
+// expected. `None`: an allocation of the test failed.
 fn is_written_named(
     alloc: Global,
     start: (&str, &str),
@@ -143,8 +143,8 @@ fn long_sources(rt: HostRuntime) {
     }
 }
 
-// An id with a quote needs an allocation when its line is written, and the head is sent before. The
-// test passes whichever allocation fails, so that each can be refused in turn (`make
+// An id with a quote needs an allocation when its line is written, and the head is sent before
+// that. The test passes whichever allocation fails, so that each can be refused in turn (`make
 // refusals`): then nothing was sent, or the whole head and part of the body.
 #[test]
 fn memory_that_is_refused(rt: HostRuntime) {

@@ -21,7 +21,8 @@ fn repeated(
     Ok(text)
 }
 
-// A row: what is repeated how often between what, and the result of reading all of it.
+// A row: a front, a text that is repeated after it, how often, a back, and the result of reading
+// all of it.
 type Row<'a> = (&'a [u8], &'a [u8], usize, &'a [u8], Reply<'a>);
 
 // Whether reading the text of a row has this result.

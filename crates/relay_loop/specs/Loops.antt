@@ -64,9 +64,9 @@ abbrev pub IsOver : List Write → Server → Type 0
 IsOver ws s = takes s.script (length (text_of ws)) ≡ false
 
 -- The result of a request with these writes. Its entries, or the loss of its reply: all items were run, once each and
--- in order; the reply is lost if that was asked for, or if it is too long. A failed allocation: exactly the first
--- items were run. A body that is too long: nothing was run, and the answer is 413, or its loss. There are no other
--- results.
+-- in order; the reply is lost if that was asked for, or if it is too long. A failed allocation: exactly the first few
+-- items, perhaps none or all, were run. A body that is too long: nothing was run, and the answer is 413, or its loss.
+-- There are no other results.
 abbrev pub IsExchange : Bool → List Write → Server → Server → Result WireReply WireFault → Type 0
 IsExchange lost ws old new (Ok (reply.Items outcomes)) =
     (items : List ItemDone) × RunsAll old ws items new × (outcomes.items ≡ outcomes_of items)

@@ -1,4 +1,4 @@
--- No operation begins where there is a fault, and there is one first fault.
+-- If there is a fault, no operation begins there; and there is one first fault.
 use Rattle.std.proofs.Common.{◌≡◌, ◌⊎◌, ℕ, zero, suc, ◌<◌, ◌≤◌, List, [], Option, None, Some, refl, ap, sym, ◌∙◌, subst, arith, inl, inr, option_map}
 use Rattle.std.specs.Io.KnownBytes.{IsAtEnd}
 use Rattle.std.proofs.lemmas.Str.{IsUtf8-had}

@@ -14,8 +14,7 @@ use relay_action::DocKey;
 use relay_json::{Fields, Gather, Leaf, ReadFault, Walk};
 use std::alloc::Global;
 
-/// What is kept of the metadata of an action line: the value of each member that is allowed, if it
-/// is there.
+/// What is kept of the metadata of an action line: the value of each allowed member that it has.
 #[derive(Clone, Copy)]
 pub struct Metadata<'t> {
     pub index: Option<Leaf<'t>>,

@@ -72,7 +72,7 @@ fn lines_that_are_no_action(rt: HostRuntime) {
     }
 }
 
-// The fault of a delete with these metadata.
+// The fault of a delete with this metadata.
 fn fault_of_metadata(alloc: Global, metadata: &[u8]) -> Result<Option<BulkFault>, AllocError> {
     let line = joined(alloc, &[b"{\"delete\":{", metadata, b"}}\n"])?;
     fault_anywhere(alloc, line.as_slice())
@@ -300,7 +300,7 @@ const TWO_BOOKS: &[(&str, u64, Option<&str>)] = &[
     ("2", 2, None),
 ];
 
-// Whether the text of two books is read as them, and they are written as it.
+// Whether the text of two books reads as these books, and the books are written as that text.
 fn reads_and_writes(alloc: Global) -> Result<bool, BulkFault> {
     let writes = read_bulk(alloc, TWO_LINES)?;
     Ok(are_books(&writes, TWO_BOOKS) && has_text(alloc, &writes, TWO_LINES))

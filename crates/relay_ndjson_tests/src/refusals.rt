@@ -408,7 +408,7 @@ fn refused_parser(rt: HostRuntime) {
     assert!(rt; first == Some(Reading::Whole) || parse_input(rt.alloc()) == Some(Reading::Whole));
 }
 
-/// Lines no two of which have the same end, and what holds them.
+/// Lines, each with a different end, and the input that consists of them.
 const LINES: [&[u8]; 3] = [
     b"the first line, of more than thirty-eight bytes, and it ends in 1",
     b"",

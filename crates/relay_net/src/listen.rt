@@ -25,10 +25,10 @@ impl<R: Net> Model for TcpListen<R> {
 }
 
 impl<R: Net> TcpListen<R> {
-    /// Listens at this address, `HOST:PORT`: an IP address, in brackets if it is of version 6, or a
+    /// Listens on this address, `HOST:PORT`: an IP address, in brackets if it is of version 6, or a
     /// host name, and a port; with port 0 the system chooses one. From here on connections may
     /// arrive, and wait to be accepted. Any error is the system's: the address is invalid or not
-    /// one of this machine's, or another program listens there.
+    /// one of this machine's, or another program is listening on it.
     pub fn bind(net: &R, address: &str) -> Result<TcpListen<R>, io::Error>
         ensures { IfOk result (λ l. l ≡ (0, 0)) }
     {

@@ -23,7 +23,7 @@ fn count(alloc: Global, index: &Index) -> usize {
     }
 }
 
-// How many writes an index applied that served this many connections.
+// How many writes an index has applied after serving this many connections.
 fn serves<R: Net>(alloc: Global, mut listener: TcpListen<R>, requests: u64) -> usize {
     let mut index = Index::new(alloc);
     if serves_with(alloc, &mut listener, requests, &mut index) {

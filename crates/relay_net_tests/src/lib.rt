@@ -1,6 +1,6 @@
 //! Tests of `relay_net`: requests over the loopback, from a wire's dial to the stand-in server's
 //! listener and back, also to a server in its own thread; addresses that cannot be dialled or
-//! listened at; dials that try again; and reads that wait too long.
+//! listened on; dials that try again; and reads that wait too long.
 #![tactic(auto)]
 
 #[cfg(test)]

@@ -42,7 +42,7 @@ fn dials<R: Net>(alloc: Global, net: &R, address: &str) -> Option<bool> {
     Some(dial.dial().is_ok())
 }
 
-// Whether an address can be dialled, and listened at.
+// Whether an address can be dialled, and listened on.
 fn around<R: Net>(alloc: Global, net: &R, address: &str) -> (Option<bool>, bool) {
     let dialled = dials(alloc, net, address);
     (dialled, TcpListen::bind(net, address).is_ok())
@@ -56,7 +56,7 @@ fn around_listener<R: Net>(alloc: Global, net: &R) -> Option<(String, (Option<bo
     Some((address, found))
 }
 
-// Whether the address of a listener can be dialled and not listened at while it listens, and the
+// Whether the address of a listener can be dialled and not listened on while it listens, and the
 // other way round when it is gone.
 fn with_and_without<R: Net>(alloc: Global, net: &R) -> bool {
     match around_listener(alloc, net) {

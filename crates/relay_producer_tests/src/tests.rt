@@ -101,7 +101,7 @@ fn takes_lane<R: Wait>(rt: &R, take: &mut LaneTake, document: u64) -> bool {
 // The document of each of the 8 lanes.
 const BY_LANE: [u64; 8] = [2, 1, 4, 3, 6, 5, 0, 7];
 
-// Whether the taker of each of 8 lanes does.
+// The same for the taker of each of 8 lanes.
 fn takes_all<R: Wait>(rt: &R, all: &mut Vec<LaneTake>) -> bool {
     let mut good = all.len() == 8;
     for (take, document) in all.iter_mut().zip(BY_LANE) {
@@ -269,7 +269,7 @@ fn put_and_close<R: Wait>(rt: &R, alloc: Global, mut producer: Producer) -> bool
     good && producer.close(rt).gone() == 0
 }
 
-// Whether a thread takes what a producer put that had to wait at a queue of one place.
+// Whether a thread takes all that was put by a producer that had to wait at a queue of one place.
 fn waits<R: Threads + Wait + Clock + Copy + Send + 'static>(
     rt: R,
     alloc: Global,

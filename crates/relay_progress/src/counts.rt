@@ -8,7 +8,7 @@ use std::sync::atomic::{AtomicU64, Ordering};
 pub enum Trouble {
     /// No trouble is known.
     None,
-    /// Nobody listens at the address.
+    /// Nothing is listening on the address.
     Refused,
     /// The other end did not answer in time.
     TimedOut,

@@ -12,7 +12,7 @@ use std::thread;
 use std::thread::{Promise, PromisedHandle, Threads};
 use std::time::{Clock, Duration};
 
-// A sender's thread promises that the closed end which it returns is of the queue of its end.
+// A sender's thread promises that the closed end which it returns belongs to the queue of its end.
 #[derive(Drop)]
 struct SendPromise {
     put: Snapshot<LanePut>,

@@ -2,8 +2,7 @@
 use Rattle.std.specs.Prelude.{ℕ, ◌&&◌, nat_lt, nat_le, List, [], ◌∷◌, Bool, if◌then◌else◌, Option, None, Some, slice_index}
 use Rattle.relay_report.specs.declared.names.Named.{Named}
 
--- this many operations were read from each input, and this is one of them; there is none after the
--- last input
+-- this many operations were read from each input, and this is one of them; a producer without an input has none
 abbrev pub is_found : List ℕ → Named → Bool
 is_found counts name = nat_lt 0 name.number && nat_le name.number (slice_index counts name.producer)
 

@@ -77,7 +77,7 @@ fn numbers_of(alloc: Global, names: &[Named], producer: u32) -> Result<BTreeSet<
     Ok(numbers)
 }
 
-// The highest number of a producer's operations that is named, 0 if none is.
+// The highest number of a producer's operations that are named, or 0 if none is.
 fn last_of(names: &[Named], producer: u32) -> u64
     ensures { (k : ℕ) → IsTrue (is_named names.now producer k) → k ≤ result }
 {

@@ -13,7 +13,7 @@ type Row = (
     (&'static str, u32, &'static str),
 );
 
-// The cause with a name. `None`: there is none, or allocation failed.
+// The cause with a name. `None`: no cause has it, or allocation failed.
 fn cause_of(alloc: Global, cause: (&str, u32, &str)) -> Option<Cause> {
     let (name, number, text) = cause;
     match name {

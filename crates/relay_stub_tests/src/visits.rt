@@ -9,15 +9,15 @@ use std::alloc::Global;
 const DELETE: &[u8] =
     b"POST /_bulk HTTP/1.1\r\nHost: h\r\nContent-Length: 74\r\n\r\n{\"delete\":{\"_id\":\"1\",\"_index\":\"b\",\"version\":5,\"version_type\":\"external\"}}\n";
 
-// The answer if there was none before.
+// The answer if there was no such document.
 const NOT_FOUND: &[u8] =
     b"HTTP/1.1 200 OK\r\nContent-Type: application/json\r\nContent-Length: 130\r\nConnection: close\r\n\r\n{\"errors\":false,\"items\":[{\"delete\":{\"_id\":\"1\",\"_index\":\"b\",\"_seq_no\":0,\"_version\":5,\"result\":\"not_found\",\"status\":404}}],\"took\":0}";
 
-// The answer if it came before.
+// The answer if the same delete came before.
 const CONFLICT: &[u8] =
     b"HTTP/1.1 200 OK\r\nContent-Type: application/json\r\nContent-Length: 136\r\nConnection: close\r\n\r\n{\"errors\":true,\"items\":[{\"delete\":{\"_id\":\"1\",\"_index\":\"b\",\"error\":{\"type\":\"version_conflict_engine_exception\"},\"status\":409}}],\"took\":0}";
 
-// The answer if it is refused with 429.
+// The answer if the delete is refused with 429.
 const REFUSED: &[u8] =
     b"HTTP/1.1 200 OK\r\nContent-Type: application/json\r\nContent-Length: 119\r\nConnection: close\r\n\r\n{\"errors\":true,\"items\":[{\"delete\":{\"_id\":\"1\",\"_index\":\"b\",\"error\":{\"type\":\"scripted_refusal\"},\"status\":429}}],\"took\":0}";
 
@@ -29,7 +29,7 @@ const LATER: &[u8] =
 const LATER_ANSWER: &[u8] =
     b"HTTP/1.1 200 OK\r\nContent-Type: application/json\r\nContent-Length: 222\r\nConnection: close\r\n\r\n{\"errors\":false,\"items\":[{\"delete\":{\"_id\":\"1\",\"_index\":\"b\",\"_seq_no\":1,\"_version\":6,\"result\":\"not_found\",\"status\":404}},{\"index\":{\"_id\":\"0\",\"_index\":\"b\",\"_seq_no\":2,\"_version\":1,\"result\":\"created\",\"status\":201}}],\"took\":0}";
 
-// The answer there, if the index action is refused with 503.
+// The same answer if the index action is refused with 503.
 const LATER_REFUSED: &[u8] =
     b"HTTP/1.1 200 OK\r\nContent-Type: application/json\r\nContent-Length: 213\r\nConnection: close\r\n\r\n{\"errors\":true,\"items\":[{\"delete\":{\"_id\":\"1\",\"_index\":\"b\",\"_seq_no\":1,\"_version\":6,\"result\":\"not_found\",\"status\":404}},{\"index\":{\"_id\":\"0\",\"_index\":\"b\",\"error\":{\"type\":\"scripted_refusal\"},\"status\":503}}],\"took\":0}";
 
@@ -47,7 +47,7 @@ const BROKEN_BODY: &[u8] = b"POST /_bulk HTTP/1.1\r\nHost: h\r\nContent-Length: 
 // A request that is not a POST to /_bulk.
 const GET: &[u8] = b"GET /_bulk HTTP/1.1\r\nHost: h\r\n\r\n";
 
-// One with a body that is bulk text.
+// Such a request with a body that is bulk text.
 const ELSEWHERE: &[u8] =
     b"POST /books HTTP/1.1\r\nHost: h\r\nContent-Length: 74\r\n\r\n{\"delete\":{\"_id\":\"1\",\"_index\":\"b\",\"version\":5,\"version_type\":\"external\"}}\n";
 

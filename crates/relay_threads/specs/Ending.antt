@@ -52,8 +52,8 @@ module _ {W : Type 0} (describes : W → Bool) (fits : W → Outside → Type 0)
   -- ---- delivery
 
   -- An outside fits the wire of the summary and continues the one before. For it delivery of these operations is
-  -- sound and complete, and the summary's counts are right: of the requests that were sent, and of the operations
-  -- that ended as applied, and as already applied, by their answers.
+  -- sound and complete, and the summary's counts are those of the requests that were sent and of the operations that
+  -- ended as applied, and as already applied, by their answers.
   pub record Carries (ops : List Op) (s : LaneSummary W) (before : Outside) : Type 0 where
     pub outside : Outside
     pub fitting : fits s.wire outside

@@ -56,8 +56,8 @@ pub record BeginsBeside {W : Type 0} (describes : W → Bool) (fits : W → Outs
   pub below : IsBelow (first_in c.epoch) before
 
 -- after its lane has ended, the outside fits the wire of the summary and continues what it was, and the summary's
--- counts are right: of the requests sent, and of the operations that ended as applied, and as already applied, by their
--- answers
+-- counts are those of the requests that were sent and of the operations that ended as applied, and as already applied,
+-- by their answers
 pub record EndsBeside {W : Type 0} (fits : W → Outside → Type 0) (s : LaneSummary W) (before after : Outside) : Type 0 where
   pub fitting : fits s.wire after
   pub continues : Continues before after

@@ -1,4 +1,4 @@
--- Which queues the ends of handles are of, and under whose number.
+-- Which queues the ends of handles belong to, and under which sender's number.
 use Rattle.std.specs.Prelude.{ℕ, List, map}
 use Rattle.relay_queue.specs.Ends.{Queue}
 use Rattle.relay_producer.specs.Ends.{identities, open_puts, closed_puts}

@@ -1,4 +1,4 @@
-//! Free connections on which something arrived that was not asked for.
+//! Free connections on which something unrequested arrived.
 ghost use Rattle.std.specs.Prelude.{◌≡◌, []};
 
 use crate::streams::BUSY;

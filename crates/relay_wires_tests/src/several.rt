@@ -54,7 +54,7 @@ const fn one_each(in_flight: u32) -> RelayConfig {
     }
 }
 
-// One to an empty index that loses the reply to one number.
+// Such a wire to an empty index that loses the reply to one number.
 fn wire_of(alloc: Global, lost: u64) -> Option<Noting>
     ensures { IfSome result (λ w. numbers w.wire.out ≡ []) }
 {

@@ -106,7 +106,7 @@ one_listed (Some p) o e = cc
 abbrev pub Keeps : World → World → Type 0
 Keeps w new = (l v : ℕ) (o : Op) → op_with w l v ≡ Some o → op_with new l v ≡ Some o
 
--- each lane has taken what it had taken, and maybe more
+-- each lane has taken what it had taken, and possibly more
 abbrev pub TakesMore : World → World → Type 0
 TakesMore w new = (l : ℕ) → (os : List Op) × (taken_of (desk_at new l) ≡ taken_of (desk_at w l) ++ os)
 

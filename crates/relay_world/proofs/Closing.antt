@@ -1,4 +1,4 @@
--- From a producer that has closed nothing more is accepted.
+-- Nothing more is accepted from a producer that has closed.
 use Rattle.std.proofs.Common.{◌≡◌, ◌≤◌, arith, ℕ, zero, suc, List, [], ◌∷◌, ◌++◌, Option, Some, None, Bool, true, false, refl, sym, ap, ◌∙◌, subst}
 use Rattle.std.specs.List.{list_any}
 use Rattle.std.specs.Prelude.{slice_get, unwrap_or, not, nat_lt, nat_le, ◌||◌}
