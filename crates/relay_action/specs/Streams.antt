@@ -30,7 +30,7 @@ pub record Memory : Type 0 where
   pub calls : ℕ
   pub failed : ℕ
 
--- before its first call
+-- a stream before its first call
 abbrev pub fresh : List ℕ → ℕ → ℕ → ℕ → Memory
 fresh input room piece fail_at =
     record { left = input; written = []; room = room; piece = piece; fail_at = fail_at; calls = 0; failed = 0 }
@@ -49,7 +49,7 @@ after_call s = record s { calls = one_more s.calls }
 abbrev pub after_failure : Memory → Memory
 after_failure s = record s { failed = one_more s.failed }
 
--- how many bytes a read moves into a buffer of this size, and how many of this many bytes a write takes
+-- how many bytes a read moves into a buffer of this size; how many bytes a write takes, if it is given this many
 abbrev pub given_count : Memory → ℕ → ℕ
 given_count s buffer = min buffer (min s.piece (length s.left))
 

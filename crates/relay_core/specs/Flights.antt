@@ -10,7 +10,7 @@ use Rattle.relay_delivery.specs.Lane.{Entry, held_of, writes_of_all}
 use Rattle.relay_core.specs.Rule.{item_of}
 use Rattle.relay_core.specs.State.{State, IsLane, next_entries, next_batch}
 
--- it is held, waits and is due, and no operation of its document that was taken before it is still held
+-- the operation is held, waits and is due, and no operation of its document that was taken earlier is still held
 pub record MayGo (s : State) (e : Entry) : Type 0 where
   pub held : Mem e s.core.held
   pub waits : e.held.flies ≡ None

@@ -6,7 +6,7 @@ use Rattle.relay_core.specs.declared.config.RelayConfig.{RelayConfig}
 abbrev pub is_from_to : ℕ → ℕ → ℕ → Bool
 is_from_to least most n = nat_le least n && nat_le n most
 
--- of a batch: the maximum number of items and bytes, and of ticks for which it waits to be filled
+-- the limits of a batch are valid: the maximum number of items and bytes, and of ticks for which it waits to be filled
 abbrev pub are_valid_limits : Limits → Bool
 are_valid_limits l = is_from_to 1 10000 l.count && (is_from_to 1024 16777216 l.bytes && nat_le l.linger 65535)
 

@@ -134,7 +134,7 @@ tries_left max (h ∷ hs) = (max - h.attempts) + halvings h.cap + tries_left max
 
 -- ---- one by one
 
--- by the status of the whole request or the entries, an answer means the same for each operation
+-- an answer means the same for each operation as the status of the whole request, or the operation's entry
 abbrev pub SaysAs : Answer → List Write → Way → List Outcome → Type 0
 SaysAs a ws whole os = (t : Tries) (p : ℕ) (kind : ActionKind) → fate t ws p kind a ≡ fate_or whole (fate_of_entry t kind (slice_get os p))
 

@@ -8,7 +8,7 @@ use Rattle.relay_batch.specs.Gathering.{Gathering, answer_to, is_ready}
 use Rattle.relay_results.specs.Documents.{name_of}
 use Rattle.relay_delivery.specs.Lane.{Entry}
 
--- by the answer to an offer
+-- one of three values, by the answer to an offer
 abbrev pub by_answer : {A : Type 0} → Offer → A → A → A → A
 by_answer Busy busy closed added = busy
 by_answer Closed busy closed added = closed

@@ -48,7 +48,7 @@ config_of c = in_epoch c.epoch c.deal c.attempts c.limits.count
 abbrev pub all_open : ℕ → List Bool
 all_open n = replicate n false
 
--- before its first call
+-- a lane before its first call
 abbrev pub fresh : RelayConfig → State
 fresh c = record {
   config = c;
@@ -155,7 +155,7 @@ is_flying number s = delivery.is_flying number s.core
 abbrev pub writes_of : ℕ → State → List Write
 writes_of number s = delivery.writes_at (from_zero number) s.core.flying
 
--- the number of the first of them
+-- the number of the first request in a list
 abbrev pub first_number : List delivery.Flying → Option ℕ
 first_number [] = None
 first_number (f ∷ fs) = Some (from_one f.request)
@@ -183,7 +183,7 @@ is_retried_fate fates.Retried = true
 is_retried_fate (fates.Halved cap) = true
 is_retried_fate (fates.Reported cause) = false
 
--- the number of operations for which an answer has this fate
+-- the number of operations whose fate, by an answer, passes the test
 abbrev pub count_fates : (fates.Fate → Bool) → State → ℕ → Answer → ℕ
 count_fates test s number a = how_many test s.core.config (from_zero number) (writes_of number s) a (delivery.held_of s.core.held)
 
@@ -196,7 +196,7 @@ pub record AreCounts (s : State) (number : ℕ) (a : Answer) (c : Settled) : Typ
 
 -- ---- looks
 
--- it waits, and no held operation of its document is older
+-- the operation waits, and no held operation of its document is older
 abbrev pub is_eligible : State → delivery.Entry → Bool
 is_eligible s e = delivery.waits e.held.flies && not (delivery.is_later (delivery.held_of s.core.held) e.held)
 

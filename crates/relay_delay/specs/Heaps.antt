@@ -62,7 +62,7 @@ AllUpTo v es = AllByRecursion (λ (e : Entry). e.version ≤ v) es
 abbrev pub AllFrom : ℕ → List Entry → Type 0
 AllFrom v es = AllByRecursion (λ (e : Entry). v ≤ e.version) es
 
--- there is a first one, and its version is at most this one
+-- there is a first operation, and its version is at most this one
 abbrev pub StartsUpTo : ℕ → List Entry → Type 0
 StartsUpTo v [] = ⊥
 StartsUpTo v (e ∷ es) = e.version ≤ v

@@ -30,7 +30,7 @@ abbrev pub tries_left : ℕ → List Held → ℕ
 tries_left max [] = 0
 tries_left max (h ∷ hs) = (max - h.attempts) + halvings h.cap + tries_left max hs
 
--- each further request uses up at least one of them
+-- each further request uses up at least one of these tries and halvings
 abbrev pub WithinTriesLeft : Type 0
 WithinTriesLeft =
     (g : Config) (c : Core) (more : List Step) → 0 < g.max → CameAbout g c → AllMayStep g more c → AllDraining more →

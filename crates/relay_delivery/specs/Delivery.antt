@@ -12,7 +12,7 @@ use Rattle.relay_delivery.specs.Machine.{Config, version_at, Held, Place, Core, 
 
 -- ---- sound
 
--- what it took from a producer, in order
+-- what the lane took from a producer, in order
 abbrev pub taken_of : List Op → ℕ → List Op
 taken_of taken p = filter (is_from p) taken
 
@@ -73,7 +73,7 @@ SoundAlways =
     (g : Config) (c : Core) → CameAbout g c → HasDistinctNames c.taken →
     IsSound g c.taken c.reports c.outside (applied_ops g c.taken c.outside)
 
--- and by the same attribution it is complete if nothing is held
+-- and by the same attribution delivery is complete if nothing is held
 abbrev pub CompleteAtTheEnd : Type 0
 CompleteAtTheEnd =
     (g : Config) (c : Core) → CameAbout g c → HasDistinctNames c.taken → c.held ≡ [] →

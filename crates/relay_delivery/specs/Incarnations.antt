@@ -16,12 +16,12 @@ use Rattle.relay_delivery.specs.Restarts.{Incarnation, with_running, after_resta
 
 -- ---- what was accepted
 
--- from a producer, in all incarnations
+-- what was accepted from a producer, in all incarnations
 abbrev pub accepted_over : List Incarnation → ℕ → List Op
 accepted_over [] p = []
 accepted_over (i ∷ is) p = i.accepted p ++ accepted_over is p
 
--- from a producer, in the incarnation with this epoch; none if there was no such incarnation
+-- what was accepted from a producer in the incarnation with this epoch; nothing if there was no such incarnation
 abbrev pub accepted_in : List Incarnation → ℕ → ℕ → List Op
 accepted_in [] e p = []
 accepted_in (i ∷ is) e p = if i.config.epoch == e then i.accepted p else accepted_in is e p

@@ -67,7 +67,7 @@ waits (Some f) = false
 abbrev pub is_later : List Held → Held → Bool
 is_later hs h = list_any (λ (j : Held). same_document (document_of j.op.key) (document_of h.op.key) && nat_lt j.version h.version) hs
 
--- it is eligible and due
+-- the operation is eligible and due
 abbrev pub is_candidate : State → Entry → Bool
 is_candidate s e = waits e.held.flies && (nat_le e.due s.clock && not (is_later (held_of s.held) e.held))
 
@@ -144,8 +144,8 @@ pub record IsOf (s : State) (c : Core) : Type 0 where
   pub requests : s.requests ≡ length c.outside.requests
   pub flying : (f : Flying) → Mem f s.flying → slice_get c.outside.requests f.request ≡ Some (record { writes = f.writes; answer = Unanswered })
 
--- it took these operations, its requests are those that were sent, in order, and it was settled by their answers
--- alone: both came about by the same steps, from a fresh lane and an opening
+-- the lane took these operations, its requests are those that were sent, in order, and it was settled by their answers
+-- alone: the lane and the outside came about by the same steps, from a fresh lane and an opening
 pub record Fits (s : State) (taken : List Op) (out : Outside) : Type 0 where
   pub core : Core
   pub came_about : CameAbout s.config core
@@ -207,7 +207,7 @@ TotalWhereItFits =
     (s.taken ≡ length taken) × (s.requests ≡ length out.requests)
     × (length s.held + (s.applied + s.already) + length s.reports ≡ s.taken)
 
--- each write that was sent is that of an operation that it took, under the version assigned when it was taken
+-- each write that was sent is that of an operation that the lane took, with the version assigned when it was taken
 abbrev pub WritesWhereItFits : Type 0
 WritesWhereItFits =
     (s : State) (taken : List Op) (out : Outside) → Fits s taken out → (q : Request) → Mem q out.requests → (w : Write) →

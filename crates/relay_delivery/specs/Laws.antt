@@ -171,7 +171,7 @@ AssignsTwo =
 
 -- ---- schedules
 
--- before a schedule nothing was sent, and its end continues that
+-- before a schedule nothing was sent, and the outside at its end continues the one before
 abbrev pub PlaysFromOpening : Type 0
 PlaysFromOpening =
     (accepted : List Op) (events : List Event) (k : Document) (ws : List Write) (ops : List Op) →

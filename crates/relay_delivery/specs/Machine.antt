@@ -77,7 +77,7 @@ pub record Core : Type 0 where
 abbrev pub held_at : Config → ℕ → Op → Held
 held_at g place o = record { op = o; version = version_at g place; sends = 0; attempts = 0; cap = g.cap; flies = None }
 
--- it is held if a version is left for it, otherwise reported
+-- an operation is held if a version is left for it, and otherwise reported
 abbrev pub held_if : Bool → Config → ℕ → Op → List Held
 held_if true g place o = held_at g place o ∷ []
 held_if false g place o = []
@@ -98,7 +98,7 @@ take g o c = record {
 
 -- ---- a request is sent
 
--- it waits, and no held operation of its document has a lower version
+-- the operation waits, and no held operation of its document has a lower version
 pub record IsEligible (held : List Held) (h : Held) : Type 0 where
   pub is_held : Mem h held
   pub waits : h.flies ≡ None
@@ -154,11 +154,11 @@ fate_of g number ws a h (Some f) =
     then fate (record { sends = h.sends; attempts = h.attempts; max = g.max }) ws f.place (kind_of h.op.action) a
     else Flies
 
--- it waits to be sent again
+-- the operation waits to be sent again
 abbrev pub back_to_wait : Held → Held
 back_to_wait h = record { op = h.op; version = h.version; sends = h.sends; attempts = h.attempts; cap = h.cap; flies = None }
 
--- it waits to be sent under this cap, and its try is given back
+-- the operation waits to be sent under this cap, and its try is given back
 abbrev pub with_cap : ℕ → Held → Held
 with_cap cap h = record { op = h.op; version = h.version; sends = h.sends; attempts = h.attempts - 1; cap = cap; flies = None }
 
@@ -267,7 +267,7 @@ pub record IsFresh (g : Config) (c : Core) : Type 0 where
   pub opening : IsOpening c.outside
   pub below : (k : Document) (u : ℕ) → c.outside.stored k ≡ Some u → u < g.first
 
--- it came about by steps that may happen, starting from a fresh lane
+-- the core came about by steps that may happen, starting from a fresh lane
 pub record CameAbout (g : Config) (c : Core) : Type 0 where
   pub start : Core
   pub fresh : IsFresh g start

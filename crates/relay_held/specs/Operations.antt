@@ -12,18 +12,18 @@ waits_here (Some s) = false
 abbrev pub more : ℕ → ℕ
 more n = if nat_lt n 4294967295 then n + 1 else n
 
--- it is sent
+-- the operation is sent
 abbrev pub launch_one : ℕ → ℕ → Kept → Kept
 launch_one number place h = record h { sends = more h.sends; attempts = more h.attempts; flies = Some (record { request = number; place = place }); write = None }
 
--- it waits again, with its write
+-- the operation waits again, with its write
 abbrev pub back_at : ℕ → Write → Kept → Kept
 back_at due w h = record h { flies = None; due = due; write = Some w }
 
--- it waits again, with its write, under a cap, and its try is given back
+-- the operation waits again, with its write, under a cap, and its try is given back
 abbrev pub halved_at : ℕ → ℕ → Write → Kept → Kept
 halved_at due cap w h = record h { flies = None; attempts = h.attempts - 1; cap = cap; due = due; write = Some w }
 
--- what a batch needs to know of it
+-- what a batch needs to know of an operation
 abbrev pub candidate_of : Kept → Candidate
 candidate_of h = record { name = h.name; version = h.version; bytes = h.bytes; cap = h.cap; taken_at = h.taken_at }

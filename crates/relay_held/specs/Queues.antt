@@ -26,7 +26,7 @@ AllUnder v (h ∷ hs) = (h.version < v) × AllUnder v hs
 abbrev pub same_key : DocKey → DocKey → Bool
 same_key a b = same_document (document_of a) (document_of b)
 
--- it is an operation of the document
+-- this is an operation on the document
 abbrev pub is_of : DocKey → Kept → Bool
 is_of k h = same_key k h.key
 

@@ -28,7 +28,7 @@ pub record IsQuiet (c : Connection) : Type 0 where
   pub held : c.held ≡ []
   pub left : c.left ≡ None
 
--- before its first call
+-- a connection before its first call
 abbrev pub fresh : Option (List ℕ) → Option (List ℕ) → ℕ → Connection
 fresh left written failed = record { held = []; left = left; written = written; failed = failed; phase = phase.Open }
 

@@ -11,8 +11,8 @@ pub record Shown : Type 0 where
 abbrev pub shown_by : Option (List ℕ) → Option (List ℕ) → ℕ → Shown
 shown_by left written failed = record { left = left; written = written; failed = failed }
 
--- The connections that it will provide, and those that it took back, in order; None for a listener that does not show
--- them. Then how many it provided, and how many of its calls failed; these counts saturate at 2^64 - 1.
+-- The connections that a listener will provide, and those that it took back, in order; None if it does not show them.
+-- Then how many it provided, and how many of its calls failed; these counts saturate at 2^64 - 1.
 pub record Listening : Type 0 where
   pub coming : Option (List Shown)
   pub done : Option (List Shown)

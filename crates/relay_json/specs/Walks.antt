@@ -13,7 +13,7 @@ use Rattle.relay_json.specs.declared.walk.Walk.{Walk}
 abbrev pub Reads : ℕ → List Token → Data → List Token → Type 0
 Reads depth tokens d rest = converted of_json (value depth tokens) ≡ Some (d, rest)
 
--- they do not begin with a value
+-- the tokens do not begin with a value
 abbrev pub Refuses : ℕ → List Token → Type 0
 Refuses depth tokens = converted of_json (value depth tokens) ≡ None
 
@@ -54,7 +54,7 @@ IsLeaf (leaf.String s) d = d ≡ string s.now
 IsLeaf leaf.Array d = (ds : Items) × (d ≡ array ds)
 IsLeaf leaf.Object d = (ms : Members) × (d ≡ object ms)
 
--- if it is a number, these tokens begin with it as it is written, and `rest` follows it
+-- if the leaf is a number, these tokens begin with it as it is written, and `rest` follows it
 abbrev pub NumberStands : List Token → Leaf → List Token → Type 0
 NumberStands tokens leaf.Null rest = Unit {0}
 NumberStands tokens (leaf.Bool b) rest = Unit {0}
@@ -63,7 +63,7 @@ NumberStands tokens (leaf.String s) rest = Unit {0}
 NumberStands tokens leaf.Array rest = Unit {0}
 NumberStands tokens leaf.Object rest = Unit {0}
 
--- if it is a number, it is the text that the walk passed
+-- if the leaf is a number, it is the text that the walk passed
 abbrev pub IsNumberPassed : Walk → Leaf → Walk → Type 0
 IsNumberPassed old leaf new = NumberStands old.reader leaf new.reader
 

@@ -33,10 +33,10 @@ WorksOn = (going : Turn → State → Bool) (s t u : State) → Worked going s t
 
 -- ---- the bound
 
--- it may send at most `attempts + 14` requests per operation held, 14 for the halvings of a cap
+-- a lane may send at most `attempts + 14` requests per operation held, 14 for the halvings of a cap
 abbrev pub LeftAtMost : Type 0
 LeftAtMost = (s : State) → IsLane s → sends_left s ≤ length s.core.held * (s.config.attempts + 14)
 
--- it is the sum of the attempts and halvings that are left to what it holds
+-- the number of requests that it may send is the sum of the attempts and halvings that are left to what it holds
 abbrev pub LeftIsTries : Type 0
 LeftIsTries = (s : State) → IsLane s → sends_left s ≡ tries_of s.core

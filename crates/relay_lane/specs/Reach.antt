@@ -9,7 +9,7 @@ use Rattle.relay_core.specs.State.{State, fresh, after_take}
 use Rattle.relay_core.specs.Ties.{ops_of}
 use Rattle.relay_lane.specs.Turns.{Turn, after_turn, MayTurn, Worked}
 
--- it reached this state by its calls, which took these operations, and its next request is numbered after those sent
+-- the lane reached this state by its calls, which took these operations; its next request is numbered after those sent
 pub record IsReached (s : State) (taken : List Op) : Type 0 where
   pub core : Reached s.core taken
   pub next : s.flights.next ≡ s.core.requests + 1

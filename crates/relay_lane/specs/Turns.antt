@@ -47,7 +47,7 @@ abbrev pub after_turns : List Turn → State → State
 after_turns [] s = s
 after_turns (t ∷ ts) s = after_turns ts (after_turn t s)
 
--- each of them is taken if this test holds
+-- each of these turns may be taken, and passes the test
 abbrev pub AllMayTurn : (Turn → State → Bool) → List Turn → State → Type 0
 AllMayTurn going [] s = Unit {0}
 AllMayTurn going (t ∷ ts) s = (going t s ≡ true) × MayTurn t s × AllMayTurn going ts (after_turn t s)
@@ -124,7 +124,7 @@ sends_first Fails s = true
 sends_first (Settles a) s = not (is_some (next_batch s))
 sends_first (Pauses n) s = true
 
--- as long as it holds this many operations, or more
+-- as long as the lane holds at least this many operations
 abbrev pub holds : ℕ → Turn → State → Bool
 holds least t s = nat_le least (length s.core.held) && sends_first t s
 

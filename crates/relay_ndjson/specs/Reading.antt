@@ -16,7 +16,7 @@ pub record Parsing : Type 0 where
   pub phase : Phase
   pub default : Option (List ℕ)
 
--- before its first call
+-- a parser before its first call
 abbrev pub start : Option (List ℕ) → Parsing
 start default = record { held = []; count = 0; line = 0; phase = phase.Open; default = default }
 
@@ -42,7 +42,7 @@ abbrev pub reading : Option (List ℕ) → ℕ → Parsing → Reading
 reading left failed p =
     record { ahead = prepend_known p.held left; held = p.held; count = p.count; line = p.line; phase = p.phase; default = p.default; failed = failed }
 
--- before the first call
+-- a parser and its stream before the first call
 abbrev pub fresh : Option (List ℕ) → ℕ → Option (List ℕ) → Reading
 fresh ahead failed default =
     record { ahead = ahead; held = []; count = 0; line = 0; phase = phase.Open; default = default; failed = failed }

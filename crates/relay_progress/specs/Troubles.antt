@@ -5,7 +5,7 @@ use Rattle.std.specs.declared.io.ErrorKind.TheVariants as kind
 use Rattle.relay_progress.specs.declared.counts.Trouble.{Trouble}
 use Rattle.relay_progress.specs.declared.counts.Trouble.TheVariants as trouble
 
--- by the kind of the system's error
+-- the trouble, by the kind of the system's error
 abbrev pub trouble_of : Option ErrorKind → Trouble
 trouble_of None = trouble.None
 trouble_of (Some kind.ConnectionRefused) = trouble.Refused

@@ -29,11 +29,11 @@ pub record Tries : Type 0 where
   pub attempts : ℕ
   pub max : ℕ
 
--- it is sent again if tries are left
+-- an operation is sent again if tries are left, and otherwise given up
 abbrev pub tried_again : Tries → Fate
 tried_again t = if nat_lt t.attempts t.max then Retried else Reported (cause.GaveUp t.sends)
 
--- by the verdict on its item; a refusal is reported with its status and the type of its error
+-- the fate by the verdict on the operation's item; a refusal is reported with its status and the type of its error
 abbrev pub fate_of_verdict : Tries → Outcome → ItemVerdict → Fate
 fate_of_verdict t o verdict.Applied = Applied
 fate_of_verdict t o verdict.Already = Already
@@ -50,8 +50,8 @@ abbrev pub fate_of_entry : Tries → ActionKind → Option Outcome → Fate
 fate_of_entry t kind None = tried_again t
 fate_of_entry t kind (Some o) = fate_of_item t kind o
 
--- by the whole request: a lost reply and one that does not match are treated alike, 413 halves two or more items, and
--- 429, 502, 503 and 504 are retried
+-- the fate by the answer to the whole request: a lost reply and one that does not match are treated alike, 413 halves
+-- two or more items, and 429, 502, 503 and 504 are retried
 abbrev pub fate : Tries → List Write → ℕ → ActionKind → Answer → Fate
 fate t ws place kind Unanswered = Flies
 fate t ws place kind (Items os) = if matches os ws then fate_of_entry t kind (slice_get os place) else tried_again t

@@ -69,7 +69,7 @@ IsOutcomeOf stored w o =
 
 -- ---- the outside
 
--- one run: of the item at a place of a request, and its outcome
+-- one run: the item at a place of a request, and the outcome
 pub record Ran : Type 0 where
   pub request : ℕ
   pub place : ℕ

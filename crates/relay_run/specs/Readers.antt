@@ -38,7 +38,7 @@ module _ {S : Type 0} (left : S → Option (List ℕ)) (failed : S → ℕ) (ind
   IsFedFrom (Some reader) ops before after fault =
       (new : Reading) × (fed : Feeds (fresh (left reader) (failed reader) index) new before after (answer_of fault)) × (fed.ops ≡ ops)
 
-  -- it was fed from its reader and closed
+  -- the producer was fed from its reader, and closed
   pub record IsFed (reader : Option S) (before : ProducerState) (closed : ClosedProducerState) (fault : Option FeedFault) : Type 0 where
     pub ops : List Operation
     pub after : ProducerState
@@ -48,7 +48,7 @@ module _ {S : Type 0} (left : S → Option (List ℕ)) (failed : S → ℕ) (ind
     pub identity : identity_of_closed closed ≡ identity_of before
 
   -- The producers numbered p, p + 1 and so on, each of which had put nothing, were fed these operations, each from
-  -- the reader at its position, and these are the faults that ended it.
+  -- the reader at its position, and these are the faults that ended the feeding.
   abbrev pub AreFedFrom : List Queue → ℕ → (ℕ → List Operation) → ℕ → List (Option S) → List (Option FeedFault) → Type 0
   AreFedFrom queues epoch ops p readers [] = Unit {0}
   AreFedFrom queues epoch ops p readers (fault ∷ faults) =

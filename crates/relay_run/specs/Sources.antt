@@ -7,7 +7,7 @@ use Rattle.relay_run.specs.declared.source.Source.TheVariants as source
 abbrev pub standard_name : List ℕ
 standard_name = codes "-"
 
--- whether it is standard input
+-- whether a source is standard input
 abbrev pub is_standard : Source → Bool
 is_standard (source.File f) = false
 is_standard (source.Standard s) = true

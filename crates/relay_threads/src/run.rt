@@ -18,8 +18,7 @@ use relay_queue::{Gone, LaneTake};
 use std::alloc::AllocError;
 use std::sync::Wait;
 
-// Makes room for one operation if the lane holds its maximum number: sends and settles until there
-// is.
+// Sends and settles until there is room for one operation, if the lane holds its maximum number.
 fn make_place<W: Wire, P: Pace>(
     lane: &mut Lane,
     wire: &mut W,
