@@ -35,7 +35,7 @@ abbrev pub assigned_at : Config → ℕ → Option ℕ
 assigned_at g place = if nat_lt place g.deals then Some (version_at g place) else None
 
 -- The writes applied to each document are those of distinct operations that were taken, each producer's in order;
--- each report has a true cause, by one assignment of versions, which goes by the places of what was taken; and no
+-- each report has a true cause, by one assignment of versions, which follows the places of what was taken; and no
 -- operation is reported twice.
 pub record IsSound (g : Config) (taken : List Op) (reports : List Report) (s : Outside) (ops : Document → List Op) : Type 0 where
   pub attribution : (k : Document) → IsAttribution (taken_of taken) k (s.applied k) (ops k)

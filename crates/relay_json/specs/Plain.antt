@@ -1,4 +1,4 @@
--- Texts that stand for themselves in a JSON string (RFC 8259, section 7).
+-- Texts that need no escapes in a JSON string (RFC 8259, section 7).
 use Rattle.std.specs.Prelude.{◌≡◌, ℕ, Bool, true, not, ◌&&◌, ◌==◌, nat_le, nat_lt, List}
 use Rattle.std.specs.List.{list_all}
 

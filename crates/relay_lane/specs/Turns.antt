@@ -90,7 +90,7 @@ ticks (t ∷ ts) = ticks_in t + ticks ts
 abbrev pub Paused : ℕ → Option ℕ → Option ℕ → Type 0
 Paused n old new = (p : ℕ) → old ≡ Some p → p + n ≤ last_tick → new ≡ Some (p + n)
 
--- ---- which turns are taken, and how long it goes on
+-- ---- which turns are taken, and for how long
 
 -- all places in flight are taken
 abbrev pub is_crowded : State → Bool
