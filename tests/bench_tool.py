@@ -59,7 +59,7 @@ def lanes():
 def replies():
     for turns in ("1", "2"):
         measures(["replies", turns], b"2 items, 1 errors, statuses 610, TIME ns an item", REPLY)
-    refuses(["replies", "1"], b"the input is no reply: ", b"[]")
+    refuses(["replies", "1"], b"the input is not a reply: ", b"[]")
 
 
 def messages():

@@ -15,7 +15,7 @@ pub enum BenchFault {
     #[error("not all messages came in order")]
     Disorder,
     /// The input is not a reply.
-    #[error("the input is no reply: {0}")]
+    #[error("the input is not a reply: {0}")]
     Reply(ReplyFault),
     /// The input is a reply without items, so there is no time per item.
     #[error("the reply has no items")]

@@ -213,7 +213,7 @@ fn with_outputs<'a>(alloc: Global, command: Command<'a>) -> Result<Command<'a>, 
         .long("progress")
         .action(ArgAction::SetTrue)
         .help(
-            "Show on standard error every second how far the run is, and at once if no connection can be made; a terminal gets the latter without this option too",
+            "Show progress on standard error every second, and a message as soon as no connection can be made; a terminal gets these messages without this option too",
         );
     command.arg(report)?.arg(progress)
 }
