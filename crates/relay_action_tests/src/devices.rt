@@ -1,7 +1,7 @@
 //! Streams over devices that fail: each call of a stream makes one call of its device, and no more.
 ghost use Rattle.std.specs.Prelude.{◌≤◌, IfOk};
 
-use relay_action::{StdStream, StreamFailed};
+use relay_action::{ByteIn, ByteOut, StdStream, StreamFailed};
 use std::io;
 use std::test::Fail;
 
