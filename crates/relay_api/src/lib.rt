@@ -7,13 +7,14 @@
 
 // Documents, actions, operations and streams.
 pub use relay_action::{
-    Action, ActionFault, ActionKind, Body, ByteIn, ByteOut, ByteStream, DocKey, List, Mail,
-    MemStream, Op, OpName, Source, StdStream, StreamFailed, Text, Write, lane_of, write_all,
+    Action, ActionFault, ActionKind, Body, ByteIn, ByteOut, ByteStream, DocKey, ID_LIMIT,
+    INDEX_LIMIT, LAST_VERSION, List, Mail, MemStream, Op, OpName, SOURCE_LIMIT, Source, StdStream,
+    StreamFailed, Text, Write, lane_of, write_all,
 };
 // The bulk format, written and read.
 pub use relay_ndjson::{
-    BulkFault, Input, InputFault, LineKind, TextFault, bulk_len, bulk_text, read_bulk, write_len,
-    write_write,
+    BulkFault, Input, InputFault, LineKind, Parser, TextFault, bulk_len, bulk_text, read_bulk,
+    write_len, write_write,
 };
 // Replies and verdicts.
 pub use relay_results::{
@@ -23,14 +24,16 @@ pub use relay_results::{
 // The stand-in index.
 pub use relay_index::{Choice, Index, Script, ServeFault, may_refuse};
 // A lane, and a lane at work on a wire.
-pub use relay_batch::{Batch, BatchItem, Batcher, Limits, Offer};
-pub use relay_flight::{Flight, Full};
+pub use relay_batch::{Batch, BatchItem, Batcher, Limits, Offer, Room};
+pub use relay_flight::{Flight, Full, Request};
 pub use relay_lane::{
     Lane, NotFlying, Pace, RelayConfig, Report, Settled, TakeFault, Totals, Wire, WireFault,
-    WireReply, collect, drain, make_room, pump,
+    WireReply, collect, drain, make_room, pump, send_ready, settle_next,
 };
 // HTTP/1.1, and the wires.
-pub use relay_http::{Conn, Dial, DialFault, HttpFault, HttpReply, HttpRequest, Listen, Peek};
+pub use relay_http::{
+    AcceptFailed, Conn, Dial, DialFault, HttpFault, HttpReply, HttpRequest, Listen, Peek, is_host,
+};
 pub use relay_loop::LoopWire;
 pub use relay_wires::HttpWire;
 // The world and its scripts.
@@ -38,7 +41,7 @@ pub use relay_scenario::script::{ScriptFault, world_script};
 pub use relay_world::{Event, Refusal, RunEnd, StepAnswer, World};
 // The running relay.
 pub use relay_producer::{
-    ClosedControl, ClosedProducer, Control, Producer, PutFault, PutFaultKind, Receipt,
+    ClosedControl, ClosedEnd, ClosedProducer, Control, Producer, PutFault, PutFaultKind, Receipt,
 };
 pub use relay_queue::{ClosedPut, Gone, LanePut, LaneTake, PutRefusal, Taken, lane_queue};
 pub use relay_threads::{
@@ -49,7 +52,7 @@ pub use relay_threads::{
 pub use relay_commands::apply::{ApplyFault, apply};
 pub use relay_commands::lines::{LinesFault, lines};
 pub use relay_commands::refuse_list::{ListFault, refuse_list};
-pub use relay_net::{TcpDial, TcpListen};
+pub use relay_net::{PatientDial, TcpDial, TcpListen};
 pub use relay_report::{
     Named, PickFault, ReportFault, first_missing, pick, read_names, report_text,
 };
