@@ -4,7 +4,7 @@ use Rattle.std.proofs.lemmas.Bool.Decides.{eqb_tells}
 use Rattle.std.specs.Prelude.{if◌then◌else◌, ◌==◌, ◌&&◌, length, MatchResult, IsErrAnd}
 use Rattle.relay_action.specs.Streams.{one_more}
 use Rattle.relay_action.specs.declared.write.Write.{Write}
-use Rattle.relay_http.specs.Connection.{Connection, is_open, phase_of, after_reply}
+use Rattle.relay_http.specs.Connection.{Connection, is_open, phase_of, after_reply, after_write}
 use Rattle.relay_http.specs.declared.fault.HttpFault.{HttpFault}
 use Rattle.relay_http.specs.declared.reply.HttpReply.{HttpReply}
 use Rattle.relay_lane.specs.declared.wire.WireFault.{WireFault}

@@ -62,7 +62,7 @@ pub(crate) fn carry<S: ByteOut + Drop>(
     requires host { IsTrue (is_host host.now) }
     requires few { length writes.now ≤ 10000 }
     requires size { length (text_of writes.now) ≤ request_limit }
-    ensures on { WritesOn host.now writes.now conn.old conn.new result }
+    ensures { WritesOn host.now writes.now conn.old conn.new result }
 {
     conn.write_request(alloc, host, writes).map_err(fault_sent)
 }

@@ -1,8 +1,8 @@
 use Rattle.relay_wires.proofs.Connections.{told_written}
 use Rattle.relay_wires.proofs.carrying.carry.Goals as goal
 
-pub returns-clause-on : goal.returns-clause-on
-returns-clause-on g c =
+pub returns : goal.returns
+returns g c =
     let lasts = c.requires.lasts in
     record {
       write = c.write_request.result;

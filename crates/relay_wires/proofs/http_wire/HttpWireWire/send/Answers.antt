@@ -22,7 +22,7 @@ invariant_of-self-2 g c =
     let items = c.push_front_reserved.ensures.items in
     record {
       host = c.self.invariant.host;
-      out = open_after c.args.number _ c.args.writes.now c.self.inside.out.items c.push_front_reserved.new.self.items c.in_ok-conn.conn c.carry.new.conn c.in_ok-carry.ensures.on items c.self.invariant.out;
+      out = open_after c.args.number _ c.args.writes.now c.self.inside.out.items c.push_front_reserved.new.self.items c.in_ok-conn.conn c.carry.new.conn c.in_ok-carry.ensures items c.self.invariant.out;
       free = c.in_ok-conn.ensures.free_left;
       few = few_after c.args.number c.self.inside.most _ _ c.self.inside.out.items c.push_front_reserved.new.self.items c.self.inside.free.items c.pick.new.free.items c.in_ok-conn.conn c.carry.new.conn picks.0 items c.self.invariant.few (search rules);
       places = rw c.push_front_reserved.ensures.capacity c.self.invariant.places;
@@ -61,7 +61,7 @@ returns-in_err-carry-clause-sends g c =
     (subst (λ (w : Carrier). Sends c.args.number c.args.writes.now w now (Err c.in_err-carry.field-0.0)) c.self.view_is
     (sends_on c.args.number c.args.writes.now (string_bytes c.self.inside.host) c.self.inside.most c.self.inside.out.items c.self.inside.out.items c.self.inside.free.items c.pick.new.free.items
     (g.D.Dial.failed c.self.inside.dial) (g.D.Dial.failed c.pick.new.dial) (g.D.Dial.dialled c.self.inside.dial) (g.D.Dial.dialled c.pick.new.dial) c.in_ok-conn.conn c.carry.new.conn (Err c.in_err-carry.field-0.0)
-    c.in_ok-conn.ensures.picks (subst (λ h. WritesOn h c.args.writes.now c.in_ok-conn.conn c.carry.new.conn (Err c.in_err-carry.field-0.0)) host c.in_err-carry.ensures.on) refl))
+    c.in_ok-conn.ensures.picks (subst (λ h. WritesOn h c.args.writes.now c.in_ok-conn.conn c.carry.new.conn (Err c.in_err-carry.field-0.0)) host c.in_err-carry.ensures) refl))
 
 pub returns-clause-sends : goal.returns-clause-sends
 returns-clause-sends g c =
@@ -77,4 +77,4 @@ returns-clause-sends g c =
     subst (λ (w : Carrier). Sends c.args.number c.args.writes.now w now (Ok tt)) c.self.view_is
     (sends_on c.args.number c.args.writes.now (string_bytes c.self.inside.host) c.self.inside.most c.self.inside.out.items c.push_front_reserved.new.self.items c.self.inside.free.items c.pick.new.free.items
     (g.D.Dial.failed c.self.inside.dial) (g.D.Dial.failed c.pick.new.dial) (g.D.Dial.dialled c.self.inside.dial) (g.D.Dial.dialled c.pick.new.dial) c.in_ok-conn.conn c.carry.new.conn (Ok tt)
-    c.in_ok-conn.ensures.picks (subst (λ h. WritesOn h c.args.writes.now c.in_ok-conn.conn c.carry.new.conn (Ok tt)) host c.in_ok-carry.ensures.on) c.push_front_reserved.ensures.items)
+    c.in_ok-conn.ensures.picks (subst (λ h. WritesOn h c.args.writes.now c.in_ok-conn.conn c.carry.new.conn (Ok tt)) host c.in_ok-carry.ensures) c.push_front_reserved.ensures.items)
