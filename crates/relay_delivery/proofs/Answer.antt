@@ -1,5 +1,5 @@
 -- An answer settles a request of a lane.
-use Rattle.std.proofs.Common.{◌≡◌, ◌≢◌, ℕ, ◌+◌, ◌-◌, ◌≤◌, List, ◌++◌, Option, Some, true, refl, sym, ap, ◌∙◌, subst, ⊎_elim, inl, inr, arith, Bool, false, length-append}
+use Rattle.std.proofs.Common.{◌≡◌, ◌≢◌, ℕ, ◌+◌, ◌≤◌, List, ◌++◌, Option, Some, true, refl, sym, ap, ◌∙◌, subst, ⊎_elim, inl, inr, arith, Bool, false, length-append}
 use Rattle.std.specs.Prelude.{◌⊎◌, ◌&&◌, not, slice_get, is_some}
 use Rattle.relay_action.specs.Actions.{kind_of}
 use Rattle.relay_action.specs.declared.write.Write.{Write}

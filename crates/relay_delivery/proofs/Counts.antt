@@ -1,6 +1,6 @@
 -- What is counted as applied, and as already applied, is what the answers say.
 use Rattle.std.proofs.Common.{◌≡◌, ℕ, suc, ◌+◌, ◌-◌, ◌≤◌, List, [], ◌∷◌, ◌++◌, Option, Some, None, Bool, true, false, ◌==◌, refl, sym, ap, ◌∙◌, subst, ⊎_elim, inl, inr, arith, length}
-use Rattle.std.specs.Prelude.{◌⊎◌, ◌&&◌, nat_le, nat_lt, slice_get, map, if◌then◌else◌, ◌/◌}
+use Rattle.std.specs.Prelude.{◌&&◌, nat_le, nat_lt, slice_get, map, if◌then◌else◌, ◌/◌}
 use borrow.Author.Tests.{leb-true, leb-false}
 use Rattle.std.proofs.lemmas.Bool.{le-leb}
 use Rattle.relay_action.specs.Actions.{kind_of}

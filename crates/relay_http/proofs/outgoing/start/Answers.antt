@@ -1,1 +1,0 @@
-use Rattle.relay_http.proofs.outgoing.start.Goals as goal
