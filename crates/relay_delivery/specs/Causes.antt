@@ -1,5 +1,5 @@
 -- When the cause of a report is true.
-use Rattle.std.specs.Prelude.{◌≡◌, ◌⊎◌, ℕ, ◌<◌, ◌≤◌, List, [], length, Option, Some, is_some, unwrap_or, slice_get, Bool, true, false, ◌&&◌, not}
+use Rattle.std.specs.Prelude.{◌≡◌, ◌⊎◌, ℕ, ◌+◌, ◌<◌, ◌≤◌, List, [], length, Option, Some, is_some, unwrap_or, slice_get, Bool, true, false, ◌&&◌, not}
 use Rattle.std.specs.List.{list_any}
 use Rattle.relay_action.specs.Actions.{kind_of}
 use Rattle.relay_action.specs.declared.write.Write.{Write}
