@@ -59,12 +59,10 @@ all_free_after reply d free is all = elim (eqb_tells (length d.held) 0) [
     without true = all
     without false = all
 
--- ---- a request on the connection that was picked
+-- ---- a request is sent
 
 abbrev carrier : (host : List ℕ) (most : ℕ) (out : List (ℕ × Connection)) (free : List Connection) (failed dialled : ℕ) → Carrier
 carrier host most out free failed dialled = record { host = host; most = most; out = out; free = free; failed = failed; dialled = dialled }
-
--- ---- the fault of sending
 
 -- the lane gets the result with its fault mapped
 pub told_written : (r : Result (Unit {0}) HttpFault) (s : Result (Unit {0}) WireFault)
