@@ -1,5 +1,5 @@
 # The commands of this repository. `rt` is the kit's command.
-.PHONY: demo check test refusals build bench
+.PHONY: demo try check edits test refusals build bench
 
 # Proves and builds the program, its crates in parallel.
 build:
@@ -9,17 +9,28 @@ build:
 demo:
 	@python3 examples/demo.py
 
+# Runs every test, of the crates and of the program, built without proof.
+try:
+	@python3 tests/try.py
+
 # Proves one crate, runs its tests and tries its edits: `make check CRATE=relay_core`.
 check:
 	@test -d "crates/$(CRATE)/src" || { echo "usage: make check CRATE=NAME, where crates/NAME is a crate"; exit 1; }
 	cd crates/$(CRATE) && rt check
 	@if test -d crates/$(CRATE)_tests; then cd crates/$(CRATE)_tests && rt test; fi
 	@if test -d crates/$(CRATE)/must-fail; then rt must-fail $(CRATE); fi
+	@if test -d crates/$(CRATE)/edits; then python3 tests/edits.py $(CRATE); fi
+
+# Tries the edits in crates/*/edits; the kit's gate tries those in crates/*/must-fail.
+edits:
+	python3 tests/edits.py
 
 # The gate, with the processor minutes of each crate, and then the end-to-end tests of the program that it proved and built.
 test:
 	@echo "following the pointers of the tables of rules"
 	python3 tests/pointers.py
+	@echo "testing the script that tries edits"
+	python3 tests/edits_test.py
 	@echo "running the gate; this takes a long time, and reports its progress every minute"
 	python3 tests/gate.py
 	@echo "passing what relay_http writes to Python's HTTP client and server"

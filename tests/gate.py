@@ -1,23 +1,41 @@
-"""Runs the gate, `rt ci`, and prints its progress and what each crate costs: `python3 tests/gate.py`, at the top.
+"""Runs the gate, `rt ci` and then `edits.py`, and prints its progress and what each crate costs: `python3 tests/gate.py`, at the top.
 
-`rt ci` reports no times. So this looks at the processes below it, twice a second, and adds up the processor time of
-each crate: for its proof, its tests and its must-fail edits. What ends between two looks is counted up to the
+`rt ci` reports no times. So this looks at the processes below, twice a second, and adds up the processor time of
+each crate: for its proof, its tests and its edits. What ends between two looks is counted up to the
 earlier one. The budget of a crate is 15 processor minutes, and 20 for the largest (`docs/CONTRIBUTING.md`).
 
-The output of `rt ci` is passed on as it arrives. If the gate fails, its lines on each failure are repeated at the end,
-below the table, for those who see only the end of a log.
+Before `rt ci` tries the must-fail edits of a crate, it proves the crate once more, into a folder that it removes later. This
+keeps a copy, so that `edits.py` does not have to prove the crate a third time; without the copy it does.
+
+The output is passed on as it arrives. If the gate fails, its lines on each failure are repeated at the end,
+below the table, for those who see only the end of a log. The costs of the most expensive crates, their sum and the number of edits,
+or the failures, are also left in `out/gate.txt`.
 """
 import collections
+import contextlib
 import os
 import re
+import shutil
 import subprocess
 import sys
 import threading
 import time
 
+from edit_checks import link
+from edits import SEEDS
+
 TICKS = os.sysconf("SC_CLK_TCK")
+HERE = os.path.dirname(os.path.abspath(__file__))
+LEFT = os.path.join(os.path.dirname(HERE), "out", "gate.txt")
+# The two steps of the gate, and what each says of its edits at the end.
+STEPS = (
+    ("proving every crate, with its tests and must-fail edits", ["rt", "ci"], re.compile(r"^rt: .*; must-fail edits: (\d+) refused")),
+    ("trying the other edits", [sys.executable, os.path.join(HERE, "edits.py"), "--gate"], re.compile(r"^edits: \d+ tried in .*, (\d+) refused")),
+)
 PARTS = ("proof", "tests", "edits")
 BUDGET, LARGEST = 15, 20
+# How many crates have a row in what is left.
+ROWS_LEFT = 15
 LOOK, TELL = 0.5, 60
 # What marks a line of `rt ci` on a failure, and how many such lines are repeated.
 FAILURE = re.compile(r"NOT PROVED|NOT REFUSED|BAD EDIT|FAILED|: error|not-proved|panicked|^rt: .*(status|differ|had not ended|stopped)")
@@ -44,9 +62,23 @@ class Process:
         return words[words.index("--crate-name") + 1] if "--crate-name" in words[:-1] else None
 
     def part(self):
-        if "/rt-edit-" in self.folder:
+        if re.search("/(rt|relay)-edit", self.folder):
             return "edits"
         return "tests" if "--test" in self.words else "proof"
+
+    def seed(self):
+        """Returns the folder that `rt ci` proved the crate into, if this process tries an edit over a copy of it."""
+        over = self.words[self.words.index("--incremental") + 1] if "--incremental" in self.words[:-1] else ""
+        return re.sub(r"/\d+$", "/seed", over) if re.search(r"/rt-edits-[^/]*/\d+$", over) else None
+
+
+def keep(seed, crate):
+    """Keeps a copy of what `rt ci` proved, for `edits.py`."""
+    place = os.path.join(SEEDS, crate)
+    with contextlib.suppress(OSError, shutil.Error):
+        if not os.path.exists(place):
+            shutil.copytree(seed, place + ".part", copy_function=link)
+            os.rename(place + ".part", place)
 
 
 def processes():
@@ -88,6 +120,8 @@ class Watch(threading.Thread):
             if task:
                 self.seconds[number, process.started] = (task, process.seconds)
                 at.add(task)
+                if process.seed():
+                    keep(process.seed(), task[0])
         return at
 
     def run(self):
@@ -111,17 +145,23 @@ class Watch(threading.Thread):
         return table
 
 
-def tell(table, total):
-    print("processor minutes of each crate")
-    print("  %-24s %7s %7s %7s %7s" % ("", *PARTS, "all"))
+def costs(table, total):
+    """Returns the lines of the table: its heading, a line for each crate, the most expensive first, and the sums."""
+    lines = ["processor minutes of each crate", "  %-24s %7s %7s %7s %7s" % ("", *PARTS, "all")]
     rows = sorted(table.items(), key=lambda row: -sum(row[1].values()))
     for place, (crate, parts) in enumerate(rows):
         spent = sum(parts.values()) / 60
         limit = LARGEST if place == 0 else BUDGET
         over = "  over its %d" % limit if spent > limit else ""
-        print("  %-24s %7.1f %7.1f %7.1f %7.1f%s" % (crate, *(parts[it] / 60 for it in PARTS), spent, over))
+        lines.append("  %-24s %7.1f %7.1f %7.1f %7.1f%s" % (crate, *(parts[it] / 60 for it in PARTS), spent, over))
     sums = [sum(parts[it] for parts in table.values()) / 60 for it in PARTS]
-    print("  %-24s %7.1f %7.1f %7.1f %7.1f" % ("all", *sums, total / 60))
+    return [*lines, "  %-24s %7.1f %7.1f %7.1f %7.1f" % ("all", *sums, total / 60)]
+
+
+def leave(lines):
+    os.makedirs(os.path.dirname(LEFT), exist_ok=True)
+    with open(LEFT, "w") as file:
+        file.writelines(line + "\n" for line in lines)
 
 
 def failures_of(said):
@@ -142,19 +182,31 @@ def pass_on(said):
 
 
 def main():
-    print("proving every crate, with its tests and must-fail edits", flush=True)
-    gate = subprocess.Popen(["rt", "ci"], stdout=subprocess.PIPE, stderr=subprocess.STDOUT, text=True, errors="replace")
-    watch = Watch(gate.pid)
+    shutil.rmtree(SEEDS, ignore_errors=True)
+    watch, refused = Watch(os.getpid()), []
     watch.start()
-    failures = failures_of(pass_on(gate.stdout))
-    status = gate.wait()
+    for what, words, told in STEPS:
+        print(what, flush=True)
+        step = subprocess.Popen(words, stdout=subprocess.PIPE, stderr=subprocess.STDOUT, text=True, errors="replace")
+        said = list(pass_on(step.stdout))
+        status = step.wait()
+        if status:
+            break
+        refused += [int(found[1]) for found in map(told.match, said) if found]
     watch.ended.set()
     watch.join()
-    tell(watch.table(), watch.total())
+    shutil.rmtree(SEEDS, ignore_errors=True)
+    lines = costs(watch.table(), watch.total())
+    print("\n".join(lines))
+    left = [*lines[: 2 + ROWS_LEFT], lines[-1]]
     if status:
-        print("what failed:")
-        for line in failures:
-            print("  " + line[:300])
+        failed = ["what failed:", *("  " + line[:300] for line in failures_of(said))]
+        print("\n".join(failed))
+        leave([*left, *failed])
+    else:
+        edits = "edits tried and refused: %d" % sum(refused)
+        print(edits)
+        leave([*left, edits])
     sys.exit(status)
 
 

@@ -1,0 +1,58 @@
+"""Checks a crate with some of its texts changed, over what earlier checks kept."""
+import itertools
+import os
+import re
+import shutil
+import subprocess
+import tempfile
+
+from crates import CRATES, below, lines_of
+
+KIT = os.path.dirname(os.path.dirname(os.path.realpath(shutil.which("rt") or "rt")))
+PARTS = ("src", "specs", "proofs")
+
+
+def check(crate, texts, kept, only):
+    """Checks the crate with these texts in place of its own, over what earlier checks kept. Returns the status and the output."""
+    own = lines_of()[crate].partition(":")[2].split()
+    words = [os.path.join(KIT, "bin", "rattle"), "check", "--crate-name", crate, "src/lib.rt", "-L", "dependency=%s/rlibs" % KIT]
+    for name in ["std", *own]:
+        words += ["--extern", "%s=%s" % (name, rlib(name) if name in lines_of() else "%s/rlibs/%s.rlib" % (KIT, name))]
+    for name in below(crate):
+        words += ["-L", "dependency=" + os.path.dirname(rlib(name))]
+    words += ["--antt-project", "%s/rattle/logic/antt-project.json" % KIT, "--logic-built", "%s/logic_built" % KIT]
+    words += ["--jobs", "1", "--incremental", kept, *itertools.chain(*(("--only", name) for name in only))]
+    with tempfile.TemporaryDirectory(prefix="relay-edits-") as room:
+        for part in PARTS:
+            if os.path.isdir(os.path.join(CRATES, crate, part)):
+                shutil.copytree(os.path.join(CRATES, crate, part), os.path.join(room, part))
+        for path, text in texts.items():
+            with open(os.path.join(room, path), "w", encoding="utf-8") as file:
+                file.write(text)
+        ran = subprocess.run(words, cwd=room, stdin=subprocess.DEVNULL, stdout=subprocess.PIPE, stderr=subprocess.STDOUT, text=True, errors="replace")
+    return ran.returncode, ran.stdout
+
+
+def rlib(crate):
+    return os.path.join(CRATES, crate, "out", "rlib", crate + ".rlib")
+
+
+def is_verdict(said):
+    """Returns true if the check came to its end."""
+    return re.match(r"only=|logic=", said.strip().rpartition("\n")[2]) is not None
+
+
+def link(one, other):
+    """Gives what was proved a second name: a check replaces such a file, and changes none."""
+    try:
+        return os.link(one, other) if one.endswith(".oantt") else shutil.copy2(one, other)
+    except OSError:
+        return shutil.copy2(one, other)
+
+
+def is_ready(crate, after_gate):
+    """Returns true once the libraries below the crate are built."""
+    by_gate = [os.path.isdir(rlib(it)) and not os.path.exists(os.path.join(os.path.dirname(rlib(it)), "stamp")) for it in below(crate)]
+    if after_gate and all(by_gate):
+        return True
+    return subprocess.run(["rt", "check", "--only", ""], cwd=os.path.join(CRATES, crate), stdout=subprocess.DEVNULL).returncode == 0

@@ -1,0 +1,153 @@
+"""Reads an edit's file, finds the function that it changes, and tells whether the prover refuses that function.
+
+The format is that of the kit's must-fail edits: a line `file: PATH`, then pairs of lines `old: TEXT` and `new: TEXT`, made one after
+another; each old text must occur once. An edit has a place if it changes one function alone, body or contract.
+"""
+import collections
+import functools
+import glob
+import os
+import re
+
+from crates import CRATES
+
+# An error of the prover: its file, its line, the name of what it refuses, and what it says.
+ERROR = re.compile(r"(?:note: )?(?:\./)?(\S+?):(\d+):\d+: (?:error(?:\[[\w-]+\])?: (?:`[^`]*`: )?|(?=it is not proved))(.*)")
+# What it says of a text that it cannot read, or of a proof that names what an edit removed: neither says anything of a contract.
+UNREAD = re.compile(r"is not in scope|has no field|has no `|is no name|was not admitted|operand is missing|expected the end|cannot continue")
+# The head of an impl block or of a trait, or of a function.
+ITEM = r"^(?:impl\b[^{]*\{|(?:pub )?trait \w+[^{]*\{)|^( *)(?:pub(?:\([\w:]+\))? )?(?:const |unsafe )*fn (\w+).*"
+# The function that an edit changes: its file, its name, its first and last line, and where its proof files are.
+Place = collections.namedtuple("Place", "file name first last proofs")
+
+
+class Unusable(Exception):
+    """An edit that cannot be applied, compiled or read."""
+
+
+def text_of(path):
+    with open(path, encoding="utf-8") as file:
+        return file.read()
+
+
+def owner_of(header):
+    """Returns the name that the prover gives to an impl block: the type, the trait and the trait's concrete arguments."""
+    generics = re.match(r"impl(<(?:[^<>]|<[^<>]*>)*>)?", header)
+    parameters = re.findall(r"[<,]\s*('?\w+)", generics[1] or "")
+    trait, _, named = header[generics.end() :].partition("{")[0].rpartition(" for ")
+    arguments = [it for it in re.findall(r"[\w']+", trait.partition("<")[2]) if it not in parameters and not it.startswith("'")]
+    return re.match(r"\s*(?:\w+::)*(\w+)", named)[1] + "".join(re.findall(r"(\w+)\s*(?:<|$)", trait)[:1] + arguments)
+
+
+def module_of(path):
+    """Returns the names of the modules that lead to a source file."""
+    return [it for it in path[len("src/") : -len(".rt")].split("/") if it != "lib"]
+
+
+def arguments_of(header):
+    """Returns the arguments of the type in the head of an impl block, or the parameters in that of a type."""
+    named = header.partition("{")[0].rpartition(" for ")[2] if header.startswith("impl") else header
+    generics = re.match(r"(?:impl(?:<(?:[^<>]|<[^<>]*>)*>)?)?[^<]*<(.*)>", named)
+    return [it for it in re.split(r",\s*(?![^<]*>)", generics[1]) if it] if generics else []
+
+
+@functools.lru_cache(maxsize=None)
+def defaulted(crate):
+    """Returns the number of parameters of each type of a crate of which some have defaults."""
+    heads = [it for path in glob.glob(os.path.join(CRATES, crate) + "/src/**/*.rt", recursive=True) for it in re.findall(r"^(?:pub )?struct (\w+)(<.* = .*>)", text_of(path), re.M)]
+    return {name: len(arguments_of("struct" + generics)) for name, generics in heads}
+
+
+@functools.lru_cache(maxsize=None)
+def homes(crate):
+    """Returns the module of each type of a crate: the prover names its methods by it, wherever their impl block is."""
+    found, top = {}, os.path.join(CRATES, crate)
+    for path in glob.glob(top + "/src/**/*.rt", recursive=True):
+        for name in re.findall(r"^(?:pub(?:\(\w+\))? )?(?:struct|enum) (\w+)", text_of(path), re.M):
+            found[name] = module_of(os.path.relpath(path, top))
+    return found
+
+
+def functions_of(crate, path, text):
+    """Yields the place of each function of a source file, which is in the layout of `rt fmt`. Functions of traits have none."""
+    owner = None
+    for item in re.finditer(ITEM, text, re.M):
+        indent, name = item[1], item[2]
+        if name is None:
+            owner = owner_of(item[0]) if item[0].startswith("impl") else None
+            given = arguments_of(item[0]) if owner in defaulted(crate) else []
+            if given and len(given) < defaulted(crate)[owner]:
+                # The prover names such a block where it is.
+                owner = "+".join([owner, *given])
+            continue
+        if indent and owner is None:
+            continue
+        lines, first = text.split("\n"), text.count("\n", 0, item.start())
+        last = first if lines[first].endswith("}") else next((at for at in range(first, len(lines)) if lines[at] == indent + "}"), first)
+        # The prover's line of a function is that of its first attribute.
+        while first and lines[first - 1].strip() and not re.match(r"\s*//|.*[};{]$", lines[first - 1]):
+            first -= 1
+        home = homes(crate).get(owner, module_of(path)) + [owner] if indent else module_of(path)
+        cycle = re.search(r"^ *#\[cycle\((\w+)\)\]", "\n".join(lines[first:last]), re.M)
+        proofs = "/".join(["proofs", *home, "+" + cycle[1] if cycle else name, ""])
+        yield Place(path, "::".join([*home, name]), first + 1, last + 1, proofs)
+
+
+class Edit:
+    def __init__(self, crate, path):
+        self.crate, self.name, self.pairs = crate, "%s/%s" % (crate, os.path.basename(path)), []
+        file = old = None
+        for line in text_of(path).split("\n"):
+            if line.startswith("file: "):
+                file = line[len("file: ") :].strip()
+            elif line.startswith("old: "):
+                old = line[len("old: ") :]
+            elif line.startswith("new:") and file and old:
+                self.pairs.append((file, old, line[len("new:") :].removeprefix(" ")))
+                old = None
+        self.place = self.found()
+
+    def text(self, path):
+        """Returns a file of the crate as it stands, or nothing if the edit may not name it."""
+        place = os.path.join(CRATES, self.crate, path)
+        return text_of(place) if path.startswith(("src/", "specs/", "proofs/")) and os.path.isfile(place) else ""
+
+    def made(self, texts):
+        """Returns the texts of the crate's files with the edit made in them."""
+        changed = dict(texts)
+        for path, old, new in self.pairs:
+            text = changed.get(path) or self.text(path)
+            if text.count(old) != 1:
+                raise Unusable("an old text occurs %d times in %s, and not once" % (text.count(old), path))
+            changed[path] = text.replace(old, new)
+        if not self.pairs or changed == texts:
+            raise Unusable("it changes nothing")
+        return changed
+
+    def found(self):
+        """Returns the place of the function that the edit changes, or None if it changes anything else."""
+        places = set()
+        for path, old, _ in self.pairs:
+            text = self.text(path) if path.startswith("src/") else ""
+            line = text.count("\n", 0, text.find(old)) + 1 if text.count(old) == 1 else 0
+            places.add(next((it for it in functions_of(self.crate, path, text) if it.first <= line <= it.last), None))
+        return places.pop() if len(places) == 1 else None
+
+    def refused(self, said):
+        """Returns true if the prover refuses this function for an error of its own."""
+        place, inside, proofs = self.place, [], []
+        for path, line, text in errors_of(said):
+            if path == place.file and place.first <= line <= place.last:
+                inside.append(text)
+            elif path.startswith(place.proofs):
+                proofs.append(text)
+        unread = [text for text in inside if UNREAD.search(text)]
+        if unread:
+            raise Unusable("the prover cannot read it: " + unread[0][:200])
+        verdict = re.search(r"^fn %s::%s: (not proved|no proof)" % (self.crate, re.escape(place.name)), said, re.M)
+        return verdict is not None and any(not UNREAD.search(text) for text in inside + proofs)
+
+
+def errors_of(said):
+    """Returns the file, the line and the text of each error."""
+    return [(at[1], int(at[2]), re.sub(r"`[^`]*`", "``", at[3])) for at in map(ERROR.match, said.split("\n")) if at]

@@ -1,0 +1,178 @@
+"""Tries the edits of `crates/*/edits`, several in one check: `python3 tests/edits.py [--gate] [CRATE..]` at the top.
+
+Each is a wrong body that the prover must refuse, in the format of the kit's must-fail edits. A proof rests on the contracts of what
+its function calls and not on their bodies, so edits of different functions are tried in one check. Such an edit is refused if the
+prover reports an error of the function itself, at its own lines or in its own proof files: that it calls a function which another
+edit broke does not count. An edit that its batch does not refuse is tried again alone. So is an edit of more than one function or of
+a definition, for which any error counts. The run fails if an edit is not refused, or cannot be applied, compiled or read.
+
+With --gate, the libraries below are those that `rt ci` has just built, and the first check of a crate begins with what `gate.py`
+kept of it. Otherwise `rt check` builds the libraries that changed, and the first check begins with what `rt check` kept.
+
+The edits of a crate that were all refused are not tried again until it, a crate below it or one of them changes.
+"""
+import collections
+import concurrent.futures
+import contextlib
+import hashlib
+import itertools
+import os
+import re
+import shutil
+import sys
+import tempfile
+import threading
+import time
+
+from crates import CRATES, TOP, add_file, files_below, lines_of, sum_of
+from edit_checks import check, is_ready, is_verdict, link
+from edit_files import UNREAD, Edit, Unusable, errors_of, text_of
+
+# Where `gate.py` keeps what `rt ci` proved of a crate.
+SEEDS = os.path.join(TOP, "out", "seeds")
+# Where the checksums of crates are kept whose edits were all refused.
+DONE = os.path.join(TOP, "out", "edits")
+SCRIPTS = ("crates.py", "edit_checks.py", "edit_files.py", "edits.py")
+# The memory that one check may take, in bytes, and how often the progress is reported, in seconds.
+MEMORY, TELL = 3 << 30, 60
+
+
+def alone(edit, kept):
+    """Tries one edit. Returns None if it is refused, or else why that fails."""
+    status, said = check(edit.crate, edit.made({}), kept, [edit.place.name] if edit.place else [])
+    errors = errors_of(said)
+    told = "; ".join("%s:%d: %s" % error for error in errors[:2])[:300] or said.strip().rpartition("\n")[2][:300]
+    if status == 0:
+        return "NOT REFUSED: the function is still proved" if edit.place else "NOT REFUSED: the crate is still proved"
+    if not is_verdict(said):
+        raise Unusable("it did not reach the prover, or the prover gave no verdict: " + told)
+    if edit.place:
+        return None if edit.refused(said) else "NOT REFUSED by an error of its own function: " + told
+    if any(UNREAD.search(text) and path in (it for it, _, _ in edit.pairs) for path, _, text in errors):
+        raise Unusable("the prover cannot read it: " + told)
+    return None if errors else "NOT REFUSED by an error: " + told
+
+
+class Run:
+    def __init__(self, after_gate):
+        self.after_gate, self.lock, self.ended = after_gate, threading.Lock(), threading.Event()
+        self.at, self.tried, self.checks, self.earlier, self.failures = set(), 0, 0, 0, []
+
+    def tell(self):
+        while not self.ended.wait(TELL):
+            print("edits: at %s; %d tried in %d checks" % (", ".join(sorted(self.at)), self.tried, self.checks), flush=True)
+
+    def count(self, tried, checks=1, earlier=0):
+        with self.lock:
+            self.tried, self.checks, self.earlier = self.tried + tried, self.checks + checks, self.earlier + earlier
+
+    def fail(self, name, why):
+        self.failures.append("%s: %s" % (name, why))
+        print("edits: " + self.failures[-1], flush=True)
+
+    def crate(self, crate):
+        """Tries the edits of a crate, unless an earlier run refused them all."""
+        edits, stamp, place = edits_of(crate), stamp_of(crate), os.path.join(DONE, crate)
+        if os.path.exists(place) and text_of(place) == stamp:
+            self.count(len(edits), 0, len(edits))
+            return print("edits: %s: an earlier run of the same files refused its %d" % (crate, len(edits)), flush=True)
+        self.at.add(crate)
+        if not is_ready(crate, self.after_gate):
+            return self.fail(crate, "the libraries below it are not built: `rt check` there says why")
+        left = self.each(crate, edits)
+        self.at.remove(crate)
+        if not any(it.startswith(crate + "/") for it in self.failures):
+            os.makedirs(DONE, exist_ok=True)
+            with open(place, "w") as file:
+                file.write(stamp)
+        print("edits: %s: %d tried, %d of them alone" % (crate, len(edits), len(left)), flush=True)
+
+    def each(self, crate, edits):
+        """Tries these edits, each check over what the one before it kept. Returns those that were tried alone."""
+        rows = collections.defaultdict(list)
+        for edit in edits:
+            rows[edit.place and edit.place.proofs].append(edit)
+        left = rows.pop(None, [])
+        begins = [os.path.join(SEEDS, crate)] * self.after_gate + [os.path.join(CRATES, crate, "out", "incremental")]
+        with tempfile.TemporaryDirectory(prefix="relay-edits-kept-") as kept:
+            for begin in list(filter(os.path.isdir, begins))[:1]:
+                shutil.copytree(begin, kept, dirs_exist_ok=True, copy_function=link)
+            for batch in itertools.zip_longest(*rows.values()):
+                left += self.together([it for it in batch if it], kept)
+            for edit in left:
+                self.alone(edit, kept)
+        return left
+
+    def together(self, edits, kept):
+        """Tries edits of different functions in one check. Returns those that it does not refuse. If the text does not reach the
+        prover, each half is tried apart."""
+        if len(edits) < 2:
+            return edits
+        texts, made = {}, []
+        for edit in edits:
+            with contextlib.suppress(Unusable):
+                texts = edit.made(texts)
+                made.append(edit)
+        said = check(edits[0].crate, texts, kept, [it.place.name for it in made])[1]
+        self.count(0)
+        if not is_verdict(said):
+            half = len(edits) // 2
+            return self.together(edits[:half], kept) + self.together(edits[half:], kept)
+        refused = []
+        for edit in made:
+            with contextlib.suppress(Unusable):
+                refused += [edit] if edit.refused(said) else []
+        self.count(len(refused), 0)
+        return [it for it in edits if it not in refused]
+
+    def alone(self, edit, kept):
+        try:
+            why = alone(edit, kept)
+        except Unusable as fault:
+            why = "BAD EDIT: %s" % fault
+        self.count(1)
+        if why:
+            self.fail(edit.name, why)
+
+
+def edits_of(crate):
+    folder = os.path.join(CRATES, crate, "edits")
+    return [Edit(crate, os.path.join(folder, it)) for it in sorted(os.listdir(folder)) if it.endswith(".edit")]
+
+
+def stamp_of(crate):
+    """Returns a checksum of all that the results of a crate's edits rest on."""
+    found, here = hashlib.sha256(sum_of(crate).encode()), os.path.dirname(os.path.abspath(__file__))
+    for path in [*files_below(os.path.join(CRATES, crate, "edits")), *(os.path.join(here, it) for it in SCRIPTS)]:
+        add_file(found, path)
+    return found.hexdigest()
+
+
+def workers():
+    """Returns how many checks to run at once: one for each processor, as many as memory holds. The kit's RT_JOBS sets another number."""
+    if os.environ.get("RT_JOBS", "").isdigit():
+        return int(os.environ["RT_JOBS"])
+    with open("/proc/meminfo") as file:
+        free = 1024 * int(re.search(r"MemAvailable:\s+(\d+)", file.read())[1])
+    return max(1, min(len(os.sched_getaffinity(0)), free // MEMORY))
+
+
+def main(names, after_gate):
+    """Tries the edits of the crates of these names, or of all. Those with the most edits come first, since a crate's follow one another."""
+    crates = [it for it in lines_of() if os.path.isdir(os.path.join(CRATES, it, "edits")) and (not names or it in names)]
+    crates.sort(key=lambda it: -len(os.listdir(os.path.join(CRATES, it, "edits"))))
+    run, began = Run(after_gate), time.monotonic()
+    threading.Thread(target=run.tell, daemon=True).start()
+    with concurrent.futures.ThreadPoolExecutor(workers()) as pool:
+        list(pool.map(run.crate, crates))
+    run.ended.set()
+    minutes, refused = (time.monotonic() - began) / 60, run.tried - len(run.failures)
+    earlier = "; %d of them in an earlier run" % run.earlier if run.earlier else ""
+    print("edits: %d tried in %d checks and %.0f minutes, %d refused%s" % (run.tried, run.checks, minutes, refused, earlier))
+    for line in run.failures:
+        print("  " + line)
+    return 1 if run.failures else 0
+
+
+if __name__ == "__main__":
+    sys.exit(main([it for it in sys.argv[1:] if it != "--gate"], "--gate" in sys.argv))
