@@ -20,7 +20,7 @@ use Rattle.relay_delivery.proofs.Joined.{versions, assignment, true_report, once
 use Rattle.relay_delivery.proofs.Sharing.{true_all, happens_in_lanes}
 use Rattle.relay_delivery.proofs.Gathered.{w, runs_once}
 use Rattle.relay_delivery.proofs.OneOutside.{act_continues}
-use Rattle.relay_delivery.proofs.Lives.{IsOfThese, IncarnationFacts, AreAbove, LifeFacts, running_facts, above_more, happen_keeps, facts_of_life, facts_together}
+use Rattle.relay_delivery.proofs.Lives.{past_of, IsOfThese, IncarnationFacts, AreAbove, LifeFacts, running_facts, above_more, happen_keeps, facts_of_life, facts_together}
 use Rattle.relay_delivery.proofs.Parts.{AreParts, op_of_write, parts}
 
 -- what was accepted in one of them was accepted
@@ -48,7 +48,7 @@ module _ (g : Config) (lane_of : Document → ℕ) (ended : List Incarnation) (s
   all_facts : (p : Incarnation) → Mem p all → IncarnationFacts lane_of p
   all_facts p m = ⊎_elim {C = IncarnationFacts lane_of p}
       (λ old. f.each p old)
-      (λ e. subst (λ x. IncarnationFacts lane_of x) (sym e) (running_facts g lane_of (IsOfThese ended) s f.together))
+      (λ e. subst (λ x. IncarnationFacts lane_of x) (sym e) (running_facts g lane_of (past_of ended g) s f.together))
       (Mem-push_cases p ended this m)
 
   -- each applied write is of one of them
@@ -89,7 +89,7 @@ module _ (g : Config) (lane_of : Document → ℕ) (ended : List Incarnation) (s
 pub sound_together : SoundTogether
 sound_together g lane_of ended s c =
     let f = facts_of_life g lane_of ended s c in
-    let past = IsOfThese ended in
+    let past = past_of ended g in
     let lanes = f.together.lanes in
     record {
       attribution = attribution g lane_of ended s f;
@@ -123,15 +123,15 @@ complete_together g lane_of ended s c done p o m =
     (λ a. inl (subst (λ x. Mem x (attributed_together g lane_of ended s k)) a.op
     (is_named g lane_of ended s f k ((outside_of lane_of s).applied k) a.write a.is_in (record { which = incarnation_of g s; among = Mem-last ended (incarnation_of g s); of_one = a.one }))))
     (λ r. inr r)
-    (all_accounted g lane_of (IsOfThese ended) s.lanes f.together.lanes done p o m)
+    (all_accounted g lane_of (past_of ended g) s.lanes f.together.lanes done p o m)
 
 pub together_may : TogetherMay
-together_may g lane_of ended s c = happens_in_lanes g lane_of (IsOfThese ended) s (facts_together g lane_of ended s c)
+together_may g lane_of ended s c = happens_in_lanes g lane_of (past_of ended g) s (facts_together g lane_of ended s c)
 
 pub together_runs : TogetherRuns
 together_runs g lane_of ended s i place o from c may =
     let f = facts_together g lane_of ended s c in
-    (w g lane_of (IsOfThese ended) s f i place o from may, runs_once g lane_of (IsOfThese ended) s f i place o from may)
+    (w g lane_of (past_of ended g) s f i place o from may, runs_once g lane_of (past_of ended g) s f i place o from may)
 
 -- ---- one after another
 
@@ -175,7 +175,7 @@ life_continues : (lane_of : Document → ℕ) (hs : List Happening) (l : Life) �
 life_continues lane_of [] l f may = continues_itself (outside_of lane_of l.together)
 life_continues lane_of (Acts a ∷ hs) l f may =
     continues_on (outside_of lane_of l.together) (outside_of lane_of (act l.config lane_of a l.together)) (outside_of lane_of (after_happenings lane_of hs (happen lane_of (Acts a) l)).together)
-    (act_continues l.config lane_of (IsOfThese l.ended) l.together f.together a may.0.0)
+    (act_continues l.config lane_of (past_of l.ended l.config) l.together f.together a may.0.0)
     (life_continues lane_of hs (happen lane_of (Acts a) l) (happen_keeps lane_of l f (Acts a) may.0) may.1)
 life_continues lane_of (Restarts g ∷ hs) l f may = life_continues lane_of hs (happen lane_of (Restarts g) l) (happen_keeps lane_of l f (Restarts g) may.0) may.1
 
@@ -196,7 +196,7 @@ together_continues g lane_of ended s c =
     let first : c.first ≡ first_of ended g = sym (first_same lane_of c.happenings (born c.first c.start)) ∙ ap (λ (l : Life). first_of l.ended l.config) c.reached in
     record {
       start = outside_of lane_of c.start;
-      opening = record { requests = fresh.sent; runs = fresh.runs; applied = λ k. (fresh.lanes.lane (lane_of k)).opening.applied k };
+      opening = record { requests = fresh.sent; runs = fresh.runs; applied = λ k. (fresh.lanes.lane (lane_of k)).new.opening.applied k };
       below = λ k u e. subst (λ (h : Config). u < h.first) first ((fresh.lanes.lane (lane_of k)).below k u e);
       continues = subst (λ (l : Life). Continues (outside_of lane_of c.start) (outside_of lane_of l.together)) c.reached
           (life_continues lane_of c.happenings (born c.first c.start) start_facts c.may);

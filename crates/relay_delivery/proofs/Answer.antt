@@ -1,5 +1,5 @@
 -- An answer settles a request of a lane.
-use Rattle.std.proofs.Common.{◌≡◌, ◌≢◌, ℕ, ◌+◌, ◌≤◌, List, ◌++◌, Option, Some, true, refl, sym, ap, ◌∙◌, subst, ⊎_elim, inl, inr, arith, Bool, false, length-append}
+use Rattle.std.proofs.Common.{◌<◌, None, ◌≡◌, ◌≢◌, ℕ, ◌+◌, ◌≤◌, List, ◌++◌, Option, Some, true, refl, sym, ap, ◌∙◌, subst, ⊎_elim, inl, inr, arith, Bool, false, length-append}
 use Rattle.std.specs.Prelude.{◌⊎◌, ◌&&◌, not, slice_get, is_some}
 use Rattle.relay_action.specs.Actions.{kind_of}
 use Rattle.relay_action.specs.declared.write.Write.{Write}
@@ -7,8 +7,8 @@ use Rattle.relay_action.specs.declared.operation.Op.{Op}
 use Rattle.relay_results.specs.declared.outcome.Outcome.{Outcome}
 use Rattle.relay_results.specs.Words.{Mem, update, count, one_if}
 use Rattle.relay_results.specs.Documents.{Document, document_of, write_for}
-use Rattle.relay_results.specs.Verdicts.{is_success}
-use Rattle.relay_results.specs.Outside.{Answer, Unanswered, Request, Ran, RunOutcome, Outside, WasRun, IsHonest, MayAnswer, is_applied}
+use Rattle.relay_results.specs.Verdicts.{may_be_own, is_success}
+use Rattle.relay_results.specs.Outside.{Answer, Unanswered, Request, Ran, RunOutcome, stored_in, Outside, WasRun, IsHonest, MayAnswer, is_applied}
 use Rattle.relay_results.specs.Fates.{Fate, Flies, Applied, Already, Retried, Halved, Reported, IsRetried, HasEntry, says_too_large}
 use Rattle.relay_results.specs.declared.cause.Cause.{Cause}
 use Rattle.relay_results.specs.Laws.{Says}
@@ -18,17 +18,23 @@ use Rattle.relay_results.proofs.Same.{same_write-self}
 use Rattle.relay_delivery.specs.Machine.{Config, Core, Held, Place, Report, write_of, report_on, back_to_wait, with_cap, still_held, reports_from, writes_or, settle, how_many, is_applied_fate, is_already_fate}
 use Rattle.relay_results.proofs.Fates.{says_as, halved_retried, honest_entry}
 use Rattle.relay_results.proofs.Lists.{equal, equal_or_not, at-Mem, Mem-cases, Mem-left, Mem-right, at-update-cases, at-update_same, at-update_other, true_or_false, count-update, count-update_at, count-append, count_some, some_same}
-use Rattle.relay_delivery.proofs.Facts.{IsSent, HeldFact, RunFact, IndexFact, ReportFact, IsSomewhere, CoreFacts, is_report_as}
+use Rattle.relay_delivery.proofs.Facts.{Past, IsKnown, TellsOwn, IsSent, HeldFact, RunFact, IndexFact, ReportFact, IsSomewhere, CoreFacts, is_report_as}
 use Rattle.relay_delivery.proofs.Dealt.{write_once, of_held, with_answer, sent_answered, carries_at, carried_at}
 use Rattle.relay_delivery.proofs.Fates.{turn, StaysAs, kept_as, kept_is, kept_version, kept-from, reported-from, goes_to, count-settled, totals-settled, rising-settled, IsAway, IsHere, away_or_here}
 
 -- what a run of a write says
-record RunSays (stored : Document → Option ℕ) (applied : Document → List Write) (w : Write) (o : RunOutcome) : Type 0 where
+record RunSays (versions : ℕ → Type 0) (stored : Document → Option ℕ) (applied : Document → List Write) (w : Write) (o : RunOutcome) : Type 0 where
   if_applied : is_applied w o ≡ true → Mem w (applied (document_of w.key))
   if_conflict : o.status ≡ 409 → (u : ℕ) × (stored (document_of w.key) ≡ Some u) × (w.version ≤ u)
+  if_stated : o.status ≡ 409 → (u : ℕ) → stored_in o.error ≡ Some u → IsKnown versions (applied (document_of w.key)) u
 
-module _ (g : Config) (past : Write → Type 0) (c : Core) (f : CoreFacts g past c) (number : ℕ) (q : Request) (stands : slice_get c.outside.requests number ≡ Some q) (unanswered : q.answer ≡ Unanswered) (a : Answer)
-    (answered : a ≡ Unanswered → ⊥) (honest : IsHonest c.outside.runs number q.writes a) where
+-- a stated version that may be the own one is
+own_stated : (s : Option ℕ) (own u : ℕ) → s ≡ Some u → may_be_own s own ≡ true → u ≡ own
+own_stated None own u e t = absurd (cc)
+own_stated (Some v) own u e t = let d = equal v own t in let x : v ≡ u = cc in sym x ∙ d
+
+module _ (g : Config) (past : Past) (c : Core) (f : CoreFacts g past c) (number : ℕ) (q : Request) (stands : slice_get c.outside.requests number ≡ Some q) (unanswered : q.answer ≡ Unanswered) (a : Answer)
+    (answered : a ≡ Unanswered → ⊥) (honest : IsHonest c.outside.runs number q.writes a) (tells : TellsOwn g past c.outside.runs) where
   abbrev requests : List Request
   requests = c.outside.requests
 
@@ -153,11 +159,11 @@ module _ (g : Config) (past : Write → Type 0) (c : Core) (f : CoreFacts g past
       (new_cases i p y.sent)
 
   abbrev SaysOf : Held → ℕ → Fate → Type 0
-  SaysOf h place t = Says (record { sends = h.sends; attempts = h.attempts; max = g.max }) q.writes place (kind_of h.op.action) a t
+  SaysOf h place t = Says (record { version = h.version; sends = h.sends; attempts = h.attempts; max = g.max }) q.writes place (kind_of h.op.action) a t
 
   -- what its fate says
   says : (h : Held) → (w : IsHere g number q.writes a h) → (t : Fate) → turn g number q.writes a h ≡ t → SaysOf h w.place t
-  says h w t e = says_as (record { sends = h.sends; attempts = h.attempts; max = g.max }) q.writes w.place (kind_of h.op.action) a t (sym w.fate_is ∙ e)
+  says h w t e = says_as (record { version = h.version; sends = h.sends; attempts = h.attempts; max = g.max }) q.writes w.place (kind_of h.op.action) a t (sym w.fate_is ∙ e)
 
   held-landed : (h : Held) → Mem h c.held → (w : IsHere g number q.writes a h) → turn g number q.writes a h ≡ Retried → HeldFact g c.taken new (back_to_wait h)
   held-landed h m w t =
@@ -194,14 +200,14 @@ module _ (g : Config) (past : Write → Type 0) (c : Core) (f : CoreFacts g past
       let e : v.request ≡ q = some_same v.request q (sym v.sent ∙ stands) in
       subst (λ (z : Request). slice_get z.writes w.place ≡ Some (write_of h)) e v.stands
 
-  its_run : (h : Held) → Mem h c.held → (w : IsHere g number q.writes a h) (o : Outcome) (e : HasEntry q.writes w.place a o) → RunSays c.outside.stored c.outside.applied (write_of h) (entry_run h w o e).run.outcome
+  its_run : (h : Held) → Mem h c.held → (w : IsHere g number q.writes a h) (o : Outcome) (e : HasEntry q.writes w.place a o) → RunSays past.versions c.outside.stored c.outside.applied (write_of h) (entry_run h w o e).run.outcome
   its_run h m w o e =
       let y = entry_run h w o e in
       let r = f.runs y.run y.among in
       let eq : r.request ≡ q = some_same r.request q (sym r.sent ∙ ap (slice_get requests) y.of_request ∙ stands) in
       let at : slice_get q.writes w.place ≡ Some r.write = subst (λ n. slice_get q.writes n ≡ Some r.write) y.of_place (subst (λ (z : Request). slice_get z.writes y.run.place ≡ Some r.write) eq r.stands) in
       let ew : r.write ≡ write_of h = some_same r.write (write_of h) (sym at ∙ its_place h m w) in
-      subst (λ z. RunSays c.outside.stored c.outside.applied z y.run.outcome) ew (record { if_applied = r.if_applied; if_conflict = r.if_conflict })
+      subst (λ z. RunSays past.versions c.outside.stored c.outside.applied z y.run.outcome) ew (record { if_applied = r.if_applied; if_conflict = r.if_conflict; if_stated = r.if_stated })
 
   -- what is done was applied
   abbrev WasApplied : Held → Type 0
@@ -213,28 +219,54 @@ module _ (g : Config) (past : Write → Type 0) (c : Core) (f : CoreFacts g past
       let y = entry_run h w s.0 s.1 in
       (its_run h m w s.0 s.1).if_applied ((λ i. is_success (kind_of h.op.action) (y.status i) (is_some (y.error i))) ∙ s.2)
 
+  -- an applied write with its version is its own
+  own_applied : (h : Held) → Mem h c.held → (z : Write) → Mem z (c.outside.applied (document_of h.op.key)) → z.version ≡ h.version → WasApplied h
+  own_applied h m z mz v =
+      let k = f.held h m in
+      ⊎_elim
+      (λ one.
+      let same = write_once g c.taken z (write_of h) one (of_held g c.taken requests h k) v in
+      subst (λ b. Mem b (c.outside.applied (document_of h.op.key))) same mz)
+      (λ old. let b = f.past_below z old in let d = k.dealt.version in absurd (omega (arith, b, d, v)))
+      (f.sent z ((f.index (document_of h.op.key)).sent z mz))
+
+  -- if the versions from before are lower, one that is not below its own is that of an applied write
+  before_if_low : ((u : ℕ) → past.versions u → u < g.first) → (h : Held) → Mem h c.held → (u : ℕ) → c.outside.stored (document_of h.op.key) ≡ Some u → h.version ≤ u → WasApplied h
+  before_if_low low h m u stored le =
+      let k = f.held h m in
+      let x = f.index (document_of h.op.key) in
+      ⊎_elim
+      (λ old. let lt = low u old in let v = k.dealt.version in absurd (omega (arith, le, v, lt)))
+      (λ z.
+      let last = k.last z.0 (x.sent z.0 z.1) (x.document z.0 z.1) in
+      own_applied h m z.0 z.1 (omega (arith, le, z.2, last)))
+      (x.from u stored)
+
+  -- if its own version is stated, it was stored, and is that of an applied write
+  before_if_stated : (h : Held) → Mem h c.held → IsKnown past.versions (c.outside.applied (document_of h.op.key)) h.version → WasApplied h
+  before_if_stated h m known =
+      let d = (f.held h m).dealt in
+      ⊎_elim
+      (λ old. absurd (f.foreign h.version d.place old d.within d.version))
+      (λ z. own_applied h m z.0 z.1 z.2)
+      known
+
   applied_before : (h : Held) → Mem h c.held → IsHere g number q.writes a h → turn g number q.writes a h ≡ Already → WasApplied h
   applied_before h m w t =
       let s = (says h w Already t).1 in
       let y = entry_run h w s.0 s.1 in
-      let u = (its_run h m w s.0 s.1).if_conflict (y.status ∙ equal s.0.status 409 s.2) in
-      let k = f.held h m in
-      let x = f.index (document_of h.op.key) in
+      let r = its_run h m w s.0 s.1 in
+      let conflict = y.status ∙ equal s.0.status 409 s.2 in
       ⊎_elim
-      (λ lt. let v = k.dealt.version in absurd (omega (arith, u.2, v, lt)))
-      (λ z.
-      let le = k.last z.0 (x.sent z.0 z.1) (x.document z.0 z.1) in
-      let v : z.0.version ≡ h.version = omega (arith, u.2, z.2, le) in
-      ⊎_elim
-      (λ one.
-      let same = write_once g c.taken z.0 (write_of h) one (of_held g c.taken requests h k) v in
-      subst (λ b. Mem b (c.outside.applied (document_of h.op.key))) same z.1)
-      (λ old. let b = f.past_below z.0 old in let d = k.dealt.version in absurd (omega (arith, b, d, v)))
-      (f.sent z.0 (x.sent z.0 z.1)))
-      (x.from u.0 u.1)
+      (λ low. let u = r.if_conflict conflict in before_if_low low h m u.0 u.1 u.2)
+      (λ states.
+      let u = states y.run y.among conflict in
+      let own : u.0 ≡ h.version = own_stated (stored_in s.0.error) h.version u.0 (sym (ap stored_in y.error) ∙ u.1) s.3 in
+      before_if_stated h m (subst (λ v. IsKnown past.versions (c.outside.applied (document_of h.op.key)) v) own (r.if_stated conflict u.0 u.1)))
+      tells
 
   -- one that does not fly here is neither
-  ended : (h : Held) → Mem h c.held → (turn g number q.writes a h ≡ Applied) ⊎ (turn g number q.writes a h ≡ Already) → WasApplied h
+  pub ended : (h : Held) → Mem h c.held → (turn g number q.writes a h ≡ Applied) ⊎ (turn g number q.writes a h ≡ Already) → WasApplied h
   ended h m t = ⊎_elim
       (λ w. ⊎_elim (λ e. absurd (cc (e, w.stays))) (λ e. absurd (cc (e, w.stays))) t)
       (λ w. ⊎_elim (λ e. applied_now h m w e) (λ e. applied_before h m w e) t)
@@ -256,20 +288,27 @@ module _ (g : Config) (past : Write → Type 0) (c : Core) (f : CoreFacts g past
   }
 
   new_cause : (h : Held) → Mem h c.held → (w : IsHere g number q.writes a h) → (e : Cause) → SaysOf h w.place (Reported e) → IsTrueOf g.max later (write_of h) e
-  new_cause h m w (cause.Refused status error) s = record {
+  new_cause h m w (cause.Refused status kind reason) s = record {
     outcome = s.0;
     answered = answered_here h m w s.0 s.1;
     refused = s.2;
     status_is = s.3;
-    error_is = s.4;
+    kind_is = s.4;
+    reason_is = s.5;
   }
   new_cause h m w (cause.Request status) s = record { number = number; place = w.place; request = with_answer a q; carried = carried_here h m w; answer = s.0; final = s.1 }
-  new_cause h m w cause.Conflict s =
+  new_cause h m w (cause.Conflict stored reason) s =
       let some = count_some (carries (write_of h)) (with_answer a q) new (at-Mem new number (with_answer a q) new_here) (carries_at new number w.place (with_answer a q) (write_of h) (carried_here h m w)) in
       let k = (f.held h m).sends in
       let n = same-counts (write_of h) in
-      let few = s.0 in
-      record { once = omega arith; outcome = s.1.0; answered = answered_here h m w s.1.0 s.1.1; conflict = s.1.2 }
+      record {
+        outcome = s.0;
+        answered = answered_here h m w s.0 s.1;
+        conflict = s.2;
+        other = ⊎_elim (λ few. inl (omega (arith, few, some, k, n))) (λ o. inr o) s.3;
+        stored_is = s.4;
+        reason_is = s.5;
+      }
   new_cause h m w (cause.GaveUp n) s = record {
     exactly = same-counts (write_of h) ∙ (f.held h m).sends ∙ sym s.0;
     enough = let x = (f.held h m).attempts in let y = s.1 in let e = tries-stay_small (write_of h) s.3 in omega (arith, x, y, e);
@@ -289,7 +328,7 @@ module _ (g : Config) (past : Write → Type 0) (c : Core) (f : CoreFacts g past
   }
 
   cause-stays : (max : ℕ) (w : Write) (e : Cause) → IsTrueOf max c.outside w e → IsTrueOf max later w e
-  cause-stays max w (cause.Refused status error) h = record { outcome = h.outcome; answered = answered-stays w h.outcome h.answered; refused = h.refused; status_is = h.status_is; error_is = h.error_is }
+  cause-stays max w (cause.Refused status kind reason) h = record { outcome = h.outcome; answered = answered-stays w h.outcome h.answered; refused = h.refused; status_is = h.status_is; kind_is = h.kind_is; reason_is = h.reason_is }
   cause-stays max w (cause.Request status) h = record {
     number = h.number;
     place = h.place;
@@ -298,7 +337,7 @@ module _ (g : Config) (past : Write → Type 0) (c : Core) (f : CoreFacts g past
     answer = h.answer;
     final = h.final;
   }
-  cause-stays max w cause.Conflict h = record { once = same-counts w ∙ h.once; outcome = h.outcome; answered = answered-stays w h.outcome h.answered; conflict = h.conflict }
+  cause-stays max w (cause.Conflict stored reason) h = record { outcome = h.outcome; answered = answered-stays w h.outcome h.answered; conflict = h.conflict; stored_is = h.stored_is; reason_is = h.reason_is; other = ⊎_elim (λ n. inl (same-counts w ∙ n)) (λ o. inr o) h.other }
   cause-stays max w (cause.GaveUp n) h = record {
     exactly = same-counts w ∙ h.exactly;
     enough =
@@ -360,12 +399,12 @@ module _ (g : Config) (past : Write → Type 0) (c : Core) (f : CoreFacts g past
       }))
       (away_or_here g number q.writes a h)
 
-  run-stays : (r : Ran) → RunFact requests c.outside.stored c.outside.applied r → RunFact new c.outside.stored c.outside.applied r
+  run-stays : (r : Ran) → RunFact past.versions requests c.outside.stored c.outside.applied r → RunFact past.versions new c.outside.stored c.outside.applied r
   run-stays r x = ⊎_elim
       (λ e.
       let same : x.request ≡ q = some_same x.request q (sym x.sent ∙ ap (slice_get requests) e ∙ stands) in
-      record { request = with_answer a q; write = x.write; sent = subst (λ n. slice_get new n ≡ Some (with_answer a q)) (sym e) new_here; stands = subst (λ (z : Request). slice_get z.writes r.place ≡ Some x.write) same x.stands; if_applied = x.if_applied; if_conflict = x.if_conflict })
-      (λ ne. record { request = x.request; write = x.write; sent = at-update_other number (with_answer a) c.outside.requests r.request ne ∙ x.sent; stands = x.stands; if_applied = x.if_applied; if_conflict = x.if_conflict })
+      record { request = with_answer a q; write = x.write; sent = subst (λ n. slice_get new n ≡ Some (with_answer a q)) (sym e) new_here; stands = subst (λ (z : Request). slice_get z.writes r.place ≡ Some x.write) same x.stands; if_applied = x.if_applied; if_conflict = x.if_conflict; if_stated = x.if_stated })
+      (λ ne. record { request = x.request; write = x.write; sent = at-update_other number (with_answer a) c.outside.requests r.request ne ∙ x.sent; stands = x.stands; if_applied = x.if_applied; if_conflict = x.if_conflict; if_stated = x.if_stated })
       (equal_or_not r.request number)
 
   sent-stays : (w : Write) → IsSent requests w → IsSent new w
@@ -376,7 +415,7 @@ module _ (g : Config) (past : Write → Type 0) (c : Core) (f : CoreFacts g past
       (λ ne. record { number = s.number; request = s.request; sent = at-update_other number (with_answer a) c.outside.requests s.number ne ∙ s.sent; is_in = s.is_in })
       (equal_or_not s.number number)
 
-  index-stays : (k : Document) → IndexFact g requests (c.outside.stored k) (c.outside.applied k) k → IndexFact g new (c.outside.stored k) (c.outside.applied k) k
+  index-stays : (k : Document) → IndexFact past.versions requests (c.outside.stored k) (c.outside.applied k) k → IndexFact past.versions new (c.outside.stored k) (c.outside.applied k) k
   index-stays k h = record { sent = λ w m. sent-stays w (h.sent w m); document = h.document; rising = h.rising; above = h.above; from = h.from }
 
   abbrev settled_core : Core
@@ -436,6 +475,7 @@ module _ (g : Config) (past : Write → Type 0) (c : Core) (f : CoreFacts g past
   settled_keeps : CoreFacts g past settled_core
   settled_keeps = record {
     past_below = f.past_below;
+    foreign = f.foreign;
     held = held_kept;
     alone = alone_kept;
     in_rise = rising-settled g number q.writes a c.held f.in_rise;
@@ -463,8 +503,8 @@ module _ (g : Config) (past : Write → Type 0) (c : Core) (f : CoreFacts g past
 pub no_unanswered : (runs : List Ran) (number : ℕ) (ws : List Write) (a : Answer) → IsHonest runs number ws a → a ≡ Unanswered → ⊥
 no_unanswered runs number ws a h e = subst (λ b. IsHonest runs number ws b) e h
 
-pub answer_keeps : (g : Config) (past : Write → Type 0) (c : Core) (f : CoreFacts g past c) (number : ℕ) (a : Answer) → MayAnswer c.outside number a → CoreFacts g past (settle g number a c)
-answer_keeps g past c f number a may =
+pub answer_keeps : (g : Config) (past : Past) (c : Core) (f : CoreFacts g past c) (number : ℕ) (a : Answer) → MayAnswer c.outside number a → TellsOwn g past c.outside.runs → CoreFacts g past (settle g number a c)
+answer_keeps g past c f number a may tells =
     subst (λ p. CoreFacts g past (record {
       taken = c.taken;
       held = still_held g number (writes_or p) a c.held;
@@ -473,4 +513,4 @@ answer_keeps g past c f number a may =
       already = c.already + how_many is_already_fate g number (writes_or p) a c.held;
       outside = record { requests = update number (with_answer a) c.outside.requests; runs = c.outside.runs; stored = c.outside.stored; before = c.outside.before; applied = c.outside.applied };
     })) (sym may.sent)
-    (settled_keeps g past c f number may.request may.sent may.open_yet a (no_unanswered c.outside.runs number may.request.writes a may.honest) may.honest)
+    (settled_keeps g past c f number may.request may.sent may.open_yet a (no_unanswered c.outside.runs number may.request.writes a may.honest) may.honest tells)

@@ -17,7 +17,7 @@ use Rattle.relay_delivery.proofs.Send.{no_place, launched_here}
 use Rattle.relay_delivery.proofs.Fates.{turn, kept-from, retried_left, away_or_here}
 use Rattle.relay_delivery.proofs.Halving.{halvings-half, halvings_few, halvings-below}
 use Rattle.relay_delivery.proofs.Facts.{CoreFacts}
-use Rattle.relay_delivery.proofs.Keeps.{none_past, fresh_facts, facts_of, step_keeps}
+use Rattle.relay_delivery.proofs.Keeps.{tells_none, fresh_none, none_past, fresh_facts, facts_of, step_keeps}
 use Rattle.relay_results.proofs.Fates.{says_as}
 use Rattle.relay_action.specs.Actions.{kind_of}
 
@@ -64,14 +64,14 @@ tries-more g requests q h f = record {
   flying = λ p e. let y = f.flying p e in record { request = y.request; sent = at-left requests (q ∷ []) p.request y.request y.sent; within = y.within };
 }
 
-module _ (g : Config) (c : Core) (facts : CoreFacts g none_past c) (chosen : List Held) (may : MaySend c chosen) where
+module _ (g : Config) (c : Core) (facts : CoreFacts g (none_past g) c) (chosen : List Held) (may : MaySend c chosen) where
   abbrev new : Request
   new = record { writes = map write_of chosen; answer = outside.Unanswered }
 
   sent_tries_at : (h : Held) → Mem h c.held → (p : Option ℕ) → place_of h.version chosen ≡ p → HasTries g c.outside.requests h → HasTries g (c.outside.requests ++ new ∷ []) (launched_at (length c.outside.requests) h p)
   sent_tries_at h m None e f = tries-more g c.outside.requests (record { writes = map write_of chosen; answer = outside.Unanswered }) h f
   sent_tries_at h m (Some p) e f =
-      let l = launched_here g none_past c facts chosen may h m p e in
+      let l = launched_here g (none_past g) c facts chosen may h m p e in
       let n = length-map chosen write_of in
       record {
         waiting = λ z. absurd (cc);
@@ -128,7 +128,7 @@ module _ (g : Config) (requests : List Request) (number : ℕ) (q : Request) (st
   cap_falls h f cap t = ⊎_elim {C = halvings cap + 1 ≤ halvings h.cap}
       (λ w. absurd (cc (t, w.stays)))
       (λ w.
-      let s = says_as (record { sends = h.sends; attempts = h.attempts; max = g.max }) q.writes w.place (kind_of h.op.action) a (Halved cap) (sym w.fate_is ∙ t) in
+      let s = says_as (record { version = h.version; sends = h.sends; attempts = h.attempts; max = g.max }) q.writes w.place (kind_of h.op.action) a (Halved cap) (sym w.fate_is ∙ t) in
       let y = f.flying (record { request = number; place = w.place }) w.flies in
       let same : y.request ≡ q = some_same y.request q (sym y.sent ∙ stands) in
       let n = ap (λ (z : Request). length z.writes) same in
@@ -177,7 +177,7 @@ HasAll g c = HaveTries g c.outside.requests c.held
 answered_request : (c : Core) (number : ℕ) (a : Answer) (may : MayAnswer c.outside number a) → writes_or (slice_get c.outside.requests number) ≡ may.request.writes
 answered_request c number a may = ap writes_or may.sent
 
-step_tries : (g : Config) (c : Core) (facts : CoreFacts g none_past c) (s : Step) → MayStep s c → 0 < g.max → HasAll g c → HasAll g (step g s c)
+step_tries : (g : Config) (c : Core) (facts : CoreFacts g (none_past g) c) (s : Step) → MayStep s c → 0 < g.max → HasAll g c → HasAll g (step g s c)
 step_tries g c facts (Takes o) may some f h m = ⊎_elim {C = HasTries g c.outside.requests h}
     (λ y. f h y)
     (λ y. new_tries g c.outside.requests (nat_lt (length c.taken) g.deals) (length c.taken) o some h y)
@@ -192,9 +192,9 @@ step_tries g c facts (Answers number a) may some f h m =
     let e = answered_request c number a may in
     kept_tries g c.outside.requests number may.request may.sent a some c.held f h (subst (λ ws. Mem h (still_held g number ws a c.held)) e m)
 
-steps_tries : (g : Config) (ss : List Step) (c : Core) → CoreFacts g none_past c → AllMayStep g ss c → 0 < g.max → HasAll g c → HasAll g (steps_of g ss c)
+steps_tries : (g : Config) (ss : List Step) (c : Core) → CoreFacts g (none_past g) c → AllMayStep g ss c → 0 < g.max → HasAll g c → HasAll g (steps_of g ss c)
 steps_tries g [] c facts may some f = f
-steps_tries g (s ∷ ss) c facts may some f = steps_tries g ss (step g s c) (step_keeps g none_past c facts s may.0) may.1 some (step_tries g c facts s may.0 some f)
+steps_tries g (s ∷ ss) c facts may some f = steps_tries g ss (step g s c) (step_keeps g (none_past g) c facts (tells_none g c) s may.0) may.1 some (step_tries g c facts s may.0 some f)
 
 one_send : (g : Config) (c : Core) (chosen : List Held) → HasAll g c → MaySend c chosen → chosen ≢ [] → sent_of (step g (Sends chosen) c) + tries_left g.max (step g (Sends chosen) c).held ≤ sent_of c + tries_left g.max c.held
 one_send g c [] f may some = absurd (some refl)
@@ -215,16 +215,16 @@ one_step g c (Answers number a) f may d =
     let e = ap (λ ws. tries_left g.max (still_held g number ws a c.held)) (answered_request c number a may) in
     let l = left-kept g c.outside.requests number may.request may.sent a c.held f in omega (arith, n, e, l)
 
-drained : (g : Config) (ss : List Step) (c : Core) → CoreFacts g none_past c → 0 < g.max → HasAll g c → AllMayStep g ss c → AllDraining ss → sent_of (steps_of g ss c) + tries_left g.max (steps_of g ss c).held ≤ sent_of c + tries_left g.max c.held
+drained : (g : Config) (ss : List Step) (c : Core) → CoreFacts g (none_past g) c → 0 < g.max → HasAll g c → AllMayStep g ss c → AllDraining ss → sent_of (steps_of g ss c) + tries_left g.max (steps_of g ss c).held ≤ sent_of c + tries_left g.max c.held
 drained g [] c facts some f may d = omega arith
 drained g (s ∷ ss) c facts some f may d =
     let a = one_step g c s f may.0 d.0 in
-    let b = drained g ss (step g s c) (step_keeps g none_past c facts s may.0) some (step_tries g c facts s may.0 some f) may.1 d.1 in omega (arith, a, b)
+    let b = drained g ss (step g s c) (step_keeps g (none_past g) c facts (tells_none g c) s may.0) some (step_tries g c facts s may.0 some f) may.1 d.1 in omega (arith, a, b)
 
 pub all_tries : (g : Config) (c : Core) → 0 < g.max → CameAbout g c → HasAll g c
 all_tries g c some r =
     subst (λ (d : Core). HasAll g d) r.reached
-    (steps_tries g r.steps r.start (fresh_facts g none_past (λ w m. m) r.start r.fresh) r.may some (λ h m. absurd (subst (λ hs. Mem h hs) r.fresh.held m)))
+    (steps_tries g r.steps r.start (fresh_none g r.start r.fresh) r.may some (λ h m. absurd (subst (λ hs. Mem h hs) r.fresh.new.held m)))
 
 pub within_tries_left : WithinTriesLeft
 within_tries_left g c more some r may d = drained g more c (facts_of g c r) some (all_tries g c some r) may d

@@ -25,7 +25,7 @@ use Rattle.relay_delivery.proofs.Take.{is_new_held}
 use Rattle.relay_delivery.proofs.Send.{no_place, launched_here}
 use Rattle.relay_delivery.proofs.Answer.{no_unanswered}
 use Rattle.relay_delivery.proofs.Fates.{turn, kept-from, IsHere, away_or_here}
-use Rattle.relay_delivery.proofs.Keeps.{none_past, fresh_facts, step_keeps}
+use Rattle.relay_delivery.proofs.Keeps.{tells_none, fresh_none, none_past, fresh_facts, step_keeps}
 use Rattle.relay_delivery.proofs.Tallies.{first, first_left, first_whole, first_carries, from-push, from-answered, IsFateOf, again_none, of_applied, of_already}
 
 -- ---- counts of a list
@@ -167,7 +167,7 @@ take_counted g c o k =
 
 -- ---- send
 
-module _ (g : Config) (c : Core) (facts : CoreFacts g none_past c) (k : Counted c.outside.requests c.held c.applied c.already) (chosen : List Held) (may : MaySend c chosen) where
+module _ (g : Config) (c : Core) (facts : CoreFacts g (none_past g) c) (k : Counted c.outside.requests c.held c.applied c.already) (chosen : List Held) (may : MaySend c chosen) where
   abbrev rs : List Request
   rs = c.outside.requests
 
@@ -181,7 +181,7 @@ module _ (g : Config) (c : Core) (facts : CoreFacts g none_past c) (k : Counted 
       let lt = at-within rs f.request y.request y.sent in
       ap (count (carries (write_of h))) (first_left (suc f.request) rs (new ∷ []) (omega (arith, lt))) ∙ k.last_sent h f m fl
   launched_last h f (Some place) e m fl =
-      let l = launched_here g none_past c facts chosen may h m place e in
+      let l = launched_here g (none_past g) c facts chosen may h m place e in
       let n : length rs ≡ f.request = ap (λ (z : Place). z.request) (some_same (record { request = length rs; place = place }) f fl) in
       let carried = carries_its (write_of h) new (map-Mem write_of h chosen (at-Mem chosen place h l.stands)) in
       let x = count-push (carries (write_of h)) rs new in
@@ -197,12 +197,12 @@ module _ (g : Config) (c : Core) (facts : CoreFacts g none_past c) (k : Counted 
   -- what flies was not chosen
   stays_flying : (h : Held) (f : Place) (p : Option ℕ) → place_of h.version chosen ≡ p → Mem h c.held → h.flies ≡ Some f → (launched_at (length rs) h p).flies ≡ Some f
   stays_flying h f None e m fl = fl
-  stays_flying h f (Some place) e m fl = let l = launched_here g none_past c facts chosen may h m place e in let w = l.waits in absurd (cc (w, fl))
+  stays_flying h f (Some place) e m fl = let l = launched_here g (none_past g) c facts chosen may h m place e in let w = l.waits in absurd (cc (w, fl))
 
   new_flies : (h : Held) (place : ℕ) (p : Option ℕ) → place_of h.version chosen ≡ p → Mem h c.held → slice_get chosen place ≡ Some h → (launched_at (length rs) h p).flies ≡ Some (record { request = length rs; place = place })
   new_flies h place None e m s = absurd (no_place chosen h.version e h (at-Mem chosen place h s) refl)
   new_flies h place (Some at) e m s =
-      let l = launched_here g none_past c facts chosen may h m at e in
+      let l = launched_here g (none_past g) c facts chosen may h m at e in
       let same = distinct_places (map (λ (j : Held). j.version) chosen) at place h.version may.distinct (at-map (λ (j : Held). j.version) chosen at h l.stands) (at-map (λ (j : Held). j.version) chosen place h s) in
       λ i. Some (record { request = length rs; place = same i })
 
@@ -270,7 +270,7 @@ module _ (g : Config) (number : ℕ) (ws : List Write) (a : Answer) (hs : List H
     (its : (h : Held) → Mem h hs → (w : IsHere g number ws a h) → slice_get ws w.place ≡ Some (write_of h)) (sends : (h : Held) → Mem h hs → IsHere g number ws a h → count (carries (write_of h)) sent ≡ h.sends)
     (each : (place : ℕ) (w : Write) → slice_get ws place ≡ Some w → IsAtPlace hs w (record { request = number; place = place })) where
   abbrev tries : Held → Tries
-  tries h = record { sends = h.sends; attempts = h.attempts; max = g.max }
+  tries h = record { version = h.version; sends = h.sends; attempts = h.attempts; max = g.max }
 
   quiet : ((h : Held) → Mem h hs → IsHere g number ws a h → says (turn g number ws a h) ≡ false) → count (λ (h : Held). says (turn g number ws a h)) hs ≡ 0
   quiet none = count_none (λ (h : Held). says (turn g number ws a h)) hs (λ h m. ⊎_elim {C = says (turn g number ws a h) ≡ false} (λ w. ap says w.stays ∙ is.flies) (λ w. none h m w) (away_or_here g number ws a h))
@@ -313,7 +313,7 @@ module _ (g : Config) (number : ℕ) (ws : List Write) (a : Answer) (hs : List H
         (λ w. absurd (w.elsewhere k y.flies))
         (λ w.
         let p : w.place ≡ k = ap (λ (z : Place). z.place) (some_same (record { request = number; place = w.place }) (record { request = number; place = k }) (sym w.flies ∙ y.flies)) in
-        here_says y.held_op w (Some o) (ap (slice_get os) p ∙ so) ∙ is.item (tries y.held_op) (write_of y.held_op) o
+        here_says y.held_op w (Some o) (ap (slice_get os) p ∙ so) ∙ is.item (tries y.held_op) (write_of y.held_op) o refl
         ∙ ap (λ n. test n (write_of y.held_op) o) (sym (sends y.held_op y.is_in w))
         ∙ ap (λ z. test (count (carries z) sent) z o) y.write)
         (away_or_here g number ws a y.held_op) in
@@ -374,7 +374,7 @@ stays_in g number ws a (x ∷ hs) h m e = ⊎_elim {C = Mem h (still_held g numb
     (λ l. Mem-right h (kept_one (turn g number ws a x) x) (still_held g number ws a hs) (stays_in g number ws a hs h l e))
     m
 
-module _ (g : Config) (c : Core) (facts : CoreFacts g none_past c) (k : Counted c.outside.requests c.held c.applied c.already) (number : ℕ) (q : Request) (stands : slice_get c.outside.requests number ≡ Some q) (unanswered : q.answer ≡ Unanswered) (a : Answer) (answered : a ≡ Unanswered → ⊥) where
+module _ (g : Config) (c : Core) (facts : CoreFacts g (none_past g) c) (k : Counted c.outside.requests c.held c.applied c.already) (number : ℕ) (q : Request) (stands : slice_get c.outside.requests number ≡ Some q) (unanswered : q.answer ≡ Unanswered) (a : Answer) (answered : a ≡ Unanswered → ⊥) where
   abbrev requests : List Request
   requests = c.outside.requests
 
@@ -419,32 +419,32 @@ module _ (g : Config) (c : Core) (facts : CoreFacts g none_past c) (k : Counted 
 abbrev CountedCore : Core → Type 0
 CountedCore c = Counted c.outside.requests c.held c.applied c.already
 
-answer_counted : (g : Config) (c : Core) (facts : CoreFacts g none_past c) → CountedCore c → (number : ℕ) (a : Answer) → MayAnswer c.outside number a → CountedCore (settle g number a c)
+answer_counted : (g : Config) (c : Core) (facts : CoreFacts g (none_past g) c) → CountedCore c → (number : ℕ) (a : Answer) → MayAnswer c.outside number a → CountedCore (settle g number a c)
 answer_counted g c facts k number a may =
     subst (λ p. Counted (update number (with_answer a) c.outside.requests) (still_held g number (writes_or p) a c.held) (c.applied + how_many is_applied_fate g number (writes_or p) a c.held) (c.already + how_many is_already_fate g number (writes_or p) a c.held)) (sym may.sent)
     (settled_counted g c facts k number may.request may.sent may.open_yet a (no_unanswered c.outside.runs number may.request.writes a may.honest))
 
-step_counted : (g : Config) (c : Core) (s : Step) → CoreFacts g none_past c → CountedCore c → MayStep s c → CountedCore (step g s c)
+step_counted : (g : Config) (c : Core) (s : Step) → CoreFacts g (none_past g) c → CountedCore c → MayStep s c → CountedCore (step g s c)
 step_counted g c (Takes o) facts k may = take_counted g c o k
 step_counted g c (Sends chosen) facts k may = send_counted g c facts k chosen may
 step_counted g c (Runs r) facts k may = run_counted g c r may k
 step_counted g c (Answers number a) facts k may = answer_counted g c facts k number a may
 
-steps_counted : (g : Config) (ss : List Step) (c : Core) → CoreFacts g none_past c → CountedCore c → AllMayStep g ss c → CountedCore (steps_of g ss c)
+steps_counted : (g : Config) (ss : List Step) (c : Core) → CoreFacts g (none_past g) c → CountedCore c → AllMayStep g ss c → CountedCore (steps_of g ss c)
 steps_counted g [] c facts k may = k
-steps_counted g (s ∷ ss) c facts k may = steps_counted g ss (step g s c) (step_keeps g none_past c facts s may.0) (step_counted g c s facts k may.0) may.1
+steps_counted g (s ∷ ss) c facts k may = steps_counted g ss (step g s c) (step_keeps g (none_past g) c facts (tells_none g c) s may.0) (step_counted g c s facts k may.0) may.1
 
 fresh_counted : (g : Config) (c : Core) → IsFresh g c → CountedCore c
 fresh_counted g c s = record {
-  applied_is = s.applied ∙ sym (ap applied_answers s.opening.requests);
-  already_is = s.already ∙ sym (ap settled_already s.opening.requests);
-  last_sent = λ h f m e. absurd (none_in c.held h s.held m);
-  each_flies = λ number place q w at u p. absurd (none_at c.outside.requests number q s.opening.requests at);
+  applied_is = s.new.applied ∙ sym (ap applied_answers s.new.opening.requests);
+  already_is = s.new.already ∙ sym (ap settled_already s.new.opening.requests);
+  last_sent = λ h f m e. absurd (none_in c.held h s.new.held m);
+  each_flies = λ number place q w at u p. absurd (none_at c.outside.requests number q s.new.opening.requests at);
 }
 
 pub counts_always : CountsAlways
 counts_always g c r =
-    let k = subst (λ d. CountedCore d) r.reached (steps_counted g r.steps r.start (fresh_facts g none_past (λ w m. m) r.start r.fresh) (fresh_counted g r.start r.fresh) r.may) in
+    let k = subst (λ d. CountedCore d) r.reached (steps_counted g r.steps r.start (fresh_none g r.start r.fresh) (fresh_counted g r.start r.fresh) r.may) in
     (k.applied_is, k.already_is)
 
 pub counts_where : CountsWhereItFits

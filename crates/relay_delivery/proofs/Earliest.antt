@@ -14,7 +14,7 @@ use Rattle.relay_delivery.proofs.Dealt.{dealt_before}
 use Rattle.relay_delivery.proofs.Take.{is_new_held}
 use Rattle.relay_delivery.proofs.Send.{launched_op, launched_version, launched_among}
 use Rattle.relay_delivery.proofs.Fates.{turn, kept-from, kept_version, kept_op}
-use Rattle.relay_delivery.proofs.Keeps.{none_past, fresh_facts, step_keeps, facts_of}
+use Rattle.relay_delivery.proofs.Keeps.{tells_none, fresh_none, none_past, fresh_facts, step_keeps, facts_of}
 
 abbrev pub FliesFirst : List Held → Type 0
 FliesFirst hs = (h j : Held) (f : Place) → Mem h hs → Mem j hs → h.flies ≡ Some f → document_of j.op.key ≡ document_of h.op.key → h.version ≤ j.version
@@ -82,21 +82,21 @@ answer_first g number ws a hs first h j f mh mj flies doc =
 
 -- ---- steps
 
-step_first : (g : Config) (c : Core) (s : Step) → CoreFacts g none_past c → FliesFirst c.held → MayStep s c → FliesFirst (step g s c).held
+step_first : (g : Config) (c : Core) (s : Step) → CoreFacts g (none_past g) c → FliesFirst c.held → MayStep s c → FliesFirst (step g s c).held
 step_first g c (Takes o) facts first may =
     take_first (nat_lt (length c.taken) g.deals) g (length c.taken) o c.held (λ h m. dealt_before g c.taken h.op h.version (facts.held h m).dealt) first
 step_first g c (Sends chosen) facts first may = send_first c.held chosen facts.alone may.eligible (length c.outside.requests) first
 step_first g c (Runs r) facts first may = first
 step_first g c (Answers number a) facts first may = answer_first g number (writes_or (slice_get c.outside.requests number)) a c.held first
 
-steps_first : (g : Config) (ss : List Step) (c : Core) → CoreFacts g none_past c → FliesFirst c.held → AllMayStep g ss c → FliesFirst (steps_of g ss c).held
+steps_first : (g : Config) (ss : List Step) (c : Core) → CoreFacts g (none_past g) c → FliesFirst c.held → AllMayStep g ss c → FliesFirst (steps_of g ss c).held
 steps_first g [] c facts first may = first
-steps_first g (s ∷ ss) c facts first may = steps_first g ss (step g s c) (step_keeps g none_past c facts s may.0) (step_first g c s facts first may.0) may.1
+steps_first g (s ∷ ss) c facts first may = steps_first g ss (step g s c) (step_keeps g (none_past g) c facts (tells_none g c) s may.0) (step_first g c s facts first may.0) may.1
 
 pub earliest_flies : EarliestFlies
 earliest_flies g c r =
     subst (λ (d : Core). FliesFirst d.held) r.reached
-    (steps_first g r.steps r.start (fresh_facts g none_past (λ w m. m) r.start r.fresh) (λ h j f mh mj flies doc. absurd (subst (λ hs. Mem h hs) r.fresh.held mh)) r.may)
+    (steps_first g r.steps r.start (fresh_none g r.start r.fresh) (λ h j f mh mj flies doc. absurd (subst (λ hs. Mem h hs) r.fresh.new.held mh)) r.may)
 
 pub one_flies : OneFlies
 one_flies g c r h j f k mh mj fh fj doc =

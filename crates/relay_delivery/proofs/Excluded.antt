@@ -6,11 +6,11 @@ use Rattle.relay_action.specs.declared.operation.OpName.{OpName}
 use Rattle.relay_results.specs.declared.cause.Cause.{Cause}
 use Rattle.relay_results.specs.declared.cause.Cause.TheVariants as cause
 use Rattle.relay_results.specs.Documents.{write_for, same_op}
-use Rattle.relay_results.specs.Outside.{Items, Whole, Lost, Request, Outside}
+use Rattle.relay_results.specs.Outside.{Answer, Items, Whole, Lost, Request, stored_in, Outside}
 use Rattle.relay_action.specs.Actions.{kind_of}
 use Rattle.relay_results.specs.declared.decide.ItemVerdict.TheVariants as verdict
-use Rattle.relay_results.specs.Verdicts.{is_2xx, is_absent, is_conflict, is_retried_item, is_retried_whole, is_halved}
-use Rattle.relay_results.specs.Fates.{says_too_large}
+use Rattle.relay_results.specs.Verdicts.{may_be_own, is_2xx, is_absent, is_conflict, is_retried_item, is_retried_whole, is_halved}
+use Rattle.relay_results.specs.Fates.{kind_in, reason_in, says_too_large}
 use Rattle.relay_results.proofs.Excluded.{by_lines}
 use Rattle.relay_results.proofs.Lists.{apart_tests, equal, none_some, some_same, count_some, at-Mem}
 use Rattle.relay_results.proofs.Same.{same_write-self, same_op-true, same_op-self, same_op-joined}
@@ -18,10 +18,10 @@ use Rattle.relay_delivery.specs.Causes.{carries, is_try, CarriedAt, IsTrueOf, Is
 use Rattle.relay_action.specs.declared.operation.Op.{Op}
 use Rattle.relay_delivery.specs.Schedules.{entry, terms}
 use Rattle.relay_results.proofs.Fates.{halved_retried}
-use Rattle.relay_delivery.specs.Laws.{request, NoneOfOtherDocument, NoneUnaccepted, NotGivenUpWhenSettled, NotRefusedWithoutStatus, NotRefusedWithoutError, NotRefusedWhenBusy, NotReportedUnsent, NotRejectedWithoutAnswer, NotRejectedWhenRetried, NotGivenUpForHalves, NotRejectedWhenHalved, NoConflictWithoutRun, NoneReportedTwice, NoneReportedUntaken, AssignsTwo, NotAssignedTwice}
+use Rattle.relay_delivery.specs.Laws.{request, NoneOfOtherDocument, NoneUnaccepted, NotGivenUpWhenSettled, NotRefusedWithoutStatus, NotRefusedWithoutError, NotRefusedWithoutReason, NotRefusedWhenBusy, NotReportedUnsent, NotRejectedWithoutAnswer, NotRejectedWhenRetried, NotGivenUpForHalves, NotRejectedWhenHalved, NoConflictAfterTwo, NoConflictWithoutRun, NoConflictWithUnstated, NoneReportedTwice, NoneReportedUntaken, AssignsTwo, NotAssignedTwice}
 use Rattle.relay_results.specs.Words.{count, one_if}
 use Rattle.relay_delivery.proofs.Dealt.{carries_at}
-use Rattle.relay_delivery.proofs.Played.{apart, matches-one, entry-self}
+use Rattle.relay_delivery.proofs.Played.{apart, matches-one, entry-self, carries_self}
 
 pub other_document : NoneOfOtherDocument
 other_document accepted k w o other a = other (a.of_document o (inl refl))
@@ -46,19 +46,19 @@ settled o v sends t runs h =
     apart_tests (g.each 2 0 third (record { write = w; sent = refl; stands = refl; same = same_write-self w }) (matches-one (entry w 200) w (entry-self w 200)))
 
 pub without_status : NotRefusedWithoutStatus
-without_status o dealt t s status error none h =
-    let d = (not_spent t s o dealt (cause.Refused status error) (λ e. cc) h).of_write in
+without_status o dealt t s status kind reason none h =
+    let d = (not_spent t s o dealt (cause.Refused status kind reason) (λ e. cc) h).of_write in
     none d.answered.ran.run d.answered.ran.among (d.answered.ran.status ∙ d.status_is)
 
--- a text that is not empty is there
-unwrap_or-some : (o : Option (List ℕ)) (text : List ℕ) → text ≢ [] → unwrap_or o [] ≡ text → o ≡ Some text
-unwrap_or-some None text some e = absurd (some (sym e))
-unwrap_or-some (Some x) text some e = ap Some e
-
 pub without_error : NotRefusedWithoutError
-without_error o dealt t s status error some none h =
-    let d = (not_spent t s o dealt (cause.Refused status error) (λ e. cc) h).of_write in
-    none d.answered.ran.run d.answered.ran.among (d.answered.ran.error ∙ unwrap_or-some d.outcome.error error some d.error_is)
+without_error o dealt t s status kind reason none h =
+    let d = (not_spent t s o dealt (cause.Refused status kind reason) (λ e. cc) h).of_write in
+    none d.answered.ran.run d.answered.ran.among (ap kind_in d.answered.ran.error ∙ d.kind_is)
+
+pub without_reason : NotRefusedWithoutReason
+without_reason o dealt t s status kind reason none h =
+    let d = (not_spent t s o dealt (cause.Refused status kind reason) (λ e. cc) h).of_write in
+    none d.answered.ran.run d.answered.ran.among (ap reason_in d.answered.ran.error ∙ d.reason_is)
 
 -- by the table, neither a conflict nor a busy index is Refused
 no_refusal : (success absent conflict busy r l : Bool) → (conflict ≡ true) ⊎ (busy ≡ true) → by_lines success absent conflict busy r l ≡ verdict.Refused → ⊥
@@ -71,15 +71,15 @@ no_refusal false false false true r false h e = cc
 no_refusal false false false false r l h e = ⊎_elim (λ x. apart_tests x) (λ x. apart_tests x) h
 
 pub not_busy : NotRefusedWhenBusy
-not_busy o dealt t s status error busy h =
-    let d = not_spent t s o dealt (cause.Refused status error) (λ e. cc) h in
+not_busy o dealt t s status kind reason busy h =
+    let d = not_spent t s o dealt (cause.Refused status kind reason) (λ e. cc) h in
     let r = d.of_write in
     let k = kind_of o.action in
     let u = r.outcome.status in
     let e = is_some r.outcome.error in
-    no_refusal (not e && is_2xx u) (not e && is_absent k u) (is_conflict u) (is_retried_item u) (nat_le 2 0) (nat_lt 0 0)
+    no_refusal (not e && is_2xx u) (not e && is_absent k u) (is_conflict u) (is_retried_item u) (nat_le 2 0 && true) (nat_lt 0 0)
     (⊎_elim (λ x. inl (ap is_conflict r.status_is ∙ x)) (λ x. inr (ap is_retried_item r.status_is ∙ x)) busy)
-    (r.refused 0 0 0)
+    (r.refused true 0 0 0)
 
 -- what carries it is counted
 some_carried : (requests : List Request) (w : Write) (number place : ℕ) (q : Request) → CarriedAt requests w number place q → 1 ≤ count (carries w) requests
@@ -100,9 +100,9 @@ or_right true c t = refl
 or_right false c t = t
 
 unsent_of : (max : ℕ) (s : Outside) (w : Write) (c : Cause) → 1 ≤ max → count (carries w) s.requests ≡ 0 → IsTrueOf max s w c → ⊥
-unsent_of max s w (cause.Refused status error) some none h = let a = h.answered in let n = some_carried s.requests w a.number a.place a.request a.carried in omega (arith, n, none)
+unsent_of max s w (cause.Refused status kind reason) some none h = let a = h.answered in let n = some_carried s.requests w a.number a.place a.request a.carried in omega (arith, n, none)
 unsent_of max s w (cause.Request status) some none h = let a = h in let n = some_carried s.requests w a.number a.place a.request a.carried in omega (arith, n, none)
-unsent_of max s w cause.Conflict some none h = let n = h.once in omega (arith, n, none)
+unsent_of max s w (cause.Conflict stored reason) some none h = let a = h.answered in let n = some_carried s.requests w a.number a.place a.request a.carried in omega (arith, n, none)
 unsent_of max s w (cause.GaveUp sends) some none h = let e = h.enough in let l = fewer_tries w s.requests in omega (arith, e, l, none, some)
 unsent_of max s w cause.Spent some none h = h
 
@@ -148,9 +148,29 @@ not_when_halved o dealt t s two h =
     apart_tests (sym a.final ∙ halved_retried a.request.writes 0 (Whole 413) refl some)
 
 pub no_conflict : NoConflictWithoutRun
-no_conflict o dealt t s none h =
-    let d = (not_spent t s o dealt cause.Conflict (λ e. cc) h).of_write in
+no_conflict o dealt t s stored reason none h =
+    let d = (not_spent t s o dealt (cause.Conflict stored reason) (λ e. cc) h).of_write in
     none d.answered.ran.run d.answered.ran.among (d.answered.ran.status ∙ equal d.outcome.status 409 d.conflict)
+
+pub no_unstated : NoConflictWithUnstated
+no_unstated o dealt t s stored reason none h =
+    let d = (not_spent t s o dealt (cause.Conflict stored reason) (λ e. cc) h).of_write in
+    none d.answered.ran.run d.answered.ran.among (ap stored_in d.answered.ran.error ∙ d.stored_is)
+
+-- both requests carried it
+both_carried : (o : Op) (v : ℕ) (first second : Answer) → count (carries (write_for o v)) (request (write_for o v ∷ []) first ∷ request (write_for o v ∷ []) second ∷ []) ≡ 2
+both_carried o v first second =
+    let a = carries_self (write_for o v) first in
+    let b = carries_self (write_for o v) second in
+    ap (λ x. one_if x + (one_if (carries (write_for o v) (request (write_for o v ∷ []) second)) + 0)) a ∙ ap (λ x. 1 + (one_if x + 0)) b
+
+pub not_after_two : NoConflictAfterTwo
+not_after_two o v t first second runs stored reason own h =
+    let d = of_version t _ o v (cause.Conflict stored reason) (λ e. cc) h in
+    ⊎_elim
+    (λ one. let two = both_carried o v first second in omega (arith, one, two))
+    (λ other. apart_tests (sym (sym (ap (λ x. may_be_own x v) d.stored_is) ∙ other) ∙ own))
+    d.other
 
 pub none_twice : NoneReportedTwice
 none_twice g taken r s ops h = h.once.0 (inl refl)

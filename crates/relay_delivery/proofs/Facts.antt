@@ -6,7 +6,7 @@ use Rattle.relay_action.specs.declared.operation.Op.{Op}
 use Rattle.relay_action.specs.declared.operation.OpName.{OpName}
 use Rattle.relay_results.specs.Words.{Mem, count}
 use Rattle.relay_results.specs.Documents.{Document, document_of, name_of, write_for, same_name}
-use Rattle.relay_results.specs.Outside.{Unanswered, Request, Ran, Outside, is_applied}
+use Rattle.relay_results.specs.Outside.{Unanswered, Request, Ran, stored_in, Outside, is_applied}
 use Rattle.relay_results.specs.declared.cause.Cause.TheVariants.{Spent}
 use Rattle.relay_delivery.specs.Causes.{carries, is_try, CarriedAt, IsTrueOf}
 use Rattle.relay_results.specs.Fates.{IsRetried}
@@ -51,26 +51,37 @@ pub record HeldFact (g : Config) (taken : List Op) (requests : List Request) (h 
   -- the versions sent for its document do not pass its own
   pub last : (w : Write) → IsSent requests w → document_of w.key ≡ document_of h.op.key → w.version ≤ h.version
 
+-- what there was before a lane began: the writes of earlier incarnations that requests have, and the versions that the
+-- index had stored
+pub record Past : Type 1 where
+  pub writes : Write → Type 0
+  pub versions : ℕ → Type 0
+
+-- the version is one from before, or that of an applied write
+abbrev pub IsKnown : (ℕ → Type 0) → List Write → ℕ → Type 0
+IsKnown versions applied u = versions u ⊎ ((w : Write) × Mem w applied × (w.version ≡ u))
+
 -- of a run
-pub record RunFact (requests : List Request) (stored : Document → Option ℕ) (applied : Document → List Write) (r : Ran) : Type 0 where
+pub record RunFact (versions : ℕ → Type 0) (requests : List Request) (stored : Document → Option ℕ) (applied : Document → List Write) (r : Ran) : Type 0 where
   pub request : Request
   pub write : Write
   pub sent : slice_get requests r.request ≡ Some request
   pub stands : slice_get request.writes r.place ≡ Some write
   pub if_applied : is_applied write r.outcome ≡ true → Mem write (applied (document_of write.key))
   pub if_conflict : r.outcome.status ≡ 409 → (u : ℕ) × (stored (document_of write.key) ≡ Some u) × (write.version ≤ u)
+  pub if_stated : r.outcome.status ≡ 409 → (u : ℕ) → stored_in r.outcome.error ≡ Some u → IsKnown versions (applied (document_of write.key)) u
 
 abbrev pub IsRising : List Write → Type 0
 IsRising [] = Unit {0}
 IsRising (w ∷ ws) = ((x : Write) → Mem x ws → w.version < x.version) × IsRising ws
 
 -- of a document in the index
-pub record IndexFact (g : Config) (requests : List Request) (stored : Option ℕ) (applied : List Write) (k : Document) : Type 0 where
+pub record IndexFact (versions : ℕ → Type 0) (requests : List Request) (stored : Option ℕ) (applied : List Write) (k : Document) : Type 0 where
   pub sent : (w : Write) → Mem w applied → IsSent requests w
   pub document : (w : Write) → Mem w applied → document_of w.key ≡ k
   pub rising : IsRising applied
   pub above : (w : Write) → Mem w applied → (u : ℕ) × (stored ≡ Some u) × (w.version ≤ u)
-  pub from : (u : ℕ) → stored ≡ Some u → (u < g.first) ⊎ ((w : Write) × Mem w applied × (w.version ≡ u))
+  pub from : (u : ℕ) → stored ≡ Some u → IsKnown versions applied u
 
 -- of a report: it is on an operation that was taken past the limit, or that was assigned a version,
 -- is not held any more, and has a true cause
@@ -94,6 +105,13 @@ pub record CauseFact (g : Config) (taken : List Op) (held : List Held) (s : Outs
 
 abbrev pub ReportFact : Config → List Op → List Held → Outside → Report → Type 0
 ReportFact g taken held s r = SpentFact g taken r ⊎ CauseFact g taken held s r
+
+-- Why a conflict that may be with the own version of a repeat is: each version from before is below those that are assigned,
+-- or each conflict states the stored version.
+abbrev pub TellsOwn : Config → Past → List Ran → Type 0
+TellsOwn g past runs =
+    ((u : ℕ) → past.versions u → u < g.first)
+    ⊎ ((r : Ran) → Mem r runs → r.outcome.status ≡ 409 → (u : ℕ) × (stored_in r.outcome.error ≡ Some u))
 
 -- what became of the operation at a place
 pub record IsHeldAt (g : Config) (held : List Held) (place : ℕ) : Type 0 where
@@ -131,15 +149,17 @@ AreRising (h ∷ hs) = ((j : Held) → Mem j hs → h.version < j.version) × Ar
 
 -- What holds of a lane's core, where requests may also have writes of the past: of earlier incarnations, whose versions are
 -- below the first one assigned.
-pub record CoreFacts (g : Config) (past : Write → Type 0) (c : Core) : Type 0 where
-  pub past_below : (w : Write) → past w → w.version < g.first
+pub record CoreFacts (g : Config) (past : Past) (c : Core) : Type 0 where
+  pub past_below : (w : Write) → past.writes w → w.version < g.first
+  -- a version from before is none that it assigns
+  pub foreign : (u place : ℕ) → past.versions u → place < g.deals → u ≡ g.first + place → ⊥
   pub held : (h : Held) → Mem h c.held → HeldFact g c.taken c.outside.requests h
   -- one entry has a version
   pub alone : (h j : Held) → Mem h c.held → Mem j c.held → h.version ≡ j.version → h ≡ j
   pub in_rise : AreRising c.held
-  pub sent : (w : Write) → IsSent c.outside.requests w → IsOfOne g c.taken w ⊎ past w
-  pub runs : (r : Ran) → Mem r c.outside.runs → RunFact c.outside.requests c.outside.stored c.outside.applied r
-  pub index : (k : Document) → IndexFact g c.outside.requests (c.outside.stored k) (c.outside.applied k) k
+  pub sent : (w : Write) → IsSent c.outside.requests w → IsOfOne g c.taken w ⊎ past.writes w
+  pub runs : (r : Ran) → Mem r c.outside.runs → RunFact past.versions c.outside.requests c.outside.stored c.outside.applied r
+  pub index : (k : Document) → IndexFact past.versions c.outside.requests (c.outside.stored k) (c.outside.applied k) k
   pub reports : (r : Report) → Mem r c.reports → ReportFact g c.taken c.held c.outside r
   -- a name is held and reported at most as often as it was taken
   pub apart : (n : OpName) → count (is_held_as n) c.held + count (is_report_as n) c.reports ≤ count (is_taken_as n) c.taken

@@ -175,7 +175,7 @@ module _ (g : Config) (number : ℕ) (ws : List Write) (a : Answer) where
   pub record IsHere (h : Held) : Type 0 where
     pub place : ℕ
     pub flies : h.flies ≡ Some (record { request = number; place = place })
-    pub fate_is : turn h ≡ fate (record { sends = h.sends; attempts = h.attempts; max = g.max }) ws place (kind_of h.op.action) a
+    pub fate_is : turn h ≡ fate (record { version = h.version; sends = h.sends; attempts = h.attempts; max = g.max }) ws place (kind_of h.op.action) a
 
   turn_by : (h : Held) (f : Place) (b : Bool) → (f.request == number) ≡ b → h.flies ≡ Some f → IsAway h ⊎ IsHere h
   turn_by h f true t e =
@@ -183,10 +183,10 @@ module _ (g : Config) (number : ℕ) (ws : List Write) (a : Answer) where
       inr (record {
         place = f.place;
         flies = e ∙ (λ i. Some (record { request = at i; place = f.place }));
-        fate_is = ap (fate_of g number ws a h) e ∙ ap (λ b. if b then fate (record { sends = h.sends; attempts = h.attempts; max = g.max }) ws f.place (kind_of h.op.action) a else Flies) t;
+        fate_is = ap (fate_of g number ws a h) e ∙ ap (λ b. if b then fate (record { version = h.version; sends = h.sends; attempts = h.attempts; max = g.max }) ws f.place (kind_of h.op.action) a else Flies) t;
       })
   turn_by h f false t e = inl (record {
-    stays = ap (fate_of g number ws a h) e ∙ ap (λ b. if b then fate (record { sends = h.sends; attempts = h.attempts; max = g.max }) ws f.place (kind_of h.op.action) a else Flies) t;
+    stays = ap (fate_of g number ws a h) e ∙ ap (λ b. if b then fate (record { version = h.version; sends = h.sends; attempts = h.attempts; max = g.max }) ws f.place (kind_of h.op.action) a else Flies) t;
     elsewhere = λ place e'.
         let same = some_same f (record { request = number; place = place }) (sym e ∙ e') in
         let t' = equal_test f.request number (ap (λ (x : Place). x.request) same) in cc (t, t');
@@ -203,5 +203,5 @@ module _ (g : Config) (number : ℕ) (ws : List Write) (a : Answer) where
   pub retried_left : (h : Held) → turn h ≡ Retried → h.attempts < g.max
   retried_left h e = ⊎_elim {C = h.attempts < g.max}
       (λ w. absurd (cc (e, w.stays)))
-      (λ w. retried_tries (record { sends = h.sends; attempts = h.attempts; max = g.max }) ws w.place (kind_of h.op.action) a (sym w.fate_is ∙ e))
+      (λ w. retried_tries (record { version = h.version; sends = h.sends; attempts = h.attempts; max = g.max }) ws w.place (kind_of h.op.action) a (sym w.fate_is ∙ e))
       (away_or_here h)

@@ -9,29 +9,30 @@ use Rattle.relay_action.specs.declared.write.Write.{Write}
 use Rattle.relay_action.specs.declared.operation.Op.{Op}
 use Rattle.relay_results.specs.Words.{Mem, IsSubsequence, AllDistinct}
 use Rattle.relay_results.specs.Documents.{document_of, same_document, name_of}
-use Rattle.relay_results.specs.Outside.{Answer, Unanswered, Request, Ran, Outside, MayRun, MayAnswer, after}
+use Rattle.relay_results.specs.Outside.{Answer, Unanswered, Request, Ran, Outside, IsOpening, IsHonest, MayRun, MayAnswer, after}
 use Rattle.relay_results.specs.Outside as outside
 use Rattle.relay_results.specs.Fates.{Fate, Flies, Applied, Already, Retried, Halved, Reported}
 use Rattle.relay_results.proofs.Same.{same_document-self}
 use Rattle.relay_results.proofs.Steps.{step_runs_item}
-use Rattle.relay_delivery.specs.Machine.{Config, Core, Held, Place, Step, Takes, Sends, Runs, Answers, held_if, spent_if, after_launch, fate_of, kept_one, still_held, reports_from, how_many, is_applied_fate, is_already_fate, writes_or, step, KeepsCaps, IsEligible, MaySend, MayStep, CameAbout}
-use Rattle.relay_delivery.specs.Lane.{Entry, Flying, State, held_of, entry_if, taken_op, waits, is_candidate, candidates, launched_entry, writes_of_all, after_request_of, kept_entry, kept_entries, is_other, after_settling, IsOf, writes_at, is_flying, after_answer_to, Fits, FreshFits, ClockFits, TakeFits, SendFits, RunFits, AnswerFits, SoundWhereItFits, CompleteWhereItFits, TotalWhereItFits, WritesWhereItFits, EarliestWhereItFits, OneFliesWhereItFits, tries_of, SendTakesTry, AnswerGivesNoTry}
-use Rattle.relay_delivery.specs.Delivery.{applied_ops, IsSound, IsComplete, IsDealtWrite}
+use Rattle.relay_delivery.specs.Machine.{Config, Core, Held, Place, Step, Takes, Sends, Runs, Answers, write_of, held_if, spent_if, after_launch, fate_of, kept_one, still_held, reports_from, how_many, is_applied_fate, is_already_fate, writes_or, step, KeepsCaps, IsEligible, MaySend, MayStep, IsNew, IsFresh, CameAboutFrom}
+use Rattle.relay_delivery.specs.Lane.{Entry, Flying, State, held_of, entry_if, taken_op, waits, is_candidate, candidates, launched_entry, writes_of_all, after_request_of, kept_entry, kept_entries, is_other, after_settling, IsOf, writes_at, is_flying, after_answer_to, FitsFrom, Fits, fresh_state, FreshFits, ClockFits, TakeFits, SendFits, RunFits, AnswerFits, EndedIsApplied, SoundWhereItFits, CompleteWhereItFits, TotalWhereItFits, WritesWhereItFits, EarliestWhereItFits, OneFliesWhereItFits, tries_of, SendTakesTry, AnswerGivesNoTry}
+use Rattle.relay_delivery.specs.Delivery.{HasDistinctNames, applied_ops, IsSound, IsComplete, IsDealtWrite}
 use Rattle.relay_delivery.specs.Bound.{tries_left}
 use Rattle.relay_delivery.proofs.Bounded.{within_tries_left, left-kept, all_tries}
 use Rattle.relay_delivery.proofs.Earliest.{earliest_flies, one_flies}
-use Rattle.relay_results.proofs.Lists.{true_or_false, and_left, and_right, and_both, not_true, equal_test, any_false, at-left, at-last, at-update_other, Mem-cases, Mem-one, Mem-map, map-Mem, Mem-filter, sub_joined, filter_sub, Mem-sub, AllDistinct-sub, sub-map, length-update, equal}
-use Rattle.relay_delivery.proofs.Facts.{AreRising, CoreFacts}
+use Rattle.relay_results.proofs.Lists.{true_or_false, and_left, and_right, and_both, not_true, equal_test, some_same, any_false, at-left, at-last, at-update_other, Mem-cases, Mem-one, Mem-map, map-Mem, Mem-filter, sub_joined, filter_sub, Mem-sub, AllDistinct-sub, sub-map, length-update, equal}
+use Rattle.relay_delivery.proofs.Facts.{Past, AreRising, CoreFacts}
 use Rattle.relay_delivery.proofs.Dealt.{with_answer}
-use Rattle.relay_delivery.proofs.Keeps.{none_past, facts_of}
-use Rattle.relay_delivery.proofs.Whole.{sound, complete, fresh_came_about, step_came_about, writes_are_dealt}
+use Rattle.relay_delivery.proofs.Keeps.{none_past, tells_none, facts_of}
+use Rattle.relay_delivery.proofs.Answer.{ended, no_unanswered}
+use Rattle.relay_delivery.proofs.Whole.{sound, complete, step_from, writes_are_dealt}
 
 -- one more step
-next : (s s' : State) (taken taken' : List Op) (out out' : Outside) (f : Fits s taken out) (st : Step) → s'.config ≡ s.config → MayStep st f.core
-    → IsOf s' (step s.config st f.core) → (step s.config st f.core).taken ≡ taken' → (step s.config st f.core).outside ≡ out' → Fits s' taken' out'
-next s s' taken taken' out out' f st same may is took outside_is = record {
+next : (begin : Config → Core → Type 0) (s s' : State) (taken taken' : List Op) (out out' : Outside) (f : FitsFrom begin s taken out) (st : Step) → s'.config ≡ s.config → MayStep st f.core
+    → IsOf s' (step s.config st f.core) → (step s.config st f.core).taken ≡ taken' → (step s.config st f.core).outside ≡ out' → FitsFrom begin s' taken' out'
+next begin s s' taken taken' out out' f st same may is took outside_is = record {
   core = step s.config st f.core;
-  came_about = subst (λ g. CameAbout g (step s.config st f.core)) (sym same) (step_came_about s.config f.core st f.came_about may);
+  came_about = subst (λ g. CameAboutFrom begin g (step s.config st f.core)) (sym same) (step_from begin s.config f.core st f.came_about may);
   is_of = is;
   took = took;
   outside = outside_is;
@@ -56,9 +57,12 @@ take_is_of s c o bytes is = record {
   flying = is.flying;
 }
 
+pub take_from : (begin : Config → Core → Type 0) (s : State) (o : Op) (bytes : ℕ) (taken : List Op) (out : Outside) → FitsFrom begin s taken out → FitsFrom begin (taken_op s o bytes) (taken ++ o ∷ []) out
+take_from begin s o bytes taken out f =
+    next begin s (taken_op s o bytes) taken (taken ++ o ∷ []) out out f (Takes o) refl tt (take_is_of s f.core o bytes f.is_of) (ap (λ os. os ++ o ∷ []) f.took) f.outside
+
 pub take_fits : TakeFits
-take_fits s o bytes taken out f =
-    next s (taken_op s o bytes) taken (taken ++ o ∷ []) out out f (Takes o) refl tt (take_is_of s f.core o bytes f.is_of) (ap (λ os. os ++ o ∷ []) f.took) f.outside
+take_fits s o bytes taken out f = take_from IsFresh s o bytes taken out f
 
 -- ---- request
 
@@ -101,13 +105,16 @@ module _ (s : State) (chosen : List Entry) (part : IsSubsequence chosen (candida
   distinct_here rising = AllDistinct-sub (map (λ (h : Held). h.version) (held_of chosen)) (map (λ (h : Held). h.version) (held_of s.held)) (distinct_versions (held_of s.held) rising)
       (sub-map (λ (h : Held). h.version) (held_of chosen) (held_of s.held) among)
 
-module _ (past : Write → Type 0) (s : State) (c : Core) (chosen : List Entry) (part : IsSubsequence chosen (candidates s)) (within : KeepsCaps (held_of chosen)) (is : IsOf s c) (facts : CoreFacts s.config past c) where
-  pub may_send : MaySend c (held_of chosen)
-  may_send = record {
+module _ (s : State) (c : Core) (chosen : List Entry) (part : IsSubsequence chosen (candidates s)) (within : KeepsCaps (held_of chosen)) (is : IsOf s c) where
+  may_send_rising : AreRising c.held → MaySend c (held_of chosen)
+  may_send_rising rising = record {
     eligible = λ h m. subst (λ hs. IsEligible hs h) is.held (eligible_here s chosen part h m);
-    distinct = distinct_here s chosen part (subst (λ hs. AreRising hs) (sym is.held) facts.in_rise);
+    distinct = distinct_here s chosen part (subst (λ hs. AreRising hs) (sym is.held) rising);
     caps = within;
   }
+
+pub may_send : (past : Past) (s : State) (c : Core) (chosen : List Entry) → IsSubsequence chosen (candidates s) → KeepsCaps (held_of chosen) → IsOf s c → CoreFacts s.config past c → MaySend c (held_of chosen)
+may_send past s c chosen part within is facts = may_send_rising s c chosen part within is facts.in_rise
 
 pub held_launched : (n : ℕ) (hs : List Held) (es : List Entry) → held_of (map (launched_entry n hs) es) ≡ map (after_launch n hs) (held_of es)
 held_launched n hs [] = refl
@@ -134,11 +141,15 @@ send_is_of s c chosen is =
           (Mem-cases x s.flying (record { request = s.requests; writes = writes_of_all chosen } ∷ []) m);
     }
 
-pub send_fits : SendFits
-send_fits s chosen taken out part within f =
-    next s (after_request_of s chosen) taken taken out (after (outside.Sends (writes_of_all chosen)) out) f (Sends (held_of chosen)) refl
-    (may_send none_past s f.core chosen part within f.is_of (facts_of s.config f.core f.came_about)) (send_is_of s f.core chosen f.is_of) f.took
+pub send_from : (begin : Config → Core → Type 0) (s : State) (chosen : List Entry) (taken : List Op) (out : Outside) → IsSubsequence chosen (candidates s) → KeepsCaps (held_of chosen) → (f : FitsFrom begin s taken out)
+    → AreRising f.core.held → FitsFrom begin (after_request_of s chosen) taken (after (outside.Sends (writes_of_all chosen)) out)
+send_from begin s chosen taken out part within f rising =
+    next begin s (after_request_of s chosen) taken taken out (after (outside.Sends (writes_of_all chosen)) out) f (Sends (held_of chosen)) refl
+    (may_send_rising s f.core chosen part within f.is_of rising) (send_is_of s f.core chosen f.is_of) f.took
     (ap (after (outside.Sends (writes_of_all chosen))) f.outside)
+
+pub send_fits : SendFits
+send_fits s chosen taken out part within f = send_from IsFresh s chosen taken out part within f (facts_of s.config f.core f.came_about).in_rise
 
 -- ---- runs
 
@@ -155,10 +166,13 @@ run_is_of s c r may is =
       flying = λ x m. ap (λ rs. slice_get rs x.request) same ∙ is.flying x m;
     }
 
-pub run_fits : RunFits
-run_fits s r taken out may f =
+pub run_from : (begin : Config → Core → Type 0) (s : State) (r : Ran) (taken : List Op) (out : Outside) → MayRun out r → FitsFrom begin s taken out → FitsFrom begin s taken (after (outside.Runs r) out)
+run_from begin s r taken out may f =
     let may' : MayRun f.core.outside r = subst (λ o. MayRun o r) (sym f.outside) may in
-    next s s taken taken out (after (outside.Runs r) out) f (Runs r) refl may' (run_is_of s f.core r may' f.is_of) f.took (ap (after (outside.Runs r)) f.outside)
+    next begin s s taken taken out (after (outside.Runs r) out) f (Runs r) refl may' (run_is_of s f.core r may' f.is_of) f.took (ap (after (outside.Runs r)) f.outside)
+
+pub run_fits : RunFits
+run_fits s r taken out may f = run_from IsFresh s r taken out may f
 
 -- ---- reply, whole, lost
 
@@ -212,27 +226,51 @@ flies_unanswered s c number flies is = is.flying (record { request = from_zero n
 pub answer_is_of : (s : State) (c : Core) (number : ℕ) (a : Answer) → is_flying number s ≡ true → IsOf s c → IsOf (after_answer_to s number a) (step s.config (Answers (from_zero number) a) c)
 answer_is_of s c number a flies is = settle_is_of s c (from_zero number) (writes_at (from_zero number) s.flying) a (flies_at s.flying number flies) is
 
-pub answer_fits : AnswerFits
-answer_fits s number a taken out flies may f =
+pub answer_from : (begin : Config → Core → Type 0) (s : State) (number : ℕ) (a : Answer) (taken : List Op) (out : Outside) → is_flying number s ≡ true → MayAnswer out (from_zero number) a → FitsFrom begin s taken out
+    → FitsFrom begin (after_answer_to s number a) taken (after (outside.Answers (from_zero number) a) out)
+answer_from begin s number a taken out flies may f =
     let may' : MayAnswer f.core.outside (from_zero number) a = subst (λ o. MayAnswer o (from_zero number) a) (sym f.outside) may in
-    next s (after_answer_to s number a) taken taken out (after (outside.Answers (from_zero number) a) out) f (Answers (from_zero number) a) refl may'
+    next begin s (after_answer_to s number a) taken taken out (after (outside.Answers (from_zero number) a) out) f (Answers (from_zero number) a) refl may'
     (answer_is_of s f.core number a flies f.is_of) f.took (ap (after (outside.Answers (from_zero number) a)) f.outside)
+
+pub answer_fits : AnswerFits
+answer_fits s number a taken out flies may f = answer_from IsFresh s number a taken out flies may f
+
+pub ended_where : EndedIsApplied
+ended_where s number a taken out flies may f h m t =
+    let c = f.core in
+    let n = from_zero number in
+    let q : Request = record { writes = writes_at n s.flying; answer = Unanswered } in
+    let here = flies_unanswered s c number flies f.is_of in
+    let may' : MayAnswer c.outside n a = subst (λ o. MayAnswer o n a) (sym f.outside) may in
+    let same : may'.request ≡ q = some_same may'.request q (sym may'.sent ∙ here) in
+    let honest : IsHonest c.outside.runs n q.writes a = subst (λ (z : Request). IsHonest c.outside.runs n z.writes a) same may'.honest in
+    subst (λ (o : Outside). Mem (write_of h) (o.applied (document_of h.op.key))) f.outside
+    (ended s.config (none_past s.config) c (facts_of s.config c f.came_about) n q here refl a (no_unanswered c.outside.runs n q.writes a honest) honest (tells_none s.config c) h (subst (Mem h) f.is_of.held m) t)
 
 -- ---- at the start, and what is promised
 
-pub fresh_fits : FreshFits
-fresh_fits g out opening below =
-    let start : Core = record { taken = []; held = []; reports = []; applied = 0; already = 0; outside = out } in
-    record {
-      core = start;
-      came_about = fresh_came_about g start (record { taken = refl; held = refl; reports = refl; applied = refl; already = refl; opening = opening; below = below });
-      is_of = record { taken = refl; held = refl; reports = refl; applied = refl; already = refl; requests = sym (ap length opening.requests); flying = λ x m. absurd m };
-      took = refl;
-      outside = refl;
-    }
+-- a lane that took nothing, beside an outside in which nothing was sent
+abbrev pub new_core : Outside → Core
+new_core out = record { taken = []; held = []; reports = []; applied = 0; already = 0; outside = out }
 
-pub clock_fits : ClockFits
-clock_fits s clock taken out f =
+pub new_is_new : (out : Outside) → IsOpening out → IsNew (new_core out)
+new_is_new out opening = record { taken = refl; held = refl; reports = refl; applied = refl; already = refl; opening = opening }
+
+pub fresh_from : (begin : Config → Core → Type 0) (g : Config) (out : Outside) → IsOpening out → begin g (new_core out) → FitsFrom begin (fresh_state g) [] out
+fresh_from begin g out opening fresh = record {
+  core = new_core out;
+  came_about = record { start = new_core out; fresh = fresh; steps = []; may = tt; reached = refl };
+  is_of = record { taken = refl; held = refl; reports = refl; applied = refl; already = refl; requests = sym (ap length opening.requests); flying = λ x m. absurd m };
+  took = refl;
+  outside = refl;
+}
+
+pub fresh_fits : FreshFits
+fresh_fits g out opening below = fresh_from IsFresh g out opening (record { new = new_is_new out opening; below = below })
+
+pub clock_from : (begin : Config → Core → Type 0) (s : State) (clock : ℕ) (taken : List Op) (out : Outside) → FitsFrom begin s taken out → FitsFrom begin (record s { clock = clock }) taken out
+clock_from begin s clock taken out f =
     let is = f.is_of in
     record {
       core = f.core;
@@ -242,23 +280,32 @@ clock_fits s clock taken out f =
       outside = f.outside;
     }
 
-pub sound_where : SoundWhereItFits
-sound_where s taken out f distinct =
+pub clock_fits : ClockFits
+clock_fits s clock taken out f = clock_from IsFresh s clock taken out f
+
+pub sound_from : (begin : Config → Core → Type 0) (past : Config → Past) → ((g : Config) (w : Write) → (past g).writes w → ⊥) → (s : State) (taken : List Op) (out : Outside) (f : FitsFrom begin s taken out)
+    → CoreFacts s.config (past s.config) f.core → HasDistinctNames taken → IsSound s.config taken s.reports out (applied_ops s.config taken out)
+sound_from begin past nothing s taken out f facts distinct =
     let c = f.core in
-    let facts = facts_of s.config f.core f.came_about in
     let d = subst (λ os. AllDistinct (map name_of os)) (sym f.took) distinct in
     subst (λ os. IsSound s.config os s.reports out (applied_ops s.config os out)) f.took
     (subst (λ o. IsSound s.config c.taken s.reports o (applied_ops s.config c.taken o)) f.outside
-    (subst (λ rs. IsSound s.config c.taken rs c.outside (applied_ops s.config c.taken c.outside)) (sym f.is_of.reports) (sound s.config c facts d)))
+    (subst (λ rs. IsSound s.config c.taken rs c.outside (applied_ops s.config c.taken c.outside)) (sym f.is_of.reports) (sound s.config (past s.config) (nothing s.config) c facts d)))
 
-pub complete_where : CompleteWhereItFits
-complete_where s taken out f distinct none =
+pub sound_where : SoundWhereItFits
+sound_where s taken out f distinct = sound_from IsFresh none_past (λ g w m. m) s taken out f (facts_of s.config f.core f.came_about) distinct
+
+pub complete_from : (begin : Config → Core → Type 0) (past : Config → Past) → ((g : Config) (w : Write) → (past g).writes w → ⊥) → (s : State) (taken : List Op) (out : Outside) (f : FitsFrom begin s taken out)
+    → CoreFacts s.config (past s.config) f.core → HasDistinctNames taken → s.held ≡ [] → IsComplete taken s.reports (applied_ops s.config taken out)
+complete_from begin past nothing s taken out f facts distinct none =
     let c = f.core in
-    let facts = facts_of s.config f.core f.came_about in
     let d = subst (λ os. AllDistinct (map name_of os)) (sym f.took) distinct in
     subst (λ os. IsComplete os s.reports (applied_ops s.config os out)) f.took
     (subst (λ o. IsComplete c.taken s.reports (applied_ops s.config c.taken o)) f.outside
-    (subst (λ rs. IsComplete c.taken rs (applied_ops s.config c.taken c.outside)) (sym f.is_of.reports) (complete s.config c facts d (sym f.is_of.held ∙ ap held_of none))))
+    (subst (λ rs. IsComplete c.taken rs (applied_ops s.config c.taken c.outside)) (sym f.is_of.reports) (complete s.config (past s.config) (nothing s.config) c facts d (sym f.is_of.held ∙ ap held_of none))))
+
+pub complete_where : CompleteWhereItFits
+complete_where s taken out f distinct none = complete_from IsFresh none_past (λ g w m. m) s taken out f (facts_of s.config f.core f.came_about) distinct none
 
 pub total_where : TotalWhereItFits
 total_where s taken out f =
@@ -302,7 +349,7 @@ some_chosen (e ∷ es) some q = let n = ap length q in absurd (omega (arith, n))
 pub send_takes_try : SendTakesTry
 send_takes_try s chosen taken out some ne part within f =
     let is = f.is_of in
-    let n = within_tries_left s.config f.core (Sends (held_of chosen) ∷ []) some f.came_about (may_send none_past s f.core chosen part within is (facts_of s.config f.core f.came_about), tt) (some_chosen chosen ne, tt) in
+    let n = within_tries_left s.config f.core (Sends (held_of chosen) ∷ []) some f.came_about (may_send (none_past s.config) s f.core chosen part within is (facts_of s.config f.core f.came_about), tt) (some_chosen chosen ne, tt) in
     let longer = length-append f.core.outside.requests (record { writes = writes_of_all chosen; answer = Unanswered } ∷ []) in
     let new : List Request = record { writes = writes_of_all chosen; answer = Unanswered } ∷ [] in
     let one : length new ≡ 1 = refl in

@@ -12,10 +12,11 @@ use Rattle.relay_delivery.specs.Together.{Origin, Together, RunsAt, run_at, act,
 use Rattle.relay_delivery.proofs.Dealt.{sent_by}
 use Rattle.relay_delivery.proofs.Run.{found_at}
 use Rattle.relay_delivery.proofs.Sharing.{TogetherFacts, sent_lane}
+use Rattle.relay_delivery.proofs.Facts.{Past}
 
 -- ---- a run of a lane's item is a step of the one outside
 
-module _ (g : Config) (lane_of : Document → ℕ) (past : ℕ → Write → Type 0) (s : Together) (f : TogetherFacts g lane_of past s) (i place : ℕ) (o : RunOutcome) (from : Origin) (may : MayAct g (RunsAt i place o from) s) where
+module _ (g : Config) (lane_of : Document → ℕ) (past : ℕ → Past) (s : Together) (f : TogetherFacts g lane_of past s) (i place : ℕ) (o : RunOutcome) (from : Origin) (may : MayAct g (RunsAt i place o from) s) where
   abbrev old : ℕ → Core
   old l = s.lanes.lane l
 

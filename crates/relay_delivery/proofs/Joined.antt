@@ -14,6 +14,7 @@ use Rattle.relay_delivery.specs.Lanes.{Lanes, Move, Puts, Closes, Fetches, Steps
 use Rattle.relay_delivery.proofs.Versions.{version_in, is_assignment}
 use Rattle.relay_delivery.proofs.Whole.{IsAppliedAs, reports_true, reports_once, accounted}
 use Rattle.relay_delivery.proofs.Queues.{LanesFacts, is_for, taken_distinct, was_accepted, one_name}
+use Rattle.relay_delivery.proofs.Facts.{Past}
 
 -- a report of a lane is true of the outside of that lane
 pub record IsTrueAt (g : Config) (lane_of : Document → ℕ) (w : Lanes) (versions : Op → Option ℕ) (l : ℕ) (r : Report) : Type 0 where
@@ -25,7 +26,7 @@ pub record IsTrueAt (g : Config) (lane_of : Document → ℕ) (w : Lanes) (versi
   pub document : r.document ≡ document_of op.key
   pub cause : IsTrueCause (terms_of g (w.lane l).taken) (w.lane l).outside op (versions op) r.cause
 
-module _ (g : Config) (lane_of : Document → ℕ) (past : ℕ → Write → Type 0) (w : Lanes) (f : LanesFacts g lane_of past w) where
+module _ (g : Config) (lane_of : Document → ℕ) (past : ℕ → Past) (w : Lanes) (f : LanesFacts g lane_of past w) where
   -- what a lane took of a producer was accepted from it, in this order
   pub taken_order : (l p : ℕ) → IsSubsequence (filter (is_from p) (w.lane l).taken) (w.accepted p)
   taken_order l p =

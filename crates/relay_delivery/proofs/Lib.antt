@@ -31,3 +31,5 @@ pub mod Lives
 pub mod Parts
 pub mod Accounts
 pub mod Naming
+pub mod Explained
+pub mod Stating

@@ -11,7 +11,8 @@ use Rattle.relay_delivery.specs.Attribution.{is_from}
 use Rattle.relay_delivery.specs.Machine.{Config}
 use Rattle.relay_delivery.specs.Together.{Together}
 use Rattle.relay_delivery.specs.Restarts.{Incarnation, incarnation_of, Life, born, restarted_core, restarted_lanes, Happening, Acts, Restarts, happen, IsAbove, MayBe, after_happenings, AllMayBe, CameAboutTogether}
-use Rattle.relay_delivery.proofs.Facts.{IsOfOne, IsSent, CoreFacts}
+use Rattle.relay_delivery.proofs.Keeps.{below_foreign}
+use Rattle.relay_delivery.proofs.Facts.{Past, IsKnown, IsOfOne, IsSent, CoreFacts}
 use Rattle.relay_delivery.proofs.Queues.{LanesFacts, taken_distinct, was_accepted}
 use Rattle.relay_delivery.proofs.Joined.{taken_order}
 use Rattle.relay_delivery.proofs.Sharing.{TogetherFacts, act_keeps, start_shared}
@@ -21,6 +22,10 @@ pub record IsOfThese (ps : List Incarnation) (l : ℕ) (w : Write) : Type 0 wher
   pub which : Incarnation
   pub among : Mem which ps
   pub of_one : IsOfOne which.config (which.taken l) w
+
+-- what there was before the incarnation with this config: what these sent, and versions below its first one
+abbrev pub past_of : List Incarnation → Config → ℕ → Past
+past_of ps g l = record { writes = IsOfThese ps l; versions = λ u. u < g.first }
 
 -- of an incarnation, whether it runs or has ended
 pub record IncarnationFacts (lane_of : Document → ℕ) (p : Incarnation) : Type 0 where
@@ -35,13 +40,13 @@ AreAbove [] top = Unit {0}
 AreAbove (p ∷ ps) top = IsAbove p.config top × ((q : Incarnation) → Mem q ps → IsAbove p.config q.config) × AreAbove ps top
 
 pub record LifeFacts (lane_of : Document → ℕ) (l : Life) : Type 0 where
-  pub together : TogetherFacts l.config lane_of (IsOfThese l.ended) l.together
+  pub together : TogetherFacts l.config lane_of (past_of l.ended l.config) l.together
   pub above : AreAbove l.ended l.config
   pub each : (p : Incarnation) → Mem p l.ended → IncarnationFacts lane_of p
 
 -- ---- the one that runs
 
-pub running_facts : (g : Config) (lane_of : Document → ℕ) (past : ℕ → Write → Type 0) (s : Together) → TogetherFacts g lane_of past s → IncarnationFacts lane_of (incarnation_of g s)
+pub running_facts : (g : Config) (lane_of : Document → ℕ) (past : ℕ → Past) (s : Together) → TogetherFacts g lane_of past s → IncarnationFacts lane_of (incarnation_of g s)
 running_facts g lane_of past s f = record {
   distinct = λ l. taken_distinct g lane_of past s.lanes f.lanes l;
   was_accepted = λ l o m. was_accepted g lane_of past s.lanes f.lanes l o m;
@@ -98,39 +103,48 @@ module _ (lane_of : Document → ℕ) (life : Life) (f : LifeFacts lane_of life)
       let e = ends_below ended_now g above_now a.which a.among in
       let v = version_within a.which.config (a.which.taken l) w a.of_one in omega (arith, e, v.1)
 
-  core_now : (l : ℕ) → CoreFacts g (IsOfThese ended_now l) (restarted_core (life.together.lanes.lane l))
+  core_now : (l : ℕ) → CoreFacts g (past_of ended_now g l) (restarted_core (life.together.lanes.lane l))
   core_now l =
       let c = f.together.lanes.lane l in
       record {
         past_below = low l;
+        foreign = below_foreign g;
         held = λ h m. absurd m;
         alone = λ h j m k e. absurd m;
         in_rise = tt;
         sent = λ w s. inr (known l w s);
-        runs = c.runs;
+        runs = λ r m. let x = c.runs r m in record {
+          request = x.request;
+          write = x.write;
+          sent = x.sent;
+          stands = x.stands;
+          if_applied = x.if_applied;
+          if_conflict = x.if_conflict;
+          if_stated = λ e u s. lower _ u (x.if_stated e u s);
+        };
         index = λ k. record {
           sent = (c.index k).sent;
           document = (c.index k).document;
           rising = (c.index k).rising;
           above = (c.index k).above;
-          from = λ u e. ⊎_elim
-              (λ lt. inl (let v = up.versions in omega (arith, lt, v)))
-              (λ w. inr w)
-              ((c.index k).from u e);
+          from = λ u e. lower _ u ((c.index k).from u e);
         };
         reports = λ r m. absurd m;
         apart = λ n. omega arith;
         totals = refl;
         nothing_lost = λ place o s. absurd (cc);
       }
+    where
+      lower : (applied : List Write) (u : ℕ) → IsKnown (λ v. v < life.config.first) applied u → IsKnown (λ v. v < g.first) applied u
+      lower applied u h = ⊎_elim (λ lt. inl (let v = up.versions in omega (arith, lt, v))) (λ w. inr w) h
 
   each_now : (p : Incarnation) → Mem p ended_now → IncarnationFacts lane_of p
   each_now p m = ⊎_elim {C = IncarnationFacts lane_of p}
       (λ old. f.each p old)
-      (λ e. subst (λ x. IncarnationFacts lane_of x) (sym e) (running_facts life.config lane_of (IsOfThese life.ended) life.together f.together))
+      (λ e. subst (λ x. IncarnationFacts lane_of x) (sym e) (running_facts life.config lane_of (past_of life.ended life.config) life.together f.together))
       (Mem-push_cases p life.ended this m)
 
-  lanes_now : LanesFacts g lane_of (IsOfThese ended_now) (restarted_lanes life.together.lanes)
+  lanes_now : LanesFacts g lane_of (past_of ended_now g) (restarted_lanes life.together.lanes)
   lanes_now = record {
     lane = core_now;
     of_past = λ l x a. its_lane l x a;
@@ -164,7 +178,7 @@ module _ (lane_of : Document → ℕ) (life : Life) (f : LifeFacts lane_of life)
 -- ---- all that happens
 
 pub happen_keeps : (lane_of : Document → ℕ) (l : Life) → LifeFacts lane_of l → (h : Happening) → MayBe h l → LifeFacts lane_of (happen lane_of h l)
-happen_keeps lane_of l f (Acts a) may = record { together = act_keeps l.config lane_of (IsOfThese l.ended) l.together f.together a may.0; above = f.above; each = f.each }
+happen_keeps lane_of l f (Acts a) may = record { together = act_keeps l.config lane_of (past_of l.ended l.config) l.together f.together (λ m. inl (λ u lt. lt)) a may.0; above = f.above; each = f.each }
 happen_keeps lane_of l f (Restarts g) may = restart_keeps lane_of l f g may
 
 all_keep : (lane_of : Document → ℕ) (hs : List Happening) (l : Life) → LifeFacts lane_of l → AllMayBe lane_of hs l → LifeFacts lane_of (after_happenings lane_of hs l)
@@ -174,10 +188,10 @@ all_keep lane_of (h ∷ hs) l f may = all_keep lane_of hs (happen lane_of h l) (
 pub facts_of_life : (g : Config) (lane_of : Document → ℕ) (ended : List Incarnation) (s : Together) → CameAboutTogether g lane_of ended s → LifeFacts lane_of (record { ended = ended; config = g; together = s })
 facts_of_life g lane_of ended s c =
     subst (λ l. LifeFacts lane_of l) c.reached (all_keep lane_of c.happenings (born c.first c.start) (record {
-      together = start_shared c.first lane_of (IsOfThese []) (λ l x a. absurd a.among) c.start c.fresh;
+      together = start_shared c.first lane_of (past_of [] c.first) (λ l x a. absurd a.among) (λ l. below_foreign c.first) c.start c.fresh (λ l. (c.fresh.lanes.lane l).below);
       above = tt;
       each = λ p m. absurd m;
     }) c.may)
 
-pub facts_together : (g : Config) (lane_of : Document → ℕ) (ended : List Incarnation) (s : Together) → CameAboutTogether g lane_of ended s → TogetherFacts g lane_of (IsOfThese ended) s
+pub facts_together : (g : Config) (lane_of : Document → ℕ) (ended : List Incarnation) (s : Together) → CameAboutTogether g lane_of ended s → TogetherFacts g lane_of (past_of ended g) s
 facts_together g lane_of ended s c = (facts_of_life g lane_of ended s c).together

@@ -15,7 +15,7 @@ use Rattle.relay_results.proofs.Lists.{true_or_false, equal, equal_test, any_tru
 use Rattle.relay_delivery.specs.Machine.{Config, Core, Held, Place, Takes, Sends, Answers, step, write_of, KeepsCaps, MaySend, place_of, launched_at, fate_of, reported_one, reports_from, how_many, is_applied_fate, is_already_fate}
 use Rattle.relay_delivery.specs.Lane.{Entry, Flying, State, held_of, entry_if, taken_op, waits, is_later, is_candidate, candidates, launched_entry, writes_of_all, after_request_of, kept_entry, kept_entries, is_other, after_settling, writes_at, is_flying, after_answer_to, fresh_state, IsOf}
 use Rattle.relay_delivery.specs.Restarts.{restarted_core}
-use Rattle.relay_delivery.proofs.Facts.{CoreFacts}
+use Rattle.relay_delivery.proofs.Facts.{Past, CoreFacts}
 use Rattle.relay_delivery.proofs.Fitting.{take_is_of, may_send, send_is_of, flies_unanswered, answer_is_of}
 use Rattle.relay_delivery.specs.Renumbering.{place_on, held_on, entry_on, flying_on, numbered_on, TakesOn, CandidatesOn, SendsOn, WritesOn, SettlesOn, FliesOn, AnswersOn}
 
@@ -116,7 +116,7 @@ writes_on n request (f ∷ fs) =
 fate_on : (g : Config) (n request : ℕ) (ws : List Write) (a : Answer) (h : Held) (p : Option Place) → fate_of g (n + request) ws a (held_on n h) (place_on n p) ≡ fate_of g request ws a h p
 fate_on g n request ws a h None = refl
 fate_on g n request ws a h (Some f) =
-    ap (λ t. if t then fate (record { sends = h.sends; attempts = h.attempts; max = g.max }) ws f.place (kind_of h.op.action) a else Flies) (same_on n f.request request)
+    ap (λ t. if t then fate (record { version = h.version; sends = h.sends; attempts = h.attempts; max = g.max }) ws f.place (kind_of h.op.action) a else Flies) (same_on n f.request request)
 
 kept_on : (n clock : ℕ) (x : Fate) (e : Entry) → kept_entry clock x (entry_on n e) ≡ map (entry_on n) (kept_entry clock x e)
 kept_on n clock Flies e = refl
@@ -249,7 +249,7 @@ caps_on n chosen caps more h m =
     let le = caps (omega (arith, more, same)) x.0 x.1 in
     let c = x.2 in omega (arith, le, same, c)
 
-pub may_send_on : (past : Write → Type 0) (n : ℕ) (s : State) (c : Core) (chosen : List Entry) → IsSubsequence chosen (candidates s) → KeepsCaps (held_of chosen) → IsOf (numbered_on n s) c → CoreFacts s.config past c → MaySend c (chosen_on n chosen)
+pub may_send_on : (past : Past) (n : ℕ) (s : State) (c : Core) (chosen : List Entry) → IsSubsequence chosen (candidates s) → KeepsCaps (held_of chosen) → IsOf (numbered_on n s) c → CoreFacts s.config past c → MaySend c (chosen_on n chosen)
 may_send_on past n s c chosen part caps is facts = may_send past (numbered_on n s) c (map (entry_on n) chosen) (part_on n s chosen part) (caps_on n chosen caps) is facts
 
 pub send_on : (n : ℕ) (s : State) (c : Core) (chosen : List Entry) → IsOf (numbered_on n s) c → IsOf (numbered_on n (after_request_of s chosen)) (step s.config (Sends (chosen_on n chosen)) c)

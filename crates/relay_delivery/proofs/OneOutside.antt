@@ -15,12 +15,13 @@ use Rattle.relay_delivery.specs.Together.{Origin, Together, Act, Plain, SendsFro
 use Rattle.relay_delivery.proofs.Dealt.{sent_by}
 use Rattle.relay_delivery.proofs.Run.{found_at}
 use Rattle.relay_delivery.proofs.Sharing.{TogetherFacts, sent_lane, plain_outside}
+use Rattle.relay_delivery.proofs.Facts.{Past}
 
 -- one event that leads to what is there now
 by_event : (old new : Outside) (e : Event) → MayHappen e old → new ≡ after e old → Continues old new
 by_event old new e may reached = record { events = e ∷ []; may = (may, tt); reached = reached }
 
-module _ (g : Config) (lane_of : Document → ℕ) (past : ℕ → Write → Type 0) (s : Together) (f : TogetherFacts g lane_of past s) where
+module _ (g : Config) (lane_of : Document → ℕ) (past : ℕ → Past) (s : Together) (f : TogetherFacts g lane_of past s) where
   abbrev shown : ℕ → Outside
   shown l = (s.lanes.lane l).outside
 
@@ -221,7 +222,7 @@ module _ (g : Config) (lane_of : Document → ℕ) (past : ℕ → Write → Typ
 
 -- ---- any act
 
-pub act_continues : (g : Config) (lane_of : Document → ℕ) (past : ℕ → Write → Type 0) (s : Together) (f : TogetherFacts g lane_of past s) (x : Act) → MayAct g x s → Continues (outside_of lane_of s) (outside_of lane_of (act g lane_of x s))
+pub act_continues : (g : Config) (lane_of : Document → ℕ) (past : ℕ → Past) (s : Together) (f : TogetherFacts g lane_of past s) (x : Act) → MayAct g x s → Continues (outside_of lane_of s) (outside_of lane_of (act g lane_of x s))
 act_continues g lane_of past s f (Plain m) may = plain_continues g lane_of past s f m may.0
 act_continues g lane_of past s f (SendsFrom l chosen) may = send_continues g lane_of past s f l chosen
 act_continues g lane_of past s f (RunsAt i place o from) may = run_continues g lane_of past s f i place o from may

@@ -12,6 +12,7 @@ use Rattle.relay_action.specs.declared.operation.OpName.{OpName}
 use Rattle.relay_results.specs.declared.outcome.Outcome.{Outcome}
 use Rattle.relay_results.specs.Words.{Mem, IsSubsequence, one_if}
 use Rattle.relay_results.specs.Documents.{Document, document_of, same_document, same_write, write_for}
+use Rattle.relay_results.specs.Done.{bare_error}
 use Rattle.relay_results.specs.Matching.{matches, is_entry_for}
 use Rattle.relay_results.specs.Outside.{is_above, Answer, Unanswered, Items, Whole, Lost, Request, Ran, Outside, IsRefusal, IsConflict, WasRun}
 use Rattle.relay_delivery.specs.Attribution.{IsAttribution, is_from}
@@ -88,11 +89,11 @@ failed_entry-self w status error = and-true _ _ ((same_kind-Decides (entry w sta
 abbrev one_request : Write → Request
 one_request w = record { writes = w ∷ []; answer = Unanswered }
 
-pub refusal_of : (status : ℕ) (error : List ℕ) → 400 ≤ status → status ≤ 599 → (status ≡ 409 → ⊥) → IsRefusal (record { status = status; error = Some error })
+pub refusal_of : (status : ℕ) (error : List ℕ) → 400 ≤ status → status ≤ 599 → (status ≡ 409 → ⊥) → IsRefusal (record { status = status; error = Some (bare_error error) })
 refusal_of status error low high other = record { least = low; most = high; no_conflict = other; has_error = refl }
 
-pub conflict_of : (error : List ℕ) → IsConflict (record { status = 409; error = Some error })
-conflict_of error = record { status = refl; has_error = refl }
+pub conflict_of : {stored : Option ℕ} (error : List ℕ) → IsConflict stored (record { status = 409; error = Some (bare_error error) })
+conflict_of error = record { status = refl; has_error = refl; stated = λ version is. absurd (cc) }
 
 -- an outcome was the run's
 pub was : (runs : List Ran) (r : Ran) (o : Outcome) → Mem r runs → r.outcome.status ≡ o.status → r.outcome.error ≡ o.error → WasRun runs r.request r.place o
@@ -203,10 +204,12 @@ twice key =
       },
       rw (bytes_eq-self key.id) refl,
       inl (dealt_one (record {
-        once = ap (λ b. one_if b + 0) (carries_self w (Items (failed_entry w 409 conflict ∷ [])));
         outcome = failed_entry w 409 conflict;
         answered = answered_once w _ (failed_entry w 409 conflict) _ _ (failed_entry-self w 409 conflict) (was _ (failed_run 0 0 409 conflict) _ (inr (inl refl)) refl refl);
         conflict = refl;
+        other = inl (ap (λ b. one_if b + 0) (carries_self w (Items (failed_entry w 409 conflict ∷ []))));
+        stored_is = refl;
+        reason_is = refl;
       })),
       record {
         may = (
@@ -260,9 +263,10 @@ rejected key source =
       inl (dealt_one (record {
         outcome = failed_entry w 400 refusal;
         answered = answered_once w _ (failed_entry w 400 refusal) _ _ (failed_entry-self w 400 refusal) (was _ (failed_run 0 0 400 refusal) _ (inl refl) refl refl);
-        refused = λ sends attempts max. refl;
+        refused = λ own sends attempts max. refl;
         status_is = refl;
-        error_is = refl;
+        kind_is = refl;
+        reason_is = refl;
       })),
       whole key source 401 (λ e. apart 200 401 (sym e) (lit< tt)),
       refl,

@@ -1,5 +1,5 @@
 -- What several lanes and their queues keep: what a lane took of a producer and what is queued of it is what was accepted from it for the lane.
-use Rattle.std.proofs.Common.{◌≡◌, ℕ, zero, suc, ◌+◌, List, [], ◌∷◌, ◌++◌, length, Some, Bool, true, false, ◌==◌, refl, sym, ap, ◌∙◌, subst, ⊎_elim, arith, append_assoc, append-nil}
+use Rattle.std.proofs.Common.{◌<◌, ◌≡◌, ℕ, zero, suc, ◌+◌, List, [], ◌∷◌, ◌++◌, length, Some, Bool, true, false, ◌==◌, refl, sym, ap, ◌∙◌, subst, ⊎_elim, arith, append_assoc, append-nil}
 use Rattle.std.specs.Prelude.{slice_get, map, filter, if◌then◌else◌}
 use Rattle.std.proofs.lemmas.List.Elements.{filter-append}
 use Rattle.relay_action.specs.declared.write.Write.{Write}
@@ -11,16 +11,16 @@ use Rattle.relay_delivery.specs.Attribution.{is_from}
 use Rattle.relay_delivery.specs.Machine.{Config, Core, Step, Takes, Sends, Runs, Answers, step, MayStep}
 use Rattle.relay_delivery.specs.Lanes.{Lanes, Move, Puts, Closes, Fetches, Steps, after_fetch, move, IsInner, MayPut, MayMove, IsStart}
 use Rattle.relay_results.proofs.Lists.{true_or_false, equal, equal_test, at-cases, Mem-at, Mem-left, Mem-map, map-Mem, Mem-filter, filter-Mem, distinct_places, at-map, some_same, filter_sub, AllDistinct-sub, sub-map, none_at}
-use Rattle.relay_delivery.proofs.Facts.{CoreFacts}
+use Rattle.relay_delivery.proofs.Facts.{Past, TellsOwn, CoreFacts}
 use Rattle.relay_delivery.proofs.Keeps.{fresh_facts, step_keeps}
 
 abbrev pub is_for : (Document → ℕ) → ℕ → Op → Bool
 is_for lane_of l o = lane_of (document_of o.key) == l
 
 -- what holds of lanes and queues; by lane, the past is what earlier incarnations sent there
-pub record LanesFacts (g : Config) (lane_of : Document → ℕ) (past : ℕ → Write → Type 0) (w : Lanes) : Type 0 where
+pub record LanesFacts (g : Config) (lane_of : Document → ℕ) (past : ℕ → Past) (w : Lanes) : Type 0 where
   pub lane : (l : ℕ) → CoreFacts g (past l) (w.lane l)
-  pub of_past : (l : ℕ) (x : Write) → past l x → lane_of (document_of x.key) ≡ l
+  pub of_past : (l : ℕ) (x : Write) → (past l).writes x → lane_of (document_of x.key) ≡ l
   pub order : (l p : ℕ) → filter (is_from p) ((w.lane l).taken ++ w.queue l) ≡ filter (is_for lane_of l) (w.accepted p)
   pub numbers : (p i : ℕ) (o : Op) → slice_get (w.accepted p) i ≡ Some o → (o.producer ≡ p) × (o.number ≡ i + 1)
   pub epochs : (p i : ℕ) (o : Op) → slice_get (w.accepted p) i ≡ Some o → o.epoch ≡ g.epoch
@@ -35,7 +35,7 @@ filter-push p xs x b e = filter-append p xs (x ∷ []) ∙ ap (λ ys. filter p x
 
 -- ---- an operation is put
 
-module _ (g : Config) (lane_of : Document → ℕ) (past : ℕ → Write → Type 0) (w : Lanes) (f : LanesFacts g lane_of past w) (o : Op) (may : MayPut g w o) where
+module _ (g : Config) (lane_of : Document → ℕ) (past : ℕ → Past) (w : Lanes) (f : LanesFacts g lane_of past w) (o : Op) (may : MayPut g w o) where
   mine : ℕ
   mine = lane_of (document_of o.key)
 
@@ -92,7 +92,11 @@ module _ (g : Config) (lane_of : Document → ℕ) (past : ℕ → Write → Typ
 
 -- ---- a lane's step
 
-module _ (g : Config) (lane_of : Document → ℕ) (past : ℕ → Write → Type 0) (w : Lanes) (f : LanesFacts g lane_of past w) (l : ℕ) where
+-- of each lane
+abbrev pub TellAll : Config → (ℕ → Past) → Lanes → Type 0
+TellAll g past w = (l : ℕ) → TellsOwn g (past l) (w.lane l).outside.runs
+
+module _ (g : Config) (lane_of : Document → ℕ) (past : ℕ → Past) (w : Lanes) (f : LanesFacts g lane_of past w) (tells : TellAll g past w) (l : ℕ) where
   lane_by : (c : Core) → CoreFacts g (past l) c → (m : ℕ) (b : Bool) → (m == l) ≡ b → CoreFacts g (past m) (if b then c else w.lane m)
   lane_by c k m true e = subst (λ n. CoreFacts g (past n) c) (sym (equal m l e)) k
   lane_by c k m false e = f.lane m
@@ -111,7 +115,7 @@ module _ (g : Config) (lane_of : Document → ℕ) (past : ℕ → Write → Typ
 
   pub inner_keeps : (s : Step) → IsInner s → MayStep s (w.lane l) → LanesFacts g lane_of past (move g lane_of (Steps l s) w)
   inner_keeps s i may = record {
-    lane = λ m. lane_by (step g s (w.lane l)) (step_keeps g (past l) (w.lane l) (f.lane l) s may) m (m == l) refl;
+    lane = λ m. lane_by (step g s (w.lane l)) (step_keeps g (past l) (w.lane l) (f.lane l) (tells l) s may) m (m == l) refl;
     of_past = f.of_past;
     order = λ m p. same_taken (step g s (w.lane l)) (inner_taken s (w.lane l) i) m p (m == l) refl;
     numbers = f.numbers;
@@ -129,33 +133,34 @@ module _ (g : Config) (lane_of : Document → ℕ) (past : ℕ → Write → Typ
   pub fetch_keeps : (q : List Op) → w.queue l ≡ q → LanesFacts g lane_of past (after_fetch g l w q)
   fetch_keeps [] e = f
   fetch_keeps (o ∷ os) e = record {
-    lane = λ m. lane_by (step g (Takes o) (w.lane l)) (step_keeps g (past l) (w.lane l) (f.lane l) (Takes o) tt) m (m == l) refl;
+    lane = λ m. lane_by (step g (Takes o) (w.lane l)) (step_keeps g (past l) (w.lane l) (f.lane l) (tells l) (Takes o) tt) m (m == l) refl;
     of_past = f.of_past;
     order = λ m p. fetch_order o os e m p (m == l) refl;
     numbers = f.numbers;
     epochs = f.epochs;
   }
 
-pub move_keeps : (g : Config) (lane_of : Document → ℕ) (past : ℕ → Write → Type 0) (w : Lanes) (f : LanesFacts g lane_of past w) (m : Move) → MayMove g m w → LanesFacts g lane_of past (move g lane_of m w)
-move_keeps g lane_of past w f (Puts o) may = put_keeps g lane_of past w f o may
-move_keeps g lane_of past w f (Closes p) may = record { lane = f.lane; of_past = f.of_past; order = f.order; numbers = f.numbers; epochs = f.epochs }
-move_keeps g lane_of past w f (Fetches l) may = fetch_keeps g lane_of past w f l (w.queue l) refl
-move_keeps g lane_of past w f (Steps l s) may = inner_keeps g lane_of past w f l s may.0 may.1
+pub move_keeps : (g : Config) (lane_of : Document → ℕ) (past : ℕ → Past) (w : Lanes) (f : LanesFacts g lane_of past w) → TellAll g past w → (m : Move) → MayMove g m w → LanesFacts g lane_of past (move g lane_of m w)
+move_keeps g lane_of past w f tells (Puts o) may = put_keeps g lane_of past w f o may
+move_keeps g lane_of past w f tells (Closes p) may = record { lane = f.lane; of_past = f.of_past; order = f.order; numbers = f.numbers; epochs = f.epochs }
+move_keeps g lane_of past w f tells (Fetches l) may = fetch_keeps g lane_of past w f tells l (w.queue l) refl
+move_keeps g lane_of past w f tells (Steps l s) may = inner_keeps g lane_of past w f tells l s may.0 may.1
 
 -- if nothing was sent before
-module _ (g : Config) (lane_of : Document → ℕ) (past : ℕ → Write → Type 0) (none : (l : ℕ) (x : Write) → past l x → ⊥) (w : Lanes) (s : IsStart g w) where
+module _ (g : Config) (lane_of : Document → ℕ) (past : ℕ → Past) (none : (l : ℕ) (x : Write) → (past l).writes x → ⊥) (foreign : (l u place : ℕ) → (past l).versions u → place < g.deals → u ≡ g.first + place → ⊥)
+    (w : Lanes) (s : IsStart g w) (from : (l : ℕ) (k : Document) (u : ℕ) → (w.lane l).outside.stored k ≡ Some u → (past l).versions u) where
   pub start_facts : LanesFacts g lane_of past w
   start_facts = record {
-    lane = λ l. fresh_facts g (past l) (none l) (w.lane l) (s.lane l);
+    lane = λ l. fresh_facts g (past l) (none l) (foreign l) (w.lane l) (s.lane l).new (from l);
     of_past = λ l x m. absurd (none l x m);
-    order = λ l p. (λ i. filter (is_from p) ((s.lane l).taken i ++ s.queue l i)) ∙ sym (ap (filter (is_for lane_of l)) (s.accepted p));
+    order = λ l p. (λ i. filter (is_from p) ((s.lane l).new.taken i ++ s.queue l i)) ∙ sym (ap (filter (is_for lane_of l)) (s.accepted p));
     numbers = λ p i o e. absurd (none_at (w.accepted p) i o (s.accepted p) e);
     epochs = λ p i o e. absurd (none_at (w.accepted p) i o (s.accepted p) e);
   }
 
 -- ---- names
 
-module _ (g : Config) (lane_of : Document → ℕ) (past : ℕ → Write → Type 0) (w : Lanes) (f : LanesFacts g lane_of past w) where
+module _ (g : Config) (lane_of : Document → ℕ) (past : ℕ → Past) (w : Lanes) (f : LanesFacts g lane_of past w) where
   distinct_from : (xs : List Op) (n : ℕ) → ((i : ℕ) (o : Op) → slice_get xs i ≡ Some o → o.number ≡ n + i + 1) → AllDistinct (map name_of xs)
   distinct_from [] n h = tt
   distinct_from (x ∷ xs) n h = (

@@ -246,7 +246,7 @@ module _ (s : State) (n : ℕ) (ws : List Write) (a : Answer) (given : a ≢ Una
       let y = k.stands h p m fl in
       let ne : y.of.request ≡ n → ⊥ = (λ e. let same : p.request ≡ n = sym y.request ∙ e in z.elsewhere p.place (fl ∙ (λ i. Some (place_at (same i) p.place)))) in
       record { of = y.of; is_in = filter-Mem (is_other n) y.of s.flying y.is_in (other y.of ne); request = y.request; stands = y.stands })
-      (λ z. absurd (given (says_as (record { sends = h.sends; attempts = h.attempts; max = s.config.max }) ws z.place (kind_of h.op.action) a Flies (sym z.fate_is ∙ t))))
+      (λ z. absurd (given (says_as (record { version = h.version; sends = h.sends; attempts = h.attempts; max = s.config.max }) ws z.place (kind_of h.op.action) a Flies (sym z.fate_is ∙ t))))
       (away_or_here s.config n ws a h)
 
   settle_keeps : Keeps (after_settling s n ws a) taken

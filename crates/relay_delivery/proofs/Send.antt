@@ -14,7 +14,7 @@ use Rattle.relay_delivery.specs.Causes.{carries, is_try, CarriedAt, IsAnswered, 
 use Rattle.relay_results.proofs.Same.{same_write-true}
 use Rattle.relay_delivery.specs.Machine.{Config, Core, Held, write_of, place_of, launched_at, after_launch, send, IsEligible, MaySend}
 use Rattle.relay_results.proofs.Lists.{true_or_false, equal, equal_test, at-left, at-last, at-cases, at-Mem, at-map, map-at, Mem-map, map-Mem, count-push, distinct_places, some_same}
-use Rattle.relay_delivery.proofs.Facts.{IsOfOne, IsSent, IsFlying, HeldFact, RunFact, IndexFact, AreRising, CoreFacts, is_held_as}
+use Rattle.relay_delivery.proofs.Facts.{Past, IsOfOne, IsSent, IsFlying, HeldFact, RunFact, IndexFact, AreRising, CoreFacts, is_held_as}
 use Rattle.relay_delivery.proofs.Dealt.{of_held, carried_at, carries_at, carries_its, sent-push_cases}
 
 -- ---- places
@@ -105,7 +105,7 @@ launched_among held chosen alone eligible h m place e =
 
 -- ---- the new request
 
-module _ (g : Config) (past : Write → Type 0) (c : Core) (f : CoreFacts g past c) (chosen : List Held) (may : MaySend c chosen) where
+module _ (g : Config) (past : Past) (c : Core) (f : CoreFacts g past c) (chosen : List Held) (may : MaySend c chosen) where
   abbrev requests : List Request
   requests = c.outside.requests
 
@@ -233,7 +233,7 @@ module _ (g : Config) (past : Write → Type 0) (c : Core) (f : CoreFacts g past
   }
 
   cause-sent : (max : ℕ) (w : Write) (e : Cause) → carries w new ≡ false → IsTrueOf max c.outside w e → IsTrueOf max later w e
-  cause-sent max w (cause.Refused status error) nc h = record { outcome = h.outcome; answered = answered-sent w h.outcome h.answered; refused = h.refused; status_is = h.status_is; error_is = h.error_is }
+  cause-sent max w (cause.Refused status kind reason) nc h = record { outcome = h.outcome; answered = answered-sent w h.outcome h.answered; refused = h.refused; status_is = h.status_is; kind_is = h.kind_is; reason_is = h.reason_is }
   cause-sent max w (cause.Request status) nc h = record {
     number = h.number;
     place = h.place;
@@ -242,7 +242,7 @@ module _ (g : Config) (past : Write → Type 0) (c : Core) (f : CoreFacts g past
     answer = h.answer;
     final = h.final;
   }
-  cause-sent max w cause.Conflict nc h = record { once = (let e = count-push (carries w) requests new in let o = ap one_if nc in let k = h.once in omega arith); outcome = h.outcome; answered = answered-sent w h.outcome h.answered; conflict = h.conflict }
+  cause-sent max w (cause.Conflict stored reason) nc h = record { outcome = h.outcome; answered = answered-sent w h.outcome h.answered; conflict = h.conflict; stored_is = h.stored_is; reason_is = h.reason_is; other = ⊎_elim (λ k. inl (let e = count-push (carries w) requests new in let o = ap one_if nc in omega (arith, e, o, k))) (λ o. inr o) h.other }
   cause-sent max w (cause.GaveUp sends) nc h = record {
     exactly = let e = count-push (carries w) requests new in let o = ap one_if nc in let k = h.exactly in omega arith;
     enough = let e = count-push (is_try w) requests new in let k = h.enough in omega arith;
@@ -255,19 +255,20 @@ module _ (g : Config) (past : Write → Type 0) (c : Core) (f : CoreFacts g past
   }
   cause-sent max w cause.Spent nc h = h
 
-  run-sent : (r : Ran) → RunFact requests c.outside.stored c.outside.applied r → RunFact (requests ++ new ∷ []) c.outside.stored c.outside.applied r
-  run-sent r h = record { request = h.request; write = h.write; sent = at-left requests (new ∷ []) r.request h.request h.sent; stands = h.stands; if_applied = h.if_applied; if_conflict = h.if_conflict }
+  run-sent : (r : Ran) → RunFact past.versions requests c.outside.stored c.outside.applied r → RunFact past.versions (requests ++ new ∷ []) c.outside.stored c.outside.applied r
+  run-sent r h = record { request = h.request; write = h.write; sent = at-left requests (new ∷ []) r.request h.request h.sent; stands = h.stands; if_applied = h.if_applied; if_conflict = h.if_conflict; if_stated = h.if_stated }
 
   sent-more : (w : Write) → IsSent requests w → IsSent (requests ++ new ∷ []) w
   sent-more w s = record { number = s.number; request = s.request; sent = at-left requests (new ∷ []) s.number s.request s.sent; is_in = s.is_in }
 
-  index-sent : (k : Document) (stored : Option ℕ) (applied : List Write) → IndexFact g requests stored applied k → IndexFact g (requests ++ new ∷ []) stored applied k
+  index-sent : (k : Document) (stored : Option ℕ) (applied : List Write) → IndexFact past.versions requests stored applied k → IndexFact past.versions (requests ++ new ∷ []) stored applied k
   index-sent k stored applied h = record { sent = λ w m. sent-more w (h.sent w m); document = h.document; rising = h.rising; above = h.above; from = h.from }
 
   pub send_keeps : CoreFacts g past (send chosen c)
   unfolding new
   send_keeps = record {
     past_below = f.past_below;
+    foreign = f.foreign;
     held = λ h m.
         let k = Mem-map (after_launch (length requests) chosen) h c.held m in
         subst (λ j. HeldFact g c.taken (requests ++ new ∷ []) j) (sym k.2) (held-one k.0 k.1 (place_of k.0.version chosen) refl);

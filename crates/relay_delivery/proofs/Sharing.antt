@@ -1,5 +1,5 @@
 -- Each lane's requests and runs are those of all that it sent.
-use Rattle.std.proofs.Common.{◌≡◌, ℕ, zero, suc, ◌<◌, List, [], ◌∷◌, ◌++◌, length, Option, Some, Bool, true, false, ◌==◌, refl, sym, ap, ◌∙◌, subst, ⊎_elim, inl, inr, arith, length-append}
+use Rattle.std.proofs.Common.{◌+◌, ◌≡◌, ℕ, zero, suc, ◌<◌, List, [], ◌∷◌, ◌++◌, length, Option, Some, Bool, true, false, ◌==◌, refl, sym, ap, ◌∙◌, subst, ⊎_elim, inl, inr, arith, length-append}
 use Rattle.std.specs.Prelude.{slice_get, option_and_then, map, if◌then◌else◌}
 use Rattle.relay_action.specs.declared.write.Write.{Write}
 use Rattle.relay_action.specs.declared.operation.Op.{Op}
@@ -18,10 +18,10 @@ use Rattle.relay_delivery.specs.Lanes.{Lanes, Move, Puts, Closes, Fetches, Steps
 use Rattle.relay_delivery.specs.Together.{Origin, Together, Act, Plain, SendsFrom, RunsAt, AnswersAt, run_at, act, IsPlain, MayAct, IsFreshTogether, outside_of}
 use Rattle.relay_delivery.specs.Incarnations.{HappensInLanes}
 use Rattle.relay_results.proofs.Lists.{true_or_false, equal, equal_test, equal_or_not, at-left, at-last, at-cases, at-within, at-Mem, Mem-left, Mem-last, Mem-map, Mem-push_cases, at-update-cases, at-update_same, at-update_other, length-update, none_at, count-push, count-update_at, some_same, and_left}
-use Rattle.relay_delivery.proofs.Facts.{IsOfOne, IsSent}
+use Rattle.relay_delivery.proofs.Facts.{Past, IsOfOne, IsSent}
 use Rattle.relay_delivery.proofs.Dealt.{with_answer, carried_at, of_held, sent_by, sent_at}
 use Rattle.relay_delivery.proofs.Run.{found_at}
-use Rattle.relay_delivery.proofs.Queues.{LanesFacts, start_facts, move_keeps, was_accepted}
+use Rattle.relay_delivery.proofs.Queues.{LanesFacts, TellAll, start_facts, move_keeps, was_accepted}
 
 abbrev pub requests_at : Together → ℕ → List Request
 requests_at s l = (s.lanes.lane l).outside.requests
@@ -48,7 +48,7 @@ pub record IsBack (s : Together) (r : Ran) : Type 0 where
 abbrev pub AreAmong : Write → (Request → Bool) → Type 0
 AreAmong x p = (q : Request) → p q ≡ true → carries x q ≡ true
 
-pub record TogetherFacts (g : Config) (lane_of : Document → ℕ) (past : ℕ → Write → Type 0) (s : Together) : Type 0 where
+pub record TogetherFacts (g : Config) (lane_of : Document → ℕ) (past : ℕ → Past) (s : Together) : Type 0 where
   pub lanes : LanesFacts g lane_of past s.lanes
   pub same : (i : ℕ) (from : Origin) → slice_get s.origins i ≡ Some from → SameRequest s i from
   pub each : (l n : ℕ) (q : Request) → slice_get (requests_at s l) n ≡ Some q → (i : ℕ) × (slice_get s.origins i ≡ Some (record { lane = l; number = n }))
@@ -61,7 +61,7 @@ pub record TogetherFacts (g : Config) (lane_of : Document → ℕ) (past : ℕ �
   pub counted : (x : Write) (p : Request → Bool) → AreAmong x p → count p s.sent ≡ count p (requests_at s (lane_of (document_of x.key)))
 
 -- what is in a request of a lane is of a document of that lane
-module _ (g : Config) (lane_of : Document → ℕ) (past : ℕ → Write → Type 0) (w : Lanes) (f : LanesFacts g lane_of past w) where
+module _ (g : Config) (lane_of : Document → ℕ) (past : ℕ → Past) (w : Lanes) (f : LanesFacts g lane_of past w) where
   pub of_lane : (l : ℕ) (x : Write) → IsOfOne g (w.lane l).taken x → lane_of (document_of x.key) ≡ l
   of_lane l x a =
       let o = was_accepted g lane_of past w f l a.op (at-Mem (w.lane l).taken a.dealt.place a.op a.dealt.stands) in
@@ -73,7 +73,7 @@ module _ (g : Config) (lane_of : Document → ℕ) (past : ℕ → Write → Typ
 
 -- ---- lanes that change neither requests nor runs
 
-module _ (g : Config) (lane_of : Document → ℕ) (past : ℕ → Write → Type 0) (s : Together) (f : TogetherFacts g lane_of past s) (w : Lanes) (facts : LanesFacts g lane_of past w)
+module _ (g : Config) (lane_of : Document → ℕ) (past : ℕ → Past) (s : Together) (f : TogetherFacts g lane_of past s) (w : Lanes) (facts : LanesFacts g lane_of past w)
     (requests : (l : ℕ) → (w.lane l).outside.requests ≡ (s.lanes.lane l).outside.requests) (runs : (l : ℕ) → (w.lane l).outside.runs ≡ (s.lanes.lane l).outside.runs) where
   plain_keeps : TogetherFacts g lane_of past (record { lanes = w; sent = s.sent; origins = s.origins; runs = s.runs })
   plain_keeps = record {
@@ -103,7 +103,7 @@ plain_outside g lane_of (Steps n x) p w l = absurd p
 
 -- ---- a lane sends
 
-module _ (g : Config) (lane_of : Document → ℕ) (past : ℕ → Write → Type 0) (s : Together) (f : TogetherFacts g lane_of past s) (l : ℕ) (chosen : List Held) (may : MaySend (s.lanes.lane l) chosen) where
+module _ (g : Config) (lane_of : Document → ℕ) (past : ℕ → Past) (s : Together) (f : TogetherFacts g lane_of past s) (l : ℕ) (chosen : List Held) (may : MaySend (s.lanes.lane l) chosen) where
   new : Request
   new = record { writes = map write_of chosen; answer = Unanswered }
 
@@ -202,7 +202,7 @@ module _ (g : Config) (lane_of : Document → ℕ) (past : ℕ → Write → Typ
 
 -- ---- a request is answered
 
-module _ (g : Config) (lane_of : Document → ℕ) (past : ℕ → Write → Type 0) (s : Together) (f : TogetherFacts g lane_of past s) (i : ℕ) (a : Answer) (from : Origin) (origin : slice_get s.origins i ≡ Some from) where
+module _ (g : Config) (lane_of : Document → ℕ) (past : ℕ → Past) (s : Together) (f : TogetherFacts g lane_of past s) (i : ℕ) (a : Answer) (from : Origin) (origin : slice_get s.origins i ≡ Some from) where
   after_answer : Together
   after_answer = act g lane_of (AnswersAt i a from) s
 
@@ -298,7 +298,7 @@ logged o r w false = refl
 run_logged : (o : Outside) (r : Ran) → MayRun o r → (after (outside.Runs r) o).runs ≡ o.runs ++ r ∷ []
 run_logged o r may = ap (λ w. (ran_of o r w).runs) may.sent ∙ logged o r may.write (is_applied may.write r.outcome)
 
-module _ (g : Config) (lane_of : Document → ℕ) (past : ℕ → Write → Type 0) (s : Together) (f : TogetherFacts g lane_of past s) (i place : ℕ) (outcome : RunOutcome) (from : Origin) (origin : slice_get s.origins i ≡ Some from)
+module _ (g : Config) (lane_of : Document → ℕ) (past : ℕ → Past) (s : Together) (f : TogetherFacts g lane_of past s) (i place : ℕ) (outcome : RunOutcome) (from : Origin) (origin : slice_get s.origins i ≡ Some from)
     (may : MayRun (s.lanes.lane from.lane).outside (run_at from.number place outcome)) where
   after_run : Together
   after_run = act g lane_of (RunsAt i place outcome from) s
@@ -356,25 +356,26 @@ module _ (g : Config) (lane_of : Document → ℕ) (past : ℕ → Write → Typ
 
 -- ---- any act
 
-pub act_keeps : (g : Config) (lane_of : Document → ℕ) (past : ℕ → Write → Type 0) (s : Together) (f : TogetherFacts g lane_of past s) (x : Act) → MayAct g x s → TogetherFacts g lane_of past (act g lane_of x s)
+pub act_keeps : (g : Config) (lane_of : Document → ℕ) (past : ℕ → Past) (s : Together) (f : TogetherFacts g lane_of past s) → TellAll g past s.lanes → (x : Act) → MayAct g x s → TogetherFacts g lane_of past (act g lane_of x s)
 unfolding later after_run after_answer
-act_keeps g lane_of past s f (Plain m) may =
+act_keeps g lane_of past s f tells (Plain m) may =
     let w = move g lane_of m s.lanes in
-    plain_keeps g lane_of past s f w (move_keeps g lane_of past s.lanes f.lanes m may.1) (λ l. ap (λ (o : Outside). o.requests) (plain_outside g lane_of m may.0 s.lanes l)) (λ l. ap (λ (o : Outside). o.runs) (plain_outside g lane_of m may.0 s.lanes l))
-act_keeps g lane_of past s f (SendsFrom l chosen) may = send_keeps_all g lane_of past s f l chosen may (move_keeps g lane_of past s.lanes f.lanes (Steps l (Sends chosen)) (tt, may))
-act_keeps g lane_of past s f (RunsAt i place outcome from) may = run_keeps_all g lane_of past s f i place outcome from may.0 may.1 (move_keeps g lane_of past s.lanes f.lanes (Steps from.lane (Runs (run_at from.number place outcome))) (tt, may.1))
-act_keeps g lane_of past s f (AnswersAt i a from) may = answer_keeps_all g lane_of past s f i a from may.0 (move_keeps g lane_of past s.lanes f.lanes (Steps from.lane (Answers from.number a)) (tt, may.1))
+    plain_keeps g lane_of past s f w (move_keeps g lane_of past s.lanes f.lanes tells m may.1) (λ l. ap (λ (o : Outside). o.requests) (plain_outside g lane_of m may.0 s.lanes l)) (λ l. ap (λ (o : Outside). o.runs) (plain_outside g lane_of m may.0 s.lanes l))
+act_keeps g lane_of past s f tells (SendsFrom l chosen) may = send_keeps_all g lane_of past s f l chosen may (move_keeps g lane_of past s.lanes f.lanes tells (Steps l (Sends chosen)) (tt, may))
+act_keeps g lane_of past s f tells (RunsAt i place outcome from) may = run_keeps_all g lane_of past s f i place outcome from may.0 may.1 (move_keeps g lane_of past s.lanes f.lanes tells (Steps from.lane (Runs (run_at from.number place outcome))) (tt, may.1))
+act_keeps g lane_of past s f tells (AnswersAt i a from) may = answer_keeps_all g lane_of past s f i a from may.0 (move_keeps g lane_of past s.lanes f.lanes tells (Steps from.lane (Answers from.number a)) (tt, may.1))
 
-pub start_shared : (g : Config) (lane_of : Document → ℕ) (past : ℕ → Write → Type 0) → ((l : ℕ) (x : Write) → past l x → ⊥) → (s : Together) → IsFreshTogether g s → TogetherFacts g lane_of past s
-start_shared g lane_of past none s h = record {
-  lanes = start_facts g lane_of past none s.lanes h.lanes;
+pub start_shared : (g : Config) (lane_of : Document → ℕ) (past : ℕ → Past) → ((l : ℕ) (x : Write) → (past l).writes x → ⊥) → ((l u place : ℕ) → (past l).versions u → place < g.deals → u ≡ g.first + place → ⊥) → (s : Together)
+    → IsFreshTogether g s → ((l : ℕ) (k : Document) (u : ℕ) → (s.lanes.lane l).outside.stored k ≡ Some u → (past l).versions u) → TogetherFacts g lane_of past s
+start_shared g lane_of past none foreign s h from = record {
+  lanes = start_facts g lane_of past none foreign s.lanes h.lanes from;
   same = λ i o e. absurd (none_at s.origins i o h.origins e);
-  each = λ l n q e. absurd (none_at (requests_at s l) n q ((h.lanes.lane l).opening.requests) e);
+  each = λ l n q e. absurd (none_at (requests_at s l) n q ((h.lanes.lane l).new.opening.requests) e);
   once = λ i j o a b. absurd (none_at s.origins i o h.origins a);
   as_long = ap length h.origins ∙ sym (ap length h.sent);
-  ran = λ l r m. absurd (subst (λ rs. Mem r rs) ((h.lanes.lane l).opening.runs) m);
+  ran = λ l r m. absurd (subst (λ rs. Mem r rs) ((h.lanes.lane l).new.opening.runs) m);
   back = λ r m. absurd (subst (λ rs. Mem r rs) h.runs m);
-  counted = λ x p of. ap (count p) h.sent ∙ sym (ap (count p) ((h.lanes.lane (lane_of (document_of x.key))).opening.requests));
+  counted = λ x p of. ap (count p) h.sent ∙ sym (ap (count p) ((h.lanes.lane (lane_of (document_of x.key))).new.opening.requests));
 }
 
 -- ---- a cause that is true of a lane's requests is true of all
@@ -384,7 +385,7 @@ at_some [] n lt = absurd (omega (arith, lt))
 at_some (x ∷ xs) zero lt = (x, refl)
 at_some (x ∷ xs) (suc n) lt = at_some xs n (omega (arith, lt))
 
-module _ (g : Config) (lane_of : Document → ℕ) (past : ℕ → Write → Type 0) (s : Together) (f : TogetherFacts g lane_of past s) (l : ℕ) where
+module _ (g : Config) (lane_of : Document → ℕ) (past : ℕ → Past) (s : Together) (f : TogetherFacts g lane_of past s) (l : ℕ) where
   abbrev own : Outside
   own = (s.lanes.lane l).outside
 
@@ -435,11 +436,11 @@ module _ (g : Config) (lane_of : Document → ℕ) (past : ℕ → Write → Typ
   tries_all w el = f.counted w (is_try w) (λ q t. and_left _ _ t) ∙ ap (λ n. count (is_try w) (requests_at s n)) el
 
   cause_all : (max : ℕ) (w : Write) → lane_of (document_of w.key) ≡ l → (e : Cause) → IsTrueOf max own w e → IsTrueOf max (outside_of lane_of s) w e
-  cause_all max w el (cause.Refused status error) h = record { outcome = h.outcome; answered = answered_all w h.outcome h.answered; refused = h.refused; status_is = h.status_is; error_is = h.error_is }
+  cause_all max w el (cause.Refused status kind reason) h = record { outcome = h.outcome; answered = answered_all w h.outcome h.answered; refused = h.refused; status_is = h.status_is; kind_is = h.kind_is; reason_is = h.reason_is }
   cause_all max w el (cause.Request status) h =
       let i = global h.number h.request h.carried.sent in
       record { number = i.number; place = h.place; request = h.request; carried = record { write = h.carried.write; sent = i.sent; stands = h.carried.stands; same = h.carried.same }; answer = h.answer; final = h.final }
-  cause_all max w el cause.Conflict h = record { once = count_all w el ∙ h.once; outcome = h.outcome; answered = answered_all w h.outcome h.answered; conflict = h.conflict }
+  cause_all max w el (cause.Conflict stored reason) h = record { outcome = h.outcome; answered = answered_all w h.outcome h.answered; conflict = h.conflict; stored_is = h.stored_is; reason_is = h.reason_is; other = ⊎_elim (λ n. inl (count_all w el ∙ n)) (λ o. inr o) h.other }
   cause_all max w el (cause.GaveUp n) h = record {
     exactly = count_all w el ∙ h.exactly;
     enough = let e = tries_all w el in let n = h.enough in omega (arith, e, n);
@@ -455,7 +456,7 @@ module _ (g : Config) (lane_of : Document → ℕ) (past : ℕ → Write → Typ
 
 -- ---- what may happen outside all lanes may happen in the lane of its origin
 
-module _ (g : Config) (lane_of : Document → ℕ) (past : ℕ → Write → Type 0) (s : Together) (f : TogetherFacts g lane_of past s) where
+module _ (g : Config) (lane_of : Document → ℕ) (past : ℕ → Past) (s : Together) (f : TogetherFacts g lane_of past s) where
   its_origin : (i : ℕ) (q : Request) → slice_get s.sent i ≡ Some q → (from : Origin) × (slice_get s.origins i ≡ Some from)
   its_origin i q e = let lt = at-within s.sent i q e in at_some s.origins i (let n = f.as_long in omega (arith, lt, n))
 

@@ -13,7 +13,7 @@ use Rattle.relay_delivery.specs.Causes.{carries, CarriedAt}
 use Rattle.relay_results.proofs.Same.{same_write-true}
 use Rattle.relay_delivery.specs.Machine.{Config, Core, Held, Report, write_of, held_at, report_on, held_if, spent_if, take}
 use Rattle.relay_results.proofs.Lists.{true_or_false, at-left, at-last, at-cases, Mem-at, Mem-cases, Mem-left, Mem-right, Mem-one, count_zero, count-append}
-use Rattle.relay_delivery.proofs.Facts.{HeldFact, ReportFact, IsSomewhere, AreRising, CoreFacts, is_held_as, is_report_as, is_taken_as}
+use Rattle.relay_delivery.proofs.Facts.{Past, HeldFact, ReportFact, IsSomewhere, AreRising, CoreFacts, is_held_as, is_report_as, is_taken_as}
 use Rattle.relay_delivery.proofs.Dealt.{dealt_before, dealt-more, one-more, carried_at, sent_at}
 
 pub is_new_held : (b : Bool) (g : Config) (n : ℕ) (o : Op) (h : Held) → Mem h (held_if b g n o) → (b ≡ true) × (h ≡ held_at g n o)
@@ -48,7 +48,7 @@ new_one : (b : Bool) (g : Config) (n : ℕ) (o : Op) → (Mem (held_at g n o) (h
 new_one true g n o = inl (inl refl)
 new_one false g n o = inr (inl refl)
 
-module _ (g : Config) (past : Write → Type 0) (c : Core) (f : CoreFacts g past c) (o : Op) where
+module _ (g : Config) (past : Past) (c : Core) (f : CoreFacts g past c) (o : Op) where
   abbrev here : ℕ
   here = length c.taken
 
@@ -147,6 +147,7 @@ module _ (g : Config) (past : Write → Type 0) (c : Core) (f : CoreFacts g past
   pub take_keeps : CoreFacts g past (take g o c)
   take_keeps = record {
     past_below = f.past_below;
+    foreign = f.foreign;
     held = λ h m. ⊎_elim
         (λ y. held-more h (f.held h y))
         (λ r. subst (λ k. HeldFact g (c.taken ++ o ∷ []) c.outside.requests k) (sym r.1) (new_held r.0))

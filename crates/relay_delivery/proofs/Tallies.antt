@@ -9,9 +9,9 @@ use Rattle.relay_results.specs.declared.cause.Cause.{Cause}
 use Rattle.relay_results.specs.declared.cause.Cause.TheVariants as cause
 use Rattle.relay_results.specs.declared.outcome.Outcome.{Outcome}
 use Rattle.relay_results.specs.Words.{update, count, one_if}
-use Rattle.relay_results.specs.Verdicts.{is_2xx, is_absent, is_conflict, is_retried_item}
+use Rattle.relay_results.specs.Verdicts.{may_be_own, is_2xx, is_absent, is_conflict, is_retried_item}
 use Rattle.relay_results.specs.Matching.{matches}
-use Rattle.relay_results.specs.Outside.{Answer, Unanswered, Items, Whole, Lost, Request}
+use Rattle.relay_results.specs.Outside.{Answer, Unanswered, Items, Whole, Lost, Request, stored_in}
 use Rattle.relay_results.specs.Fates.{Fate, Flies, Retried, Halved, Reported, Tries, tried_again, fate_of_item, fate_of_verdict}
 use Rattle.relay_results.proofs.Excluded.{by_lines}
 use Rattle.relay_results.proofs.Lists.{equal, count-append}
@@ -104,7 +104,7 @@ pub record IsFateOf (test : PlaceTest) (says : Fate → Bool) : Type 0 where
   pub retried : says Retried ≡ false
   pub halved : (cap : ℕ) → says (Halved cap) ≡ false
   pub reported : (e : Cause) → says (Reported e) ≡ false
-  pub item : (t : Tries) (w : Write) (o : Outcome) → says (fate_of_item t (kind_of w.action) o) ≡ test t.sends w o
+  pub item : (t : Tries) (w : Write) (o : Outcome) → t.version ≡ w.version → says (fate_of_item t (kind_of w.action) o) ≡ test t.sends w o
 
 applied_lines : (t : Tries) (o : Outcome) (e x y c b r l : Bool) → is_applied_fate (fate_of_verdict t o (by_lines (not e && x) (not e && y) c b r l)) ≡ (not e && (x || y))
 applied_lines t o true x y true b true l = refl
@@ -146,7 +146,8 @@ of_applied = record {
   retried = refl;
   halved = λ cap. refl;
   reported = λ e. refl;
-  item = λ t w o. applied_lines t o (is_some o.error) (is_2xx o.status) (is_absent (kind_of w.action) o.status) (is_conflict o.status) (is_retried_item o.status) (nat_le 2 t.sends) (nat_lt t.attempts t.max);
+  item = λ t w o same. applied_lines t o (is_some o.error) (is_2xx o.status) (is_absent (kind_of w.action) o.status) (is_conflict o.status) (is_retried_item o.status)
+      (nat_le 2 t.sends && may_be_own (stored_in o.error) t.version) (nat_lt t.attempts t.max);
 }
 
 pub of_already : IsFateOf says_already is_already_fate
@@ -155,9 +156,11 @@ of_already = record {
   retried = refl;
   halved = λ cap. refl;
   reported = λ e. refl;
-  item = λ t w o. already_lines t o (not (is_some o.error) && is_2xx o.status) (not (is_some o.error) && is_absent (kind_of w.action) o.status) (is_conflict o.status) (is_retried_item o.status) (nat_le 2 t.sends) (nat_lt t.attempts t.max)
+  item = λ t w o same. already_lines t o (not (is_some o.error) && is_2xx o.status) (not (is_some o.error) && is_absent (kind_of w.action) o.status) (is_conflict o.status) (is_retried_item o.status)
+      (nat_le 2 t.sends && may_be_own (stored_in o.error) t.version) (nat_lt t.attempts t.max)
       (λ c. ap (λ n. not (is_some o.error) && is_2xx n) (equal o.status 409 c) ∙ no_success (is_some o.error))
-      (λ c. ap (λ n. not (is_some o.error) && is_absent (kind_of w.action) n) (equal o.status 409 c) ∙ no_absent (kind_of w.action) (is_some o.error));
+      (λ c. ap (λ n. not (is_some o.error) && is_absent (kind_of w.action) n) (equal o.status 409 c) ∙ no_absent (kind_of w.action) (is_some o.error))
+      ∙ ap (λ v. is_conflict o.status && (nat_le 2 t.sends && may_be_own (stored_in o.error) v)) same;
 }
 
 pub again_none : (test : PlaceTest) (says : Fate → Bool) → IsFateOf test says → (t : Tries) → says (tried_again t) ≡ false

@@ -8,10 +8,10 @@ use Rattle.relay_results.specs.Documents.{Document, document_of, name_of, write_
 use Rattle.relay_results.specs.Outside.{Outside, Continues}
 use Rattle.relay_results.specs.Outside as outside
 use Rattle.relay_delivery.specs.Attribution.{IsAttribution, IsInProducerOrder, is_from}
-use Rattle.relay_delivery.specs.Machine.{Config, Core, Report, Takes, Sends, Runs, Answers, Step, step, steps_of, MayStep, AllMayStep, write_of}
+use Rattle.relay_delivery.specs.Machine.{Config, Core, Report, Takes, Sends, Runs, Answers, Step, step, steps_of, MayStep, AllMayStep, write_of, IsFresh, CameAboutFrom}
 use Rattle.relay_delivery.specs.Delivery.{taken_of, applied_ops, IsTrueReport, IsSound, IsComplete, SoundAlways, CompleteAtTheEnd, TotalAlways, WritesAreDealt, ContinuesAlways, FreshCameAbout, StepCameAbout}
 use Rattle.relay_results.proofs.Lists.{equal_test, at-Mem, at-within, Mem-at, map-Mem, filter-Mem, some_same, sub-filter, sub-map, Mem-sub, AllDistinct-sub}
-use Rattle.relay_delivery.proofs.Facts.{IsDealt, IsOfOne, SpentFact, CauseFact, CoreFacts}
+use Rattle.relay_delivery.proofs.Facts.{Past, IsDealt, IsOfOne, SpentFact, CauseFact, CoreFacts}
 use Rattle.relay_delivery.proofs.Ordered.{ops-in_order, ops-same, op-of, of-op}
 use Rattle.relay_delivery.proofs.Versions.{version_in, version_of, is_assignment, none_over, version_there}
 use Rattle.relay_delivery.proofs.Names.{taken_once, reported_once}
@@ -26,7 +26,7 @@ pub record IsAppliedAs (g : Config) (c : Core) (o : Op) : Type 0 where
 
 -- ---- whatever the past
 
-module _ (g : Config) (past : Write → Type 0) (c : Core) (f : CoreFacts g past c) (distinct : AllDistinct (map name_of c.taken)) where
+module _ (g : Config) (past : Past) (c : Core) (f : CoreFacts g past c) (distinct : AllDistinct (map name_of c.taken)) where
   dealt_version : (o : Op) (v : ℕ) → IsDealt g c.taken o v → version_in g.first g.deals c.taken o ≡ Some v
   dealt_version o v d = version_of c.taken g.first g.deals d.place o distinct d.stands d.within ∙ ap Some (sym d.version)
 
@@ -76,9 +76,9 @@ module _ (g : Config) (past : Write → Type 0) (c : Core) (f : CoreFacts g past
 
 -- ---- if nothing is of the past
 
-module _ (g : Config) (c : Core) (f : CoreFacts g none_past c) (distinct : AllDistinct (map name_of c.taken)) where
+module _ (g : Config) (past : Past) (nothing : (w : Write) → past.writes w → ⊥) (c : Core) (f : CoreFacts g past c) (distinct : AllDistinct (map name_of c.taken)) where
   of_one : (k : Document) (w : Write) → Mem w (c.outside.applied k) → IsOfOne g c.taken w
-  of_one k w m = own_sent g c f w ((f.index k).sent w m)
+  of_one k w m = own_sent g past nothing c f w ((f.index k).sent w m)
 
   ops_sub : (k : Document) → IsSubsequence (applied_ops g c.taken c.outside k) c.taken
   ops_sub k = ops-in_order g c.taken (c.outside.applied k) (f.index k).rising (of_one k)
@@ -103,21 +103,21 @@ module _ (g : Config) (c : Core) (f : CoreFacts g none_past c) (distinct : AllDi
     versions = version_in g.first g.deals c.taken;
     assignment = is_assignment g.first g.deals c.taken;
     assigned = λ place o at. version_there g.first g.deals c.taken place o distinct at;
-    true_reports = reports_true g none_past c f distinct;
-    once = reports_once g none_past c f distinct;
+    true_reports = reports_true g past c f distinct;
+    once = reports_once g past c f distinct;
   }
 
   pub complete : c.held ≡ [] → IsComplete c.taken c.reports (applied_ops g c.taken c.outside)
   complete none o m = ⊎_elim
       (λ y. inl (subst (λ p. Mem p (applied_ops g c.taken c.outside (document_of o.key))) y.op (of-op g c.taken (c.outside.applied (document_of o.key)) y.write y.is_in y.one)))
       (λ p. inr p)
-      (accounted g none_past c f distinct none o m)
+      (accounted g past c f distinct none o m)
 
 pub sound_always : SoundAlways
-sound_always g c r distinct = sound g c (facts_of g c r) distinct
+sound_always g c r distinct = sound g (none_past g) (λ w m. m) c (facts_of g c r) distinct
 
 pub complete_at_the_end : CompleteAtTheEnd
-complete_at_the_end g c r distinct none = complete g c (facts_of g c r) distinct none
+complete_at_the_end g c r distinct none = complete g (none_past g) (λ w m. m) c (facts_of g c r) distinct none
 
 pub total_always : TotalAlways
 total_always g c r = (facts_of g c r).totals
@@ -125,7 +125,7 @@ total_always g c r = (facts_of g c r).totals
 pub writes_are_dealt : WritesAreDealt
 writes_are_dealt g c r q m w n =
     let at = Mem-at q c.outside.requests m in
-    let one = own_sent g c (facts_of g c r) w (record { number = at.0; request = q; sent = at.1; is_in = n }) in
+    let one = own_sent g (none_past g) (λ x y. y) c (facts_of g c r) w (record { number = at.0; request = q; sent = at.1; is_in = n }) in
     record {
       op = one.op;
       place = one.dealt.place;
@@ -147,14 +147,17 @@ may_more : (g : Config) (ss : List Step) (s : Step) (c : Core) → AllMayStep g 
 may_more g [] s c all may = (may, tt)
 may_more g (x ∷ ss) s c all may = (all.0, may_more g ss s (step g x c) all.1 may)
 
-pub step_came_about : StepCameAbout
-step_came_about g c s r may = record {
+pub step_from : (begin : Config → Core → Type 0) (g : Config) (c : Core) (s : Step) → CameAboutFrom begin g c → MayStep s c → CameAboutFrom begin g (step g s c)
+step_from begin g c s r may = record {
   start = r.start;
   fresh = r.fresh;
   steps = r.steps ++ s ∷ [];
   may = may_more g r.steps s r.start r.may (subst (λ d. MayStep s d) (sym r.reached) may);
   reached = steps_more g r.steps s r.start ∙ ap (step g s) r.reached;
 }
+
+pub step_came_about : StepCameAbout
+step_came_about g c s r may = step_from IsFresh g c s r may
 
 -- ---- the events of steps
 
@@ -166,4 +169,4 @@ steps_continue g (Runs x ∷ ss) c may = let r = steps_continue g ss (step g (Ru
 steps_continue g (Answers number a ∷ ss) c may = let r = steps_continue g ss (step g (Answers number a) c) may.1 in record { events = outside.Answers number a ∷ r.events; may = (may.0, r.may); reached = r.reached }
 
 pub continues_always : ContinuesAlways
-continues_always g c r = (r.start.outside, r.fresh.opening, subst (λ d. Continues r.start.outside d.outside) r.reached (steps_continue g r.steps r.start r.may))
+continues_always g c r = (r.start.outside, r.fresh.new.opening, subst (λ d. Continues r.start.outside d.outside) r.reached (steps_continue g r.steps r.start r.may))

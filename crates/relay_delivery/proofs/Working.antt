@@ -37,7 +37,7 @@ machine_works key source =
     let o : Op = op 1 key (Index source) in
     let w : Write = write_for o 1 in
     record {
-      fresh = record { taken = refl; held = refl; reports = refl; applied = refl; already = refl; opening = record { requests = refl; runs = refl; applied = λ k. refl }; below = λ k u e. absurd (cc) };
+      fresh = record { new = record { taken = refl; held = refl; reports = refl; applied = refl; already = refl; opening = record { requests = refl; runs = refl; applied = λ k. refl } }; below = λ k u e. absurd (cc) };
       may = (
         tt,
         (
@@ -148,7 +148,7 @@ earlier_first key source other =
     let w : Write = write_for o 1 in
     let x : Write = write_for p 2 in
     record {
-      fresh = record { taken = refl; held = refl; reports = refl; applied = refl; already = refl; opening = record { requests = refl; runs = refl; applied = λ k. refl }; below = λ k u e. absurd (cc) };
+      fresh = record { new = record { taken = refl; held = refl; reports = refl; applied = refl; already = refl; opening = record { requests = refl; runs = refl; applied = λ k. refl } }; below = λ k u e. absurd (cc) };
       may_before = (tt, (tt, (first_of_two _ o p refl, tt)));
       waits = inr (inl refl);
       may_after = (

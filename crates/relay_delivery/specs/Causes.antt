@@ -1,5 +1,5 @@
 -- When the cause of a report is true.
-use Rattle.std.specs.Prelude.{◌≡◌, ◌⊎◌, ℕ, ◌+◌, ◌<◌, ◌≤◌, List, [], length, Option, Some, is_some, unwrap_or, slice_get, Bool, true, false, ◌&&◌, not}
+use Rattle.std.specs.Prelude.{◌≡◌, ◌⊎◌, ℕ, ◌+◌, ◌<◌, ◌≤◌, List, [], length, Option, Some, is_some, slice_get, Bool, true, false, ◌&&◌, not}
 use Rattle.std.specs.List.{list_any}
 use Rattle.relay_action.specs.Actions.{kind_of}
 use Rattle.relay_action.specs.declared.write.Write.{Write}
@@ -9,9 +9,9 @@ use Rattle.relay_results.specs.declared.cause.Cause.TheVariants as cause
 use Rattle.relay_results.specs.declared.outcome.Outcome.{Outcome}
 use Rattle.relay_results.specs.Words.{count}
 use Rattle.relay_results.specs.Documents.{document_of, same_write, same_op, write_for}
-use Rattle.relay_results.specs.Verdicts.{IsRefused, is_conflict, is_sent_again}
-use Rattle.relay_results.specs.Outside.{Whole, Request, Outside, WasRun}
-use Rattle.relay_results.specs.Fates.{HasEntry, IsRetried, says_too_large}
+use Rattle.relay_results.specs.Verdicts.{may_be_own, IsRefused, is_conflict, is_sent_again}
+use Rattle.relay_results.specs.Outside.{Whole, Request, stored_in, Outside, WasRun}
+use Rattle.relay_results.specs.Fates.{kind_in, reason_in, HasEntry, IsRetried, says_too_large}
 
 -- ---- the version assignment
 
@@ -59,21 +59,26 @@ pub record IsAnsweredWhole (s : Outside) (w : Write) (status : ℕ) : Type 0 whe
 
 -- ---- true causes
 
--- Refused: the write was answered with this status and this type of error, which one of its runs gave, and the verdict
--- on them is Refused.
-pub record IsTrueRefusal (s : Outside) (w : Write) (status : ℕ) (error : List ℕ) : Type 0 where
+-- Refused: the write was answered with this status and an error of this type, with this reason, which one of its runs
+-- gave, and the verdict on them is Refused.
+pub record IsTrueRefusal (s : Outside) (w : Write) (status : ℕ) (kind : List ℕ) (reason : Option (List ℕ)) : Type 0 where
   pub outcome : Outcome
   pub answered : IsAnswered s w outcome
   pub refused : IsRefused (kind_of w.action) outcome.status (is_some outcome.error)
   pub status_is : outcome.status ≡ status
-  pub error_is : unwrap_or outcome.error [] ≡ error
+  pub kind_is : kind_in outcome.error ≡ kind
+  pub reason_is : reason_in outcome.error ≡ reason
 
--- Conflict: exactly one request carried the write, and the answer for it was 409, which one of its runs gave.
-pub record IsTrueConflict (s : Outside) (w : Write) : Type 0 where
-  pub once : count (carries w) s.requests ≡ 1
+-- Conflict: the write was answered with 409 and an error that states this stored version, or none, with this reason,
+-- which one of its runs gave; and either exactly one request carried the write, or the version that is stated is not
+-- its own.
+pub record IsTrueConflict (s : Outside) (w : Write) (stored : Option ℕ) (reason : Option (List ℕ)) : Type 0 where
   pub outcome : Outcome
   pub answered : IsAnswered s w outcome
   pub conflict : is_conflict outcome.status ≡ true
+  pub other : (count (carries w) s.requests ≡ 1) ⊎ (may_be_own (stored_in outcome.error) w.version ≡ false)
+  pub stored_is : stored_in outcome.error ≡ stored
+  pub reason_is : reason_in outcome.error ≡ reason
 
 -- GaveUp: exactly `sends` requests carried the write; at least `max` of them were not answered as too large; and each
 -- got an answer that is retried.
@@ -84,9 +89,9 @@ pub record GaveUpAfter (requests : List Request) (w : Write) (max sends : ℕ) :
 
 -- The cause is true for a write that was assigned a version, of which `max` tries were allowed.
 abbrev pub IsTrueOf : ℕ → Outside → Write → Cause → Type 0
-IsTrueOf max s w (cause.Refused status error) = IsTrueRefusal s w status error
+IsTrueOf max s w (cause.Refused status kind reason) = IsTrueRefusal s w status kind reason
 IsTrueOf max s w (cause.Request status) = IsAnsweredWhole s w status
-IsTrueOf max s w cause.Conflict = IsTrueConflict s w
+IsTrueOf max s w (cause.Conflict stored reason) = IsTrueConflict s w stored reason
 IsTrueOf max s w (cause.GaveUp sends) = GaveUpAfter s.requests w max sends
 IsTrueOf max s w cause.Spent = ⊥
 

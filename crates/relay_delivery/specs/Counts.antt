@@ -5,9 +5,9 @@ use Rattle.relay_action.specs.declared.write.Write.{Write}
 use Rattle.relay_action.specs.declared.operation.Op.{Op}
 use Rattle.relay_results.specs.declared.outcome.Outcome.{Outcome}
 use Rattle.relay_results.specs.Words.{count, one_if}
-use Rattle.relay_results.specs.Verdicts.{is_success, is_conflict}
+use Rattle.relay_results.specs.Verdicts.{may_be_own, is_success, is_conflict}
 use Rattle.relay_results.specs.Matching.{matches}
-use Rattle.relay_results.specs.Outside.{Answer, Unanswered, Items, Whole, Lost, Request, Outside}
+use Rattle.relay_results.specs.Outside.{Answer, Unanswered, Items, Whole, Lost, Request, stored_in, Outside}
 use Rattle.relay_delivery.specs.Causes.{carries}
 use Rattle.relay_delivery.specs.Machine.{Config, Core, CameAbout}
 use Rattle.relay_delivery.specs.Lane.{State, Fits}
@@ -22,9 +22,9 @@ PlaceTest = ℕ → Write → Outcome → Bool
 abbrev pub says_applied : PlaceTest
 says_applied sends w o = is_success (kind_of w.action) o.status (is_some o.error)
 
--- a conflict, and at least two requests carried the write, including this one
+-- a conflict that may be with the write's own version, and at least two requests carried the write, including this one
 abbrev pub says_already : PlaceTest
-says_already sends w o = is_conflict o.status && nat_le 2 sends
+says_already sends w o = is_conflict o.status && (nat_le 2 sends && may_be_own (stored_in o.error) w.version)
 
 -- ---- counted over the places of an answer, and over all requests
 

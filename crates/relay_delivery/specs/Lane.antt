@@ -1,6 +1,6 @@
 -- A lane as its callers see it, what each call does, and the outside that it fits: the form in which the calls of
 -- real code are tied to delivery.
-use Rattle.std.specs.Prelude.{◌≡◌, ◌≢◌, ◌≤◌, ℕ, ◌+◌, ◌-◌, ◌<◌, ◌^◌, min, List, [], ◌∷◌, ◌++◌, Option, Some, None, slice_get, Bool, true, false, ◌==◌, ◌&&◌, not, nat_lt, nat_le, map, filter, length, if◌then◌else◌}
+use Rattle.std.specs.Prelude.{◌≡◌, ◌≢◌, ◌⊎◌, ◌≤◌, ℕ, ◌+◌, ◌-◌, ◌<◌, ◌^◌, min, List, [], ◌∷◌, ◌++◌, Option, Some, None, slice_get, Bool, true, false, ◌==◌, ◌&&◌, not, nat_lt, nat_le, map, filter, length, if◌then◌else◌}
 use Rattle.std.specs.List.{list_any}
 use Rattle.relay_action.specs.declared.write.Write.{Write}
 use Rattle.relay_action.specs.declared.operation.Op.{Op}
@@ -9,7 +9,7 @@ use Rattle.relay_results.specs.Numbers.{from_one, from_zero}
 use Rattle.relay_results.specs.Documents.{Document, document_of, same_document}
 use Rattle.relay_results.specs.Outside.{Answer, Unanswered, Request, Ran, Outside, Sends, Runs, Answers, IsOpening, MayRun, MayAnswer, after}
 use Rattle.relay_results.specs.Fates.{Fate, Flies, Applied, Already, Retried, Halved, Reported}
-use Rattle.relay_delivery.specs.Machine.{Config, Core, Held, Place, Report, write_of, held_at, spent_if, after_launch, back_to_wait, with_cap, KeepsCaps, fate_of, reports_from, how_many, is_applied_fate, is_already_fate, CameAbout}
+use Rattle.relay_delivery.specs.Machine.{Config, Core, Held, Place, Report, write_of, held_at, spent_if, after_launch, back_to_wait, with_cap, KeepsCaps, fate_of, reports_from, how_many, is_applied_fate, is_already_fate, IsFresh, CameAboutFrom}
 use Rattle.relay_delivery.specs.Delivery.{HasDistinctNames, IsSound, IsComplete, applied_ops, IsDealtWrite}
 use Rattle.relay_delivery.specs.Bound.{tries_left}
 
@@ -145,13 +145,17 @@ pub record IsOf (s : State) (c : Core) : Type 0 where
   pub flying : (f : Flying) → Mem f s.flying → slice_get c.outside.requests f.request ≡ Some (record { writes = f.writes; answer = Unanswered })
 
 -- the lane took these operations, its requests are those that were sent, in order, and it was settled by their answers
--- alone: the lane and the outside came about by the same steps, from a fresh lane and an opening
-pub record Fits (s : State) (taken : List Op) (out : Outside) : Type 0 where
+-- alone: the lane and the outside came about by the same steps, from a start of this kind
+pub record FitsFrom (begin : Config → Core → Type 0) (s : State) (taken : List Op) (out : Outside) : Type 0 where
   pub core : Core
-  pub came_about : CameAbout s.config core
+  pub came_about : CameAboutFrom begin s.config core
   pub is_of : IsOf s core
   pub took : core.taken ≡ taken
   pub outside : core.outside ≡ out
+
+-- and starting from a fresh lane and an opening
+abbrev pub Fits : State → List Op → Outside → Type 0
+Fits = FitsFrom IsFresh
 
 -- ---- each call keeps the lane fitting
 
@@ -241,3 +245,13 @@ abbrev pub AnswerGivesNoTry : Type 0
 AnswerGivesNoTry =
     (s : State) (number : ℕ) (a : Answer) (taken : List Op) (out : Outside) → 0 < s.config.max → is_flying number s ≡ true →
     Fits s taken out → tries_of (after_answer_to s number a) ≤ tries_of s
+
+-- an operation that an honest answer ends as applied, by the answered request or by an earlier one, was applied: the
+-- index has its write
+abbrev pub EndedIsApplied : Type 0
+EndedIsApplied =
+    (s : State) (number : ℕ) (a : Answer) (taken : List Op) (out : Outside) → is_flying number s ≡ true →
+    MayAnswer out (from_zero number) a → Fits s taken out → (h : Held) → Mem h (held_of s.held) →
+    (fate_of s.config (from_zero number) (writes_at (from_zero number) s.flying) a h h.flies ≡ Applied)
+    ⊎ (fate_of s.config (from_zero number) (writes_at (from_zero number) s.flying) a h h.flies ≡ Already) →
+    Mem (write_of h) (out.applied (document_of h.op.key))

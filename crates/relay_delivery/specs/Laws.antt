@@ -6,8 +6,9 @@ use Rattle.relay_results.specs.declared.cause.Cause.{Cause}
 use Rattle.relay_results.specs.declared.cause.Cause.TheVariants as cause
 use Rattle.relay_results.specs.Words.{Mem, count}
 use Rattle.relay_results.specs.Documents.{Document, document_of, write_for, source_of, name_of, same_op}
-use Rattle.relay_results.specs.Verdicts.{is_conflict, is_retried_item, is_retried_whole}
-use Rattle.relay_results.specs.Outside.{Answer, Items, Whole, Lost, Request, Ran, Outside, Event, Continues, IsOpening}
+use Rattle.relay_results.specs.Verdicts.{may_be_own, is_conflict, is_retried_item, is_retried_whole}
+use Rattle.relay_results.specs.Fates.{kind_in, reason_in}
+use Rattle.relay_results.specs.Outside.{Answer, Items, Whole, Lost, Request, Ran, stored_in, Outside, Event, Continues, IsOpening}
 use Rattle.relay_delivery.specs.Attribution.{IsAttribution, IsInProducerOrder}
 use Rattle.relay_delivery.specs.Machine.{Config, Report}
 use Rattle.relay_delivery.specs.Delivery.{IsSound}
@@ -71,28 +72,34 @@ NotGivenUpWhenSettled = (o : Op) (v sends : ℕ) (t : Terms) (runs : List Ran) �
     let applied = Items (entry (write_for o v) 200 ∷ []) in
     IsTrueCause t (outside_with (request ws Lost ∷ request ws Lost ∷ request ws applied ∷ []) runs) o (Some v) (cause.GaveUp sends) → ⊥
 
--- two requests carried it
+-- two requests carried it, and no stored version is stated, or its own
 abbrev pub NoConflictAfterTwo : Type 0
-NoConflictAfterTwo = (o : Op) (v : ℕ) (t : Terms) (first second : Answer) (runs : List Ran) →
+NoConflictAfterTwo = (o : Op) (v : ℕ) (t : Terms) (first second : Answer) (runs : List Ran) (stored : Option ℕ) (reason : Option (List ℕ)) →
     let ws = write_for o v ∷ [] in
-    IsTrueCause t (outside_with (request ws first ∷ request ws second ∷ []) runs) o (Some v) cause.Conflict → ⊥
+    may_be_own stored v ≡ true →
+    IsTrueCause t (outside_with (request ws first ∷ request ws second ∷ []) runs) o (Some v) (cause.Conflict stored reason) → ⊥
 
--- no run had this status; none had an error of this type
+-- no run had this status; none had an error of this type; none had an error with this reason
 abbrev pub NotRefusedWithoutStatus : Type 0
 NotRefusedWithoutStatus =
-    (o : Op) (dealt : Option ℕ) (t : Terms) (s : Outside) (status : ℕ) (error : List ℕ) →
-    ((r : Ran) → Mem r s.runs → r.outcome.status ≢ status) → IsTrueCause t s o dealt (cause.Refused status error) → ⊥
+    (o : Op) (dealt : Option ℕ) (t : Terms) (s : Outside) (status : ℕ) (kind : List ℕ) (reason : Option (List ℕ)) →
+    ((r : Ran) → Mem r s.runs → r.outcome.status ≢ status) → IsTrueCause t s o dealt (cause.Refused status kind reason) → ⊥
 
 abbrev pub NotRefusedWithoutError : Type 0
 NotRefusedWithoutError =
-    (o : Op) (dealt : Option ℕ) (t : Terms) (s : Outside) (status : ℕ) (error : List ℕ) → error ≢ [] →
-    ((r : Ran) → Mem r s.runs → r.outcome.error ≢ Some error) → IsTrueCause t s o dealt (cause.Refused status error) → ⊥
+    (o : Op) (dealt : Option ℕ) (t : Terms) (s : Outside) (status : ℕ) (kind : List ℕ) (reason : Option (List ℕ)) →
+    ((r : Ran) → Mem r s.runs → kind_in r.outcome.error ≢ kind) → IsTrueCause t s o dealt (cause.Refused status kind reason) → ⊥
+
+abbrev pub NotRefusedWithoutReason : Type 0
+NotRefusedWithoutReason =
+    (o : Op) (dealt : Option ℕ) (t : Terms) (s : Outside) (status : ℕ) (kind : List ℕ) (reason : Option (List ℕ)) →
+    ((r : Ran) → Mem r s.runs → reason_in r.outcome.error ≢ reason) → IsTrueCause t s o dealt (cause.Refused status kind reason) → ⊥
 
 -- a conflict is not a refusal, and neither is an index that is too busy
 abbrev pub NotRefusedWhenBusy : Type 0
 NotRefusedWhenBusy =
-    (o : Op) (dealt : Option ℕ) (t : Terms) (s : Outside) (status : ℕ) (error : List ℕ) →
-    (is_conflict status ≡ true) ⊎ (is_retried_item status ≡ true) → IsTrueCause t s o dealt (cause.Refused status error) → ⊥
+    (o : Op) (dealt : Option ℕ) (t : Terms) (s : Outside) (status : ℕ) (kind : List ℕ) (reason : Option (List ℕ)) →
+    (is_conflict status ≡ true) ⊎ (is_retried_item status ≡ true) → IsTrueCause t s o dealt (cause.Refused status kind reason) → ⊥
 
 -- no request carried it, and it had at least one try
 abbrev pub NotReportedUnsent : Type 0
@@ -126,11 +133,16 @@ NotRejectedWhenHalved =
     ((number : ℕ) (q : Request) → slice_get s.requests number ≡ Some q → 2 ≤ length q.writes) →
     IsTrueCause t s o dealt (cause.Request 413) → ⊥
 
--- no run met a conflict
+-- no run met a conflict; none stated this version, or none
 abbrev pub NoConflictWithoutRun : Type 0
 NoConflictWithoutRun =
-    (o : Op) (dealt : Option ℕ) (t : Terms) (s : Outside) →
-    ((r : Ran) → Mem r s.runs → r.outcome.status ≢ 409) → IsTrueCause t s o dealt cause.Conflict → ⊥
+    (o : Op) (dealt : Option ℕ) (t : Terms) (s : Outside) (stored : Option ℕ) (reason : Option (List ℕ)) →
+    ((r : Ran) → Mem r s.runs → r.outcome.status ≢ 409) → IsTrueCause t s o dealt (cause.Conflict stored reason) → ⊥
+
+abbrev pub NoConflictWithUnstated : Type 0
+NoConflictWithUnstated =
+    (o : Op) (dealt : Option ℕ) (t : Terms) (s : Outside) (stored : Option ℕ) (reason : Option (List ℕ)) →
+    ((r : Ran) → Mem r s.runs → stored_in r.outcome.error ≢ stored) → IsTrueCause t s o dealt (cause.Conflict stored reason) → ⊥
 
 -- its lane took no more Puts than it assigns versions
 abbrev pub NotSpentWithinLimit : Type 0

@@ -14,3 +14,5 @@ pub mod Incarnations
 pub mod Schedules
 pub mod Examples
 pub mod Laws
+pub mod Explained
+pub mod Stating

@@ -151,7 +151,7 @@ abbrev pub fate_of : Config → ℕ → List Write → Answer → Held → Optio
 fate_of g number ws a h None = Flies
 fate_of g number ws a h (Some f) =
     if f.request == number
-    then fate (record { sends = h.sends; attempts = h.attempts; max = g.max }) ws f.place (kind_of h.op.action) a
+    then fate (record { version = h.version; sends = h.sends; attempts = h.attempts; max = g.max }) ws f.place (kind_of h.op.action) a
     else Flies
 
 -- the operation waits to be sent again
@@ -257,20 +257,28 @@ AllMayStep g (s ∷ ss) c = MayStep s c × AllMayStep g ss (step g s c)
 
 -- ---- a fresh lane, and what comes of it
 
--- nothing was taken and nothing sent, and each stored version is below the first one assigned
-pub record IsFresh (g : Config) (c : Core) : Type 0 where
+-- nothing was taken and nothing sent
+pub record IsNew (c : Core) : Type 0 where
   pub taken : c.taken ≡ []
   pub held : c.held ≡ []
   pub reports : c.reports ≡ []
   pub applied : c.applied ≡ 0
   pub already : c.already ≡ 0
   pub opening : IsOpening c.outside
+
+-- and each stored version is below the first one assigned
+pub record IsFresh (g : Config) (c : Core) : Type 0 where
+  pub new : IsNew c
   pub below : (k : Document) (u : ℕ) → c.outside.stored k ≡ Some u → u < g.first
 
--- the core came about by steps that may happen, starting from a fresh lane
-pub record CameAbout (g : Config) (c : Core) : Type 0 where
+-- the core came about by steps that may happen, from a start of this kind
+pub record CameAboutFrom (begin : Config → Core → Type 0) (g : Config) (c : Core) : Type 0 where
   pub start : Core
-  pub fresh : IsFresh g start
+  pub fresh : begin g start
   pub steps : List Step
   pub may : AllMayStep g steps start
   pub reached : steps_of g steps start ≡ c
+
+-- and starting from a fresh lane
+abbrev pub CameAbout : Config → Core → Type 0
+CameAbout = CameAboutFrom IsFresh

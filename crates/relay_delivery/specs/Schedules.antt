@@ -11,6 +11,7 @@ use Rattle.relay_action.specs.declared.operation.Op.{Op}
 use Rattle.relay_results.specs.declared.cause.Cause.TheVariants as cause
 use Rattle.relay_results.specs.declared.outcome.Outcome.{Outcome}
 use Rattle.relay_results.specs.Documents.{Document, document_of, same_document, write_for}
+use Rattle.relay_results.specs.Done.{bare_error}
 use Rattle.relay_results.specs.Outside.{Answer, Items, Whole, Lost, Ran, Outside, Event, Sends, Runs, Answers, after_all, AllMayHappen}
 use Rattle.relay_results.specs.Fates.{Fate, Tries, fate}
 use Rattle.relay_results.specs.Fates as of
@@ -35,7 +36,7 @@ op number key action = record { epoch = 0; producer = 0; number = number; key = 
 abbrev pub accepted_of : List Op → ℕ → List Op
 accepted_of ops p = filter (is_from p) ops
 
--- a run without an error, and with one; requests and places are counted from 0
+-- a run without an error, and with one of this type; requests and places are counted from 0
 abbrev pub ran : ℕ → ℕ → ℕ → Ran
 ran request place status = record { request = request; place = place; outcome = record { status = status; error = None } }
 
@@ -43,15 +44,15 @@ abbrev pub failed_run : ℕ → ℕ → ℕ → List ℕ → Ran
 failed_run request place status error = record {
   request = request;
   place = place;
-  outcome = record { status = status; error = Some error };
+  outcome = record { status = status; error = Some (bare_error error) };
 }
 
--- the entry of a reply for a write, without an error and with one
+-- the entry of a reply for a write, without an error and with one of this type
 abbrev pub entry : Write → ℕ → Outcome
 entry w status = record { kind = kind_of w.action; id = w.key.id; status = status; error = None }
 
 abbrev pub failed_entry : Write → ℕ → List ℕ → Outcome
-failed_entry w status error = record { kind = kind_of w.action; id = w.key.id; status = status; error = Some error }
+failed_entry w status error = record { kind = kind_of w.action; id = w.key.id; status = status; error = Some (bare_error error) }
 
 abbrev pub conflict : List ℕ
 conflict = codes "version_conflict_engine_exception"
@@ -62,9 +63,9 @@ busy = codes "rejected_execution_exception"
 abbrev pub refusal : List ℕ
 refusal = codes "mapper_parsing_exception"
 
--- an operation that this many requests carried, all of them tries, and the number of tries that it may have
+-- an operation with version 1 that this many requests carried, all of them tries, and the number of tries that it may have
 abbrev pub tries_after : ℕ → ℕ → Tries
-tries_after sends max = record { sends = sends; attempts = sends; max = max }
+tries_after sends max = record { version = 1; sends = sends; attempts = sends; max = max }
 
 -- this many tries, this many versions that the lane assigns, and this many Puts that it took
 abbrev pub terms : ℕ → ℕ → ℕ → Terms
@@ -120,8 +121,8 @@ RunTwice = (key : DocKey) →
     let o = op 1 key Delete in let w = write_for o 1 in
     let second = Items (failed_entry w 409 conflict ∷ []) in let first = Items (entry w 404 ∷ []) in
     Plays (o ∷ []) (run_twice w second) (document_of key) (w ∷ []) (o ∷ [])
-    × becomes (tries_after 1 3) (w ∷ []) 0 Delete second (of.Reported cause.Conflict)
-    × IsTrueCause (terms 3 1000 1) (end_of (run_twice w second)) o (Some 1) cause.Conflict
+    × becomes (tries_after 1 3) (w ∷ []) 0 Delete second (of.Reported (cause.Conflict None None))
+    × IsTrueCause (terms 3 1000 1) (end_of (run_twice w second)) o (Some 1) (cause.Conflict None None)
     × Plays (o ∷ []) (run_twice w first) (document_of key) (w ∷ []) (o ∷ [])
     × becomes (tries_after 1 3) (w ∷ []) 0 Delete first of.Applied
 
@@ -136,8 +137,8 @@ abbrev pub RefusedOrRejected : Type 0
 RefusedOrRejected = (key : DocKey) (source : Source) →
     let o = op 1 key (Index source) in let w = write_for o 1 in
     Plays (o ∷ []) (item_refusal w) (document_of key) [] []
-    × becomes (tries_after 1 3) (w ∷ []) 0 (Index source) (Items (failed_entry w 400 refusal ∷ [])) (of.Reported (cause.Refused 400 refusal))
-    × IsTrueCause (terms 3 1000 1) (end_of (item_refusal w)) o (Some 1) (cause.Refused 400 refusal)
+    × becomes (tries_after 1 3) (w ∷ []) 0 (Index source) (Items (failed_entry w 400 refusal ∷ [])) (of.Reported (cause.Refused 400 refusal None))
+    × IsTrueCause (terms 3 1000 1) (end_of (item_refusal w)) o (Some 1) (cause.Refused 400 refusal None)
     × Plays (o ∷ []) (answered_whole w 401) (document_of key) [] []
     × becomes (tries_after 1 3) (w ∷ []) 0 (Index source) (Whole 401) (of.Reported (cause.Request 401))
     × IsTrueCause (terms 3 1000 1) (end_of (answered_whole w 401)) o (Some 1) (cause.Request 401)
@@ -227,7 +228,7 @@ abbrev pub HalvedThenAlone : Type 0
 HalvedThenAlone = (k l : DocKey) →
     let o = op 1 k Delete in let p = op 2 l Delete in
     let w = write_for o 1 in let x = write_for p 2 in
-    let second : Tries = record { sends = 2; attempts = 1; max = 1 } in
+    let second : Tries = record { version = 1; sends = 2; attempts = 1; max = 1 } in
     Plays (o ∷ p ∷ []) (halved_then_alone w x) (document_of k) [] []
     × becomes (tries_after 1 1) (w ∷ x ∷ []) 0 Delete (Whole 413) (of.Halved 1)
     × becomes (tries_after 1 1) (w ∷ x ∷ []) 1 Delete (Whole 413) (of.Halved 1)

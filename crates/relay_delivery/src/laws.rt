@@ -12,7 +12,8 @@ ghost use Rattle.relay_delivery.specs.Laws.{NoneTwice, NoneOutOfOrder, NoneOfOth
 ghost use Rattle.relay_delivery.specs.Laws.{NoneOfOtherDocument, NoneUnaccepted, NoneLeftOut};
 ghost use Rattle.relay_delivery.specs.Laws.{NotGivenUpAfterOne, NotGivenUpWhenSettled};
 ghost use Rattle.relay_delivery.specs.Laws.{NoConflictAfterTwo, NotRefusedWithoutStatus};
-ghost use Rattle.relay_delivery.specs.Laws.{NotRefusedWithoutError, NotSpentWithinLimit};
+ghost use Rattle.relay_delivery.specs.Laws.{NotRefusedWithoutError, NotRefusedWithoutReason};
+ghost use Rattle.relay_delivery.specs.Laws.{NotSpentWithinLimit, NoConflictWithUnstated};
 ghost use Rattle.relay_delivery.specs.Laws.{NotRefusedWhenBusy, NotReportedUnsent};
 ghost use Rattle.relay_delivery.specs.Laws.{NotRejectedWithoutAnswer, NotRejectedWhenRetried};
 ghost use Rattle.relay_delivery.specs.Laws.{NotGivenUpForHalves, NotRejectedWhenHalved};
@@ -79,6 +80,7 @@ pub fn causes_exclude()
     ensures two_sends { NoConflictAfterTwo }
     ensures status { NotRefusedWithoutStatus }
     ensures error { NotRefusedWithoutError }
+    ensures reason { NotRefusedWithoutReason }
     ensures within_limit { NotSpentWithinLimit }
     ensures busy { NotRefusedWhenBusy }
     ensures unsent { NotReportedUnsent }
@@ -87,6 +89,7 @@ pub fn causes_exclude()
     ensures halves { NotGivenUpForHalves }
     ensures halved { NotRejectedWhenHalved }
     ensures no_conflict { NoConflictWithoutRun }
+    ensures unstated { NoConflictWithUnstated }
 {}
 
 /// If delivery is sound, only operations that were taken are reported, and none of them twice.

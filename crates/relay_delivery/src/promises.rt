@@ -7,7 +7,13 @@ ghost use Rattle.relay_delivery.specs.Lane.{FreshFits, ClockFits, TakeFits, Send
 ghost use Rattle.relay_delivery.specs.Lane.{AnswerFits, SoundWhereItFits, CompleteWhereItFits};
 ghost use Rattle.relay_delivery.specs.Lane.{TotalWhereItFits, WritesWhereItFits};
 ghost use Rattle.relay_delivery.specs.Lane.{EarliestWhereItFits, OneFliesWhereItFits, SendTakesTry};
+ghost use Rattle.relay_delivery.specs.Lane.{EndedIsApplied};
 ghost use Rattle.relay_delivery.specs.Lane.{AnswerGivesNoTry};
+ghost use Rattle.relay_delivery.specs.Explained.{ExplainedFits, ExplainedIsSound};
+ghost use Rattle.relay_delivery.specs.Explained.{ExplainedIsComplete};
+ghost use Rattle.relay_delivery.specs.Stating.{SoundIfStated, CompleteIfStated};
+ghost use Rattle.relay_delivery.specs.Stating.{ExplainedIsSoundIfStated};
+ghost use Rattle.relay_delivery.specs.Stating.{ExplainedIsCompleteIfStated};
 ghost use Rattle.relay_delivery.specs.Lanes.{NothingAfterClose};
 ghost use Rattle.relay_delivery.specs.Renumbering.{TakesOn, CandidatesOn, SendsOn, WritesOn};
 ghost use Rattle.relay_delivery.specs.Renumbering.{SettlesOn, FliesOn, AnswersOn};
@@ -75,7 +81,8 @@ pub fn requests_are_numbered_on()
 {}
 
 /// What is promised about a lane and an outside that it fits: delivery, the counts, what is sent,
-/// and that at most one operation of a document is in flight at a time.
+/// that at most one operation of a document is in flight at a time, and that what ends as applied
+/// was applied.
 pub fn lanes_deliver()
     ensures sound { SoundWhereItFits }
     ensures complete { CompleteWhereItFits }
@@ -83,6 +90,28 @@ pub fn lanes_deliver()
     ensures writes { WritesWhereItFits }
     ensures earliest { EarliestWhereItFits }
     ensures one { OneFliesWhereItFits }
+    ensures ended { EndedIsApplied }
+{}
+
+/// What is promised about a lane and an outside that explains its calls, whatever wire carried them:
+/// its requests were sent there, items of them were run meanwhile, and the answers that it was given
+/// are honest.
+pub fn explained_lanes_deliver()
+    ensures fits { ExplainedFits }
+    ensures sound { ExplainedIsSound }
+    ensures complete { ExplainedIsComplete }
+{}
+
+/// What is promised about a lane whose index states the stored version in each conflict, if no
+/// version that was stored at the start is one that the lane assigns: what it counts as applied was
+/// applied by one of its own requests, each report has a true cause, and nothing else is lost. The
+/// stored versions may be higher than those that it assigns, as in an old epoch; without such
+/// statements they have to be lower.
+pub fn stated_versions_deliver()
+    ensures sound { SoundIfStated }
+    ensures complete { CompleteIfStated }
+    ensures explained_sound { ExplainedIsSoundIfStated }
+    ensures explained_complete { ExplainedIsCompleteIfStated }
 {}
 
 /// Each request that a lane sends uses up a try or a halving of what it holds, and no answer gives

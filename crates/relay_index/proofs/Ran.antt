@@ -1,18 +1,19 @@
 -- What a run of a write leaves, and that it is a run of the outside.
-use Rattle.std.proofs.Common.{option_map, inl, inr, ◌≡◌, ◌∙◌, [], ◌∷◌, ◌++◌, Some, Bool, true, false, refl, ap, sym, append-nil, append_assoc, if◌then◌else◌}
-use Rattle.std.specs.Prelude.{is_some}
+use Rattle.std.proofs.Common.{ℕ, List, Option, None, option_map, inl, inr, ◌≡◌, ◌∙◌, [], ◌∷◌, ◌++◌, Some, Bool, true, false, refl, ap, sym, append-nil, append_assoc, if◌then◌else◌}
+use Rattle.std.specs.Prelude.{is_some, codes}
 use Rattle.relay_action.specs.Actions.{kind_of}
 use Rattle.relay_action.specs.declared.action.ActionKind.{ActionKind}
 use Rattle.relay_action.specs.declared.action.ActionKind.TheVariants as kind
 use Rattle.relay_action.specs.declared.write.Write.{Write}
 use Rattle.relay_results.specs.Documents.{Document, document_of, same_document}
-use Rattle.relay_results.specs.Done.{failure}
+use Rattle.relay_results.specs.declared.done.VersionConflict.{VersionConflict}
+use Rattle.relay_results.specs.Done.{failure, error_by}
 use Rattle.relay_results.specs.Verdicts.{is_success}
-use Rattle.relay_results.specs.Outside.{Outside, Ran, IsOutcomeOf, is_applied, ran_of}
+use Rattle.relay_results.specs.Outside.{stored_in, Outside, Ran, IsOutcomeOf, is_applied, ran_of}
 use Rattle.relay_index.specs.declared.choice.Choice.{Choice}
 use Rattle.relay_index.specs.declared.choice.Choice.TheVariants.{Run, Refuse}
 use Rattle.relay_index.specs.States.{State, applied_writes, stored_version, last_of, is_live}
-use Rattle.relay_index.specs.Runs.{is_newer, is_run, applied_result, status_of, done_of, outcome_of_run, Effect, Shows}
+use Rattle.relay_index.specs.Runs.{stated, is_newer, is_run, applied_result, status_of, done_of, outcome_of_run, Effect, Shows}
 use Rattle.relay_index.specs.Choices.{MayChoose}
 use Rattle.relay_index.specs.Laws.{RunIsOfOutside}
 use Rattle.relay_index.specs.Lists.{after_run}
@@ -24,17 +25,18 @@ pub Effect-after_run : (s : State) (w : Write) (choice : Choice) → Effect s w 
 Effect-after_run s w choice = by (is_run s w choice) refl
   where
     by : (b : Bool) → is_run s w choice ≡ b → Effect s w choice (after_run s w choice)
-    by true e = record { lists = λ k. rw e (applied-with_write s.documents w k); count = rw e refl }
-    by false e = record { lists = λ k. rw e (sym (append-nil _)); count = rw e refl }
+    by true e = record { lists = λ k. rw e (applied-with_write s.documents w k); count = rw e refl; states = rw e refl }
+    by false e = record { lists = λ k. rw e (sym (append-nil _)); count = rw e refl; states = rw e refl }
 
 -- ---- the outcome
 
 -- a run that did something says so
-success_of : (k : ActionKind) (live : Bool) → is_success k (status_of (applied_result k live)) (is_some (failure (applied_result k live))) ≡ true
-success_of kind.Index true = refl
-success_of kind.Index false = refl
-success_of kind.Delete true = refl
-success_of kind.Delete false = refl
+success_of : (id : List ℕ) (c : Option VersionConflict) (k : ActionKind) (live : Bool)
+    → is_success k (status_of (applied_result k live)) (is_some (option_map (error_by id c) (failure (applied_result k live)))) ≡ true
+success_of id c kind.Index true = refl
+success_of id c kind.Index false = refl
+success_of id c kind.Delete true = refl
+success_of id c kind.Delete false = refl
 
 -- the outcome says that the write was applied exactly if it was
 pub is_applied-done_of : (s : State) (w : Write) (choice : Choice) → is_applied w (outcome_of_run (done_of s w choice)) ≡ is_run s w choice
@@ -42,7 +44,7 @@ is_applied-done_of s w (Refuse status) = refl
 is_applied-done_of s w Run = by (is_newer s w) refl
   where
     by : (b : Bool) → is_newer s w ≡ b → is_applied w (outcome_of_run (done_of s w Run)) ≡ is_newer s w
-    by true e = rw e (success_of (kind_of w.action) (is_live s (document_of w.key)))
+    by true e = rw e (success_of w.key.id None (kind_of w.action) (is_live s (document_of w.key)))
     by false e = rw e refl
 
 -- ---- as the outside
@@ -63,6 +65,17 @@ Shows-after_run s w choice o r shows is = by (is_run s w choice) refl
 
 -- ---- as a run of the outside
 
+-- a version that is stated is the stored one
+stated_is : (s : State) (w : Write) (version : ℕ) → stored_in (Some (error_by w.key.id (stated s w) (codes "version_conflict_engine_exception"))) ≡ Some version → stored_version s (document_of w.key) ≡ Some version
+stated_is s w version = by s.states (stored_version s (document_of w.key))
+  where
+    by : (b : Bool) (stored : Option ℕ)
+        → stored_in (Some (error_by w.key.id (if b then option_map (λ (v : ℕ). record { stored = v; provided = w.version }) stored else None) (codes "version_conflict_engine_exception"))) ≡ Some version
+        → stored ≡ Some version
+    by true None e = cc
+    by true (Some v) e = e
+    by false stored e = cc
+
 -- the outcome is one that the stored version leaves the write
 pub IsOutcomeOf-done_of : (s : State) (w : Write) (choice : Choice) → MayChoose choice → IsOutcomeOf (stored_version s (document_of w.key)) w (outcome_of_run (done_of s w choice))
 IsOutcomeOf-done_of s w (Refuse status) may = inl (record { least = may.least; most = may.most; no_conflict = may.no_conflict; has_error = refl })
@@ -70,7 +83,7 @@ IsOutcomeOf-done_of s w Run may = by (is_newer s w) refl
   where
     by : (b : Bool) → is_newer s w ≡ b → IsOutcomeOf (stored_version s (document_of w.key)) w (outcome_of_run (done_of s w Run))
     by true e = inr (inl (e, is_applied-done_of s w Run ∙ e))
-    by false e = inr (inr (e, record { status = rw e refl; has_error = rw e refl }))
+    by false e = inr (inr (e, record { status = rw e refl; has_error = rw e refl; stated = rw e (λ version h. stated_is s w version h) }))
 
 -- an outside shows each of two indexes with the same lists
 Shows-alike : (o : Outside) (s t : State) → ((k : Document) → applied_writes t k ≡ applied_writes s k) → Shows o s → Shows o t

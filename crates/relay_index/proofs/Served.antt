@@ -6,7 +6,7 @@ use Rattle.relay_action.specs.declared.action.ActionKind.TheVariants as kind
 use Rattle.relay_action.specs.declared.write.Write.{Write}
 use Rattle.relay_results.specs.declared.done.ItemDone.{ItemDone}
 use Rattle.relay_results.specs.Documents.{document_of}
-use Rattle.relay_results.specs.Done.{HaveStatuses}
+use Rattle.relay_results.specs.Done.{HaveStatuses, IsStatable, AreStatable}
 use Rattle.relay_index.specs.declared.choice.Choice.{Choice}
 use Rattle.relay_index.specs.declared.choice.Choice.TheVariants.{Run, Refuse}
 use Rattle.relay_index.specs.Choices.{MayChoose}
@@ -53,3 +53,8 @@ HaveStatuses-RunsAll old (w ∷ ws) items new h =
     let status = run_status old.index w (choice_at old.script) (scripts_may old.script) in
     let is : h.0.status ≡ status_by old.index w (choice_at old.script) = ap (λ (d : ItemDone). d.status) h.3.item_of in
     rw h.5 (rw is status.0, rw is status.1, HaveStatuses-RunsAll (under h.2 (after_item old.script)) ws h.1 new h.4)
+
+-- one more item
+pub AreStatable-push : (items : List ItemDone) (d : ItemDone) → AreStatable items → IsStatable d.conflict → AreStatable (items ++ d ∷ [])
+AreStatable-push [] d h s = (s, tt)
+AreStatable-push (x ∷ items) d h s = (h.0, AreStatable-push items d h.1 s)

@@ -16,7 +16,7 @@ with_write (e ∷ es) w =
 
 -- the index after the write was applied
 abbrev pub index_after : State → Write → State
-index_after s w = record { documents = with_write s.documents w; count = one_more s.count }
+index_after s w = record { documents = with_write s.documents w; count = one_more s.count; states = s.states }
 
 -- the index after it ran or refused the write
 abbrev pub after_run : State → Write → Choice → State

@@ -1,5 +1,5 @@
 -- What an index does with a write.
-use Rattle.std.specs.Prelude.{◌≡◌, ℕ, [], ◌∷◌, ◌++◌, Bool, true, false, ◌&&◌, if◌then◌else◌}
+use Rattle.std.specs.Prelude.{◌≡◌, ℕ, Option, None, option_map, [], ◌∷◌, ◌++◌, Bool, true, false, ◌&&◌, if◌then◌else◌}
 use Rattle.relay_action.specs.Actions.{kind_of}
 use Rattle.relay_action.specs.Streams.{one_more}
 use Rattle.relay_action.specs.declared.action.ActionKind.{ActionKind}
@@ -9,7 +9,8 @@ use Rattle.relay_results.specs.declared.done.DoneResult.{DoneResult}
 use Rattle.relay_results.specs.declared.done.DoneResult.TheVariants as done
 use Rattle.relay_results.specs.declared.done.ItemDone.{ItemDone}
 use Rattle.relay_results.specs.Documents.{Document, document_of, same_document}
-use Rattle.relay_results.specs.Done.{failure}
+use Rattle.relay_results.specs.declared.done.VersionConflict.{VersionConflict}
+use Rattle.relay_results.specs.Done.{outcome_of}
 use Rattle.relay_results.specs.Outside.{RunOutcome, Outside, list_of, is_above}
 use Rattle.relay_index.specs.declared.choice.Choice.{Choice}
 use Rattle.relay_index.specs.declared.choice.Choice.TheVariants.{Run, Refuse}
@@ -50,8 +51,20 @@ abbrev pub status_by : State → Write → Choice → ℕ
 status_by s w Run = status_of (result_of s w Run)
 status_by s w (Refuse status) = status
 
+-- the versions of a conflict with this write, if they are stated
+abbrev pub stated : State → Write → Option VersionConflict
+stated s w =
+    if s.states
+    then option_map (λ (stored : ℕ). record { stored = stored; provided = w.version }) (stored_version s (document_of w.key))
+    else None
+
+abbrev pub conflict_by : State → Write → Choice → Option VersionConflict
+conflict_by s w Run = if is_newer s w then None else stated s w
+conflict_by s w (Refuse status) = None
+
 -- What an index returns for a write: its document and kind, the status and the result. For an applied write also its
--- version, and as sequence number how many were applied before it; otherwise 0 for both.
+-- version, and as sequence number how many were applied before it; otherwise 0 for both. For a conflict also the versions,
+-- if they are stated.
 abbrev pub done_of : State → Write → Choice → ItemDone
 done_of s w choice = record {
   key = w.key;
@@ -60,6 +73,7 @@ done_of s w choice = record {
   result = result_of s w choice;
   version = if is_run s w choice then w.version else 0;
   seq = if is_run s w choice then s.count else 0;
+  conflict = conflict_by s w choice;
 }
 
 -- The index after a write: if the write was applied, it is at the end of its document's list, and counted. Nothing
@@ -68,6 +82,7 @@ pub record Effect (old : State) (w : Write) (choice : Choice) (new : State) : Ty
   pub lists : (k : Document) → applied_writes new k
       ≡ applied_writes old k ++ (if is_run old w choice && same_document k (document_of w.key) then w ∷ [] else [])
   pub count : new.count ≡ (if is_run old w choice then one_more old.count else old.count)
+  pub states : new.states ≡ old.states
 
 -- one write was run
 pub record RunsOne (old : State) (w : Write) (choice : Choice) (item : ItemDone) (new : State) : Type 0 where
@@ -78,7 +93,7 @@ pub record RunsOne (old : State) (w : Write) (choice : Choice) (item : ItemDone)
 
 -- the answer to a write, as the outcome of a run
 abbrev pub outcome_of_run : ItemDone → RunOutcome
-outcome_of_run d = record { status = d.status; error = failure d.result }
+outcome_of_run d = record { status = d.status; error = (outcome_of d).error }
 
 -- the outside shows this index: for each document the stored version and the list are the same
 pub record Shows (o : Outside) (s : State) : Type 0 where

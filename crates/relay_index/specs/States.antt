@@ -1,20 +1,21 @@
 -- What an index has: for each document the writes that it applied, and their number over all documents.
-use Rattle.std.specs.Prelude.{◌≡◌, ◌≢◌, ℕ, ◌+◌, ◌-◌, min, ◌<◌, ◌≤◌, List, [], ◌∷◌, length, slice_get, Option, None, Some, is_some, option_map, option_and_then, unwrap_or, Bool}
+use Rattle.std.specs.Prelude.{◌≡◌, ◌≢◌, ℕ, ◌+◌, ◌-◌, min, ◌<◌, ◌≤◌, List, [], ◌∷◌, length, slice_get, Option, None, Some, is_some, option_map, option_and_then, unwrap_or, Bool, false}
 use Rattle.std.specs.Map.{lookup}
 use Rattle.relay_action.specs.Streams.{most}
 use Rattle.relay_action.specs.declared.key.DocKey.{DocKey}
 use Rattle.relay_action.specs.declared.write.Write.{Write}
 use Rattle.relay_results.specs.Documents.{Document, document_of, same_document, source_of}
 
--- Each document to which a write was applied, with those writes, in order; and the number of applied writes, over all
--- documents, which saturates at 2^64 - 1.
+-- Each document to which a write was applied, with those writes, in order; the number of applied writes, over all
+-- documents, which saturates at 2^64 - 1; and whether conflicts state their versions.
 pub record State : Type 0 where
   pub documents : List (DocKey × List Write)
   pub count : ℕ
+  pub states : Bool
 
 -- nothing was applied
 abbrev pub fresh : State
-fresh = record { documents = []; count = 0 }
+fresh = record { documents = []; count = 0; states = false }
 
 -- the list of a document: the writes that were applied to it, in order
 abbrev pub applied_among : List (DocKey × List Write) → Document → List Write

@@ -1,5 +1,5 @@
 //! The index.
-ghost use Rattle.std.specs.Prelude.{◌≡◌, [], Some, IsTrue, option_map, unwrap_or, max, IfOk};
+ghost use Rattle.std.specs.Prelude.{◌≡◌, [], Some, true, IsTrue, option_map, unwrap_or, max, IfOk};
 ghost use Rattle.std.specs.Prelude.{OnOk, OnErr};
 ghost use Rattle.std.specs.List.{IsDistinct};
 ghost use Rattle.relay_results.specs.Documents.{document_of};
@@ -11,14 +11,16 @@ ghost use Rattle.relay_index.specs.Choices.{MayChoose};
 ghost use Rattle.relay_index.specs.Keys.{document_order, same_key, AreKeys};
 ghost use Rattle.indexmap.specs.IndexMap.{keys as keys_of};
 ghost use Rattle.relay_index.specs.Lists.{with_write, index_after, after_run};
-ghost use Rattle.relay_index.specs.Runs.{is_newer, status_by, result_of, applied_result};
+ghost use Rattle.relay_index.specs.Runs.{is_newer, stated, conflict_by, status_by, result_of};
+ghost use Rattle.relay_index.specs.Runs.{applied_result};
+ghost use Rattle.relay_results.specs.Done.{IsStatable};
 ghost use Rattle.relay_index.specs.Runs.{status_of, done_of, outcome_of_run, Effect, Shows};
 
 use crate::choice::Choice;
 use crate::history::History;
 use indexmap::IndexMap;
 use relay_action::{Action, ActionKind, DocKey, Write};
-use relay_results::{DoneResult, ItemDone};
+use relay_results::{DoneResult, ItemDone, VersionConflict};
 use std::alloc::{AllocError, Global};
 use std::cmp::Ordering;
 use std::marker::Model;
@@ -30,6 +32,7 @@ pub struct Index {
     documents: IndexMap<DocKey, History>,
     count: u64,
     highest: Option<u64>,
+    states: bool,
 }
 
 impl Model for Index {
@@ -37,11 +40,11 @@ impl Model for Index {
 
     ghost Value = { State };
 
-    ghost view = { λ i. record { documents = i.documents.entries; count = i.count } };
+    ghost view = { λ i. record { documents = i.documents.entries; count = i.count; states = i.states } };
 
     ghost invariant = { λ i. record {
-      index : IsIndex (record { documents = i.documents.entries; count = i.count });
-      highest : IsHighest (record { documents = i.documents.entries; count = i.count }) i.highest;
+      index : IsIndex (record { documents = i.documents.entries; count = i.count; states = i.states });
+      highest : IsHighest (record { documents = i.documents.entries; count = i.count; states = i.states }) i.highest;
     } };
 }
 
@@ -72,6 +75,14 @@ fn applied_answer(kind: ActionKind, live: bool) -> (u16, DoneResult)
         (ActionKind::Delete, true) => (200, DoneResult::Deleted),
         (ActionKind::Delete, false) => (404, DoneResult::NotFound),
     }
+}
+
+// The conflict of a write with the stored version.
+fn conflict_of(stored: u64, provided: u64) -> VersionConflict
+    ensures value { result ≡ record { stored = stored; provided = provided } }
+    ensures statable { IsStatable (Some result) }
+{
+    VersionConflict { stored, provided }
 }
 
 // Copies of the keys of the map, in its order. `AllocError`: allocation failed.
@@ -106,7 +117,16 @@ impl Index {
             documents: IndexMap::new(alloc),
             count: 0,
             highest: None,
+            states: false,
         }
+    }
+
+    /// From now on each version conflict states the stored version and that of the write, in the
+    /// reason of its error.
+    pub fn state_versions(&mut self)
+        ensures { self.new ≡ record self.old { states = true } }
+    {
+        self.states = true;
     }
 
     /// The stored version of a document, even if it was deleted, or `None` if no write was applied
@@ -178,6 +198,29 @@ impl Index {
         }
     }
 
+    // The versions of a conflict.
+    fn stated(&self, write: &Write) -> Option<VersionConflict>
+        ensures value { result ≡ stated self.now write.now }
+        ensures statable { IsStatable result }
+    {
+        if !self.states {
+            return None;
+        }
+        let stored = self.version(&write.key)?;
+        Some(conflict_of(stored, write.version))
+    }
+
+    // The versions of a conflict, if the write meets one, and if they are to be stated.
+    fn conflict(&self, write: &Write, choice: Choice) -> Option<VersionConflict>
+        ensures value { result ≡ conflict_by self.now write.now choice }
+        ensures statable { IsStatable result }
+    {
+        match choice {
+            Choice::Run if !self.is_newer(write) => self.stated(write),
+            _ => None,
+        }
+    }
+
     // Applies a write whose version is new. `AllocError`: allocation failed, and the index is
     // unchanged.
     fn apply(&mut self, write: &Write) -> Result<(), AllocError>
@@ -191,11 +234,10 @@ impl Index {
         Ok(())
     }
 
-    // Runs or refuses a write, as `run` does.
-    fn carry_out(&mut self, write: &Write, choice: Choice) -> Result<ItemDone, AllocError>
-        ensures item { IfOk result (λ done. done ≡ done_of self.old write.now choice) }
-        ensures after { OnOk result (self.new ≡ after_run self.old write.now choice) }
-        ensures err { OnErr result (self.new ≡ self.old) }
+    /// What [`Index::run`] would return for a write now. `AllocError`: allocation failed.
+    pub fn preview(&self, write: &Write, choice: Choice) -> Result<ItemDone, AllocError>
+        ensures item { IfOk result (λ done. done ≡ done_of self.now write.now choice) }
+        ensures statable { IfOk result (λ done. IsStatable done.conflict) }
     {
         let (status, outcome) = self.answer(write, choice);
         let mut done = ItemDone {
@@ -205,10 +247,24 @@ impl Index {
             result: outcome,
             version: 0,
             seq: 0,
+            conflict: self.conflict(write, choice),
         };
         if choice == Choice::Run && self.is_newer(write) {
             done.version = write.version;
             done.seq = self.count;
+        }
+        Ok(done)
+    }
+
+    // Runs or refuses a write, as `run` does.
+    fn carry_out(&mut self, write: &Write, choice: Choice) -> Result<ItemDone, AllocError>
+        ensures item { IfOk result (λ done. done ≡ done_of self.old write.now choice) }
+        ensures statable { IfOk result (λ done. IsStatable done.conflict) }
+        ensures after { OnOk result (self.new ≡ after_run self.old write.now choice) }
+        ensures err { OnErr result (self.new ≡ self.old) }
+    {
+        let done = self.preview(write, choice)?;
+        if choice == Choice::Run && self.is_newer(write) {
             self.apply(write)?;
         }
         Ok(done)
@@ -231,6 +287,7 @@ impl Index {
     pub fn run(&mut self, write: &Write, choice: Choice) -> Result<ItemDone, AllocError>
         requires { MayChoose choice }
         ensures item { IfOk result (λ done. done ≡ done_of self.old write.now choice) }
+        ensures statable { IfOk result (λ done. IsStatable done.conflict) }
         ensures effect { OnOk result (Effect self.old write.now choice self.new) }
         ensures err { OnErr result (self.new ≡ self.old) }
         ensures versioned { IfOk result (λ done.

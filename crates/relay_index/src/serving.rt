@@ -1,4 +1,5 @@
 //! Serving bulk requests.
+ghost use Rattle.relay_results.specs.Done.{AreStatable};
 ghost use Rattle.std.specs.Prelude.{◌≡◌, IfOk, IfErr, string_bytes};
 ghost use Rattle.serde_json.specs.View.{view};
 ghost use Rattle.relay_index.specs.Serving.{under, answer_of, RunsAll, RunsFirst, Replies};
@@ -94,6 +95,7 @@ impl Index {
         ensures ok { IfOk result (λ items.
             RunsAll (under self.old script.old) writes.now items.items
             (under self.new script.new)) }
+        ensures statable { IfOk result (λ items. AreStatable items.items) }
         ensures err { IfErr result (λ e.
             RunsFirst e.ran (under self.old script.old) writes.now (under self.new script.new)) }
     {

@@ -23,8 +23,21 @@ fn write_of(alloc: Global, id: &str, version: u64) -> Option<Write> {
     write_once(alloc, id, version).or_else(|| write_once(alloc, id, version))
 }
 
+// Whether a write is said to be applied, by a second call if the first was refused.
+fn foretells(index: &Index, write: &Write) -> bool {
+    match index.preview(write, Choice::Run) {
+        Ok(done) => done.status < 300,
+        Err(AllocError) => index
+            .preview(write, Choice::Run)
+            .is_ok_and(|done| done.status < 300),
+    }
+}
+
 // Whether a write is applied, by a second call if the first was refused and left the index as it was.
 fn applies(index: &mut Index, write: &Write) -> bool {
+    if !foretells(index, write) {
+        return false;
+    }
     let (highest, count) = (index.highest(), index.applied(&write.key).len());
     match index.run(write, Choice::Run) {
         Ok(done) => done.status < 300,

@@ -3,7 +3,7 @@ ghost use Rattle.relay_index.specs.Choices.{MayChoose};
 
 use relay_action::{Action, ActionFault, DocKey, Write};
 use relay_index::{Choice, Index, Script, may_refuse};
-use relay_results::{DoneResult, ItemDone, Outcome, read_reply, write_reply};
+use relay_results::{DoneResult, ItemDone, Outcome, VersionConflict, read_reply, write_reply};
 use std::alloc::{AllocError, Global};
 use std::test::Fail;
 
@@ -249,12 +249,50 @@ fn are_outcomes(alloc: Global, items: &[ItemDone], read: &[Outcome]) -> Result<b
     Ok(good)
 }
 
-// What is read from the reply to items is the outcome of each.
+// Whether what is read from the reply to items is the outcome of each.
+fn reads_outcomes(alloc: Global, index: &mut Index) -> Result<bool, Fail> {
+    let items = items_of(alloc, index)?;
+    let read = read_of_reply(alloc, &items)?;
+    Ok(items.len() == 3 && are_outcomes(alloc, &items, &read)?)
+}
+
 #[test]
 fn outcomes(rt: HostRuntime) -> Result<(), Fail> {
-    let items = items_of(rt.alloc(), &mut Index::new(rt.alloc()))?;
-    let read = read_of_reply(rt.alloc(), &items)?;
-    assert!(rt; items.len() == 3 && are_outcomes(rt.alloc(), &items, &read) == Ok(true));
+    assert!(rt; reads_outcomes(rt.alloc(), &mut Index::new(rt.alloc()))?);
+    let mut stating = Index::new(rt.alloc());
+    stating.state_versions();
+    assert!(rt; reads_outcomes(rt.alloc(), &mut stating)?);
+    Ok(())
+}
+
+// The versions that the index states for a delete of the document `2` with this version, if it were
+// run, if it were refused, and then when it is run.
+fn states(
+    alloc: Global,
+    index: &mut Index,
+    version: u64,
+) -> Result<[Option<VersionConflict>; 3], Fail> {
+    let write = write_of(alloc, ("2", version, None))?;
+    let before = index.preview(&write, Choice::Run)?.conflict;
+    let refused = index.preview(&write, Choice::Refuse(429))?.conflict;
+    let after = index.run(&write, Choice::Run)?.conflict;
+    Ok([before, refused, after])
+}
+
+// An index, after a write with version 5, states the versions of a conflict if it is told to, and
+// only then.
+#[test]
+fn stated_versions(rt: HostRuntime) -> Result<(), Fail> {
+    let mut index = Index::new(rt.alloc());
+    let _ = item_of(rt.alloc(), &mut index, 5, Some("{}"))?;
+    assert!(rt; states(rt.alloc(), &mut index, 3)? == [None, None, None]);
+    index.state_versions();
+    let versions = Some(VersionConflict {
+        stored: 5,
+        provided: 3,
+    });
+    assert!(rt; states(rt.alloc(), &mut index, 3)? == [versions, None, versions]);
+    assert!(rt; states(rt.alloc(), &mut index, 6)? == [None, None, None]);
     Ok(())
 }
 

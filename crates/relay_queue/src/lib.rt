@@ -1,4 +1,4 @@
-//! The lane queue: the bounded mailbox of one lane, with one end for each of 1 to 17 senders and
+//! The lane queue: the bounded mailbox of one lane, with one end for each of 1 to 257 senders and
 //! one for the lane's thread, which takes. It depends on `relay_action` for the messages, and uses
 //! a bounded channel of `crossbeam_channel` under a rule; it takes no lock.
 //!
@@ -12,6 +12,7 @@
 //! [`LanePut`] and every [`ClosedPut`] of the queue is dropped.
 #![tactic(auto)]
 
+mod bell;
 pub mod queue;
 pub mod refusal;
 pub mod rule;
@@ -19,6 +20,6 @@ pub mod sender;
 pub mod taker;
 
 pub use queue::lane_queue;
-pub use refusal::{Gone, PutRefusal};
+pub use refusal::{Gone, OfferRefusal, PutRefusal};
 pub use sender::{ClosedPut, LanePut, PUT_LIMIT};
 pub use taker::{LaneTake, Taken};

@@ -6,6 +6,7 @@ ghost use Rattle.relay_queue.specs.declared.rule.Knowledge.TheVariants.{Taker};
 ghost use Rattle.relay_queue.specs.Ends.{queue_of, queue_with, fresh, fresh_puts};
 ghost use Rattle.relay_queue.specs.Steps.{capacity_of};
 
+use crate::bell::Bell;
 use crate::rule::{Delivery, Knowledge, MailPass, MailSender, Places, Splits};
 use crate::sender::LanePut;
 use crate::taker::LaneTake;
@@ -15,7 +16,7 @@ use std::alloc::{AllocError, Global};
 use std::marker::Brand;
 
 /// A queue with `capacity` places, from 1 to 65,536, and its ends: the taker's, and one for each of
-/// 1 to 17 senders, numbered from 0. `AllocError`: allocating the places or the ends failed. No
+/// 1 to 257 senders, numbered from 0. `AllocError`: allocating the places or the ends failed. No
 /// later call of an end allocates.
 pub fn lane_queue(
     alloc: Global,
@@ -23,7 +24,7 @@ pub fn lane_queue(
     senders: u32,
 ) -> Result<(LaneTake, Vec<LanePut>), AllocError>
     requires capacity { (0 < capacity) × (capacity ≤ 65536) }
-    requires senders { (0 < senders) × (senders ≤ 17) }
+    requires senders { (0 < senders) × (senders ≤ 257) }
     ensures capacity { IfOk result (λ r. r.0.queue.capacity ≡ capacity) }
     ensures taker { IfOk result (λ r. (r.0.senders ≡ senders) × (r.0.taken ≡ [])) }
     ensures senders { IfOk result (λ r. r.1.items ≡ fresh_puts r.0.queue senders) }
@@ -33,13 +34,15 @@ pub fn lane_queue(
         alloc,
         capacity as usize,
     )?;
+    let bell = Bell::new(alloc)?;
     let mut puts = Vec::new(alloc);
     for sender in 0..senders {
-        puts.push(add_sender::<Brand>(&sends, &mut pass, sender)?)?;
+        puts.push(add_sender::<Brand>(&sends, &bell, &mut pass, sender)?)?;
     }
     let take = LaneTake {
         channel: takes,
         pass,
+        bell,
     };
     Ok((take, puts))
 }
@@ -48,6 +51,7 @@ pub fn lane_queue(
 // of places that the passes know.
 fn add_sender<K: Places>(
     sends: &MailSender,
+    bell: &Bell,
     pass: &mut MailPass,
     sender: u32,
 ) -> Result<LanePut, AllocError>
@@ -61,11 +65,13 @@ fn add_sender<K: Places>(
         × (queue_of pass.new ≡ queue_with pass.old K.places)) }
 {
     let channel = sends.try_clone()?;
+    let bell = bell.another()?;
     let pass = channel.another::<Splits<K>>(pass);
     Ok(LanePut {
         channel,
         pass,
         sender,
         count: 0,
+        bell,
     })
 }

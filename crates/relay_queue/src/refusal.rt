@@ -17,11 +17,17 @@ pub enum PutRefusal {
     Spent,
 }
 
-/// Why a put that does not wait moved no message.
-#[derive(Clone, Copy, Drop)]
-pub(crate) enum Missed {
-    /// There was no room: a later one may move it.
+/// Why an offer sent nothing.
+#[derive(Clone, Copy, Debug, PartialEq, Eq, Error)]
+pub enum OfferRefusal {
+    /// The queue is full, or it is a tick and an earlier one has not been taken: a later offer may
+    /// be sent. No contract says when this is returned.
+    #[error("NotYet")]
     NotYet,
-    /// The other end is dropped.
+    /// The taker is dropped. No contract says when this is returned.
+    #[error("Gone")]
     Gone,
+    /// This sender has put 2^40 messages, the maximum.
+    #[error("Spent")]
+    Spent,
 }

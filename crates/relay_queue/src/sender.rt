@@ -1,9 +1,10 @@
 //! The senders' ends.
 ghost use Rattle.std.specs.Prelude.{◌≡◌, ◌≢◌, ◌+◌, ◌<◌, ◌≤◌, ◌^◌, ◌↔◌, [], ◌∷◌, ◌++◌};
-ghost use Rattle.std.specs.Prelude.{length, IfOk, IfErr, OnOk, IsErrAnd};
+ghost use Rattle.std.specs.Prelude.{length, IfOk, IfErr, OnOk, IsErrAnd, IsTrue};
 ghost use Rattle.relay_queue.specs.Messages.{message, IsWellSent, HasDone};
 
-use crate::refusal::{Gone, Missed, PutRefusal};
+use crate::bell::Bell;
+use crate::refusal::{Gone, OfferRefusal, PutRefusal};
 use crate::rule::{Closes, MailPass, MailSender, Puts};
 use crossbeam_channel::{SendError, TrySendError};
 use relay_action::{Body, Mail};
@@ -41,6 +42,7 @@ pub struct LanePut {
     pub(crate) pass: MailPass,
     pub(crate) sender: u32,
     pub(crate) count: u64,
+    pub(crate) bell: Bell,
 }
 
 impl Model for LanePut {
@@ -93,16 +95,56 @@ impl LanePut {
         for turn in 0..TRIES {
             match self.try_put(rt, body) {
                 Ok(number) => return Ok(number),
-                Err((Missed::NotYet, back)) => body = back,
-                Err((Missed::Gone, back)) => return Err((PutRefusal::Gone, back)),
+                Err((OfferRefusal::Gone, back)) => return Err((PutRefusal::Gone, back)),
+                Err((_, back)) => body = back,
             }
             pause(turn);
         }
         self.put_waiting(rt, body)
     }
 
+    /// Sends a message other than Done if there is room right now, and returns its number. It does
+    /// not wait for the taker and does not allocate. A tick is not sent while an earlier one has not
+    /// been taken, so at most one is on its way to a lane.
+    ///
+    /// A refusal sends nothing and returns the body. `Spent` is returned exactly if this sender has
+    /// put 2^40 messages.
+    pub fn offer<R: Wait>(&mut self, rt: &R, body: Body) -> Result<u64, (OfferRefusal, Body)>
+        requires { body ≢ Body.Done }
+        ensures same { (self.new.queue ≡ self.old.queue) × (self.new.sender ≡ self.old.sender) }
+        ensures number { IfOk result (λ n. n ≡ length self.old.sent + 1) }
+        ensures sent { IfOk result
+            (λ n. self.new.sent ≡ self.old.sent ++ message self.old.sender n body ∷ []) }
+        ensures in_order { OnOk result (IsWellSent self.new.sent) }
+        ensures no_done { OnOk result (¬ HasDone self.new.sent) }
+        ensures limit { OnOk result (length self.new.sent ≤ 2 ^ 40) }
+        ensures refused { IfErr result (λ e. (e.1 ≡ body) × (self.new ≡ self.old)) }
+        ensures spent { IsErrAnd result (λ e. e.0 ≡ OfferRefusal.Spent)
+            ↔ (length self.old.sent ≡ 2 ^ 40) }
+    {
+        if self.spent() {
+            return Err((OfferRefusal::Spent, body));
+        }
+        let is_tick = matches!(body, Body::Tick);
+        if is_tick && !self.bell.ring() {
+            return Err((OfferRefusal::NotYet, body));
+        }
+        let sent = self.try_put(rt, body);
+        if is_tick && sent.is_err() {
+            self.bell.rest();
+        }
+        sent
+    }
+
+    // Whether this sender has put the maximum number of messages.
+    fn spent(&self) -> bool
+        ensures { IsTrue result ↔ (length self.now.sent ≡ 2 ^ 40) }
+    {
+        self.count == PUT_LIMIT
+    }
+
     // Sends a message if there is room right now. An error returns the body.
-    fn try_put<R: Wait>(&mut self, rt: &R, body: Body) -> Result<u64, (Missed, Body)>
+    fn try_put<R: Wait>(&mut self, rt: &R, body: Body) -> Result<u64, (OfferRefusal, Body)>
         requires body { body ≢ Body.Done }
         requires limit { length self.old.sent < 2 ^ 40 }
         ensures same { (self.new.queue ≡ self.old.queue) × (self.new.sender ≡ self.old.sender) }
@@ -112,7 +154,8 @@ impl LanePut {
         ensures in_order { OnOk result (IsWellSent self.new.sent) }
         ensures no_done { OnOk result (¬ HasDone self.new.sent) }
         ensures limit { OnOk result (length self.new.sent ≤ 2 ^ 40) }
-        ensures refused { IfErr result (λ e. (e.1 ≡ body) × (self.new ≡ self.old)) }
+        ensures refused { IfErr result
+            (λ e. (e.1 ≡ body) × (e.0 ≢ OfferRefusal.Spent) × (self.new ≡ self.old)) }
     {
         let number = self.count + 1;
         let mail = Mail {
@@ -128,8 +171,8 @@ impl LanePut {
                 self.count = number;
                 Ok(number)
             }
-            Err(TrySendError::Full(mail)) => Err((Missed::NotYet, mail.body)),
-            Err(TrySendError::Disconnected(mail)) => Err((Missed::Gone, mail.body)),
+            Err(TrySendError::Full(mail)) => Err((OfferRefusal::NotYet, mail.body)),
+            Err(TrySendError::Disconnected(mail)) => Err((OfferRefusal::Gone, mail.body)),
             Err(TrySendError::OutOfMemory(_)) => unreachable!(),
         }
     }
@@ -186,6 +229,7 @@ impl LanePut {
                     pass,
                     sender: _,
                     count: _,
+                    bell: _,
                 } = self;
                 Ok(ClosedPut { channel, pass })
             }

@@ -4,6 +4,7 @@ ghost use Rattle.std.specs.Prelude.{List, length, IfOk, IfErr, IfSome, IfNone};
 ghost use Rattle.relay_action.specs.declared.mail.Mail.{Mail};
 ghost use Rattle.relay_queue.specs.Messages.{mail_of, HasDone, IsWellSent, IsWellTaken};
 
+use crate::bell::Bell;
 use crate::refusal::Gone;
 use crate::rule::{MailPass, MailReceiver, Meets, Reads, Takes};
 use crate::sender::{ClosedPut, TRIES, pause};
@@ -18,6 +19,7 @@ use std::sync::Wait;
 pub struct LaneTake {
     pub(crate) channel: MailReceiver,
     pub(crate) pass: MailPass,
+    pub(crate) bell: Bell,
 }
 
 impl Model for LaneTake {
@@ -76,7 +78,10 @@ impl LaneTake {
         ensures gone { IfErr result (λ _. self.new ≡ self.old) }
     {
         match self.channel.try_recv_as::<Takes, R>(rt, &mut self.pass) {
-            Ok(mail) => Ok(Some(mail)),
+            Ok(mail) => {
+                self.bell.note_taken(&mail);
+                Ok(Some(mail))
+            }
             Err(TryRecvError::Empty) => Ok(None),
             Err(TryRecvError::Disconnected) => Err(Gone),
         }
@@ -90,9 +95,13 @@ impl LaneTake {
         ensures well_taken { IsWellTaken self.new.senders self.new.taken }
         ensures gone { IfErr result (λ _. self.new ≡ self.old) }
     {
-        self.channel
-            .recv_as::<Takes, R>(rt, &mut self.pass)
-            .map_err(|_| Gone)
+        match self.channel.recv_as::<Takes, R>(rt, &mut self.pass) {
+            Ok(mail) => {
+                self.bell.note_taken(&mail);
+                Ok(mail)
+            }
+            Err(_) => Err(Gone),
+        }
     }
 
     /// Takes no more. What is queued is dropped with the last end of the queue. What was taken from
@@ -101,7 +110,11 @@ impl LaneTake {
         ensures same { result ≡ self }
         ensures well_taken { IsWellTaken result.senders result.taken }
     {
-        let LaneTake { channel, pass } = self;
+        let LaneTake {
+            channel,
+            pass,
+            bell: _,
+        } = self;
         drop(channel);
         Taken { pass }
     }

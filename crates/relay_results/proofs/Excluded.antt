@@ -3,8 +3,9 @@ use Rattle.std.proofs.Common.{◌≡◌, ◌∙◌, ℕ, arith, inl, inr, [], Op
 use Rattle.std.specs.Prelude.{is_some, not, ◌&&◌, nat_le, nat_lt, if◌then◌else◌}
 use Rattle.relay_action.specs.declared.write.Write.{Write}
 use Rattle.relay_results.specs.Documents.{document_of}
-use Rattle.relay_results.specs.Outside.{RunOutcome, IsRefusal, IsOutcomeOf, is_above, is_applied}
-use Rattle.relay_results.specs.Laws.{RefusedWhateverSent, MayAlwaysRun, NotAppliedAgain}
+use Rattle.relay_results.specs.Outside.{RunOutcome, IsRefusal, IsOutcomeOf, is_above, is_applied, stored_in}
+use Rattle.relay_results.specs.Laws.{RefusedWhateverSent, MayAlwaysRun, NotAppliedAgain, StatesWhatIsStored}
+use Rattle.relay_results.specs.declared.outcome.ErrorDetail.{ErrorDetail}
 use Rattle.relay_results.specs.declared.decide.ItemVerdict.{ItemVerdict}
 use Rattle.relay_results.specs.declared.decide.ItemVerdict.TheVariants as verdict
 use Rattle.relay_results.specs.Verdicts.{is_2xx, is_absent, is_conflict, is_retried_item}
@@ -27,9 +28,9 @@ by_tests false false false true r false s t e = cc
 by_tests false false false false r l s t e = refl
 
 pub refused_whatever : RefusedWhateverSent
-refused_whatever kind status has_error sends attempts max e s a m =
+refused_whatever kind status has_error own sends attempts max e o s a m =
     by_tests (not has_error && is_2xx status) (not has_error && is_absent kind status) (is_conflict status) (is_retried_item status)
-    (nat_le 2 sends) (nat_lt attempts max) (nat_le 2 s) (nat_lt a m) e
+    (nat_le 2 sends && own) (nat_lt attempts max) (nat_le 2 s && o) (nat_lt a m) e
 
 -- ---- runs
 
@@ -42,9 +43,26 @@ refusals_differ o e r = apart_tests (sym (ap is_some e) ∙ r.has_error)
 succeeds : (w : Write) → is_applied w (record { status = 200; error = None }) ≡ true
 succeeds w = refl
 
+stated_error : (error : Option ErrorDetail) (version : ℕ) → stored_in error ≡ Some version → is_some error ≡ true
+stated_error None version e = absurd (cc)
+stated_error (Some d) version e = refl
+
+pub states_stored : StatesWhatIsStored
+states_stored stored w o (inl refused) conflict version e = absurd (refused.no_conflict conflict)
+states_stored stored w o (inr (inl applied)) conflict version e = absurd (apart_tests (sym (with_error w o (stated_error o.error version e)) ∙ applied.1))
+states_stored stored w o (inr (inr met)) conflict version e = met.1.stated version e
+
+-- an error of which nothing is said
+abbrev nothing_said : ErrorDetail
+nothing_said = record { kind = []; reason = None; stored = None }
+
 open_run : (stored : Option ℕ) (w : Write) (above : Bool) → is_above stored w.version ≡ above → (o : RunOutcome) × IsOutcomeOf stored w o × (IsRefusal o → ⊥)
 open_run stored w true e = (record { status = 200; error = None }, inr (inl (e, succeeds w)), λ r. apart_tests r.has_error)
-open_run stored w false e = (record { status = 409; error = Some [] }, inr (inr (e, record { status = refl; has_error = refl })), λ r. r.no_conflict refl)
+open_run stored w false e = (
+  record { status = 409; error = Some nothing_said },
+  inr (inr (e, record { status = refl; has_error = refl; stated = λ version is. absurd (cc) })),
+  λ r. r.no_conflict refl,
+)
 
 pub may_always_run : MayAlwaysRun
 may_always_run s number place w h =

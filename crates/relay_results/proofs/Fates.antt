@@ -1,5 +1,5 @@
 -- What a fate says of the answer that it comes from.
-use Rattle.std.proofs.Common.{◌≡◌, ℕ, zero, suc, ◌+◌, ◌<◌, ◌≤◌, List, [], ◌∷◌, Option, Some, None, Bool, true, false, refl, sym, ap, ◌∙◌, subst, ⊎_elim, arith}
+use Rattle.std.proofs.Common.{◌≡◌, ◌⊎◌, inl, inr, ℕ, zero, suc, ◌+◌, ◌<◌, ◌≤◌, List, [], ◌∷◌, Option, Some, None, Bool, true, false, refl, sym, ap, ◌∙◌, subst, ⊎_elim, arith}
 use Rattle.std.specs.Prelude.{nat_lt, nat_le, if◌then◌else◌, ◌&&◌, ◌||◌, ◌/◌, is_some, slice_get, length, not}
 use borrow.Author.Tests.{ltb-true, ltb-false, leb-true, leb-false}
 use Rattle.std.proofs.lemmas.Bool.{le-leb}
@@ -9,11 +9,11 @@ use Rattle.relay_results.specs.declared.cause.Cause.TheVariants as cause
 use Rattle.relay_results.specs.declared.outcome.Outcome.{Outcome}
 use Rattle.relay_results.specs.declared.decide.ItemVerdict.{ItemVerdict}
 use Rattle.relay_results.specs.declared.decide.ItemVerdict.TheVariants as verdict
-use Rattle.relay_results.specs.Verdicts.{is_2xx, is_absent, is_success, is_conflict, is_retried_item, is_retried_whole, is_too_large, is_halved}
+use Rattle.relay_results.specs.Verdicts.{may_be_own, is_2xx, is_absent, is_success, is_conflict, is_retried_item, is_retried_whole, is_too_large, is_halved}
 use Rattle.relay_results.specs.Matching.{matches}
-use Rattle.relay_results.specs.Outside.{Answer, Unanswered, Items, Whole, Lost, Ran, WasRun, EachWasRun, IsHonest}
+use Rattle.relay_results.specs.Outside.{Answer, Unanswered, Items, Whole, Lost, Ran, stored_in, WasRun, EachWasRun, IsHonest}
 use Rattle.relay_results.specs.Fates.{Fate, Flies, Retried, Halved, Reported, Tries, tried_again, fate, fate_of_entry, fate_of_verdict, HasEntry, IsRetried, is_retried_entry}
-use Rattle.relay_results.specs.Laws.{Says, FateSays, AnswersEndFlight, RetriedHasTries, HonestEntryWasRun}
+use Rattle.relay_results.specs.Laws.{IsWithOther, Says, FateSays, AnswersEndFlight, RetriedHasTries, HonestEntryWasRun}
 use Rattle.relay_results.proofs.Lists.{some_same, equal, true_or_false, and_left, and_right}
 use Rattle.relay_results.proofs.Excluded.{by_lines, refused_whatever}
 
@@ -54,19 +54,31 @@ success_absent kind status true b eb h = absurd (cc)
 success_absent kind status false true eb h = rw (sym eb) refl
 success_absent kind status false false eb h = rw (sym eb) h
 
+either_false : (a b : Bool) → (a && b) ≡ false → (a ≡ false) ⊎ (b ≡ false)
+either_false true b h = inr h
+either_false false b h = inl refl
+
+with_other : (t : Tries) (o : Outcome) → (nat_le 2 t.sends && may_be_own (stored_in o.error) t.version) ≡ false → IsWithOther t o
+with_other t o h =
+    elim (either_false (nat_le 2 t.sends) (may_be_own (stored_in o.error) t.version) h) [
+      | inl few ↦ inl (leb-false _ _ few)
+      | inr other ↦ inr other
+    ]
+
 entry_says : (t : Tries) (ws : List Write) (place : ℕ) (kind : ActionKind) (os : List Outcome) (found : Option Outcome) → slice_get os place ≡ found → matches os ws ≡ true → Says t ws place kind (Items os) (fate_of_entry t kind found)
 entry_says t ws place kind os None e m = by_tried (Says t ws place kind (Items os)) t (λ lt. (lt, (λ _. ap is_retried_entry e), refl)) (λ le. (refl, le, (λ _. ap is_retried_entry e), refl))
 entry_says t ws place kind os (Some o) e m =
     let entry : HasEntry ws place (Items os) o = record { entries = os; answer = refl; matching = m; entry = e } in
+    let own : Bool = may_be_own (stored_in o.error) t.version in
     by_verdict (λ v. Says t ws place kind (Items os) (fate_of_verdict t o v))
-    (not (is_some o.error) && is_2xx o.status) (not (is_some o.error) && is_absent kind o.status) (is_conflict o.status) (is_retried_item o.status) (nat_le 2 t.sends) (nat_lt t.attempts t.max)
+    (not (is_some o.error) && is_2xx o.status) (not (is_some o.error) && is_absent kind o.status) (is_conflict o.status) (is_retried_item o.status) (nat_le 2 t.sends && own) (nat_lt t.attempts t.max)
     (λ s. (o, entry, success_2xx kind o.status (is_some o.error) s))
     (λ s. (o, entry, success_absent kind o.status (is_some o.error) (is_2xx o.status) refl s))
-    (λ s twice. (leb-true _ _ twice, (o, entry, s)))
-    (λ s few. (leb-false _ _ few, (o, entry, s)))
+    (λ s again. (leb-true _ _ (and_left (nat_le 2 t.sends) own again), (o, entry, s, and_right (nat_le 2 t.sends) own again)))
+    (λ s other. (o, entry, s, with_other t o other, refl, refl))
     (λ s some. (ltb-true _ _ some, (λ _. ap is_retried_entry e ∙ s), refl))
     (λ s none. (refl, ltb-false _ _ none, (λ _. ap is_retried_entry e ∙ s), refl))
-    (λ s. (o, entry, refused_whatever kind o.status (is_some o.error) t.sends t.attempts t.max s, refl, refl))
+    (λ s. (o, entry, refused_whatever kind o.status (is_some o.error) own t.sends t.attempts t.max s, refl, refl, refl))
 
 items_say : (t : Tries) (ws : List Write) (place : ℕ) (kind : ActionKind) (os : List Outcome) (b : Bool) → matches os ws ≡ b → Says t ws place kind (Items os) (if b then fate_of_entry t kind (slice_get os place) else tried_again t)
 items_say t ws place kind os true m = entry_says t ws place kind os (slice_get os place) refl m

@@ -6,5 +6,7 @@ pub mod Excluded
 pub mod Fates
 pub mod ReadsBack
 pub mod UsualReplies
+pub mod Stated
 pub mod OneReading
+pub mod Reasons
 pub mod Steps

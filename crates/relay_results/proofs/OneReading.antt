@@ -5,9 +5,12 @@ use Rattle.serde_json.specs.Data.{Data, string, number, array, object, unsigned,
 use Rattle.serde_json.specs.Find.{get}
 use Rattle.relay_action.specs.Actions.{kind_name}
 use Rattle.relay_action.proofs.Actions.{one_kind}
+use Rattle.relay_results.specs.declared.outcome.ErrorDetail.{ErrorDetail}
 use Rattle.relay_results.specs.declared.outcome.Outcome.{Outcome}
 use Rattle.relay_results.specs.declared.reading.ReplyFault.TheVariants as fault
-use Rattle.relay_results.specs.Replies.{ReadsAs, IsTruncated, error_limit, error_member, SaysError, IsEntry, AreEntries, HasItems, IsBadAt}
+use Rattle.relay_results.specs.Stored.{SaysStored}
+use Rattle.relay_results.specs.Replies.{ReadsAs, IsTruncated, error_limit, reason_limit, error_member, ErrorTexts, error_texts, KeepsReason, IsDetail, SaysError, IsEntry, AreEntries, HasItems, IsBadAt}
+use Rattle.relay_results.proofs.Stated.{one_version}
 use Rattle.relay_results.specs.Laws.{OneReply, NoFaultOfReply, OneFault}
 
 -- ---- an entry says one outcome
@@ -22,12 +25,30 @@ one_count limit text a b p q =
       | inr rest ↦ elim rest [ inl same ↦ same | inr more ↦ absurd (q.longest p.count more p.within p.ends) ]
     ]
 
-one_cut : (limit : ℕ) (text a b : List ℕ) → IsTruncated limit text a → IsTruncated limit text b → a ≡ b
+pub one_cut : (limit : ℕ) (text a b : List ℕ) → IsTruncated limit text a → IsTruncated limit text b → a ≡ b
 one_cut limit text a b p q = p.front_is ∙ ap (λ n. take n text) (one_count limit text a b p q) ∙ sym q.front_is
 
-one_error : (m : Option Data) (a b : Option (List ℕ)) → SaysError m a → SaysError m b → a ≡ b
+one_reason : (t : Option (List ℕ)) (a b : Option (List ℕ)) → KeepsReason t a → KeepsReason t b → a ≡ b
+one_reason None a b p q = p ∙ sym q
+one_reason (Some text) a b p q = p.2 ∙ ap Some (one_cut reason_limit text p.0 q.0 p.1 q.1) ∙ sym q.2
+
+one_stored : (t : Option (List ℕ)) (a b : Option ℕ) → SaysStored t a → SaysStored t b → a ≡ b
+one_stored None a b p q = p ∙ sym q
+one_stored (Some text) None None p q = refl
+one_stored (Some text) None (Some v) p q = absurd (p v q)
+one_stored (Some text) (Some v) None p q = absurd (q v p)
+one_stored (Some text) (Some v) (Some w) p q = ap Some (one_version text v w p q)
+
+one_detail : (t : ErrorTexts) (a b : ErrorDetail) → IsDetail t a → IsDetail t b → a ≡ b
+one_detail t a b p q =
+    let kinds : a.kind ≡ b.kind = one_cut error_limit _ a.kind b.kind p.kind q.kind in
+    let reasons : a.reason ≡ b.reason = one_reason t.reason a.reason b.reason p.reason q.reason in
+    let versions : a.stored ≡ b.stored = one_stored t.reason a.stored b.stored p.stored q.stored in
+    λ i. record { kind = kinds i; reason = reasons i; stored = versions i }
+
+one_error : (m : Option Data) (a b : Option ErrorDetail) → SaysError m a → SaysError m b → a ≡ b
 one_error None a b p q = p ∙ sym q
-one_error (Some d) a b p q = p.2 ∙ ap Some (one_cut error_limit _ p.0 q.0 p.1 q.1) ∙ sym q.2
+one_error (Some d) a b p q = p.2 ∙ ap Some (one_detail (error_texts d) p.0 q.0 p.1 q.1) ∙ sym q.2
 
 same_string : (a b : List ℕ) → Some (string a) ≡ Some (string b) → a ≡ b
 same_string a b e = cc

@@ -1,13 +1,17 @@
 -- The result of an item, and the text of a reply.
-use Rattle.std.specs.Prelude.{ℕ, ◌≤◌, List, [], ◌∷◌, codes, Option, None, Some, is_some, Bool}
+use Rattle.std.specs.Prelude.{ℕ, ◌≤◌, ◌<◌, ◌^◌, List, [], ◌∷◌, codes, Option, None, Some, is_some, option_map, Bool}
 use Rattle.std.specs.List.{list_any}
 use Rattle.serde_json.specs.Data.{Data, boolean, number, string, array, object, unsigned, Items, no_items, item, Members, member, no_members}
 use Rattle.serde_json.specs.Written.{compact_text}
 use Rattle.relay_action.specs.Actions.{kind_name}
+use Rattle.relay_results.specs.declared.outcome.ErrorDetail.{ErrorDetail}
 use Rattle.relay_results.specs.declared.outcome.Outcome.{Outcome}
 use Rattle.relay_results.specs.declared.done.DoneResult.{DoneResult}
 use Rattle.relay_results.specs.declared.done.DoneResult.TheVariants as done
 use Rattle.relay_results.specs.declared.done.ItemDone.{ItemDone}
+use Rattle.relay_results.specs.declared.done.VersionConflict.{VersionConflict}
+use Rattle.relay_results.specs.Replies.{reason_limit}
+use Rattle.relay_results.specs.Conflicts.{conflict_reason, front}
 
 -- the type of the error of a result, if nothing was done
 abbrev pub failure : DoneResult → Option (List ℕ)
@@ -27,9 +31,18 @@ result_name done.NotFound = codes "not_found"
 result_name done.Conflict = []
 result_name done.Refused = []
 
+-- an error that has a type and nothing else
+abbrev pub bare_error : List ℕ → ErrorDetail
+bare_error kind = record { kind = kind; reason = None; stored = None }
+
+-- the error of an item of this type; the reason of a conflict is given if the index states its versions
+abbrev pub error_by : List ℕ → Option VersionConflict → List ℕ → ErrorDetail
+error_by id None kind = bare_error kind
+error_by id (Some c) kind = record { kind = kind; reason = Some (front reason_limit (conflict_reason id c)); stored = Some c.stored }
+
 -- what a reply says of an item
 abbrev pub outcome_of : ItemDone → Outcome
-outcome_of d = record { kind = d.kind; id = d.key.id; status = d.status; error = failure d.result }
+outcome_of d = record { kind = d.kind; id = d.key.id; status = d.status; error = option_map (error_by d.key.id d.conflict) (failure d.result) }
 
 abbrev pub outcomes_of : List ItemDone → List Outcome
 outcomes_of [] = []
@@ -47,11 +60,16 @@ applied_fields d =
     (member (codes "result") (string (result_name d.result))
     (member (codes "status") (number (unsigned d.status)) no_members)))))
 
+abbrev pub error_fields : List ℕ → Option VersionConflict → List ℕ → Members
+error_fields id None kind = member (codes "type") (string kind) no_members
+error_fields id (Some c) kind =
+    member (codes "reason") (string (conflict_reason id c)) (member (codes "type") (string kind) no_members)
+
 abbrev pub failed_fields : ItemDone → List ℕ → Members
 failed_fields d error =
     member (codes "_id") (string d.key.id)
     (member (codes "_index") (string d.key.index)
-    (member (codes "error") (object (member (codes "type") (string error) no_members))
+    (member (codes "error") (object (error_fields d.key.id d.conflict error))
     (member (codes "status") (number (unsigned d.status)) no_members)))
 
 abbrev pub fields_by : ItemDone → Option (List ℕ) → Members
@@ -78,6 +96,15 @@ reply_data took ds =
 
 unfoldable pub reply_text : ℕ → List ItemDone → List ℕ
 reply_text took ds = compact_text (reply_data took ds)
+
+-- each version that is stated has 64 bits
+abbrev pub IsStatable : Option VersionConflict → Type 0
+IsStatable None = Unit {0}
+IsStatable (Some c) = (c.stored < 2 ^ 64) × (c.provided < 2 ^ 64)
+
+abbrev pub AreStatable : List ItemDone → Type 0
+AreStatable [] = Unit {0}
+AreStatable (d ∷ ds) = IsStatable d.conflict × AreStatable ds
 
 -- each status is one that a reply may have
 abbrev pub HaveStatuses : List ItemDone → Type 0

@@ -1,15 +1,16 @@
 -- What the answer to a request means for the operations that it carried.
-use Rattle.std.specs.Prelude.{◌≡◌, ℕ, List, [], Option, Some, None, is_some, unwrap_or, slice_get, length, ◌/◌, Bool, true, false, if◌then◌else◌, nat_lt}
+use Rattle.std.specs.Prelude.{◌≡◌, ℕ, List, [], Option, Some, None, is_some, option_map, option_and_then, unwrap_or, slice_get, length, ◌/◌, Bool, true, false, if◌then◌else◌, nat_lt}
 use Rattle.relay_action.specs.declared.action.ActionKind.{ActionKind}
 use Rattle.relay_action.specs.declared.write.Write.{Write}
 use Rattle.relay_results.specs.declared.cause.Cause.{Cause}
 use Rattle.relay_results.specs.declared.cause.Cause.TheVariants as cause
+use Rattle.relay_results.specs.declared.outcome.ErrorDetail.{ErrorDetail}
 use Rattle.relay_results.specs.declared.outcome.Outcome.{Outcome}
 use Rattle.relay_results.specs.declared.decide.ItemVerdict.{ItemVerdict}
 use Rattle.relay_results.specs.declared.decide.ItemVerdict.TheVariants as verdict
-use Rattle.relay_results.specs.Verdicts.{verdict_of, is_retried_item, is_retried_whole, is_too_large, is_halved, is_sent_again}
+use Rattle.relay_results.specs.Verdicts.{verdict_of, may_be_own, is_retried_item, is_retried_whole, is_too_large, is_halved, is_sent_again}
 use Rattle.relay_results.specs.Matching.{matches}
-use Rattle.relay_results.specs.Outside.{Answer, Unanswered, Items, Whole, Lost}
+use Rattle.relay_results.specs.Outside.{Answer, Unanswered, Items, Whole, Lost, stored_in}
 
 -- The fate of an operation: it is still in flight; it ends as applied, by this request or an earlier one; it waits to
 -- be sent again; it waits to be sent in requests of at most this many items, and this request does not count as a
@@ -22,9 +23,10 @@ pub data Fate : Type 0 where
   Halved : ℕ → Fate
   Reported : Cause → Fate
 
--- an operation when its answer arrives: how many requests carried it, how many of them count as tries, and how many
--- tries it may have
+-- an operation when its answer arrives: its version, how many requests carried it, how many of them count as tries, and
+-- how many tries it may have
 pub record Tries : Type 0 where
+  pub version : ℕ
   pub sends : ℕ
   pub attempts : ℕ
   pub max : ℕ
@@ -33,17 +35,26 @@ pub record Tries : Type 0 where
 abbrev pub tried_again : Tries → Fate
 tried_again t = if nat_lt t.attempts t.max then Retried else Reported (cause.GaveUp t.sends)
 
--- the fate by the verdict on the operation's item; a refusal is reported with its status and the type of its error
+-- the type of an error, empty if there is none, and its reason
+abbrev pub kind_in : Option ErrorDetail → List ℕ
+kind_in error = unwrap_or (option_map (λ (e : ErrorDetail). e.kind) error) []
+
+abbrev pub reason_in : Option ErrorDetail → Option (List ℕ)
+reason_in error = option_and_then (λ (e : ErrorDetail). e.reason) error
+
+-- the fate by the verdict on the operation's item; a refusal is reported with its status and its error, and a conflict
+-- with what its error states
 abbrev pub fate_of_verdict : Tries → Outcome → ItemVerdict → Fate
 fate_of_verdict t o verdict.Applied = Applied
 fate_of_verdict t o verdict.Already = Already
-fate_of_verdict t o verdict.Conflict = Reported cause.Conflict
+fate_of_verdict t o verdict.Conflict = Reported (cause.Conflict (stored_in o.error) (reason_in o.error))
 fate_of_verdict t o verdict.Retry = Retried
 fate_of_verdict t o verdict.GaveUp = Reported (cause.GaveUp t.sends)
-fate_of_verdict t o verdict.Refused = Reported (cause.Refused o.status (unwrap_or o.error []))
+fate_of_verdict t o verdict.Refused = Reported (cause.Refused o.status (kind_in o.error) (reason_in o.error))
 
 abbrev pub fate_of_item : Tries → ActionKind → Outcome → Fate
-fate_of_item t kind o = fate_of_verdict t o (verdict_of kind o.status (is_some o.error) t.sends t.attempts t.max)
+fate_of_item t kind o =
+    fate_of_verdict t o (verdict_of kind o.status (is_some o.error) (may_be_own (stored_in o.error) t.version) t.sends t.attempts t.max)
 
 -- the entry of an item is the one at its place
 abbrev pub fate_of_entry : Tries → ActionKind → Option Outcome → Fate

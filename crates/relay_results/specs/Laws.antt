@@ -1,5 +1,5 @@
 -- What the definitions rule out, and what follows from them.
-use Rattle.std.specs.Prelude.{◌⊎◌, ◌++◌, ◌≡◌, ◌≢◌, ℕ, ◌<◌, ◌≤◌, ◌/◌, List, [], ◌∷◌, length, Some, Bool, true, false, is_some, unwrap_or}
+use Rattle.std.specs.Prelude.{◌⊎◌, ◌++◌, ◌≡◌, ◌≢◌, ℕ, ◌<◌, ◌≤◌, ◌/◌, List, [], ◌∷◌, length, Option, Some, Bool, true, false, is_some}
 use Rattle.relay_action.specs.Lanes.{lane_of_document}
 use Rattle.relay_action.specs.declared.action.ActionKind.{ActionKind}
 use Rattle.relay_action.specs.declared.key.DocKey.{DocKey}
@@ -10,14 +10,14 @@ use Rattle.relay_results.specs.declared.outcome.Outcome.{Outcome}
 use Rattle.relay_results.specs.declared.reading.ReplyFault.{ReplyFault}
 use Rattle.relay_results.specs.declared.reading.ReplyFault.TheVariants as fault
 use Rattle.relay_results.specs.declared.decide.ItemVerdict.TheVariants as verdict
-use Rattle.relay_results.specs.Verdicts.{verdict_of, IsRefused, is_conflict, is_sent_again, is_success}
+use Rattle.relay_results.specs.Verdicts.{verdict_of, may_be_own, IsRefused, is_conflict, is_sent_again, is_success}
 use Rattle.relay_results.specs.Replies.{IsBulkReply, IsFaultOf}
 use Rattle.relay_results.specs.Words.{Mem}
 use Rattle.relay_results.specs.Documents.{Document, document_of, lane_of, same_name}
 use Rattle.relay_results.specs.Matching.{matches}
 use Rattle.relay_results.specs.Numbers.{from_one, from_zero}
-use Rattle.relay_results.specs.Outside.{Answer, Unanswered, Items, Whole, Ran, RunOutcome, Outside, WasRun, IsHonest, write_at, MayRun, IsRefusal, IsOutcomeOf, is_applied, is_above, Event, MayHappen, after, IsStep, Continues}
-use Rattle.relay_results.specs.Fates.{Fate, Flies, Applied, Already, Retried, Halved, Reported, Tries, fate, HasEntry, IsRetried, says_too_large}
+use Rattle.relay_results.specs.Outside.{Answer, Unanswered, Items, Whole, Ran, RunOutcome, stored_in, Outside, WasRun, IsHonest, write_at, MayRun, IsRefusal, IsOutcomeOf, is_applied, is_above, Event, MayHappen, after, IsStep, Continues}
+use Rattle.relay_results.specs.Fates.{Fate, Flies, Applied, Already, Retried, Halved, Reported, Tries, fate, kind_in, reason_in, HasEntry, IsRetried, says_too_large}
 
 -- ---- answers
 
@@ -33,22 +33,39 @@ HonestEntryWasRun =
     (runs : List Ran) (request place : ℕ) (ws : List Write) (a : Answer) (o : Outcome) →
     IsHonest runs request ws a → HasEntry ws place a o → WasRun runs request place o
 
+-- a conflict that states a stored version states the one that is stored
+abbrev pub StatesWhatIsStored : Type 0
+StatesWhatIsStored =
+    (stored : Option ℕ) (w : Write) (o : RunOutcome) → IsOutcomeOf stored w o → o.status ≡ 409 →
+    (version : ℕ) → stored_in o.error ≡ Some version → stored ≡ Some version
+
 -- ---- fates
+
+-- a stated version that may be the operation's own is its own
+abbrev pub OwnIsSame : Type 0
+OwnIsSame = (stored own : ℕ) → may_be_own (Some stored) own ≡ true → stored ≡ own
+
+-- the conflict is with a version that is not the operation's own: no earlier request can have stored it, or it is stated
+abbrev pub IsWithOther : Tries → Outcome → Type 0
+IsWithOther t o = (t.sends < 2) ⊎ (may_be_own (stored_in o.error) t.version ≡ false)
 
 -- what each fate says of the answer that it comes from
 abbrev pub Says : Tries → List Write → ℕ → ActionKind → Answer → Fate → Type 0
 Says t ws place kind a Flies = a ≡ Unanswered
 Says t ws place kind a Applied =
     (o : Outcome) × HasEntry ws place a o × (is_success kind o.status (is_some o.error) ≡ true)
-Says t ws place kind a Already = (2 ≤ t.sends) × ((o : Outcome) × HasEntry ws place a o × (is_conflict o.status ≡ true))
+Says t ws place kind a Already =
+    (2 ≤ t.sends)
+    × ((o : Outcome) × HasEntry ws place a o × (is_conflict o.status ≡ true) × (may_be_own (stored_in o.error) t.version ≡ true))
 Says t ws place kind a Retried = (t.attempts < t.max) × IsRetried ws place a × (says_too_large a ≡ false)
 Says t ws place kind a (Halved cap) = (a ≡ Whole 413) × (2 ≤ length ws) × (cap ≡ length ws / 2)
-Says t ws place kind a (Reported (cause.Refused status error)) =
+Says t ws place kind a (Reported (cause.Refused status error reason)) =
     (o : Outcome) × HasEntry ws place a o
-    × IsRefused kind o.status (is_some o.error) × (o.status ≡ status) × (unwrap_or o.error [] ≡ error)
+    × IsRefused kind o.status (is_some o.error) × (o.status ≡ status) × (kind_in o.error ≡ error) × (reason_in o.error ≡ reason)
 Says t ws place kind a (Reported (cause.Request status)) = (a ≡ Whole status) × (is_sent_again (length ws) status ≡ false)
-Says t ws place kind a (Reported cause.Conflict) =
-    (t.sends < 2) × ((o : Outcome) × HasEntry ws place a o × (is_conflict o.status ≡ true))
+Says t ws place kind a (Reported (cause.Conflict stored reason)) =
+    (o : Outcome) × HasEntry ws place a o
+    × (is_conflict o.status ≡ true) × IsWithOther t o × (stored_in o.error ≡ stored) × (reason_in o.error ≡ reason)
 Says t ws place kind a (Reported (cause.GaveUp sends)) =
     (sends ≡ t.sends) × (t.max ≤ t.attempts) × IsRetried ws place a × (says_too_large a ≡ false)
 Says t ws place kind a (Reported cause.Spent) = ⊥
@@ -72,8 +89,8 @@ RetriedHasTries =
 
 -- whether the verdict is Refused does not depend on what was sent before
 abbrev pub RefusedWhateverSent : Type 0
-RefusedWhateverSent = (kind : ActionKind) (status : ℕ) (has_error : Bool) (sends attempts max : ℕ) →
-    verdict_of kind status has_error sends attempts max ≡ verdict.Refused → IsRefused kind status has_error
+RefusedWhateverSent = (kind : ActionKind) (status : ℕ) (has_error own : Bool) (sends attempts max : ℕ) →
+    verdict_of kind status has_error own sends attempts max ≡ verdict.Refused → IsRefused kind status has_error
 
 -- ---- replies
 

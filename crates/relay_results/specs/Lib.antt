@@ -6,7 +6,11 @@ pub mod Numbers
 pub mod Outside
 pub mod Fates
 pub mod Laws
+pub mod Numerals
+pub mod Stored
 pub mod Replies
 pub mod Usual
 pub mod Parts
+pub mod Ends
+pub mod Conflicts
 pub mod Done

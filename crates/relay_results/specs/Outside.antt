@@ -2,6 +2,7 @@
 use Rattle.std.specs.Prelude.{◌≡◌, ◌≢◌, ◌⊎◌, ℕ, suc, ◌≤◌, List, [], ◌∷◌, ◌++◌, slice_get, Option, Some, None, is_some, option_and_then, IsSome, IsTrue, Bool, true, false, nat_lt, if◌then◌else◌}
 use Rattle.relay_action.specs.Actions.{kind_of}
 use Rattle.relay_action.specs.declared.write.Write.{Write}
+use Rattle.relay_results.specs.declared.outcome.ErrorDetail.{ErrorDetail}
 use Rattle.relay_results.specs.declared.outcome.Outcome.{Outcome}
 use Rattle.relay_results.specs.Words.{Mem, update}
 use Rattle.relay_results.specs.Documents.{Document, document_of, same_document}
@@ -32,10 +33,14 @@ write_at requests request place = option_and_then (λ q. slice_get (writes_of q)
 
 -- ---- a versioned run
 
--- the outcome of a run: its status, and the type of its error if it had one, cut as when reading a reply
+-- the outcome of a run: its status, and its error if it had one, as a reply states it
 pub record RunOutcome : Type 0 where
   pub status : ℕ
-  pub error : Option (List ℕ)
+  pub error : Option ErrorDetail
+
+-- the stored version that an error states
+abbrev pub stored_in : Option ErrorDetail → Option ℕ
+stored_in error = option_and_then (λ (e : ErrorDetail). e.stored) error
 
 -- no version of the document is stored, or one below this
 abbrev pub is_above : Option ℕ → ℕ → Bool
@@ -53,10 +58,11 @@ pub record IsRefusal (o : RunOutcome) : Type 0 where
   pub no_conflict : o.status ≢ 409
   pub has_error : IsSome o.error
 
--- the version is not above the stored one: 409, and an error
-pub record IsConflict (o : RunOutcome) : Type 0 where
+-- the version is not above the stored one: 409, and an error that states no other stored version than that
+pub record IsConflict (stored : Option ℕ) (o : RunOutcome) : Type 0 where
   pub status : o.status ≡ 409
   pub has_error : IsSome o.error
+  pub stated : (version : ℕ) → stored_in o.error ≡ Some version → stored ≡ Some version
 
 -- The possible outcomes of running a write, given the stored version of its document (OpenSearch, index document API,
 -- version_type external: a write is applied if its version is strictly greater than the stored one or nothing is
@@ -65,7 +71,7 @@ abbrev pub IsOutcomeOf : Option ℕ → Write → RunOutcome → Type 0
 IsOutcomeOf stored w o =
     IsRefusal o
     ⊎ (IsTrue (is_above stored w.version) × IsTrue (is_applied w o))
-    ⊎ ((is_above stored w.version ≡ false) × IsConflict o)
+    ⊎ ((is_above stored w.version ≡ false) × IsConflict stored o)
 
 -- ---- the outside
 

@@ -2,12 +2,13 @@
 use Rattle.std.specs.Prelude.{◌≡◌, ℕ, Bool, true, false, List, length, codes, nat_le, ◌&&◌, is_some, Option, None, Some, MatchOption, option_map, option_and_then, if◌then◌else◌}
 use Rattle.serde_json.specs.Data.{Data, Items, Members}
 use Rattle.serde_json.specs.Find.{get_member, as_array, as_null, as_number, as_str, as_u64}
+use Rattle.relay_results.specs.declared.outcome.ErrorDetail.{ErrorDetail}
 use Rattle.relay_results.specs.declared.outcome.Outcome.{Outcome}
 use Rattle.relay_results.specs.declared.reading.EntryFields.{EntryFields}
 use Rattle.relay_results.specs.declared.reading.Entries.{Entries}
-use Rattle.relay_results.specs.declared.reading.ErrorType.{ErrorType}
+use Rattle.relay_results.specs.declared.reading.ErrorFields.{ErrorFields}
 use Rattle.relay_results.specs.declared.reading.Reply.{Reply}
-use Rattle.relay_results.specs.Replies.{IsTruncated, error_limit, error_type, AreEntries, IsBadAt}
+use Rattle.relay_results.specs.Replies.{ErrorTexts, error_texts, IsDetail, AreEntries, IsBadAt}
 
 -- ---- an error
 
@@ -15,17 +16,22 @@ use Rattle.relay_results.specs.Replies.{IsTruncated, error_limit, error_type, Ar
 abbrev pub text_at : List ℕ → Members → Option (List ℕ)
 text_at name ms = option_and_then as_str (get_member name ms)
 
-abbrev pub HoldsType : ErrorType → Members → Type 0
-HoldsType e ms = option_map (λ t. t.now) e.text ≡ text_at (codes "type") ms
+pub record HoldsTexts (e : ErrorFields) (ms : Members) : Type 0 where
+  pub kind : option_map (λ t. t.now) e.kind ≡ text_at (codes "type") ms
+  pub reason : option_map (λ t. t.now) e.reason ≡ text_at (codes "reason") ms
 
--- the type of an error, empty if it has none; nothing if the error is null
-abbrev pub told_error : Data → Option (List ℕ)
-told_error d = if is_some (as_null d) then None else Some (error_type d)
+-- what was kept of the members of an error
+abbrev pub texts_of : ErrorFields → ErrorTexts
+texts_of e = record { kind = option_map (λ t. t.now) e.kind; reason = option_map (λ t. t.now) e.reason }
 
--- an outcome keeps a prefix of the type of an error
-abbrev pub KeepsError : Option (List ℕ) → Option (List ℕ) → Type 0
+-- the type of an error and its reason; nothing if the error is null
+abbrev pub told_error : Data → Option ErrorTexts
+told_error d = if is_some (as_null d) then None else Some (error_texts d)
+
+-- an outcome keeps what it may of an error
+abbrev pub KeepsError : Option ErrorTexts → Option ErrorDetail → Type 0
 KeepsError None kept = kept ≡ None
-KeepsError (Some text) kept = (front : List ℕ) × IsTruncated error_limit text front × (kept ≡ Some front)
+KeepsError (Some t) kept = (e : ErrorDetail) × IsDetail t e × (kept ≡ Some e)
 
 -- ---- an entry
 
@@ -38,7 +44,7 @@ status_of d = option_and_then in_range (option_and_then as_u64 (as_number d))
 pub record HoldsFields (fields : EntryFields) (ms : Members) : Type 0 where
   pub id : option_map (λ t. t.now) fields.id ≡ text_at (codes "_id") ms
   pub status : fields.status ≡ option_and_then status_of (get_member (codes "status") ms)
-  pub error : option_map (λ t. t.now) fields.error ≡ option_and_then told_error (get_member (codes "error") ms)
+  pub error : option_map texts_of fields.error ≡ option_and_then told_error (get_member (codes "error") ms)
 
 -- ---- entries
 

@@ -5,6 +5,8 @@ use Rattle.serde_json.specs.Data.{Data, number, string, array, object, unsigned,
 use Rattle.serde_json.specs.Find.{get, as_str, as_null}
 use Rattle.serde_json.specs.Read.{read}
 use Rattle.relay_action.specs.Actions.{kind_name}
+use Rattle.relay_results.specs.Stored.{SaysStored}
+use Rattle.relay_results.specs.declared.outcome.ErrorDetail.{ErrorDetail}
 use Rattle.relay_results.specs.declared.outcome.Outcome.{Outcome}
 use Rattle.relay_results.specs.declared.reading.ReplyFault.{ReplyFault}
 use Rattle.relay_results.specs.declared.reading.ReplyFault.TheVariants as fault
@@ -17,9 +19,12 @@ pub record ReadsAs (text : List ℕ) (d : Data) : Type 0 where
 
 -- ---- entries
 
--- the maximum length of an error's type, in bytes
+-- the maximum length of an error's type, and of its reason, in bytes
 abbrev pub error_limit : ℕ
 error_limit = 64
+
+abbrev pub reason_limit : ℕ
+reason_limit = 512
 
 -- the longest prefix of a text that is within the limit and ends at a character boundary
 pub record IsTruncated (limit : ℕ) (text front : List ℕ) : Type 0 where
@@ -33,14 +38,32 @@ pub record IsTruncated (limit : ℕ) (text front : List ℕ) : Type 0 where
 abbrev pub error_member : Data → Option Data
 error_member d = option_and_then (λ e. if is_some (as_null e) then None else Some e) (get (codes "error") d)
 
--- the type of an error; empty if the error is not an object or its type is not a string
-abbrev pub error_type : Data → List ℕ
-error_type d = unwrap_or (option_and_then as_str (get (codes "type") d)) []
+-- the type of an error and its reason, each if the error is an object and this a string
+pub record ErrorTexts : Type 0 where
+  pub kind : Option (List ℕ)
+  pub reason : Option (List ℕ)
 
--- what an outcome keeps of an error: a prefix of its type
-abbrev pub SaysError : Option Data → Option (List ℕ) → Type 0
+abbrev pub error_texts : Data → ErrorTexts
+error_texts d = record {
+  kind = option_and_then as_str (get (codes "type") d);
+  reason = option_and_then as_str (get (codes "reason") d);
+}
+
+-- what an outcome keeps of the reason: a prefix
+abbrev pub KeepsReason : Option (List ℕ) → Option (List ℕ) → Type 0
+KeepsReason None kept = kept ≡ None
+KeepsReason (Some text) kept = (front : List ℕ) × IsTruncated reason_limit text front × (kept ≡ Some front)
+
+-- what an outcome keeps of an error: a prefix of its type, a prefix of its reason, and the stored version that the whole
+-- reason states
+pub record IsDetail (t : ErrorTexts) (e : ErrorDetail) : Type 0 where
+  pub kind : IsTruncated error_limit (unwrap_or t.kind []) e.kind
+  pub reason : KeepsReason t.reason e.reason
+  pub stored : SaysStored t.reason e.stored
+
+abbrev pub SaysError : Option Data → Option ErrorDetail → Type 0
 SaysError None error = error ≡ None
-SaysError (Some d) error = (front : List ℕ) × IsTruncated error_limit (error_type d) front × (error ≡ Some front)
+SaysError (Some d) error = (e : ErrorDetail) × IsDetail (error_texts d) e × (error ≡ Some e)
 
 -- An entry is valid if it is an object with one member, named by the kind of the action, whose value is an object
 -- with a string `_id` and an integer `status` from 100 to 599 (OpenSearch, bulk API, response). Members other than

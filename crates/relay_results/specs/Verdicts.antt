@@ -1,5 +1,5 @@
 -- The meaning of an item's status, and of a request's.
-use Rattle.std.specs.Prelude.{◌≡◌, ℕ, List, [], ◌∷◌, Bool, not, ◌==◌, ◌&&◌, ◌||◌, nat_le, nat_lt, if◌then◌else◌}
+use Rattle.std.specs.Prelude.{◌≡◌, ℕ, List, [], ◌∷◌, Option, Some, None, Bool, true, not, ◌==◌, ◌&&◌, ◌||◌, nat_le, nat_lt, if◌then◌else◌}
 use Rattle.relay_action.specs.declared.action.ActionKind.{ActionKind}
 use Rattle.relay_results.specs.declared.decide.ItemVerdict.{ItemVerdict}
 use Rattle.relay_results.specs.declared.decide.ItemVerdict.TheVariants as verdict
@@ -55,13 +55,18 @@ first_line (line ∷ lines) otherwise = if line.holds then line.says else first_
 abbrev when : Bool → ItemVerdict → Line ItemVerdict
 when holds says = record { holds = holds; says = says }
 
--- The verdict on an item: `sends` requests carried its operation, and `attempts` of them count as tries, of which
--- `max` are allowed.
-abbrev pub verdict_of : ActionKind → ℕ → Bool → ℕ → ℕ → ℕ → ItemVerdict
-verdict_of kind status has_error sends attempts max = first_line
+-- a conflict with the operation's own version is possible: the stored version is not stated, or it is its own
+abbrev pub may_be_own : Option ℕ → ℕ → Bool
+may_be_own None own = true
+may_be_own (Some stored) own = stored == own
+
+-- The verdict on an item: a conflict may be with the operation's own version, `sends` requests carried the operation,
+-- and `attempts` of them count as tries, of which `max` are allowed.
+abbrev pub verdict_of : ActionKind → ℕ → Bool → Bool → ℕ → ℕ → ℕ → ItemVerdict
+verdict_of kind status has_error own sends attempts max = first_line
     (when (not has_error && is_2xx status) verdict.Applied
     ∷ when (not has_error && is_absent kind status) verdict.Applied
-    ∷ when (is_conflict status && nat_le 2 sends) verdict.Already
+    ∷ when (is_conflict status && (nat_le 2 sends && own)) verdict.Already
     ∷ when (is_conflict status) verdict.Conflict
     ∷ when (is_retried_item status && nat_lt attempts max) verdict.Retry
     ∷ when (is_retried_item status) verdict.GaveUp
@@ -71,4 +76,4 @@ verdict_of kind status has_error sends attempts max = first_line
 -- the verdict is Refused, whatever was sent before
 abbrev pub IsRefused : ActionKind → ℕ → Bool → Type 0
 IsRefused kind status has_error =
-    (sends attempts max : ℕ) → verdict_of kind status has_error sends attempts max ≡ verdict.Refused
+    (own : Bool) (sends attempts max : ℕ) → verdict_of kind status has_error own sends attempts max ≡ verdict.Refused

@@ -1,6 +1,7 @@
 //! What the definitions of `specs/` rule out, and what follows from them. These functions do
 //! nothing; their contracts are the laws.
 ghost use Rattle.relay_results.specs.Laws.{NotHonestWithoutRun, HonestEntryWasRun, FateSays};
+ghost use Rattle.relay_results.specs.Laws.{StatesWhatIsStored, OwnIsSame};
 ghost use Rattle.relay_results.specs.Laws.{AnswersEndFlight, RetriedHasTries};
 ghost use Rattle.relay_results.specs.Laws.{RefusedWhateverSent, OneReply, NoFaultOfReply};
 ghost use Rattle.relay_results.specs.Laws.{OneFault, MayAlwaysRun, NotAppliedAgain, StepRunsItem};
@@ -24,18 +25,22 @@ pub fn events_continue()
 {}
 
 /// No answer is honest if it has a matching entry that no run gave, and each matching entry of an
-/// honest answer comes from a run.
+/// honest answer comes from a run. A run that ends in a conflict and states a stored version states
+/// the one that is stored.
 pub fn answers_exclude()
     ensures without_run { NotHonestWithoutRun }
     ensures entry { HonestEntryWasRun }
+    ensures stated { StatesWhatIsStored }
 {}
 
 /// The fate of an operation says which answer it got. An answer ends its flight, and an operation
-/// that is retried has attempts left, unless its request was too large and is halved.
+/// that is retried has attempts left, unless its request was too large and is halved. A stored
+/// version that is stated counts as the operation's own only if it is equal to it.
 pub fn fates_say()
     ensures answer { FateSays }
     ensures ends { AnswersEndFlight }
     ensures tries { RetriedHasTries }
+    ensures own { OwnIsSame }
 {}
 
 /// A text has one list of outcomes or one fault, and not both. So the result of

@@ -4,12 +4,13 @@ ghost use Rattle.std.specs.Prelude.{IfErr, MatchOption, option_map};
 ghost use Rattle.serde_json.specs.Data.{Data, object, Items, no_items};
 ghost use Rattle.serde_json.specs.Data.{Members, member, no_members};
 ghost use Rattle.relay_json.specs.Walks.{IsLeaf, IsRead, IsRefused, IsPast};
-ghost use Rattle.relay_results.specs.Replies.{IsTruncated, error_limit, IsEntry};
+ghost use Rattle.relay_results.specs.Replies.{IsTruncated, KeepsReason, IsDetail, IsEntry};
 ghost use Rattle.relay_results.specs.Replies.{IsNoEntry, IsBulkReply, IsFaultOf};
-ghost use Rattle.relay_results.specs.Parts.{status_of, told_error, KeepsError, HoldsType};
+ghost use Rattle.relay_results.specs.Parts.{status_of, told_error, KeepsError, HoldsTexts, texts_of};
 ghost use Rattle.relay_results.specs.Parts.{HoldsFields, HoldsEntries, HoldsReply};
 
-use crate::outcome::Outcome;
+use crate::outcome::{ErrorDetail, Outcome};
+use crate::stating::stored_in;
 use crate::usual::read_usual;
 use relay_action::{ActionKind, Text};
 use relay_json::{Collect, Fields, Gather, Leaf, ReadFault, Scratch, Walk, read_object};
@@ -18,6 +19,9 @@ use thiserror::Error;
 
 /// The maximum length of the type of an error that an outcome keeps, in bytes.
 pub const ERROR_LIMIT: usize = 64;
+
+/// The maximum length of the reason of an error that an outcome keeps, in bytes.
+pub const REASON_LIMIT: usize = 512;
 
 /// Why a text is not a reply, in the order in which the causes are checked. A fault is printed as
 /// the name of its variant.
@@ -37,37 +41,45 @@ pub enum ReplyFault {
     Memory,
 }
 
-// The type of an error, if it has one.
-#[derive(Drop)]
-struct ErrorType<'t> {
-    text: Option<&'t str>,
+// The type of an error and its reason, each if it is a string.
+#[derive(Clone, Copy, Drop)]
+struct ErrorFields<'t> {
+    kind: Option<&'t str>,
+    reason: Option<&'t str>,
 }
 
-impl<'t> Gather<'t> for ErrorType<'t> {
-    ghost Holds = { HoldsType };
+impl<'t> Gather<'t> for ErrorFields<'t> {
+    ghost Holds = { HoldsTexts };
 
     ghost MayFail = { ⊥ };
 
     fn member(&mut self, name: &'t str, walk: &mut Walk<'t>) -> Result<(), ReadFault> {
-        let leaf = walk.leaf()?;
-        if name == "type" {
-            self.text = leaf.as_str();
+        match name {
+            "type" => self.kind = walk.leaf()?.as_str(),
+            "reason" => self.reason = walk.leaf()?.as_str(),
+            _ => {
+                walk.leaf()?;
+            }
         }
         Ok(())
     }
 }
 
-// The type of an error, empty if it has none; or `None` if the error is null.
-fn read_error<'t>(walk: &mut Walk<'t>) -> Result<Option<&'t str>, ReadFault>
+// What is kept of an error, or `None` if it is null.
+fn read_error<'t>(walk: &mut Walk<'t>) -> Result<Option<ErrorFields<'t>>, ReadFault>
     ensures ok { IfOk result (λ e. (d : Data) × IsRead walk.old d walk.new
-        × (option_map (λ t. t.now) e ≡ told_error d)) }
+        × (option_map texts_of e ≡ told_error d)) }
     ensures err { IfErr result (λ e. (e ≡ ReadFault.NotJson) × IsRefused walk.old) }
     ensures past { IsPast walk.old walk.new }
 {
-    match walk.gather_or_leaf(ErrorType { text: None })? {
-        Ok(error) => Ok(Some(error.text.unwrap_or(""))),
+    let none = ErrorFields {
+        kind: None,
+        reason: None,
+    };
+    match walk.gather_or_leaf(none)? {
+        Ok(error) => Ok(Some(error)),
         Err(Leaf::Null) => Ok(None),
-        Err(_) => Ok(Some("")),
+        Err(_) => Ok(Some(none)),
     }
 }
 
@@ -82,13 +94,13 @@ fn status_of(leaf: Leaf<'_>) -> Option<u16>
     }
 }
 
-// What is kept of the value of an entry's member: its id and its status, if they are valid, and the
-// type of its error, if it has one.
+// What is kept of the value of an entry's member: its id and its status, if they are valid, and its
+// error, if it has one.
 #[derive(Drop)]
 struct EntryFields<'t> {
     id: Option<&'t str>,
     status: Option<u16>,
-    error: Option<&'t str>,
+    error: Option<ErrorFields<'t>>,
 }
 
 impl<'t> Gather<'t> for EntryFields<'t> {
@@ -120,18 +132,43 @@ impl<'t> Fields<'t> for EntryFields<'t> {
 }
 
 // The longest prefix that is within the limit and ends at a character boundary.
-fn cut(text: &str) -> &str
-    ensures { IsTruncated error_limit text.now result.now }
+pub(crate) fn cut(text: &str, limit: usize) -> &str
+    ensures { IsTruncated limit text.now result.now }
 {
-    &text[..text.floor_char_boundary(ERROR_LIMIT)]
+    &text[..text.floor_char_boundary(limit)]
 }
 
-// What an outcome keeps of an error's type.
-fn error_text(alloc: Global, error: Option<&str>) -> Result<Option<Text>, AllocError>
-    ensures { IfOk result (λ e. KeepsError (option_map (λ t. t.now) error.entry) e) }
+// What an outcome keeps of an error's reason.
+fn reason_of(alloc: Global, reason: Option<&str>) -> Result<Option<Text>, AllocError>
+    ensures { IfOk result (λ r. KeepsReason (option_map (λ t. t.now) reason.entry) r) }
+{
+    match reason {
+        Some(text) => Ok(Some(Text::new(alloc, cut(text, REASON_LIMIT))?)),
+        None => Ok(None),
+    }
+}
+
+// What an outcome keeps of an error.
+fn detail_of(alloc: Global, error: &ErrorFields<'_>) -> Result<ErrorDetail, AllocError>
+    ensures { IfOk result (λ e. IsDetail (texts_of error.now) e) }
+{
+    let kind = error.kind.unwrap_or("");
+    Ok(ErrorDetail {
+        kind: Text::new(alloc, cut(kind, ERROR_LIMIT))?,
+        reason: reason_of(alloc, error.reason)?,
+        stored: stored_in(error.reason),
+    })
+}
+
+// What an outcome keeps of an error, if there is one.
+fn error_of(
+    alloc: Global,
+    error: &Option<ErrorFields<'_>>,
+) -> Result<Option<ErrorDetail>, AllocError>
+    ensures { IfOk result (λ e. KeepsError (option_map texts_of error.now) e) }
 {
     match error {
-        Some(text) => Ok(Some(Text::new(alloc, cut(text))?)),
+        Some(error) => Ok(Some(detail_of(alloc, error)?)),
         None => Ok(None),
     }
 }
@@ -159,7 +196,7 @@ fn outcome_of(
         kind,
         id: Text::new(alloc, id)?,
         status,
-        error: error_text(alloc, fields.error)?,
+        error: error_of(alloc, &fields.error)?,
     }))
 }
 
@@ -242,9 +279,10 @@ impl<'t> Gather<'t> for Reply {
 /// A reply is a JSON object with a member `items`, an array (OpenSearch, bulk API). An entry is an
 /// object with one member named `index` or `delete`, whose value is an object with `_id`, a string,
 /// and `status`, an integer from 100 to 599. If `error` is present and not null, the outcome has
-/// its member `type`, cut to the longest prefix of at most 64 bytes that ends at a character
-/// boundary, or the empty text if `type` is not a string. All other members are ignored. The fault
-/// is the first of [`ReplyFault`] that applies, and then no outcomes are returned.
+/// an [`ErrorDetail`]: its members `type` and `reason`, cut to the longest prefixes of at most 64
+/// and 512 bytes that end at a character boundary, and the stored version that the whole reason
+/// states. All other members are ignored. The fault is the first of [`ReplyFault`] that applies, and
+/// then no outcomes are returned.
 ///
 /// Contracts do not see whether an allocation fails, so no clause says that `Memory` is returned
 /// only then.

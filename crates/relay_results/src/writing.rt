@@ -3,12 +3,13 @@ ghost use Rattle.std.specs.Prelude.{◌≡◌, IfOk, string_bytes};
 ghost use Rattle.serde_json.specs.Data.{object, array};
 ghost use Rattle.serde_json.specs.View.{view};
 ghost use Rattle.std.specs.List.{list_any};
-ghost use Rattle.relay_results.specs.Done.{failure, result_name, fields_by, entry_data};
+ghost use Rattle.relay_results.specs.Done.{failure, result_name, error_fields, fields_by};
+ghost use Rattle.relay_results.specs.Done.{entry_data};
 ghost use Rattle.relay_results.specs.Done.{entries_data, is_failure, reply_data};
-ghost use Rattle.relay_results.specs.Done.{reply_text, outcomes_of, HaveStatuses};
+ghost use Rattle.relay_results.specs.Done.{reply_text, outcomes_of, HaveStatuses, AreStatable};
 ghost use Rattle.relay_results.specs.Replies.{IsBulkReply};
 
-use crate::done::{DoneResult, ItemDone};
+use crate::done::{DoneResult, ItemDone, conflict_reason};
 use relay_action::ActionKind;
 use serde_json::{Value, json};
 use std::alloc::{AllocError, Global};
@@ -26,6 +27,20 @@ fn result_name(result_of: DoneResult) -> &'static str
     }
 }
 
+// The error of an item, of this type.
+fn error_value(alloc: Global, done: &ItemDone, kind: &str) -> Result<Value, AllocError>
+    ensures { IfOk result
+        (λ v. view v ≡ object (error_fields done.now.key.id done.now.conflict kind.now)) }
+{
+    match done.conflict {
+        Some(conflict) => {
+            let reason = conflict_reason(alloc, done.key.id(), conflict)?;
+            json!(in alloc; {"reason": reason, "type": kind})
+        }
+        None => json!(in alloc; {"type": kind}),
+    }
+}
+
 // The members of an item's entry.
 fn fields_value(alloc: Global, done: &ItemDone) -> Result<Value, AllocError>
     ensures { IfOk result (λ v. view v ≡ object (fields_by done.now (failure done.now.result))) }
@@ -34,9 +49,10 @@ fn fields_value(alloc: Global, done: &ItemDone) -> Result<Value, AllocError>
     let index = done.key.index();
     let status = done.status;
     match done.result.failure() {
-        Some(error) => json!(in alloc; {
-            "_id": id, "_index": index, "error": {"type": error}, "status": status
-        }),
+        Some(kind) => {
+            let error = error_value(alloc, done, kind)?;
+            json!(in alloc; {"_id": id, "_index": index, "error": error, "status": status})
+        }
         None => {
             let seq = done.seq;
             let version = done.version;
@@ -88,12 +104,13 @@ fn reply_value(alloc: Global, took: u64, items: &[ItemDone]) -> Result<Value, Al
 /// keys in byte order, `{"errors":B,"items":[..],"took":N}` (OpenSearch, bulk API, response).
 /// `took` is in milliseconds, and `errors` is true if an item is `Conflict` or `Refused`. An item
 /// that was applied has `_id`, `_index`, `_seq_no`, `_version`, `result` and `status`, any other
-/// `_id`, `_index`, `error` and `status`. If each status is from 100 to 599, reading the reply
-/// gives the outcome of each item. `AllocError`: allocation failed.
+/// `_id`, `_index`, `error` and `status`. An error has its `type`, and that of a conflict whose
+/// versions are stated also a `reason`, in the words of OpenSearch. If each status is from 100 to
+/// 599, reading the reply gives the outcome of each item. `AllocError`: allocation failed.
 #[tactic(auto, unfolding(crate::specs::Done::reply_text))]
 pub fn write_reply(alloc: Global, took: u64, items: &[ItemDone]) -> Result<String, AllocError>
     ensures text { IfOk result (λ s. string_bytes s ≡ reply_text took items.now) }
-    ensures reads_back { IfOk result (λ s. HaveStatuses items.now
+    ensures reads_back { IfOk result (λ s. HaveStatuses items.now → AreStatable items.now
         → IsBulkReply (string_bytes s) (outcomes_of items.now)) }
 {
     let value = reply_value(alloc, took, items)?;

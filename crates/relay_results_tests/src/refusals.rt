@@ -1,17 +1,25 @@
 //! Replies, with any one of their allocations refused (`make refusals`): the refusal is reported,
 //! and the call succeeds when it is repeated.
 use relay_action::{ActionKind, DocKey};
-use relay_results::{DoneResult, ItemDone, Outcome, ReplyFault, read_reply, write_reply};
+use relay_results::{
+    DoneResult, ErrorDetail, ItemDone, Outcome, ReplyFault, VersionConflict, read_reply,
+    write_reply,
+};
 use std::alloc::{AllocError, Global};
 
 const ID: &str = "an id with a \"quote\", of more than thirty-eight bytes";
 
 const REPLY: &str =
-    "{\"errors\":true,\"items\":[{\"index\":{\"_id\":\"an id with a \\\"quote\\\", of more than thirty-eight bytes\",\"_index\":\"books\",\"_seq_no\":7,\"_version\":9,\"result\":\"created\",\"status\":201}},{\"index\":{\"_id\":\"an id with a \\\"quote\\\", of more than thirty-eight bytes\",\"_index\":\"books\",\"error\":{\"type\":\"version_conflict_engine_exception\"},\"status\":409}}],\"took\":1}";
+    "{\"errors\":true,\"items\":[{\"index\":{\"_id\":\"an id with a \\\"quote\\\", of more than thirty-eight bytes\",\"_index\":\"books\",\"_seq_no\":7,\"_version\":9,\"result\":\"created\",\"status\":201}},{\"index\":{\"_id\":\"an id with a \\\"quote\\\", of more than thirty-eight bytes\",\"_index\":\"books\",\"error\":{\"reason\":\"[an id with a \\\"quote\\\", of more than thirty-eight bytes]: version conflict, current version [70] is higher or equal to the one provided [9]\",\"type\":\"version_conflict_engine_exception\"},\"status\":409}}],\"took\":1}";
 
 /// The usual form, in which every action was applied.
 const USUAL: &str =
     "{\"took\":3,\"errors\":false,\"items\":[{\"index\":{\"_index\":\"books\",\"_id\":\"an id without any quotes, of more than thirty-eight bytes\",\"_version\":9,\"result\":\"created\",\"_shards\":{\"total\":2,\"successful\":1,\"failed\":0},\"_seq_no\":7,\"_primary_term\":1,\"status\":201}}]}";
+
+const VERSIONS: VersionConflict = VersionConflict {
+    stored: 70,
+    provided: 9,
+};
 
 fn key_of(alloc: Global) -> Option<DocKey> {
     DocKey::new(alloc, "books", ID)
@@ -27,11 +35,29 @@ fn item(alloc: Global, status: u16, became: DoneResult) -> Option<ItemDone> {
         result: became,
         version: 9,
         seq: 7,
+        conflict: (became == DoneResult::Conflict).then_some(VERSIONS),
     })
 }
 
+fn copy_of(error: &ErrorDetail) -> Option<ErrorDetail> {
+    match error.copy() {
+        Ok(copy) => Some(copy),
+        Err(AllocError) => error.copy().ok(),
+    }
+}
+
+// Whether an error states the stored version of the conflict, and so does its copy.
+fn is_detail(error: &ErrorDetail) -> bool {
+    let copied = copy_of(error).is_some_and(|copy| copy == *error);
+    copied && error.stored == Some(70) && error.reason.is_some()
+}
+
 fn is_outcome(outcome: &Outcome, status: u16, has_error: bool) -> bool {
-    outcome.id.as_str() == ID && outcome.status == status && outcome.error.is_some() == has_error
+    let same = match &outcome.error {
+        Some(error) => has_error && is_detail(error),
+        None => !has_error,
+    };
+    same && outcome.id.as_str() == ID && outcome.status == status
 }
 
 fn outcome_of(alloc: Global, item: &ItemDone) -> Option<Outcome> {

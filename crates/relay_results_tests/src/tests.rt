@@ -44,7 +44,7 @@ fn fault_of(alloc: Global, text: &[u8]) -> Option<ReplyFault> {
 // Whether an entry has an error of this type.
 fn has_error(outcome: &Outcome, error: Option<&str>) -> bool {
     match (&outcome.error, error) {
-        (Some(found), Some(wanted)) => found.as_str() == wanted,
+        (Some(found), Some(wanted)) => found.kind.as_str() == wanted,
         (None, None) => true,
         _ => false,
     }
@@ -442,7 +442,7 @@ fn matching(rt: HostRuntime) -> Result<(), Fail> {
 }
 
 // A kind, a status, whether there is an error, the sends, the attempts and their maximum, and the
-// verdict.
+// verdict, for an error that states no stored version.
 const VERDICTS: &[(ActionKind, u16, bool, u32, u32, u32, ItemVerdict)] = &[
     (ActionKind::Index, 200, false, 1, 1, 3, ItemVerdict::Applied),
     (ActionKind::Index, 299, false, 5, 5, 3, ItemVerdict::Applied),
@@ -483,7 +483,24 @@ const VERDICTS: &[(ActionKind, u16, bool, u32, u32, u32, ItemVerdict)] = &[
 #[test]
 fn verdicts(rt: HostRuntime) {
     for (kind, status, has_error, sends, attempts, max, wanted) in VERDICTS {
-        assert!(rt; verdict(*kind, *status, *has_error, *sends, *attempts, *max) == *wanted);
+        assert!(rt; verdict(*kind, *status, *has_error, true, *sends, *attempts, *max) == *wanted);
+    }
+}
+
+// A status, the sends, and the verdict on an error that states another version than the
+// operation's own.
+const OTHER_STORED: [(u16, u32, ItemVerdict); 5] = [
+    (409, 1, ItemVerdict::Conflict),
+    (409, 2, ItemVerdict::Conflict),
+    (409, 9, ItemVerdict::Conflict),
+    (400, 2, ItemVerdict::Refused),
+    (429, 2, ItemVerdict::Retry),
+];
+
+#[test]
+fn verdicts_on_another_version(rt: HostRuntime) {
+    for (status, sends, wanted) in OTHER_STORED {
+        assert!(rt; verdict(ActionKind::Index, status, true, false, sends, 1, 3) == wanted);
     }
 }
 
@@ -503,6 +520,7 @@ fn done_of(
         result: became,
         version,
         seq,
+        conflict: None,
     })
 }
 

@@ -1,6 +1,6 @@
 //! What the program's commands share: numbers, names, documents and causes as they are printed
-//! (`text`), numbers as they are read (`number`), and exit statuses (`exit`). The definition of
-//! which operations a command took from a producer's input is here too, for `relay_commands` and
+//! (`text`), lengths of time as they are read (`duration`), and exit statuses (`exit`). The definition
+//! of which operations a command took from a producer's input is here too, for `relay_commands` and
 //! `relay_run` alike.
 //!
 //! It depends on `relay_action`, `relay_results` and, for the faults of an input, `relay_ndjson`.
@@ -8,10 +8,11 @@
 //! items are as before.
 #![tactic(auto)]
 
+pub mod duration;
 pub mod exit;
-pub mod number;
 pub mod text;
 
+pub use duration::duration_of;
 pub use exit::{Exit, exit_of_kind};
-pub use number::number_of;
+pub use relay_results::number_of;
 pub use text::{add_cause, add_document, add_name, add_number, add_spaced};

@@ -118,7 +118,7 @@ fn append_cause(text: &mut Vec<u8>, cause: &Cause) -> Result<(), AllocError>
     ensures front { Begins text.old.items text.new.items }
 {
     match cause {
-        Cause::Refused { status, kind } => {
+        Cause::Refused { status, kind, .. } => {
             text.extend_from_slice(b"Refused")?;
             add_spaced(text, *status as u64)?;
             text.extend_from_slice(b" ")?;
@@ -128,7 +128,7 @@ fn append_cause(text: &mut Vec<u8>, cause: &Cause) -> Result<(), AllocError>
             text.extend_from_slice(b"Request")?;
             add_spaced(text, *status as u64)
         }
-        Cause::Conflict => text.extend_from_slice(b"Conflict"),
+        Cause::Conflict { .. } => text.extend_from_slice(b"Conflict"),
         Cause::GaveUp { sends } => {
             text.extend_from_slice(b"GaveUp")?;
             add_spaced(text, *sends as u64)

@@ -1,4 +1,4 @@
-use Rattle.relay_delivery.proofs.Excluded.{settled, without_status, without_error, not_busy, not_unsent, not_unanswered, not_retried, not_for_halves, not_when_halved, no_conflict}
+use Rattle.relay_delivery.proofs.Excluded.{settled, without_status, without_error, without_reason, not_after_two, no_unstated, not_busy, not_unsent, not_unanswered, not_retried, not_for_halves, not_when_halved, no_conflict}
 use Rattle.relay_delivery.proofs.laws.causes_exclude.Goals as goal
 
 pub returns-clause-settled : goal.returns-clause-settled
@@ -30,3 +30,12 @@ returns-clause-halves c = not_for_halves
 
 pub returns-clause-halved : goal.returns-clause-halved
 returns-clause-halved c = not_when_halved
+
+pub returns-clause-reason : goal.returns-clause-reason
+returns-clause-reason c = without_reason
+
+pub returns-clause-unstated : goal.returns-clause-unstated
+returns-clause-unstated c = no_unstated
+
+pub returns-clause-two_sends : goal.returns-clause-two_sends
+returns-clause-two_sends c = not_after_two

@@ -1,4 +1,4 @@
-use Rattle.relay_delivery.proofs.Fitting.{sound_where, complete_where, total_where, writes_where, earliest_where, one_flies_where}
+use Rattle.relay_delivery.proofs.Fitting.{sound_where, complete_where, total_where, writes_where, earliest_where, one_flies_where, ended_where}
 use Rattle.relay_delivery.proofs.promises.lanes_deliver.Goals as goal
 
 pub returns-clause-sound : goal.returns-clause-sound
@@ -18,3 +18,6 @@ returns-clause-earliest c = earliest_where
 
 pub returns-clause-one : goal.returns-clause-one
 returns-clause-one c = one_flies_where
+
+pub returns-clause-ended : goal.returns-clause-ended
+returns-clause-ended c = ended_where

@@ -6,7 +6,7 @@ use Rattle.relay_index.proofs.index.Index.apply.Goals as goal
 pub invariant_of-self-2 : goal.invariant_of-self-2
 invariant_of-self-2 c =
     let old = c.self.inside in
-    let s : State = record { documents = old.documents.entries; count = old.count } in
+    let s : State = record { documents = old.documents.entries; count = old.count; states = old.states } in
     let newer = rw (← c.self.view_is) at c.requires in
     let top = c.max.ensures ∙ ap (λ n. max n c.args.write.now.version) c.unwrap_or.ensures in
     rw (c.in_ok-append.ensures.ok, c.saturating_add-self-inside.ensures, top)

@@ -8,4 +8,4 @@ returns-in-Ok-clause-ok c =
     let statuses = HaveStatuses-RunsAll (under c.args.self.now c.args.script.now) c.args.writes.now items (under c.run_all.new.self c.run_all.new.script) c.in_ok-items.ensures.ok in
     let text = rw c.as_slice.ensures.value at c.in-Ok.ensures.text in
     let reads = rw c.as_slice.ensures.value at c.in-Ok.ensures.reads_back in
-    record { items = items; runs = c.in_ok-items.ensures.ok; text_of = text; reads_back = reads statuses }
+    record { items = items; runs = c.in_ok-items.ensures.ok; text_of = text; reads_back = reads statuses c.in_ok-items.ensures.statable }

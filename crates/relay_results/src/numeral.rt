@@ -1,6 +1,6 @@
 //! Words that are numbers.
 ghost use Rattle.std.specs.Prelude.{ℕ, IfSome, IfNone};
-ghost use Rattle.relay_words.specs.Numbers.{IsNumber};
+ghost use Rattle.relay_results.specs.Numerals.{IsNumber};
 
 /// The value of a word of decimal digits, without a sign. `None`: the word is not a 64-bit number
 /// in this form.
