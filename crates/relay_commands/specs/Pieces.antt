@@ -2,6 +2,7 @@
 use Rattle.std.specs.Prelude.{◌≡◌, ◌≢◌, ℕ, ◌+◌, ◌<◌, ◌≤◌, List, [], ◌++◌, length, take, Option, Result, Ok, Err}
 use Rattle.std.specs.Io.KnownBytes.{append_known, prepend_known, IsAtEnd}
 use Rattle.relay_action.specs.Streams.{one_more}
+use Rattle.relay_index.specs.States.{State}
 use Rattle.relay_index.specs.Plans.{Plan}
 use Rattle.relay_commands.specs.Applies.{GivesBody, IsOutput, PassesLimit, TakesSome, body_limit}
 use Rattle.relay_commands.specs.Calls.{NoneFails, OneFails}
@@ -38,10 +39,10 @@ failed_by (Err fault.Read) n = one_more n
 failed_by (Err other) n = n
 
 -- the lines of the answer to the body that the reader returned
-pub record IsAnswered (plan : Plan) (old new : Option (List ℕ)) (out : List ℕ) : Type 0 where
+pub record IsAnswered (index : State) (plan : Plan) (old new : Option (List ℕ)) (out : List ℕ) : Type 0 where
   pub body : List ℕ
   pub gives : GivesBody old new body
-  pub output : IsOutput plan body out
+  pub output : IsOutput index plan body out
 
 -- the text was written, or after a failed write exactly the first of its bytes
 abbrev pub WritesOutput : {T : Type 0} → Option (List ℕ) → Option (List ℕ) → ℕ → ℕ → List ℕ → Result T ApplyFault → Type 0

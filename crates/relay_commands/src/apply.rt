@@ -1,4 +1,4 @@
-//! One bulk request against a fresh stand-in index: the function behind `relay apply`.
+//! One bulk request against a stand-in index: the function behind `relay apply`.
 ghost use Rattle.std.specs.Prelude.{◌≡◌, IfOk, IfErr};
 ghost use Rattle.relay_commands.specs.Applies.{Applies, IsOutput, answer_lines};
 ghost use Rattle.relay_commands.specs.Calls.{FailsOnceInApply};
@@ -35,7 +35,7 @@ pub enum ApplyFault {
     Memory,
 }
 
-/// Reads the body of a bulk request to its end, serves it with a fresh index under the script, and
+/// Reads the body of a bulk request to its end, serves it with this index under the script, and
 /// writes the status and the text of the answer, each with a line end. Nothing is written before
 /// the whole body was served. A fault says how much was written; if an allocation failed while the
 /// request was served, nothing was. A failed call of a stream is not retried.
@@ -43,27 +43,33 @@ pub fn apply<R: ByteIn, W: ByteOut>(
     alloc: Global,
     reader: &mut R,
     writer: &mut W,
+    index: Index,
     script: Script,
 ) -> Result<(), ApplyFault>
-    ensures applied { Applies script (R.left reader.old) (R.left reader.new)
+    ensures applied { Applies index script (R.left reader.old) (R.left reader.new)
         (W.written writer.old) (W.written writer.new) result }
     ensures calls { FailsOnceInApply (R.failed reader.old) (R.failed reader.new)
         (W.failed writer.old) (W.failed writer.new) result }
 {
-    let out = answer(alloc, reader, script)?;
+    let out = answer(alloc, reader, index, script)?;
     send(writer, out.as_slice())
 }
 
-// Reads a body to its end, and returns the lines of a fresh index's answer to it. The fault is
+// Reads a body to its end, and returns the lines of the index's answer to it. The fault is
 // `BodyLong`, `Read` or `Memory`.
-fn answer<R: ByteIn>(alloc: Global, reader: &mut R, script: Script) -> Result<Vec<u8>, ApplyFault>
-    ensures ok { IfOk result (λ out. IsAnswered script
+fn answer<R: ByteIn>(
+    alloc: Global,
+    reader: &mut R,
+    index: Index,
+    script: Script,
+) -> Result<Vec<u8>, ApplyFault>
+    ensures ok { IfOk result (λ out. IsAnswered index script
         (R.left reader.old) (R.left reader.new) out.items) }
     ensures err { IfErr result (IsBodyFault (R.left reader.old) (R.left reader.new)) }
     ensures failed { R.failed reader.new ≡ failed_by result (R.failed reader.old) }
 {
     let body = read_body(alloc, reader)?;
-    output(alloc, body.as_slice(), script).map_err(|_| ApplyFault::Memory)
+    output(alloc, body.as_slice(), index, script).map_err(|_| ApplyFault::Memory)
 }
 
 fn send<W: ByteOut>(writer: &mut W, out: &[u8]) -> Result<(), ApplyFault>
@@ -76,11 +82,15 @@ fn send<W: ByteOut>(writer: &mut W, out: &[u8]) -> Result<(), ApplyFault>
     }
 }
 
-// The lines of a fresh index's answer to a body.
-fn output(alloc: Global, body: &[u8], mut script: Script) -> Result<Vec<u8>, AllocError>
-    ensures { IfOk result (λ out. IsOutput script body.now out.items) }
+// The lines of the index's answer to a body.
+fn output(
+    alloc: Global,
+    body: &[u8],
+    mut index: Index,
+    mut script: Script,
+) -> Result<Vec<u8>, AllocError>
+    ensures { IfOk result (λ out. IsOutput index script body.now out.items) }
 {
-    let mut index = Index::new(alloc);
     match index.serve_body(alloc, body, &mut script) {
         Ok((status, text)) => answer_lines(alloc, status, text.as_bytes()),
         Err(_) => Err(AllocError),

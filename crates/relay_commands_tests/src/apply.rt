@@ -3,7 +3,7 @@
 use relay_action::MemStream;
 use relay_commands::apply::{ApplyFault, BODY_LIMIT, apply};
 use relay_commands::refuse_list::{ListFault, refuse_list};
-use relay_index::Script;
+use relay_index::{Index, Script};
 use std::alloc::{AllocError, Global};
 
 pub const TWO: &[u8] =
@@ -44,7 +44,13 @@ fn answers(
     answer: Result<(), ApplyFault>,
     written: &[u8],
 ) -> bool {
-    let found = apply(alloc, &mut streams.reader, &mut streams.writer, script);
+    let found = apply(
+        alloc,
+        &mut streams.reader,
+        &mut streams.writer,
+        Index::new(alloc),
+        script,
+    );
     found == answer && streams.writer.written() == written
 }
 
@@ -102,7 +108,13 @@ fn of_body(
     reader: &mut MemStream,
 ) -> Result<(Option<ApplyFault>, bool), AllocError> {
     let mut writer = MemStream::new(alloc, Vec::new(alloc), 1000, 1000, 0)?;
-    let found = apply(alloc, reader, &mut writer, Script::new(alloc));
+    let found = apply(
+        alloc,
+        reader,
+        &mut writer,
+        Index::new(alloc),
+        Script::new(alloc),
+    );
     Ok((found.err(), writer.written().is_empty()))
 }
 

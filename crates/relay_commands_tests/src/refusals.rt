@@ -6,7 +6,7 @@ use relay_commands::apply::{ApplyFault, apply};
 use relay_commands::lines::{LinesFault, lines};
 use relay_commands::outgoing::Outgoing;
 use relay_commands::refuse_list::{ListFault, refuse_list};
-use relay_index::Script;
+use relay_index::{Index, Script};
 use std::alloc::{AllocError, Global};
 
 fn stream_once(alloc: Global, input: &[u8]) -> Option<MemStream> {
@@ -55,7 +55,7 @@ fn apply_once(alloc: Global) -> Option<(Result<(), ApplyFault>, MemStream)> {
     let script = script_of(alloc)?;
     let mut reader = stream_of(alloc, apply::TWO)?;
     let mut writer = stream_of(alloc, b"")?;
-    let found = apply(alloc, &mut reader, &mut writer, script);
+    let found = apply(alloc, &mut reader, &mut writer, Index::new(alloc), script);
     Some((found, writer))
 }
 

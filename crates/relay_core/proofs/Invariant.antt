@@ -9,7 +9,8 @@ use Rattle.relay_results.specs.declared.decide.ItemVerdict.{ItemVerdict}
 use Rattle.relay_results.specs.declared.decide.ItemVerdict.TheVariants as verdict
 use Rattle.relay_results.specs.Fates.{Fate, Flies, Applied, Already, Retried, Halved, Reported, Tries, fate_of_entry, fate_of_verdict}
 use Rattle.relay_results.specs.Documents.{is_delete}
-use Rattle.relay_results.specs.Verdicts.{verdict_of}
+use Rattle.relay_results.specs.Outside.{stored_in}
+use Rattle.relay_results.specs.Verdicts.{may_be_own, verdict_of}
 use Rattle.relay_delivery.specs.Lane.{backoff}
 use Rattle.relay_results.proofs.Lists.{true_or_false, equal, and_right}
 use Rattle.relay_held.specs.declared.kept.Kept.{Kept}
@@ -112,7 +113,7 @@ verdict_halves t o verdict.Refused cap e = cc
 -- an entry halves nothing
 entry_halves : (t : Tries) (kind : ActionKind) (o : Option Outcome) (cap : ℕ) → fate_of_entry t kind o ≡ Halved cap → ⊥
 entry_halves t kind None cap e = again_halves t (nat_lt t.attempts t.max) cap e
-entry_halves t kind (Some o) cap e = verdict_halves t o (verdict_of kind o.status (is_some o.error) t.sends t.attempts t.max) cap e
+entry_halves t kind (Some o) cap e = verdict_halves t o (verdict_of kind o.status (is_some o.error) (may_be_own (stored_in o.error) t.version) t.sends t.attempts t.max) cap e
 
 way_halves : (whole : Way) (len : ℕ) (f : Fate) (h : Kept) → ((cap : ℕ) → f ≡ Halved cap → ⊥) → IsHalf whole len → (1 < len → len ≤ h.cap) → Falls (fate_or whole f) h
 way_halves way.ByEntry len f h none half room cap e = absurd (none cap e)
@@ -126,7 +127,7 @@ way_halves (way.Halved n) len f h none half room cap e =
 
 falls_here : (max len : ℕ) (whole : Way) (h : Kept) (os : List Outcome) → IsHalf whole len → (1 < len → len ≤ h.cap) → Falls (fate_met max whole h os) h
 falls_here max len whole h os half room =
-    way_halves whole len (fate_of_entry (record { sends = h.sends; attempts = h.attempts; max = max }) h.kind (slice_get os 0)) h (entry_halves (record { sends = h.sends; attempts = h.attempts; max = max }) h.kind (slice_get os 0)) half room
+    way_halves whole len (fate_of_entry (record { version = h.version; sends = h.sends; attempts = h.attempts; max = max }) h.kind (slice_get os 0)) h (entry_halves (record { version = h.version; sends = h.sends; attempts = h.attempts; max = max }) h.kind (slice_get os 0)) half room
 
 -- an answer leaves no more tries
 pub left_walk : (max clock n len : ℕ) (whole : Way) (hs : List Kept) (ws : List Write) (os : List Outcome) → IsHalf whole len → HasRoom n len hs → tries_left max (kept_walk hs max clock n whole ws os) ≤ tries_left max hs
@@ -167,11 +168,11 @@ retried_tries t kind way.ByEntry None e = ltb-true _ _ (again_tries t (nat_lt t.
 retried_tries t kind way.ByEntry (Some o) e = ltb-true _ _ (and_right (o.status == 429 || o.status == 503) (nat_lt t.attempts t.max) (verdict_retry
     (not (is_some o.error) && (nat_le 200 o.status && nat_lt o.status 300))
     (not (is_some o.error) && (is_delete kind && o.status == 404))
-    (o.status == 409 && nat_le 2 t.sends)
+    (o.status == 409 && (nat_le 2 t.sends && may_be_own (stored_in o.error) t.version))
     (o.status == 409)
     ((o.status == 429 || o.status == 503) && nat_lt t.attempts t.max)
     (o.status == 429 || o.status == 503)
-    (of_retry t o (verdict_of kind o.status (is_some o.error) t.sends t.attempts t.max) e)))
+    (of_retry t o (verdict_of kind o.status (is_some o.error) (may_be_own (stored_in o.error) t.version) t.sends t.attempts t.max) e)))
 
 -- ---- requests in flight
 
@@ -227,7 +228,7 @@ all_kept_walk max clock n next len some ends whole half (h ∷ hs) p ws os r c k
     let rest = kept_walk hs max clock n whole (drop 1 ws) (drop 1 os) in
     subst (λ b. AllKept max next (if b then met_maybe clock x (slice_get ws 0) (h ∷ []) ++ rest else h ∷ kept_walk hs max clock n whole ws os)) (sym t)
     (subst (λ o. AllKept max next (met_maybe clock x o (h ∷ []) ++ rest)) (sym (ap (λ xs. slice_get xs 0) m.found))
-    (met_kept max next clock ends x h m.write rest k.0 m.matches (retried_tries (record { sends = h.sends; attempts = h.attempts; max = max }) h.kind whole (slice_get os 0)) some (most_tries max next n p h h.write h.flies k.0.home m.spot)
+    (met_kept max next clock ends x h m.write rest k.0 m.matches (retried_tries (record { version = h.version; sends = h.sends; attempts = h.attempts; max = max }) h.kind whole (slice_get os 0)) some (most_tries max next n p h h.write h.flies k.0.home m.spot)
     (falls_here max len whole h os half (subst (λ b. Given b (1 < len → len ≤ h.cap)) t r.0)) (all_kept_walk max clock n next len some ends whole half hs (p + 1) (drop 1 ws) (drop 1 os) r.1 more k.1))))
     (λ t.
     let more : Carries n p hs ws = subst (λ b. Carries n (further b p) hs (rest_if b ws)) t c.1 in

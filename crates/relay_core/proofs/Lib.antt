@@ -12,6 +12,7 @@ pub mod Saying
 pub mod Valid
 pub mod Reading
 pub mod Settling
+pub mod Endings
 pub mod Keeping
 pub mod Invariant
 pub mod Taken

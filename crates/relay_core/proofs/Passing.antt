@@ -14,7 +14,7 @@ use Rattle.relay_held.specs.Queues.{same_key, is_of, first_of, with_first, witho
 use Rattle.relay_held.proofs.Merging.{same_self}
 use Rattle.relay_held.proofs.Changing.{first_is}
 use Rattle.relay_core.specs.declared.fates.Way.{Way}
-use Rattle.relay_core.specs.Walk.{flies_here, fate_met, fate_one, after_one, back, halved_at, met_maybe, reports_maybe, reports_one, tally_maybe, tally, kept_walk, reports_walk, tally_walk}
+use Rattle.relay_core.specs.Walk.{flies_here, fate_met, fate_one, after_one, back, halved_at, met_maybe, reports_maybe, reports_one, tally_maybe, tally, kept_walk, reports_walk, tally_walk, status_in, success_one, success_maybe, successes_walk}
 use Rattle.relay_core.specs.Memory.{Given, further, rest_if, IsMet, Carries}
 use Rattle.relay_core.proofs.Settling.{settles, met_ends, rest_drop}
 
@@ -162,6 +162,35 @@ module _ (n : ℕ) where
         ∙ ap (λ zs. reports_walk zs max n whole ws (drop 1 os)) (sym (after_past clock w x hs (fate_one max whole h (slice_get os 0)) of))))
         (true_or_false (flies_here n x.flies))
 
+    successes_over : (w : Write) (h : Kept) (hs : List Kept) (y : Fate) (ws : List Write) (os : List Outcome) → settles y ≡ true
+        → successes_walk (met_maybe clock y (Some w) (h ∷ []) ++ hs) max n whole ws os ≡ successes_walk hs max n whole ws os
+    successes_over w h hs Flies ws os s = absurd (apart_tests s)
+    successes_over w h hs Applied ws os s = refl
+    successes_over w h hs Already ws os s = refl
+    successes_over w h hs Retried ws os s = refl
+    successes_over w h hs (Halved k) ws os s = refl
+    successes_over w h hs (Reported c) ws os s = refl
+
+    pub successes_step : (hs : List Kept) (p : ℕ) (w : Write) (ws : List Write) (os : List Outcome) (h : Kept) → Carries n p hs (w ∷ ws) → first_of w.key hs ≡ Some h → flies_here n h.flies ≡ true
+        → successes_walk hs max n whole (w ∷ ws) os ≡ success_one (fate_one max whole h (slice_get os 0)) (status_in (slice_get os 0)) h w ++ successes_walk (after_one clock w hs (fate_one max whole h (slice_get os 0))) max n whole ws (drop 1 os)
+    successes_step [] p w ws os h c e t = absurd (cc)
+    successes_step (x ∷ hs) p w ws os h c e t = ⊎_elim {C = successes_walk (x ∷ hs) max n whole (w ∷ ws) os ≡ success_one (fate_one max whole h (slice_get os 0)) (status_in (slice_get os 0)) h w ++ successes_walk (after_one clock w (x ∷ hs) (fate_one max whole h (slice_get os 0))) max n whole ws (drop 1 os)}
+        (λ y. let of = is_its_document x p w ws (met_here x hs p (w ∷ ws) y c) in
+        let is = here_first w x hs h of e in
+        let status = status_in (slice_get os 0) in
+        ap (λ b. if b then success_maybe (fate_met max whole x os) status (Some w) (x ∷ []) ++ successes_walk hs max n whole ws (drop 1 os) else successes_walk hs max n whole (w ∷ ws) os) y
+        ∙ ap (λ rs. success_one (fate_met max whole x os) status x w ++ rs) (sym (successes_over w x hs (fate_met max whole x os) ws (drop 1 os) (met_ends max whole x os))
+        ∙ ap (λ zs. successes_walk zs max n whole ws (drop 1 os)) (sym (after_here clock w x hs (fate_met max whole x os) of (met_ends max whole x os))))
+        ∙ ap (λ (z : Kept). success_one (fate_one max whole z (slice_get os 0)) status z w ++ successes_walk (after_one clock w (x ∷ hs) (fate_one max whole z (slice_get os 0))) max n whole ws (drop 1 os)) is)
+        (λ g. let of = other_document w x hs h e t g in
+        let status = status_in (slice_get os 0) in
+        ap (λ b. if b then success_maybe (fate_met max whole x os) status (Some w) (x ∷ []) ++ successes_walk hs max n whole ws (drop 1 os) else successes_walk hs max n whole (w ∷ ws) os) g
+        ∙ successes_step hs p w ws os h (past_rest x hs p (w ∷ ws) g c) (later_first w x hs h of e) t
+        ∙ ap (λ rs. success_one (fate_one max whole h (slice_get os 0)) status h w ++ rs)
+        (sym (ap (λ b. if b then success_maybe (fate_met max whole x (drop 1 os)) (status_in (slice_get (drop 1 os) 0)) (slice_get ws 0) (x ∷ []) ++ successes_walk (after_one clock w hs (fate_one max whole h (slice_get os 0))) max n whole (drop 1 ws) (drop 1 (drop 1 os)) else successes_walk (after_one clock w hs (fate_one max whole h (slice_get os 0))) max n whole ws (drop 1 os)) g)
+        ∙ ap (λ zs. successes_walk zs max n whole ws (drop 1 os)) (sym (after_past clock w x hs (fate_one max whole h (slice_get os 0)) of))))
+        (true_or_false (flies_here n x.flies))
+
     tally_over : (q : Fate → Bool) (w : Write) (h : Kept) (hs : List Kept) (y : Fate) (ws : List Write) (os : List Outcome) → settles y ≡ true
         → tally_walk q (met_maybe clock y (Some w) (h ∷ []) ++ hs) max n whole ws os ≡ tally_walk q hs max n whole ws os
     tally_over q w h hs Flies ws os s = absurd (apart_tests s)
@@ -224,6 +253,11 @@ module _ (n : ℕ) where
     reports_end [] p os c = refl
     reports_end (x ∷ hs) p os c = let f = none_flies hs p x hs c in
         ap (λ b. if b then reports_maybe (fate_met max whole x os) None (x ∷ []) ++ reports_walk hs max n whole [] (drop 1 os) else reports_walk hs max n whole [] os) f ∙ reports_end hs p os (past_rest x hs p [] f c)
+
+    pub successes_end : (hs : List Kept) (p : ℕ) (os : List Outcome) → Carries n p hs [] → successes_walk hs max n whole [] os ≡ []
+    successes_end [] p os c = refl
+    successes_end (x ∷ hs) p os c = let f = none_flies hs p x hs c in
+        ap (λ b. if b then success_maybe (fate_met max whole x os) (status_in (slice_get os 0)) None (x ∷ []) ++ successes_walk hs max n whole [] (drop 1 os) else successes_walk hs max n whole [] os) f ∙ successes_end hs p os (past_rest x hs p [] f c)
 
     pub tally_end : (q : Fate → Bool) (hs : List Kept) (p : ℕ) (os : List Outcome) → Carries n p hs [] → tally_walk q hs max n whole [] os ≡ 0
     tally_end q [] p os c = refl
@@ -308,6 +342,16 @@ reported_turn n max clock whole hs hs' ws os w at c h e t is =
     let y = fate_one max whole h (slice_get os 0) in
     ap (λ xs. reports_walk hs max n whole xs os) all ∙ reports_step n max clock whole hs c.0 w (drop 1 ws) os h cs e t
     ∙ ap (λ zs. reports_one y h w ++ reports_walk zs max n whole (drop 1 ws) (drop 1 os)) (sym is)
+
+pub succeeded_turn : (n max clock : ℕ) (whole : Way) (hs hs' : List Kept) (ws : List Write) (os : List Outcome) (w : Write) → slice_get ws 0 ≡ Some w
+    → (c : (p : ℕ) × Carries n p hs ws) → (h : Kept) → first_of w.key hs ≡ Some h → flies_here n h.flies ≡ true → hs' ≡ after_one clock w hs (fate_one max whole h (slice_get os 0))
+    → successes_walk hs max n whole ws os ≡ success_one (fate_one max whole h (slice_get os 0)) (status_in (slice_get os 0)) h w ++ successes_walk hs' max n whole (drop 1 ws) (drop 1 os)
+succeeded_turn n max clock whole hs hs' ws os w at c h e t is =
+    let all = cons_of ws w at in
+    let cs = subst (λ xs. Carries n c.0 hs xs) all c.1 in
+    let y = fate_one max whole h (slice_get os 0) in
+    ap (λ xs. successes_walk hs max n whole xs os) all ∙ successes_step n max clock whole hs c.0 w (drop 1 ws) os h cs e t
+    ∙ ap (λ zs. success_one y (status_in (slice_get os 0)) h w ++ successes_walk zs max n whole (drop 1 ws) (drop 1 os)) (sym is)
 
 -- each fate counts once, and what ends or is reported is one fewer
 pub counts_one : (y : Fate) → settles y ≡ true → (tally (machine.is_applied_fate y) + tally (machine.is_already_fate y) + tally (Rattle.relay_core.specs.State.is_reported_fate y) + tally (Rattle.relay_core.specs.State.is_retried_fate y) ≡ 1)

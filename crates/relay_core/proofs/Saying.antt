@@ -1,15 +1,16 @@
 -- What an answer says of each operation.
 use Rattle.std.proofs.Common.{◌≡◌, ℕ, List, [], Bool, true, false, refl, sym, ap, ◌∙◌, subst}
-use Rattle.std.specs.Prelude.{slice_get, if◌then◌else◌, length, ◌/◌}
+use Rattle.std.specs.Prelude.{slice_get, if◌then◌else◌, length, ◌/◌, None, option_map}
 use Rattle.relay_action.specs.declared.action.ActionKind.{ActionKind}
 use Rattle.relay_action.specs.declared.write.Write.{Write}
 use Rattle.relay_results.specs.declared.cause.Cause.TheVariants as cause
-use Rattle.relay_results.specs.Outside.{Whole}
+use Rattle.relay_results.specs.Matching.{matches}
+use Rattle.relay_results.specs.Outside.{Whole, Items, Lost}
 use Rattle.relay_results.specs.Verdicts.{is_retried_whole, is_too_large, is_halved}
 use Rattle.relay_results.specs.Fates.{Reported, Halved, Tries, tried_again, fate_of_entry}
 use Rattle.relay_results.specs.declared.outcome.Outcome.{Outcome}
-use Rattle.relay_core.specs.Walk.{fate_or}
-use Rattle.relay_core.specs.Memory.{SaysAs, IsHalf}
+use Rattle.relay_core.specs.Walk.{fate_or, status_in}
+use Rattle.relay_core.specs.Memory.{SaysAs, TellsAs, IsHalf}
 use Rattle.relay_core.specs.declared.fates.Way.TheVariants as way
 use Rattle.std.proofs.lemmas.Bool.{leb-true}
 use Rattle.relay_results.proofs.Lists.{and_right}
@@ -35,3 +36,15 @@ half_by false false items status e = tt
 
 pub whole_halves : (items status : ℕ) (whole : Way) → whole ≡ way_by items status → IsHalf whole items
 whole_halves items status whole e = subst (λ w. IsHalf w items) (sym e) (half_by (is_halved items status) (is_retried_whole status) items status refl)
+
+-- ---- the status of each entry
+
+pub whole_tells : (ws : List Write) (status : ℕ) (os : List Outcome) → os ≡ [] → TellsAs (Whole status) ws os
+whole_tells ws status os n p = ap (λ xs. status_in (slice_get xs p)) (sym n)
+
+pub lost_tells : (ws : List Write) (os : List Outcome) → os ≡ [] → TellsAs Lost ws os
+lost_tells ws os n p = ap (λ xs. status_in (slice_get xs p)) (sym n)
+
+pub items_tell : (ws : List Write) (os given : List Outcome) (b : Bool) → matches os ws ≡ b → given ≡ (if b then os else []) → TellsAs (Items os) ws given
+items_tell ws os given true m e p = ap (λ b. if b then option_map (λ (o : Outcome). o.status) (slice_get os p) else None) m ∙ ap (λ xs. status_in (slice_get xs p)) (sym e)
+items_tell ws os given false m e p = ap (λ b. if b then option_map (λ (o : Outcome). o.status) (slice_get os p) else None) m ∙ ap (λ xs. status_in (slice_get xs p)) (sym e)

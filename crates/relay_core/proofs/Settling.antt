@@ -20,7 +20,8 @@ use Rattle.relay_core.proofs.Keeping.{one_less}
 use Rattle.relay_core.specs.declared.fates.Way.{Way}
 use Rattle.relay_core.specs.declared.fates.Way.TheVariants as way
 use Rattle.relay_held.specs.declared.kept.Spot.{Spot}
-use Rattle.relay_core.specs.Walk.{flies_here, fate_or, fate_met, met_list, met_maybe, reports_list, reports_maybe, tally, tally_maybe, kept_walk, reports_walk, tally_walk}
+use Rattle.relay_core.specs.Walk.{flies_here, fate_or, fate_met, met_list, met_maybe, reports_list, reports_maybe, tally, tally_maybe, kept_walk, reports_walk, tally_walk, status_in, success_list, success_maybe, successes_walk}
+use Rattle.relay_core.specs.Successes.{status_at, status_of, success_of, successes_from}
 use Rattle.relay_core.specs.Memory.{place_at, write_found, action_or, held_seen, entry_of, entries, Given, further, rest_if, IsMet, Carries, IsHome, IsKept, AllKept, SaysAs}
 
 -- a fate that settles
@@ -54,7 +55,7 @@ or_settles (way.Reported status) f e = refl
 or_settles (way.Halved cap) f e = refl
 
 pub met_ends : (max : ℕ) (whole : Way) (h : Kept) (os : List Outcome) → settles (fate_met max whole h os) ≡ true
-met_ends max whole h os = or_settles whole (fate_of_entry (record { sends = h.sends; attempts = h.attempts; max = max }) h.kind (slice_get os 0)) (entry_settles (record { sends = h.sends; attempts = h.attempts; max = max }) h.kind (slice_get os 0))
+met_ends max whole h os = or_settles whole (fate_of_entry (record { version = h.version; sends = h.sends; attempts = h.attempts; max = max }) h.kind (slice_get os 0)) (entry_settles (record { version = h.version; sends = h.sends; attempts = h.attempts; max = max }) h.kind (slice_get os 0))
 
 -- ---- what is read of one that flies, and of one that does not
 
@@ -96,7 +97,7 @@ tally_is false = refl
 module _ (g : Config) (clock n next : ℕ) (whole : Way) (all : List Write) (given : List Outcome) (a : Answer) (f f' : ℕ → List Write)
     (says : SaysAs a all whole given) (from : 1 ≤ n) (here : f n ≡ all) (same : (m : ℕ) → (m == n) ≡ false → f' m ≡ f m) where
   tries : Kept → Tries
-  tries h = record { sends = h.sends; attempts = h.attempts; max = g.max }
+  tries h = record { version = h.version; sends = h.sends; attempts = h.attempts; max = g.max }
 
   action_is : (p : ℕ) (h : Kept) (w : Write) → h.write ≡ None → h.flies ≡ Some (record { request = n; place = p }) → slice_get all p ≡ Some w → action_or (write_found h.write h.flies f) ≡ w.action
   action_is p h w e s found = (λ i. action_or (write_found (e i) (s i) f)) ∙ ap (λ ws. action_or (slice_get ws p)) here ∙ ap action_or found
@@ -116,7 +117,7 @@ module _ (g : Config) (clock n next : ℕ) (whole : Way) (all : List Write) (giv
   fate_there h w None k t = refl
   fate_there h (Some w) (Some s) k t = absurd k
   fate_there h None (Some s) k t =
-      ap (λ b. if b then fate (record { sends = h.sends; attempts = h.attempts; max = g.max }) all s.place (kind_of (action_or (write_found h.write h.flies f))) a else Flies) (one_less s.request n k.0 from ∙ t)
+      ap (λ b. if b then fate (record { version = h.version; sends = h.sends; attempts = h.attempts; max = g.max }) all s.place (kind_of (action_or (write_found h.write h.flies f))) a else Flies) (one_less s.request n k.0 from ∙ t)
 
   found_there : (w : Option Write) (p : Option Spot) → flies_here n p ≡ false → write_found w p f' ≡ write_found w p f
   found_there (Some w) p t = refl
@@ -157,6 +158,14 @@ module _ (g : Config) (clock n next : ℕ) (whole : Way) (all : List Write) (giv
   one_reported h w (Halved cap) e = refl
   one_reported h w (Reported c) e = λ i. record { name = h.name; document = document_of (e i); cause = c } ∷ []
 
+  one_succeeded : (h : Kept) (w : Write) (x : Fate) (status : Option ℕ) → w.version ≡ h.version → success_list x status w (h ∷ []) ≡ success_of x status (held_seen f h)
+  one_succeeded h w Flies status e = refl
+  one_succeeded h w Applied status e = λ i. record { name = h.name; version = e i; status = status } ∷ []
+  one_succeeded h w Already status e = λ i. record { name = h.name; version = e i; status = None } ∷ []
+  one_succeeded h w Retried status e = refl
+  one_succeeded h w (Halved cap) status e = refl
+  one_succeeded h w (Reported c) status e = refl
+
   -- the parts of one that flies
   met_here : (h : Kept) (hs : List Kept) (p : ℕ) (ws : List Write) → flies_here n h.flies ≡ true → Carries n p (h ∷ hs) ws → IsMet n p h ws
   met_here h hs p ws t c = subst (λ b. Given b (IsMet n p h ws)) t c.0
@@ -187,7 +196,7 @@ module _ (g : Config) (clock n next : ℕ) (whole : Way) (all : List Write) (giv
       let ih = kept_seen hs (p + 1) (drop 1 ws) (drop 1 os) (ap (drop 1) e ∙ drop_more p all) (ap (drop 1) o ∙ drop_more p given) (met_rest h hs p ws t c) k.1 in
       let rest = kept_walk hs g.max clock n whole (drop 1 ws) (drop 1 os) in
       let act = action_is p h m.write (away g.max next h h.write h.flies _ k.0.home m.spot) m.spot (got_at p h ws m e) in
-      let ok = or_settles whole _ (entry_settles (record { sends = h.sends; attempts = h.attempts; max = g.max }) h.kind (slice_get os 0)) in
+      let ok = or_settles whole _ (entry_settles (record { version = h.version; sends = h.sends; attempts = h.attempts; max = g.max }) h.kind (slice_get os 0)) in
       ap (λ b. entries (if b then met_maybe clock x (slice_get ws 0) (h ∷ []) ++ rest else h ∷ kept_walk hs g.max clock n whole ws os) f') t
       ∙ entries_append (met_maybe clock x (slice_get ws 0) (h ∷ [])) rest f'
       ∙ (λ i. entries (met_maybe clock x (got p h ws m i) (h ∷ [])) f' ++ ih i)
@@ -215,6 +224,32 @@ module _ (g : Config) (clock n next : ℕ) (whole : Way) (all : List Write) (giv
       ap (λ b. if b then reports_maybe (fate_met g.max whole h os) (slice_get ws 0) (h ∷ []) ++ reports_walk hs g.max n whole (drop 1 ws) (drop 1 os) else reports_walk hs g.max n whole ws os) t
       ∙ ih
       ∙ sym (ap (λ y. reported_one y (held_seen f h) ++ reports_from g (n - 1) all a (held_of (entries hs f))) (fate_there h h.write h.flies k.0.home t)))
+      (true_or_false (flies_here n h.flies))
+
+  status_here : ((p : ℕ) → status_at all a p ≡ status_in (slice_get given p)) → (p : ℕ) (h : Kept) (os : List Outcome) → os ≡ drop p given → h.flies ≡ Some (record { request = n; place = p })
+      → status_of all a (option_map place_at h.flies) ≡ status_in (slice_get os 0)
+  status_here tells p h os o s =
+      ap (λ q. status_of all a (option_map place_at q)) s ∙ tells p ∙ ap status_in (sym (drop_here p given) ∙ ap (λ xs. slice_get xs 0) (sym o))
+
+  pub succeeded_seen : ((p : ℕ) → status_at all a p ≡ status_in (slice_get given p)) → (hs : List Kept) (p : ℕ) (ws : List Write) (os : List Outcome) → ws ≡ drop p all → os ≡ drop p given → Carries n p hs ws → AllKept g.max next hs
+      → successes_walk hs g.max n whole ws os ≡ successes_from g (n - 1) all a (held_of (entries hs f))
+  succeeded_seen tells [] p ws os e o c k = refl
+  succeeded_seen tells (h ∷ hs) p ws os e o c k = ⊎_elim {C = successes_walk (h ∷ hs) g.max n whole ws os ≡ successes_from g (n - 1) all a (held_of (entries (h ∷ hs) f))}
+      (λ t.
+      let m = met_here h hs p ws t c in
+      let x = fate_met g.max whole h os in
+      let status = status_in (slice_get os 0) in
+      let ih = succeeded_seen tells hs (p + 1) (drop 1 ws) (drop 1 os) (ap (drop 1) e ∙ drop_more p all) (ap (drop 1) o ∙ drop_more p given) (met_rest h hs p ws t c) k.1 in
+      ap (λ b. if b then success_maybe x status (slice_get ws 0) (h ∷ []) ++ successes_walk hs g.max n whole (drop 1 ws) (drop 1 os) else successes_walk hs g.max n whole ws os) t
+      ∙ (λ i. success_maybe x status (got p h ws m i) (h ∷ []) ++ ih i)
+      ∙ ap (λ rs. rs ++ successes_from g (n - 1) all a (held_of (entries hs f)))
+      (one_succeeded h m.write x status m.matches.version
+      ∙ (λ i. success_of (sym (fate_met_here h p ws os e o m k.0) i) (sym (status_here tells p h os o m.spot) i) (held_seen f h))))
+      (λ t.
+      let ih = succeeded_seen tells hs p ws os e o (past_rest h hs p ws t c) k.1 in
+      ap (λ b. if b then success_maybe (fate_met g.max whole h os) (status_in (slice_get os 0)) (slice_get ws 0) (h ∷ []) ++ successes_walk hs g.max n whole (drop 1 ws) (drop 1 os) else successes_walk hs g.max n whole ws os) t
+      ∙ ih
+      ∙ sym (ap (λ y. success_of y (status_of all a (option_map place_at h.flies)) (held_seen f h) ++ successes_from g (n - 1) all a (held_of (entries hs f))) (fate_there h h.write h.flies k.0.home t)))
       (true_or_false (flies_here n h.flies))
 
   pub tally_seen : (q : Fate → Bool) → q Flies ≡ false → (hs : List Kept) (p : ℕ) (ws : List Write) (os : List Outcome) → ws ≡ drop p all → os ≡ drop p given → Carries n p hs ws → AllKept g.max next hs

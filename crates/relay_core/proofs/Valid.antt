@@ -7,7 +7,7 @@ use Rattle.relay_core.specs.declared.config.RelayConfig.{RelayConfig}
 use Rattle.relay_core.specs.Limits.{is_from_to, are_valid_limits, is_valid}
 
 pub record Facts (c : RelayConfig) : Type 0 where
-  pub producers : c.producers ≤ 16
+  pub producers : c.producers ≤ 256
   pub held : c.max_held ≤ 65536
   pub tries : (1 ≤ c.attempts) × (c.attempts ≤ 32)
   pub epoch : c.epoch ≤ 4194303
@@ -20,14 +20,14 @@ within least most n t = (leb-true _ _ (and_left _ _ t), leb-true _ _ (and_right 
 pub valid_facts : (c : RelayConfig) → is_valid c ≡ true → Facts c
 valid_facts c t =
     let t2 = and_right (is_from_to 1 8 c.lanes) _ t in
-    let t3 = and_right (is_from_to 1 16 c.producers) _ t2 in
+    let t3 = and_right (is_from_to 1 256 c.producers) _ t2 in
     let t4 = and_right (is_from_to 1 65536 c.capacity) _ t3 in
     let t5 = and_right (is_from_to 1 65536 c.max_held) _ t4 in
     let t6 = and_right (are_valid_limits c.limits) _ t5 in
     let t7 = and_right (is_from_to 1 32 c.attempts) _ t6 in
     let t8 = and_right (is_from_to 1 8 c.in_flight) _ t7 in
     record {
-      producers = (within 1 16 c.producers (and_left _ _ t2)).1;
+      producers = (within 1 256 c.producers (and_left _ _ t2)).1;
       held = (within 1 65536 c.max_held (and_left _ _ t4)).1;
       tries = within 1 32 c.attempts (and_left _ _ t6);
       epoch = leb-true _ _ (and_left _ _ t8);

@@ -1,9 +1,12 @@
 pub mod Limits
 pub mod Rule
+pub mod Successes
 pub mod State
 pub mod Walk
 pub mod Memory
 pub mod View
 pub mod Ties
+pub mod Endings
 pub mod Flights
 pub mod Quiet
+pub mod Tried

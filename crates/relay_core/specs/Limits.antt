@@ -14,7 +14,7 @@ are_valid_limits l = is_from_to 1 10000 l.count && (is_from_to 1024 16777216 l.b
 abbrev pub is_valid : RelayConfig → Bool
 is_valid c =
     is_from_to 1 8 c.lanes
-    && (is_from_to 1 16 c.producers
+    && (is_from_to 1 256 c.producers
     && (is_from_to 1 65536 c.capacity
     && (is_from_to 1 65536 c.max_held
     && (are_valid_limits c.limits

@@ -19,7 +19,8 @@ use Rattle.relay_core.specs.declared.fates.Way.TheVariants as way
 use Rattle.relay_delivery.specs.Bound.{halvings}
 use Rattle.relay_held.specs.declared.kept.Spot.{Spot}
 use Rattle.relay_flight.specs.declared.request.Request.{Request}
-use Rattle.relay_core.specs.Walk.{flies_here, fate_or}
+use Rattle.relay_core.specs.Successes.{status_at}
+use Rattle.relay_core.specs.Walk.{flies_here, fate_or, status_in}
 
 -- ---- read
 
@@ -137,6 +138,10 @@ tries_left max (h ∷ hs) = (max - h.attempts) + halvings h.cap + tries_left max
 -- an answer means the same for each operation as the status of the whole request, or the operation's entry
 abbrev pub SaysAs : Answer → List Write → Way → List Outcome → Type 0
 SaysAs a ws whole os = (t : Tries) (p : ℕ) (kind : ActionKind) → fate t ws p kind a ≡ fate_or whole (fate_of_entry t kind (slice_get os p))
+
+-- an answer has the same status for each place as these entries
+abbrev pub TellsAs : Answer → List Write → List Outcome → Type 0
+TellsAs a ws os = (p : ℕ) → status_at ws a p ≡ status_in (slice_get os p)
 
 -- a request that is halved had two or more writes, and the cap is half their number
 abbrev pub IsHalf : Way → ℕ → Type 0

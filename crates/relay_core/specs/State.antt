@@ -1,5 +1,5 @@
 -- A lane as its callers see it, and the effect of each call.
-use Rattle.std.specs.Prelude.{◌≡◌, ℕ, ◌+◌, ◌-◌, ◌^◌, ◌<◌, ◌≤◌, List, [], ◌∷◌, Option, Some, None, option_map, unwrap_or, Bool, not, true, false, ◌==◌, ◌&&◌, nat_lt, min, map, filter, length, replicate, slice_set, slice_index_or, if◌then◌else◌}
+use Rattle.std.specs.Prelude.{◌≡◌, ℕ, ◌+◌, ◌-◌, ◌^◌, ◌<◌, ◌≤◌, List, [], ◌∷◌, ◌++◌, Option, Some, None, option_map, unwrap_or, Bool, not, true, false, ◌==◌, ◌&&◌, nat_lt, min, map, filter, length, replicate, slice_set, slice_index_or, if◌then◌else◌}
 use Rattle.std.specs.List.{list_all, list_any}
 use Rattle.relay_action.specs.declared.write.Write.{Write}
 use Rattle.relay_action.specs.declared.operation.Op.{Op}
@@ -22,18 +22,21 @@ use Rattle.relay_core.specs.declared.config.RelayConfig.{RelayConfig}
 use Rattle.relay_core.specs.declared.settled.TakeFault.{TakeFault}
 use Rattle.relay_core.specs.declared.settled.TakeFault.TheVariants.{AfterClose, HeldFull}
 use Rattle.relay_core.specs.declared.settled.Settled.{Settled}
+use Rattle.relay_core.specs.declared.success.Success.{Success}
+use Rattle.relay_core.specs.Successes.{successes_from}
 use Rattle.relay_core.specs.Limits.{is_valid}
 use Rattle.relay_core.specs.Rule.{item_of, chosen_entries, batch_of}
 
 -- The config; the clock, what it took, holds, sent and reported, in the words of delivery; the flush mark, which is
--- the highest version to be sent whether or not the batch is full; which senders have closed; and the batches in
--- flight.
+-- the highest version to be sent whether or not the batch is full; which senders have closed; the batches in flight;
+-- and the operations that ended as applied and were not forgotten yet.
 pub record State : Type 0 where
   pub config : RelayConfig
   pub core : delivery.State
   pub mark : ℕ
   pub closed : List Bool
   pub flights : flight.Flying
+  pub successes : List Success
 
 -- A lane as contracts see it, in two parts: its state, and how many held operations its requests looked at. What a
 -- contract says of the state does not include the looks.
@@ -56,6 +59,7 @@ fresh c = record {
   mark = 0;
   closed = all_open (c.producers + 1);
   flights = record { max = c.in_flight; next = 1; batches = [] };
+  successes = [];
 }
 
 -- ---- take
@@ -165,7 +169,14 @@ abbrev pub oldest : State → Option ℕ
 oldest s = first_number s.core.flying
 
 abbrev pub after_answer_to : State → ℕ → Answer → State
-after_answer_to s number a = record s { core = delivery.after_answer_to s.core number a; flights = flight.without_batch number s.flights }
+after_answer_to s number a = record s {
+  core = delivery.after_answer_to s.core number a;
+  flights = flight.without_batch number s.flights;
+  successes = s.successes ++ successes_from s.core.config (from_zero number) (writes_of number s) a (delivery.held_of s.core.held);
+}
+
+abbrev pub without_successes : State → State
+without_successes s = record s { successes = [] }
 
 abbrev pub is_reported_fate : fates.Fate → Bool
 is_reported_fate fates.Flies = false

@@ -27,6 +27,7 @@ state_of a = record {
   mark = a.mark;
   closed = a.closed.items;
   flights = batches_of a.flight;
+  successes = a.successes.items;
 }
 
 abbrev pub view_of : Inside → Seen
@@ -38,6 +39,7 @@ pub record IsSound (a : Inside) : Type 0 where
   pub flight : IsInFlight a.flight
   pub most : a.flight.max ≡ a.config.in_flight
   pub room : vec_len a.reports + length a.held.list ≤ vec_capacity a.reports
+  pub places : vec_len a.successes + length a.held.list ≤ vec_capacity a.successes
   pub few : length a.held.list ≤ a.config.max_held
   pub limit : a.config.max_held ≤ 65536
   pub tries : (1 ≤ a.config.attempts) × (a.config.attempts ≤ 32)

@@ -1,7 +1,7 @@
 -- The held list in memory, and the walks over it.
 pub use Rattle.relay_held.specs.Operations.{waits_here, more, launch_one, back_at, halved_at}
 pub use Rattle.relay_held.specs.Queues.{with_first, without_first, first_of, OnlyFirstsFly, is_of, is_later_kept, is_candidate_kept, is_eligible_kept, first_due_kept}
-use Rattle.std.specs.Prelude.{ℕ, ◌+◌, List, [], ◌∷◌, ◌++◌, Option, Some, None, Bool, true, false, ◌&&◌, ◌==◌, drop, filter, map, slice_get, option_to_list, if◌then◌else◌}
+use Rattle.std.specs.Prelude.{ℕ, ◌+◌, List, [], ◌∷◌, ◌++◌, Option, Some, None, option_map, Bool, true, false, ◌&&◌, ◌==◌, drop, filter, map, slice_get, option_to_list, if◌then◌else◌}
 use Rattle.relay_action.specs.declared.write.Write.{Write}
 use Rattle.relay_batch.specs.declared.item.BatchItem.{BatchItem}
 use Rattle.relay_results.specs.declared.outcome.Outcome.{Outcome}
@@ -19,6 +19,7 @@ use Rattle.relay_core.specs.declared.fates.Fate.TheVariants as code
 use Rattle.relay_core.specs.declared.fates.Way.{Way}
 use Rattle.relay_core.specs.declared.fates.Way.TheVariants as way
 use Rattle.relay_core.specs.declared.report.Report.{Report}
+use Rattle.relay_core.specs.declared.success.Success.{Success}
 
 abbrev pub flies_here : ℕ → Option Spot → Bool
 flies_here number None = false
@@ -68,7 +69,7 @@ abbrev pub report_of : Report → machine.Report
 report_of r = record { name = r.name; document = document_of r.key; cause = r.cause }
 
 abbrev pub fate_met : ℕ → Way → Kept → List Outcome → of.Fate
-fate_met max whole h os = fate_or whole (fate_of_entry (record { sends = h.sends; attempts = h.attempts; max = max }) h.kind (slice_get os 0))
+fate_met max whole h os = fate_or whole (fate_of_entry (record { version = h.version; sends = h.sends; attempts = h.attempts; max = max }) h.kind (slice_get os 0))
 
 abbrev pub stays : of.Fate → Bool
 stays of.Flies = true
@@ -97,6 +98,18 @@ reports_one of.Retried h w = []
 reports_one (of.Halved cap) h w = []
 reports_one (of.Reported c) h w = record { name = h.name; document = document_of w.key; cause = c } ∷ []
 
+-- the status of an entry
+abbrev pub status_in : Option Outcome → Option ℕ
+status_in entry = option_map (λ (o : Outcome). o.status) entry
+
+abbrev pub success_one : of.Fate → Option ℕ → Kept → Write → List Success
+success_one of.Flies status h w = []
+success_one of.Applied status h w = record { name = h.name; version = w.version; status = status } ∷ []
+success_one of.Already status h w = record { name = h.name; version = w.version; status = None } ∷ []
+success_one of.Retried status h w = []
+success_one (of.Halved cap) status h w = []
+success_one (of.Reported c) status h w = []
+
 abbrev pub met_list : ℕ → of.Fate → Write → List Kept → List Kept
 met_list clock f w [] = []
 met_list clock f w (h ∷ hs) = if stays f then met_one clock f w h ∷ [] else []
@@ -104,6 +117,10 @@ met_list clock f w (h ∷ hs) = if stays f then met_one clock f w h ∷ [] else 
 abbrev pub reports_list : of.Fate → Write → List Kept → List machine.Report
 reports_list f w [] = []
 reports_list f w (h ∷ hs) = reports_one f h w
+
+abbrev pub success_list : of.Fate → Option ℕ → Write → List Kept → List Success
+success_list f status w [] = []
+success_list f status w (h ∷ hs) = success_one f status h w
 
 abbrev pub tally : Bool → ℕ
 tally true = 1
@@ -117,6 +134,10 @@ met_maybe clock f (Some w) hs = met_list clock f w hs
 abbrev pub reports_maybe : of.Fate → Option Write → List Kept → List machine.Report
 reports_maybe f None hs = []
 reports_maybe f (Some w) hs = reports_list f w hs
+
+abbrev pub success_maybe : of.Fate → Option ℕ → Option Write → List Kept → List Success
+success_maybe f status None hs = []
+success_maybe f status (Some w) hs = success_list f status w hs
 
 abbrev pub tally_maybe : (of.Fate → Bool) → of.Fate → Option Write → ℕ
 tally_maybe p f None = 0
@@ -137,6 +158,13 @@ reports_walk (h ∷ hs) max number whole ws os =
     then reports_maybe (fate_met max whole h os) (slice_get ws 0) (h ∷ []) ++ reports_walk hs max number whole (drop 1 ws) (drop 1 os)
     else reports_walk hs max number whole ws os
 
+abbrev pub successes_walk : List Kept → ℕ → ℕ → Way → List Write → List Outcome → List Success
+successes_walk [] max number whole ws os = []
+successes_walk (h ∷ hs) max number whole ws os =
+    if flies_here number h.flies
+    then success_maybe (fate_met max whole h os) (status_in (slice_get os 0)) (slice_get ws 0) (h ∷ []) ++ successes_walk hs max number whole (drop 1 ws) (drop 1 os)
+    else successes_walk hs max number whole ws os
+
 abbrev pub tally_walk : (of.Fate → Bool) → List Kept → ℕ → ℕ → Way → List Write → List Outcome → ℕ
 tally_walk p [] max number whole ws os = 0
 tally_walk p (h ∷ hs) max number whole ws os =
@@ -148,7 +176,7 @@ tally_walk p (h ∷ hs) max number whole ws os =
 
 -- what an answer means for the operation that is the first of its document
 abbrev pub fate_one : ℕ → Way → Kept → Option Outcome → of.Fate
-fate_one max whole h entry = fate_or whole (fate_of_entry (record { sends = h.sends; attempts = h.attempts; max = max }) h.kind entry)
+fate_one max whole h entry = fate_or whole (fate_of_entry (record { version = h.version; sends = h.sends; attempts = h.attempts; max = max }) h.kind entry)
 
 abbrev pub after_one : ℕ → Write → List Kept → of.Fate → List Kept
 after_one clock w hs of.Flies = hs

@@ -9,7 +9,7 @@ use relay_batch::Limits;
 pub const LANE_LIMIT: u32 = 8;
 
 /// The maximum number of producers.
-pub const PRODUCER_LIMIT: u32 = 16;
+pub const PRODUCER_LIMIT: u32 = 256;
 
 /// The maximum number of messages in a lane's queue.
 pub const CAPACITY_LIMIT: u32 = 65_536;
@@ -46,7 +46,7 @@ pub const DEAL_LIMIT: u64 = 1_099_511_627_775;
 pub struct RelayConfig {
     /// The number of lanes: 1 to 8.
     pub lanes: u32,
-    /// The number of producers: 1 to 16.
+    /// The number of producers: 1 to 256.
     pub producers: u32,
     /// The capacity of a lane's queue, in messages: 1 to 65,536.
     pub capacity: u32,

@@ -1,11 +1,14 @@
 //! What an answer means for one operation.
-ghost use Rattle.std.specs.Prelude.{◌≡◌, unwrap_or};
-ghost use Rattle.relay_results.specs.Fates.{fate_of_item, fate_of_entry};
+ghost use Rattle.std.specs.Prelude.{◌≡◌};
+ghost use Rattle.relay_results.specs.Verdicts.{may_be_own};
+ghost use Rattle.relay_results.specs.Outside.{stored_in};
+ghost use Rattle.relay_results.specs.Fates.{kind_in, reason_in, fate_of_item, fate_of_entry};
+ghost use Rattle.relay_core.specs.Tried.{tries_of};
 ghost use Rattle.relay_core.specs.Walk.{said, fate_or};
 
 use relay_action::{ActionKind, Text};
 use relay_held::Kept;
-use relay_results::{Cause, ItemVerdict, Outcome, verdict};
+use relay_results::{Cause, ErrorDetail, ItemVerdict, Outcome, verdict};
 
 /// What the answer to a request as a whole means for its operations.
 #[derive(Clone, Copy, Debug)]
@@ -33,43 +36,95 @@ pub enum Fate {
     Reported(Cause),
 }
 
-// What an entry means for its operation.
-fn fate_by(kind: ActionKind, outcome: Outcome, sends: u32, attempts: u32, max: u32) -> Fate
-    ensures { said result
-        ≡ fate_of_item (record { sends = sends; attempts = attempts; max = max }) kind outcome }
+// An operation when its answer arrives: its version, how many requests carried it, how many of
+// them count as tries, and how many tries it may have.
+#[derive(Clone, Copy)]
+struct Tries {
+    version: u64,
+    sends: u32,
+    attempts: u32,
+    max: u32,
+}
+
+// Whether an error states no stored version, or this one.
+fn may_be_own(error: &Option<ErrorDetail>, own: u64) -> bool
+    ensures { result ≡ may_be_own (stored_in error.now) own }
 {
+    match error {
+        Some(error) => error.stored.is_none_or(|stored| stored == own),
+        None => true,
+    }
+}
+
+// The cause of a report on a conflict with this error.
+fn conflict(error: Option<ErrorDetail>) -> Cause
+    ensures { result ≡ Cause.Conflict (stored_in error) (reason_in error) }
+{
+    match error {
+        Some(error) => Cause::Conflict {
+            stored: error.stored,
+            reason: error.reason,
+        },
+        None => Cause::Conflict {
+            stored: None,
+            reason: None,
+        },
+    }
+}
+
+// The cause of a report on a refusal with this status and this error.
+fn refusal(status: u16, error: Option<ErrorDetail>) -> Cause
+    ensures { result ≡ Cause.Refused status (kind_in error) (reason_in error) }
+{
+    match error {
+        Some(error) => Cause::Refused {
+            status,
+            kind: error.kind,
+            reason: error.reason,
+        },
+        None => Cause::Refused {
+            status,
+            kind: Text::empty(),
+            reason: None,
+        },
+    }
+}
+
+// What an entry means for its operation.
+fn fate_by(kind: ActionKind, outcome: Outcome, tries: Tries) -> Fate
+    ensures { said result ≡ fate_of_item (tries_of tries) kind outcome }
+{
+    let own = may_be_own(&outcome.error, tries.version);
+    let error = outcome.error.is_some();
     match verdict(
         kind,
         outcome.status,
-        outcome.error.is_some(),
-        sends,
-        attempts,
-        max,
+        error,
+        own,
+        tries.sends,
+        tries.attempts,
+        tries.max,
     ) {
         ItemVerdict::Applied => Fate::Applied,
         ItemVerdict::Already => Fate::Already,
-        ItemVerdict::Conflict => Fate::Reported(Cause::Conflict),
+        ItemVerdict::Conflict => Fate::Reported(conflict(outcome.error)),
         ItemVerdict::Retry => Fate::Retried,
-        ItemVerdict::GaveUp => Fate::Reported(Cause::GaveUp { sends }),
-        ItemVerdict::Refused => Fate::Reported(Cause::Refused {
-            status: outcome.status,
-            kind: outcome.error.unwrap_or(Text::empty()),
-        }),
+        ItemVerdict::GaveUp => Fate::Reported(Cause::GaveUp { sends: tries.sends }),
+        ItemVerdict::Refused => Fate::Reported(refusal(outcome.status, outcome.error)),
     }
 }
 
 // What the entry at its place means for it, if there is one.
-fn fate_next(kind: ActionKind, entry: Option<Outcome>, sends: u32, attempts: u32, max: u32) -> Fate
-    ensures { said result
-        ≡ fate_of_entry (record { sends = sends; attempts = attempts; max = max }) kind entry }
+fn fate_next(kind: ActionKind, entry: Option<Outcome>, tries: Tries) -> Fate
+    ensures { said result ≡ fate_of_entry (tries_of tries) kind entry }
 {
     match entry {
-        Some(outcome) => fate_by(kind, outcome, sends, attempts, max),
+        Some(outcome) => fate_by(kind, outcome, tries),
         None => {
-            if attempts < max {
+            if tries.attempts < tries.max {
                 Fate::Retried
             } else {
-                Fate::Reported(Cause::GaveUp { sends })
+                Fate::Reported(Cause::GaveUp { sends: tries.sends })
             }
         }
     }
@@ -80,12 +135,24 @@ fn fate_next(kind: ActionKind, entry: Option<Outcome>, sends: u32, attempts: u32
 pub(crate) fn fate_in(one: &Kept, whole: Way, entry: Option<Outcome>, max: u32) -> Fate
     ensures { said result
         ≡ fate_or whole
-        (fate_of_entry (record { sends = one.now.sends; attempts = one.now.attempts; max = max })
+        (fate_of_entry (record {
+          version =
+              one.now.version;
+          sends = one.now.sends;
+          attempts = one.now.attempts;
+          max = max;
+        })
         one.now.kind entry) }
 {
+    let tries = Tries {
+        version: one.version,
+        sends: one.sends,
+        attempts: one.attempts,
+        max,
+    };
     match whole {
         Way::Reported(status) => Fate::Reported(Cause::Request { status }),
         Way::Halved(cap) => Fate::Halved(cap),
-        Way::ByEntry => fate_next(one.kind, entry, one.sends, one.attempts, max),
+        Way::ByEntry => fate_next(one.kind, entry, tries),
     }
 }

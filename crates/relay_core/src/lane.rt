@@ -10,11 +10,11 @@ ghost use Rattle.relay_flight.specs.Flying.{batch_at};
 ghost use Rattle.relay_delivery.specs.Lane.{candidates};
 ghost use Rattle.relay_core.specs.Limits.{is_valid};
 ghost use Rattle.relay_core.specs.Walk.{report_of};
-ghost use Rattle.relay_core.specs.Memory.{SaysAs, IsHalf};
+ghost use Rattle.relay_core.specs.Memory.{SaysAs, TellsAs, IsHalf};
 ghost use Rattle.relay_core.specs.State.{fresh, after_op, after_take, take_fault, is_put};
 ghost use Rattle.relay_core.specs.State.{all_closed};
 ghost use Rattle.relay_core.specs.State.{after_tick, after_flush, is_flying, oldest, writes_of};
-ghost use Rattle.relay_core.specs.State.{after_answer_to};
+ghost use Rattle.relay_core.specs.State.{after_answer_to, without_successes};
 ghost use Rattle.relay_core.specs.State.{AreCounts, next_batch, after_request, looks_after};
 ghost use Rattle.relay_core.specs.State.{looked_at_least, due_in, is_finished, IsLane};
 
@@ -25,6 +25,7 @@ use crate::launch::launch;
 use crate::report::Report;
 use crate::settle::settle_walk;
 use crate::settled::{NotFlying, Settled, TakeFault, Totals};
+use crate::success::Success;
 use crate::taking::{NoRoom, kept_of, make_room, op_of, refused};
 use relay_action::{Body, Mail, Op, Write};
 use relay_batch::{BatchItem, Room};
@@ -55,6 +56,8 @@ pub struct Lane {
     held: Held,
     flight: Flight,
     reports: Vec<Report>,
+    // Those that ended as applied and were not forgotten yet.
+    successes: Vec<Success>,
     // How many held operations `request` has looked at, to see whether they may be sent.
     looks: u64,
 }
@@ -111,6 +114,7 @@ impl Lane {
             held: Held::new(alloc),
             flight: Flight::new(alloc, config.in_flight)?,
             reports: Vec::new(alloc),
+            successes: Vec::new(alloc),
             looks: 0,
         })
     }
@@ -164,6 +168,13 @@ impl Lane {
         self.config.in_flight
     }
 
+    /// The maximum number of operations in a request.
+    pub fn request_count(&self) -> u32
+        ensures { result ≡ self.now.state.config.limits.count }
+    {
+        self.config.limits.count
+    }
+
     /// The number of operations held.
     pub fn held(&self) -> u32
         ensures { result ≡ length self.now.state.core.held }
@@ -184,6 +195,22 @@ impl Lane {
     {
         let Lane { reports, .. } = self;
         reports
+    }
+
+    /// The operations that ended as applied since the last [`Lane::forget_successes`], in the order
+    /// in which they ended.
+    pub fn successes(&self) -> &[Success]
+        ensures { result.now ≡ self.now.state.successes }
+    {
+        self.successes.as_slice()
+    }
+
+    /// Forgets the successes so far. The room for them is kept, so it does not allocate.
+    pub fn forget_successes(&mut self)
+        ensures forgotten { self.new.state ≡ without_successes self.old.state }
+        ensures looks { self.new.looks ≡ self.old.looks }
+    {
+        self.successes.clear();
     }
 
     /// The totals of what was taken, applied and sent since the lane was made.
@@ -241,7 +268,7 @@ impl Lane {
         ensures back { IfErr result (λ e. e.op ≡ op) }
         ensures looks { self.new.looks ≡ self.old.looks }
     {
-        if make_room(&self.held, &mut self.reports).is_err() {
+        if make_room(&self.held, &mut self.reports, &mut self.successes).is_err() {
             return Err(NoRoom { op });
         }
         if self.taken >= self.config.deal {
@@ -280,8 +307,8 @@ impl Lane {
 
     /// Takes a message of a known sender. An operation is assigned the next version and held, or
     /// reported as Spent if none is left; a Tick is a [`Lane::tick`], a Flush a [`Lane::flush`],
-    /// and a Done closes its sender. Room for the operation's later report is allocated here. The
-    /// fault is the first of [`TakeFault`] that applies; `Memory` only for an operation. The
+    /// and a Done closes its sender. Room for the operation's later report or success is allocated
+    /// here. The fault is the first of [`TakeFault`] that applies; `Memory` only for an operation. The
     /// message is returned with it, and the lane is unchanged.
     pub fn take(&mut self, mail: Mail) -> Result<(), (TakeFault, Mail)>
         requires { mail.sender < length self.old.state.closed }
@@ -440,6 +467,7 @@ impl Lane {
         ensures flies { is_some result ≡ is_flying number self.old.state }
         ensures settled { OnSome result ((a : Answer)
             → SaysAs a (writes_of number self.old.state) whole outcomes.items
+            → TellsAs a (writes_of number self.old.state) outcomes.items
             → self.new.state ≡ after_answer_to self.old.state number a) }
         ensures counts { IfSome result (λ c. (a : Answer)
             → SaysAs a (writes_of number self.old.state) whole outcomes.items
@@ -455,6 +483,7 @@ impl Lane {
         let found = settle_walk(
             &mut self.held,
             &mut self.reports,
+            &mut self.successes,
             self.config.attempts,
             clock,
             number,

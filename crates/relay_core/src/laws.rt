@@ -1,6 +1,7 @@
 //! How a lane's calls are steps of delivery. These functions do nothing; their contracts are the
 //! laws.
 ghost use Rattle.relay_core.specs.Ties.{FreshFits, TakeFits, RequestFits, RunFits, AnswerFits};
+ghost use Rattle.relay_core.specs.Endings.{EachEndsOnce, SuccessesAreTrue};
 ghost use Rattle.relay_core.specs.Flights.{EarlierOnesSettled, ItemsAreOfOperations};
 ghost use Rattle.relay_core.specs.Flights.{RequestsKeepLimits};
 
@@ -21,4 +22,12 @@ pub fn requests_are_formed()
     ensures earlier { EarlierOnesSettled }
     ensures items { ItemsAreOfOperations }
     ensures limits { RequestsKeepLimits }
+{}
+
+/// How operations end: after an answer each one that was held is held, or it is one of the new
+/// successes, or of the new reports, and only one of these; and if the answer is honest, each new
+/// success names an operation that was held, with its version, whose write the index has applied.
+pub fn operations_end_once()
+    ensures once { EachEndsOnce }
+    ensures successes { SuccessesAreTrue }
 {}

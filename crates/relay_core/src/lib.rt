@@ -16,6 +16,7 @@ pub mod laws;
 pub mod report;
 mod settle;
 pub mod settled;
+pub mod success;
 mod taking;
 
 pub use config::RelayConfig;
@@ -23,3 +24,4 @@ pub use lane::Lane;
 pub use relay_results::Cause;
 pub use report::Report;
 pub use settled::{NotFlying, Settled, TakeFault, Totals};
+pub use success::Success;

@@ -1,6 +1,7 @@
 //! Settling the operations of a request by its answer.
 ghost use Rattle.std.specs.Prelude.{◌≡◌, Some, true, false, ◌-◌, ◌^◌, min, ◌+◌, ◌≤◌, ◌<◌, ◌++◌};
 ghost use Rattle.std.specs.Prelude.{◌∷◌, [], map, length, drop, slice_get, vec_len, vec_capacity};
+ghost use Rattle.std.specs.Prelude.{None};
 ghost use Rattle.std.specs.Vec.Iter.{into_iter_items};
 ghost use Rattle.relay_delivery.specs.Machine.{is_applied_fate, is_already_fate};
 ghost use Rattle.relay_results.specs.Documents.{document_of};
@@ -8,12 +9,14 @@ ghost use Rattle.relay_held.specs.declared.kept.Kept.{Kept};
 ghost use Rattle.relay_core.specs.Walk.{waits_here, with_first, without_first, first_of, back};
 ghost use Rattle.relay_core.specs.Walk.{after_one, fate_one, reports_one, said, report_of, tally};
 ghost use Rattle.relay_core.specs.Walk.{kept_walk, reports_walk, tally_walk};
+ghost use Rattle.relay_core.specs.Walk.{status_in, success_one, successes_walk};
 ghost use Rattle.relay_core.specs.Memory.{Carries};
 ghost use Rattle.relay_core.specs.State.{is_reported_fate, is_retried_fate};
 
 use crate::fates::{Fate, Way, fate_in};
 use crate::report::Report;
 use crate::settled::Settled;
+use crate::success::Success;
 use relay_action::Write;
 use relay_held::Held;
 use relay_results::{Cause, Outcome};
@@ -69,6 +72,33 @@ fn report(held: &mut Held, write: Write, cause: Cause, reports: &mut Vec<Report>
     }
 }
 
+// Ends the first operation of a document as applied.
+fn succeed(held: &mut Held, write: Write, status: Option<u16>, successes: &mut Vec<Success>)
+    requires room { vec_len successes.old < vec_capacity successes.old }
+    requires flies { (h : Kept) → first_of write.key held.old.list ≡ Some h
+        → waits_here h.flies ≡ false }
+    ensures held { held.new.list ≡ without_first write.key held.old.list }
+    ensures clock { held.new.clock ≡ held.old.clock }
+    ensures successes { (h : Kept) → first_of write.key held.old.list ≡ Some h
+        → successes.new.items ≡ successes.old.items ++ record {
+          name =
+              h.name;
+          version = write.version;
+          status = status;
+        } ∷ [] }
+    ensures len { (h : Kept) → first_of write.key held.old.list ≡ Some h
+        → vec_len successes.new ≡ vec_len successes.old + 1 }
+    ensures capacity { vec_capacity successes.new ≡ vec_capacity successes.old }
+{
+    if let Some(name) = held.take(&write.key) {
+        successes.push_reserved(Success {
+            name,
+            version: write.version,
+            status,
+        });
+    }
+}
+
 // Lets the first operation of a document wait again.
 fn land(held: &mut Held, write: Write, clock: u64, attempts: u32)
     requires flies { (h : Kept) → first_of write.key held.old.list ≡ Some h
@@ -87,10 +117,13 @@ fn meet(
     write: Write,
     clock: u64,
     attempts: u32,
+    status: Option<u16>,
     reports: &mut Vec<Report>,
+    successes: &mut Vec<Success>,
     counts: &mut Settled,
 )
     requires room { vec_len reports.old < vec_capacity reports.old }
+    requires place { vec_len successes.old < vec_capacity successes.old }
     requires few { counts.old.applied + counts.old.already + counts.old.reported
         + counts.old.retried < 4294967295 }
     requires flies { (h : Kept) → first_of write.key held.old.list ≡ Some h
@@ -104,6 +137,13 @@ fn meet(
     ensures capacity { vec_capacity reports.new ≡ vec_capacity reports.old }
     ensures len { (h : Kept) → first_of write.key held.old.list ≡ Some h
         → vec_len reports.new ≡ vec_len reports.old + tally (is_reported_fate (said fate)) }
+    ensures successes { (h : Kept) → first_of write.key held.old.list ≡ Some h
+        → successes.new.items ≡ successes.old.items ++ success_one (said fate) status h write }
+    ensures places { vec_capacity successes.new ≡ vec_capacity successes.old }
+    ensures more { (h : Kept) → first_of write.key held.old.list ≡ Some h
+        → vec_len successes.new
+        ≡ vec_len successes.old + tally (is_applied_fate (said fate))
+        + tally (is_already_fate (said fate)) }
     ensures applied { counts.new.applied
         ≡ counts.old.applied + tally (is_applied_fate (said fate)) }
     ensures already { counts.new.already
@@ -116,11 +156,11 @@ fn meet(
 {
     match fate {
         Fate::Applied => {
-            let _ = held.take(&write.key);
+            succeed(held, write, status, successes);
             counts.applied += 1;
         }
         Fate::Already => {
-            let _ = held.take(&write.key);
+            succeed(held, write, None, successes);
             counts.already += 1;
         }
         Fate::Retried => {
@@ -138,6 +178,16 @@ fn meet(
     }
 }
 
+// The status of an entry, if there is one.
+fn status_in(entry: &Option<Outcome>) -> Option<u16>
+    ensures { result ≡ status_in entry.now }
+{
+    match entry {
+        Some(outcome) => Some(outcome.status),
+        None => None,
+    }
+}
+
 // Settles the operation of a write by its entry.
 fn settle_one(
     held: &mut Held,
@@ -147,9 +197,11 @@ fn settle_one(
     whole: Way,
     entry: Option<Outcome>,
     reports: &mut Vec<Report>,
+    successes: &mut Vec<Success>,
     counts: &mut Settled,
 )
     requires room { vec_len reports.old < vec_capacity reports.old }
+    requires place { vec_len successes.old < vec_capacity successes.old }
     requires few { counts.old.applied + counts.old.already + counts.old.reported
         + counts.old.retried < 4294967295 }
     requires flies { (h : Kept) → first_of write.key held.old.list ≡ Some h
@@ -164,6 +216,15 @@ fn settle_one(
     ensures len { (h : Kept) → first_of write.key held.old.list ≡ Some h
         → vec_len reports.new
         ≡ vec_len reports.old + tally (is_reported_fate (fate_one max whole h entry)) }
+    ensures successes { (h : Kept) → first_of write.key held.old.list ≡ Some h
+        → successes.new.items
+        ≡ successes.old.items
+        ++ success_one (fate_one max whole h entry) (status_in entry) h write }
+    ensures places { vec_capacity successes.new ≡ vec_capacity successes.old }
+    ensures more { (h : Kept) → first_of write.key held.old.list ≡ Some h
+        → vec_len successes.new
+        ≡ vec_len successes.old + tally (is_applied_fate (fate_one max whole h entry))
+        + tally (is_already_fate (fate_one max whole h entry)) }
     ensures applied { (h : Kept) → first_of write.key held.old.list ≡ Some h
         → counts.new.applied
         ≡ counts.old.applied + tally (is_applied_fate (fate_one max whole h entry)) }
@@ -180,16 +241,20 @@ fn settle_one(
 {
     if let Some(one) = held.first(&write.key) {
         let attempts = one.attempts;
+        let status = status_in(&entry);
         let fate = fate_in(one, whole, entry, max);
-        meet(held, fate, write, clock, attempts, reports, counts);
+        meet(
+            held, fate, write, clock, attempts, status, reports, successes, counts,
+        );
     }
 }
 
-/// Settles the operations of a request by its answer, write by write. There is room for the
-/// reports.
+/// Settles the operations of a request by its answer, write by write. There is room for the reports
+/// and the successes.
 pub(crate) fn settle_walk(
     held: &mut Held,
     reports: &mut Vec<Report>,
+    successes: &mut Vec<Success>,
     max: u32,
     clock: u64,
     number: u64,
@@ -198,6 +263,7 @@ pub(crate) fn settle_walk(
     outcomes: Vec<Outcome>,
 ) -> Settled
     requires room { vec_len reports.old + length held.old.list ≤ vec_capacity reports.old }
+    requires places { vec_len successes.old + length held.old.list ≤ vec_capacity successes.old }
     requires few { length held.old.list ≤ 65536 }
     requires carries { Carries number 0 held.old.list writes.items }
     ensures held { held.new.list
@@ -206,6 +272,9 @@ pub(crate) fn settle_walk(
     ensures reports { map report_of reports.new.items
         ≡ map report_of reports.old.items
         ++ reports_walk held.old.list max number whole writes.items outcomes.items }
+    ensures successes { successes.new.items
+        ≡ successes.old.items
+        ++ successes_walk held.old.list max number whole writes.items outcomes.items }
     ensures applied { result.applied
         ≡ tally_walk is_applied_fate held.old.list max number whole writes.items outcomes.items }
     ensures already { result.already
@@ -215,6 +284,7 @@ pub(crate) fn settle_walk(
     ensures retried { result.retried
         ≡ tally_walk is_retried_fate held.old.list max number whole writes.items outcomes.items }
     ensures room { vec_len reports.new + length held.new.list ≤ vec_capacity reports.new }
+    ensures places { vec_len successes.new + length held.new.list ≤ vec_capacity successes.new }
     ensures fewer { length held.new.list ≤ length held.old.list }
     ensures done { result.applied + result.already + length held.new.list ≤ length held.old.list }
     ensures more { vec_len reports.old ≤ vec_len reports.new }
@@ -232,7 +302,17 @@ pub(crate) fn settle_walk(
     'writes: while let Some(write) = next_of(&mut ahead) {
         let _ = held.len();
         let entry = next_of(&mut left);
-        settle_one(held, max, clock, write, whole, entry, reports, &mut counts);
+        settle_one(
+            held,
+            max,
+            clock,
+            write,
+            whole,
+            entry,
+            reports,
+            successes,
+            &mut counts,
+        );
     }
     counts
 }

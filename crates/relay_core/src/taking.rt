@@ -7,6 +7,7 @@ ghost use Rattle.relay_core.specs.Memory.{kept_new};
 
 use crate::report::Report;
 use crate::settled::TakeFault;
+use crate::success::Success;
 use relay_action::{Body, DocKey, Mail, Op, Write};
 use relay_held::{Held, Kept};
 use relay_ndjson::write_len;
@@ -19,16 +20,27 @@ pub struct NoRoom {
     pub op: Op,
 }
 
-/// Makes room for the later reports of what is held and of one more operation.
-pub(crate) fn make_room(held: &Held, reports: &mut Vec<Report>) -> Result<(), AllocError>
+/// Makes room for the later report, or success, of each operation that is held and of one more.
+pub(crate) fn make_room(
+    held: &Held,
+    reports: &mut Vec<Report>,
+    successes: &mut Vec<Success>,
+) -> Result<(), AllocError>
     requires { length held.now.list + 1 < 2 ^ 32 }
     ensures reports { reports.new.items ≡ reports.old.items }
     ensures reports_len { vec_len reports.new ≡ vec_len reports.old }
     ensures capacity { vec_capacity reports.old ≤ vec_capacity reports.new }
     ensures reports_room { OnOk result
         (vec_len reports.new + length held.now.list + 1 ≤ vec_capacity reports.new) }
+    ensures successes { successes.new.items ≡ successes.old.items }
+    ensures successes_len { vec_len successes.new ≡ vec_len successes.old }
+    ensures places { vec_capacity successes.old ≤ vec_capacity successes.new }
+    ensures successes_room { OnOk result
+        (vec_len successes.new + length held.now.list + 1 ≤ vec_capacity successes.new) }
 {
-    reports.reserve(held.len() + 1)?;
+    let more = held.len() + 1;
+    reports.reserve(more)?;
+    successes.reserve(more)?;
     Ok(())
 }
 

@@ -2,7 +2,7 @@
 use relay_action::{Action, ActionKind, Body, DocKey, Mail, Op, Text};
 use relay_batch::Limits;
 use relay_core::{Cause, Lane, NotFlying, RelayConfig, Settled, TakeFault, Totals};
-use relay_results::Outcome;
+use relay_results::{ErrorDetail, Outcome};
 use std::alloc::{AllocError, Global};
 use std::test::Fail;
 
@@ -32,6 +32,8 @@ pub enum Entry<'a> {
     Index(&'a str, u16),
     /// An index with the error `scripted_refusal`.
     Failed(&'a str, u16),
+    /// An index that conflicts, with an error that states this stored version.
+    Stated(&'a str, u64),
     Delete(&'a str, u16),
 }
 
@@ -129,20 +131,31 @@ pub fn put(
     take(lane, 0, number, Body::Put(op))
 }
 
+// The error of an entry, if it has one.
+fn error_of(alloc: Global, entry: &Entry<'_>) -> Result<Option<ErrorDetail>, AllocError> {
+    let (kind, stored) = match *entry {
+        Entry::Failed(_, _) => ("scripted_refusal", None),
+        Entry::Stated(_, stored) => ("version_conflict_engine_exception", Some(stored)),
+        _ => return Ok(None),
+    };
+    Ok(Some(ErrorDetail {
+        kind: Text::new(alloc, kind)?,
+        reason: None,
+        stored,
+    }))
+}
+
 fn outcome_of(alloc: Global, entry: &Entry<'_>) -> Result<Outcome, AllocError> {
-    let (kind, id, status, error) = match *entry {
-        Entry::Index(id, status) => (ActionKind::Index, id, status, None),
-        Entry::Failed(id, status) => {
-            let error = Text::new(alloc, "scripted_refusal")?;
-            (ActionKind::Index, id, status, Some(error))
-        }
-        Entry::Delete(id, status) => (ActionKind::Delete, id, status, None),
+    let (kind, id, status) = match *entry {
+        Entry::Index(id, status) | Entry::Failed(id, status) => (ActionKind::Index, id, status),
+        Entry::Stated(id, _) => (ActionKind::Index, id, 409),
+        Entry::Delete(id, status) => (ActionKind::Delete, id, status),
     };
     Ok(Outcome {
         kind,
         id: Text::new(alloc, id)?,
         status,
-        error,
+        error: error_of(alloc, entry)?,
     })
 }
 
@@ -292,14 +305,19 @@ fn desk_of(alloc: Global, config: RelayConfig) -> Result<Desk, Fail> {
     })
 }
 
+// A stored version below 100, or 0 if there is none.
+fn small(stored: Option<u64>) -> u32 {
+    stored.unwrap_or(0).min(99) as u32
+}
+
 // A report as numbers: its operation, the position of its cause in the list of causes, and the
-// status or the sends in it.
+// status, the sends or the stored version in it.
 fn reported(lane: &Lane, place: usize) -> (u64, u8, u32) {
     match lane.reports().get(place) {
         Some(report) => match &report.cause {
             Cause::Refused { status, .. } => (report.name.number, 1, *status as u32),
             Cause::Request { status } => (report.name.number, 2, *status as u32),
-            Cause::Conflict => (report.name.number, 3, 0),
+            Cause::Conflict { stored, .. } => (report.name.number, 3, small(*stored)),
             Cause::GaveUp { sends } => (report.name.number, 4, *sends),
             Cause::Spent => (report.name.number, 5, 0),
         },

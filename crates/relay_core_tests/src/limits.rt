@@ -18,14 +18,14 @@ const CONFIGS: [(RelayConfig, bool); 23] = [
     ),
     (
         RelayConfig {
-            producers: 16,
+            producers: 256,
             ..CONFIG
         },
         true,
     ),
     (
         RelayConfig {
-            producers: 17,
+            producers: 257,
             ..CONFIG
         },
         false,

@@ -53,6 +53,32 @@ fn three_then_one(rt: HostRuntime) -> Result<(), Fail> {
     Ok(())
 }
 
+// A repeat whose conflict states its own version is settled, and one whose conflict states another is
+// reported, with that version; so is a first conflict, even if it states its own.
+const STATED: [Step<'static>; 15] = [
+    Step::Put("1", "{\"a\":1}"),
+    Step::Sends(&[("1", 1)]),
+    Step::Lost([0, 0, 0, 1]),
+    Step::Ticks(1),
+    Step::Sends(&[("1", 1)]),
+    Step::Items(&[Entry::Stated("1", 1)], [0, 1, 0, 0]),
+    Step::Put("2", "{\"a\":2}"),
+    Step::Sends(&[("2", 2)]),
+    Step::Whole(503, [0, 0, 0, 1]),
+    Step::Ticks(1),
+    Step::Sends(&[("2", 2)]),
+    Step::Items(&[Entry::Stated("2", 7)], [0, 0, 1, 0]),
+    Step::Put("3", "{\"a\":3}"),
+    Step::Sends(&[("3", 3)]),
+    Step::Items(&[Entry::Stated("3", 3)], [0, 0, 1, 0]),
+];
+
+#[test]
+fn stated_versions(rt: HostRuntime) -> Result<(), Fail> {
+    assert!(rt; goes(rt.alloc(), CONFIG, &STATED, &[(2, 3, 7), (3, 3, 3)])?);
+    Ok(())
+}
+
 // A lost reply, and then a conflict with its own version; a first conflict is reported.
 const CONFLICTS: [Step<'static>; 12] = [
     Step::Put("1", "{\"a\":1}"),

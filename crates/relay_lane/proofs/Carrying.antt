@@ -8,13 +8,13 @@ use Rattle.relay_results.specs.Outside.{Answer, Lost, Outside, Event, Sends, Run
 use Rattle.relay_results.proofs.Steps.{continues_itself, continues_on, event_continues}
 use Rattle.relay_delivery.specs.Lane.{writes_of_all}
 use Rattle.relay_delivery.proofs.Counts.{counts_where}
-use Rattle.relay_delivery.proofs.Fitting.{sound_where, complete_where, total_where}
+use Rattle.relay_delivery.proofs.Fitting.{clock_fits, sound_where, complete_where, total_where}
 use Rattle.relay_core.specs.State.{State, next_batch, next_entries, after_answer_to, is_flying, IsLane}
 use Rattle.relay_core.specs.Ties.{Fits}
 use Rattle.relay_core.proofs.Tying.{request_fits, run_fits, answer_fits}
 use Rattle.relay_lane.proofs.Out.{request_flies}
 use Rattle.relay_lane.specs.Wires.{IsRun, AreRuns, RunsOn, SendsOn, AnswersOn, ExchangesOn, IsNext, Shows, ShowsNext}
-use Rattle.relay_lane.specs.Turns.{after_send, after_fail}
+use Rattle.relay_lane.specs.Turns.{after_send, after_ticks, after_fail}
 use Rattle.relay_lane.specs.Delivers.{IsDelivered, GoesOn, Delivers}
 
 -- ---- what is promised of each lane and outside that fit
@@ -49,6 +49,15 @@ delivers_on d e fits u v w r s t same a b d_true taken o f l =
       lane = y.lane;
       delivered = y.delivered;
     }
+
+-- ---- ticks
+
+pub ticks_fit : (n : ℕ) (s : State) (taken : List Op) (o : Outside) → Fits s taken o → Fits (after_ticks n s) taken o
+ticks_fit n s taken o l = clock_fits s.core (s.core.clock + n) taken o l
+
+-- what is delivered after ticks is delivered from before them
+pub delivers_after : {S : Type 0} (d : Bool) (fits : S → Outside → Type 0) (v w : S) (n : ℕ) (s t : State) → Delivers d fits v w (after_ticks n s) t → Delivers d fits v w s t
+delivers_after d fits v w n s t x d_true taken o f l = x d_true taken o f (ticks_fit n s taken o l)
 
 -- ---- one request
 
@@ -85,23 +94,23 @@ number_is_next s taken o l f = l.next ∙ ap (λ n. n + 1) (total_where s.core t
 
 module _ {S : Type 0} (d : Bool) (fits : S → Outside → Type 0) (v w : S) (s : State) (l : IsLane s) (items : List BatchItem) (some : next_batch s ≡ Some items) (ws : List Write) (are : ws ≡ writes_of_all (next_entries s)) where
   -- a request that was sent
-  pub delivers_send : ShowsNext d fits v w s.flights.next (SendsOn ws) → Delivers d fits v w s (after_send s)
-  delivers_send shows d_true taken o f fit =
+  pub delivers_send : (n : ℕ) → ShowsNext d fits v w s.flights.next (SendsOn ws) → Delivers d fits v w s (after_ticks n (after_send s))
+  delivers_send n shows d_true taken o f fit =
       let x = shows d_true o f (number_is_next s taken o l fit) in
       let e = subst (λ us. SendsOn us o x.0) are x.2 in
-      goes_on fits w (after_send s) taken o x.0 x.1 (sends_continue (writes_of_all (next_entries s)) o x.0 e)
-      (runs_on (after_send s) taken (after (Sends (writes_of_all (next_entries s))) o) x.0 e.runs (request_fits s items taken o some fit))
+      goes_on fits w (after_ticks n (after_send s)) taken o x.0 x.1 (sends_continue (writes_of_all (next_entries s)) o x.0 e)
+      (ticks_fit n (after_send s) taken x.0 (runs_on (after_send s) taken (after (Sends (writes_of_all (next_entries s))) o) x.0 e.runs (request_fits s items taken o some fit)))
 
   -- ... and one that could not be sent
-  pub delivers_fail : ShowsNext d fits v w s.flights.next (ExchangesOn s.flights.next ws Lost) → Delivers d fits v w s (after_fail s)
-  delivers_fail shows d_true taken o f fit =
+  pub delivers_fail : (n : ℕ) → ShowsNext d fits v w s.flights.next (ExchangesOn s.flights.next ws Lost) → Delivers d fits v w s (after_fail n s)
+  delivers_fail n shows d_true taken o f fit =
       let x = shows d_true o f (number_is_next s taken o l fit) in
       let e = subst (λ us. ExchangesOn s.flights.next us Lost o x.0) are x.2 in
       let us = writes_of_all (next_entries s) in
       let sent = runs_on (after_send s) taken (after (Sends us) o) e.between e.sends.runs (request_fits s items taken o some fit) in
-      let ran = runs_on (after_send s) taken e.between e.answers.before e.answers.runs sent in
-      goes_on fits w (after_fail s) taken o x.0 x.1 (exchange_continues s.flights.next us Lost o x.0 e)
-      (subst (Fits (after_fail s) taken) (sym e.answers.reached) (answer_fits (after_send s) s.flights.next Lost taken e.answers.before (request_flies s l items some) e.answers.may ran))
+      let ran = ticks_fit n (after_send s) taken e.answers.before (runs_on (after_send s) taken e.between e.answers.before e.answers.runs sent) in
+      goes_on fits w (after_fail n s) taken o x.0 x.1 (exchange_continues s.flights.next us Lost o x.0 e)
+      (subst (Fits (after_fail n s) taken) (sym e.answers.reached) (answer_fits (after_ticks n (after_send s)) s.flights.next Lost taken e.answers.before (request_flies s l items some) e.answers.may ran))
 
 -- the answer to a request
 pub delivers_answer : {S : Type 0} (d : Bool) (fits : S → Outside → Type 0) (v w : S) (s : State) (number : ℕ) (a : Answer) → is_flying number s ≡ true → Shows d fits v w (AnswersOn number a) → Delivers d fits v w s (after_answer_to s number a)

@@ -10,7 +10,7 @@ use Rattle.relay_delivery.specs.Bound.{tries_left}
 use Rattle.relay_delivery.specs.Machine.{Config, Place}
 use Rattle.relay_delivery.specs.Lane.{Entry, held_of}
 use Rattle.relay_core.specs.State.{State, IsInOrder, next_batch, after_request}
-use Rattle.relay_lane.specs.Turns.{Turn, Stays, Sends, Fails, Settles, Pauses, after_turn, MayTurn, after_turns, AllMayTurn, Worked, sends_in, ticks_in, requests, ticks, sends_of, sends_among}
+use Rattle.relay_lane.specs.Turns.{Turn, Stays, Sends, Fails, Settles, Pauses, after_ticks, after_turn, MayTurn, after_turns, AllMayTurn, Worked, sends_in, ticks_in, requests, ticks, sends_of, sends_among}
 use Rattle.relay_lane.specs.Laws.{Keeps, TurnsKeep, WorksOn, LeftAtMost, LeftIsTries}
 
 -- ---- lists of turns
@@ -51,14 +51,14 @@ stays_as s t u a e = subst (Stays s) (sym e) a
 pub stays_on : (s t u : State) → Stays s t → Stays t u → Stays s u
 stays_on s t u a b = record { config = b.config ∙ a.config; closed = b.closed ∙ a.closed; taken = b.taken ∙ a.taken }
 
-sent_keeps : (s : State) (b : Option (List BatchItem)) → is_some b ≡ true → Keeps 1 0 s (after_request s b)
-sent_keeps s None e = absurd (cc)
-sent_keeps s (Some items) e = record { requests = refl; clock = omega arith; stays = record { config = refl; closed = refl; taken = refl } }
+sent_keeps : (n : ℕ) (s : State) (b : Option (List BatchItem)) → is_some b ≡ true → Keeps 1 n s (after_ticks n (after_request s b))
+sent_keeps n s None e = absurd (cc)
+sent_keeps n s (Some items) e = record { requests = refl; clock = refl; stays = record { config = refl; closed = refl; taken = refl } }
 
 pub turn_keeps : (t : Turn) (s : State) → MayTurn t s → Keeps (sends_in t) (ticks_in t) s (after_turn t s)
-turn_keeps Sends s may = sent_keeps s (next_batch s) may
-turn_keeps Fails s may = let k = sent_keeps s (next_batch s) may in record { requests = k.requests; clock = k.clock; stays = record { config = k.stays.config; closed = k.stays.closed; taken = k.stays.taken } }
-turn_keeps (Settles a) s may = record { requests = omega arith; clock = omega arith; stays = record { config = refl; closed = refl; taken = refl } }
+turn_keeps (Sends n) s may = sent_keeps n s (next_batch s) may
+turn_keeps (Fails n) s may = let k = sent_keeps n s (next_batch s) may in record { requests = k.requests; clock = k.clock; stays = record { config = k.stays.config; closed = k.stays.closed; taken = k.stays.taken } }
+turn_keeps (Settles n a) s may = record { requests = omega arith; clock = refl; stays = record { config = refl; closed = refl; taken = refl } }
 turn_keeps (Pauses n) s may = record { requests = omega arith; clock = refl; stays = record { config = refl; closed = refl; taken = refl } }
 
 keeps_on : (m n p q : ℕ) (s t u : State) → Keeps m p s t → Keeps n q t u → Keeps (m + n) (p + q) s u

@@ -35,9 +35,9 @@ asked_config s None = refl
 asked_config s (Some items) = refl
 
 turn_config : (t : Turn) (s : State) → (after_turn t s).config ≡ s.config
-turn_config Sends s = asked_config s (next_batch s)
-turn_config Fails s = asked_config s (next_batch s)
-turn_config (Settles a) s = refl
+turn_config (Sends n) s = asked_config s (next_batch s)
+turn_config (Fails n) s = asked_config s (next_batch s)
+turn_config (Settles n a) s = refl
 turn_config (Pauses n) s = refl
 
 turns_config : (ts : List Turn) (s : State) → (after_turns ts s).config ≡ s.config

@@ -9,3 +9,4 @@ pub mod Flushing
 pub mod Counting
 pub mod Stepping
 pub mod Reaching
+pub mod Once

@@ -45,7 +45,7 @@ within least most n t = (leb-true _ _ (and_left _ _ t), leb-true _ _ (and_right 
 pub valid_limits : (c : RelayConfig) → is_valid c ≡ true → ValidLimits c
 valid_limits c t =
     let t2 = and_right (is_from_to 1 8 c.lanes) _ t in
-    let t3 = and_right (is_from_to 1 16 c.producers) _ t2 in
+    let t3 = and_right (is_from_to 1 256 c.producers) _ t2 in
     let t4 = and_right (is_from_to 1 65536 c.capacity) _ t3 in
     let t5 = and_right (is_from_to 1 65536 c.max_held) _ t4 in
     let l = and_left (are_valid_limits c.limits) _ t5 in

@@ -129,13 +129,13 @@ module _ (s : State) (l : IsLane s) (items : List BatchItem) (some : next_batch 
       more (f ∷ fs) x = let r = more fs x in omega (arith, r)
 
   -- or could not be sent
-  pub flying_again : (after_fail s).core.flying ≡ s.core.flying
+  pub flying_again : (n : ℕ) → (after_fail n s).core.flying ≡ s.core.flying
   unfolding its_flight
-  flying_again = ap (filter (is_other (from_zero s.flights.next))) flying_is ∙ ap (λ n. filter (is_other n) (s.core.flying ++ its_flight ∷ [])) zero_is
+  flying_again n = ap (filter (is_other (from_zero s.flights.next))) flying_is ∙ ap (λ n. filter (is_other n) (s.core.flying ++ its_flight ∷ [])) zero_is
       ∙ last_gone s.core.requests s.core.flying its_flight refl none_like_it
 
-  pub out_failed : out_of (after_fail s) ≡ out_of s
-  out_failed = ap numbers_of flying_again
+  pub out_failed : (n : ℕ) → out_of (after_fail n s) ≡ out_of s
+  out_failed n = ap numbers_of (flying_again n)
 
 -- its number was not outstanding
 pub next_is_new : (s : State) → IsLane s → Mem s.flights.next (out_of s) → ⊥

@@ -14,7 +14,7 @@ use Rattle.relay_delivery.proofs.Reached.{reached_holds, fresh_reached, call_rea
 use Rattle.relay_core.specs.State.{State, config_of, later, bytes_of, gathering, next_entries, next_batch, after_request, is_flying, first_number, oldest, after_answer_to}
 use Rattle.relay_core.proofs.Batched.{next_keeps}
 use Rattle.relay_core.proofs.Tying.{chosen_sub}
-use Rattle.relay_lane.specs.Turns.{Turn, Settles, Pauses, after_turn, after_turns, AllMayTurn}
+use Rattle.relay_lane.specs.Turns.{Turn, Settles, Pauses, after_send, after_ticks, after_turn, after_turns, AllMayTurn}
 use Rattle.relay_lane.specs.Turns as turns
 use Rattle.relay_lane.specs.Reach.{IsReached, FreshIsReached, TakeIsReached, TurnIsReached, WorkIsReached, ReachedIsOrderly}
 
@@ -53,22 +53,27 @@ sent_reached : (s : State) (b : Option (List BatchItem)) (taken : List Op) → n
 sent_reached s None taken e some r = absurd (cc)
 sent_reached s (Some items) taken e some r = send_reached s items taken e r
 
-failed_reached : (s : State) (b : Option (List BatchItem)) (taken : List Op) → next_batch s ≡ b → is_some b ≡ true → IsReached s taken → IsReached (after_answer_to (after_request s b) s.flights.next Lost) taken
-failed_reached s None taken e some r = absurd (cc)
-failed_reached s (Some items) taken e some r = answer_reached (after_request s (Some items)) s.flights.next Lost taken (new_flies s items taken r) (λ n. absurd (cc)) (send_reached s items taken e r)
+pub ticks_reached : (n : ℕ) (s : State) (taken : List Op) → IsReached s taken → IsReached (after_ticks n s) taken
+ticks_reached n s taken r = record {
+  core = subst (λ os. Reached (after_ticks n s).core os) (append-nil taken) (call_reached s.core (Ticks (s.core.clock + n)) taken r.core tt);
+  next = r.next;
+}
+
+failed_reached : (n : ℕ) (s : State) (b : Option (List BatchItem)) (taken : List Op) → next_batch s ≡ b → is_some b ≡ true → IsReached s taken → IsReached (after_answer_to (after_ticks n (after_request s b)) s.flights.next Lost) taken
+failed_reached n s None taken e some r = absurd (cc)
+failed_reached n s (Some items) taken e some r =
+    answer_reached (after_ticks n (after_request s (Some items))) s.flights.next Lost taken (new_flies s items taken r) (λ n. absurd (cc))
+    (ticks_reached n (after_request s (Some items)) taken (send_reached s items taken e r))
 
 first_flies : (fs : List Flying) → 0 < length fs → list_any (λ (f : Flying). from_one f.request == unwrap_or (first_number fs) 0) fs ≡ true
 first_flies [] some = absurd (omega (arith, some))
 first_flies (f ∷ fs) some = ap (λ b. b || list_any (λ (x : Flying). from_one x.request == from_one f.request) fs) (equal_test (from_one f.request) (from_one f.request) refl)
 
 pub turn_is_reached : TurnIsReached
-turn_is_reached turns.Sends s taken may r = sent_reached s (next_batch s) taken refl may r
-turn_is_reached turns.Fails s taken may r = failed_reached s (next_batch s) taken refl may r
-turn_is_reached (Settles a) s taken may r = answer_reached s (unwrap_or (oldest s) 0) a taken (first_flies s.core.flying may.0) may.1 r
-turn_is_reached (Pauses n) s taken may r = record {
-  core = subst (λ os. Reached (after_turn (Pauses n) s).core os) (append-nil taken) (call_reached s.core (Ticks (s.core.clock + n)) taken r.core tt);
-  next = r.next;
-}
+turn_is_reached (turns.Sends n) s taken may r = ticks_reached n (after_send s) taken (sent_reached s (next_batch s) taken refl may r)
+turn_is_reached (turns.Fails n) s taken may r = failed_reached n s (next_batch s) taken refl may r
+turn_is_reached (Settles n a) s taken may r = answer_reached (after_ticks n s) (unwrap_or (oldest s) 0) a taken (first_flies s.core.flying may.0) may.1 (ticks_reached n s taken r)
+turn_is_reached (Pauses n) s taken may r = ticks_reached n s taken r
 
 turns_are_reached : (going : Turn → State → Bool) (ts : List Turn) (s : State) (taken : List Op) → AllMayTurn going ts s → IsReached s taken → IsReached (after_turns ts s) taken
 turns_are_reached going [] s taken may r = r

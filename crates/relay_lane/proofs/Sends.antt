@@ -21,7 +21,7 @@ use Rattle.relay_core.specs.State.{State, IsLane, all_closed, gathering, next_ba
 use Rattle.relay_core.proofs.Flights.{earlier_ones_settled}
 use Rattle.relay_core.proofs.Forming.{items_of_operations}
 use Rattle.relay_lane.proofs.Limits.{among}
-use Rattle.relay_lane.specs.Turns.{after_send, after_fail, sends_of, sends_among, sends_left}
+use Rattle.relay_lane.specs.Turns.{after_send, after_ticks, after_fail, sends_of, sends_among, sends_left}
 
 -- ---- one operation
 
@@ -138,7 +138,7 @@ after_fate most clock (Reported cause) e ends tries falls = omega arith
 
 module _ (g : Config) (clock n : ℕ) (ws : List Write) (a : Answer) (answers : a ≢ Unanswered) where
   tries_at : Held → Tries
-  tries_at h = record { sends = h.sends; attempts = h.attempts; max = g.max }
+  tries_at h = record { version = h.version; sends = h.sends; attempts = h.attempts; max = g.max }
 
   fate_at : Held → Place → Fate
   fate_at h p = fate (tries_at h) ws p.place (kind_of h.op.action) a
@@ -192,8 +192,8 @@ left_lost s number =
     all_at_most s.core.config s.core.clock (from_zero number) (writes_at (from_zero number) s.core.flying) Lost (λ e. cc) s.core.held
     (λ e m large. absurd (cc))
 
-pub fail_takes : (s : State) (items : List BatchItem) → next_batch s ≡ Some items → sends_left (after_fail s) + 1 ≤ sends_left s
-fail_takes s items some = let a = request_takes s items some in let b = left_lost (after_send s) s.flights.next in omega (arith, a, b)
+pub fail_takes : (n : ℕ) (s : State) (items : List BatchItem) → next_batch s ≡ Some items → sends_left (after_fail n s) + 1 ≤ sends_left s
+fail_takes n s items some = let a = request_takes s items some in let b = left_lost (after_ticks n (after_send s)) s.flights.next in omega (arith, a, b)
 
 -- ---- each is one that was held
 

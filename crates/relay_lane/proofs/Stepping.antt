@@ -1,26 +1,28 @@
 -- One turn of a loop: what it preserves and what decreases.
 use Rattle.std.proofs.Common.{◌≡◌, ◌≢◌, ℕ, ◌+◌, ◌*◌, ◌<◌, ◌≤◌, List, length, Option, Some, None, Bool, true, false, refl, sym, ap, ◌∙◌, subst, ⊎_elim, inl, inr, arith}
-use Rattle.std.specs.Prelude.{◌⊎◌, is_some, not}
+use Rattle.std.specs.Prelude.{◌⊎◌, is_some, not, min}
 use Rattle.std.specs.List.{list_all}
 use Rattle.std.proofs.Math.Nat.{mul-le-mul_left}
+use Rattle.std.proofs.lemmas.Bool.{cases_lt}
 use Rattle.relay_batch.specs.declared.item.BatchItem.{BatchItem}
 use Rattle.relay_results.specs.Outside.{Answer, Outside, Unanswered, Lost}
 use Rattle.relay_results.specs.Words.{Mem}
 use Rattle.relay_results.proofs.Steps.{continues_itself}
 use Rattle.relay_delivery.proofs.Fitting.{clock_fits}
 use Rattle.relay_delivery.specs.Lane.{Entry}
-use Rattle.relay_core.specs.State.{State, IsLane, all_closed, next_batch, after_request, after_answer_to, due_in}
+use Rattle.relay_core.specs.State.{State, IsLane, last_tick, all_closed, next_batch, after_request, after_answer_to, due_in}
 use Rattle.relay_core.specs.Ties.{Fits}
 use Rattle.relay_core.proofs.Valid.{valid_facts}
-use Rattle.relay_lane.specs.Turns.{Turn, Sends, Fails, Settles, Pauses, after_send, after_fail, after_answer, after_ticks, after_turn, MayTurn, Worked, Paused, sends_in, ticks_in, pumps, sends_only, sends_first, sends_left}
-use Rattle.relay_lane.specs.Steps.{Asked, IsPressed}
+use Rattle.relay_lane.specs.Turns.{Turn, Sends, Fails, Settles, Pauses, after_send, after_fail, after_answer, after_ticks, after_turn, MayTurn, Worked, Paused, Passed, sends_in, ticks_in, pumps, sends_only, sends_first, sends_left}
+use Rattle.relay_lane.specs.Steps.{Asked, Settled, IsPressed}
 use Rattle.relay_lane.specs.Delivers.{Delivers}
 use Rattle.relay_lane.specs.Laws.{Keeps}
 use Rattle.relay_lane.proofs.Limits.{valid_limits}
-use Rattle.relay_lane.proofs.Out.{oldest_is, oldest_number, flying_first, one_fewer, flying_more, flying_again}
+use Rattle.relay_lane.proofs.Out.{oldest_is, oldest_number, flying_first, one_fewer, one_gone, flying_more, flying_again}
 use Rattle.relay_lane.proofs.Sends.{request_takes, fail_takes, left_answered, from_sent, from_answered}
 use Rattle.relay_lane.proofs.Counting.{works_on, worked_turn, some_batch, turn_keeps, left_at_most}
 use Rattle.relay_lane.proofs.Carrying.{goes_on}
+use Rattle.relay_lane.proofs.Ticking.{min_low, min_high}
 
 -- ---- what follows from each turn of a loop
 
@@ -50,14 +52,14 @@ sent_mark : (s : State) (b : Option (List BatchItem)) → ((after_request s b).m
 sent_mark s None = (refl, refl)
 sent_mark s (Some items) = (refl, refl)
 
-from_failed : (s : State) (items : List BatchItem) → next_batch s ≡ Some items → (d : Entry) → Mem d (after_fail s).core.held → (e : Entry) × Mem e s.core.held × (d.held.version ≡ e.held.version)
-from_failed s items some d m =
-    let x = from_answered (after_send s) s.flights.next Lost d m in
+from_failed : (n : ℕ) (s : State) (items : List BatchItem) → next_batch s ≡ Some items → (d : Entry) → Mem d (after_fail n s).core.held → (e : Entry) × Mem e s.core.held × (d.held.version ≡ e.held.version)
+from_failed n s items some d m =
+    let x = from_answered (after_ticks n (after_send s)) s.flights.next Lost d m in
     let y = from_sent s items some x.0 x.1 in
     (y.0, y.1, x.2 ∙ y.2)
 
-sends_turned : (s t : State) → IsLane s → is_some (next_batch s) ≡ true → t ≡ after_send s → Turned Sends s t
-sends_turned s t l some e =
+sends_turned : (n : ℕ) (s t : State) → IsLane s → is_some (next_batch s) ≡ true → t ≡ after_ticks n (after_send s) → Turned (Sends n) s t
+sends_turned n s t l some e =
     let b = some_batch (next_batch s) some in
     let takes = request_takes s b.0 b.1 in
     let more = flying_more s l b.0 b.1 in
@@ -67,27 +69,27 @@ sends_turned s t l some e =
     record {
       may = some;
       reached = e;
-      keeps = keeps_as 1 0 s (after_send s) t e (turn_keeps Sends s some);
+      keeps = keeps_as 1 n s (after_ticks n (after_send s)) t e (turn_keeps (Sends n) s some);
       left = omega (arith, takes, left);
       falls = omega (arith, takes, left, more, flying);
-      pressed = λ p. subst IsPressed (sym e) (pressed_as s (after_send s) mark.0 mark.1 (from_sent s b.0 b.1) p);
+      pressed = λ p. subst IsPressed (sym e) (pressed_as s (after_ticks n (after_send s)) mark.0 mark.1 (from_sent s b.0 b.1) p);
     }
 
-fails_turned : (s t : State) → IsLane s → is_some (next_batch s) ≡ true → t ≡ after_fail s → Turned Fails s t
-fails_turned s t l some e =
+fails_turned : (n : ℕ) (s t : State) → IsLane s → is_some (next_batch s) ≡ true → t ≡ after_fail n s → Turned (Fails n) s t
+fails_turned n s t l some e =
     let b = some_batch (next_batch s) some in
-    let takes = fail_takes s b.0 b.1 in
-    let again = ap length (flying_again s l b.0 b.1) in
+    let takes = fail_takes n s b.0 b.1 in
+    let again = ap length (flying_again s l b.0 b.1 n) in
     let left = ap sends_left e in
     let flying = ap (λ (x : State). length x.core.flying) e in
     let mark = sent_mark s (next_batch s) in
     record {
       may = some;
       reached = e;
-      keeps = keeps_as 1 0 s (after_fail s) t e (turn_keeps Fails s some);
+      keeps = keeps_as 1 n s (after_fail n s) t e (turn_keeps (Fails n) s some);
       left = omega (arith, takes, left);
       falls = omega (arith, takes, left, again, flying);
-      pressed = λ p. subst IsPressed (sym e) (pressed_as s (after_fail s) mark.0 mark.1 (from_failed s b.0 b.1) p);
+      pressed = λ p. subst IsPressed (sym e) (pressed_as s (after_fail n s) mark.0 mark.1 (from_failed n s b.0 b.1) p);
     }
 
 -- a request was sent, or could not be
@@ -95,38 +97,46 @@ pub record Sent (s t : State) : Type 0 where
   pub turn : Turn
   pub turned : Turned turn s t
   pub one : sends_in turn ≡ 1
-  pub no_tick : ticks_in turn ≡ 0
   pub may_pump : pumps turn s ≡ true
   pub may_send : sends_only turn s ≡ true
   pub goes_first : sends_first turn s ≡ true
 
 pub asked_sent : (b : Bool) (s t : State) → IsLane s → b ≡ is_some (next_batch s) → b ≡ true → Asked b s t → Sent s t
-asked_sent b s t l some is asked = ⊎_elim {C = Sent s t}
-    (λ e. record { turn = Sends; turned = sends_turned s t l (sym some ∙ is) e; one = refl; no_tick = refl; may_pump = refl; may_send = refl; goes_first = refl })
-    (λ e. record { turn = Fails; turned = fails_turned s t l (sym some ∙ is) e; one = refl; no_tick = refl; may_pump = refl; may_send = refl; goes_first = refl })
-    (subst (λ c. Asked c s t) is asked)
+asked_sent b s t l some is asked =
+    let a = subst (λ c. Asked c s t) is asked in
+    ⊎_elim {C = Sent s t}
+    (λ e. record { turn = Sends a.0; turned = sends_turned a.0 s t l (sym some ∙ is) e; one = refl; may_pump = refl; may_send = refl; goes_first = refl })
+    (λ e. record { turn = Fails a.0; turned = fails_turned a.0 s t l (sym some ∙ is) e; one = refl; may_pump = refl; may_send = refl; goes_first = refl })
+    a.1
 
 pub not_asked : (b : Bool) (s t : State) → b ≡ false → Asked b s t → t ≡ s
 not_asked b s t e x = subst (λ c. Asked c s t) e x
 
 -- the oldest was answered
-pub settles_turned : (s t : State) (a : Answer) → IsLane s → 0 < length s.core.flying → a ≢ Unanswered → t ≡ after_answer a s → Turned (Settles a) s t
-settles_turned s t a l some answers e =
-    let n = flying_first s some in
-    let o = oldest_is s n.0 n.1 in
-    let at : after_answer a s ≡ after_answer_to s n.0 a = ap (λ k. after_answer_to s k a) (oldest_number s l n.0 o) in
-    let k = left_answered s n.0 a l answers in
-    let fewer = one_fewer s l n.0 o a in
+answered_turned : (n : ℕ) (s t : State) (a : Answer) → IsLane (after_ticks n s) → 0 < length s.core.flying → a ≢ Unanswered → t ≡ after_answer a (after_ticks n s) → Turned (Settles n a) s t
+answered_turned n s t a l some answers e =
+    let u = after_ticks n s in
+    let k = flying_first u some in
+    let o = oldest_is u k.0 k.1 in
+    let at : after_answer a u ≡ after_answer_to u k.0 a = ap (λ m. after_answer_to u m a) (oldest_number u l k.0 o) in
+    let fewer_left = left_answered u k.0 a l answers in
+    let fewer = one_fewer u l k.0 o a in
     let left = ap sends_left (e ∙ at) in
     let flying = ap (λ (x : State). length x.core.flying) (e ∙ at) in
     record {
       may = (some, answers);
       reached = e;
-      keeps = keeps_as 0 0 s (after_answer a s) t e (turn_keeps (Settles a) s (some, answers));
-      left = omega (arith, k, left);
-      falls = omega (arith, k, left, fewer, flying);
-      pressed = λ p. subst IsPressed (sym (e ∙ at)) (pressed_as s (after_answer_to s n.0 a) refl refl (from_answered s n.0 a) p);
+      keeps = keeps_as 0 n s (after_answer a u) t e (turn_keeps (Settles n a) s (some, answers));
+      left = omega (arith, fewer_left, left);
+      falls = omega (arith, fewer_left, left, fewer, flying);
+      pressed = λ p. subst IsPressed (sym (e ∙ at)) (pressed_as s (after_answer_to u k.0 a) refl refl (from_answered u k.0 a) p);
     }
+
+pub settles_turned : (s t : State) (x : Settled s t) → 0 < length s.core.flying → Turned (Settles x.ticks x.answer) s t
+settles_turned s t x some = answered_turned x.ticks s t x.answer x.lane some x.answers x.reached
+
+pub settled_one : (s t : State) (x : Settled s t) → 0 < length s.core.flying → length s.core.flying ≡ length t.core.flying + 1
+settled_one s t x some = one_gone (after_ticks x.ticks s) t x.answer x.lane some x.reached
 
 pub turned_worked : (going : Turn → State → Bool) (s0 s t : State) (x : Turn) → Worked going s0 s → going x s ≡ true → Turned x s t → Worked going s0 t
 turned_worked going s0 s t x w g k = works_on going s0 s t w (worked_turn going x s t g k.may k.reached)
@@ -147,11 +157,34 @@ paused_on m n k a b c x y e p is le =
     let same : p + m + n ≡ p + k = omega (arith, e) in
     last ∙ ap (λ z. Some z) same
 
-pub paused_none : (k : ℕ) (a : Option ℕ) → k ≡ 0 → Paused k a a
-paused_none k a e p is le = let same : p ≡ p + k = omega (arith, e) in is ∙ ap (λ z. Some z) same
+paused_none : (a : Option ℕ) → Paused 0 a a
+paused_none a p is le = let same : p ≡ p + 0 = omega arith in is ∙ ap (λ z. Some z) same
 
-pub paused_as : (m k : ℕ) (a b : Option ℕ) → k ≡ m → Paused m a b → Paused k a b
-paused_as m k a b e x = subst (λ n. Paused n a b) (sym e) x
+-- ---- the clock
+
+capped_on : (a m n : ℕ) → min (min (a + m) last_tick + n) last_tick ≡ min (a + (m + n)) last_tick
+capped_on a m n = ⊎_elim {C = min (min (a + m) last_tick + n) last_tick ≡ min (a + (m + n)) last_tick}
+    (λ lt. let x = min_low (a + m) last_tick (omega (arith, lt)) in ap (λ k. min (k + n) last_tick) x ∙ ap (λ k. min k last_tick) (let e : a + m + n ≡ a + (m + n) = omega arith in e))
+    (λ ge. let x = min_high (a + m) last_tick ge in
+    ap (λ k. min (k + n) last_tick) x ∙ min_high (last_tick + n) last_tick (omega arith) ∙ sym (min_high (a + (m + n)) last_tick (omega (arith, ge))))
+    (cases_lt (a + m) last_tick)
+
+pub passed_none : (s : State) (a : Option ℕ) → IsLane s → Passed s.core.clock s.core.clock a a
+passed_none s a l = record { ticks = 0; clock = (let c = l.clock in let e : s.core.clock + 0 ≤ last_tick = omega (arith, c) in (let f : s.core.clock ≡ s.core.clock + 0 = omega arith in f) ∙ sym (min_low (s.core.clock + 0) last_tick e)); shown = paused_none a }
+
+pub passed_on : (x y z : ℕ) (a b c : Option ℕ) → Passed x y a b → Passed y z b c → Passed x z a c
+passed_on x y z a b c p q = record {
+  ticks = p.ticks + q.ticks;
+  clock = q.clock ∙ ap (λ k. min (k + q.ticks) last_tick) p.clock ∙ capped_on x p.ticks q.ticks;
+  shown = paused_on p.ticks q.ticks (p.ticks + q.ticks) a b c p.shown q.shown refl;
+}
+
+pub passed_same : (x y : ℕ) (a b c : Option ℕ) → b ≡ c → Passed x y a b → Passed x y a c
+passed_same x y a b c e p = subst (λ o. Passed x y a o) e p
+
+-- a pause that ends before the clock does
+pub passed_pause : (n : ℕ) (s t : State) (a b : Option ℕ) → s.core.clock + n ≤ last_tick → t ≡ after_ticks n s → Paused n a b → Passed s.core.clock t.core.clock a b
+passed_pause n s t a b within e p = record { ticks = n; clock = ap (λ (x : State). x.core.clock) e ∙ sym (min_low (s.core.clock + n) last_tick within); shown = p }
 
 pub delivers_ticks : {S : Type 0} (d : Bool) (fits : S → Outside → Type 0) (w : S) (s t : State) (n : ℕ) → t ≡ after_ticks n s → Delivers d fits w w s t
 delivers_ticks d fits w s t n e d_true taken o f l =

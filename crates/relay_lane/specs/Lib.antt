@@ -5,3 +5,4 @@ pub mod Steps
 pub mod Delivers
 pub mod Reach
 pub mod Laws
+pub mod Once

@@ -3,17 +3,21 @@ use Rattle.std.specs.Prelude.{◌≡◌, ◌≢◌, ◌⊎◌, ◌+◌, ◌≤�
 use Rattle.relay_results.specs.Words.{Mem}
 use Rattle.relay_results.specs.Outside.{Answer, Unanswered}
 use Rattle.relay_delivery.specs.Lane.{Entry}
-use Rattle.relay_core.specs.State.{State, last_tick, all_closed, due_in}
-use Rattle.relay_lane.specs.Turns.{after_send, after_fail, after_answer}
+use Rattle.relay_core.specs.State.{State, IsLane, last_tick, all_closed, due_in}
+use Rattle.relay_lane.specs.Turns.{after_ticks, after_send, after_fail, after_answer}
 
--- a request was sent, or could not be sent; or nothing changed
+-- a request was sent, or could not be sent, and ticks passed meanwhile; or nothing changed
 abbrev pub Asked : Bool → State → State → Type 0
-Asked true s t = (t ≡ after_send s) ⊎ (t ≡ after_fail s)
+Asked true s t = (n : ℕ) × ((t ≡ after_ticks n (after_send s)) ⊎ (t ≡ after_fail n s))
 Asked false s t = t ≡ s
 
--- the oldest request was given an answer
-abbrev pub Settled : State → State → Type 0
-Settled s t = (a : Answer) × (a ≢ Unanswered) × (t ≡ after_answer a s)
+-- the oldest request was given an answer, after ticks passed, which left a lane
+pub record Settled (s t : State) : Type 0 where
+  pub ticks : ℕ
+  pub answer : Answer
+  pub lane : IsLane (after_ticks ticks s)
+  pub answers : answer ≢ Unanswered
+  pub reached : t ≡ after_answer answer (after_ticks ticks s)
 
 -- whatever is due is sent: the lane is closed, or everything that it holds was flushed
 abbrev pub IsPressed : State → Type 0

@@ -1,5 +1,5 @@
 -- What a lane does at work on a wire, turn by turn, and how many requests it may send.
-use Rattle.std.specs.Prelude.{◌≡◌, ◌≢◌, ◌+◌, ◌-◌, ◌<◌, ℕ, List, [], ◌∷◌, Option, Some, None, unwrap_or, is_some, ◌≤◌, Bool, true, false, not, ◌&&◌, nat_lt, nat_le, length, if◌then◌else◌}
+use Rattle.std.specs.Prelude.{◌≡◌, ◌≢◌, ◌+◌, ◌-◌, ◌<◌, ℕ, List, [], ◌∷◌, Option, Some, None, unwrap_or, is_some, ◌≤◌, Bool, true, false, not, ◌&&◌, nat_lt, nat_le, min, length, if◌then◌else◌}
 use Rattle.relay_results.specs.Outside.{Answer, Unanswered, Lost}
 use Rattle.relay_delivery.specs.Bound.{halvings}
 use Rattle.relay_delivery.specs.Machine.{Place}
@@ -9,37 +9,37 @@ use Rattle.relay_core.specs.State.{State, last_tick, next_batch, after_request, 
 -- ---- turns
 
 -- its next request is sent; or it cannot be sent, and counts as lost; the oldest request in flight is answered; or
--- ticks pass
+-- it pauses: in each as many ticks pass, those of an answer or a loss before it is settled
 pub data Turn : Type 0 where
-  Sends : Turn
-  Fails : Turn
-  Settles : Answer → Turn
+  Sends : ℕ → Turn
+  Fails : ℕ → Turn
+  Settles : ℕ → Answer → Turn
   Pauses : ℕ → Turn
 
 abbrev pub after_send : State → State
 after_send s = after_request s (next_batch s)
 
-abbrev pub after_fail : State → State
-after_fail s = after_answer_to (after_send s) s.flights.next Lost
+abbrev pub after_ticks : ℕ → State → State
+after_ticks n s = record s { core = record s.core { clock = s.core.clock + n } }
+
+abbrev pub after_fail : ℕ → State → State
+after_fail n s = after_answer_to (after_ticks n (after_send s)) s.flights.next Lost
 
 abbrev pub after_answer : Answer → State → State
 after_answer a s = after_answer_to s (unwrap_or (oldest s) 0) a
 
-abbrev pub after_ticks : ℕ → State → State
-after_ticks n s = record s { core = record s.core { clock = s.core.clock + n } }
-
 abbrev pub after_turn : Turn → State → State
-after_turn Sends s = after_send s
-after_turn Fails s = after_fail s
-after_turn (Settles a) s = after_answer a s
+after_turn (Sends n) s = after_ticks n (after_send s)
+after_turn (Fails n) s = after_fail n s
+after_turn (Settles n a) s = after_answer a (after_ticks n s)
 after_turn (Pauses n) s = after_ticks n s
 
 -- if a batch is to be sent it is sent, if a request is in flight it is answered, and if neither is possible, it
 -- pauses until the first operation is due
 abbrev pub MayTurn : Turn → State → Type 0
-MayTurn Sends s = is_some (next_batch s) ≡ true
-MayTurn Fails s = is_some (next_batch s) ≡ true
-MayTurn (Settles a) s = (0 < length s.core.flying) × (a ≢ Unanswered)
+MayTurn (Sends n) s = is_some (next_batch s) ≡ true
+MayTurn (Fails n) s = is_some (next_batch s) ≡ true
+MayTurn (Settles n a) s = (0 < length s.core.flying) × (a ≢ Unanswered)
 MayTurn (Pauses n) s = (length s.core.flying ≡ 0) × (next_batch s ≡ None) × (due_in s ≡ Some n)
 
 -- turns one after another
@@ -66,16 +66,16 @@ pub record Stays (old new : State) : Type 0 where
 
 -- the number of requests that a turn sends, or tries to send
 abbrev pub sends_in : Turn → ℕ
-sends_in Sends = 1
-sends_in Fails = 1
-sends_in (Settles a) = 0
+sends_in (Sends n) = 1
+sends_in (Fails n) = 1
+sends_in (Settles n a) = 0
 sends_in (Pauses n) = 0
 
 -- the number of ticks that pass in a turn
 abbrev pub ticks_in : Turn → ℕ
-ticks_in Sends = 0
-ticks_in Fails = 0
-ticks_in (Settles a) = 0
+ticks_in (Sends n) = n
+ticks_in (Fails n) = n
+ticks_in (Settles n a) = n
 ticks_in (Pauses n) = n
 
 abbrev pub requests : List Turn → ℕ
@@ -90,38 +90,49 @@ ticks (t ∷ ts) = ticks_in t + ticks ts
 abbrev pub Paused : ℕ → Option ℕ → Option ℕ → Type 0
 Paused n old new = (p : ℕ) → old ≡ Some p → p + n ≤ last_tick → new ≡ Some (p + n)
 
+-- ticks pass: the clock rises by as many as the number that the pace shows, and saturates at its last tick
+pub record Passed (old new : ℕ) (before after : Option ℕ) : Type 0 where
+  pub ticks : ℕ
+  pub clock : new ≡ min (old + ticks) last_tick
+  pub shown : Paused ticks before after
+
+-- only ticks pass
+pub record Ticked (s t : State) : Type 0 where
+  pub ticks : ℕ
+  pub reached : t ≡ after_ticks ticks s
+
 -- ---- which turns are taken, and for how long
 
 -- all places in flight are taken
 abbrev pub is_crowded : State → Bool
 is_crowded s = nat_le s.config.in_flight (length s.core.flying)
 
--- whatever is ready is sent, an answer is waited for only if no place is free, and no tick passes
+-- whatever is ready is sent, an answer is waited for only if no place is free, and there is no pause
 abbrev pub pumps : Turn → State → Bool
-pumps Sends s = true
-pumps Fails s = true
-pumps (Settles a) s = is_crowded s
+pumps (Sends n) s = true
+pumps (Fails n) s = true
+pumps (Settles n a) s = is_crowded s
 pumps (Pauses n) s = false
 
--- whatever is ready is sent, no answer is waited for, and no tick passes
+-- whatever is ready is sent, no answer is waited for, and there is no pause
 abbrev pub sends_only : Turn → State → Bool
-sends_only Sends s = true
-sends_only Fails s = true
-sends_only (Settles a) s = false
+sends_only (Sends n) s = true
+sends_only (Fails n) s = true
+sends_only (Settles n a) s = false
 sends_only (Pauses n) s = false
 
--- nothing is sent, and no tick passes
+-- nothing is sent, and there is no pause
 abbrev pub collects : Turn → State → Bool
-collects Sends s = false
-collects Fails s = false
-collects (Settles a) s = true
+collects (Sends n) s = false
+collects (Fails n) s = false
+collects (Settles n a) s = true
 collects (Pauses n) s = false
 
 -- an answer is waited for only if nothing is to be sent
 abbrev pub sends_first : Turn → State → Bool
-sends_first Sends s = true
-sends_first Fails s = true
-sends_first (Settles a) s = not (is_some (next_batch s))
+sends_first (Sends n) s = true
+sends_first (Fails n) s = true
+sends_first (Settles n a) s = not (is_some (next_batch s))
 sends_first (Pauses n) s = true
 
 -- as long as the lane holds at least this many operations

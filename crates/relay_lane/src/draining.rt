@@ -1,10 +1,11 @@
-//! A lane sends, repeats and settles over a wire.
+//! A lane sends, repeats and settles over a wire. The ticks that pass while a call waits for the
+//! wire are counted, as its pace returns them, before the lane decides anything.
 ghost use Rattle.std.specs.Prelude.{◌≡◌, ◌+◌, ◌*◌, ◌-◌, ◌<◌, ◌≤◌, [], None, true, length, nat_lt};
 ghost use Rattle.std.specs.Prelude.{IfOk, OnOk, OnErr};
 ghost use Rattle.relay_core.specs.State.{next_batch, all_closed, after_flush};
 ghost use Rattle.relay_lane.specs.Out.{out_of};
 ghost use Rattle.relay_lane.specs.Turns.{Worked, Stays, pumps, sends_only, collects, holds};
-ghost use Rattle.relay_lane.specs.Turns.{holds_some, is_full, Paused, sends_left};
+ghost use Rattle.relay_lane.specs.Turns.{holds_some, is_full, Passed, sends_left};
 ghost use Rattle.relay_lane.specs.Steps.{IsPressed};
 ghost use Rattle.relay_lane.specs.Delivers.{Delivers};
 
@@ -15,11 +16,15 @@ use relay_core::Lane;
 use std::alloc::AllocError;
 
 /// Sends every request that is ready, and returns how many. If all places in flight are taken, it
-/// waits for the answer to the oldest request and settles it, so that the next one can be sent. No
-/// tick passes. What is still in flight at the end is settled by a later call, or by [`collect`].
+/// waits for the answer to the oldest request and settles it, so that the next one can be sent. It
+/// does not pause. What is still in flight at the end is settled by a later call, or by [`collect`].
 /// `AllocError`: allocating a request failed; the lane is as the turns before left it, and the call
 /// may be repeated.
-pub fn pump<W: Wire>(lane: &mut Lane, wire: &mut W) -> Result<u64, AllocError>
+pub fn pump<W: Wire, P: Pace>(
+    lane: &mut Lane,
+    wire: &mut W,
+    pace: &mut P,
+) -> Result<u64, AllocError>
     requires out { W.out wire.old ≡ out_of lane.old.state }
     ensures requests { IfOk result
         (λ n. lane.new.state.core.requests ≡ lane.old.state.core.requests + n) }
@@ -28,7 +33,8 @@ pub fn pump<W: Wire>(lane: &mut Lane, wire: &mut W) -> Result<u64, AllocError>
         (length lane.new.state.core.flying < lane.new.state.config.in_flight) }
     ensures memory { OnErr result (0 < length lane.new.state.core.held) }
     ensures worked { Worked pumps lane.old.state lane.new.state }
-    ensures clock { lane.new.state.core.clock ≡ lane.old.state.core.clock }
+    ensures passed { Passed lane.old.state.core.clock lane.new.state.core.clock
+        (P.paused pace.old) (P.paused pace.new) }
     ensures bound { lane.new.state.core.requests + sends_left lane.new.state
         ≤ lane.old.state.core.requests + sends_left lane.old.state }
     ensures stays { Stays lane.old.state lane.new.state }
@@ -41,10 +47,10 @@ pub fn pump<W: Wire>(lane: &mut Lane, wire: &mut W) -> Result<u64, AllocError>
     let places = lane.in_flight();
     let mut sent: u64 = 0;
     'turns: loop {
-        if send_next(lane, wire)? {
+        if send_next(lane, wire, pace)? {
             sent += 1;
         } else if lane.flying() >= places {
-            settle_oldest(lane, wire);
+            settle_oldest(lane, wire, pace);
         } else {
             return Ok(sent);
         }
@@ -52,16 +58,21 @@ pub fn pump<W: Wire>(lane: &mut Lane, wire: &mut W) -> Result<u64, AllocError>
 }
 
 /// Sends every request that is ready while a place in flight is free, and returns how many. It
-/// waits for no answer, and no tick passes. `AllocError`: the allocation of a request failed; the
+/// waits for no answer, and does not pause. `AllocError`: the allocation of a request failed; the
 /// lane is as the requests before left it, and the call may be repeated.
-pub fn send_ready<W: Wire>(lane: &mut Lane, wire: &mut W) -> Result<u64, AllocError>
+pub fn send_ready<W: Wire, P: Pace>(
+    lane: &mut Lane,
+    wire: &mut W,
+    pace: &mut P,
+) -> Result<u64, AllocError>
     requires out { W.out wire.old ≡ out_of lane.old.state }
     ensures requests { IfOk result
         (λ n. lane.new.state.core.requests ≡ lane.old.state.core.requests + n) }
     ensures done { OnOk result (next_batch lane.new.state ≡ None) }
     ensures memory { OnErr result (0 < length lane.new.state.core.held) }
     ensures worked { Worked sends_only lane.old.state lane.new.state }
-    ensures clock { lane.new.state.core.clock ≡ lane.old.state.core.clock }
+    ensures passed { Passed lane.old.state.core.clock lane.new.state.core.clock
+        (P.paused pace.old) (P.paused pace.new) }
     ensures bound { lane.new.state.core.requests + sends_left lane.new.state
         ≤ lane.old.state.core.requests + sends_left lane.old.state }
     ensures stays { Stays lane.old.state lane.new.state }
@@ -73,7 +84,7 @@ pub fn send_ready<W: Wire>(lane: &mut Lane, wire: &mut W) -> Result<u64, AllocEr
     let _ = lane.totals();
     let mut count: u64 = 0;
     'turns: loop {
-        if send_next(lane, wire)? {
+        if send_next(lane, wire, pace)? {
             count += 1;
         } else {
             return Ok(count);
@@ -82,14 +93,15 @@ pub fn send_ready<W: Wire>(lane: &mut Lane, wire: &mut W) -> Result<u64, AllocEr
 }
 
 /// Waits for the answer to the oldest request in flight, if there is one, and settles it. Returns
-/// whether there was one. Nothing is sent, no tick passes, and the lane allocates nothing.
-pub fn settle_next<W: Wire>(lane: &mut Lane, wire: &mut W) -> bool
+/// whether there was one. Nothing is sent, it does not pause, and the lane allocates nothing.
+pub fn settle_next<W: Wire, P: Pace>(lane: &mut Lane, wire: &mut W, pace: &mut P) -> bool
     requires out { W.out wire.old ≡ out_of lane.old.state }
     ensures some { result ≡ nat_lt 0 (length lane.old.state.core.flying) }
     ensures one { length lane.new.state.core.flying ≡ length lane.old.state.core.flying - 1 }
     ensures worked { Worked collects lane.old.state lane.new.state }
     ensures requests { lane.new.state.core.requests ≡ lane.old.state.core.requests }
-    ensures clock { lane.new.state.core.clock ≡ lane.old.state.core.clock }
+    ensures passed { Passed lane.old.state.core.clock lane.new.state.core.clock
+        (P.paused pace.old) (P.paused pace.new) }
     ensures bound { sends_left lane.new.state ≤ sends_left lane.old.state }
     ensures stays { Stays lane.old.state lane.new.state }
     ensures out { W.out wire.new ≡ out_of lane.new.state }
@@ -97,22 +109,24 @@ pub fn settle_next<W: Wire>(lane: &mut Lane, wire: &mut W) -> bool
     ensures delivers { Delivers (W.describes wire.old) W.fits wire.old wire.new lane.old.state
         lane.new.state }
 {
+    let _ = lane.totals();
     if lane.flying() == 0 {
         return false;
     }
-    settle_oldest(lane, wire);
+    settle_oldest(lane, wire, pace);
     true
 }
 
 /// Waits for the answer to each request in flight, the oldest first, settles it, and returns how
-/// many there were. Nothing is sent, no tick passes, and the lane allocates nothing.
-pub fn collect<W: Wire>(lane: &mut Lane, wire: &mut W) -> u64
+/// many there were. Nothing is sent, it does not pause, and the lane allocates nothing.
+pub fn collect<W: Wire, P: Pace>(lane: &mut Lane, wire: &mut W, pace: &mut P) -> u64
     requires out { W.out wire.old ≡ out_of lane.old.state }
     ensures count { result ≡ length lane.old.state.core.flying }
     ensures none { lane.new.state.core.flying ≡ [] }
     ensures worked { Worked collects lane.old.state lane.new.state }
     ensures requests { lane.new.state.core.requests ≡ lane.old.state.core.requests }
-    ensures clock { lane.new.state.core.clock ≡ lane.old.state.core.clock }
+    ensures passed { Passed lane.old.state.core.clock lane.new.state.core.clock
+        (P.paused pace.old) (P.paused pace.new) }
     ensures bound { sends_left lane.new.state ≤ sends_left lane.old.state }
     ensures stays { Stays lane.old.state lane.new.state }
     ensures out { W.out wire.new ≡ [] }
@@ -123,7 +137,7 @@ pub fn collect<W: Wire>(lane: &mut Lane, wire: &mut W) -> u64
     let _ = lane.totals();
     let mut settled: u64 = 0;
     'answers: while lane.flying() > 0 {
-        settle_oldest(lane, wire);
+        settle_oldest(lane, wire, pace);
         settled += 1;
     }
     settled
@@ -144,7 +158,7 @@ fn work<W: Wire, P: Pace>(
     ensures worked { Worked (holds least) lane.old.state lane.new.state }
     ensures bound { lane.new.state.core.requests + sends_left lane.new.state
         ≤ lane.old.state.core.requests + sends_left lane.old.state }
-    ensures paused { Paused (lane.new.state.core.clock - lane.old.state.core.clock)
+    ensures passed { Passed lane.old.state.core.clock lane.new.state.core.clock
         (P.paused pace.old) (P.paused pace.new) }
     ensures stays { Stays lane.old.state lane.new.state }
     ensures out { W.out wire.new ≡ out_of lane.new.state }
@@ -152,12 +166,13 @@ fn work<W: Wire, P: Pace>(
     ensures delivers { Delivers (W.describes wire.old) W.fits wire.old wire.new lane.old.state
         lane.new.state }
 {
+    let _ = lane.totals();
     'turns: while lane.held() >= least {
-        if send_next(lane, wire)? {
+        if send_next(lane, wire, pace)? {
             continue;
         }
         if lane.flying() > 0 {
-            settle_oldest(lane, wire); // so that no answer waits out a pause
+            settle_oldest(lane, wire, pace); // so that no answer waits out a pause
         } else {
             wait(lane, pace);
         }
@@ -181,7 +196,7 @@ pub fn make_room<W: Wire, P: Pace>(
     ensures worked { Worked is_full (after_flush lane.old.state) lane.new.state }
     ensures bound { lane.new.state.core.requests + sends_left lane.new.state
         ≤ lane.old.state.core.requests + sends_left lane.old.state }
-    ensures paused { Paused (lane.new.state.core.clock - lane.old.state.core.clock)
+    ensures passed { Passed lane.old.state.core.clock lane.new.state.core.clock
         (P.paused pace.old) (P.paused pace.new) }
     ensures stays { Stays lane.old.state lane.new.state }
     ensures out { W.out wire.new ≡ out_of lane.new.state }
@@ -216,7 +231,7 @@ pub fn drain<W: Wire, P: Pace>(
     ensures most { lane.new.state.core.requests
         ≤ lane.old.state.core.requests
         + length lane.old.state.core.held * (lane.old.state.config.attempts + 14) }
-    ensures paused { Paused (lane.new.state.core.clock - lane.old.state.core.clock)
+    ensures passed { Passed lane.old.state.core.clock lane.new.state.core.clock
         (P.paused pace.old) (P.paused pace.new) }
     ensures stays { Stays lane.old.state lane.new.state }
     ensures out { W.out wire.new ≡ out_of lane.new.state }

@@ -6,15 +6,20 @@ ghost use Rattle.relay_lane.specs.Wires.{answer_of, IsWireReply};
 use crate::wire::{WireFault, WireReply};
 use relay_core::Lane;
 
-/// Settles a request in flight by its answer.
-pub(crate) fn settle(lane: &mut Lane, number: u64, answer: Result<WireReply, WireFault>)
+/// Settles a request in flight by its answer, and returns whether operations of it wait to be sent
+/// again.
+pub(crate) fn settle(lane: &mut Lane, number: u64, answer: Result<WireReply, WireFault>) -> bool
     requires flies { is_flying number lane.old.state ≡ true }
     requires reply { IsWireReply answer }
     ensures { lane.new.state ≡ after_answer_to lane.old.state number (answer_of answer) }
 {
-    let _ = match answer {
+    let settled = match answer {
         Ok(WireReply::Items(outcomes)) => lane.reply(number, outcomes),
         Ok(WireReply::Whole(status)) => lane.whole(number, status),
         Err(_) => lane.lost(number),
     };
+    match settled {
+        Ok(settled) => settled.retried > 0,
+        Err(_) => false,
+    }
 }

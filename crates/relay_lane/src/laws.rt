@@ -4,6 +4,8 @@ ghost use Rattle.relay_lane.specs.Reach.{FreshIsReached, TakeIsReached, TurnIsRe
 ghost use Rattle.relay_lane.specs.Reach.{WorkIsReached, ReachedIsOrderly};
 ghost use Rattle.relay_lane.specs.Laws.{NothingIsOut, TakeKeepsOut, TurnsKeep, WorksOn, LeftAtMost};
 ghost use Rattle.relay_lane.specs.Laws.{LeftIsTries};
+ghost use Rattle.relay_lane.specs.Once.{FreshHasNone, TakeAddsOne, TurnKeepsTimes};
+ghost use Rattle.relay_lane.specs.Once.{WorkKeepsTimes, ForgettingPassesOn};
 
 /// A new lane has nothing outstanding, and it fits every opening, in which nothing was sent and
 /// every stored version is below the first one assigned; whatever message it takes, what is
@@ -41,4 +43,16 @@ pub fn lanes_stay_orderly()
     ensures turn { TurnIsReached }
     ensures work { WorkIsReached }
     ensures orderly { ReachedIsOrderly }
+{}
+
+/// Each operation that a lane takes ends once, whatever the wire returns: it is held, noted as
+/// applied or reported, and only one of these, until its success is forgotten. So if each success
+/// is passed on before it is forgotten, then of each name as many operations are held, reported,
+/// and noted or passed on as were taken.
+pub fn operations_end_once()
+    ensures fresh { FreshHasNone }
+    ensures take { TakeAddsOne }
+    ensures turn { TurnKeepsTimes }
+    ensures work { WorkKeepsTimes }
+    ensures forget { ForgettingPassesOn }
 {}

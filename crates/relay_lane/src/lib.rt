@@ -15,6 +15,8 @@ mod turn;
 pub mod wire;
 
 pub use draining::{collect, drain, make_room, pump, send_ready, settle_next};
-pub use pace::Pace;
-pub use relay_core::{Cause, Lane, NotFlying, RelayConfig, Report, Settled, TakeFault, Totals};
+pub use pace::{Pace, pass};
+pub use relay_core::{
+    Cause, Lane, NotFlying, RelayConfig, Report, Settled, Success, TakeFault, Totals,
+};
 pub use wire::{Wire, WireFault, WireReply};

@@ -79,4 +79,11 @@ pub trait Wire {
         ensures reply { IsWireReply result }
         ensures outside { Shows (describes self.old) fits self.old self.new
             (AnswersOn number (answer_of result)) };
+
+    /// Whether something has arrived for the request with this number: its answer, the beginning of
+    /// one, or the end of its connection. It does not wait, and it reads nothing. A wire that cannot
+    /// tell returns true, since `receive` says what there is.
+    fn has_answer(&self, _number: u64) -> bool {
+        true
+    }
 }

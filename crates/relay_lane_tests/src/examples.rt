@@ -237,7 +237,8 @@ fn faults(rt: HostRuntime) {
 fn pumped_over(desk: &mut Desk, wire: &mut IndexWire) -> Option<(u64, u64, u32)>
     requires { option_to_list wire.old.flying ≡ out_of desk.old.lane.state }
 {
-    let sent = pump(&mut desk.lane, wire).ok()?;
+    let mut pace = NO_PAUSES;
+    let sent = pump(&mut desk.lane, wire, &mut pace).ok()?;
     Some((sent, wire.sends, desk.lane.held()))
 }
 

@@ -59,7 +59,7 @@ fn step(
         make_room(&mut desk.lane, wire, pace)?;
     }
     let taken = puts_number(alloc, desk, number)?;
-    pump(&mut desk.lane, wire)?;
+    pump(&mut desk.lane, wire, pace)?;
     Ok(taken)
 }
 

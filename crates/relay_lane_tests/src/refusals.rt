@@ -54,10 +54,11 @@ fn pumps(lane: &mut Lane, wire: &mut IndexWire) -> bool
     ensures { option_to_list wire.new.flying ≡ out_of lane.new.state }
 {
     let (held, totals) = (lane.held(), lane.totals());
-    match pump(lane, wire) {
+    let mut pace = NO_PAUSES;
+    match pump(lane, wire, &mut pace) {
         Ok(sent) => sent == 1,
         Err(AllocError) => {
-            lane.held() == held && lane.totals() == totals && pump(lane, wire) == Ok(1)
+            lane.held() == held && lane.totals() == totals && pump(lane, wire, &mut pace) == Ok(1)
         }
     }
 }
@@ -69,10 +70,13 @@ fn sends(lane: &mut Lane, wire: &mut IndexWire) -> bool
     ensures { option_to_list wire.new.flying ≡ out_of lane.new.state }
 {
     let (held, totals) = (lane.held(), lane.totals());
-    match send_ready(lane, wire) {
+    let mut pace = NO_PAUSES;
+    match send_ready(lane, wire, &mut pace) {
         Ok(sent) => sent == 1,
         Err(AllocError) => {
-            lane.held() == held && lane.totals() == totals && send_ready(lane, wire) == Ok(1)
+            lane.held() == held
+                && lane.totals() == totals
+                && send_ready(lane, wire, &mut pace) == Ok(1)
         }
     }
 }
@@ -84,7 +88,17 @@ fn settles_one(lane: &mut Lane, wire: &mut IndexWire) -> bool
     ensures { option_to_list wire.new.flying ≡ out_of lane.new.state }
 {
     let flies = lane.flying() == 1;
-    settle_next(lane, wire) == flies
+    let mut pace = NO_PAUSES;
+    settle_next(lane, wire, &mut pace) == flies
+}
+
+// Settles nothing, since nothing is in flight.
+fn settles_none(lane: &mut Lane, wire: &mut IndexWire) -> bool
+    requires { option_to_list wire.old.flying ≡ out_of lane.old.state }
+    ensures { option_to_list wire.new.flying ≡ out_of lane.new.state }
+{
+    let mut pace = NO_PAUSES;
+    !settle_next(lane, wire, &mut pace)
 }
 
 // Settles the first request, by a pump or by a request and its answer.
@@ -95,7 +109,7 @@ fn settles_first(lane: &mut Lane, wire: &mut IndexWire, by_pump: bool) -> bool
     if by_pump {
         pumps(lane, wire)
     } else {
-        sends(lane, wire) && settles_one(lane, wire) && !settle_next(lane, wire)
+        sends(lane, wire) && settles_one(lane, wire) && settles_none(lane, wire)
     }
 }
 

@@ -4,3 +4,5 @@ pub mod Counting
 pub mod Naming
 pub mod Picked
 pub mod ReadBack
+pub mod Noted
+pub mod Inputs

@@ -1,5 +1,5 @@
 -- The object of a report, and its line.
-use Rattle.std.proofs.Common.{◌≡◌, ℕ, List, [], ◌∷◌, ◌++◌, Bool, true, false, refl, ap, ◌==◌, if◌then◌else◌}
+use Rattle.std.proofs.Common.{◌≡◌, ℕ, List, [], ◌∷◌, ◌++◌, Bool, true, false, Some, None, refl, ap, ◌==◌, if◌then◌else◌}
 use Rattle.std.specs.Prelude.{codes}
 use Rattle.serde_json.specs.Data.{string, number, unsigned, object, Members, member, no_members, put}
 use Rattle.serde_json.specs.Written.{compact_text, has_float}
@@ -7,7 +7,7 @@ use Rattle.serde_json.proofs.OnLiterals.{serde_json_on_literals}
 use Rattle.relay_results.specs.declared.cause.Cause.{Cause}
 use Rattle.relay_results.specs.declared.cause.Cause.TheVariants as cause
 use Rattle.relay_core.specs.declared.report.Report.{Report}
-use Rattle.relay_report.specs.Reports.{cause_name, kind_member, sends_member, status_member, report_data, report_line}
+use Rattle.relay_report.specs.Reports.{cause_name, kind_member, reason_member, sends_member, status_member, stored_member, report_data, report_line}
 use Rattle.relay_report.specs.Members.{and_cause, and_details, and_document, and_name}
 
 -- the members, by whether there is an epoch
@@ -26,7 +26,7 @@ chain zero epoch producer n index id c =
     (kind_member c
     (member (codes "number") (number (unsigned n))
     (member (codes "producer") (number (unsigned producer))
-    (sends_member c (status_member c no_members))))))))
+    (reason_member c (sends_member c (status_member c (stored_member c no_members))))))))))
 
 abbrev puts : Bool → ℕ → ℕ → ℕ → List ℕ → List ℕ → Cause → Members
 puts zero epoch producer n index id c =
@@ -36,14 +36,22 @@ puts zero epoch producer n index id c =
 
 puts-chain : (zero : Bool) (epoch producer n : ℕ) (index id : List ℕ) (c : Cause) → puts zero epoch producer n index id c ≡ chain zero epoch producer n index id c
 unfolding serde_json_on_literals
-puts-chain true epoch producer n index id (cause.Refused status kind) = refl
+puts-chain true epoch producer n index id (cause.Refused status kind None) = refl
+puts-chain true epoch producer n index id (cause.Refused status kind (Some reason)) = refl
 puts-chain true epoch producer n index id (cause.Request status) = refl
-puts-chain true epoch producer n index id cause.Conflict = refl
+puts-chain true epoch producer n index id (cause.Conflict None None) = refl
+puts-chain true epoch producer n index id (cause.Conflict None (Some reason)) = refl
+puts-chain true epoch producer n index id (cause.Conflict (Some stored) None) = refl
+puts-chain true epoch producer n index id (cause.Conflict (Some stored) (Some reason)) = refl
 puts-chain true epoch producer n index id (cause.GaveUp sends) = refl
 puts-chain true epoch producer n index id cause.Spent = refl
-puts-chain false epoch producer n index id (cause.Refused status kind) = refl
+puts-chain false epoch producer n index id (cause.Refused status kind None) = refl
+puts-chain false epoch producer n index id (cause.Refused status kind (Some reason)) = refl
 puts-chain false epoch producer n index id (cause.Request status) = refl
-puts-chain false epoch producer n index id cause.Conflict = refl
+puts-chain false epoch producer n index id (cause.Conflict None None) = refl
+puts-chain false epoch producer n index id (cause.Conflict None (Some reason)) = refl
+puts-chain false epoch producer n index id (cause.Conflict (Some stored) None) = refl
+puts-chain false epoch producer n index id (cause.Conflict (Some stored) (Some reason)) = refl
 puts-chain false epoch producer n index id (cause.GaveUp sends) = refl
 puts-chain false epoch producer n index id cause.Spent = refl
 
@@ -52,14 +60,22 @@ pub all_put : (r : Report) → object (and_cause r.cause (and_document r.key (an
 all_put r = ap object (puts-chain (r.name.epoch == 0) r.name.epoch r.name.producer r.name.number r.key.index r.key.id r.cause)
 
 chain-no_float : (zero : Bool) (epoch producer n : ℕ) (index id : List ℕ) (c : Cause) → has_float (object (chain zero epoch producer n index id c)) ≡ false
-chain-no_float true epoch producer n index id (cause.Refused status kind) = refl
+chain-no_float true epoch producer n index id (cause.Refused status kind None) = refl
+chain-no_float true epoch producer n index id (cause.Refused status kind (Some reason)) = refl
 chain-no_float true epoch producer n index id (cause.Request status) = refl
-chain-no_float true epoch producer n index id cause.Conflict = refl
+chain-no_float true epoch producer n index id (cause.Conflict None None) = refl
+chain-no_float true epoch producer n index id (cause.Conflict None (Some reason)) = refl
+chain-no_float true epoch producer n index id (cause.Conflict (Some stored) None) = refl
+chain-no_float true epoch producer n index id (cause.Conflict (Some stored) (Some reason)) = refl
 chain-no_float true epoch producer n index id (cause.GaveUp sends) = refl
 chain-no_float true epoch producer n index id cause.Spent = refl
-chain-no_float false epoch producer n index id (cause.Refused status kind) = refl
+chain-no_float false epoch producer n index id (cause.Refused status kind None) = refl
+chain-no_float false epoch producer n index id (cause.Refused status kind (Some reason)) = refl
 chain-no_float false epoch producer n index id (cause.Request status) = refl
-chain-no_float false epoch producer n index id cause.Conflict = refl
+chain-no_float false epoch producer n index id (cause.Conflict None None) = refl
+chain-no_float false epoch producer n index id (cause.Conflict None (Some reason)) = refl
+chain-no_float false epoch producer n index id (cause.Conflict (Some stored) None) = refl
+chain-no_float false epoch producer n index id (cause.Conflict (Some stored) (Some reason)) = refl
 chain-no_float false epoch producer n index id (cause.GaveUp sends) = refl
 chain-no_float false epoch producer n index id cause.Spent = refl
 

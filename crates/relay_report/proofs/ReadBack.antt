@@ -1,5 +1,5 @@
 -- What is written for a report names its operation.
-use Rattle.std.proofs.Common.{◌≡◌, ◌^◌, ℕ, List, Bool, true, false, Some, refl, sym, ap, ◌∙◌, ◌==◌, arith, eqb-true}
+use Rattle.std.proofs.Common.{◌≡◌, ◌^◌, ℕ, List, Bool, true, false, Some, None, refl, sym, ap, ◌∙◌, ◌==◌, arith, eqb-true}
 use Rattle.std.specs.Prelude.{nat_lt}
 use Rattle.serde_json.specs.Data.{object}
 use Rattle.serde_json.proofs.OnLiterals.{serde_json_on_literals}
@@ -14,17 +14,25 @@ use Rattle.relay_report.proofs.Lines.{chain}
 -- with no member for the epoch
 read_back_bare : (epoch producer n : ℕ) (index id : List ℕ) (c : Cause) → nat_lt producer (2 ^ 32) ≡ true → CauseFits c → name_of (object (chain true epoch producer n index id c)) ≡ Some (record { epoch = 0; producer = producer; number = n })
 unfolding serde_json_on_literals
-read_back_bare epoch producer n index id (cause.Refused status kind) p f = rw (f, p) refl
+read_back_bare epoch producer n index id (cause.Refused status kind None) p f = rw (f, p) refl
+read_back_bare epoch producer n index id (cause.Refused status kind (Some reason)) p f = rw (f, p) refl
 read_back_bare epoch producer n index id (cause.Request status) p f = rw (f, p) refl
-read_back_bare epoch producer n index id cause.Conflict p f = rw p refl
+read_back_bare epoch producer n index id (cause.Conflict None None) p f = rw p refl
+read_back_bare epoch producer n index id (cause.Conflict None (Some reason)) p f = rw p refl
+read_back_bare epoch producer n index id (cause.Conflict (Some stored) None) p f = rw p refl
+read_back_bare epoch producer n index id (cause.Conflict (Some stored) (Some reason)) p f = rw p refl
 read_back_bare epoch producer n index id (cause.GaveUp sends) p f = rw (f, p) refl
 read_back_bare epoch producer n index id cause.Spent p f = rw p refl
 
 read_back_epoch : (epoch producer n : ℕ) (index id : List ℕ) (c : Cause) → nat_lt epoch (2 ^ 32) ≡ true → nat_lt producer (2 ^ 32) ≡ true → CauseFits c → name_of (object (chain false epoch producer n index id c)) ≡ Some (record { epoch = epoch; producer = producer; number = n })
 unfolding serde_json_on_literals
-read_back_epoch epoch producer n index id (cause.Refused status kind) e p f = rw (f, e, p) refl
+read_back_epoch epoch producer n index id (cause.Refused status kind None) e p f = rw (f, e, p) refl
+read_back_epoch epoch producer n index id (cause.Refused status kind (Some reason)) e p f = rw (f, e, p) refl
 read_back_epoch epoch producer n index id (cause.Request status) e p f = rw (f, e, p) refl
-read_back_epoch epoch producer n index id cause.Conflict e p f = rw (e, p) refl
+read_back_epoch epoch producer n index id (cause.Conflict None None) e p f = rw (e, p) refl
+read_back_epoch epoch producer n index id (cause.Conflict None (Some reason)) e p f = rw (e, p) refl
+read_back_epoch epoch producer n index id (cause.Conflict (Some stored) None) e p f = rw (e, p) refl
+read_back_epoch epoch producer n index id (cause.Conflict (Some stored) (Some reason)) e p f = rw (e, p) refl
 read_back_epoch epoch producer n index id (cause.GaveUp sends) e p f = rw (f, e, p) refl
 read_back_epoch epoch producer n index id cause.Spent e p f = rw (e, p) refl
 

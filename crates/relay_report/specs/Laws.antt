@@ -8,7 +8,7 @@ use Rattle.relay_report.specs.Naming.{name_of}
 
 -- the numbers in a cause and in a report are within their types
 abbrev pub CauseFits : Cause → Type 0
-CauseFits (cause.Refused status kind) = nat_lt status (2 ^ 16) ≡ true
+CauseFits (cause.Refused status kind reason) = nat_lt status (2 ^ 16) ≡ true
 CauseFits (cause.Request status) = nat_lt status (2 ^ 16) ≡ true
 CauseFits (cause.GaveUp sends) = nat_lt sends (2 ^ 32) ≡ true
 CauseFits other = Unit {0}

@@ -7,4 +7,7 @@ pub mod Names
 pub mod Picks
 pub mod Picking
 pub mod Missing
+pub mod Current
+pub mod Keeping
 pub mod Laws
+pub mod Mending

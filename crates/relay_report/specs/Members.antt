@@ -1,5 +1,5 @@
 -- For the steps that make the object of a report: members are added one after another.
-use Rattle.std.specs.Prelude.{ℕ, ◌==◌, if◌then◌else◌, codes}
+use Rattle.std.specs.Prelude.{ℕ, List, Option, Some, None, ◌==◌, if◌then◌else◌, codes}
 use Rattle.serde_json.specs.Data.{string, number, unsigned, Members, put}
 use Rattle.relay_action.specs.declared.key.DocKey.{DocKey}
 use Rattle.relay_action.specs.declared.operation.OpName.{OpName}
@@ -17,9 +17,19 @@ and_name name ms =
 abbrev pub and_document : DocKey → Members → Members
 and_document key ms = put (codes "index") (string key.index) (put (codes "id") (string key.id) ms)
 
+abbrev pub and_reason : Option (List ℕ) → Members → Members
+and_reason None ms = ms
+and_reason (Some reason) ms = put (codes "reason") (string reason) ms
+
+abbrev pub and_stored : Option ℕ → Members → Members
+and_stored None ms = ms
+and_stored (Some stored) ms = put (codes "stored") (number (unsigned stored)) ms
+
 abbrev pub and_details : Cause → Members → Members
-and_details (cause.Refused status kind) ms = put (codes "status") (number (unsigned status)) (put (codes "kind") (string kind) ms)
+and_details (cause.Refused status kind reason) ms =
+    and_reason reason (put (codes "status") (number (unsigned status)) (put (codes "kind") (string kind) ms))
 and_details (cause.Request status) ms = put (codes "status") (number (unsigned status)) ms
+and_details (cause.Conflict stored reason) ms = and_reason reason (and_stored stored ms)
 and_details (cause.GaveUp sends) ms = put (codes "sends") (number (unsigned sends)) ms
 and_details other ms = ms
 

@@ -1,5 +1,5 @@
 -- Reports as NDJSON: one object per line, with its keys in byte order and without spaces.
-use Rattle.std.specs.Prelude.{ℕ, List, [], ◌∷◌, ◌++◌, ◌==◌, if◌then◌else◌, codes}
+use Rattle.std.specs.Prelude.{ℕ, Option, Some, None, List, [], ◌∷◌, ◌++◌, ◌==◌, if◌then◌else◌, codes}
 use Rattle.serde_json.specs.Data.{Data, string, number, unsigned, object, Members, member, no_members}
 use Rattle.serde_json.specs.Written.{compact_text}
 use Rattle.relay_results.specs.declared.cause.Cause.{Cause}
@@ -8,9 +8,9 @@ use Rattle.relay_core.specs.declared.report.Report.{Report}
 
 -- the name of a cause
 abbrev pub cause_name : Cause → List ℕ
-cause_name (cause.Refused status kind) = codes "Refused"
+cause_name (cause.Refused status kind reason) = codes "Refused"
 cause_name (cause.Request status) = codes "Request"
-cause_name cause.Conflict = codes "Conflict"
+cause_name (cause.Conflict stored reason) = codes "Conflict"
 cause_name (cause.GaveUp sends) = codes "GaveUp"
 cause_name cause.Spent = codes "Spent"
 
@@ -20,8 +20,18 @@ epoch_member epoch more = if epoch == 0 then more else member (codes "epoch") (n
 
 -- `kind`, the type of the item's error, is present if the item was refused
 abbrev pub kind_member : Cause → Members → Members
-kind_member (cause.Refused status kind) more = member (codes "kind") (string kind) more
+kind_member (cause.Refused status kind reason) more = member (codes "kind") (string kind) more
 kind_member other more = more
+
+-- `reason`, that of the item's error, is present if the item was refused or met a conflict, and its error has one
+abbrev pub reason_if : Option (List ℕ) → Members → Members
+reason_if None more = more
+reason_if (Some reason) more = member (codes "reason") (string reason) more
+
+abbrev pub reason_member : Cause → Members → Members
+reason_member (cause.Refused status kind reason) more = reason_if reason more
+reason_member (cause.Conflict stored reason) more = reason_if reason more
+reason_member other more = more
 
 -- `sends` is present if the tries were used up
 abbrev pub sends_member : Cause → Members → Members
@@ -30,9 +40,18 @@ sends_member other more = more
 
 -- `status` is present if an item or a whole request was refused
 abbrev pub status_member : Cause → Members → Members
-status_member (cause.Refused status kind) more = member (codes "status") (number (unsigned status)) more
+status_member (cause.Refused status kind reason) more = member (codes "status") (number (unsigned status)) more
 status_member (cause.Request status) more = member (codes "status") (number (unsigned status)) more
 status_member other more = more
+
+-- `stored`, the stored version, is present if an item met a conflict that states it
+abbrev pub stored_if : Option ℕ → Members → Members
+stored_if None more = more
+stored_if (Some stored) more = member (codes "stored") (number (unsigned stored)) more
+
+abbrev pub stored_member : Cause → Members → Members
+stored_member (cause.Conflict stored reason) more = stored_if stored more
+stored_member other more = more
 
 -- the JSON value of a report
 abbrev pub report_data : Report → Data
@@ -44,8 +63,10 @@ report_data r =
     (kind_member r.cause
     (member (codes "number") (number (unsigned r.name.number))
     (member (codes "producer") (number (unsigned r.name.producer))
+    (reason_member r.cause
     (sends_member r.cause
-    (status_member r.cause no_members)))))))))
+    (status_member r.cause
+    (stored_member r.cause no_members)))))))))))
 
 -- the line of a report
 unfoldable pub report_line : Report → List ℕ

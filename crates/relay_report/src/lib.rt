@@ -6,15 +6,19 @@
 //! exactly the named operations are written, byte for byte and in order.
 #![tactic(auto)]
 
+pub mod keeping;
 pub mod laws;
 mod line;
+pub mod mending;
 pub mod missing;
 pub mod names;
 mod operations;
 pub mod picking;
 pub mod text;
 
+pub use keeping::{InputEnd, Kept, current_names};
 pub use line::read_name;
+pub use mending::{LastLine, last_line};
 pub use missing::first_missing;
 pub use names::{Named, ReportFault, read_names};
 pub use picking::{PickFault, pick};

@@ -1,17 +1,19 @@
 //! Reading a line of a report.
-ghost use Rattle.std.specs.Prelude.{◌≡◌, ◌^◌, Option, Some, Err, IfOk, codes, is_some};
+ghost use Rattle.std.specs.Prelude.{◌≡◌, ◌^◌, ◌≤◌, Option, Some, Err, IfOk, IfSome, codes, is_some};
 ghost use Rattle.std.specs.Prelude.{option_map};
 ghost use Rattle.serde_json.specs.Find.{as_str, as_u64, get};
 ghost use Rattle.serde_json.specs.View.{view};
 ghost use Rattle.relay_report.specs.Naming.{IsNamedBy, below, count_of, details_of, epoch_count};
-ghost use Rattle.relay_report.specs.Naming.{epoch_of, is_whole, name_of, number_at, text_at};
+ghost use Rattle.relay_report.specs.Naming.{epoch_of, is_whole, name_of, number_at, reason_count};
+ghost use Rattle.relay_report.specs.Naming.{stored_count, text_at};
 
 use relay_action::OpName;
 use serde_json::Value;
 use std::alloc::{AllocError, Global};
 
 /// The operation that a line of a report names. The line must have the members that
-/// [`report_text`](crate::report_text) writes, in any order and with any JSON formatting. `None`:
+/// [`report_text`](crate::report_text) writes for its cause, in any order and with any JSON
+/// formatting; the reason and the stored version may be left out. `None`:
 /// it is not a line of a report. `AllocError`: allocation failed.
 pub fn read_name(alloc: Global, line: &[u8]) -> Result<Option<OpName>, AllocError>
     ensures { IfOk result (IsNamedBy line.now) }
@@ -57,14 +59,58 @@ fn is_whole(value: &Value) -> bool
     }
 }
 
-// How many members describe the cause, besides its name, if they are all there.
+// How many members there are for a reason, if it is a string.
+fn reason_count(value: &Value) -> Option<u64>
+    ensures count { result ≡ reason_count (view value.now) }
+    ensures most { IfSome result (λ n. n ≤ 1) }
+{
+    match value.get("reason") {
+        Some(_) => text_at(value, "reason").map(|_| 1),
+        None => Some(0),
+    }
+}
+
+// How many members there are for a stored version, if it is a number.
+fn stored_count(value: &Value) -> Option<u64>
+    ensures count { result ≡ stored_count (view value.now) }
+    ensures most { IfSome result (λ n. n ≤ 1) }
+{
+    match value.get("stored") {
+        Some(_) => number_at(value, "stored").map(|_| 1),
+        None => Some(0),
+    }
+}
+
+// How many members describe a refusal.
+fn refusal_count(value: &Value) -> Option<u64>
+    ensures count { result ≡ details_of (view value.now) (codes "Refused") }
+    ensures most { IfSome result (λ n. n ≤ 3) }
+{
+    let _kind = text_at(value, "kind")?;
+    let _status = status_at(value)?;
+    let reason = reason_count(value)?;
+    Some(reason + 2)
+}
+
+// How many members describe a conflict.
+fn conflict_count(value: &Value) -> Option<u64>
+    ensures count { result ≡ details_of (view value.now) (codes "Conflict") }
+    ensures most { IfSome result (λ n. n ≤ 2) }
+{
+    let stored = stored_count(value)?;
+    let reason = reason_count(value)?;
+    Some(reason + stored)
+}
+
+// How many members describe the cause, besides its name, if all that have to be there are.
 fn details_in(value: &Value, cause: &str) -> Option<u64>
-    ensures { result ≡ details_of (view value.now) cause.now }
+    ensures count { result ≡ details_of (view value.now) cause.now }
+    ensures most { IfSome result (λ n. n ≤ 3) }
 {
     match cause {
-        "Refused" => text_at(value, "kind").and(status_at(value)).map(|_| 2),
+        "Refused" => refusal_count(value),
         "Request" => status_at(value).map(|_| 1),
-        "Conflict" => Some(0),
+        "Conflict" => conflict_count(value),
         "GaveUp" => small_at(value, "sends").map(|_| 1),
         "Spent" => Some(0),
         _ => None,

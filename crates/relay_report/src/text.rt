@@ -3,9 +3,10 @@ ghost use Rattle.std.specs.Prelude.{◌≡◌, ◌++◌, IfOk, OnOk, OnErr, flat
 ghost use Rattle.serde_json.specs.Data.{string, number, unsigned, put as with_member};
 ghost use Rattle.serde_json.specs.View.{view, members_view};
 ghost use Rattle.relay_report.specs.Reports.{cause_name, report_data, report_line};
-ghost use Rattle.relay_report.specs.Members.{and_cause, and_document, and_name};
+ghost use Rattle.relay_report.specs.Members.{and_cause, and_document, and_name, and_reason};
+ghost use Rattle.relay_report.specs.Members.{and_stored};
 
-use relay_action::{DocKey, OpName};
+use relay_action::{DocKey, OpName, Text};
 use relay_core::Report;
 use relay_results::Cause;
 use serde_json::{Map, Value, put};
@@ -120,9 +121,40 @@ pub(crate) fn cause_name(cause: &Cause) -> &'static str
     match cause {
         Cause::Refused { .. } => "Refused",
         Cause::Request { .. } => "Request",
-        Cause::Conflict => "Conflict",
+        Cause::Conflict { .. } => "Conflict",
         Cause::GaveUp { .. } => "GaveUp",
         Cause::Spent => "Spent",
+    }
+}
+
+// Adds the member for a reason, if there is one.
+fn add_reason(
+    alloc: Global,
+    members: &mut Map<String, Value>,
+    reason: &Option<Text>,
+) -> Result<(), AllocError>
+    ensures { OnOk result
+        (members_view members.new.entries
+        ≡ and_reason reason.now (members_view members.old.entries)) }
+{
+    match reason {
+        Some(reason) => add_text(alloc, members, "reason", reason.as_str()),
+        None => Ok(()),
+    }
+}
+
+// Adds the member for a stored version, if there is one.
+fn add_stored(
+    alloc: Global,
+    members: &mut Map<String, Value>,
+    stored: Option<u64>,
+) -> Result<(), AllocError>
+    ensures { OnOk result
+        (members_view members.new.entries ≡ and_stored stored (members_view members.old.entries)) }
+{
+    match stored {
+        Some(stored) => add_number(alloc, members, "stored", stored),
+        None => Ok(()),
     }
 }
 
@@ -138,12 +170,21 @@ fn add_cause(
 {
     add_text(alloc, members, "cause", cause_name(cause))?;
     match cause {
-        Cause::Refused { status, kind } => {
+        Cause::Refused {
+            status,
+            kind,
+            reason,
+        } => {
             add_text(alloc, members, "kind", kind.as_str())?;
-            add_number(alloc, members, "status", *status as u64)
+            add_number(alloc, members, "status", *status as u64)?;
+            add_reason(alloc, members, reason)
         }
         Cause::Request { status } => add_number(alloc, members, "status", *status as u64),
         Cause::GaveUp { sends } => add_number(alloc, members, "sends", *sends as u64),
-        Cause::Conflict | Cause::Spent => Ok(()),
+        Cause::Conflict { stored, reason } => {
+            add_stored(alloc, members, *stored)?;
+            add_reason(alloc, members, reason)
+        }
+        Cause::Spent => Ok(()),
     }
 }

@@ -2,7 +2,13 @@
 #![tactic(auto)]
 
 #[cfg(test)]
+mod current;
+#[cfg(test)]
+mod durations;
+#[cfg(test)]
 mod lines;
+#[cfg(test)]
+mod mending;
 #[cfg(test)]
 mod picks;
 #[cfg(test)]

@@ -13,18 +13,32 @@ type Row = (
     (&'static str, u32, &'static str),
 );
 
-// The cause with a name. `None`: no cause has it, or allocation failed.
+// The cause with a name. Explained is a refusal with a reason, Stated a conflict with one. `None`:
+// no cause has the name, or allocation failed.
 fn cause_of(alloc: Global, cause: (&str, u32, &str)) -> Option<Cause> {
     let (name, number, text) = cause;
     match name {
         "Refused" => Some(Cause::Refused {
             status: number.min(599) as u16,
             kind: Text::new(alloc, text).ok()?,
+            reason: None,
+        }),
+        "Explained" => Some(Cause::Refused {
+            status: number.min(599) as u16,
+            kind: Text::new(alloc, "mapper_parsing_exception").ok()?,
+            reason: Some(Text::new(alloc, text).ok()?),
         }),
         "Request" => Some(Cause::Request {
             status: number.min(599) as u16,
         }),
-        "Conflict" => Some(Cause::Conflict),
+        "Conflict" => Some(Cause::Conflict {
+            stored: None,
+            reason: None,
+        }),
+        "Stated" => Some(Cause::Conflict {
+            stored: Some(number as u64),
+            reason: Some(Text::new(alloc, text).ok()?),
+        }),
         "GaveUp" => Some(Cause::GaveUp { sends: number }),
         "Spent" => Some(Cause::Spent),
         _ => None,
@@ -75,6 +89,30 @@ const ONE: &[(Row, &[u8])] = &[
     (
         ((4_194_303, 1, 2), ("b", "a b"), ("Conflict", 0, "")),
         b"{\"cause\":\"Conflict\",\"epoch\":4194303,\"id\":\"a b\",\"index\":\"b\",\"number\":2,\"producer\":1}\n",
+    ),
+    (
+        (
+            (0, 0, 18),
+            ("books", "emma"),
+            (
+                "Explained",
+                400,
+                "failed to parse field [year] of type [long]",
+            ),
+        ),
+        b"{\"cause\":\"Refused\",\"id\":\"emma\",\"index\":\"books\",\"kind\":\"mapper_parsing_exception\",\"number\":18,\"producer\":0,\"reason\":\"failed to parse field [year] of type [long]\",\"status\":400}\n",
+    ),
+    (
+        (
+            (1, 0, 6),
+            ("b", "x"),
+            (
+                "Stated",
+                9,
+                "[x]: version conflict, current version [9] is higher or equal to the one provided [7]",
+            ),
+        ),
+        b"{\"cause\":\"Conflict\",\"epoch\":1,\"id\":\"x\",\"index\":\"b\",\"number\":6,\"producer\":0,\"reason\":\"[x]: version conflict, current version [9] is higher or equal to the one provided [7]\",\"stored\":9}\n",
     ),
     (
         ((0, 1, 3), ("b", "a\"\n\\\x01"), ("GaveUp", 8, "")),

@@ -3,7 +3,8 @@
 use relay_action::{DocKey, MemStream, OpName, Text};
 use relay_core::Report;
 use relay_report::{
-    Named, PickFault, ReportFault, append_report, pick, read_name, read_names, report_text,
+    LastLine, Named, PickFault, ReportFault, append_report, current_names, last_line, pick,
+    read_name, read_names, report_text,
 };
 use relay_results::Cause;
 use relay_words::{add_cause, add_document, add_name, add_number, add_spaced};
@@ -19,6 +20,8 @@ const ID: &str = "a document of more than thirty-eight bytes";
 
 const KIND: &str = "a_kind_of_errors_of_more_than_thirty_eight_bytes";
 
+const REASON: &str = "a reason of more than thirty-eight bytes";
+
 fn report_once(alloc: Global) -> Option<Report> {
     Some(Report {
         name: NAME,
@@ -26,6 +29,7 @@ fn report_once(alloc: Global) -> Option<Report> {
         cause: Cause::Refused {
             status: 400,
             kind: Text::new(alloc, KIND).ok()?,
+            reason: Some(Text::new(alloc, REASON).ok()?),
         },
     })
 }
@@ -38,7 +42,7 @@ fn report_of(alloc: Global) -> Option<Report> {
 const BEGUN: &[u8] = b"x";
 
 const APPENDED: &[u8] =
-    b"x{\"cause\":\"Refused\",\"epoch\":7,\"id\":\"a document of more than thirty-eight bytes\",\"index\":\"books\",\"kind\":\"a_kind_of_errors_of_more_than_thirty_eight_bytes\",\"number\":3,\"producer\":1,\"status\":400}\n";
+    b"x{\"cause\":\"Refused\",\"epoch\":7,\"id\":\"a document of more than thirty-eight bytes\",\"index\":\"books\",\"kind\":\"a_kind_of_errors_of_more_than_thirty_eight_bytes\",\"number\":3,\"producer\":1,\"reason\":\"a reason of more than thirty-eight bytes\",\"status\":400}\n";
 
 // Whether the line of a report is appended, by a second call if the first was refused and left the text as
 // it was.
@@ -181,6 +185,28 @@ fn picks(alloc: Global) -> bool {
 #[test]
 fn refused_picks(rt: HostRuntime) {
     assert!(rt; picks(rt.alloc()));
+}
+
+// Whether the two are current and the input was read to its end. `None`: an allocation was refused.
+fn current_once(alloc: Global) -> Option<bool> {
+    let mut inputs = Vec::new(alloc);
+    inputs.push(stream_of(alloc, INPUT)?).ok()?;
+    let kept = current_names(alloc, NAMED, inputs, None).ok()?;
+    Some(kept.names.as_slice() == NAMED && kept.found == 2 && kept.ends.len() == 1)
+}
+
+#[test]
+fn refused_current_names(rt: HostRuntime) {
+    let found = current_once(rt.alloc()).or_else(|| current_once(rt.alloc()));
+    assert!(rt; found == Some(true));
+}
+
+#[test]
+fn refused_last_line(rt: HostRuntime) {
+    let alloc = rt.alloc();
+    let text = LINES.strip_suffix(b"\n").unwrap_or(b"");
+    let found = last_line(alloc, text).or_else(|_| last_line(alloc, text));
+    assert!(rt; found == Ok(LastLine::Unended));
 }
 
 // Adds a part of a report as it is printed.

@@ -126,8 +126,8 @@ ends events rest before written after text out failed count (Err fault.Memory) r
     let cut = cut_at_end rest (fresh_sink before) written (sink after c.0) text out (record { ending = l.0; may = l.1; flows = l.2 }) c.2 in
     ends_same events rest before after out (Err fault.Memory) result c.1 tt (cut.0, cut.1, record { front = cut.2.front; later = cut.2.later; whole = cut.2.whole; writes = ap (λ (k : Sink). k.shown) cut.2.writes })
 
-runs : (front left before : Option (List ℕ)) (written : Sink) (after : Option (List ℕ)) (held text : List ℕ) (failed count : ℕ) (answer result : Result Unit ScriptFault) → length held ≤ piece_limit → Begins front (prepend_known held left) (fresh_sink before) text written answer → Closes answer text written failed after count result → Runs front left before after result
-runs front left before written after held text failed count answer result h b c =
+runs : (start : index.State) (front left before : Option (List ℕ)) (written : Sink) (after : Option (List ℕ)) (held text : List ℕ) (failed count : ℕ) (answer result : Result Unit ScriptFault) → length held ≤ piece_limit → Begins start front (prepend_known held left) (fresh_sink before) text written answer → Closes answer text written failed after count result → Runs start front left before after result
+runs start front left before written after held text failed count answer result h b c =
     let e = ends (length b.halts.events) b.halts.rest before written after text b.halts.out failed count answer result b.halts.stops b.halts.leaves c in record {
       text = b.line;
       first = b.first;
@@ -168,9 +168,9 @@ no_world front before written after text failed count (Err fault.Read) result h 
 no_world front before written after text failed count (Err (fault.Write sent)) result h t w c = absurd h
 no_world front before written after text failed count (Err fault.Memory) result h t w c = no_world_or front before written after text failed count (Err fault.Memory) no_memory result t w refl c
 
-pub is_script : (front left before : Option (List ℕ)) (written : Sink) (after : Option (List ℕ)) (held text : List ℕ) (failed count : ℕ) (answer result : Result Unit ScriptFault) → length held ≤ piece_limit → PlaysScript front (prepend_known held left) (fresh_sink before) text written answer → Closes answer text written failed after count result → IsScript front left before after result
-is_script front left before written after held text failed count answer result p (inl b) c = inl (runs front left before written after held text failed count answer result p b c)
-is_script front left before written after held text failed count answer result p (inr h) c =
+pub is_script : (start : index.State) (front left before : Option (List ℕ)) (written : Sink) (after : Option (List ℕ)) (held text : List ℕ) (failed count : ℕ) (answer result : Result Unit ScriptFault) → length held ≤ piece_limit → PlaysScript start front (prepend_known held left) (fresh_sink before) text written answer → Closes answer text written failed after count result → IsScript start front left before after result
+is_script start front left before written after held text failed count answer result p (inl b) c = inl (runs start front left before written after held text failed count answer result p b c)
+is_script start front left before written after held text failed count answer result p (inr h) c =
     inr (no_world front before written after text failed count answer result h.0 h.2 h.3 c, record { held = held; one_piece = p; uses = h.1 })
 
 -- ---- the answer, if it stays and if it does not
@@ -229,11 +229,11 @@ no_config_by old new after fault.Read h = tt
 no_config_by old new after (fault.Write sent) h = absurd h
 no_config_by old new after fault.Memory h = tt
 
-pub plays_none : (old new : Option (List ℕ)) (before written : Sink) (after : ℕ) (text : List ℕ) (e : ScriptFault) → TakesConfig old new after (Err e) → UsesOneLine old new → text ≡ [] → written ≡ before → PlaysScript old new before text written (Err e)
-plays_none old new before written after text e h u t w = inr (no_config_by old new after e h, u, t, w)
+pub plays_none : (start : index.State) (old new : Option (List ℕ)) (before written : Sink) (after : ℕ) (text : List ℕ) (e : ScriptFault) → TakesConfig old new after (Err e) → UsesOneLine old new → text ≡ [] → written ≡ before → PlaysScript start old new before text written (Err e)
+plays_none start old new before written after text e h u t w = inr (no_config_by old new after e h, u, t, w)
 
-pub plays_on : (old new last : Option (List ℕ)) (before written : Sink) (after : ℕ) (text : List ℕ) (config : RelayConfig) (start : World) (r : Result Unit ScriptFault) → TakesConfig old new after (Ok config) → start ≡ fresh config index.fresh → Halts new last start before text written r → PlaysScript old last before text written r
-plays_on old new last before written after text config start r t s h = inl (record {
+pub plays_on : (old new last : Option (List ℕ)) (before written : Sink) (after : ℕ) (text : List ℕ) (config : RelayConfig) (start : index.State) (world : World) (r : Result Unit ScriptFault) → TakesConfig old new after (Ok config) → world ≡ fresh config start → Halts new last world before text written r → PlaysScript start old last before text written r
+plays_on old new last before written after text config start world r t s h = inl (record {
   line = t.0;
   first = new;
   config = config;
@@ -252,6 +252,6 @@ prepend_none None = refl
 prepend_none (Some xs) = refl
 
 -- at the start nothing is held
-pub plays_at_start : (left last : Option (List ℕ)) (before written : Sink) (held text : List ℕ) (r : Result Unit ScriptFault) → held ≡ [] → PlaysScript (prepend_known held left) last before text written r → PlaysScript left last before text written r
-plays_at_start left last before written held text r e p =
-    subst (λ (o : Option (List ℕ)). PlaysScript o last before text written r) (ap (λ xs. prepend_known xs left) e ∙ prepend_none left) p
+pub plays_at_start : (start : index.State) (left last : Option (List ℕ)) (before written : Sink) (held text : List ℕ) (r : Result Unit ScriptFault) → held ≡ [] → PlaysScript start (prepend_known held left) last before text written r → PlaysScript start left last before text written r
+plays_at_start start left last before written held text r e p =
+    subst (λ (o : Option (List ℕ)). PlaysScript start o last before text written r) (ap (λ xs. prepend_known xs left) e ∙ prepend_none left) p

@@ -100,9 +100,9 @@ Writes rest before after out (Err (fault.Write sent)) =
     (ending : List ℕ) × MayEnd rest ending × IsWrittenInPart (fresh_sink before) (record { shown = after; sent = sent }) (out ++ ending)
 Writes rest before after out (Err fault.Memory) = (ending : List ℕ) × MayEnd rest ending × IsFront before after (out ++ ending)
 
--- The first line is that of a config, and events follow, one line each. They are played on a fresh world, and these
--- lines answer them; this is why there were no more, and this was written.
-pub record Runs (front left before after : Option (List ℕ)) (result : Result Unit ScriptFault) : Type 0 where
+-- The first line is that of a config, and events follow, one line each. They are played on a fresh world over the index,
+-- and these lines answer them; this is why there were no more, and this was written.
+pub record Runs (start : index.State) (front left before after : Option (List ℕ)) (result : Result Unit ScriptFault) : Type 0 where
   pub text : List ℕ
   pub first : Option (List ℕ)
   pub config : RelayConfig
@@ -113,7 +113,7 @@ pub record Runs (front left before after : Option (List ℕ)) (result : Result U
   pub takes : TakesEvents first rest events
   pub world : World
   pub out : List ℕ
-  pub answers : Answers (fresh config index.fresh) events world out
+  pub answers : Answers (fresh config start) events world out
   pub stops : Stops (length events) rest result
   pub reads : ReadsOn rest left
   pub writes : Writes rest before after out result
@@ -125,9 +125,9 @@ HasNoWorld front before after (Err fault.Read) = after ≡ before
 HasNoWorld front before after (Err fault.Memory) = after ≡ before
 HasNoWorld front before after other = ⊥
 
-abbrev pub IsScript : Option (List ℕ) → Option (List ℕ) → Option (List ℕ) → Option (List ℕ) → Result Unit ScriptFault → Type 0
-IsScript front left before after result =
-    Runs front left before after result ⊎ (HasNoWorld front before after result × ReadsOn front left)
+abbrev pub IsScript : index.State → Option (List ℕ) → Option (List ℕ) → Option (List ℕ) → Option (List ℕ) → Result Unit ScriptFault → Type 0
+IsScript start front left before after result =
+    Runs start front left before after result ⊎ (HasNoWorld front before after result × ReadsOn front left)
 
 -- Which calls failed: one of the reader if the result is a failed read, one of the writer if it is a failed write; a
 -- failed write may follow a failed read or allocation.
@@ -260,19 +260,19 @@ HasNoConfig front (Err fault.Read) = Unit {0}
 HasNoConfig front (Err fault.Memory) = Unit {0}
 HasNoConfig front other = ⊥
 
--- a config was taken, and then events were played on its fresh world
-pub record Begins (front last : Option (List ℕ)) (before : Sink) (text : List ℕ) (after : Sink) (result : Result Unit ScriptFault) : Type 0 where
+-- a config was taken, and then events were played on its fresh world over the index
+pub record Begins (start : index.State) (front last : Option (List ℕ)) (before : Sink) (text : List ℕ) (after : Sink) (result : Result Unit ScriptFault) : Type 0 where
   pub line : List ℕ
   pub first : Option (List ℕ)
   pub config : RelayConfig
   pub takes_text : TakesText front first line
   pub is_config : IsConfigLine line config
-  pub halts : Halts first last (fresh config index.fresh) before text after result
+  pub halts : Halts first last (fresh config start) before text after result
 
 -- the same, or no config was taken and nothing is to be written
-abbrev pub PlaysScript : Option (List ℕ) → Option (List ℕ) → Sink → List ℕ → Sink → Result Unit ScriptFault → Type 0
-PlaysScript front last before text after result =
-    Begins front last before text after result
+abbrev pub PlaysScript : index.State → Option (List ℕ) → Option (List ℕ) → Sink → List ℕ → Sink → Result Unit ScriptFault → Type 0
+PlaysScript start front last before text after result =
+    Begins start front last before text after result
     ⊎ (HasNoConfig front result × UsesOneLine front last × (text ≡ []) × (after ≡ before))
 
 -- The text that was left was written, and the result is unchanged; or a write failed, with this many bytes written in

@@ -1,5 +1,6 @@
 //! A script of the world: the function behind `relay world`.
-ghost use Rattle.std.specs.Prelude.{◌≡◌, ◌≤◌, [], length};
+ghost use Rattle.std.specs.Prelude.{◌≡◌, ◌≤◌, [], length, None};
+ghost use Rattle.relay_index.specs.States.{IsHighest};
 ghost use Rattle.relay_ndjson.specs.Lines.{piece_limit};
 ghost use Rattle.std.specs.Io.KnownBytes.{prepend_known};
 ghost use Rattle.relay_scenario.specs.Flows.{fresh_sink, sink};
@@ -46,26 +47,29 @@ pub enum ScriptFault {
     Memory,
 }
 
-/// Plays a script on a fresh world: the first line is its config, each further line an event. Each
-/// event is answered by a line, and the lines at the end say how the world ended. A fault says how
-/// much was written. If there are several, the first is returned, except that a failed allocation
-/// takes precedence over a failed write, and a failed write over a bad line or a failed read. A
-/// failed call of a stream is not retried.
+/// Plays a script on a fresh world over this index, to which no write was applied: the first line
+/// is the world's config, each further line an event. Each event is answered by a line, and the
+/// lines at the end say how the world ended. A fault says how much was written. If there are
+/// several, the first is returned, except that a failed allocation takes precedence over a failed
+/// write, and a failed write over a bad line or a failed read. A failed call of a stream is not
+/// retried.
 ///
 /// What is ready is written before a read that may wait, and whenever it has 256 KiB.
 pub fn world_script<R: ByteIn, W: ByteOut>(
     alloc: Global,
     reader: &mut R,
     writer: &mut W,
+    index: Index,
 ) -> Result<(), ScriptFault>
-    ensures script { IsScript (R.left reader.old) (R.left reader.new)
+    requires { IsHighest index None }
+    ensures script { IsScript index (R.left reader.old) (R.left reader.new)
         (W.written writer.old) (W.written writer.new) result }
     ensures calls { FailsOnce (R.failed reader.old) (R.failed reader.new)
         (W.failed writer.old) (W.failed writer.new) result }
 {
     let mut lines = LineReader::new(alloc);
     let mut outgoing = Outgoing::new(alloc);
-    let answer = play(alloc, reader, &mut lines, &mut outgoing, writer);
+    let answer = play(alloc, reader, &mut lines, &mut outgoing, writer, index);
     close(&mut outgoing, writer, answer)
 }
 
@@ -76,19 +80,21 @@ fn play<R: ByteIn, W: ByteOut>(
     lines: &mut LineReader,
     outgoing: &mut Outgoing,
     writer: &mut W,
+    index: Index,
 ) -> Result<(), ScriptFault>
+    requires fresh { IsHighest index None }
     requires first { lines.old.count ≡ 0 }
     requires none { outgoing.old.text.items ≡ [] }
     requires sent { outgoing.old.sent ≡ 0 }
     ensures held { length lines.new.held ≤ piece_limit }
-    ensures script { PlaysScript (prepend_known lines.old.held (R.left reader.old))
+    ensures script { PlaysScript index (prepend_known lines.old.held (R.left reader.old))
         (prepend_known lines.new.held (R.left reader.new)) (fresh_sink (W.written writer.old))
         outgoing.new.text.items (sink (W.written writer.new) outgoing.new.sent) result }
     ensures reads { R.failed reader.new ≡ failed_by result (R.failed reader.old) }
     ensures writes { W.failed writer.new ≡ failed_writes_by result (W.failed writer.old) }
 {
     let config = take_config(alloc, reader, lines)?;
-    let mut world = match World::new(alloc, config, Index::new(alloc)) {
+    let mut world = match World::new(alloc, config, index) {
         Ok(world) => world,
         Err(_) => return Err(ScriptFault::Memory),
     };

@@ -3,6 +3,7 @@
 use crate::scripts::{ITS_ANSWERS, THREE_THEN_ONE};
 use relay_action::MemStream;
 use relay_core::RelayConfig;
+use relay_index::Index;
 use relay_scenario::config_line::read_config;
 use relay_scenario::event_line::{LineFault, read_event};
 use relay_scenario::script::{ScriptFault, world_script};
@@ -69,7 +70,7 @@ fn stream_of(alloc: Global, input: &[u8]) -> Option<MemStream> {
 fn play(alloc: Global) -> Option<(Result<(), ScriptFault>, MemStream)> {
     let mut reader = stream_of(alloc, THREE_THEN_ONE)?;
     let mut writer = stream_of(alloc, b"")?;
-    let found = world_script(alloc, &mut reader, &mut writer);
+    let found = world_script(alloc, &mut reader, &mut writer, Index::new(alloc));
     Some((found, writer))
 }
 

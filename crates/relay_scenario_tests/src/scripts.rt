@@ -1,6 +1,7 @@
 //! `world_script` over streams in memory: a worked script, bad ones, failures in the middle, and
 //! what is written before them.
 use relay_action::MemStream;
+use relay_index::Index;
 use relay_scenario::exit::exit_of_script;
 use relay_scenario::script::{ScriptFault, world_script};
 use relay_words::Exit;
@@ -23,7 +24,7 @@ fn gives(
 ) -> Result<bool, Fail> {
     let mut reader = MemStream::new(alloc, input.to_vec(alloc)?, 0, piece.max(1), 0)?;
     let mut writer = MemStream::new(alloc, Vec::new(alloc), 100_000, piece.max(1), 0)?;
-    let found = world_script(alloc, &mut reader, &mut writer);
+    let found = world_script(alloc, &mut reader, &mut writer, Index::new(alloc));
     Ok(found == answer && writer.written() == written)
 }
 
@@ -65,7 +66,7 @@ fn failing(
     let input = THREE_THEN_ONE.to_vec(alloc)?;
     let mut reader = MemStream::new(alloc, input, 0, 50, read_at)?;
     let mut writer = MemStream::new(alloc, Vec::new(alloc), 100_000, 9, write_at)?;
-    let answer = world_script(alloc, &mut reader, &mut writer);
+    let answer = world_script(alloc, &mut reader, &mut writer, Index::new(alloc));
     let written = writer.written();
     Ok((
         answer,

@@ -1,3 +1,4 @@
+pub mod Documents
 pub mod Visits
 pub mod Listing
 pub mod Stub

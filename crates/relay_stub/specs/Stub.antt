@@ -2,7 +2,7 @@
 use Rattle.std.specs.Prelude.{◌≡◌, ◌⊎◌, ℕ, ◌<◌, List, length, take, Option, Result, Ok, Err}
 use Rattle.std.specs.Io.KnownBytes.{append_known}
 use Rattle.relay_action.specs.Streams.{one_more}
-use Rattle.relay_index.specs.States.{State, fresh}
+use Rattle.relay_index.specs.States.{State}
 use Rattle.relay_index.specs.Plans.{Plan}
 use Rattle.relay_index.specs.Serving.{under}
 use Rattle.relay_words.specs.declared.exit.Exit.{Exit}
@@ -14,33 +14,33 @@ use Rattle.relay_stub.specs.declared.stub.ServeError.TheVariants as error
 use Rattle.relay_stub.specs.declared.command.StubFault.{StubFault}
 use Rattle.relay_stub.specs.declared.command.StubFault.TheVariants as fault
 
--- all connections were served with an index that was fresh, and this is the index afterwards
-abbrev pub ServesFresh : ℕ → Plan → Listening → Listening → State → Type 0
-ServesFresh requests script from to end = (left : Plan) × Serves requests from (under fresh script) to (under end left) (Ok tt)
+-- all connections were served with the first index, and the second one is that index afterwards
+abbrev pub ServesAll : ℕ → State → Plan → Listening → Listening → State → Type 0
+ServesAll requests index script from to end = (left : Plan) × Serves requests from (under index script) to (under end left) (Ok tt)
 
 -- all connections were served, and this is the listing of the index then
-abbrev pub IsOutput : ℕ → Plan → Listening → Listening → List ℕ → Type 0
-IsOutput requests script from to text = (end : State) × ServesFresh requests script from to end × IsListing end text
+abbrev pub IsOutput : ℕ → State → Plan → Listening → Listening → List ℕ → Type 0
+IsOutput requests index script from to text = (end : State) × ServesAll requests index script from to end × IsListing end text
 
 -- why there is no listing: a connection could not be accepted; or an allocation failed, at a connection or after all
 -- were served
-abbrev pub NoOutput : ℕ → Plan → Listening → Listening → StubFault → Type 0
-NoOutput requests script from to fault.Accept =
-    (end : State) × (left : Plan) × Serves requests from (under fresh script) to (under end left) (Err error.Accept)
-NoOutput requests script from to (fault.Write sent) = ⊥
-NoOutput requests script from to fault.Memory =
-    ((end : State) × (left : Plan) × Serves requests from (under fresh script) to (under end left) (Err error.Memory))
-    ⊎ ((end : State) × ServesFresh requests script from to end)
+abbrev pub NoOutput : ℕ → State → Plan → Listening → Listening → StubFault → Type 0
+NoOutput requests index script from to fault.Accept =
+    (end : State) × (left : Plan) × Serves requests from (under index script) to (under end left) (Err error.Accept)
+NoOutput requests index script from to (fault.Write sent) = ⊥
+NoOutput requests index script from to fault.Memory =
+    ((end : State) × (left : Plan) × Serves requests from (under index script) to (under end left) (Err error.Memory))
+    ⊎ ((end : State) × ServesAll requests index script from to end)
 
 -- What was written, by how it ended: the listing of the index that served all connections; after a failed write
 -- exactly the first of its bytes; otherwise nothing.
-abbrev pub Stubs : ℕ → Plan → Listening → Listening → Option (List ℕ) → Option (List ℕ) → Result (Unit {0}) StubFault → Type 0
-Stubs requests script from to before after (Ok u) =
-    (text : List ℕ) × IsOutput requests script from to text × (after ≡ append_known before text)
-Stubs requests script from to before after (Err (fault.Write sent)) =
-    (text : List ℕ) × IsOutput requests script from to text × (sent < length text) × (after ≡ append_known before (take sent text))
-Stubs requests script from to before after (Err fault.Accept) = NoOutput requests script from to fault.Accept × (after ≡ before)
-Stubs requests script from to before after (Err fault.Memory) = NoOutput requests script from to fault.Memory × (after ≡ before)
+abbrev pub Stubs : ℕ → State → Plan → Listening → Listening → Option (List ℕ) → Option (List ℕ) → Result (Unit {0}) StubFault → Type 0
+Stubs requests index script from to before after (Ok u) =
+    (text : List ℕ) × IsOutput requests index script from to text × (after ≡ append_known before text)
+Stubs requests index script from to before after (Err (fault.Write sent)) =
+    (text : List ℕ) × IsOutput requests index script from to text × (sent < length text) × (after ≡ append_known before (take sent text))
+Stubs requests index script from to before after (Err fault.Accept) = NoOutput requests index script from to fault.Accept × (after ≡ before)
+Stubs requests index script from to before after (Err fault.Memory) = NoOutput requests index script from to fault.Memory × (after ≡ before)
 
 -- the text was written, or after a failed write exactly the first of its bytes
 abbrev pub WritesListing : Option (List ℕ) → Option (List ℕ) → ℕ → ℕ → List ℕ → Result (Unit {0}) StubFault → Type 0

@@ -1,16 +1,20 @@
 -- What is done with a connection, and with one connection after another.
-use Rattle.std.specs.Prelude.{◌≡◌, ◌⊎◌, ℕ, suc, zero, ◌<◌, ◌≤◌, List, [], codes, length, Option, Some, None, Result, Ok, Err, MatchResult, IsTrue, IsFalse, false}
+use Rattle.std.specs.Prelude.{◌≡◌, ◌⊎◌, ℕ, suc, zero, ◌<◌, ◌≤◌, List, [], codes, length, Option, Some, None, Result, Ok, Err, MatchResult, OnOk, IsTrue, IsFalse, false}
 use Rattle.relay_index.specs.Serving.{Server, answer_of, Answers, StopsAfter}
 use Rattle.relay_index.specs.declared.serving.ServeFault.{ServeFault}
 use Rattle.relay_http.specs.Forms.{Begins, Fails, IsOutside, IsThatOrOutside}
 use Rattle.relay_http.specs.Framing.{reply_limit}
 use Rattle.relay_http.specs.Connection.{Connection, ahead, fresh, failed_reading, failed_writing}
 use Rattle.relay_http.specs.Request.{IsRequest, RequestPasses, RequestStates, TookRequest, IsFound}
+use Rattle.relay_http.specs.RequestLine.{HeadAt, put_target}
 use Rattle.relay_http.specs.WrittenAnswer.{answer}
 use Rattle.relay_http.specs.WrittenRequest.{WritesText}
 use Rattle.relay_http.specs.declared.fault.HttpFault.{HttpFault}
 use Rattle.relay_http.specs.declared.fault.HttpFault.TheVariants as fault
 use Rattle.relay_http.specs.declared.request.HttpRequest.{HttpRequest}
+use Rattle.relay_target.specs.Targets.{Names, NamesNone}
+use Rattle.relay_results.specs.Documents.{Document}
+use Rattle.relay_stub.specs.Documents.{IsNoSource, Puts, StopsPut}
 use Rattle.relay_http.specs.Listening.{Shown, shown_by, Listening, HandsOut, after_failure, with_done}
 use Rattle.relay_stub.specs.declared.stub.ServeError.{ServeError}
 use Rattle.relay_stub.specs.declared.stub.ServeError.TheVariants as error
@@ -32,6 +36,14 @@ pub record ReadsRequest (c d : Connection) (r : Result (Option HttpRequest) Http
   pub stated : (stream : List ℕ) (f : HttpFault) → RequestStates stream f → ahead c ≡ Some stream → MatchResult r (λ request. ⊥) (IsThatOrOutside f)
   pub long : (stream : List ℕ) → RequestPasses stream → ahead c ≡ Some stream → MatchResult r (λ request. ⊥) (IsThatOrOutside fault.BodyLong)
   pub none : ahead c ≡ Some [] → MatchResult r (λ request. request ≡ None) IsOutside
+  pub failed : d.failed ≡ failed_reading r c.failed
+  pub written : d.written ≡ c.written
+
+-- the target of the request at the front, if its method is PUT, and the connection afterwards, from which nothing is
+-- taken
+pub record PeeksPut (c d : Connection) (r : Result (Option (List ℕ)) HttpFault) : Type 0 where
+  pub stays : OnOk r (ahead d ≡ ahead c)
+  pub found : (stream : List ℕ) (there : HeadAt stream) → ahead c ≡ Some stream → MatchResult r (λ put. put ≡ put_target there.head) IsOutside
   pub failed : d.failed ≡ failed_reading r c.failed
   pub written : d.written ≡ c.written
 
@@ -74,9 +86,45 @@ abbrev pub MeetsOther : Server → Server → Connection → Connection → Resu
 MeetsOther old new c d (Ok u) = (new ≡ old) × IsAnswered 400 not_bulk c d
 MeetsOther old new c d (Err e) = ⊥
 
-pub record Meets (r : HttpRequest) (old new : Server) (c d : Connection) (result : Result (Unit {0}) ServeFault) : Type 0 where
+-- the document that the target names
+abbrev pub document : List ℕ → List ℕ → Document
+document index id = record { index = index; id = id }
+
+-- a PUT of a document was stored and answered
+pub record StoresPut (target body : List ℕ) (old new : Server) (c d : Connection) : Type 0 where
+  pub index : List ℕ
+  pub id : List ℕ
+  pub names : Names target index id
+  pub status : ℕ
+  pub text : List ℕ
+  pub puts : Puts (document index id) body old.index status text new.index
+  pub script : new.script ≡ old.script
+  pub answered : IsAnswered status text c d
+
+-- the target names no document, or the body may not be a source: it was answered with NotBulk, and nothing was run
+pub record RefusesPut (target body : List ℕ) (old new : Server) (c d : Connection) : Type 0 where
+  pub cause : NamesNone target ⊎ IsNoSource body
+  pub stays : new ≡ old
+  pub answered : IsAnswered 400 not_bulk c d
+
+-- an allocation failed: before the document was stored, or after it; nothing was written
+pub record BreaksPut (target body : List ℕ) (ran : ℕ) (old new : Server) (c d : Connection) : Type 0 where
+  pub stops : ((ran ≡ 0) × (new ≡ old))
+      ⊎ ((index : List ℕ) × (id : List ℕ) × Names target index id × StopsPut (document index id) body ran old.index new.index × (new.script ≡ old.script))
+  pub stays : d ≡ c
+
+abbrev pub MeetsPut : List ℕ → List ℕ → Server → Server → Connection → Connection → Result (Unit {0}) ServeFault → Type 0
+MeetsPut target body old new c d (Ok u) = StoresPut target body old new c d ⊎ RefusesPut target body old new c d
+MeetsPut target body old new c d (Err e) = BreaksPut target body e.ran old new c d
+
+-- a request that is not a bulk request, by its target if its method is PUT
+abbrev pub MeetsSingle : Option (List ℕ) → List ℕ → Server → Server → Connection → Connection → Result (Unit {0}) ServeFault → Type 0
+MeetsSingle None body old new c d result = MeetsOther old new c d result
+MeetsSingle (Some target) body old new c d result = MeetsPut target body old new c d result
+
+pub record Meets (r : HttpRequest) (put : Option (List ℕ)) (old new : Server) (c d : Connection) (result : Result (Unit {0}) ServeFault) : Type 0 where
   pub bulk : IsTrue r.bulk → MeetsBulk r.body.items old new c d result
-  pub other : IsFalse r.bulk → MeetsOther old new c d result
+  pub other : IsFalse r.bulk → MeetsSingle put r.body.items old new c d result
 
 -- the connection was dropped: nothing was written, and nothing was run
 abbrev pub Drops : Server → Server → Connection → Connection → Result (Unit {0}) ServeFault → Type 0
@@ -84,17 +132,29 @@ Drops old new c d (Ok u) = (new ≡ old) × (d ≡ c)
 Drops old new c d (Err e) = ⊥
 
 -- what is done with a connection, by what was read
-abbrev pub Handles : Result (Option HttpRequest) HttpFault → Server → Server → Connection → Connection → Result (Unit {0}) ServeFault → Type 0
-Handles (Ok (Some request)) old new c d result = Meets request old new c d result
-Handles (Ok None) old new c d result = Drops old new c d result
-Handles (Err f) old new c d result = Drops old new c d result
+abbrev pub Handles : Option (List ℕ) → Result (Option HttpRequest) HttpFault → Server → Server → Connection → Connection → Result (Unit {0}) ServeFault → Type 0
+Handles put (Ok (Some request)) old new c d result = Meets request put old new c d result
+Handles put (Ok None) old new c d result = Drops old new c d result
+Handles put (Err f) old new c d result = Drops old new c d result
 
 -- a request was read from a connection, and handled
-pub record Exchanges (c d : Connection) (old new : Server) (result : Result (Unit {0}) ServeFault) : Type 0 where
+pub record Receives (put : Option (List ℕ)) (c d : Connection) (old new : Server) (result : Result (Unit {0}) ServeFault) : Type 0 where
   pub between : Connection
   pub read : Result (Option HttpRequest) HttpFault
   pub reads : ReadsRequest c between read
-  pub handles : Handles read old new between d result
+  pub handles : Handles put read old new between d result
+
+-- the request is read, unless its head could not be
+abbrev pub GoesOn : Result (Option (List ℕ)) HttpFault → Connection → Connection → Server → Server → Result (Unit {0}) ServeFault → Type 0
+GoesOn (Ok put) c d old new result = Receives put c d old new result
+GoesOn (Err f) c d old new result = Drops old new c d result
+
+-- the target of a PUT was looked at, and the request was read and handled
+pub record Exchanges (c d : Connection) (old new : Server) (result : Result (Unit {0}) ServeFault) : Type 0 where
+  pub at : Connection
+  pub put : Result (Option (List ℕ)) HttpFault
+  pub peeks : PeeksPut c at put
+  pub goes_on : GoesOn put at d old new result
 
 -- allocating a connection over the stream failed: nothing was read, written or run
 abbrev pub HasNoRoom : Shown → Shown → Server → Server → Result (Unit {0}) ServeFault → Type 0

@@ -1,4 +1,4 @@
-//! A fresh stand-in index that serves connections: the function behind `relay stub`.
+//! A stand-in index that serves connections: the function behind `relay stub`.
 ghost use Rattle.std.specs.Prelude.{◌≡◌, MatchResult};
 ghost use Rattle.relay_stub.specs.Stub.{IsOutput, NoOutput, Stubs, WritesListing};
 ghost use Rattle.relay_stub.specs.Stub.{exit_of_stub, failed_by};
@@ -31,8 +31,8 @@ pub enum StubFault {
     Memory,
 }
 
-/// Serves one request on each of `requests` connections with a fresh index under the script, and
-/// then writes a line for each write that the index applied, as [`listing`] makes them. Nothing is
+/// Serves one request on each of `requests` connections with this index under the script, and then
+/// writes a line for each write that the index has applied, as [`listing`] makes them. Nothing is
 /// written before all connections were served.
 ///
 /// [`listing`]: crate::listing::listing
@@ -40,14 +40,15 @@ pub fn stub<S: ByteIn + ByteOut + Drop, L: Listen<S>, W: ByteOut>(
     alloc: Global,
     listener: &mut L,
     requests: u64,
+    index: Index,
     script: Script,
     writer: &mut W,
 ) -> Result<(), StubFault>
-    ensures stubs { Stubs requests script (L.shows listener.old) (L.shows listener.new)
+    ensures stubs { Stubs requests index script (L.shows listener.old) (L.shows listener.new)
         (W.written writer.old) (W.written writer.new) result }
     ensures failed { W.failed writer.new ≡ failed_by result (W.failed writer.old) }
 {
-    let text = output(alloc, listener, requests, script)?;
+    let text = output(alloc, listener, requests, index, script)?;
     send(writer, text.as_slice())
 }
 
@@ -56,13 +57,14 @@ fn output<S: ByteIn + ByteOut + Drop, L: Listen<S>>(
     alloc: Global,
     listener: &mut L,
     requests: u64,
+    mut index: Index,
     mut script: Script,
 ) -> Result<Vec<u8>, StubFault>
     ensures { MatchResult result
-        (λ text. IsOutput requests script (L.shows listener.old) (L.shows listener.new) text.items)
-        (NoOutput requests script (L.shows listener.old) (L.shows listener.new)) }
+        (λ text.
+        IsOutput requests index script (L.shows listener.old) (L.shows listener.new) text.items)
+        (NoOutput requests index script (L.shows listener.old) (L.shows listener.new)) }
 {
-    let mut index = Index::new(alloc);
     match stub_serve(alloc, listener, requests, &mut index, &mut script) {
         Ok(()) => match listing(alloc, &index) {
             Ok(text) => Ok(text),

@@ -10,6 +10,7 @@
 
 pub mod command;
 pub mod connection;
+pub mod document;
 pub mod listing;
 pub mod stub;
 

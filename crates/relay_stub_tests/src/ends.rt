@@ -1,6 +1,7 @@
 //! What the command writes, and its exit status.
 use crate::desk::{Desk, Visit, script_of};
 use relay_action::MemStream;
+use relay_index::Index;
 use relay_stub::command::{StubFault, exit_of_stub, stub};
 use relay_words::Exit;
 use std::alloc::Global;
@@ -30,7 +31,14 @@ fn ends(
     let script = script_of(alloc, &[(2, 503)])?;
     let mut desk = Desk::new(alloc, &visits, 100);
     let mut writer = MemStream::new(alloc, Vec::new(alloc), room, 10, 0).ok()?;
-    let result = stub(alloc, &mut desk, requests, script, &mut writer);
+    let result = stub(
+        alloc,
+        &mut desk,
+        requests,
+        Index::new(alloc),
+        script,
+        &mut writer,
+    );
     Some((result, desk.served(1) && writer.written() == wanted))
 }
 

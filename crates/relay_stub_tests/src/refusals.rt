@@ -3,9 +3,10 @@
 //! repeated.
 use crate::desk::{Desk, Visit};
 use crate::ends::{ANSWER, DELETES, LINES};
-use relay_action::MemStream;
-use relay_index::{Index, Script};
+use relay_action::{DocKey, MemStream};
+use relay_index::{Index, Script, ServeFault};
 use relay_stub::command::{StubFault, stub};
+use relay_stub::document::put_document;
 use relay_stub::listing::listing;
 use relay_stub::{ServeError, serve_connection, stub_serve};
 use std::alloc::{AllocError, Global};
@@ -176,7 +177,7 @@ fn command_once(alloc: Global) -> Option<End> {
     let script = script_of(alloc)?;
     let mut writer = stream_of(alloc, b"")?;
     let mut desk = Desk::new(alloc, &VISITS, 100);
-    let done = stub(alloc, &mut desk, 1, script, &mut writer);
+    let done = stub(alloc, &mut desk, 1, Index::new(alloc), script, &mut writer);
     Some(end_of_command(&desk, done, writer.written()))
 }
 
@@ -185,4 +186,40 @@ fn refused_command(rt: HostRuntime) {
     let first = command_once(rt.alloc());
     assert!(rt; first == Some(End::Whole) || first == Some(End::Refused));
     assert!(rt; first == Some(End::Whole) || command_once(rt.alloc()) == Some(End::Whole));
+}
+
+fn key_of(alloc: Global) -> Option<DocKey> {
+    let id = "an id that has more than thirty-eight bytes";
+    DocKey::new(alloc, "r", id)
+        .or_else(|_| DocKey::new(alloc, "r", id))
+        .ok()
+}
+
+// Stores a document, and returns the status of the answer.
+fn put_once(alloc: Global, index: &mut Index) -> Option<Result<u16, ServeFault>> {
+    match put_document(alloc, index, key_of(alloc)?, b"{}") {
+        Ok(answer) => Some(Ok(answer?.0)),
+        Err(fault) => Some(Err(fault)),
+    }
+}
+
+// Whether a document is created, and a second write updates it. After a refused allocation the
+// write was run or not, as the fault says.
+fn puts_twice(alloc: Global) -> Option<bool> {
+    let mut index = Index::new(alloc);
+    let mut ran = 0u64;
+    for _ in 0..3u64 {
+        match put_once(alloc, &mut index)? {
+            Ok(status) if (status == 201) != (ran == 0) => return Some(false),
+            Ok(_) => ran = ran.saturating_add(1),
+            Err(fault) => ran = ran.saturating_add(fault.ran.min(1)),
+        }
+    }
+    let key = key_of(alloc)?;
+    Some(index.version(&key) == Some(ran) && ran >= 2)
+}
+
+#[test]
+fn refused_documents(rt: HostRuntime) {
+    assert!(rt; puts_twice(rt.alloc()) == Some(true));
 }

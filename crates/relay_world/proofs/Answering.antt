@@ -12,7 +12,7 @@ use Rattle.relay_delivery.specs.Together.{Together, Origin, AnswersAt, act, MayA
 use Rattle.relay_delivery.proofs.Numbered.{unanswered_on, answer_on}
 use Rattle.relay_delivery.proofs.Accounts.{act_together}
 use Rattle.relay_delivery.proofs.Sharing.{TogetherFacts, happens_in_lanes}
-use Rattle.relay_delivery.proofs.Lives.{IsOfThese, facts_together}
+use Rattle.relay_delivery.proofs.Lives.{past_of, facts_together}
 use Rattle.relay_delivery.specs.Renumbering.{numbered_on}
 use Rattle.relay_core.specs.State as lane
 use Rattle.relay_core.specs.State.{config_of}
@@ -45,7 +45,7 @@ module _ (w : World) (t : Together) (b : ℕ → ℕ) (i : IsTied w t b) (k : �
   abbrev new : World
   new = over_same w (update s.lane answered w.desks) w.accepted sent_now
 
-  facts : TogetherFacts g (lane_of w) (IsOfThese (ended_of w)) t
+  facts : TogetherFacts g (lane_of w) (past_of (ended_of w) g) t
   facts = facts_together g (lane_of w) (ended_of w) t i.came_about
 
   is_origin : IsOriginOf w t b k s
@@ -73,7 +73,7 @@ module _ (w : World) (t : Together) (b : ℕ → ℕ) (i : IsTied w t b) (k : �
       ap (λ (q : Request). q.answer) (one ∙ two)
 
   may : MayAct g (AnswersAt k a from) t
-  may = (happens_in_lanes g (lane_of w) (IsOfThese (ended_of w)) t facts).answers k a from origin (record { request = request_of w s; sent = request_is; open_yet = unanswered; honest = honest })
+  may = (happens_in_lanes g (lane_of w) (past_of (ended_of w) g) t facts).answers k a from origin (record { request = request_of w s; sent = request_is; open_yet = unanswered; honest = honest })
 
   -- ---- the desk
 

@@ -80,7 +80,7 @@ module _ (c : RelayConfig) (i : index.State) (few : c.deal < 2 ^ 40) (below : Is
   tied = record {
     few = few;
     came_about = fresh_together (config_of c) (lane_of (fresh c i)) machines (record {
-      lanes = record { accepted = λ p. refl; queue = λ l. refl; lane = λ l. record { taken = refl; held = refl; reports = refl; applied = refl; already = refl; opening = record { requests = refl; runs = refl; applied = λ k. refl }; below = below } };
+      lanes = record { accepted = λ p. refl; queue = λ l. refl; lane = λ l. record { new = record { taken = refl; held = refl; reports = refl; applied = refl; already = refl; opening = record { requests = refl; runs = refl; applied = λ k. refl } }; below = below } };
       sent = refl;
       origins = refl;
       runs = refl;

@@ -23,7 +23,7 @@ use Rattle.relay_delivery.proofs.Versions.{version_in, version_of, none_over}
 use Rattle.relay_delivery.proofs.Queues.{taken_distinct, was_accepted}
 use Rattle.relay_delivery.proofs.Joined as joined
 use Rattle.relay_delivery.proofs.Sharing.{TogetherFacts, true_all}
-use Rattle.relay_delivery.proofs.Lives.{IsOfThese, facts_together}
+use Rattle.relay_delivery.proofs.Lives.{past_of, facts_together}
 use Rattle.relay_world.proofs.Past.{running_seen, epochs_rise}
 use Rattle.relay_core.specs.State.{config_of}
 use Rattle.relay_world.specs.State.{Desk, World, ended_of, desk_at, lane_of, accepted_from, applied_writes, reports_of, reports, all_closed, is_done, is_finished, taken_ops}
@@ -81,7 +81,7 @@ module _ (w : World) (t : Together) (b : ℕ → ℕ) (i : IsTied w t b) where
     lanes = λ l. sym (i.lanes.lane l).held ∙ ap (λ es. delivery.held_of (map (entry_on (b l)) es)) (done_at f l (desk_at w l) refl).1;
   }
 
-  facts : TogetherFacts g (lane_of w) (IsOfThese (ended_of w)) t
+  facts : TogetherFacts g (lane_of w) (past_of (ended_of w) g) t
   facts = facts_together g (lane_of w) (ended_of w) t i.came_about
 
   -- the versions that the lanes assigned
@@ -98,10 +98,10 @@ module _ (w : World) (t : Together) (b : ℕ → ℕ) (i : IsTied w t b) where
       took = ap (λ xs. slice_get xs place) (i.lanes.taken l) ∙ at
 
       its_lane : lane_of w (document_of o.key) ≡ l
-      its_lane = (was_accepted g (lane_of w) (IsOfThese (ended_of w)) t.lanes facts.lanes l o (at-Mem os place o took)).1
+      its_lane = (was_accepted g (lane_of w) (past_of (ended_of w) g) t.lanes facts.lanes l o (at-Mem os place o took)).1
 
       distinct : AllDistinct (map name_of os)
-      distinct = taken_distinct g (lane_of w) (IsOfThese (ended_of w)) t.lanes facts.lanes l
+      distinct = taken_distinct g (lane_of w) (past_of (ended_of w) g) t.lanes facts.lanes l
 
       none : (v : Option ℕ) → g.deals ≤ place → version_in g.first g.deals os o ≡ v → v ≡ None
       none None past e = refl
@@ -113,8 +113,8 @@ module _ (w : World) (t : Together) (b : ℕ → ℕ) (i : IsTied w t b) where
 
   true_report : (l : ℕ) (r : Report) → Mem r (reports w l) → IsTrueReport w t.runs versions l r
   true_report l r m =
-      let x = joined.true_report g (lane_of w) (IsOfThese (ended_of w)) t.lanes facts.lanes l r (subst (Mem r) (sym (reports_same l)) m) in
-      let cause = true_all g (lane_of w) (IsOfThese (ended_of w)) t facts l (terms_of g (t.lanes.lane l).taken) x.op x.of_lane (versions x.op) r.cause x.cause in
+      let x = joined.true_report g (lane_of w) (past_of (ended_of w) g) t.lanes facts.lanes l r (subst (Mem r) (sym (reports_same l)) m) in
+      let cause = true_all g (lane_of w) (past_of (ended_of w) g) t facts l (terms_of g (t.lanes.lane l).taken) x.op x.of_lane (versions x.op) r.cause x.cause in
       record {
         op = x.op;
         producer = x.producer;
@@ -140,7 +140,7 @@ module _ (w : World) (t : Together) (b : ℕ → ℕ) (i : IsTied w t b) where
         by_epoch = s.by_epoch;
         rising = epochs_rise w t b i;
         versions = versions;
-        assignment = joined.assignment g (lane_of w) (IsOfThese (ended_of w)) t.lanes facts.lanes;
+        assignment = joined.assignment g (lane_of w) (past_of (ended_of w) g) t.lanes facts.lanes;
         assigned = assigned;
         true_reports = true_report;
         once = λ l. subst (λ rs. AllDistinct (names_of rs)) (reports_same l) (s.once l);

@@ -22,7 +22,7 @@ use Rattle.relay_delivery.proofs.Fitting.{run_is_of}
 use Rattle.relay_delivery.proofs.Accounts.{act_together}
 use Rattle.relay_delivery.proofs.Facts.{IsSent}
 use Rattle.relay_delivery.proofs.Sharing.{TogetherFacts, sent_lane}
-use Rattle.relay_delivery.proofs.Lives.{IsOfThese, facts_together}
+use Rattle.relay_delivery.proofs.Lives.{past_of, facts_together}
 use Rattle.relay_delivery.proofs.Parts.{ops_over-append}
 use Rattle.relay_delivery.specs.Renumbering.{numbered_on}
 use Rattle.relay_delivery.specs.Restarts.{Incarnation, with_running}
@@ -115,7 +115,7 @@ module _ (w : World) (t : Together) (b : ℕ → ℕ) (i : IsTied w t b) (k n : 
   abbrev new : World
   new = record { config = w.config; desks = w.desks; accepted = w.accepted; ended = w.ended; sent = update k ran w.sent; index = new_index; kept = new_kept }
 
-  facts : TogetherFacts g (lane_of w) (IsOfThese (ended_of w)) t
+  facts : TogetherFacts g (lane_of w) (past_of (ended_of w) g) t
   facts = facts_together g (lane_of w) (ended_of w) t i.came_about
 
   -- ---- the item
@@ -142,7 +142,7 @@ module _ (w : World) (t : Together) (b : ℕ → ℕ) (i : IsTied w t b) (k n : 
   was_sent = record { number = from.number; request = request_of w s; sent = own_request; is_in = at-Mem (writes_of w s) n x its_write }
 
   its_lane : lane_of w (document_of op.key) ≡ s.lane
-  its_lane = sent_lane g (lane_of w) (IsOfThese (ended_of w)) t.lanes facts.lanes s.lane x was_sent
+  its_lane = sent_lane g (lane_of w) (past_of (ended_of w) g) t.lanes facts.lanes s.lane x was_sent
 
   of_outside : IsRunOfOutside w.index x (done_of w.index x c) new_index
   of_outside = run_is_of_outside w.index new_index x c (done_of w.index x c) may_choose (record { item_of = refl; effect = effect })

@@ -14,9 +14,9 @@ use Rattle.relay_delivery.specs.Machine.{Config, Core, Held, Sends, MaySend, wri
 use Rattle.relay_delivery.specs.Lane as delivery
 use Rattle.relay_delivery.specs.Lane.{Entry, held_of, candidates}
 use Rattle.relay_delivery.specs.Together.{Together, SendsFrom, act}
-use Rattle.relay_delivery.proofs.Facts.{CoreFacts}
+use Rattle.relay_delivery.proofs.Facts.{Past, CoreFacts}
 use Rattle.relay_delivery.proofs.Numbered.{chosen_on, may_send_on, send_on, sent_on}
-use Rattle.relay_delivery.proofs.Lives.{IsOfThese, facts_together, facts_of_life}
+use Rattle.relay_delivery.proofs.Lives.{IsOfThese, past_of, facts_together, facts_of_life}
 use Rattle.relay_delivery.proofs.Parts.{op_of_write}
 use Rattle.relay_delivery.proofs.Accounts.{next, all_above, act_together}
 use Rattle.relay_delivery.specs.Renumbering.{numbered_on, held_on}
@@ -91,8 +91,8 @@ module _ (w : World) (t : Together) (b : ℕ → ℕ) (i : IsTied w t b) (l : �
   is_new : after_send w l ≡ new
   is_new = ap (λ o. over_same w desks_now w.accepted (w.sent ++ sent_by w.config.epoch l o)) there
 
-  abbrev past : ℕ → Write → Type 0
-  past = IsOfThese (ended_of w)
+  abbrev past : ℕ → Past
+  past = past_of (ended_of w) g
 
   facts : CoreFacts g (past l) (t.lanes.lane l)
   facts = (facts_together g (lane_of w) (ended_of w) t i.came_about).lanes.lane l

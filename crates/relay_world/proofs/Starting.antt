@@ -35,14 +35,14 @@ fresh_parts w v desks lists =
 pub valid_in : (c : RelayConfig) (epoch : ℕ) → nat_le epoch 4194303 ≡ true → is_valid c ≡ true → is_valid (in_new_epoch c epoch) ≡ true
 valid_in c epoch within v =
     let v2 = and_right (is_from_to 1 8 c.lanes) _ v in
-    let v3 = and_right (is_from_to 1 16 c.producers) _ v2 in
+    let v3 = and_right (is_from_to 1 256 c.producers) _ v2 in
     let v4 = and_right (is_from_to 1 65536 c.capacity) _ v3 in
     let v5 = and_right (is_from_to 1 65536 c.max_held) _ v4 in
     let v6 = and_right (are_valid_limits c.limits) _ v5 in
     let v7 = and_right (is_from_to 1 32 c.attempts) _ v6 in
     let v8 = and_right (is_from_to 1 8 c.in_flight) _ v7 in
     and_both (is_from_to 1 8 c.lanes) _ (and_left _ _ v)
-    (and_both (is_from_to 1 16 c.producers) _ (and_left _ _ v2)
+    (and_both (is_from_to 1 256 c.producers) _ (and_left _ _ v2)
     (and_both (is_from_to 1 65536 c.capacity) _ (and_left _ _ v3)
     (and_both (is_from_to 1 65536 c.max_held) _ (and_left _ _ v4)
     (and_both (are_valid_limits c.limits) _ (and_left _ _ v5)

@@ -8,7 +8,6 @@ use Rattle.relay_batch.specs.declared.item.BatchItem.{BatchItem}
 use Rattle.relay_core.specs.declared.config.RelayConfig.{RelayConfig}
 use Rattle.relay_results.specs.Documents.{name_of, write_for}
 use Rattle.relay_results.specs.Outside.{Answer, Unanswered, Items, Whole, Lost, RunOutcome}
-use Rattle.relay_results.specs.Done.{failure}
 use Rattle.relay_core.specs.Limits.{is_valid}
 use Rattle.relay_core.specs.State as lane
 use Rattle.relay_core.specs.declared.settled.Settled.{Settled}
@@ -23,7 +22,7 @@ use Rattle.relay_world.specs.Changes.{after_send, matched_by}
 -- ---- requests
 
 abbrev pub run_outcome : RunDone → RunOutcome
-run_outcome r = record { status = r.status; error = failure r.result }
+run_outcome r = record { status = r.status; error = r.error }
 
 abbrev pub answer_of : Given → Answer
 answer_of Nothing = Unanswered

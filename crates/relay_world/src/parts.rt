@@ -2,6 +2,7 @@
 ghost use Rattle.std.specs.Prelude.{◌≡◌, ◌≢◌, slice_get, is_ok, ◌-◌, ◌^◌, ◌<◌, [], ◌∷◌, None, Some};
 ghost use Rattle.std.specs.Prelude.{true, OnOk, OnErr, IfOk, IfSome, map, option_map, is_some};
 ghost use Rattle.std.specs.Prelude.{length};
+ghost use Rattle.relay_action.specs.Actions.{kind_of};
 ghost use Rattle.relay_results.specs.Words.{update};
 ghost use Rattle.relay_results.specs.Outside.{Items, Whole, Lost};
 ghost use Rattle.relay_results.specs.Documents.{document_of};
@@ -29,12 +30,12 @@ use crate::ended::{Ended, take_all};
 use crate::epoch::{in_new_epoch, place_dealt};
 use crate::event::{Refusal, StepAnswer};
 use crate::names::Names;
-use crate::request::{Given, SentItem, SentRequest};
-use relay_action::{Action, Body, DocKey, Op, OpName, Write, lane_of};
+use crate::request::{Given, RunDone, SentItem, SentRequest};
+use relay_action::{Action, Body, DocKey, Op, OpName, Text, Write, lane_of};
 use relay_core::config::EPOCH_LIMIT;
 use relay_core::{NotFlying, RelayConfig, Report, Settled};
 use relay_index::{Choice, Index, may_refuse};
-use relay_results::{ItemDone, Outcome};
+use relay_results::Outcome;
 use std::alloc::{AllocError, Global};
 use std::marker::Model;
 use std::mem;
@@ -81,6 +82,28 @@ fn may_choose(choice: Choice) -> bool
         Choice::Run => true,
         Choice::Refuse(status) => may_refuse(status),
     }
+}
+
+// The entry of a reply for an operation, as this run gives it.
+fn entry_for(alloc: Global, op: &Op, run: &RunDone) -> Result<Outcome, AllocError>
+    ensures { IfOk result (λ o. o ≡ record {
+      kind =
+          kind_of op.now.action;
+      id = op.now.key.id;
+      status = run.now.status;
+      error = run.now.error;
+    }) }
+{
+    let error = match &run.error {
+        Some(error) => Some(error.copy()?),
+        None => None,
+    };
+    Ok(Outcome {
+        kind: op.action.kind(),
+        id: Text::new(alloc, op.key.id())?,
+        status: run.status,
+        error,
+    })
 }
 
 impl Parts {
@@ -606,15 +629,7 @@ impl Parts {
         let Some(run) = item.run_by(pick) else {
             return Ok(None);
         };
-        let done = ItemDone {
-            key: op.key.copy()?,
-            kind: op.action.kind(),
-            status: run.status,
-            result: run.result,
-            version: 0,
-            seq: 0,
-        };
-        Ok(Some(done.outcome(self.alloc)?))
+        Ok(Some(entry_for(self.alloc, op, run)?))
     }
 
     // The entries of a reply to a request, if the picks are valid and each item has its run.

@@ -14,17 +14,17 @@ ghost use Rattle.relay_world.specs.Memory.{run_outcome, answer_of};
 use crate::names::Names;
 use relay_action::{OpName, Write};
 use relay_index::{Choice, Index};
-use relay_results::{DoneResult, Outcome};
+use relay_results::{ErrorDetail, Outcome};
 use std::alloc::{AllocError, Global};
 use std::marker::Model;
 
 /// The result of running an item.
-#[derive(Clone, Copy, Debug, PartialEq, Eq)]
+#[derive(Debug, Drop)]
 pub struct RunDone {
     /// The status of the item.
     pub status: u16,
-    /// The result of the write.
-    pub result: DoneResult,
+    /// The error of the item, if it has one.
+    pub error: Option<ErrorDetail>,
 }
 
 /// The answer to a request.
@@ -50,6 +50,24 @@ fn applies(index: &Index, write: &Write, choice: Choice) -> bool
             .version(&write.key)
             .is_none_or(|stored| stored < write.version),
     }
+}
+
+// The result of running a write on the index as it is.
+fn run_done(
+    alloc: Global,
+    index: &Index,
+    write: &Write,
+    choice: Choice,
+) -> Result<RunDone, AllocError>
+    ensures outcome { IfOk result
+        (λ r. run_outcome r ≡ outcome_of_run (done_of index.now write.now choice)) }
+    ensures status { IfOk result (λ r. r.status ≡ (done_of index.now write.now choice).status) }
+{
+    let outcome = index.preview(write, choice)?.outcome(alloc)?;
+    Ok(RunDone {
+        status: outcome.status,
+        error: outcome.error,
+    })
 }
 
 // An item of a sent request. Contracts see it as the version of its operation and the outcomes of
@@ -87,15 +105,14 @@ impl SentItem {
     }
 
     // Its last run, or the one with this number, from 1.
-    pub(crate) fn run_by(&self, pick: Option<u64>) -> Option<RunDone>
-        ensures { option_map run_outcome result ≡ run_by self.now.runs pick }
+    pub(crate) fn run_by(&self, pick: Option<u64>) -> Option<&RunDone>
+        ensures { option_map (λ r. run_outcome r.now) result ≡ run_by self.now.runs pick }
     {
-        let run = match pick {
+        match pick {
             None => self.runs.last(),
             Some(0) => None,
             Some(number) => self.runs.get((number - 1) as usize),
-        };
-        run.copied()
+        }
     }
 
     // Runs the write of this item on the index, and records its name if it was applied.
@@ -124,15 +141,14 @@ impl SentItem {
         self.runs.reserve(1)?;
         names.reserve(1)?;
         let applied = applies(index, write, choice);
-        let done = index.run(write, choice)?;
-        self.runs.push_reserved(RunDone {
-            status: done.status,
-            result: done.result,
-        });
+        let run = run_done(*self.runs.allocator(), index, write, choice)?;
+        let status = run.status;
+        let _ = index.run(write, choice)?;
+        self.runs.push_reserved(run);
         if applied {
             names.push_reserved(name);
         }
-        Ok(done.status)
+        Ok(status)
     }
 }
 

@@ -156,7 +156,7 @@ pub fn is_given(report: &Report, given: Given) -> bool {
             number == n && *status == wanted
         }
         (Cause::Request { status }, Given::Rejected(n, wanted)) => number == n && *status == wanted,
-        (Cause::Conflict, Given::Conflict(n)) => number == n,
+        (Cause::Conflict { .. }, Given::Conflict(n)) => number == n,
         (Cause::GaveUp { sends }, Given::GaveUp(n, wanted)) => number == n && *sends == wanted,
         (Cause::Spent, Given::Spent(n)) => number == n,
         _ => false,

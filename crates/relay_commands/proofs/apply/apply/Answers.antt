@@ -5,8 +5,8 @@ use Rattle.relay_commands.proofs.apply.apply.Goals as goal
 
 pub returns-clause-applied : goal.returns-clause-applied
 returns-clause-applied g c =
-    sends c.args.script _ _ _ _ _ _ c.as_slice.result.now c.send.result
-    (subst (IsAnswered c.args.script (g.R.ByteStream.left c.args.reader.now) (g.R.ByteStream.left c.answer.new.reader)) (sym c.as_slice.ensures.value) c.in_ok-out.ensures.ok)
+    sends c.args.index c.args.script _ _ _ _ _ _ c.as_slice.result.now c.send.result
+    (subst (IsAnswered c.args.index c.args.script (g.R.ByteStream.left c.args.reader.now) (g.R.ByteStream.left c.answer.new.reader)) (sym c.as_slice.ensures.value) c.in_ok-out.ensures.ok)
     c.send.ensures
 
 pub returns-clause-calls : goal.returns-clause-calls

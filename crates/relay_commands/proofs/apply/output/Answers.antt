@@ -9,9 +9,9 @@ returns-in-Ok c =
       status = c.in-Ok.status;
       text = string_bytes c.in-Ok.text;
       answer = record {
-        index = c.serve_body.new.self;
+        after = c.serve_body.new.self;
         end = c.serve_body.new.script;
-        answers = rw c.new-index.ensures at c.in-Ok.ensures.answered;
+        answers = c.in-Ok.ensures.answered;
       };
       lines = rw c.as_bytes.ensures.value at e;
     })

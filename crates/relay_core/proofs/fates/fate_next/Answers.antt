@@ -1,5 +1,5 @@
 use Rattle.std.proofs.Common.{rules}
 use Rattle.relay_core.proofs.fates.fate_next.Goals as goal
 
-pub returns-then-attempts-max : goal.returns-then-attempts-max
-returns-then-attempts-max c = search rules
+pub returns-then-tries : goal.returns-then-tries
+returns-then-tries c = search rules

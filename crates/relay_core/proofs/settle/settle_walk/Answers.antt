@@ -6,11 +6,11 @@ use Rattle.relay_delivery.specs.Machine.{is_applied_fate, is_already_fate}
 use Rattle.std.proofs.Common.{ℕ, None, true, false}
 use Rattle.relay_results.proofs.Lists.{some_same}
 use Rattle.relay_held.specs.declared.kept.Kept.{Kept}
-use Rattle.relay_core.specs.Walk.{flies_here, waits_here, report_of, kept_walk, reports_walk, tally_walk, fate_one, tally, reports_one}
+use Rattle.relay_core.specs.Walk.{flies_here, waits_here, report_of, kept_walk, reports_walk, successes_walk, tally_walk, fate_one, tally, reports_one, success_one, status_in}
 use Rattle.relay_core.specs.Memory.{Carries}
 use Rattle.relay_core.specs.State.{is_reported_fate, is_retried_fate}
 use Rattle.relay_core.proofs.Settling.{met_ends}
-use Rattle.relay_core.proofs.Passing.{find_flying, flying_first, cons_of, nil_of, carried_few, turned, reported_turn, counts_one, ends_is, kept_end, reports_end, tally_end, nothing_after, tally_as}
+use Rattle.relay_core.proofs.Passing.{find_flying, flying_first, cons_of, nil_of, carried_few, turned, reported_turn, succeeded_turn, successes_end, counts_one, ends_is, kept_end, reports_end, tally_end, nothing_after, tally_as}
 use Rattle.relay_core.proofs.settle.settle_walk.Goals as goal
 
 flies_on : (n : ℕ) (h : Kept) → flies_here n h.flies ≡ true → waits_here h.flies ≡ false
@@ -32,11 +32,13 @@ writes-init c =
       carries = (0, cs);
       counted = omega (arith, few, most);
       room = room;
+      places = c.requires.places;
       done = omega arith;
       more = omega arith;
       matched = refl;
       held = λ i. kept_walk c.args.held.now.list c.args.max c.args.clock c.args.number c.args.whole (a i) (b i);
       reports = λ i. map report_of c.args.reports.now.items ++ reports_walk c.args.held.now.list c.args.max c.args.number c.args.whole (a i) (b i);
+      successes = λ i. c.args.successes.now.items ++ successes_walk c.args.held.now.list c.args.max c.args.number c.args.whole (a i) (b i);
       applied = (let z : 0 + tally_walk is_applied_fate c.args.held.now.list c.args.max c.args.number c.args.whole (into_iter_items c.into_iter-ahead.result) (into_iter_items c.into_iter-left.result) ≡ tally_walk is_applied_fate c.args.held.now.list c.args.max c.args.number c.args.whole (into_iter_items c.into_iter-ahead.result) (into_iter_items c.into_iter-left.result) = omega arith in z) ∙ (λ i. tally_walk is_applied_fate c.args.held.now.list c.args.max c.args.number c.args.whole (a i) (b i));
       already = (let z : 0 + tally_walk is_already_fate c.args.held.now.list c.args.max c.args.number c.args.whole (into_iter_items c.into_iter-ahead.result) (into_iter_items c.into_iter-left.result) ≡ tally_walk is_already_fate c.args.held.now.list c.args.max c.args.number c.args.whole (into_iter_items c.into_iter-ahead.result) (into_iter_items c.into_iter-left.result) = omega arith in z) ∙ (λ i. tally_walk is_already_fate c.args.held.now.list c.args.max c.args.number c.args.whole (a i) (b i));
       reported = (let z : 0 + tally_walk is_reported_fate c.args.held.now.list c.args.max c.args.number c.args.whole (into_iter_items c.into_iter-ahead.result) (into_iter_items c.into_iter-left.result) ≡ tally_walk is_reported_fate c.args.held.now.list c.args.max c.args.number c.args.whole (into_iter_items c.into_iter-ahead.result) (into_iter_items c.into_iter-left.result) = omega arith in z) ∙ (λ i. tally_walk is_reported_fate c.args.held.now.list c.args.max c.args.number c.args.whole (a i) (b i));
@@ -87,6 +89,9 @@ writes-preserved c =
     let st = c.settle_one.ensures.retried h e ∙ ap (λ z. c.writes.counts.retried + tally (is_retried_fate z)) x in
     let sl = c.settle_one.ensures.len h e ∙ ap (λ z. Rattle.std.specs.Prelude.vec_len c.writes.reports + tally (is_reported_fate z)) x in
     let cap = c.settle_one.ensures.capacity in
+    let more_of = c.settle_one.ensures.more h e ∙ ap (λ z. Rattle.std.specs.Prelude.vec_len c.writes.successes + tally (is_applied_fate z) + tally (is_already_fate z)) x in
+    let same_places = c.settle_one.ensures.places in
+    let places = v.places in
     let few = t.few in
     let fewer = t.fewer in
     let lr = ap length r in
@@ -99,6 +104,7 @@ writes-preserved c =
       carries = (t.carries.0, subst (λ xs. Carries n t.carries.0 c.settle_one.new.held.list xs) (sym r) t.carries.1);
       counted = omega (arith, sa, sb, sr, st, one, few, lr, counted);
       room = omega (arith, sl, cap, fin, fewer, room);
+      places = omega (arith, more_of, same_places, fin, fewer, places);
       done = omega (arith, sa, sb, fin, fewer, done);
       more = omega (arith, sl, more);
       matched = c.settle_one.ensures.matched ∙ v.matched;
@@ -107,6 +113,10 @@ writes-preserved c =
           ∙ append_assoc (map report_of c.writes.reports.items) (reports_one (fate_one max whole h (slice_get os 0)) h w) (reports_walk c.settle_one.new.held.list max n whole (drop 1 ws) (drop 1 os))
           ∙ ap (λ rs. map report_of c.writes.reports.items ++ rs) (sym (reported_turn n max clock whole hs c.settle_one.new.held.list ws os w at v.carries h e f.flies is))
           ∙ v.reports;
+      successes = (λ i. (c.settle_one.ensures.successes h e ∙ (λ j. c.writes.successes.items ++ success_one (x j) (status_in (en j)) h w)) i ++ successes_walk c.settle_one.new.held.list max n whole (r i) (l i))
+          ∙ append_assoc c.writes.successes.items (success_one (fate_one max whole h (slice_get os 0)) (status_in (slice_get os 0)) h w) (successes_walk c.settle_one.new.held.list max n whole (drop 1 ws) (drop 1 os))
+          ∙ ap (λ rs. c.writes.successes.items ++ rs) (sym (succeeded_turn n max clock whole hs c.settle_one.new.held.list ws os w at v.carries h e f.flies is))
+          ∙ v.successes;
       applied = (let a = tally_as is_applied_fate c.settle_one.new.held.list max n whole (into_iter_items c.next_of.new.items) (drop 1 ws) (into_iter_items c.next_of-entry.new.items) (drop 1 os) r l in let b = t.tallied is_applied_fate in let d = v.applied in omega (arith, a, b, d, sa));
       already = (let a = tally_as is_already_fate c.settle_one.new.held.list max n whole (into_iter_items c.next_of.new.items) (drop 1 ws) (into_iter_items c.next_of-entry.new.items) (drop 1 os) r l in let b = t.tallied is_already_fate in let d = v.already in omega (arith, a, b, d, sb));
       reported = (let a = tally_as is_reported_fate c.settle_one.new.held.list max n whole (into_iter_items c.next_of.new.items) (drop 1 ws) (into_iter_items c.next_of-entry.new.items) (drop 1 os) r l in let b = t.tallied is_reported_fate in let d = v.reported in omega (arith, a, b, d, sr));
@@ -129,6 +139,15 @@ returns-clause-reports c =
     sym (nothing_after (map report_of c.writes.reports.items))
     ∙ ap (λ rs. map report_of c.writes.reports.items ++ rs) (sym (reports_end c.args.number c.args.max c.args.clock c.args.whole c.writes.held.list v.carries.0 (into_iter_items c.writes.left) cs)
     ∙ ap (λ xs. reports_walk c.writes.held.list c.args.max c.args.number c.args.whole xs (into_iter_items c.writes.left)) (sym e)) ∙ v.reports
+
+pub returns-clause-successes : goal.returns-clause-successes
+returns-clause-successes c =
+    let v = c.writes.invariant in
+    let e = nil_of (into_iter_items c.writes.ahead) (sym c.in_default.ensures.value) in
+    let cs = subst (λ xs. Carries c.args.number v.carries.0 c.writes.held.list xs) e v.carries.1 in
+    sym (nothing_after c.writes.successes.items)
+    ∙ ap (λ rs. c.writes.successes.items ++ rs) (sym (successes_end c.args.number c.args.max c.args.clock c.args.whole c.writes.held.list v.carries.0 (into_iter_items c.writes.left) cs)
+    ∙ ap (λ xs. successes_walk c.writes.held.list c.args.max c.args.number c.args.whole xs (into_iter_items c.writes.left)) (sym e)) ∙ v.successes
 
 pub returns-clause-applied : goal.returns-clause-applied
 returns-clause-applied c =

@@ -1,6 +1,6 @@
 use Rattle.std.proofs.Common.{◌≡◌, ◌+◌, ◌≤◌, length}
 use Rattle.relay_lane.specs.Out.{out_of}
-use Rattle.relay_lane.specs.Turns.{Worked, Stays, collects, sends_left}
+use Rattle.relay_lane.specs.Turns.{Worked, Stays, collects, Passed, sends_left}
 use Rattle.relay_lane.specs.Delivers.{Delivers}
 use Rattle.relay_lane.proofs.draining.collect.Given as goal
 
@@ -12,7 +12,7 @@ invariant-answers g l = record {
   requests : l.lane.state.core.requests ≡ l.fn.lane.state.core.requests;
   left : sends_left l.lane.state ≤ sends_left l.fn.lane.state;
   worked : Worked collects l.fn.lane.state l.lane.state;
-  clock : l.lane.state.core.clock ≡ l.fn.lane.state.core.clock;
+  passed : Passed l.fn.lane.state.core.clock l.lane.state.core.clock (g.P.Pace.paused l.fn.pace) (g.P.Pace.paused l.pace);
   out : g.W.Wire.out l.wire ≡ out_of l.lane.state;
   describes : g.W.Wire.describes l.wire ≡ g.W.Wire.describes l.fn.wire;
   delivers : Delivers (g.W.Wire.describes l.fn.wire) g.W.Wire.fits l.fn.wire l.wire l.fn.lane.state l.lane.state;

@@ -6,7 +6,7 @@ use Rattle.relay_lane.proofs.Counting.{worked_none, stays_itself, stays_on, stay
 use Rattle.relay_lane.proofs.Carrying.{delivers_itself, delivers_on}
 use Rattle.relay_lane.proofs.Limits.{valid_limits}
 use Rattle.relay_lane.proofs.Waiting.{within_test}
-use Rattle.relay_lane.proofs.Stepping.{asked_sent, not_asked, settles_turned, turned_worked, worked_same, sends_small}
+use Rattle.relay_lane.proofs.Stepping.{asked_sent, not_asked, settles_turned, turned_worked, worked_same, sends_small, passed_none, passed_on}
 use Rattle.relay_lane.proofs.draining.pump.Goals as goal
 
 pub turns-init : goal.turns-init
@@ -19,7 +19,7 @@ turns-init g c =
       left = omega arith;
       few = omega (arith, small);
       worked = worked_none pumps s s refl;
-      clock = refl;
+      passed = passed_none s (g.P.Pace.paused c.args.pace.now) c.totals.ensures.lane;
       out = c.requires.out;
       describes = refl;
       delivers = delivers_itself (g.W.Wire.describes c.args.wire.now) g.W.Wire.fits c.args.wire.now c.args.wire.now s s refl refl;
@@ -34,6 +34,14 @@ pub returns-else-flying-places-clause-delivers : goal.returns-else-flying-places
 returns-else-flying-places-clause-delivers g c =
     delivers_on (g.W.Wire.describes c.args.wire.now) (g.W.Wire.describes c.turns.wire) g.W.Wire.fits c.args.wire.now c.turns.wire c.send_next.new.wire c.args.lane.now.state c.turns.lane.state c.send_next.new.lane.state
     c.turns.invariant.describes c.turns.invariant.delivers c.send_next.ensures.delivers
+
+pub returns-in_err-send_next-clause-passed : goal.returns-in_err-send_next-clause-passed
+returns-in_err-send_next-clause-passed g c =
+    passed_on c.args.lane.now.state.core.clock c.turns.lane.state.core.clock c.send_next.new.lane.state.core.clock (g.P.Pace.paused c.args.pace.now) (g.P.Pace.paused c.turns.pace) (g.P.Pace.paused c.send_next.new.pace) c.turns.invariant.passed c.send_next.ensures.passed
+
+pub returns-else-flying-places-clause-passed : goal.returns-else-flying-places-clause-passed
+returns-else-flying-places-clause-passed g c =
+    passed_on c.args.lane.now.state.core.clock c.turns.lane.state.core.clock c.send_next.new.lane.state.core.clock (g.P.Pace.paused c.args.pace.now) (g.P.Pace.paused c.turns.pace) (g.P.Pace.paused c.send_next.new.pace) c.turns.invariant.passed c.send_next.ensures.passed
 
 -- ---- if a request was sent
 
@@ -58,7 +66,7 @@ turns-preserved-then-branch g c =
       left = (let a = i.left in let b = k.turned.left in omega (arith, a, b, one));
       few = i.few;
       worked = turned_worked pumps s0 s t k.turn i.worked k.may_pump k.turned;
-      clock = (let a = i.clock in let b = keeps.clock in let n = k.no_tick in omega (arith, a, b, n));
+      passed = passed_on s0.core.clock s.core.clock t.core.clock (g.P.Pace.paused c.args.pace.now) (g.P.Pace.paused c.turns.pace) (g.P.Pace.paused c.send_next.new.pace) i.passed c.send_next.ensures.passed;
       out = c.send_next.ensures.out;
       describes = c.send_next.ensures.describes ∙ i.describes;
       delivers = delivers_on (g.W.Wire.describes c.args.wire.now) (g.W.Wire.describes c.turns.wire) g.W.Wire.fits c.args.wire.now c.turns.wire c.send_next.new.wire s0 s t i.describes i.delivers c.send_next.ensures.delivers;
@@ -73,7 +81,7 @@ turns-smaller g c =
     let same = not_asked c.in_ok-send_next.field-0 s t c.if-branch.false c.in_ok-send_next.ensures.turn in
     let x = c.settle_oldest.ensures.turn in
     let some : 0 < length t.core.flying = (let a = c.if-flying-places.true in let b = c.flying.ensures in let p = c.in_flight-places.ensures in let v = (valid_limits c.args.lane.now.state.config c.totals.ensures.lane.valid).places.0 in omega (arith, a, b, p, v)) in
-    let k = settles_turned t c.settle_oldest.new.lane.state x.0 c.settle_oldest.ensures.lane some x.1 x.2 in
+    let k = settles_turned t c.settle_oldest.new.lane.state x some in
     let f = k.falls in
     let left = ap (λ (y : State). sends_left y) same in
     let flying = ap (λ (y : State). length y.core.flying) same in
@@ -89,18 +97,18 @@ turns-preserved g c =
     let same = not_asked c.in_ok-send_next.field-0 s t c.if-branch.false c.in_ok-send_next.ensures.turn in
     let x = c.settle_oldest.ensures.turn in
     let some : 0 < length t.core.flying = (let a = c.if-flying-places.true in let b = c.flying.ensures in let p = c.in_flight-places.ensures in let v = (valid_limits c.args.lane.now.state.config c.totals.ensures.lane.valid).places.0 in omega (arith, a, b, p, v)) in
-    let k = settles_turned t u x.0 c.settle_oldest.ensures.lane some x.1 x.2 in
+    let k = settles_turned t u x some in
     let requests = ap (λ (y : State). y.core.requests) same in
     let left = ap (λ (y : State). sends_left y) same in
-    let clock = ap (λ (y : State). y.core.clock) same in
     let crowded : is_crowded t ≡ true = within_test _ _ (let a = c.if-flying-places.true in let b = c.flying.ensures in let p = c.in_flight-places.ensures in let d = ap (λ (y : State). y.config.in_flight) same in let e = ap (λ (y : RelayConfig). y.in_flight) i.stays.config in omega (arith, a, b, p, d, e)) in
     record {
       stays = stays_on s0 t u (stays_as s0 s t i.stays same) k.keeps.stays;
       sent = (let a = i.sent in let b = k.keeps.requests in omega (arith, a, b, requests));
       left = (let a = i.left in let b = k.left in omega (arith, a, b, left));
       few = i.few;
-      worked = turned_worked pumps s0 t u (Settles x.0) (worked_same pumps s0 s t same i.worked) crowded k;
-      clock = (let a = i.clock in let b = k.keeps.clock in omega (arith, a, b, clock));
+      worked = turned_worked pumps s0 t u (Settles x.ticks x.answer) (worked_same pumps s0 s t same i.worked) crowded k;
+      passed = passed_on s0.core.clock t.core.clock u.core.clock (g.P.Pace.paused c.args.pace.now) (g.P.Pace.paused c.send_next.new.pace) (g.P.Pace.paused c.settle_oldest.new.pace)
+          (passed_on s0.core.clock s.core.clock t.core.clock (g.P.Pace.paused c.args.pace.now) (g.P.Pace.paused c.turns.pace) (g.P.Pace.paused c.send_next.new.pace) i.passed c.send_next.ensures.passed) c.settle_oldest.ensures.passed;
       out = c.settle_oldest.ensures.out;
       describes = c.settle_oldest.ensures.describes ∙ c.send_next.ensures.describes ∙ i.describes;
       delivers = delivers_on (g.W.Wire.describes c.args.wire.now) (g.W.Wire.describes c.send_next.new.wire) g.W.Wire.fits c.args.wire.now c.send_next.new.wire c.settle_oldest.new.wire s0 t u (c.send_next.ensures.describes ∙ i.describes)

@@ -2,7 +2,7 @@ use Rattle.std.proofs.Common.{refl, ◌∙◌, arith}
 use Rattle.relay_lane.specs.Turns.{sends_only}
 use Rattle.relay_lane.proofs.Counting.{worked_none, stays_itself, stays_on}
 use Rattle.relay_lane.proofs.Carrying.{delivers_itself, delivers_on}
-use Rattle.relay_lane.proofs.Stepping.{asked_sent, turned_worked, sends_small}
+use Rattle.relay_lane.proofs.Stepping.{asked_sent, turned_worked, sends_small, passed_none, passed_on}
 use Rattle.relay_lane.proofs.draining.send_ready.Goals as goal
 
 pub turns-init : goal.turns-init
@@ -15,7 +15,7 @@ turns-init g c =
       left = omega arith;
       few = omega (arith, small);
       worked = worked_none sends_only s s refl;
-      clock = refl;
+      passed = passed_none s (g.P.Pace.paused c.args.pace.now) c.totals.ensures.lane;
       out = c.requires.out;
       describes = refl;
       delivers = delivers_itself (g.W.Wire.describes c.args.wire.now) g.W.Wire.fits c.args.wire.now c.args.wire.now s s refl refl;
@@ -30,6 +30,14 @@ pub returns-else-branch-clause-delivers : goal.returns-else-branch-clause-delive
 returns-else-branch-clause-delivers g c =
     delivers_on (g.W.Wire.describes c.args.wire.now) (g.W.Wire.describes c.turns.wire) g.W.Wire.fits c.args.wire.now c.turns.wire c.send_next.new.wire c.args.lane.now.state c.turns.lane.state c.send_next.new.lane.state
     c.turns.invariant.describes c.turns.invariant.delivers c.send_next.ensures.delivers
+
+pub returns-in_err-send_next-clause-passed : goal.returns-in_err-send_next-clause-passed
+returns-in_err-send_next-clause-passed g c =
+    passed_on c.args.lane.now.state.core.clock c.turns.lane.state.core.clock c.send_next.new.lane.state.core.clock (g.P.Pace.paused c.args.pace.now) (g.P.Pace.paused c.turns.pace) (g.P.Pace.paused c.send_next.new.pace) c.turns.invariant.passed c.send_next.ensures.passed
+
+pub returns-else-branch-clause-passed : goal.returns-else-branch-clause-passed
+returns-else-branch-clause-passed g c =
+    passed_on c.args.lane.now.state.core.clock c.turns.lane.state.core.clock c.send_next.new.lane.state.core.clock (g.P.Pace.paused c.args.pace.now) (g.P.Pace.paused c.turns.pace) (g.P.Pace.paused c.send_next.new.pace) c.turns.invariant.passed c.send_next.ensures.passed
 
 -- ---- if a request was sent
 
@@ -54,7 +62,7 @@ turns-preserved g c =
       left = (let a = i.left in let b = k.turned.left in omega (arith, a, b, one));
       few = i.few;
       worked = turned_worked sends_only s0 s t k.turn i.worked k.may_send k.turned;
-      clock = (let a = i.clock in let b = keeps.clock in let n = k.no_tick in omega (arith, a, b, n));
+      passed = passed_on s0.core.clock s.core.clock t.core.clock (g.P.Pace.paused c.args.pace.now) (g.P.Pace.paused c.turns.pace) (g.P.Pace.paused c.send_next.new.pace) i.passed c.send_next.ensures.passed;
       out = c.send_next.ensures.out;
       describes = c.send_next.ensures.describes ∙ i.describes;
       delivers = delivers_on (g.W.Wire.describes c.args.wire.now) (g.W.Wire.describes c.turns.wire) g.W.Wire.fits c.args.wire.now c.turns.wire c.send_next.new.wire s0 s t i.describes i.delivers c.send_next.ensures.delivers;

@@ -1,7 +1,7 @@
 use Rattle.std.proofs.Common.{◌≡◌, ◌+◌, ◌-◌, ◌*◌, ◌≤◌, length}
 use Rattle.relay_core.specs.State.{last_tick}
 use Rattle.relay_lane.specs.Out.{out_of}
-use Rattle.relay_lane.specs.Turns.{Worked, Stays, holds, Paused, sends_left}
+use Rattle.relay_lane.specs.Turns.{Worked, Stays, holds, Passed, sends_left}
 use Rattle.relay_lane.specs.Steps.{IsPressed}
 use Rattle.relay_lane.specs.Delivers.{Delivers}
 use Rattle.relay_lane.proofs.draining.work.Given as goal
@@ -12,8 +12,7 @@ invariant-turns g l = record {
   pressed : IsPressed l.lane.state;
   worked : Worked (holds l.fn.least) l.fn.lane.state l.lane.state;
   left : l.lane.state.core.requests + sends_left l.lane.state ≤ l.fn.lane.state.core.requests + sends_left l.fn.lane.state;
-  clock : l.fn.lane.state.core.clock ≤ l.lane.state.core.clock;
-  paused : Paused (l.lane.state.core.clock - l.fn.lane.state.core.clock) (g.P.Pace.paused l.fn.pace) (g.P.Pace.paused l.pace);
+  passed : Passed l.fn.lane.state.core.clock l.lane.state.core.clock (g.P.Pace.paused l.fn.pace) (g.P.Pace.paused l.pace);
   out : g.W.Wire.out l.wire ≡ out_of l.lane.state;
   describes : g.W.Wire.describes l.wire ≡ g.W.Wire.describes l.fn.wire;
   delivers : Delivers (g.W.Wire.describes l.fn.wire) g.W.Wire.fits l.fn.wire l.wire l.fn.lane.state l.lane.state;

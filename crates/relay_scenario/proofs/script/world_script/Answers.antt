@@ -4,8 +4,8 @@ use Rattle.relay_scenario.proofs.script.world_script.Goals as goal
 
 pub returns-clause-script : goal.returns-clause-script
 returns-clause-script g c =
-    let plays = plays_at_start (g.R.ByteStream.left c.args.reader.now) _ _ _ c.new-lines.result.held _ c.play-answer.result c.new-lines.ensures.held c.play-answer.ensures.script in
-    is_script _ _ _ _ _ c.play-answer.new.lines.held _ _ _ c.play-answer.result c.close.result c.play-answer.ensures.held plays c.close.ensures
+    let plays = plays_at_start c.args.index (g.R.ByteStream.left c.args.reader.now) _ _ _ c.new-lines.result.held _ c.play-answer.result c.new-lines.ensures.held c.play-answer.ensures.script in
+    is_script c.args.index _ _ _ _ _ c.play-answer.new.lines.held _ _ _ c.play-answer.result c.close.result c.play-answer.ensures.held plays c.close.ensures
 
 pub returns-clause-calls : goal.returns-clause-calls
 returns-clause-calls g c =

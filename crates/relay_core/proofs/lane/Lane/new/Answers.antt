@@ -30,6 +30,7 @@ invariant_of-result c =
       flight = subst IsInFlight (sym flight) (fresh_flight c.args.config.in_flight);
       most = ap (λ (x : InFlight). x.max) flight;
       room = omega (arith, c.new-3.ensures.len, none);
+      places = (let l = c.new-4.ensures.len in omega (arith, none, l));
       few = omega (arith, none);
       limit = f.held;
       tries = f.tries;

@@ -73,6 +73,7 @@ sound_still i h looks room same v quiet = subst (λ (x : Holding). IsSound (reco
   flight = v.flight;
   most = v.most;
   room = v.room;
+  places = v.places;
   few = v.few;
   limit = v.limit;
   tries = v.tries;
@@ -255,6 +256,7 @@ invariant_of-self-2 c =
       flight = c.enter.ensures.kept;
       most = ap (λ (y : InFlight). y.max) entered ∙ v.most;
       room = (let p = v.room in omega (arith, len_held, p));
+      places = (let p = v.places in omega (arith, len_held, p));
       few = (let p = v.few in omega (arith, len_held, p));
       limit = v.limit;
       tries = v.tries;

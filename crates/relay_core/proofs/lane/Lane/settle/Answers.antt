@@ -8,13 +8,14 @@ use Rattle.relay_flight.specs.InFlight.{InFlight, request_at, others, batches_of
 use Rattle.relay_flight.proofs.Numbers.{batches_settled}
 use Rattle.relay_results.proofs.Lists.{apart_tests}
 use Rattle.relay_core.specs.Quiet.{is_roomy}
-use Rattle.relay_core.specs.Walk.{report_of, kept_walk, reports_walk, tally_walk}
+use Rattle.relay_core.specs.Walk.{report_of, kept_walk, reports_walk, successes_walk, tally_walk}
 use Rattle.relay_core.specs.State.{State, is_flying, after_answer_to, writes_of, count_fates, is_reported_fate, is_retried_fate}
-use Rattle.relay_core.specs.Memory.{SaysAs, IsHalf, Carries, writes_in, entries, flying_of, AllUnder, tries_left}
+use Rattle.relay_core.specs.Successes.{successes_from}
+use Rattle.relay_core.specs.Memory.{SaysAs, TellsAs, IsHalf, Carries, writes_in, entries, flying_of, AllUnder, tries_left}
 use Rattle.relay_core.specs.View.{state_of, IsSound}
 use Rattle.relay_core.proofs.Invariant.{readable_after, readable_by, under_walk, left_walk}
 use Rattle.relay_core.proofs.Reading.{writes_seen, number_seen, found_in, found_from, writes_of_found}
-use Rattle.relay_core.proofs.Settling.{kept_seen, reported_seen, tally_seen}
+use Rattle.relay_core.proofs.Settling.{kept_seen, reported_seen, succeeded_seen, tally_seen}
 use Rattle.relay_core.proofs.Keeping.{without_other, without_seen}
 use Rattle.relay_core.specs.State.{Seen}
 use Rattle.relay_core.proofs.lane.Lane.settle.Goals as goal
@@ -46,7 +47,7 @@ settle_walk-found-requires-clause-carries c =
     subst (λ ws. Carries n 0 i.held.list ws) (sym (writes_of_found i.flight.requests n c.in-Some.request found)) (c.self.invariant.readable.carries n)
 
 pub returns-clause-settled : goal.returns-clause-settled
-returns-clause-settled c a says =
+returns-clause-settled c a says tells =
     let i = c.self.inside in
     let v = c.self.invariant in
     let n = c.args.number in
@@ -68,6 +69,8 @@ returns-clause-settled c a says =
     let walked = e.held ∙ (λ j. kept_walk hs i.config.attempts (c.clock-clock.ensures j) n c.args.whole (ws j) os) in
     let held = (λ j. entries (walked j) (writes_in (left j))) ∙ kept_seen g i.held.clock n next c.args.whole all os a (writes_in fs) (writes_in (others n fs)) says' from refl same hs 0 all os refl refl (r.carries n) r.kept in
     let reports = e.reports ∙ (λ j. map report_of i.reports.items ++ reports_walk hs i.config.attempts n c.args.whole (ws j) os) ∙ ap (λ rs. map report_of i.reports.items ++ rs) (reported_seen g i.held.clock n next c.args.whole all os a (writes_in fs) (writes_in (others n fs)) says' from refl same hs 0 all os refl refl (r.carries n) r.kept) in
+    let tells' : TellsAs a all os = subst (λ vs. TellsAs a vs os) (ap (λ (s : State). writes_of n s) (sym (ap (λ (v : Seen). v.state) c.self.view_is)) ∙ of_all) tells in
+    let successes = e.successes ∙ (λ j. i.successes.items ++ successes_walk hs i.config.attempts n c.args.whole (ws j) os) ∙ ap (λ rs. i.successes.items ++ rs) (succeeded_seen g i.held.clock n next c.args.whole all os a (writes_in fs) (writes_in (others n fs)) says' from refl same tells' hs 0 all os refl refl (r.carries n) r.kept) in
     let tallied : (q : Fate → Bool) → q Flies ≡ false → tally_walk q hs i.config.attempts n c.args.whole c.in-Some.request.writes.items os ≡ how_many q g (n - 1) all a (core.held_of (entries hs (writes_in fs))) =
     (λ q z. (λ j. tally_walk q hs i.config.attempts n c.args.whole (ws j) os) ∙ tally_seen g i.held.clock n next c.args.whole all os a (writes_in fs) (writes_in (others n fs)) says' from refl same q z hs 0 all os refl refl (r.carries n) r.kept) in
     let applied = ap (λ k. i.applied + k) (e.applied ∙ tallied is_applied_fate refl) in
@@ -90,8 +93,9 @@ returns-clause-settled c a says =
       mark = i.mark;
       closed = i.closed.items;
       flights = flights j;
+      successes = successes j;
     })
-    ∙ ap (λ vs. record (state_of i) { core = core.after_settling (state_of i).core (n - 1) vs a; flights = flight.without_batch n (batches_of i.flight) }) (sym of_all)
+    ∙ ap (λ vs. record (state_of i) { core = core.after_settling (state_of i).core (n - 1) vs a; flights = flight.without_batch n (batches_of i.flight); successes = i.successes.items ++ successes_from g (n - 1) vs a (core.held_of (entries hs (writes_in fs))) }) (sym of_all)
     ∙ ap (λ (s : State). after_answer_to s n a) (ap (λ (v : Seen). v.state) c.self.view_is)
 
 pub returns-clause-counts : goal.returns-clause-counts
@@ -147,6 +151,7 @@ invariant_of-self-2 c =
       flight = c.settle.ensures.kept;
       most = ap (λ (f : InFlight). f.max) c.settle.ensures.after ∙ v.most;
       room = e.room;
+      places = e.places;
       few = (let p = e.fewer in let q = v.few in omega arith);
       limit = v.limit;
       tries = v.tries;

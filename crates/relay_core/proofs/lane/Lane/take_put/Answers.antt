@@ -43,6 +43,7 @@ invariant_of-self-in-Ok-push c =
       flight = v.flight;
       most = v.most;
       room = omega (arith, len, room);
+      places = (let p = on_ok _ _ c.if-is_err.ensures.negation m.successes_room in omega (arith, len, p));
       few = omega (arith, len, lt, n);
       limit = v.limit;
       tries = v.tries;
@@ -79,7 +80,8 @@ returns-in-Ok-push-clause-ok c =
     let items : c.push.new.self.list ≡ hs ++ kept_new o (i.first + i.taken) (bytes_of (state_of c.self.inside) c.args.op) i.held.clock i.config.limits.count ∷ [] = c.in-Ok-push.ensures.ok ∙ (λ j. hs ++ made j ∷ []) in
     let held = ap (λ xs. entries xs (writes_in fs)) items ∙ entries_new s hs (writes_in fs) o (bytes_of (state_of c.self.inside) c.args.op) in
     let reports = ap (map report_of) m.reports ∙ with_none (map report_of i.reports.items) in
+    let successes = m.successes in
     let t : nat_lt i.taken i.config.deal ≡ true = lt-ltb _ _ (omega (arith, c.if-self.false)) in
-    (λ j. record (state_of i) { core = record s { clock = c.in-Ok-push.ensures.clock j; taken = i.taken + 1; held = held j; reports = reports j } })
+    (λ j. record (state_of i) { core = record s { clock = c.in-Ok-push.ensures.clock j; taken = i.taken + 1; held = held j; reports = reports j }; successes = successes j })
     ∙ (λ j. record (state_of i) { core = record s { taken = i.taken + 1; held = s.held ++ entry_if (sym t j) s o (bytes_of (state_of c.self.inside) c.args.op); reports = s.reports ++ spent_if (sym t j) o } })
     ∙ ap (λ (x : State). after_op x o) (ap (λ (v : Seen). v.state) c.self.view_is)

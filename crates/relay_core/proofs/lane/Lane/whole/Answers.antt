@@ -4,7 +4,7 @@ use Rattle.relay_core.proofs.Reading.{flying_positive, writes_seen}
 use Rattle.relay_core.proofs.Invariant.{few_in}
 use Rattle.relay_core.specs.State.{State, writes_of}
 use Rattle.relay_core.specs.Memory.{IsHalf}
-use Rattle.relay_core.proofs.Saying.{way_by, whole_says, whole_halves}
+use Rattle.relay_core.proofs.Saying.{way_by, whole_says, whole_halves, whole_tells}
 use Rattle.relay_core.specs.State.{Seen}
 use Rattle.relay_core.proofs.lane.Lane.whole.Goals as goal
 
@@ -25,6 +25,7 @@ pub returns-in-Some-settle-clause-ok : goal.returns-in-Some-settle-clause-ok
 returns-in-Some-settle-clause-ok c =
     c.in-Some-settle.ensures.settled (Whole c.args.status)
     (whole_says (writes_of c.args.number c.args.self.now.state) c.args.status _ _ (c.way_of-whole.ensures ∙ ap (λ ws. way_by (length ws) c.args.status) c.in-Some.ensures.writes) c.new.ensures.items)
+    (whole_tells (writes_of c.args.number c.args.self.now.state) c.args.status _ c.new.ensures.items)
 
 pub returns-in-Some-settle-clause-counts : goal.returns-in-Some-settle-clause-counts
 returns-in-Some-settle-clause-counts c =
