@@ -29,4 +29,12 @@ impl Pace for Notes {
         self.pauses = self.pauses.saturating_add(1);
         self.ticks = self.ticks.saturating_add(ticks);
     }
+
+    fn passed(&mut self) -> u64 {
+        0
+    }
+
+    fn begin(&mut self) {}
+
+    fn rest(&mut self) {}
 }

@@ -22,11 +22,20 @@ pub record Connection : Type 0 where
 abbrev pub ahead : Connection → Option (List ℕ)
 ahead c = prepend_known c.held c.left
 
--- Nothing unrequested has arrived: no byte was read beyond the messages so far, and the stream shows neither bytes that
--- are left nor its end. A stream that shows its bytes shows one or the other.
+-- no bytes, as far as they are shown
+abbrev pub HasNone : Option (List ℕ) → Type 0
+HasNone None = Unit {0}
+HasNone (Some bytes) = bytes ≡ []
+
+-- nothing unrequested has arrived: no byte was read beyond the messages so far, and the stream shows none that is left
 pub record IsQuiet (c : Connection) : Type 0 where
   pub held : c.held ≡ []
-  pub left : c.left ≡ None
+  pub left : HasNone c.left
+
+-- what a connection has beside its stream: the bytes that were read ahead, and what it may still carry
+pub record Rest : Type 0 where
+  pub held : List ℕ
+  pub phase : Phase
 
 -- a connection before its first call
 abbrev pub fresh : Option (List ℕ) → Option (List ℕ) → ℕ → Connection

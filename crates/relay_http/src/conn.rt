@@ -1,9 +1,12 @@
 //! A connection that carries one message after another (RFC 9112, section 9).
 ghost use Rattle.std.specs.Prelude.{◌≡◌, ◌≤◌, ◌&&◌, ℕ, List, [], length, true, false};
 ghost use Rattle.std.specs.Prelude.{IfOk, IfErr, MatchResult, Some, Err, None, IsTrue, IsFalse};
+ghost use Rattle.std.specs.Prelude.{OnOk, is_ok, option_map};
+ghost use Rattle.httparse.specs.Grammar.{NeverHasRequest};
 ghost use Rattle.relay_ndjson.specs.Bulk.{text_of};
 ghost use Rattle.relay_http.specs.Forms.{Took, Fails, Begins, IsOutside, IsThatOrOutside};
 ghost use Rattle.relay_http.specs.Framing.{reply_limit, request_limit};
+ghost use Rattle.relay_http.specs.Refusals.{OverrunsRequestHead, PieceFault};
 ghost use Rattle.relay_http.specs.Refusals.{ReplyFault, RequestFault};
 ghost use Rattle.relay_http.specs.Reply.{IsReplyMessage, ReplyPasses, ReplyStates, reply_view};
 ghost use Rattle.relay_http.specs.Request.{IsRequest, RequestPasses, RequestStates, TookRequest};
@@ -13,7 +16,8 @@ ghost use Rattle.relay_http.specs.WrittenAnswer.{IsAnswerStatus, answer};
 ghost use Rattle.relay_http.specs.WrittenRequest.{is_host, request, WritesText, SendsRequest};
 ghost use Rattle.relay_http.specs.Connection.{ahead, fresh, IsQuiet, is_open, is_broken};
 ghost use Rattle.relay_http.specs.Connection.{after_reply, after_request, after_write};
-ghost use Rattle.relay_http.specs.Connection.{failed_reading, failed_writing};
+ghost use Rattle.relay_http.specs.Connection.{failed_reading, failed_writing, phase_of};
+ghost use Rattle.relay_http.specs.RequestLine.{HeadAt, put_target};
 ghost use Rattle.relay_http.specs.declared.fault.HttpFault.{HttpFault};
 
 use crate::buffered::Buffered;
@@ -100,6 +104,62 @@ impl<S: ByteStream> Conn<S> {
     }
 }
 
+/// A connection without its stream.
+#[derive(Drop)]
+pub struct Rest {
+    window: Window,
+    phase: Phase,
+    text: Vec<u8>,
+}
+
+impl Model for Rest {
+    ghost use Rattle.relay_http.specs.Connection.{Rest};
+
+    ghost Value = { Rest };
+
+    ghost view = { λ r. record { held = r.window; phase = r.phase } };
+}
+
+impl Rest {
+    /// The connection over this stream.
+    pub fn over<S: ByteStream>(self, stream: S) -> Conn<S>
+        ensures { result ≡ record {
+          held = self.held;
+          left = S.left stream;
+          written = S.written stream;
+          failed = S.failed stream;
+          phase = self.phase;
+        } }
+    {
+        Conn {
+            bytes: Buffered {
+                stream,
+                window: self.window,
+            },
+            phase: self.phase,
+            text: self.text,
+        }
+    }
+}
+
+impl<S: ByteStream> Conn<S> {
+    /// The stream, and the rest of the connection.
+    pub fn apart(self) -> (S, Rest)
+        ensures stream { (S.left result.0 ≡ self.left) × (S.written result.0 ≡ self.written)
+            × (S.failed result.0 ≡ self.failed) }
+        ensures rest { result.1 ≡ record { held = self.held; phase = self.phase } }
+    {
+        let Conn { bytes, phase, text } = self;
+        let Buffered { stream, window } = bytes;
+        let rest = Rest {
+            window,
+            phase,
+            text,
+        };
+        (stream, rest)
+    }
+}
+
 impl<S: Peek> Conn<S> {
     /// Whether nothing unrequested has arrived: no byte was read beyond the messages so far, and
     /// neither a byte nor the end of the stream has arrived since. It does not wait, and it reads
@@ -154,6 +214,41 @@ impl<S: ByteIn + Drop> Conn<S> {
             Ok(reply) => Phase::after(reply.keep),
             Err(_) => Phase::Broken,
         };
+        result
+    }
+
+    /// The target of the next request, if its method is PUT: reads ahead until a whole head is at
+    /// the front, and takes nothing. `None`: the method is another one. The faults are those of
+    /// [`HttpFault`] except `Write`; after one the connection is broken.
+    pub fn peek_put(&mut self, alloc: Global) -> Result<Option<Vec<u8>>, HttpFault>
+        // A connection that carries no further message returns Broken, and is unchanged.
+        ensures broken { IsFalse (is_open self.old.phase) → (result ≡ Err HttpFault.Broken)
+            × (self.new ≡ self.old) }
+        // Nothing is taken.
+        ensures ahead { OnOk result (ahead self.new ≡ ahead self.old) }
+        // If the head of a request is at the front, its target is returned if its method is PUT.
+        ensures found { (stream : List ℕ) (there : HeadAt stream)
+            → IsTrue (is_open self.old.phase) → ahead self.old ≡ Some stream
+            → MatchResult result (λ put. option_map (λ v. v.items) put ≡ put_target there.head)
+            IsOutside }
+        // Each fault says what is at the front.
+        ensures why { (stream : List ℕ) → IsTrue (is_open self.old.phase)
+            → ahead self.old ≡ Some stream
+            → IfErr result (PieceFault NeverHasRequest OverrunsRequestHead stream) }
+        ensures phase { IsTrue (is_open self.old.phase)
+            → self.new.phase ≡ phase_of (is_ok result) }
+        // At most one call of the stream failed: a read, if the fault says so.
+        ensures failed { IsTrue (is_open self.old.phase)
+            → self.new.failed ≡ failed_reading result self.old.failed }
+        ensures written { self.new.written ≡ self.old.written }
+    {
+        if !self.phase.is_open() {
+            return Err(HttpFault::Broken);
+        }
+        let result = self.bytes.peek_put(alloc);
+        if result.is_err() {
+            self.phase = Phase::Broken;
+        }
         result
     }
 

@@ -1,5 +1,6 @@
 //! Streams that can tell whether something arrived.
-ghost use Rattle.std.specs.Prelude.{◌≡◌, None, false, IsTrue};
+ghost use Rattle.std.specs.Prelude.{◌≡◌, false, IsTrue};
+ghost use Rattle.relay_http.specs.Connection.{HasNone};
 
 use relay_action::{ByteStream, MemStream, StdStream};
 use std::io::ErrorKind;
@@ -8,10 +9,9 @@ use std::net::OpenStream;
 /// A stream that can tell, without waiting, whether something has arrived that was not read.
 pub trait Peek: ByteStream {
     /// Whether nothing has arrived that was not read: neither a byte nor the end of the stream. It
-    /// does not wait, and it reads nothing. A stream that shows its bytes either has bytes left or
-    /// has ended, so it is never quiet.
+    /// does not wait, and it reads nothing. A stream that shows a byte that is left is not quiet.
     fn is_quiet(&self) -> bool
-        ensures { IsTrue result → Self.left self.now ≡ None };
+        ensures { IsTrue result → HasNone (Self.left self.now) };
 }
 
 impl Peek for MemStream {

@@ -1,9 +1,10 @@
 //! The pieces of a message that are looked for at the front of the window.
 ghost use Rattle.std.specs.Prelude.{◌≡◌, ◌<◌, ◌≤◌, ◌++◌, ℕ, List, Some, IfErr, Bool, length, Ok};
 ghost use Rattle.std.specs.Prelude.{None, Err, IfOk, OnOk, OnErr, IsTrue, IsFalse, is_ok};
-ghost use Rattle.std.specs.Prelude.{if◌then◌else◌};
+ghost use Rattle.std.specs.Prelude.{false, if◌then◌else◌, take};
 ghost use Rattle.std.specs.Io.KnownBytes.{IsAtEnd};
 ghost use Rattle.relay_action.specs.Streams.{one_more};
+ghost use Rattle.relay_http.specs.Forms.{Fails};
 ghost use Rattle.relay_http.specs.Steps.{Finds, Answers, pending};
 ghost use Rattle.relay_http.specs.Connection.{is_read};
 ghost use Rattle.relay_http.specs.Refusals.{PieceFault};
@@ -70,8 +71,37 @@ impl<S: ByteIn + Drop> Buffered<S> {
         }
     }
 
-    // Reads a piece. It is parsed again only when a line feed arrives, the limit is reached or the
-    // stream ends, since each piece ends with a line feed.
+    // Waits until a whole piece is at the front, and returns it with its length; it stays there. It
+    // is parsed again only when a line feed arrives, the limit is reached or the stream ends, since
+    // each piece ends with a line feed.
+    pub(crate) fn await_piece<P: Piece>(&mut self) -> Result<(P, usize), HttpFault>
+        ensures there { IfOk result (λ found. (found.1 ≤ length self.new.window)
+            × P.form (take found.1 self.new.window) false found.0) }
+        ensures stands { OnOk result (pending S.left self.old ≡ pending S.left self.new) }
+        ensures fails { IfErr result
+            (Fails P.form (pending S.left self.old) (S.left self.new.stream)) }
+        ensures why { (stream : List ℕ) → pending S.left self.old ≡ Some stream
+            → IfErr result (PieceFault P.breaks P.overruns stream) }
+        ensures count { S.failed self.new.stream
+            ≡ (if is_read result then one_more (S.failed self.old.stream) else S.failed
+            self.old.stream) }
+        ensures written { S.written self.new.stream ≡ S.written self.old.stream }
+    {
+        let mut ended = false;
+        'reading: loop {
+            match P::find(self.window.as_slice()) {
+                Err(fault) => return Err(fault),
+                Ok(Some(found)) => return Ok(found),
+                Ok(None) => {}
+            }
+            if ended {
+                return Err(HttpFault::Ended);
+            }
+            ended = !self.fill_line(P::most())?;
+        }
+    }
+
+    // Reads a piece.
     pub(crate) fn read_piece<P: Piece>(&mut self) -> Result<P, HttpFault>
         ensures answer { Answers P.form (pending S.left self.old) (pending S.left self.new)
             (S.left self.new.stream) result }
@@ -82,21 +112,12 @@ impl<S: ByteIn + Drop> Buffered<S> {
             self.old.stream) }
         ensures written { S.written self.new.stream ≡ S.written self.old.stream }
     {
-        let mut ended = false;
-        'reading: loop {
-            // With `?` the prover does not see that the length that is skipped is the one found.
-            match P::find(self.window.as_slice()) {
-                Err(fault) => return Err(fault),
-                Ok(Some((piece, len))) => {
-                    self.window.skip(len);
-                    return Ok(piece);
-                }
-                Ok(None) => {}
+        match self.await_piece::<P>() {
+            Ok(found) => {
+                self.window.skip(found.1);
+                Ok(found.0)
             }
-            if ended {
-                return Err(HttpFault::Ended);
-            }
-            ended = !self.fill_line(P::most())?;
+            Err(fault) => Err(fault),
         }
     }
 }

@@ -14,6 +14,8 @@ mod limits;
 #[cfg(test)]
 mod peers;
 #[cfg(test)]
+mod puts;
+#[cfg(test)]
 mod reading;
 #[cfg(test)]
 mod refusals;

@@ -213,3 +213,31 @@ fn refused_bulk_requests(rt: HostRuntime) {
         assert!(rt; sends_writes(rt.alloc(), size) == Some(true));
     }
 }
+
+// The result of peeking at a PUT: whether its target is right, unless an allocation was refused.
+fn peek_once(alloc: Global, conn: &mut Conn<MemStream>) -> Result<bool, HttpFault> {
+    Ok(match conn.peek_put(alloc)? {
+        Some(target) => target.as_slice() == b"/i/_doc/1".as_slice(),
+        None => false,
+    })
+}
+
+const PUT: &[u8] = b"PUT /i/_doc/1 HTTP/1.1\r\nContent-Length: 0\r\n\r\n";
+
+// Whether a PUT is peeked at, on a second connection if an allocation was refused on the first.
+fn peeks_put(alloc: Global) -> Option<bool> {
+    let mut conn = conn_of(alloc, PUT, 100)?;
+    match peek_once(alloc, &mut conn) {
+        Ok(right) => Some(right && conn.is_open()),
+        Err(fault) => {
+            let broken = fault == HttpFault::Memory && !conn.is_open();
+            let again = peek_once(alloc, &mut conn_of(alloc, PUT, 100)?);
+            Some(broken && again == Ok(true))
+        }
+    }
+}
+
+#[test]
+fn refused_puts(rt: HostRuntime) {
+    assert!(rt; peeks_put(rt.alloc()) == Some(true));
+}

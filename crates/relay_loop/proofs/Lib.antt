@@ -1,3 +1,4 @@
 pub mod Messages
 pub mod Running
-pub mod Standing
+pub mod Hearing
+pub mod Exchanging

@@ -1,5 +1,5 @@
 -- Messages that are complete in a stream are read from it.
-use Rattle.std.proofs.Common.{◌≡◌, ◌≤◌, ℕ, List, [], length, ◌&&◌, true, false, Option, Some, IsFalse, refl, sym, subst}
+use Rattle.std.proofs.Common.{◌≡◌, ◌≤◌, ℕ, List, [], length, ◌&&◌, true, false, Option, Some, IsTrue, IsFalse, refl, sym, subst}
 use Rattle.std.specs.Io.KnownBytes.{append_known}
 use Rattle.std.proofs.lemmas.List.{append-nil}
 use Rattle.relay_http.specs.Connection.{Connection, fresh, is_open, is_broken}
@@ -7,20 +7,19 @@ use Rattle.relay_http.specs.Forms.{Begins}
 use Rattle.relay_http.specs.Framing.{request_limit, reply_limit}
 use Rattle.relay_http.specs.Request.{IsRequest}
 use Rattle.relay_http.specs.Reply.{IsReplyMessage}
-use Rattle.relay_http.specs.WrittenRequest.{request}
+use Rattle.relay_http.specs.WrittenRequest.{is_host, request}
 use Rattle.relay_http.specs.WrittenAnswer.{IsAnswerStatus, answer}
 use Rattle.relay_http.proofs.WrittenRequests.{request_written}
 use Rattle.relay_http.proofs.WrittenAnswers.{answer_written}
-use Rattle.relay_loop.specs.Loops.{loop_host}
 
-abbrev pub request_there : (body : List ℕ) → length body ≤ request_limit → Begins IsRequest (request loop_host body)
-request_there body size = record {
-  front = request loop_host body;
+abbrev pub request_there : (host body : List ℕ) → IsTrue (is_host host) → length body ≤ request_limit → Begins IsRequest (request host body)
+request_there host body good size = record {
+  front = request host body;
   ends = false;
   value = record { bulk = true; body = body; keep = true };
   rest = [];
-  message = request_written loop_host body refl size;
-  split = sym (append-nil (request loop_host body));
+  message = request_written host body good size;
+  split = sym (append-nil (request host body));
   last = λ e. refl;
 }
 

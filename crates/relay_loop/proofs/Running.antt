@@ -13,8 +13,6 @@ use Rattle.relay_results.specs.Done.{outcome_of, outcomes_of}
 use Rattle.relay_results.specs.Words.{Mem}
 use Rattle.relay_results.specs.Documents.{document_of}
 use Rattle.relay_results.specs.Outside.{Request, writes_of, IsOutcomeOf, Ran, Outside, Event, Runs, MayRun, WasRun, EachWasRun, write_at, ran_of, after, after_all, AllMayHappen}
-use Rattle.relay_results.specs.Replies.{IsBulkReply}
-use Rattle.relay_results.proofs.OneReading.{one_reply, no_fault}
 use Rattle.relay_results.proofs.Lists.{Mem-left, Mem-last}
 use Rattle.relay_results.proofs.Steps.{step_runs_item}
 use Rattle.relay_index.specs.States.{State, stored_version}
@@ -23,16 +21,9 @@ use Rattle.relay_index.specs.Plans.{choice_at, takes, after_item}
 use Rattle.relay_index.specs.Serving.{Server, Answer, under, too_large_text, RunsAll, RunsFirst, Replies, Answers, StopsAfter}
 use Rattle.relay_index.proofs.Ran.{run_is_of_outside}
 use Rattle.relay_index.proofs.Repeated.{scripts_may}
-use Rattle.relay_lane.specs.declared.wire.WireReply.{WireReply}
-use Rattle.relay_lane.specs.declared.wire.WireReply.TheVariants as reply
-use Rattle.relay_lane.specs.declared.wire.WireFault.{WireFault}
-use Rattle.relay_lane.specs.declared.wire.WireFault.TheVariants as fault
-use Rattle.relay_lane.specs.Wires.{AreRuns, RunsOn, IsWireReply as IsTold}
-use Rattle.relay_http.specs.Framing.{reply_limit}
-use Rattle.relay_http.specs.Reply.{Reply}
+use Rattle.relay_lane.specs.Wires.{AreRuns, RunsOn}
 use Rattle.relay_http.specs.WrittenAnswer.{IsAnswerStatus}
-use Rattle.relay_wires.specs.Meaning.{Tells}
-use Rattle.relay_loop.specs.Loops.{Stops, Serves, IsRefused, IsServed, Reads, ReadsWhole, IsExchange}
+use Rattle.relay_loop.specs.Loops.{Stops, IsServed}
 
 -- ---- runs one after another
 
@@ -190,67 +181,6 @@ pub stops_after_all : (ws : List Write) (old new : Server) (text : List ℕ) →
 stops_after_all ws old new text r =
     (length ws, record { within = omega arith; items = r.items; runs = subst (λ vs. RunsAll old vs r.items new) (sym (take-length ws)) r.runs })
 
--- ---- what comes back
-
--- a reply that says these outcomes is read as that, unless an allocation fails
-pub reads_entries : (r : Reply) (os : List Outcome) (result : Result WireReply WireFault) → r.status ≡ 200 → IsBulkReply r.body os → Tells r result → Reads os result
-reads_entries r os (Ok (reply.Items outcomes)) success is t = one_reply r.body outcomes.items os t.1 is
-reads_entries r os (Ok (reply.Whole status)) success is t = absurd (t.0 success)
-reads_entries r os (Err fault.Send) success is t = absurd t
-reads_entries r os (Err fault.Lost) success is t = absurd t
-reads_entries r os (Err fault.Unreadable) success is t = absurd (t.1.1 (no_fault r.body os t.1.0 is t.1.2))
-reads_entries r os (Err fault.Memory) success is t = tt
-
-pub exchange_of_reply : (ws : List Write) (old new : Server) (lost : Bool) (status : ℕ) (text : List ℕ) (result : Result WireReply WireFault) → lost ≡ false → length text ≤ reply_limit → (s : Serves ws old new status text)
-    → Reads (outcomes_of s.replies.items) result → IsExchange lost ws old new result
-exchange_of_reply ws old new lost status text (Ok (reply.Items outcomes)) kept size s reads =
-    let r = s.replies in
-    (r.items, r.runs, reads, kept, subst (λ t. length t ≤ reply_limit) r.text_of size)
-exchange_of_reply ws old new lost status text (Ok (reply.Whole other)) kept size s reads = absurd reads
-exchange_of_reply ws old new lost status text (Err fault.Send) kept size s reads = absurd reads
-exchange_of_reply ws old new lost status text (Err fault.Lost) kept size s reads = absurd reads
-exchange_of_reply ws old new lost status text (Err fault.Unreadable) kept size s reads = absurd reads
-exchange_of_reply ws old new lost status text (Err fault.Memory) kept size s reads = stops_after_all ws old new text s.replies
-
-pub lost_as_asked : (ws : List Write) (old new : Server) (lost : Bool) (status : ℕ) (text : List ℕ) → lost ≡ true → Serves ws old new status text → IsExchange lost ws old new (Err fault.Lost)
-lost_as_asked ws old new lost status text asked s = inl (s.replies.items, s.replies.runs, inl asked)
-
-pub lost_as_long : (ws : List Write) (old new : Server) (lost : Bool) (status : ℕ) (text : List ℕ) → reply_limit < length text → Serves ws old new status text → IsExchange lost ws old new (Err fault.Lost)
-lost_as_long ws old new lost status text long s = inl (s.replies.items, s.replies.runs, inr (subst (λ t. reply_limit < length t) s.replies.text_of long))
-
 -- nothing was run of it
 pub stops_unread : (ws : List Write) (old new : Server) → new ≡ old → Stops ws old new
 stops_unread ws old new stays = (0, record { within = omega arith; items = []; runs = (refl, stays) })
-
-pub reads_status : (r : Reply) (status : ℕ) (result : Result WireReply WireFault) → r.status ≡ status → status ≢ 200 → Tells r result → ReadsWhole status result
-reads_status r status (Ok (reply.Items outcomes)) e other t = absurd (other (sym e ∙ t.0))
-reads_status r status (Ok (reply.Whole s)) e other t = t.1 ∙ e
-reads_status r status (Err fault.Send) e other t = absurd t
-reads_status r status (Err fault.Lost) e other t = absurd t
-reads_status r status (Err fault.Unreadable) e other t = absurd (other (sym e ∙ t.0))
-reads_status r status (Err fault.Memory) e other t = tt
-
-pub not_success : (status : ℕ) → status ≡ 413 → status ≢ 200
-not_success status e s = omega (arith, e, s)
-
--- a body that is too long gets that answer, or its answer is lost
-pub exchange_of_refusal : (ws : List Write) (old new : Server) (lost : Bool) (status : ℕ) (text : List ℕ) (result : Result WireReply WireFault) → lost ≡ false → IsRefused ws old new status text
-    → ReadsWhole status result → IsExchange lost ws old new result
-exchange_of_refusal ws old new lost status text (Ok (reply.Items outcomes)) kept r reads = absurd reads
-exchange_of_refusal ws old new lost status text (Ok (reply.Whole other)) kept r reads = (reads ∙ r.failure, r.over, r.stays, kept)
-exchange_of_refusal ws old new lost status text (Err fault.Send) kept r reads = absurd reads
-exchange_of_refusal ws old new lost status text (Err fault.Lost) kept r reads = absurd reads
-exchange_of_refusal ws old new lost status text (Err fault.Unreadable) kept r reads = absurd reads
-exchange_of_refusal ws old new lost status text (Err fault.Memory) kept r reads = stops_unread ws old new r.stays
-
-pub exchange_lost : (ws : List Write) (old new : Server) (lost : Bool) (status : ℕ) (text : List ℕ) → (lost ≡ true) ⊎ (reply_limit < length text) → IsServed ws old new status text → IsExchange lost ws old new (Err fault.Lost)
-exchange_lost ws old new lost status text why served = ⊎_elim {C = IsExchange lost ws old new (Err fault.Lost)}
-    (λ s. ⊎_elim {C = IsExchange lost ws old new (Err fault.Lost)} (λ a. lost_as_asked ws old new lost status text a s) (λ l. lost_as_long ws old new lost status text l s) why)
-    (λ r. inr (r.over, r.stays, ⊎_elim {C = (lost ≡ true) ⊎ (reply_limit < length too_large_text)} (λ a. inl a) (λ l. inr (subst (λ t. reply_limit < length t) r.says l)) why))
-    served
-
--- a status of the request as a whole is not 200
-pub wire_reply : (r : Reply) (result : Result WireReply WireFault) → Tells r result → IsTold result
-wire_reply r (Ok (reply.Items outcomes)) t = tt
-wire_reply r (Ok (reply.Whole status)) t = λ e. t.0 (sym t.1 ∙ e)
-wire_reply r (Err f) t = tt

@@ -1,56 +1,39 @@
--- A wire to the stand-in index, within one process.
-use Rattle.std.specs.Prelude.{◌≡◌, ◌⊎◌, ℕ, ◌<◌, ◌≤◌, List, [], ◌∷◌, codes, length, slice_get, Some, Bool, true, false, ◌==◌, Result, Ok, Err}
+-- The stand-in index as the far end of streams in memory.
+use Rattle.std.specs.Prelude.{◌≡◌, ◌⊎◌, ℕ, ◌<◌, ◌≤◌, List, [], length, Option, Some, None, Bool, true, false, ◌==◌, IsTrue}
 use Rattle.std.specs.List.{list_any}
 use Rattle.relay_action.specs.declared.write.Write.{Write}
-use Rattle.relay_ndjson.specs.Bodies.{AreDealt}
 use Rattle.relay_ndjson.specs.Bulk.{text_of}
-use Rattle.relay_results.specs.declared.done.ItemDone.{ItemDone}
-use Rattle.relay_results.specs.declared.outcome.Outcome.{Outcome}
-use Rattle.relay_results.specs.Done.{outcomes_of, reply_text}
-use Rattle.relay_results.specs.Numbers.{from_zero}
-use Rattle.relay_results.specs.Outside.{Outside, Unanswered, IsOpening}
+use Rattle.relay_results.specs.Outside.{Outside, IsOpening}
 use Rattle.relay_index.specs.States.{State}
 use Rattle.relay_index.specs.Runs.{Shows}
 use Rattle.relay_index.specs.Plans.{Plan, takes}
-use Rattle.relay_index.specs.Serving.{Server, under, too_large_text, RunsAll, RunsFirst, Replies}
-use Rattle.relay_http.specs.Framing.{reply_limit, request_limit}
+use Rattle.relay_index.specs.Serving.{Server, under, too_large_text, RunsFirst, Replies}
+use Rattle.relay_http.specs.Framing.{reply_limit}
 use Rattle.relay_http.specs.WrittenAnswer.{IsAnswerStatus, answer}
-use Rattle.relay_http.specs.WrittenRequest.{request}
-use Rattle.relay_http.specs.declared.reply.HttpReply.{HttpReply}
-use Rattle.relay_lane.specs.declared.wire.WireReply.{WireReply}
-use Rattle.relay_lane.specs.declared.wire.WireReply.TheVariants as reply
-use Rattle.relay_lane.specs.declared.wire.WireFault.{WireFault}
-use Rattle.relay_lane.specs.declared.wire.WireFault.TheVariants as fault
-use Rattle.relay_wires.specs.Numbers.{numbers, besides}
+use Rattle.relay_http.specs.WrittenRequest.{is_host, request}
+use Rattle.relay_wires.specs.Peers.{MayGo}
+use Rattle.relay_wires.specs.Carriers.{Carrier}
+use Rattle.relay_wires.specs.Telling.{Fits}
 
--- ---- the wire
+-- ---- a stream to it
 
--- The index and the script under which it runs items; the numbers whose replies are dropped; and the outstanding
--- requests, as bytes that wait to be read, the newest first.
+-- what is left to read, what was written since the index took what was, and how many calls failed
+pub record Line : Type 0 where
+  pub left : List ℕ
+  pub written : List ℕ
+  pub failed : ℕ
+
+-- ---- the far end
+
+-- the index and the script under which it runs items, and the numbers whose replies are dropped
 pub record Loop : Type 0 where
   pub index : State
   pub script : Plan
   pub lost : List ℕ
-  pub out : List (ℕ × List ℕ)
 
--- nothing is outstanding, and nothing is to be lost
+-- no reply is to be lost
 abbrev pub new_loop : State → Plan → Loop
-new_loop index script = record { index = index; script = script; lost = []; out = [] }
-
--- the host in its requests
-abbrev pub loop_host : List ℕ
-loop_host = codes "loop"
-
--- the bytes of the request with these writes
-abbrev pub bytes_of : List Write → List ℕ
-bytes_of ws = request loop_host (text_of ws)
-
--- writes that a request may carry
-pub record MayGo (ws : List Write) : Type 0 where
-  pub dealt : AreDealt ws
-  pub size : length (text_of ws) ≤ request_limit
-
--- ---- what is received
+new_loop index script = record { index = index; script = script; lost = [] }
 
 abbrev pub server : Loop → Server
 server w = under w.index w.script
@@ -59,86 +42,15 @@ server w = under w.index w.script
 abbrev pub is_lost : ℕ → Loop → Bool
 is_lost number w = list_any (λ n. n == number) w.lost
 
+-- an outside fits if it has the versions and the lists of the index
+abbrev pub FitsLoop : Loop → Outside → Type 0
+FitsLoop w o = Shows o w.index
+
 -- the body with these writes is longer than the script accepts
 abbrev pub IsOver : List Write → Server → Type 0
 IsOver ws s = takes s.script (length (text_of ws)) ≡ false
 
--- The result of a request with these writes. Its entries, or the loss of its reply: all items were run, once each and
--- in order; the reply is lost if that was asked for, or if it is too long. A failed allocation: exactly the first few
--- items, perhaps none or all, were run. A body that is too long: nothing was run, and the answer is 413, or its loss.
--- There are no other results.
-abbrev pub IsExchange : Bool → List Write → Server → Server → Result WireReply WireFault → Type 0
-IsExchange lost ws old new (Ok (reply.Items outcomes)) =
-    (items : List ItemDone) × RunsAll old ws items new × (outcomes.items ≡ outcomes_of items)
-    × (lost ≡ false) × (length (reply_text 0 items) ≤ reply_limit)
-IsExchange lost ws old new (Ok (reply.Whole status)) = (status ≡ 413) × IsOver ws old × (new ≡ old) × (lost ≡ false)
-IsExchange lost ws old new (Err fault.Send) = ⊥
-IsExchange lost ws old new (Err fault.Lost) =
-    ((items : List ItemDone) × RunsAll old ws items new × ((lost ≡ true) ⊎ (reply_limit < length (reply_text 0 items))))
-    ⊎ (IsOver ws old × (new ≡ old) × ((lost ≡ true) ⊎ (reply_limit < length too_large_text)))
-IsExchange lost ws old new (Err fault.Unreadable) = ⊥
-IsExchange lost ws old new (Err fault.Memory) = (ran : ℕ) × RunsFirst ran old ws new
-
--- this holds for the request that was outstanding under this number
-abbrev pub Receives : ℕ → List Write → Loop → Loop → Result WireReply WireFault → Type 0
-Receives number ws old new result = IsExchange (is_lost number old) ws (server old) (server new) result
-
--- the request with this number is no longer outstanding, and the same replies are to be lost
-pub record TakesIn (number : ℕ) (old new : Loop) : Type 0 where
-  pub out : new.out ≡ besides number old.out
-  pub lost : new.lost ≡ old.lost
-
--- ---- what is outside
-
--- the request with this number was sent with writes that may go, and not answered; these are its bytes
-pub record IsOut (number : ℕ) (bytes : List ℕ) (o : Outside) : Type 0 where
-  pub writes : List Write
-  pub sent : slice_get o.requests (from_zero number) ≡ Some (record { writes = writes; answer = Unanswered })
-  pub may : MayGo writes
-  pub bytes_are : bytes ≡ bytes_of writes
-
--- each of these was sent before the request at this place
-abbrev pub AllBefore : ℕ → List ℕ → Type 0
-AllBefore place [] = Unit {0}
-AllBefore place (n ∷ ns) = (from_zero n < place) × AllBefore place ns
-
--- each of these is outstanding, the newest first
-abbrev pub AreOut : List (ℕ × List ℕ) → Outside → Type 0
-AreOut [] o = Unit {0}
-AreOut (e ∷ es) o = IsOut e.0 e.1 o × AllBefore (from_zero e.0) (numbers es) × AreOut es o
-
--- an outside that fits the wire has the versions and the lists of its index, and what is outstanding was sent there
-pub record Fits (w : Loop) (o : Outside) : Type 0 where
-  pub shows : Shows o w.index
-  pub out : AreOut w.out o
-
--- an outside in which nothing was sent fits, and so does each such outside that has the versions and the lists of the
--- index
-pub record Opens (w : Loop) : Type 0 where
-  pub opening : Outside
-  pub opens : IsOpening opening
-  pub fits : Fits w opening
-  pub each : (o : Outside) → IsOpening o → Shows o w.index → Fits w o
-
--- ---- the results of private steps
-
--- a reply with these outcomes was read, unless an allocation failed
-abbrev pub Reads : List Outcome → Result WireReply WireFault → Type 0
-Reads os (Ok (reply.Items outcomes)) = outcomes.items ≡ os
-Reads os (Ok (reply.Whole status)) = ⊥
-Reads os (Err fault.Send) = ⊥
-Reads os (Err fault.Lost) = ⊥
-Reads os (Err fault.Unreadable) = ⊥
-Reads os (Err fault.Memory) = Unit {0}
-
--- a reply with this status for the request as a whole was read, unless an allocation failed
-abbrev pub ReadsWhole : ℕ → Result WireReply WireFault → Type 0
-ReadsWhole status (Ok (reply.Items outcomes)) = ⊥
-ReadsWhole status (Ok (reply.Whole other)) = other ≡ status
-ReadsWhole status (Err fault.Send) = ⊥
-ReadsWhole status (Err fault.Lost) = ⊥
-ReadsWhole status (Err fault.Unreadable) = ⊥
-ReadsWhole status (Err fault.Memory) = Unit {0}
+-- ---- what is done with a request
 
 -- all writes were run, and this is the answer
 pub record Serves (ws : List Write) (old new : Server) (status : ℕ) (text : List ℕ) : Type 0 where
@@ -159,8 +71,43 @@ IsServed ws old new status text = Serves ws old new status text ⊎ IsRefused ws
 abbrev pub Stops : List Write → Server → Server → Type 0
 Stops ws old new = (ran : ℕ) × RunsFirst ran old ws new
 
--- if the bytes are an answer, this is its reply
-abbrev pub IsAnswered : List ℕ → HttpReply → Type 0
-IsAnswered bytes r =
-    (status : ℕ) (body : List ℕ) → IsAnswerStatus status → length body ≤ reply_limit → bytes ≡ answer status body true
-    → (r.status ≡ status) × (r.body.items ≡ body)
+-- the answer is left to be read
+pub record IsAnswered (lost : Bool) (status : ℕ) (text left : List ℕ) : Type 0 where
+  pub status_is : IsAnswerStatus status
+  pub size : length text ≤ reply_limit
+  pub kept : lost ≡ false
+  pub left_is : left ≡ answer status text true
+
+-- nothing is left to be read: the answer is to be lost, or it is too long
+pub record IsUnanswered (lost : Bool) (text left : List ℕ) : Type 0 where
+  pub why : (lost ≡ true) ⊎ (reply_limit < length text)
+  pub left_is : left ≡ []
+
+-- The request with these writes was served, each of them once and in order, or refused as too long and none of them; its
+-- answer is left, unless it is to be lost.
+pub record Leaves (lost : Bool) (ws : List Write) (old new : Server) (left : List ℕ) : Type 0 where
+  pub status : ℕ
+  pub text : List ℕ
+  pub served : IsServed ws old new status text
+  pub leaves : IsAnswered lost status text left ⊎ IsUnanswered lost text left
+
+-- What is done with a request that was written: it is served, and this is left to read; or an allocation failed after
+-- exactly the first few of its writes were run. The same replies are to be lost.
+abbrev pub DoesLoop : Loop → Loop → ℕ → Option (List ℕ) → Option (Option (List ℕ)) → Type 0
+DoesLoop w v number written None =
+    (v.lost ≡ w.lost)
+    × ((host : List ℕ) (ws : List Write) → IsTrue (is_host host) → MayGo ws → written ≡ Some (request host (text_of ws)) → Stops ws (server w) (server v))
+DoesLoop w v number written (Some left) =
+    (v.lost ≡ w.lost)
+    × ((host : List ℕ) (ws : List Write) → IsTrue (is_host host) → MayGo ws → written ≡ Some (request host (text_of ws))
+    → (bytes : List ℕ) × (left ≡ Some bytes) × Leaves (is_lost number w) ws (server w) (server v) bytes)
+
+-- ---- at the start
+
+-- an outside in which nothing was sent fits the wire, and so does each such outside that has the versions and the lists
+-- of the index
+pub record Opens (w : Carrier Loop) : Type 0 where
+  pub opening : Outside
+  pub opens : IsOpening opening
+  pub fits : Fits FitsLoop w opening
+  pub each : (o : Outside) → IsOpening o → Shows o w.peer.index → Fits FitsLoop w o

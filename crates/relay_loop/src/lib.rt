@@ -1,14 +1,21 @@
-//! The way from a lane to the stand-in index within one process (`LoopWire`), for tests and
-//! simulations. It depends on `relay_lane` for what a wire is, on `relay_http` for both ends of a
-//! connection, on `relay_index` for the index, and on `relay_wires` for the table of statuses.
+//! The stand-in index as the far end of a wire over HTTP, within one process (`LoopDial`,
+//! `LoopEnd`, `LoopWire`), for tests and simulations. It depends on `relay_http` for what a
+//! connection is, on `relay_index` for the index, and on `relay_wires` for what a far end is.
 //!
-//! What is proved: a `LoopWire` describes the outside. Each request passes as bytes through both
-//! ends of a connection, is run once by the index, item by item, and is answered honestly.
+//! What is proved: a `LoopEnd` is described, so that a wire over HTTP to it describes the outside.
+//! Each request passes as bytes through both ends of a connection, is run once by the index, item
+//! by item, and is answered honestly; what the wire returns for it is that result (`laws`).
 #![tactic(auto)]
 
 mod ends;
+pub mod far_end;
+pub mod laws;
 pub mod loop_wire;
-mod round_trip;
+mod serving;
+pub mod stream;
 
-pub use loop_wire::LoopWire;
+pub use far_end::{LoopDial, LoopEnd};
+pub use loop_wire::{LoopWire, wire_to};
 pub use relay_lane::{Wire, WireFault, WireReply};
+pub use relay_wires::{HttpWire, Peer};
+pub use stream::LoopStream;

@@ -1,6 +1,6 @@
 //! TCP sockets behind the traits of the relay: `TcpDial` makes a connection to an index for each
-//! stream that a wire over HTTP asks for, `PatientDial` keeps trying while the index is down, and
-//! `TcpListen` accepts the connections to a server. The streams of both are `StdStream`s of
+//! stream that a wire over HTTP asks for, `TimedDial` limits the time of each message on it, `PatientDial`
+//! keeps trying while the index is down, and `TcpListen` accepts the connections to a server. The streams of both are `StdStream`s of
 //! `relay_action`, which can be asked whether something has arrived. It depends on `relay_http` for
 //! what a dial and a listener are.
 //!
@@ -11,7 +11,9 @@
 pub mod dial;
 pub mod listen;
 pub mod patient;
+pub mod timed;
 
 pub use dial::TcpDial;
 pub use listen::TcpListen;
 pub use patient::PatientDial;
+pub use timed::{TimedDial, TimedStream};

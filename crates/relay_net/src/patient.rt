@@ -1,7 +1,9 @@
 //! Dials that wait for an index that is down.
-ghost use Rattle.std.specs.Prelude.{◌≡◌, ◌+◌, ◌≤◌, is_ok, if◌then◌else◌, OnErr};
+ghost use Rattle.std.specs.Prelude.{◌≡◌, ◌+◌, ◌≤◌, is_ok, if◌then◌else◌, IfOk, OnErr};
 ghost use Rattle.relay_action.specs.Streams.{one_more, FailedSince};
+ghost use Rattle.relay_http.specs.Connection.{HasNone};
 
+use relay_action::ByteStream;
 use relay_http::{Dial, DialFault};
 use std::marker::Model;
 use std::thread;
@@ -65,7 +67,7 @@ impl<D, C: Clock> PatientDial<D, C> {
     }
 }
 
-impl<S, D: Dial<S>, C: Clock> Dial<S> for PatientDial<D, C> {
+impl<S: ByteStream, D: Dial<S>, C: Clock> Dial<S> for PatientDial<D, C> {
     ghost failed = { λ p. p.2 };
 
     ghost dialled = { λ p. p.3 };
@@ -79,6 +81,7 @@ impl<S, D: Dial<S>, C: Clock> Dial<S> for PatientDial<D, C> {
     fn dial(&mut self) -> Result<S, DialFault>
         ensures count { self.new.2 ≡ (if is_ok result then self.old.2 else one_more self.old.2) }
         ensures dialled { self.new.3 ≡ one_more self.old.3 }
+        ensures fresh { IfOk result (λ s. HasNone (S.written s)) }
         ensures patience { self.new.1 ≡ self.old.1 }
         ensures failed { OnErr result (FailedSince (D.failed self.old.0) (D.failed self.new.0)) }
         ensures tries { D.failed self.new.0 ≤ D.failed self.old.0 + self.old.1 + 1 }

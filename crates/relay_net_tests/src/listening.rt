@@ -6,7 +6,7 @@ use relay_http::is_host;
 use relay_index::{Index, Script};
 use relay_net::{TcpDial, TcpListen};
 use relay_stub::stub_serve;
-use relay_wires::HttpWire;
+use relay_wires::{HttpWire, Unknown};
 use std::alloc::Global;
 use std::net::Net;
 
@@ -33,12 +33,12 @@ pub fn wired<R: Net + Copy>(
     alloc: Global,
     net: R,
     address: String,
-) -> Option<HttpWire<StdStream<R::Stream>, TcpDial<R>>>
+) -> Option<HttpWire<StdStream<R::Stream>, TcpDial<R>, Unknown>>
     ensures { IfSome result (λ w. w.out ≡ []) }
 {
     let host = address.clone().ok()?;
     if !is_host(host.as_str()) {
         return None;
     }
-    HttpWire::new(alloc, TcpDial::new(net, address), host, 1).ok()
+    HttpWire::new(alloc, TcpDial::new(net, address), Unknown, host, 1).ok()
 }

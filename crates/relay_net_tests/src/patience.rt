@@ -1,5 +1,8 @@
 //! Dials that try again, by a clock that advances while they wait.
 
+ghost use Rattle.std.specs.Prelude.{None};
+
+use relay_action::ByteStream;
 use relay_net::PatientDial;
 use relay_wires::{Dial, DialFault};
 use std::io;
@@ -43,16 +46,28 @@ struct Failing<'a> {
     dialled: u64,
 }
 
-impl Dial<()> for Failing<'_> {
+// A stream that shows nothing.
+#[derive(Drop)]
+struct Nothing;
+
+impl ByteStream for Nothing {
+    ghost left = { λ s. None };
+
+    ghost written = { λ s. None };
+
+    ghost failed = { λ s. 0 };
+}
+
+impl Dial<Nothing> for Failing<'_> {
     ghost failed = { λ d. d.failed };
 
     ghost dialled = { λ d. d.dialled };
 
-    fn dial(&mut self) -> Result<(), DialFault> {
+    fn dial(&mut self) -> Result<Nothing, DialFault> {
         self.dialled = self.dialled.saturating_add(1);
         self.seconds.fetch_add(self.cost, Ordering::SeqCst);
         if self.failures == 0 {
-            return Ok(());
+            return Ok(Nothing);
         }
         self.failures -= 1;
         self.failed = self.failed.saturating_add(1);

@@ -10,7 +10,7 @@ use Rattle.relay_http.specs.declared.reply.HttpReply.{HttpReply}
 use Rattle.relay_lane.specs.declared.wire.WireFault.{WireFault}
 use Rattle.relay_lane.specs.declared.wire.WireFault.TheVariants as fault
 use Rattle.relay_wires.specs.Numbers.{entry_of, besides}
-use Rattle.relay_wires.specs.Carriers.{Carrier, AllFree, IsFree, AllOutOpen, Picks, PicksOne, IsToldWritten, Sends, WritesOn, fault_sent, out_after}
+use Rattle.relay_wires.specs.Carriers.{Carrier, AllFree, IsFree, AllOutFree, Picks, PicksOne, IsToldWritten, Sends, WritesOn, fault_sent, out_after}
 
 pub free_push : (cs : List Connection) (c : Connection) → AllFree cs → IsFree c → AllFree (cs ++ c ∷ [])
 free_push [] c all last = (last, tt)
@@ -21,18 +21,18 @@ pub free_before : (cs ds : List Connection) (c : Connection) → AllFree (cs ++ 
 free_before [] ds c all = (tt, all.0)
 free_before (x ∷ xs) ds c all = let rest = free_before xs ds c all.1 in ((all.0, rest.0), rest.1)
 
-pub open_entry : (n : ℕ) (es : List (ℕ × Connection)) (c : Connection) → AllOutOpen es → entry_of n es ≡ Some c → IsTrue (is_open c.phase)
+pub open_entry : (n : ℕ) (es : List (ℕ × Connection)) (c : Connection) → AllOutFree es → entry_of n es ≡ Some c → IsFree c
 open_entry n [] c all is = absurd (cc)
 open_entry n (e ∷ es) c all is = elim (eqb_tells e.0 n) [
   | inl same ↦
       let here = same.0 in
       let at : Some e.1 ≡ Some c = rw here at is in
       let one : e.1 ≡ c = cc in
-      subst (λ (x : Connection). IsTrue (is_open x.phase)) one all.0
+      subst IsFree one all.0
   | inr apart ↦ let other = apart.0 in open_entry n es c all.1 (rw other at is)
 ]
 
-pub open_besides : (n : ℕ) (es : List (ℕ × Connection)) → AllOutOpen es → AllOutOpen (besides n es)
+pub open_besides : (n : ℕ) (es : List (ℕ × Connection)) → AllOutFree es → AllOutFree (besides n es)
 open_besides n [] all = tt
 open_besides n (e ∷ es) all = elim (eqb_tells e.0 n) [
   | inl same ↦ let here = same.0 in rw here all.1
@@ -61,8 +61,8 @@ all_free_after reply d free is all = elim (eqb_tells (length d.held) 0) [
 
 -- ---- a request is sent
 
-abbrev carrier : (host : List ℕ) (most : ℕ) (out : List (ℕ × Connection)) (free : List Connection) (failed dialled : ℕ) → Carrier
-carrier host most out free failed dialled = record { host = host; most = most; out = out; free = free; failed = failed; dialled = dialled }
+abbrev carrier : {P : Type 0} → P → (host : List ℕ) (most : ℕ) (out : List (ℕ × Connection)) (free : List Connection) (failed dialled : ℕ) → Carrier P
+carrier peer host most out free failed dialled = record { host = host; most = most; out = out; free = free; failed = failed; dialled = dialled; peer = peer }
 
 -- the lane gets the result with its fault mapped
 pub told_written : (r : Result (Unit {0}) HttpFault) (s : Result (Unit {0}) WireFault)
@@ -71,24 +71,24 @@ told_written (Ok u) s is = is
 told_written (Err e) (Ok u) is = absurd is
 told_written (Err e) (Err f) is = ap Err is
 
-pub sends_none : (number : ℕ) (ws : List Write) (host : List ℕ) (most : ℕ) (out : List (ℕ × Connection)) (free later : List Connection) (failed counted before after : ℕ) (f : WireFault)
-    → PicksOne free later failed counted before after (Err f) → Sends number ws (carrier host most out free failed before) (carrier host most out later counted after) (Err f)
-sends_none number ws host most out free later failed counted before after fault.Send p =
-    inr (inr (ap (λ x. carrier host most out x counted after) p.0 ∙ ap (λ n. carrier host most out [] n after) p.1 ∙ ap (carrier host most out [] (one_more failed)) p.2))
-sends_none number ws host most out free later failed counted before after fault.Lost p = absurd p
-sends_none number ws host most out free later failed counted before after fault.Unreadable p = absurd p
-sends_none number ws host most out free later failed counted before after fault.Memory p =
-    inr (ap (λ x. carrier host most out x counted after) p.0 ∙ ap (λ n. carrier host most out [] n after) p.1 ∙ ap (carrier host most out [] failed) p.2)
+pub sends_none : {P : Type 0} (peer : P) (number : ℕ) (ws : List Write) (host : List ℕ) (most : ℕ) (out : List (ℕ × Connection)) (free later : List Connection) (failed counted before after : ℕ) (f : WireFault)
+    → PicksOne free later failed counted before after (Err f) → Sends number ws (carrier peer host most out free failed before) (carrier peer host most out later counted after) (Err f)
+sends_none peer number ws host most out free later failed counted before after fault.Send p =
+    inr (inr (ap (λ x. carrier peer host most out x counted after) p.0 ∙ ap (λ n. carrier peer host most out [] n after) p.1 ∙ ap (carrier peer host most out [] (one_more failed)) p.2))
+sends_none peer number ws host most out free later failed counted before after fault.Lost p = absurd p
+sends_none peer number ws host most out free later failed counted before after fault.Unreadable p = absurd p
+sends_none peer number ws host most out free later failed counted before after fault.Memory p =
+    inr (ap (λ x. carrier peer host most out x counted after) p.0 ∙ ap (λ n. carrier peer host most out [] n after) p.1 ∙ ap (carrier peer host most out [] failed) p.2)
 
-pub sends_on : (number : ℕ) (ws : List Write) (host : List ℕ) (most : ℕ) (out items : List (ℕ × Connection)) (free later : List Connection) (failed counted before after : ℕ) (c d : Connection) (result : Result (Unit {0}) WireFault)
-    → PicksOne free later failed counted before after (Ok c) → WritesOn host ws c d result → items ≡ out_after number result d out → Sends number ws (carrier host most out free failed before) (carrier host most items later counted after) result
-sends_on number ws host most out items free later failed counted before after c d result p w e =
+pub sends_on : {P : Type 0} (peer : P) (number : ℕ) (ws : List Write) (host : List ℕ) (most : ℕ) (out items : List (ℕ × Connection)) (free later : List Connection) (failed counted before after : ℕ) (c d : Connection) (result : Result (Unit {0}) WireFault)
+    → PicksOne free later failed counted before after (Ok c) → WritesOn host ws c d result → items ≡ out_after number result d out → Sends number ws (carrier peer host most out free failed before) (carrier peer host most items later counted after) result
+sends_on peer number ws host most out items free later failed counted before after c d result p w e =
     inl (record {
       connection = c;
       picks = p.0;
       left = d;
       carried = w;
-      after = ap (λ n. carrier host most items later n after) p.2 ∙ ap (λ x. carrier host most x later failed after) e;
+      after = ap (λ n. carrier peer host most items later n after) p.2 ∙ ap (λ x. carrier peer host most x later failed after) e;
     })
 
 -- ---- what always holds, after a request was sent
@@ -98,8 +98,14 @@ pub open_written : (r : Result (Unit {0}) HttpFault) (d : Connection) → IsTold
 open_written (Ok u) d told is = ap is_open is
 open_written (Err e) d told is = absurd (cc)
 
-pub open_after : (number : ℕ) (host : List ℕ) (ws : List Write) (out items : List (ℕ × Connection)) (c d : Connection) → WritesOn host ws c d (Ok tt) → items ≡ (number, d) ∷ out → AllOutOpen out → AllOutOpen items
-open_after number host ws out items c d w e all = subst AllOutOpen (sym e) (open_written w.write d w.told w.writes.phase, all)
+-- a connection that was picked holds no byte
+pub picked_clear : (before after : ℕ) (free later : List Connection) (c : Connection) → Picks free later before after c → c.held ≡ []
+picked_clear before after free later c (inl t) = t.0.quiet.held
+picked_clear before after free later c (inr p) = ap (λ (x : Connection). x.held) p.1.3
+
+pub open_after : (number before after : ℕ) (host : List ℕ) (ws : List Write) (out items : List (ℕ × Connection)) (free later : List Connection) (c d : Connection) → Picks free later before after c → WritesOn host ws c d (Ok tt) → items ≡ (number, d) ∷ out → AllOutFree out → AllOutFree items
+open_after number before after host ws out items free later c d p w e all =
+    subst AllOutFree (sym e) (record { lasts = open_written w.write d w.told w.writes.phase; clear = w.writes.held ∙ picked_clear before after free later c p }, all)
 
 pub few_after : (number most before after : ℕ) (out items : List (ℕ × Connection)) (free later : List Connection) (c d : Connection) → Picks free later before after c → items ≡ (number, d) ∷ out → length out + length free ≤ most → length out < most → length items + length later ≤ most
 few_after number most before after out items free later c d (inl t) e few room =

@@ -1,3 +1,4 @@
 pub mod Numbers
 pub mod Connections
 pub mod Results
+pub mod Telling

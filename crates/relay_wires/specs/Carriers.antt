@@ -1,15 +1,14 @@
 -- A wire over HTTP connections.
-use Rattle.std.specs.Prelude.{◌≡◌, ◌==◌, ◌&&◌, ◌⊎◌, ℕ, ◌+◌, ◌≤◌, true, List, [], ◌∷◌, ◌++◌, length, Option, Some, None, IsTrue, Result, Ok, Err, MatchResult, if◌then◌else◌}
+use Rattle.std.specs.Prelude.{◌≡◌, ◌==◌, Bool, false, ◌&&◌, ◌⊎◌, ℕ, ◌+◌, ◌≤◌, true, List, [], ◌∷◌, ◌++◌, length, Option, Some, None, IsTrue, Result, Ok, Err, MatchResult, if◌then◌else◌}
 use Rattle.relay_action.specs.Streams.{one_more}
 use Rattle.relay_action.specs.declared.write.Write.{Write}
-use Rattle.relay_http.specs.Connection.{Connection, IsQuiet, ahead, fresh, is_open, after_reply, after_write, failed_reading, failed_writing}
+use Rattle.relay_http.specs.Connection.{Connection, IsQuiet, HasNone, ahead, fresh, is_open, after_reply, after_write, failed_reading, failed_writing}
 use Rattle.relay_http.specs.Forms.{Begins, Took, Fails, IsOutside, IsThatOrOutside}
 use Rattle.relay_http.specs.Reply.{IsReplyMessage, ReplyStates, ReplyPasses, reply_view}
 use Rattle.relay_http.specs.WrittenRequest.{is_host, SendsRequest}
 use Rattle.relay_http.specs.declared.fault.HttpFault.{HttpFault}
 use Rattle.relay_http.specs.declared.fault.HttpFault.TheVariants as http
 use Rattle.relay_http.specs.declared.reply.HttpReply.{HttpReply}
-use Rattle.relay_results.specs.Outside.{Outside}
 use Rattle.relay_lane.specs.declared.wire.WireReply.{WireReply}
 use Rattle.relay_lane.specs.declared.wire.WireFault.{WireFault}
 use Rattle.relay_lane.specs.declared.wire.WireFault.TheVariants as fault
@@ -19,18 +18,20 @@ use Rattle.relay_wires.specs.Meaning.{Tells}
 -- ---- the wire
 
 -- The host in requests, and the maximum number of outstanding requests; the connections of outstanding requests, the
--- newest first; the free ones, with the one freed last at the end; how many dials failed, and how many were made.
-pub record Carrier : Type 0 where
+-- newest first; the free ones, with the one freed last at the end; how many dials failed, and how many were made; and
+-- what is at the far end.
+pub record Carrier (P : Type 0) : Type 0 where
   pub host : List ℕ
   pub most : ℕ
   pub out : List (ℕ × Connection)
   pub free : List Connection
   pub failed : ℕ
   pub dialled : ℕ
+  pub peer : P
 
 -- no request is outstanding and no connection is free
-abbrev pub idle : List ℕ → ℕ → ℕ → ℕ → Carrier
-idle host most failed dialled = record { host = host; most = most; out = []; free = []; failed = failed; dialled = dialled }
+abbrev pub idle : {P : Type 0} → List ℕ → ℕ → ℕ → ℕ → P → Carrier P
+idle host most failed dialled peer = record { host = host; most = most; out = []; free = []; failed = failed; dialled = dialled; peer = peer }
 
 -- a free connection may carry further messages, and no byte was read beyond its last reply
 pub record IsFree (c : Connection) : Type 0 where
@@ -41,14 +42,15 @@ abbrev pub AllFree : List Connection → Type 0
 AllFree [] = Unit {0}
 AllFree (c ∷ cs) = IsFree c × AllFree cs
 
-abbrev pub AllOutOpen : List (ℕ × Connection) → Type 0
-AllOutOpen [] = Unit {0}
-AllOutOpen (e ∷ es) = IsTrue (is_open e.1.phase) × AllOutOpen es
+-- and so may that of an outstanding request, on which no byte of the reply was read yet
+abbrev pub AllOutFree : List (ℕ × Connection) → Type 0
+AllOutFree [] = Unit {0}
+AllOutFree (e ∷ es) = IsFree e.1 × AllOutFree es
 
 -- what always holds of a wire that has room for this many outstanding requests, and as many free connections
-pub record IsCarrier (c : Carrier) (for_out for_free : ℕ) : Type 0 where
+pub record IsCarrier {P : Type 0} (c : Carrier P) (for_out for_free : ℕ) : Type 0 where
   pub host : IsTrue (is_host c.host)
-  pub out : AllOutOpen c.out
+  pub out : AllOutFree c.out
   pub free : AllFree c.free
   pub few : length c.out + length c.free ≤ c.most
   pub places : c.most ≤ for_out
@@ -63,8 +65,9 @@ pub record TakesFree (old new : List Connection) (c : Connection) : Type 0 where
   pub free : old ≡ new ++ (c ∷ dropped)
   pub quiet : IsQuiet c
 
+-- a connection over a stream on which nothing was written
 abbrev pub IsFresh : Connection → Type 0
-IsFresh c = (left : Option (List ℕ)) × (written : Option (List ℕ)) × (failed : ℕ) × (c ≡ fresh left written failed)
+IsFresh c = (left : Option (List ℕ)) × (written : Option (List ℕ)) × (failed : ℕ) × (c ≡ fresh left written failed) × HasNone written
 
 -- So either a free connection is picked and nothing is dialled, or no free one is left and a fresh one is dialled.
 abbrev pub Picks : List Connection → List Connection → ℕ → ℕ → Connection → Type 0
@@ -110,7 +113,7 @@ out_after number (Ok u) d out = (number, d) ∷ out
 out_after number (Err f) d out = out
 
 -- sending a request on the connection that was picked
-pub record SendsOn (number : ℕ) (ws : List Write) (old new : Carrier) (result : Result (Unit {0}) WireFault) : Type 0 where
+pub record SendsOn {P : Type 0} (number : ℕ) (ws : List Write) (old new : Carrier P) (result : Result (Unit {0}) WireFault) : Type 0 where
   pub connection : Connection
   pub picks : Picks old.free new.free old.dialled new.dialled connection
   pub left : Connection
@@ -119,7 +122,7 @@ pub record SendsOn (number : ℕ) (ws : List Write) (old new : Carrier) (result 
 
 -- No connection was picked: the maximum number of requests is outstanding, or no free connection is quiet and the dial
 -- failed, or allocating the window of a fresh connection did.
-abbrev pub PicksNone : Carrier → Carrier → Result (Unit {0}) WireFault → Type 0
+abbrev pub PicksNone : {P : Type 0} → Carrier P → Carrier P → Result (Unit {0}) WireFault → Type 0
 PicksNone old new (Ok u) = ⊥
 PicksNone old new (Err fault.Send) =
     ((old.most ≤ length old.out) × (new ≡ old))
@@ -129,7 +132,7 @@ PicksNone old new (Err fault.Unreadable) = ⊥
 PicksNone old new (Err fault.Memory) = new ≡ record old { free = []; dialled = one_more old.dialled }
 
 -- Sending a request with these writes: it is written on the connection that was picked, if one was.
-abbrev pub Sends : ℕ → List Write → Carrier → Carrier → Result (Unit {0}) WireFault → Type 0
+abbrev pub Sends : {P : Type 0} → ℕ → List Write → Carrier P → Carrier P → Result (Unit {0}) WireFault → Type 0
 Sends number ws old new result = SendsOn number ws old new result ⊎ PicksNone old new result
 
 -- ---- a reply is received
@@ -170,20 +173,38 @@ abbrev pub free_after : Result HttpReply HttpFault → Connection → List Conne
 free_after (Ok reply) d free = if reply.keep && (length d.held == 0) then free ++ d ∷ [] else free
 free_after (Err f) d free = free
 
--- Receiving the reply to the request with a number: it is read from the connection of that request, and what is
--- returned follows from it by the table of statuses.
-pub record Brings (number : ℕ) (old new : Carrier) (result : Result WireReply WireFault) : Type 0 where
+-- The far end had the request on a connection before its reply is read, and left the rest of the connection as it was;
+-- one that is not described left all of it.
+pub record Heard (describes : Bool) (c d : Connection) : Type 0 where
+  pub silent : describes ≡ false → d ≡ c
+  pub held : d.held ≡ c.held
+  pub phase : d.phase ≡ c.phase
+
+-- the reply is read from the connection of the request, and what is returned follows from it by the table of statuses
+pub record BringsOn {P : Type 0} (describes : P → Bool) (does : P → P → ℕ → Option (List ℕ) → Option (Option (List ℕ)) → Type 0) (number : ℕ) (old new : Carrier P) (result : Result WireReply WireFault) : Type 0 where
   pub connection : Connection
   pub out_on : entry_of number old.out ≡ Some connection
+  pub heard : Connection
+  pub hears : Heard (describes old.peer) connection heard
+  pub done : does old.peer new.peer number connection.written (Some heard.left)
   pub left : Connection
   pub read : Result HttpReply HttpFault
-  pub reads : Reads connection left read
+  pub reads : Reads heard left read
   pub told : IsTold read result
-  pub after : new ≡ record old { out = besides number old.out; free = free_after read left old.free }
+  pub after : new ≡ record old { out = besides number old.out; free = free_after read left old.free; peer = new.peer }
 
--- no outside fits, since this wire does not describe the outside
-abbrev pub FitsNone : Carrier → Outside → Type 0
-FitsNone w o = ⊥
+-- an allocation failed at the far end, and the connection is dropped; this is no far end of another process
+pub record BringsNone {P : Type 0} (describes : P → Bool) (does : P → P → ℕ → Option (List ℕ) → Option (Option (List ℕ)) → Type 0) (number : ℕ) (old new : Carrier P) (result : Result WireReply WireFault) : Type 0 where
+  pub described : describes old.peer ≡ true
+  pub connection : Connection
+  pub out_on : entry_of number old.out ≡ Some connection
+  pub done : does old.peer new.peer number connection.written None
+  pub memory : result ≡ Err fault.Memory
+  pub after : new ≡ record old { out = besides number old.out; peer = new.peer }
+
+-- Receiving the reply to the request with a number.
+abbrev pub Brings : {P : Type 0} → (P → Bool) → (P → P → ℕ → Option (List ℕ) → Option (Option (List ℕ)) → Type 0) → ℕ → Carrier P → Carrier P → Result WireReply WireFault → Type 0
+Brings describes does number old new result = BringsOn describes does number old new result ⊎ BringsNone describes does number old new result
 
 -- ---- the results of private steps
 

@@ -1,16 +1,19 @@
 //! One request on one connection.
 ghost use Rattle.std.specs.Prelude.{◌≡◌, ◌==◌, ◌&&◌, ◌∷◌, ◌++◌, []};
 ghost use Rattle.std.specs.Prelude.{if◌then◌else◌, ◌+◌, ◌<◌, ◌≤◌};
-ghost use Rattle.std.specs.Prelude.{length, vec_len, vec_capacity, IsTrue};
+ghost use Rattle.std.specs.Prelude.{length, vec_len, vec_capacity, true, IsTrue};
+ghost use Rattle.std.specs.Prelude.{Some, None, IfOk, IfErr, OnErr, MatchResult};
 ghost use Rattle.relay_ndjson.specs.Bulk.{text_of};
-ghost use Rattle.relay_http.specs.Connection.{is_open};
+ghost use Rattle.relay_http.specs.Connection.{is_open, HasNone};
 ghost use Rattle.relay_http.specs.Framing.{request_limit};
 ghost use Rattle.relay_http.specs.WrittenRequest.{is_host};
 ghost use Rattle.relay_lane.specs.Wires.{IsWireReply};
 ghost use Rattle.relay_wires.specs.Carriers.{AllFree, FindsFree, PicksOne};
 ghost use Rattle.relay_wires.specs.Carriers.{WritesOn, fault_sent};
-ghost use Rattle.relay_wires.specs.Carriers.{BringsFrom, fault_received};
+ghost use Rattle.relay_wires.specs.Carriers.{Heard, BringsFrom, fault_received};
+ghost use Rattle.relay_wires.specs.Peers.{Serves, Drops};
 
+use crate::peer::Peer;
 use crate::told::tell;
 use relay_action::{ByteIn, ByteOut, ByteStream, Write};
 use relay_http::{Conn, Dial, HttpFault, Peek};
@@ -97,6 +100,31 @@ fn release<S: ByteStream + Drop>(conn: Conn<S>, keep: bool, free: &mut Vec<Conn<
 {
     if keep && conn.held() == 0 {
         free.push_reserved(conn);
+    }
+}
+
+// Lets the far end have the request with this number, which was written on this connection.
+pub(crate) fn hear<S: ByteStream + Drop, P: Peer<S>>(
+    peer: &mut P,
+    number: u64,
+    conn: Conn<S>,
+) -> Result<Conn<S>, WireFault>
+    ensures describes { P.describes peer.new ≡ P.describes peer.old }
+    ensures heard { IfOk result (Heard (P.describes peer.old) conn) }
+    ensures memory { IfErr result (λ f. f ≡ WireFault.Memory) }
+    ensures described { OnErr result (P.describes peer.old ≡ true) }
+    ensures took { IsTrue (P.describes peer.old) → IfOk result (λ c. HasNone c.written) }
+    ensures does { MatchResult result
+        (λ c. P.does peer.old peer.new number conn.written (Some c.left))
+        (λ _. P.does peer.old peer.new number conn.written None) }
+    ensures outside { IsTrue (P.describes peer.old) → MatchResult result
+        (λ c. Serves P.fits peer.old peer.new number conn.written c.left)
+        (λ _. Drops P.fits peer.old peer.new number conn.written) }
+{
+    let (stream, rest) = conn.apart();
+    match peer.hear(number, stream) {
+        Ok(stream) => Ok(rest.over(stream)),
+        Err(_) => Err(WireFault::Memory),
     }
 }
 

@@ -1,10 +1,13 @@
 //! A wire over HTTP connections.
 ghost use Rattle.std.specs.Prelude.{◌≡◌, string_bytes, IfOk, IsTrue};
 ghost use Rattle.relay_http.specs.WrittenRequest.{is_host};
+ghost use Rattle.relay_results.specs.Outside.{Outside};
 ghost use Rattle.relay_wires.specs.Carriers.{idle};
+ghost use Rattle.relay_wires.specs.Telling.{Fits};
 
-use crate::carrying::{bring, carry, pick};
-use crate::numbered::take;
+use crate::carrying::{bring, carry, hear, pick};
+use crate::numbered::{place_of, take};
+use crate::peer::Peer;
 use relay_action::{ByteIn, ByteOut, ByteStream, Write};
 use relay_http::{Conn, Dial, Peek};
 use relay_lane::{Wire, WireFault, WireReply};
@@ -20,23 +23,25 @@ use std::marker::Model;
 /// the stream has arrived, it is dropped, since an unrequested reply would be mistaken for the
 /// reply to the next request.
 ///
-/// It does not describe the outside: what happens there depends on its streams.
+/// It describes the outside if the far end of its streams is described: then it writes each request
+/// on a connection of its own, and returns for it what is honest there.
 #[derive(Drop)]
-pub struct HttpWire<S: ByteStream, D: Dial<S>> {
+pub struct HttpWire<S: ByteStream, D: Dial<S>, P: Peer<S>> {
     alloc: Global,
     dial: D,
+    peer: P,
     host: String,
     most: u32,
     out: VecDeque<(u64, Conn<S>)>,
     free: Vec<Conn<S>>,
 }
 
-impl<S: ByteStream, D: Dial<S>> Model for HttpWire<S, D> {
+impl<S: ByteStream, D: Dial<S>, P: Peer<S>> Model for HttpWire<S, D, P> {
     ghost use Rattle.std.specs.Prelude.{string_bytes, vec_capacity};
     ghost use Rattle.std.specs.VecDeque.{deque_capacity};
     ghost use Rattle.relay_wires.specs.Carriers.{Carrier, IsCarrier};
 
-    ghost Value = { Carrier };
+    ghost Value = { Carrier P };
 
     ghost view = { λ w. record {
       host = string_bytes w.host;
@@ -45,6 +50,7 @@ impl<S: ByteStream, D: Dial<S>> Model for HttpWire<S, D> {
       free = w.free.items;
       failed = D.failed w.dial;
       dialled = D.dialled w.dial;
+      peer = w.peer;
     } };
 
     ghost invariant = { λ w. IsCarrier
@@ -55,46 +61,66 @@ impl<S: ByteStream, D: Dial<S>> Model for HttpWire<S, D> {
           free = w.free.items;
           failed = D.failed w.dial;
           dialled = D.dialled w.dial;
+          peer = w.peer;
         })
         (deque_capacity w.out) (vec_capacity w.free) };
 }
 
-impl<S: ByteStream + Drop, D: Dial<S> + Drop> HttpWire<S, D> {
+impl<S: ByteStream + Drop, D: Dial<S> + Drop, P: Peer<S> + Drop> HttpWire<S, D, P> {
     /// A wire whose requests name this host, 1 to 255 visible ASCII characters, with at most `max`
-    /// requests outstanding. It reserves a place for each of them. `AllocError`: allocating the
-    /// places failed.
-    pub fn new(alloc: Global, dial: D, host: String, max: u32) -> Result<HttpWire<S, D>, AllocError>
+    /// requests outstanding, over streams to this far end. It reserves a place for each request.
+    /// `AllocError`: allocating the places failed.
+    pub fn new(
+        alloc: Global,
+        dial: D,
+        peer: P,
+        host: String,
+        max: u32,
+    ) -> Result<HttpWire<S, D, P>, AllocError>
         requires { IsTrue (is_host (string_bytes host)) }
-        ensures { IfOk result
-            (λ w. w ≡ idle (string_bytes host) max (D.failed dial) (D.dialled dial)) }
+        ensures begun { IfOk result
+            (λ w. w ≡ idle (string_bytes host) max (D.failed dial) (D.dialled dial) peer) }
+        // Each outside that fits the far end fits the wire.
+        ensures opens { IfOk result (λ w. (o : Outside) → P.fits peer o → Fits P.fits w o) }
     {
         let out = VecDeque::with_capacity(alloc, max as usize)?;
         let free = Vec::with_capacity(alloc, max as usize)?;
         Ok(HttpWire {
             alloc,
             dial,
+            peer,
             host,
             most: max,
             out,
             free,
         })
     }
+
+    /// What is at the far end.
+    pub fn peer(&self) -> &P
+        ensures { result.now ≡ self.now.peer }
+    {
+        &self.peer
+    }
 }
 
-impl<S: ByteIn + ByteOut + Peek + Drop, D: Dial<S> + Drop> Wire for HttpWire<S, D> {
-    ghost use Rattle.std.specs.Prelude.{false, ◌∷◌, ◌≤◌, length, MatchResult};
+impl<S: ByteIn + ByteOut + Peek + Drop, D: Dial<S> + Drop, P: Peer<S> + Drop> Wire
+    for HttpWire<S, D, P> {
+    ghost use Rattle.std.specs.Prelude.{◌∷◌, ◌≤◌, length, MatchResult};
     ghost use Rattle.relay_ndjson.specs.Bodies.{AreDealt};
     ghost use Rattle.relay_ndjson.specs.Bulk.{text_of};
+    ghost use Rattle.relay_results.specs.Outside.{Lost};
     ghost use Rattle.relay_results.specs.Words.{Mem};
-    ghost use Rattle.relay_lane.specs.Wires.{IsWireReply, without};
+    ghost use Rattle.relay_lane.specs.Wires.{answer_of, IsWireReply, SendsOn, AnswersOn};
+    ghost use Rattle.relay_lane.specs.Wires.{ExchangesOn, Shows, ShowsNext, without};
     ghost use Rattle.relay_wires.specs.Numbers.{numbers};
-    ghost use Rattle.relay_wires.specs.Carriers.{Sends, Brings, FitsNone};
+    ghost use Rattle.relay_wires.specs.Carriers.{Sends, Brings};
 
     ghost out = { λ w. numbers w.out };
 
-    ghost describes = { λ w. false };
+    ghost describes = { λ w. P.describes w.peer };
 
-    ghost fits = { FitsNone };
+    ghost fits = { λ w o. Fits P.fits w o };
 
     /// Writes a request on a free connection on which nothing has arrived since it was freed, or on
     /// one that is dialled. `Send`: the maximum number of requests is outstanding, the dial failed,
@@ -109,6 +135,12 @@ impl<S: ByteIn + ByteOut + Peek + Drop, D: Dial<S> + Drop> Wire for HttpWire<S, 
         ensures out { MatchResult result
             (λ _. numbers self.new.out ≡ number ∷ numbers self.old.out)
             (λ _. numbers self.new.out ≡ numbers self.old.out) }
+        ensures describes { P.describes self.new.peer ≡ P.describes self.old.peer }
+        ensures outside { MatchResult result
+            (λ _. ShowsNext (P.describes self.old.peer) (Fits P.fits) self.old self.new number
+            (SendsOn writes.now))
+            (λ _. ShowsNext (P.describes self.old.peer) (Fits P.fits) self.old self.new number
+            (ExchangesOn number writes.now Lost)) }
         // What is written is the request with these writes. An error is the one that the fault of
         // writing it maps to; if no connection was picked, it is Send, or Memory if the window of
         // a fresh one could not be allocated.
@@ -123,20 +155,33 @@ impl<S: ByteIn + ByteOut + Peek + Drop, D: Dial<S> + Drop> Wire for HttpWire<S, 
         Ok(())
     }
 
-    /// Reads the reply to a request from its connection. Status 200 returns the entries, or
-    /// `Unreadable` if the body is not a reply; any other status is the answer to the request as a
-    /// whole. `Memory`: an allocation for the reply failed. `Lost`: any other fault of the
-    /// connection.
+    /// Reads the reply to a request from its connection, after the far end had the request. Status
+    /// 200 returns the entries, or `Unreadable` if the body is not a reply; any other status is the
+    /// answer to the request as a whole. `Memory`: an allocation for the reply failed. `Lost`: any
+    /// other fault of the connection.
     fn receive(&mut self, number: u64) -> Result<WireReply, WireFault>
         requires { Mem number (numbers self.old.out) }
         ensures out { numbers self.new.out ≡ without number (numbers self.old.out) }
+        ensures describes { P.describes self.new.peer ≡ P.describes self.old.peer }
         ensures reply { IsWireReply result }
+        ensures outside { Shows (P.describes self.old.peer) (Fits P.fits) self.old self.new
+            (AnswersOn number (answer_of result)) }
         // What is returned follows from the reply that was read there, by the table of statuses.
-        ensures brings { Brings number self.old self.new result }
+        ensures brings { Brings P.describes P.does number self.old self.new result }
     {
         let Some(conn) = take(&mut self.out, number) else {
             unreachable!();
         };
+        let conn = hear(&mut self.peer, number, conn)?;
         bring(self.alloc, conn, &mut self.free)
+    }
+
+    /// Whether something has arrived on the connection of a request: a byte or the end. A stream
+    /// that shows its bytes is never quiet, so it counts as answered.
+    fn has_answer(&self, number: u64) -> bool {
+        match place_of(&self.out, number) {
+            Some(place) => !self.out[place].1.is_quiet(),
+            None => true,
+        }
     }
 }

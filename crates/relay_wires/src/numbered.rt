@@ -7,7 +7,7 @@ ghost use Rattle.relay_wires.specs.Numbers.{entry_of, besides};
 use std::collections::VecDeque;
 
 // The place of a number.
-fn place_of<T>(out: &VecDeque<(u64, T)>, number: u64) -> Option<usize>
+pub(crate) fn place_of<T>(out: &VecDeque<(u64, T)>, number: u64) -> Option<usize>
     ensures { result ≡ position (λ e. e.0 == number) out.now.items }
 {
     out.iter().position(|entry| entry.0 == number)

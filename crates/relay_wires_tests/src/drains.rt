@@ -48,7 +48,7 @@ pub fn came_to(alloc: Global, desk: &mut Desk, wire: &mut LoopWire) -> Option<(C
     requires { numbers wire.old.out ≡ out_of desk.old.lane.state }
 {
     let came = drained(desk, wire)?;
-    Some((came, count_applied(alloc, wire.index()).ok()?))
+    Some((came, count_applied(alloc, wire.peer().index()).ok()?))
 }
 
 // The same for deletes of this many documents, if the reply to one number is lost.
@@ -64,7 +64,10 @@ fn in_memory(alloc: Global, count: u64, lost: u64) -> Option<(Came, usize)> {
 fn after_three(alloc: Global) -> Option<(Option<u64>, usize)> {
     let mut wire = looped(alloc, 0)?;
     drained(&mut numbered(alloc, 3)?, &mut wire)?;
-    Some((wire.index().highest(), wire.index().keys(alloc).ok()?.len()))
+    Some((
+        wire.peer().index().highest(),
+        wire.peer().index().keys(alloc).ok()?.len(),
+    ))
 }
 
 // The outcome of deletes of three documents over streams with these bytes.

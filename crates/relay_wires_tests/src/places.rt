@@ -6,7 +6,7 @@ ghost use Rattle.relay_wires.specs.Numbers.{numbers};
 use crate::streams::{BUSY, Wired, wired};
 use relay_index::{Index, Script};
 use relay_lane::{Wire, WireFault};
-use relay_loop::LoopWire;
+use relay_loop::{LoopEnd, wire_to};
 use std::alloc::Global;
 
 // Sends a request without writes.
@@ -53,7 +53,11 @@ fn answers_both_over_http(alloc: Global) -> bool {
 
 // The same in memory.
 fn answers_both_in_memory(alloc: Global) -> bool {
-    match LoopWire::new(alloc, Index::new(alloc), Script::new(alloc)) {
+    match wire_to(
+        alloc,
+        LoopEnd::new(alloc, Index::new(alloc), Script::new(alloc)),
+        2,
+    ) {
         Ok(mut wire) => answers_both(&mut wire),
         Err(_) => false,
     }

@@ -13,7 +13,7 @@ use relay_fixtures::notes::NO_PAUSES;
 use relay_http::HttpReply;
 use relay_index::{Index, Script};
 use relay_lane::{Wire, WireFault, drain};
-use relay_loop::LoopWire;
+use relay_loop::{LoopEnd, LoopWire, wire_to};
 use relay_wires::told::tell;
 use std::alloc::{AllocError, Global};
 
@@ -21,14 +21,11 @@ use std::alloc::{AllocError, Global};
 fn loop_once(alloc: Global, lost: u64) -> Option<LoopWire>
     ensures { IfSome result (λ w. w.out ≡ []) }
 {
-    let mut wire = LoopWire::new(alloc, Index::new(alloc), Script::new(alloc)).ok()?;
-    match wire.lose(lost) {
-        Ok(()) => Some(wire),
-        Err(AllocError) => {
-            wire.lose(lost).ok()?;
-            Some(wire)
-        }
+    let mut end = LoopEnd::new(alloc, Index::new(alloc), Script::new(alloc));
+    if let Err(AllocError) = end.lose(lost) {
+        end.lose(lost).ok()?;
     }
+    wire_to(alloc, end, 16).ok()
 }
 
 fn loop_wire(alloc: Global, lost: u64) -> Option<LoopWire>
@@ -61,7 +58,7 @@ fn is_told_in_memory(alloc: Global) -> Option<bool> {
     let mut wire = loop_wire(alloc, 7)?;
     let told = is_told(alloc, &mut wire);
     let key = key_of(alloc, "books", ID)?;
-    Some(told && wire.index().applied(&key).len() == 1)
+    Some(told && wire.peer().index().applied(&key).len() == 1)
 }
 
 #[test]
@@ -172,7 +169,7 @@ fn delivers(alloc: Global) -> Option<bool> {
     let totals = desk.lane.totals();
     let settled = totals.applied.saturating_add(totals.already);
     let reports = desk.lane.reports().len() as u64;
-    let applied = count(alloc, wire.index())? as u64;
+    let applied = count(alloc, wire.peer().index())? as u64;
     Some(drained && settled.saturating_add(reports) == 6 && settled <= applied && applied <= 6)
 }
 

@@ -80,8 +80,9 @@ struct Noted {
 fn pumps_over(desk: &mut Desk, wire: &mut Noting) -> Option<Noted>
     requires { numbers wire.old.wire.out ≡ out_of desk.old.lane.state }
 {
-    let sent = pump(&mut desk.lane, wire).ok()?;
-    let collected = collect(&mut desk.lane, wire);
+    let mut pace = NO_PAUSES;
+    let sent = pump(&mut desk.lane, wire, &mut pace).ok()?;
+    let collected = collect(&mut desk.lane, wire, &mut pace);
     Some(Noted {
         notes: wire.watch.notes,
         first: sent,

@@ -3,7 +3,7 @@ ghost use Rattle.std.specs.Prelude.{◌≡◌, [], Ok, IfSome};
 
 use relay_action::MemStream;
 use relay_http::is_host;
-use relay_wires::{Dial, DialFault, HttpWire};
+use relay_wires::{Dial, DialFault, HttpWire, Unknown};
 use std::alloc::Global;
 
 /// A reply after which the connection may be used again.
@@ -31,6 +31,7 @@ impl Streams<'_> {
     fn stream(&mut self) -> Option<MemStream>
         ensures failed { self.new.failed ≡ self.old.failed }
         ensures dialled { self.new.dialled ≡ self.old.dialled }
+        ensures fresh { IfSome result (λ s. s.written ≡ []) }
     {
         let input = self.inputs.get(self.next)?;
         let fails_at = if self.next == 0 {
@@ -63,7 +64,7 @@ impl Dial<MemStream> for Streams<'_> {
 }
 
 /// A wire over such streams.
-pub type Wired<'a> = HttpWire<MemStream, Streams<'a>>;
+pub type Wired<'a> = HttpWire<MemStream, Streams<'a>, Unknown>;
 
 // Streams with these bytes that move 7 at a time, and do not fail.
 fn streams_of<'a>(alloc: Global, inputs: &'a [&'a [u8]]) -> Streams<'a> {
@@ -89,7 +90,7 @@ fn wired_over<'a>(alloc: Global, streams: Streams<'a>, most: u32) -> Option<Wire
     if !is_host(host.as_str()) {
         return None;
     }
-    HttpWire::new(alloc, streams, host, most).ok()
+    HttpWire::new(alloc, streams, Unknown, host, most).ok()
 }
 
 /// A wire to a host, with at most `most` requests outstanding, over streams with these bytes.

@@ -4,7 +4,7 @@ ghost use Rattle.std.specs.Prelude.{◌≡◌, [], IfSome};
 use crate::desk::numbered;
 use crate::drains::{Came, came_to};
 use relay_index::{Index, Script};
-use relay_loop::LoopWire;
+use relay_loop::{LoopEnd, LoopWire, wire_to};
 use std::alloc::Global;
 
 // A wire to an empty index that accepts bodies up to this size.
@@ -13,7 +13,7 @@ fn limited(alloc: Global, most: u64) -> Option<LoopWire>
 {
     let mut script = Script::new(alloc);
     script.too_large(most);
-    LoopWire::new(alloc, Index::new(alloc), script).ok()
+    wire_to(alloc, LoopEnd::new(alloc, Index::new(alloc), script), 16).ok()
 }
 
 // The outcome of five deletes of 74 bytes each, and how many of them the index applied.

@@ -3,7 +3,7 @@ ghost use Rattle.std.specs.Prelude.{◌≡◌, [], None, Ok, IfSome};
 
 use relay_action::{ByteIn, ByteOut, ByteStream, StreamFailed};
 use relay_http::is_host;
-use relay_wires::{Dial, DialFault, HttpWire, Peek};
+use relay_wires::{Dial, DialFault, HttpWire, Peek, Unknown};
 use std::alloc::Global;
 
 /// What arrives on a stream: something after each request, and its end after the last.
@@ -97,7 +97,7 @@ pub fn turned<'a>(
     streams: &'a [Turns<'a>],
     piece: usize,
     most: u32,
-) -> Option<HttpWire<TurnStream<'a>, TurnDial<'a>>>
+) -> Option<HttpWire<TurnStream<'a>, TurnDial<'a>, Unknown>>
     ensures { IfSome result (λ w. w.out ≡ []) }
 {
     let dial = TurnDial {
@@ -111,5 +111,5 @@ pub fn turned<'a>(
     if !is_host(host.as_str()) {
         return None;
     }
-    HttpWire::new(alloc, dial, host, most).ok()
+    HttpWire::new(alloc, dial, Unknown, host, most).ok()
 }

@@ -3,7 +3,7 @@ use Rattle.relay_ndjson.specs.Bulk.{text_of}
 use Rattle.relay_index.specs.Serving.{under, answer_of}
 use Rattle.relay_wires.proofs.Results.{by_cases, err_of, same_ok}
 use Rattle.relay_loop.proofs.Running.{serves_all, answer_status, stops}
-use Rattle.relay_loop.proofs.round_trip.serve.Goals as goal
+use Rattle.relay_loop.proofs.serving.serve.Goals as goal
 
 pub returns-clause-status : goal.returns-clause-status
 returns-clause-status c = by_cases _ _ c.map_err.result
@@ -14,8 +14,8 @@ returns-clause-status c = by_cases _ _ c.map_err.result
     (λ e is. tt)
 
 pub returns-clause-served : goal.returns-clause-served
-returns-clause-served c ws may is =
-    let body = c.as_slice.ensures.value ∙ c.in_ok-body.ensures (text_of ws) may.size is in
+returns-clause-served c host ws good may is =
+    let body = c.as_slice.ensures.value ∙ c.in_ok-body.ensures host (text_of ws) good may.size is in
     by_cases _ _ c.map_err.result
     (λ answer ok.
     let was = same_ok _ c.serve_body.result c.map_err.result answer c.map_err.ensures.cases (rw ok at c.map_err.ensures.variant) ok in

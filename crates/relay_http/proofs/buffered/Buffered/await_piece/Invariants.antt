@@ -3,7 +3,7 @@ use Rattle.std.specs.Prelude.{if◌then◌else◌}
 use Rattle.std.specs.Io.KnownBytes.{IsAtEnd}
 use Rattle.relay_http.specs.Steps.{pending}
 use Rattle.relay_http.specs.Window.{window_size}
-use Rattle.relay_http.proofs.buffered.Buffered.read_piece.Given as goal
+use Rattle.relay_http.proofs.buffered.Buffered.await_piece.Given as goal
 
 -- what was to come is still to come
 abbrev pub invariant-reading : goal.invariant-reading
