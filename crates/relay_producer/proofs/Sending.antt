@@ -1,6 +1,5 @@
 -- A signal goes to one lane after another.
 use Rattle.std.proofs.Common.{◌≡◌, ◌≢◌, ℕ, zero, suc, ◌+◌, ◌<◌, ◌≤◌, true, false, eqb, List, [], ◌∷◌, ◌++◌, length, set, get_or, sym, refl, ap, ◌∙◌, subst, ⊎_elim, arith, length-set, get_or-set_other, get_or-set_same}
-use Rattle.std.specs.Prelude.{◌^◌}
 use Rattle.std.proofs.lemmas.Bool.Decides.{eqb_tells}
 use Rattle.std.proofs.lemmas.List.{get_or_read}
 use Rattle.std.proofs.lemmas.List.Sums.{sum_by-set}
@@ -29,7 +28,7 @@ begins body old = record { lanes = refl; done = λ k d lt. absurd (omega arith);
 sent_identity : (body : Body) (x y : OpenEnd) → IsSent body x y → identity y.put ≡ identity x.put
 sent_identity body x y h =
     ⊎_elim (λ (t : Takes body x y). ap (λ (e : OpenEnd). identity e.put) t.sent)
-    (λ m. ⊎_elim (λ (e : y ≡ with_mark x). ap (λ (z : OpenEnd). identity z.put) e) (λ (e : (length x.put.sent ≡ 2 ^ 40) × (y ≡ x)). ap (λ (z : OpenEnd). identity z.put) e.1) m) h
+    (λ m. ⊎_elim (λ (e : y ≡ with_mark x). ap (λ (z : OpenEnd). identity z.put) e) (λ (e : y ≡ x). ap (λ (z : OpenEnd). identity z.put) e) m) h
 
 set_identity : (lane : ℕ) (xs : List OpenEnd) (x y : OpenEnd) → lane < length xs → x ≡ get_or xs lane x → identity y.put ≡ identity x.put → identities (open_puts (set xs lane y)) ≡ identities (open_puts xs)
 set_identity lane [] x y lt at e = refl
@@ -70,7 +69,7 @@ no_put_sent body x y silent h none =
     ⊎_elim (λ (t : Takes body x y).
     ap (λ (e : OpenEnd). puts_of e.put.sent) t.sent ∙ puts_of-append x.put.sent (message x.put.sender (length x.put.sent + 1) body ∷ [])
     ∙ ap (λ l. l ++ (puts_in body ++ [])) none ∙ ap (λ l. l ++ []) silent)
-    (λ m. ⊎_elim (λ (e : y ≡ with_mark x). ap (λ (z : OpenEnd). puts_of z.put.sent) e ∙ none) (λ (e : (length x.put.sent ≡ 2 ^ 40) × (y ≡ x)). ap (λ (z : OpenEnd). puts_of z.put.sent) e.1 ∙ none) m) h
+    (λ m. ⊎_elim (λ (e : y ≡ with_mark x). ap (λ (z : OpenEnd). puts_of z.put.sent) e ∙ none) (λ (e : y ≡ x). ap (λ (z : OpenEnd). puts_of z.put.sent) e ∙ none) m) h
 
 no_puts_sent : (body : Body) (old new : List OpenEnd) → puts_in body ≡ [] → IsSentToAll body old new → HaveNoPuts (open_puts old) → HaveNoPuts (open_puts new)
 no_puts_sent body [] [] silent h none = tt

@@ -1,5 +1,5 @@
 -- A sender's ends after a message and after the close.
-use Rattle.std.specs.Prelude.{◌≡◌, ℕ, zero, suc, ◌+◌, ◌<◌, ◌^◌, Bool, true, false, List, [], ◌∷◌, ◌++◌, length, map, ◌⊎◌, slice_index_or}
+use Rattle.std.specs.Prelude.{◌≡◌, ℕ, zero, suc, ◌+◌, ◌<◌, Bool, true, false, List, [], ◌∷◌, ◌++◌, length, map, ◌⊎◌, slice_index_or}
 use Rattle.std.specs.List.{sum_by, AllZip}
 use Rattle.relay_action.specs.declared.mail.Mail.{Mail}
 use Rattle.relay_action.specs.declared.mail.Body.{Body}
@@ -33,9 +33,10 @@ pub record Takes (body : Body) (old new : OpenEnd) : Type 0 where
   pub reached : old.gone ≡ false
   pub sent : new ≡ with_sent body old
 
--- the lane took the message; or it is found gone, now or before; or its queue takes no more from this sender
+-- the lane took the message; or it is found gone, now or before; or nothing was sent, since that would need a wait, or
+-- since its queue takes no more from this sender
 abbrev pub IsSent : Body → OpenEnd → OpenEnd → Type 0
-IsSent body old new = Takes body old new ⊎ ((new ≡ with_mark old) ⊎ ((length old.put.sent ≡ 2 ^ 40) × (new ≡ old)))
+IsSent body old new = Takes body old new ⊎ ((new ≡ with_mark old) ⊎ (new ≡ old))
 
 -- the end of a closed sender
 abbrev pub end_of : ClosedEnd → SenderEnd

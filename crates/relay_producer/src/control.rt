@@ -61,8 +61,9 @@ impl Control {
     }
 
     /// Sends a tick to each lane that is not marked, marks those that are found gone, and returns
-    /// the number of queues that took it. A queue takes at most 2^40 messages from the control. It
-    /// waits while a queue is full, and does not allocate.
+    /// the number of queues that took it. It waits for no lane and does not allocate: a tick for a
+    /// lane that has not taken its last one, or whose queue is full, is dropped. A queue takes at
+    /// most 2^40 messages from the control.
     pub fn tick<R: Wait>(&mut self, rt: &R) -> u32
         ensures sent { IsSentToAll Tick self.old.ends self.new.ends }
         ensures count { count_sent self.old.ends + result ≡ count_sent self.new.ends }
@@ -73,7 +74,8 @@ impl Control {
         send_to_all(rt, &mut self.ends, Signal::Tick)
     }
 
-    /// Sends a flush, as `tick` sends a tick.
+    /// Sends a flush, as `tick` sends a tick: it waits for no lane, and a lane whose queue is full
+    /// is not sent it.
     pub fn flush<R: Wait>(&mut self, rt: &R) -> u32
         ensures sent { IsSentToAll Flush self.old.ends self.new.ends }
         ensures count { count_sent self.old.ends + result ≡ count_sent self.new.ends }

@@ -2,7 +2,7 @@
 ghost use Rattle.std.specs.Prelude.{◌≡◌, ◌≢◌, ◌+◌, ◌^◌, length, if◌then◌else◌, IfErr, OnOk};
 
 use relay_action::Body;
-use relay_queue::{ClosedPut, LanePut, PutRefusal};
+use relay_queue::{ClosedPut, LanePut, OfferRefusal, PutRefusal};
 use std::sync::Wait;
 
 /// A sender's end of one lane's queue.
@@ -49,14 +49,25 @@ impl OpenEnd {
         Err((refusal, body))
     }
 
-    // Sends a message other than Done as `send` does, and returns whether the queue took it.
+    // Sends a message other than Done if that needs no wait, unless the lane was found gone before,
+    // and marks it if it is found gone now. Returns whether the queue took it.
     pub(crate) fn signal<R: Wait>(&mut self, rt: &R, body: Body) -> bool
         requires { body ≢ Body.Done }
         ensures sent { IsSent body self.old self.new }
         ensures count { length self.new.put.sent
             ≡ length self.old.put.sent + (if result then 1 else 0) }
     {
-        self.send(rt, body).is_ok()
+        if self.gone {
+            return false;
+        }
+        match self.put.offer(rt, body) {
+            Ok(_) => true,
+            Err((OfferRefusal::Gone, _)) => {
+                self.gone = true;
+                false
+            }
+            Err(_) => false,
+        }
     }
 
     // Sends Done, unless the lane was found gone. It waits while the queue is full.

@@ -68,8 +68,8 @@ pub(crate) fn send_op<R: Wait>(
     }
 }
 
-// Sends a signal to each lane that was not found gone, and returns the number of queues that took
-// it.
+// Sends a signal to each lane that was not found gone and whose queue takes it without a wait, and
+// returns the number of queues that took it.
 pub(crate) fn send_to_all<R: Wait>(rt: &R, ends: &mut Vec<OpenEnd>, signal: Signal) -> u32
     requires { vec_len ends.old ≤ 8 }
     ensures sent { IsSentToAll (body_of signal) ends.old.items ends.new.items }

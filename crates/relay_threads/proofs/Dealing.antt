@@ -1,15 +1,12 @@
 -- The ends of the senders, distributed from the last sender to the first.
 use Rattle.std.proofs.Common.{◌≡◌, ℕ, zero, suc, ◌+◌, ◌<◌, ◌≤◌, List, [], ◌∷◌, ◌++◌, length, map, sym, refl, ap, ◌∙◌, subst, arith, add-one, length-append}
-use Rattle.std.specs.declared.thread.PromisedHandle.{PromisedHandle}
 use Rattle.relay_queue.specs.Ends.{Queue, SenderEnd, fresh, fresh_puts}
 use Rattle.relay_core.specs.declared.config.RelayConfig.{RelayConfig}
 use Rattle.relay_producer.specs.declared.ends.OpenEnd.{OpenEnd}
 use Rattle.relay_producer.specs.Ends.{open_end}
 use Rattle.relay_producer.specs.States.{ProducerState, ControlState, AreFresh, HasLanes}
-use Rattle.relay_threads.specs.declared.lane_end.LaneEnd.{LaneEnd}
-use Rattle.relay_threads.specs.declared.thread.LanePromise.{LanePromise}
 use Rattle.relay_threads.specs.Rows.{HaveSome, LoseLast}
-use Rattle.relay_threads.specs.Lanes.{queues_of, wires_of, AreLanesOf}
+use Rattle.relay_threads.specs.Lanes.{LaneHandle, queues_of, wires_of, tells_of, AreLanesOf}
 use Rattle.relay_threads.specs.Relay.{AreNew, new_producer, new_control}
 use Rattle.relay_threads.proofs.Popping.{long_map}
 
@@ -106,22 +103,29 @@ controls qs news lasts n k one is = is ∙ ap (λ (l : List OpenEnd). record { s
 
 -- ---- lanes
 
-module _ {W : Type 0} where
-  pub lanes_more : (c : RelayConfig) (hs : List (PromisedHandle (LaneEnd W) (LanePromise W))) (h : PromisedHandle (LaneEnd W) (LanePromise W)) → AreLanesOf c hs → h.promise.config.value ≡ c → h.promise.take.value.senders ≡ c.producers + 1 → AreLanesOf c (hs ++ h ∷ [])
+module _ {W T : Type 0} where
+  pub lanes_more : (c : RelayConfig) (hs : List (LaneHandle W T)) (h : LaneHandle W T) → AreLanesOf c hs → h.promise.config.value ≡ c → h.promise.take.value.senders ≡ c.producers + 1 → AreLanesOf c (hs ++ h ∷ [])
   lanes_more c [] h k a b = ((a, b), tt)
   lanes_more c (x ∷ hs) h k a b = (k.0, lanes_more c hs h k.1 a b)
 
-  pub wires_more : (hs hs' : List (PromisedHandle (LaneEnd W) (LanePromise W))) (h : PromisedHandle (LaneEnd W) (LanePromise W)) (w : W) (rest rest' all : List W) → hs' ≡ hs ++ h ∷ [] → h.promise.wire.value ≡ w → rest ≡ w ∷ rest' → wires_of hs ++ rest ≡ all → wires_of hs' ++ rest' ≡ all
+  pub wires_more : (hs hs' : List (LaneHandle W T)) (h : LaneHandle W T) (w : W) (rest rest' all : List W) → hs' ≡ hs ++ h ∷ [] → h.promise.wire.value ≡ w → rest ≡ w ∷ rest' → wires_of hs ++ rest ≡ all → wires_of hs' ++ rest' ≡ all
   wires_more hs hs' h w rest rest' all more is next so =
-      ap (λ l. wires_of l ++ rest') more ∙ ap (λ l. l ++ rest') (map_snoc (λ (x : PromisedHandle (LaneEnd W) (LanePromise W)). x.promise.wire.value) hs h) ∙ ap (λ v. (wires_of hs ++ v ∷ []) ++ rest') is ∙ snoc_rest (wires_of hs) w rest' ∙ ap (λ l. wires_of hs ++ l) (sym next) ∙ so where
+      ap (λ l. wires_of l ++ rest') more ∙ ap (λ l. l ++ rest') (map_snoc (λ (x : LaneHandle W T). x.promise.wire.value) hs h) ∙ ap (λ v. (wires_of hs ++ v ∷ []) ++ rest') is ∙ snoc_rest (wires_of hs) w rest' ∙ ap (λ l. wires_of hs ++ l) (sym next) ∙ so where
         snoc_rest : (xs : List W) (y : W) (ys : List W) → (xs ++ y ∷ []) ++ ys ≡ xs ++ y ∷ ys
         snoc_rest [] y ys = refl
         snoc_rest (x ∷ xs) y ys = ap (λ l. x ∷ l) (snoc_rest xs y ys)
 
-  pub puts_more : {V : Type 0} (items : V → List SenderEnd) (n : ℕ) (hs hs' : List (PromisedHandle (LaneEnd W) (LanePromise W))) (h : PromisedHandle (LaneEnd W) (LanePromise W)) (columns columns' : List V) (puts : V) → hs' ≡ hs ++ h ∷ [] → columns' ≡ columns ++ puts ∷ []
+  pub tells_more : (hs hs' : List (LaneHandle W T)) (h : LaneHandle W T) (t : T) (rest rest' all : List T) → hs' ≡ hs ++ h ∷ [] → h.promise.tell.value ≡ t → rest ≡ t ∷ rest' → tells_of hs ++ rest ≡ all → tells_of hs' ++ rest' ≡ all
+  tells_more hs hs' h t rest rest' all more is next so =
+      ap (λ l. tells_of l ++ rest') more ∙ ap (λ l. l ++ rest') (map_snoc (λ (x : LaneHandle W T). x.promise.tell.value) hs h) ∙ ap (λ v. (tells_of hs ++ v ∷ []) ++ rest') is ∙ snoc_rest (tells_of hs) t rest' ∙ ap (λ l. tells_of hs ++ l) (sym next) ∙ so where
+        snoc_rest : (xs : List T) (y : T) (ys : List T) → (xs ++ y ∷ []) ++ ys ≡ xs ++ y ∷ ys
+        snoc_rest [] y ys = refl
+        snoc_rest (x ∷ xs) y ys = ap (λ l. x ∷ l) (snoc_rest xs y ys)
+
+  pub puts_more : {V : Type 0} (items : V → List SenderEnd) (n : ℕ) (hs hs' : List (LaneHandle W T)) (h : LaneHandle W T) (columns columns' : List V) (puts : V) → hs' ≡ hs ++ h ∷ [] → columns' ≡ columns ++ puts ∷ []
       → items puts ≡ fresh_puts h.promise.take.value.queue n → map items columns ≡ map (λ q. fresh_puts q n) (queues_of hs) → map items columns' ≡ map (λ q. fresh_puts q n) (queues_of hs')
   puts_more items n hs hs' h columns columns' puts more_h more_c is so =
-      ap (map items) more_c ∙ map_snoc items columns puts ∙ (λ i. so i ++ is i ∷ []) ∙ sym (ap (λ l. map (λ q. fresh_puts q n) (queues_of l)) more_h ∙ ap (map (λ q. fresh_puts q n)) (map_snoc (λ (x : PromisedHandle (LaneEnd W) (LanePromise W)). x.promise.take.value.queue) hs h) ∙ map_snoc (λ q. fresh_puts q n) (queues_of hs) h.promise.take.value.queue)
+      ap (map items) more_c ∙ map_snoc items columns puts ∙ (λ i. so i ++ is i ∷ []) ∙ sym (ap (λ l. map (λ q. fresh_puts q n) (queues_of l)) more_h ∙ ap (map (λ q. fresh_puts q n)) (map_snoc (λ (x : LaneHandle W T). x.promise.take.value.queue) hs h) ∙ map_snoc (λ q. fresh_puts q n) (queues_of hs) h.promise.take.value.queue)
 
 -- ---- one sender before another
 

@@ -255,6 +255,8 @@ module _ {W : Type 0} (describes : W → Bool) (fits : W → Outside → Type 0)
         count = f.taken;
         totals = f.totals;
         reached = f.reached;
+        explained = f.explained all.distinct;
+        explained_if_stated = f.explained_if_stated all.distinct;
         delivers = f.delivers all.distinct;
       } where
         long_ends : (xs : List ClosedProducerState) → length (map (λ (x : ClosedProducerState). x.ends) xs) ≡ length xs

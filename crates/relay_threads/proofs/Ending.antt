@@ -1,29 +1,31 @@
 -- How a lane ends.
-use Rattle.std.proofs.Common.{◌≡◌, ◌≢◌, ℕ, ◌+◌, ◌<◌, List, [], ◌∷◌, ◌++◌, Bool, true, false, sym, ap, ◌∙◌, subst, arith, length, append-nil}
+use Rattle.std.proofs.Common.{◌≡◌, ◌≢◌, ℕ, ◌+◌, ◌<◌, ◌≤◌, Option, Result, Ok, Err, OnOk, OnErr, List, [], ◌∷◌, ◌++◌, Bool, true, false, sym, ap, ◌∙◌, subst, arith, length, append-nil}
 use Rattle.std.specs.Prelude.{unwrap_or}
 use Rattle.std.specs.List.{list_all}
 use Rattle.relay_action.specs.declared.mail.Mail.{Mail}
 use Rattle.relay_results.specs.Outside.{Outside}
 use Rattle.relay_queue.specs.Messages.{mail_of, HasDone}
 use Rattle.relay_core.specs.declared.config.RelayConfig.{RelayConfig}
-use Rattle.relay_core.specs.State.{State, all_closed, oldest}
-use Rattle.relay_lane.specs.Turns.{Turn, Sends, Fails, Settles, Pauses, after_answer, after_turns, AllMayTurn, Worked, Stays, collects}
+use Rattle.relay_core.specs.State.{State, all_closed, oldest, without_successes}
+use Rattle.relay_lane.specs.Turns.{Turn, Sends, Fails, Settles, Pauses, after_answer, after_ticks, after_turns, AllMayTurn, Worked, Stays, collects}
 use Rattle.relay_lane.specs.Delivers.{Delivers}
 use Rattle.relay_lane.proofs.Sends.{none_left}
 use Rattle.relay_threads.specs.declared.lane_end.LaneEndKind.{LaneEndKind}
 use Rattle.relay_threads.specs.declared.lane_end.LaneEndKind.TheVariants.{Finished, Memory, Gone}
 use Rattle.relay_threads.specs.Course.{KnowsOpen, OneIsOpen, HasHeard, Course, EndsAs}
+use Rattle.relay_threads.specs.Told.{Told, HasTold, EndsTold}
+use Rattle.relay_threads.proofs.ToldOnce.{told_of_all, told_is_true}
 use Rattle.relay_threads.specs.Steps.{KeepsOn}
 use Rattle.relay_threads.proofs.Hearing.{heard_all, all_done, done_more, one_open}
-use Rattle.relay_threads.proofs.Keeping.{course_on, works}
+use Rattle.relay_threads.proofs.Keeping.{course_on, works, forgets}
 
 -- ---- what is in flight is settled
 
 turns_none : (ts : List Turn) (s : State) → AllMayTurn collects ts s → s.core.held ≡ [] → (after_turns ts s).core.held ≡ []
 turns_none [] s may none = none
-turns_none (Sends ∷ ts) s may none = absurd (let k = may.0 in cc)
-turns_none (Fails ∷ ts) s may none = absurd (let k = may.0 in cc)
-turns_none (Settles a ∷ ts) s may none = turns_none ts (after_answer a s) may.2 (none_left s (unwrap_or (oldest s) 0) a none)
+turns_none (Sends n ∷ ts) s may none = absurd (let k = may.0 in cc)
+turns_none (Fails n ∷ ts) s may none = absurd (let k = may.0 in cc)
+turns_none (Settles n a ∷ ts) s may none = turns_none ts (after_answer a (after_ticks n s)) may.2 (none_left (after_ticks n s) (unwrap_or (oldest s) 0) a none)
 turns_none (Pauses n ∷ ts) s may none = absurd (let k = may.0 in cc)
 
 collected_none : (s t : State) → Worked collects s t → s.core.held ≡ [] → t.core.held ≡ []
@@ -52,6 +54,17 @@ module _ {S : Type 0} (d : Bool) (fits : S → Outside → Type 0) where
     not_closed = λ g. left_open c.producers taken kind s x.0 g x.1 x.2.senders x.2.not_closed (left g);
     none_held = λ f. absurd (early f);
   }
+
+  -- what is forgotten at the end is no part of it
+  pub ends_forgotten : (start w : S) (c : RelayConfig) (taken : List Mail) (kind : LaneEndKind) (s t : State) → t ≡ without_successes s → EndsAs d fits start w c taken kind s → EndsAs d fits start w c taken kind t
+  ends_forgotten start w c taken kind s t e k = subst (λ z. EndsAs d fits start w c taken kind z) (sym e) (record {
+    messages = k.messages;
+    heard = k.heard;
+    course = forgets d fits w s (without_successes s) k.messages (λ i. without_successes s) start c k.course;
+    closed = k.closed;
+    not_closed = k.not_closed;
+    none_held = k.none_held;
+  })
 
   -- it drained
   pub ends_drained : (start v w : S) (c : RelayConfig) (taken : List Mail) (kind : LaneEndKind) (s t : State) (e : Bool) → e ≡ d → Course d fits start v c taken s → KeepsOn e fits v w s t taken taken
@@ -84,3 +97,41 @@ module _ {S : Type 0} (d : Bool) (fits : S → Outside → Type 0) where
       let k = x.course.senders in
       let within : sender < length s.closed = omega (arith, count, lt, k) in
       subst (λ l. HasDone (mail_of sender l)) (sym x.heard.all) (done_more sender x.messages x.heard.missed (all_done s.closed x.messages sender x.course.closed within (x.closed f)))
+
+-- ---- after it has told what was left
+
+heard_as : (kind kind' : LaneEndKind) (taken heard : List Mail) → (kind ≡ Memory → kind' ≡ Memory) → HasHeard kind taken heard → HasHeard kind' taken heard
+heard_as kind kind' taken heard memory h = record { missed = h.missed; all = h.all; most = h.most; puts = h.puts; memory = λ n. h.memory (λ m. n (memory m)) }
+
+pub ends_told_as : {S A E : Type 0} (d : Bool) (fits : S → Outside → Type 0) (start w : S) (c : RelayConfig) (taken : List Mail) (kind kind' : LaneEndKind) (s : State) (r : Result A E)
+    → OnOk r (kind' ≡ kind) → OnErr r ((kind' ≢ Finished) × (kind' ≡ Gone → kind ≡ Gone)) → (kind ≡ Memory → kind' ≡ Memory) → EndsAs d fits start w c taken kind s → EndsAs d fits start w c taken kind' s
+ends_told_as d fits start w c taken kind kind' s (Ok x) ok err memory k = subst (λ z. EndsAs d fits start w c taken z s) (sym ok) k
+ends_told_as d fits start w c taken kind kind' s (Err x) ok err memory k = record {
+  messages = k.messages;
+  heard = heard_as kind kind' taken k.messages memory k.heard;
+  course = k.course;
+  closed = λ f. absurd (err.0 f);
+  not_closed = λ g. k.not_closed (err.1 g);
+  none_held = λ f. absurd (err.0 f);
+}
+
+-- a lane that finished told all that was left
+finished_ok : {A E : Type 0} (kind kind' : LaneEndKind) (r : Result A E) (P : Type 0) → OnErr r ((kind' ≢ Finished) × (kind' ≡ Gone → kind ≡ Gone)) → OnOk r P → kind' ≡ Finished → P
+finished_ok kind kind' (Ok x) P err ok f = ok
+finished_ok kind kind' (Err x) P err ok f = absurd (err.0 f)
+
+pub finished_as : {A E : Type 0} (kind kind' : LaneEndKind) (r : Result A E) → OnOk r (kind' ≡ kind) → OnErr r ((kind' ≢ Finished) × (kind' ≡ Gone → kind ≡ Gone)) → kind' ≡ Finished → kind ≡ Finished
+finished_as kind kind' (Ok x) ok err f = sym ok ∙ f
+finished_as kind kind' (Err x) ok err f = absurd (err.0 f)
+
+pub told_at_the_end : {A E : Type 0} (start now : ℕ → Option Told) (number : ℕ) (s t : State) (taken heard : List Mail) (kind kind' : LaneEndKind) (r : Result A E) → t ≡ without_successes s → HasHeard kind taken heard → HasTold start now number t heard
+    → OnErr r ((kind' ≢ Finished) × (kind' ≡ Gone → kind ≡ Gone)) → (kind ≡ Memory → kind' ≡ Memory) → OnOk r (length t.core.reports ≤ number) → EndsTold start now kind' taken t
+told_at_the_end start now number s t taken heard kind kind' r none h x err memory all = record {
+  messages = heard;
+  heard = heard_as kind kind' taken heard memory h;
+  number = number;
+  has_told = x;
+  none_noted = ap (λ (z : State). z.successes) none;
+  all_reported = λ f. told_of_all start now number t heard x (finished_ok kind kind' r (length t.core.reports ≤ number) err all f);
+  explained = told_is_true start now number t heard x;
+}

@@ -1,22 +1,29 @@
 -- If no lane went wrong, all have finished.
-use Rattle.std.proofs.Common.{◌≡◌, ◌≢◌, ◌++◌, append-nil, length-append, ℕ, suc, ◌+◌, ◌<◌, ◌≤◌, Bool, true, false, ◌||◌, List, [], ◌∷◌, length, map, sym, refl, ap, ◌∙◌, subst, arith}
+use Rattle.std.proofs.Common.{◌≡◌, ◌≢◌, Option, ◌++◌, append-nil, length-append, ℕ, suc, ◌+◌, ◌<◌, ◌≤◌, Bool, true, false, ◌||◌, List, [], ◌∷◌, length, map, sym, refl, ap, ◌∙◌, subst, arith}
 use Rattle.std.specs.Prelude.{nat_le}
 use Rattle.std.proofs.lemmas.List.{length-map}
 use Rattle.std.proofs.lemmas.Bool.Decides.{nat_tests}
-use Rattle.std.specs.declared.thread.PromisedHandle.{PromisedHandle}
 use Rattle.relay_action.specs.declared.mail.Mail.{Mail}
 use Rattle.relay_action.specs.declared.operation.Op.{Op}
-use Rattle.relay_results.specs.Outside.{Outside}
+use Rattle.relay_results.specs.Outside.{Outside, IsOpening}
 use Rattle.relay_delivery.specs.Delivery.{HasDistinctNames, IsSound, IsComplete, applied_ops}
-use Rattle.relay_delivery.specs.Machine.{Config, Report}
+use Rattle.relay_delivery.specs.Machine.{Config, Report, first_in}
+use Rattle.relay_delivery.specs.Explained.{Begins, Explains}
 use Rattle.relay_delivery.specs.Reach.{Reached}
+use Rattle.relay_delivery.proofs.Explained.{explained_fits, explained_sound, explained_complete}
+use Rattle.relay_delivery.specs.Stating.{BeginsBeside, StatesVersions}
+use Rattle.relay_delivery.proofs.Stating.{explained_sound_if_stated, explained_complete_if_stated}
 use Rattle.relay_queue.specs.Ends.{Queue}
 use Rattle.relay_queue.specs.Messages.{IsWellTaken}
 use Rattle.relay_core.specs.declared.config.RelayConfig.{RelayConfig}
 use Rattle.relay_core.specs.State.{config_of}
 use Rattle.relay_core.specs.Walk.{report_of}
 use Rattle.relay_core.specs.Limits.{is_valid, is_from_to}
-use Rattle.relay_results.proofs.Lists.{and_left, and_right}
+use Rattle.relay_results.specs.Words.{count}
+use Rattle.relay_results.proofs.Lists.{and_left, and_right, Mem-left}
+use Rattle.relay_delivery.specs.Lane.{held_of}
+use Rattle.relay_core.specs.Endings.{is_held_as, is_success_as, is_report_as}
+use Rattle.relay_lane.specs.Once.{is_op_as}
 use Rattle.relay_producer.specs.States.{ClosedProducerState, ClosedControlState}
 use Rattle.relay_lane.specs.Delivers.{GoesOn}
 use Rattle.relay_producer.specs.declared.ends.ClosedEnd.{ClosedEnd}
@@ -24,12 +31,14 @@ use Rattle.relay_threads.specs.declared.lane_end.LaneEnd.{LaneEnd}
 use Rattle.relay_threads.specs.declared.lane_end.LaneEndKind.{LaneEndKind}
 use Rattle.relay_threads.specs.declared.lane_end.LaneEndKind.TheVariants.{Finished, Memory, Gone}
 use Rattle.relay_threads.specs.declared.summary.LaneSummary.{LaneSummary}
-use Rattle.relay_threads.specs.declared.thread.LanePromise.{LanePromise}
-use Rattle.relay_threads.specs.Course.{puts_of, HasHeard}
-use Rattle.relay_threads.specs.Promises.{KeepsCourse}
-use Rattle.relay_threads.specs.Lanes.{queues_of, wires_of, AreLanesOf, EndAsPromised}
+use Rattle.relay_threads.specs.Course.{puts_of, HasHeard, IsBelow}
+use Rattle.relay_threads.specs.Promises.{KeepsCourse, KeepsTold}
+use Rattle.relay_threads.specs.Told.{Told, Shows, IsOfTaken}
+use Rattle.relay_threads.specs.ToldAll.{ToldLane, AllTold}
+use Rattle.relay_threads.proofs.ToldOnce.{is_applied}
+use Rattle.relay_threads.specs.Lanes.{LaneHandle, queues_of, wires_of, tells_of, AreLanesOf, EndAsPromised, ToldAsPromised}
 use Rattle.relay_threads.specs.Faults.{ends_as, is_memory, is_gone_kind, is_gone_in, is_gone_in_any, is_gone_lane}
-use Rattle.relay_threads.specs.Ending.{EndsOn, AllEndOn, Carries, FinishedLane, AllFinished}
+use Rattle.relay_threads.specs.Ending.{EndsOn, AllEndOn, Carries, IsDeliveredFor, FinishedLane, AllFinished}
 use Rattle.relay_threads.specs.Relay.{RelayState, AreRows, rows_of}
 use Rattle.relay_threads.specs.Sums.{AreMetAt, NoneGoneIn, NoneGone, queues_of_ends, AreDone, SumsUp, AllSumUp}
 use Rattle.relay_threads.proofs.Popping.{long_map}
@@ -65,7 +74,7 @@ is_finished Gone m g = absurd (cc)
 module _ {W : Type 0} (describes : W → Bool) (fits : W → Outside → Type 0) (c : RelayConfig) where
   -- ---- what the threads promised
 
-  pub all_end : (hs : List (PromisedHandle (LaneEnd W) (LanePromise W))) (es : List (LaneEnd W)) → AreLanesOf c hs → EndAsPromised describes fits hs es → AllEndOn describes fits c (queues_of hs) (wires_of hs) es
+  pub all_end : {T : Type 0} (hs : List (LaneHandle W T)) (es : List (LaneEnd W)) → AreLanesOf c hs → EndAsPromised describes fits hs es → AllEndOn describes fits c (queues_of hs) (wires_of hs) es
   all_end [] [] own k = tt
   all_end [] (e ∷ es) own k = absurd k
   all_end (h ∷ hs) [] own k = absurd k
@@ -151,6 +160,31 @@ module _ {W : Type 0} (describes : W → Bool) (fits : W → Outside → Type 0)
         complete = subst (λ (z : Config × List Report). IsComplete ops z.1 (applied_ops z.0 ops g.outside)) (λ i. (conf i, sym reports i)) (g.delivered.complete none distinct);
       }
 
+  -- delivery for an outside that explains a lane's calls
+  explains : (ops : List Op) (e : LaneEnd W) (s : LaneSummary W) (o p : Outside) → e.lane.state.config ≡ c → e.lane.state.core.held ≡ [] → SumsUp e s → HasDistinctNames ops
+      → (r : Reached e.lane.state.core ops) → IsOpening o → IsBelow (first_in c.epoch) o → Explains r.calls o p → IsDeliveredFor describes fits c ops s p
+  explains ops e s o p is none sum distinct r opening below x =
+      let conf : e.lane.state.core.config ≡ config_of c = sum.lane.config ∙ ap config_of is in
+      let first : e.lane.state.core.config.first ≡ first_in c.epoch = ap (λ (g : Config). g.first) conf in
+      let reports = sum.reports in
+      let begins : Begins e.lane.state.core.config.first o = record { opening = opening; below = λ k u at. subst (λ f. u < f) (sym first) (below k u at) } in
+      record {
+        sound = subst (λ (z : Config × List Report). IsSound z.0 ops z.1 p (applied_ops z.0 ops p)) (λ i. (conf i, sym reports i)) (explained_sound e.lane.state.core ops r o p begins x distinct);
+        complete = subst (λ (z : Config × List Report). IsComplete ops z.1 (applied_ops z.0 ops p)) (λ i. (conf i, sym reports i)) (explained_complete e.lane.state.core ops r o p begins x distinct none);
+      }
+
+  -- the same for an outside that states the stored versions
+  explains_if_stated : (ops : List Op) (e : LaneEnd W) (s : LaneSummary W) (o p : Outside) → e.lane.state.config ≡ c → e.lane.state.core.held ≡ [] → SumsUp e s → HasDistinctNames ops
+      → (r : Reached e.lane.state.core ops) → BeginsBeside (config_of c) o → Explains r.calls o p → StatesVersions p → IsDeliveredFor describes fits c ops s p
+  explains_if_stated ops e s o p is none sum distinct r begins x states =
+      let conf : e.lane.state.core.config ≡ config_of c = sum.lane.config ∙ ap config_of is in
+      let reports = sum.reports in
+      let here : BeginsBeside e.lane.state.core.config o = subst (λ g. BeginsBeside g o) (sym conf) begins in
+      record {
+        sound = subst (λ (z : Config × List Report). IsSound z.0 ops z.1 p (applied_ops z.0 ops p)) (λ i. (conf i, sym reports i)) (explained_sound_if_stated e.lane.state.core ops r o p here x states distinct);
+        complete = subst (λ (z : Config × List Report). IsComplete ops z.1 (applied_ops z.0 ops p)) (λ i. (conf i, sym reports i)) (explained_complete_if_stated e.lane.state.core ops r o p here x states distinct none);
+      }
+
   one_finished : (rows : List (List ClosedEnd)) (lane : ℕ) (q : Queue) (w : W) (e : LaneEnd W) (s : LaneSummary W) → length rows ≡ c.producers + 1 → e.kind ≡ Finished → EndsOn describes fits c q w e → AreMetAt lane 0 e.taken.taken rows → SumsUp e s → FinishedLane describes fits c rows lane w s
   one_finished rows lane q w e s count f on met sum =
       let x = on.ends in
@@ -162,6 +196,7 @@ module _ {W : Type 0} (describes : W → Bool) (fits : W → Outside → Type 0)
       let long = length-map s.reports.items report_of in
       let reports = ap length sum.reports in
       let taken : s.taken ≡ length (puts_of e.taken.taken) = sum.taken ∙ k.taken ∙ ap (λ m. length (puts_of m)) (sym all) in
+      let reached : Reached e.lane.state.core (puts_of e.taken.taken) = subst (λ m. Reached e.lane.state.core (puts_of m)) (sym all) k.reached.core in
       record {
         messages = e.taken.taken;
         met = met;
@@ -170,7 +205,7 @@ module _ {W : Type 0} (describes : W → Bool) (fits : W → Outside → Type 0)
         totals = omega (arith, totals, held, long, reports, sum.applied, sum.already, sum.taken);
         reached = record {
           state = e.lane.state.core;
-          reached = subst (λ m. Reached e.lane.state.core (puts_of m)) (sym all) k.reached.core;
+          reached = reached;
           config = sum.lane.config ∙ ap config_of k.config;
           none_held = none;
           taken = sum.taken;
@@ -179,6 +214,8 @@ module _ {W : Type 0} (describes : W → Bool) (fits : W → Outside → Type 0)
           requests = sum.requests;
           reports = sum.reports;
         };
+        explained = λ distinct o p opening below x. explains (puts_of e.taken.taken) e s o p k.config none sum distinct reached opening below x;
+        explained_if_stated = λ distinct o p begins x states. explains_if_stated (puts_of e.taken.taken) e s o p k.config none sum distinct reached begins x states;
         delivers = λ distinct is o fit opening below.
             carries (puts_of e.taken.taken) e s o k.config none sum distinct
             (subst (λ m. GoesOn fits e.wire e.lane.state (puts_of m) o) (sym all) (k.delivers is o fit opening below));
@@ -197,6 +234,84 @@ module _ {W : Type 0} (describes : W → Bool) (fits : W → Outside → Type 0)
   all_finished rows lane (q ∷ qs) (w ∷ ws) (e ∷ es) [] n a k s = absurd s
   all_finished rows lane (q ∷ qs) (w ∷ ws) (e ∷ es) (x ∷ ss) n a k s = (one_finished rows lane q w e x n k.0 a.0 s.0.0 s.0.1, all_finished rows (lane + 1) qs ws es ss n a.1 k.1 s.1)
 
+-- ---- what they told
+
+-- this is what the lanes have told that have ended, each with what it told by at the start and at the end
+abbrev pub AllEndTold : {W T : Type 0} → (T → ℕ → Option Told) → List T → List (LaneEnd W) → List T → Type 0
+AllEndTold told [] [] [] = Unit {0}
+AllEndTold told [] [] (t ∷ ts) = ⊥
+AllEndTold told [] (e ∷ es) ts = ⊥
+AllEndTold told (f ∷ fs) [] ts = ⊥
+AllEndTold told (f ∷ fs) (e ∷ es) [] = ⊥
+AllEndTold told (f ∷ fs) (e ∷ es) (t ∷ ts) = KeepsTold told f t e × AllEndTold told fs es ts
+
+all_told : {W T : Type 0} (told : T → ℕ → Option Told) (hs : List (LaneHandle W T)) (es : List (LaneEnd W)) (ts : List T) → ToldAsPromised told hs es ts → AllEndTold told (tells_of hs) es ts
+all_told told [] [] [] k = tt
+all_told told [] [] (t ∷ ts) k = absurd k
+all_told told [] (e ∷ es) ts k = absurd k
+all_told told (h ∷ hs) [] ts k = absurd k
+all_told told (h ∷ hs) (e ∷ es) [] k = absurd k
+all_told told (h ∷ hs) (e ∷ es) (t ∷ ts) k = (k.0, all_told told hs es ts k.1)
+
+module _ {W T : Type 0} (describes : W → Bool) (fits : W → Outside → Type 0) (told : T → ℕ → Option Told) (c : RelayConfig) where
+  one_told : (rows : List (List ClosedEnd)) (lane : ℕ) (q : Queue) (w : W) (e : LaneEnd W) (first last : T) (s : LaneSummary W) → e.kind ≡ Finished → EndsOn describes fits c q w e → KeepsTold told first last e → AreMetAt lane 0 e.taken.taken rows → SumsUp e s → ToldLane describes fits told c rows lane first last s
+  one_told rows lane q w e first last s f on k met sum =
+      let x = on.ends in
+      let none = x.none_held f in
+      let all = heard_whole describes fits c e.kind e.taken.taken k.messages f k.heard in
+      let conf : e.lane.state.config ≡ c = x.course.config in
+      let core : e.lane.state.core.config ≡ config_of c = sum.lane.config ∙ ap config_of conf in
+      let h = k.has_told in
+      let reports : h.reported ≡ map report_of s.reports.items = k.all_reported f ∙ sym sum.reports in
+      let puts = ap puts_of all in
+      let reached : Reached e.lane.state.core (puts_of e.taken.taken) = subst (Reached e.lane.state.core) (sym puts) h.reached.core in
+      record {
+        messages = e.taken.taken;
+        met = met;
+        applied = h.applied;
+        shown = subst (Shows (told first) (told last) h.applied) reports h.shown;
+        once = λ n.
+            let y = h.once n in
+            let held = ap (λ es. count (is_held_as n) (held_of es)) none in
+            let noted = ap (count (is_success_as n)) k.none_noted in
+            let same = ap (count (is_report_as n)) sum.reports in
+            let ops = ap (count (is_op_as n)) puts in
+            omega (arith, y, held, noted, same, ops);
+        versions = λ y m. subst (λ (z : Config × List Op). IsOfTaken z.0 z.1 y) (λ i. (core i, sym puts i)) (h.versions y (Mem-left y h.applied e.lane.state.successes m));
+        reached = record {
+          state = e.lane.state.core;
+          reached = reached;
+          config = core;
+          none_held = none;
+          taken = sum.taken;
+          applied = sum.applied;
+          already = sum.already;
+          requests = sum.requests;
+          reports = sum.reports;
+        };
+        explained = λ distinct o p opening below explains y m.
+            let first : e.lane.state.core.config.first ≡ first_in c.epoch = ap (λ (g : Config). g.first) core in
+            let begins : Begins e.lane.state.core.config.first o = record { opening = opening; below = λ d u at. subst (λ a. u < a) (sym first) (below d u at) } in
+            is_applied e.lane.state (puts_of e.taken.taken) h.applied (λ n. h.once n ∙ sym (ap (count (is_op_as n)) puts)) distinct y m p (record { core = reached; next = h.reached.next })
+            (explained_fits e.lane.state.core (puts_of e.taken.taken) reached o p begins explains)
+            (subst (λ ops. IsOfTaken e.lane.state.core.config ops y) (sym puts) (h.versions y (Mem-left y h.applied e.lane.state.successes m)));
+      }
+
+  pub all_told_to : (rows : List (List ClosedEnd)) (lane : ℕ) (qs : List Queue) (ws : List W) (fs : List T) (es : List (LaneEnd W)) (ts : List T) (ss : List (LaneSummary W)) → AllEndOn describes fits c qs ws es → AllKinds describes fits c es → AllEndTold told fs es ts → AllSumUp rows lane es ss
+      → AllTold describes fits told c rows lane fs ts ss
+  all_told_to rows lane qs ws [] [] [] [] a k t s = tt
+  all_told_to rows lane qs ws [] [] [] (x ∷ ss) a k t s = absurd s
+  all_told_to rows lane qs ws [] [] (t' ∷ ts) ss a k t s = absurd t
+  all_told_to rows lane qs ws [] (e ∷ es) ts ss a k t s = absurd t
+  all_told_to rows lane qs ws (f ∷ fs) [] ts ss a k t s = absurd t
+  all_told_to rows lane qs ws (f ∷ fs) (e ∷ es) [] ss a k t s = absurd t
+  all_told_to rows lane qs ws (f ∷ fs) (e ∷ es) (t' ∷ ts) [] a k t s = absurd s
+  all_told_to rows lane [] [] (f ∷ fs) (e ∷ es) (t' ∷ ts) (x ∷ ss) a k t s = absurd a
+  all_told_to rows lane [] (w ∷ ws) (f ∷ fs) (e ∷ es) (t' ∷ ts) (x ∷ ss) a k t s = absurd a
+  all_told_to rows lane (q ∷ qs) [] (f ∷ fs) (e ∷ es) (t' ∷ ts) (x ∷ ss) a k t s = absurd a
+  all_told_to rows lane (q ∷ qs) (w ∷ ws) (f ∷ fs) (e ∷ es) (t' ∷ ts) (x ∷ ss) a k t s =
+      (one_told rows lane q w e f t' x k.0 a.0 t.0 s.0.0 s.0.1, all_told_to rows (lane + 1) qs ws fs es ts ss a.1 k.1 t.1 s.1)
+
 -- ---- all that is known when the lanes have ended
 
 most_lanes : (c : RelayConfig) → is_valid c ≡ true → c.lanes ≤ 8
@@ -205,43 +320,45 @@ most_lanes c e = let a = and_left (is_from_to 1 8 c.lanes) _ e in let b = and_ri
 some_lanes : (c : RelayConfig) → is_valid c ≡ true → 0 < c.lanes
 some_lanes c e = let a = and_left (is_from_to 1 8 c.lanes) _ e in let b = and_left (nat_le 1 c.lanes) (nat_le c.lanes 8) a in grind (arith, nat_tests)
 
-most_producers : (c : RelayConfig) → is_valid c ≡ true → c.producers ≤ 16
+most_producers : (c : RelayConfig) → is_valid c ≡ true → c.producers ≤ 256
 most_producers c e =
     let r = and_right (is_from_to 1 8 c.lanes) _ e in
-    let a = and_left (is_from_to 1 16 c.producers) _ r in
-    let b = and_right (nat_le 1 c.producers) (nat_le c.producers 16) a in
+    let a = and_left (is_from_to 1 256 c.producers) _ r in
+    let b = and_right (nat_le 1 c.producers) (nat_le c.producers 256) a in
     grind (arith, nat_tests)
 
-ends_long : {W : Type 0} (d : W → Bool) (f : W → Outside → Type 0) (hs : List (PromisedHandle (LaneEnd W) (LanePromise W))) (es : List (LaneEnd W)) → EndAsPromised d f hs es → length es ≡ length hs
+ends_long : {W T : Type 0} (d : W → Bool) (f : W → Outside → Type 0) (hs : List (LaneHandle W T)) (es : List (LaneEnd W)) → EndAsPromised d f hs es → length es ≡ length hs
 ends_long d f [] [] k = refl
 ends_long d f [] (e ∷ es) k = absurd k
 ends_long d f (h ∷ hs) [] k = absurd k
 ends_long d f (h ∷ hs) (e ∷ es) k = ap suc (ends_long d f hs es k.1)
 
-pub record Ready {W : Type 0} (d : W → Bool) (f : W → Outside → Type 0) (self : RelayState W) (es : List (LaneEnd W)) (rows : List (List ClosedEnd)) : Type 0 where
+pub record Ready {W T : Type 0} (d : W → Bool) (f : W → Outside → Type 0) (told : T → ℕ → Option Told) (self : RelayState W T) (es : List (LaneEnd W)) (ts : List T) (rows : List (List ClosedEnd)) : Type 0 where
   pub ended : AllEndOn d f self.config self.queues self.wires es
+  pub has_told : AllEndTold told self.tells es ts
   pub few_ends : length es ≤ 8
-  pub few_rows : length rows ≤ 17
+  pub few_rows : length rows ≤ 257
   pub count : length rows ≡ self.config.producers + 1
   pub lanes : length self.queues ≡ self.config.lanes
   pub wires : length self.wires ≡ self.config.lanes
   pub some : 0 < self.config.lanes
 
-pub ready : {W : Type 0} (d : W → Bool) (f : W → Outside → Type 0) (self : RelayState W) (config : RelayConfig) (hs : List (PromisedHandle (LaneEnd W) (LanePromise W))) (es : List (LaneEnd W)) (rows : List (List ClosedEnd)) (ps : List ClosedProducerState) (k : ClosedControlState)
-    → self ≡ record { config = config; queues = queues_of hs; wires = wires_of hs } → is_valid config ≡ true → length hs ≡ config.lanes → AreLanesOf config hs → EndAsPromised d f hs es → rows ≡ rows_of ps k → length ps ≡ self.config.producers → Ready d f self es rows
-ready {W = W} d f self config hs es rows ps k is valid lanes own kept given count =
-    let same : self.config ≡ config = ap (λ (r : RelayState W). r.config) is in
+pub ready : {W T : Type 0} (d : W → Bool) (f : W → Outside → Type 0) (told : T → ℕ → Option Told) (self : RelayState W T) (config : RelayConfig) (hs : List (LaneHandle W T)) (es : List (LaneEnd W)) (ts : List T) (rows : List (List ClosedEnd)) (ps : List ClosedProducerState) (k : ClosedControlState)
+    → self ≡ record { config = config; queues = queues_of hs; wires = wires_of hs; tells = tells_of hs } → is_valid config ≡ true → length hs ≡ config.lanes → AreLanesOf config hs → EndAsPromised d f hs es → ToldAsPromised told hs es ts → rows ≡ rows_of ps k → length ps ≡ self.config.producers → Ready d f told self es ts rows
+ready {W = W} {T = T} d f told self config hs es ts rows ps k is valid lanes own kept has_told given count =
+    let same : self.config ≡ config = ap (λ (r : RelayState W T). r.config) is in
     let same_p = ap (λ (g : RelayConfig). g.producers) same in
     let long = ends_long d f hs es kept in
     let rows_long : length rows ≡ length ps + 1 = ap length given ∙ length-append (map (λ (x : ClosedProducerState). x.ends) ps) (k.ends ∷ []) ∙ ap (λ n. n + 1) (long_map (λ (x : ClosedProducerState). x.ends) ps) in
     let eight = most_lanes config valid in
     let sixteen = most_producers config valid in
     record {
-      ended = subst (λ (r : RelayState W). AllEndOn d f r.config r.queues r.wires es) (sym is) (all_end d f config hs es own kept);
+      ended = subst (λ (r : RelayState W T). AllEndOn d f r.config r.queues r.wires es) (sym is) (all_end d f config hs es own kept);
+      has_told = subst (λ (r : RelayState W T). AllEndTold told r.tells es ts) (sym is) (all_told told hs es ts has_told);
       few_ends = omega (arith, long, lanes, eight);
       few_rows = omega (arith, rows_long, count, same_p, sixteen);
       count = omega (arith, rows_long, count);
-      lanes = subst (λ (r : RelayState W). length r.queues ≡ r.config.lanes) (sym is) (long_map (λ (h : PromisedHandle (LaneEnd W) (LanePromise W)). h.promise.take.value.queue) hs ∙ lanes);
-      wires = subst (λ (r : RelayState W). length r.wires ≡ r.config.lanes) (sym is) (long_map (λ (h : PromisedHandle (LaneEnd W) (LanePromise W)). h.promise.wire.value) hs ∙ lanes);
-      some = subst (λ (r : RelayState W). 0 < r.config.lanes) (sym is) (some_lanes config valid);
+      lanes = subst (λ (r : RelayState W T). length r.queues ≡ r.config.lanes) (sym is) (long_map (λ (h : LaneHandle W T). h.promise.take.value.queue) hs ∙ lanes);
+      wires = subst (λ (r : RelayState W T). length r.wires ≡ r.config.lanes) (sym is) (long_map (λ (h : LaneHandle W T). h.promise.wire.value) hs ∙ lanes);
+      some = subst (λ (r : RelayState W T). 0 < r.config.lanes) (sym is) (some_lanes config valid);
     }

@@ -22,6 +22,10 @@ pub puts_push : (ms : List Mail) (m : Mail) → puts_of (ms ++ m ∷ []) ≡ put
 puts_push [] m = append-nil (ops_of m.body)
 puts_push (x ∷ xs) m = ap (λ l. ops_of x.body ++ l) (puts_push xs m) ∙ sym (append_assoc (ops_of x.body) (puts_of xs) (ops_of m.body))
 
+-- a tick adds none
+pub puts_tick : (ms : List Mail) (m : Mail) → m.body ≡ body.Tick → puts_of (ms ++ m ∷ []) ≡ puts_of ms
+puts_tick ms m e = puts_push ms m ∙ ap (λ b. puts_of ms ++ ops_of b) e ∙ append-nil (puts_of ms)
+
 -- ---- who has closed
 
 done-append : (a b : List Mail) → HasDone a → HasDone (a ++ b)
@@ -31,7 +35,7 @@ done-append (m ∷ ms) b h = ⊎_elim (λ (d : IsDone m). inl d) (λ (d : HasDon
 pub done_more : (p : ℕ) (a b : List Mail) → HasDone (mail_of p a) → HasDone (mail_of p (a ++ b))
 done_more p a b h = subst HasDone (sym (mail_of-append p a b)) (done-append (mail_of p a) (mail_of p b) h)
 
-knows_more : (closed : List Bool) (heard : List Mail) (m : Mail) → KnowsClosed closed heard → KnowsClosed closed (heard ++ m ∷ [])
+pub knows_more : (closed : List Bool) (heard : List Mail) (m : Mail) → KnowsClosed closed heard → KnowsClosed closed (heard ++ m ∷ [])
 knows_more closed heard m h p e = done_more p heard (m ∷ []) (h p e)
 
 knows_close : (closed : List Bool) (heard : List Mail) (m : Mail) → IsDone m → KnowsClosed closed heard → KnowsClosed (set closed m.sender true) (heard ++ m ∷ [])
@@ -64,10 +68,10 @@ open_more p heard m other none d =
     (done-split (mail_of p heard) (m ∷ []) (subst HasDone (mail_of-own p heard m t.1) d)))
     (λ (t : (eqb m.sender p ≡ false) × (m.sender ≢ p)). none (subst HasDone (mail_of-other p heard m t.1) d)) (eqb_tells m.sender p)
 
-not_done : (m : Mail) (b : Body) → m.body ≡ b → b ≢ body.Done → ¬ IsDone m
+pub not_done : (m : Mail) (b : Body) → m.body ≡ b → b ≢ body.Done → ¬ IsDone m
 not_done m b e n d = n (sym e ∙ d)
 
-open_stays : (closed : List Bool) (heard : List Mail) (m : Mail) → ¬ IsDone m → KnowsOpen closed heard → KnowsOpen closed (heard ++ m ∷ [])
+pub open_stays : (closed : List Bool) (heard : List Mail) (m : Mail) → ¬ IsDone m → KnowsOpen closed heard → KnowsOpen closed (heard ++ m ∷ [])
 open_stays closed heard m n h p lt e = open_more p heard m (λ is. n) (h p lt e)
 
 open_close : (closed : List Bool) (heard : List Mail) (m : Mail) → m.sender < length closed → KnowsOpen closed heard → KnowsOpen (set closed m.sender true) (heard ++ m ∷ [])

@@ -1,35 +1,50 @@
 -- Lanes that have ended, one after another.
-use Rattle.std.proofs.Common.{◌≡◌, List, [], ◌∷◌, ◌++◌, Bool, sym, refl, ap, ◌∙◌, subst, append-nil, append_assoc}
-use Rattle.std.specs.declared.thread.PromisedHandle.{PromisedHandle}
+use Rattle.std.proofs.Common.{◌≡◌, ℕ, List, [], ◌∷◌, ◌++◌, Bool, Option, sym, refl, ap, ◌∙◌, subst, append-nil, append_assoc}
 use Rattle.relay_results.specs.Outside.{Outside}
 use Rattle.relay_threads.specs.declared.lane_end.LaneEnd.{LaneEnd}
-use Rattle.relay_threads.specs.declared.thread.LanePromise.{LanePromise}
-use Rattle.relay_threads.specs.Promises.{KeepsCourse}
-use Rattle.relay_threads.specs.Lanes.{EndAsPromised}
+use Rattle.relay_threads.specs.Promises.{KeepsCourse, KeepsTold}
+use Rattle.relay_threads.specs.Told.{Told}
+use Rattle.relay_threads.specs.Lanes.{LaneHandle, EndAsPromised, ToldAsPromised}
 
-module _ {W : Type 0} (describes : W → Bool) (fits : W → Outside → Type 0) where
+module _ {W T : Type 0} (describes : W → Bool) (fits : W → Outside → Type 0) (told : T → ℕ → Option Told) where
   -- the first of these lanes have ended, and the others are left
-  pub record JoinsOn (lanes left : List (PromisedHandle (LaneEnd W) (LanePromise W))) (ends : List (LaneEnd W)) : Type 0 where
-    pub joined : List (PromisedHandle (LaneEnd W) (LanePromise W))
+  pub record JoinsOn (lanes left : List (LaneHandle W T)) (ends : List (LaneEnd W)) (tells : List T) : Type 0 where
+    pub joined : List (LaneHandle W T)
     pub all : lanes ≡ joined ++ left
     pub ended : EndAsPromised describes fits joined ends
+    pub has_told : ToldAsPromised told joined ends tells
 
-  pub joins_none : (lanes : List (PromisedHandle (LaneEnd W) (LanePromise W))) (ends : List (LaneEnd W)) → ends ≡ [] → JoinsOn lanes lanes ends
-  joins_none lanes ends e = record { joined = []; all = refl; ended = subst (EndAsPromised describes fits []) (sym e) tt }
+  pub joins_none : (lanes : List (LaneHandle W T)) (ends : List (LaneEnd W)) (tells : List T) → ends ≡ [] → tells ≡ [] → JoinsOn lanes lanes ends tells
+  joins_none lanes ends tells e t = record { joined = []; all = refl; ended = subst (EndAsPromised {W = W} {T = T} describes fits []) (sym e) tt; has_told = subst (λ (z : List (LaneEnd W) × List T). ToldAsPromised told [] z.0 z.1) (λ i. (sym e i, sym t i)) tt }
 
-  ends_more : (hs : List (PromisedHandle (LaneEnd W) (LanePromise W))) (es : List (LaneEnd W)) (h : PromisedHandle (LaneEnd W) (LanePromise W)) (e : LaneEnd W) → EndAsPromised describes fits hs es → KeepsCourse describes fits h.promise.config.value h.promise.take.value h.promise.wire.value e → EndAsPromised describes fits (hs ++ h ∷ []) (es ++ e ∷ [])
+  ends_more : (hs : List (LaneHandle W T)) (es : List (LaneEnd W)) (h : LaneHandle W T) (e : LaneEnd W) → EndAsPromised describes fits hs es → KeepsCourse describes fits h.promise.config.value h.promise.take.value h.promise.wire.value e → EndAsPromised describes fits (hs ++ h ∷ []) (es ++ e ∷ [])
   ends_more [] [] h e a k = (k, tt)
   ends_more [] (x ∷ es) h e a k = absurd a
   ends_more (x ∷ hs) [] h e a k = absurd a
   ends_more (x ∷ hs) (y ∷ es) h e a k = (a.0, ends_more hs es h e a.1 k)
 
-  pub joins_on : (lanes left left' : List (PromisedHandle (LaneEnd W) (LanePromise W))) (ends : List (LaneEnd W)) (h : PromisedHandle (LaneEnd W) (LanePromise W)) (e : LaneEnd W) → JoinsOn lanes left ends → left ≡ h ∷ left'
-      → KeepsCourse describes fits h.promise.config.value h.promise.take.value h.promise.wire.value e → JoinsOn lanes left' (ends ++ e ∷ [])
-  joins_on lanes left left' ends h e j is k = record {
+  told_more : (hs : List (LaneHandle W T)) (es : List (LaneEnd W)) (ts : List T) (h : LaneHandle W T) (e : LaneEnd W) (t : T) → ToldAsPromised told hs es ts → KeepsTold told h.promise.tell.value t e → ToldAsPromised told (hs ++ h ∷ []) (es ++ e ∷ []) (ts ++ t ∷ [])
+  told_more [] [] [] h e t a k = (k, tt)
+  told_more [] [] (y ∷ ts) h e t a k = absurd a
+  told_more [] (x ∷ es) ts h e t a k = absurd a
+  told_more (x ∷ hs) [] ts h e t a k = absurd a
+  told_more (x ∷ hs) (y ∷ es) [] h e t a k = absurd a
+  told_more (x ∷ hs) (y ∷ es) (z ∷ ts) h e t a k = (a.0, told_more hs es ts h e t a.1 k)
+
+  pub joins_on : (lanes left left' : List (LaneHandle W T)) (ends : List (LaneEnd W)) (tells : List T) (h : LaneHandle W T) (e : LaneEnd W) (t : T) → JoinsOn lanes left ends tells → left ≡ h ∷ left'
+      → KeepsCourse describes fits h.promise.config.value h.promise.take.value h.promise.wire.value e → KeepsTold told h.promise.tell.value t e → JoinsOn lanes left' (ends ++ e ∷ []) (tells ++ t ∷ [])
+  joins_on lanes left left' ends tells h e t j is k l = record {
     joined = j.joined ++ h ∷ [];
     all = j.all ∙ ap (λ l. j.joined ++ l) is ∙ sym (append_assoc j.joined (h ∷ []) left');
     ended = ends_more j.joined ends h e j.ended k;
+    has_told = told_more j.joined ends tells h e t j.has_told l;
   }
 
-  pub joins_all : (lanes left : List (PromisedHandle (LaneEnd W) (LanePromise W))) (ends : List (LaneEnd W)) → JoinsOn lanes left ends → left ≡ [] → EndAsPromised describes fits lanes ends
-  joins_all lanes left ends j none = subst (λ l. EndAsPromised describes fits l ends) (sym (j.all ∙ ap (λ l. j.joined ++ l) none ∙ append-nil j.joined)) j.ended
+  joined_all : (lanes left : List (LaneHandle W T)) (ends : List (LaneEnd W)) (tells : List T) → (j : JoinsOn lanes left ends tells) → left ≡ [] → j.joined ≡ lanes
+  joined_all lanes left ends tells j none = sym (j.all ∙ ap (λ l. j.joined ++ l) none ∙ append-nil j.joined)
+
+  pub joins_all : (lanes left : List (LaneHandle W T)) (ends : List (LaneEnd W)) (tells : List T) → JoinsOn lanes left ends tells → left ≡ [] → EndAsPromised describes fits lanes ends
+  joins_all lanes left ends tells j none = subst (λ l. EndAsPromised describes fits l ends) (joined_all lanes left ends tells j none) j.ended
+
+  pub joins_told : (lanes left : List (LaneHandle W T)) (ends : List (LaneEnd W)) (tells : List T) → JoinsOn lanes left ends tells → left ≡ [] → ToldAsPromised told lanes ends tells
+  joins_told lanes left ends tells j none = subst (λ l. ToldAsPromised told l ends tells) (joined_all lanes left ends tells j none) j.has_told

@@ -1,26 +1,27 @@
 -- The course of a lane continues while it works and takes.
-use Rattle.std.proofs.Common.{◌≡◌, ◌≢◌, ◌+◌, ◌<◌, List, [], ◌∷◌, ◌++◌, Bool, Result, Ok, Err, OnOk, OnErr, refl, sym, ap, ◌∙◌, subst, arith, length, length-append}
+use Rattle.std.proofs.Common.{◌≡◌, ◌≢◌, ◌+◌, ◌<◌, List, [], ◌∷◌, ◌++◌, Bool, Result, Ok, Err, OnOk, OnErr, refl, sym, ap, ◌∙◌, subst, ⊎_elim, arith, length, length-append}
 use Rattle.std.proofs.lemmas.List.{length-replicate}
 use Rattle.relay_action.specs.declared.mail.Mail.{Mail}
+use Rattle.relay_action.specs.declared.mail.Body.TheVariants as body
 use Rattle.relay_results.specs.Outside.{Outside}
 use Rattle.relay_results.proofs.Steps.{continues_itself, continues_on}
 use Rattle.relay_core.specs.declared.config.RelayConfig.{RelayConfig}
-use Rattle.relay_core.specs.State.{State, fresh, after_flush, after_take}
+use Rattle.relay_core.specs.State.{State, fresh, after_flush, after_take, without_successes}
 use Rattle.relay_core.specs.Ties.{Fits, ops_of}
 use Rattle.relay_core.proofs.Tying.{fresh_fits, take_fits}
-use Rattle.relay_lane.specs.Turns.{Turn, Worked, Stays}
+use Rattle.relay_lane.specs.Turns.{Turn, Worked, Stays, Ticked, after_ticks}
 use Rattle.relay_lane.specs.Delivers.{Delivers}
 use Rattle.relay_lane.specs.Reach.{IsReached}
 use Rattle.relay_lane.specs.Out.{out_of}
 use Rattle.relay_lane.proofs.Out.{take_keeps_out}
-use Rattle.relay_lane.proofs.Carrying.{goes_on}
-use Rattle.relay_lane.proofs.Reaching.{fresh_is_reached, take_is_reached, work_is_reached}
+use Rattle.relay_lane.proofs.Carrying.{goes_on, ticks_fit}
+use Rattle.relay_lane.proofs.Reaching.{fresh_is_reached, take_is_reached, work_is_reached, ticks_reached}
 use Rattle.relay_threads.specs.Course.{puts_of, KnowsClosed, KnowsOpen, DeliversFrom, Course}
 use Rattle.relay_threads.specs.Steps.{Takes, KeepsOn}
 use Rattle.relay_threads.specs.declared.run.Message.{Message}
 use Rattle.relay_threads.specs.declared.run.Message.TheVariants.{Mark, Other, Nothing}
 use Rattle.relay_threads.proofs.Totals.{worked_totals, take_totals, take_counts}
-use Rattle.relay_threads.proofs.Hearing.{puts_push, knows_take, open_take, none_known, take_senders, take_config}
+use Rattle.relay_threads.proofs.Hearing.{puts_push, puts_tick, knows_more, knows_take, open_stays, open_take, not_done, none_known, take_senders, take_config}
 
 module _ {S : Type 0} (d : Bool) (fits : S → Outside → Type 0) where
   -- ---- at the start
@@ -108,14 +109,71 @@ module _ {S : Type 0} (d : Bool) (fits : S → Outside → Type 0) where
         delivers = heard_more start w s c heard m k.delivers;
       }
 
+  -- a tick that only woke it
+  wakes : (start w : S) (s : State) (c : RelayConfig) (heard : List Mail) (m : Mail) → m.body ≡ body.Tick → Course d fits start w c heard s → Course d fits start w c (heard ++ m ∷ []) s
+  wakes start w s c heard m tick k =
+      let same = puts_tick heard m tick in
+      record {
+        config = k.config;
+        taken = k.taken ∙ ap length (sym same);
+        senders = k.senders;
+        closed = knows_more s.closed heard m k.closed;
+        not_closed = open_stays s.closed heard m (not_done m body.Tick tick (λ e. cc)) k.not_closed;
+        totals = k.totals;
+        reached = subst (IsReached s) (sym same) k.reached;
+        delivers = λ is o f opening below.
+            let x = k.delivers is o f opening below in
+            goes_on fits w s (puts_of (heard ++ m ∷ [])) o x.outside x.fitting x.continues (subst (λ l. Fits s l x.outside) (sym same) x.lane);
+      }
+
   pub takes : (w : S) (s t : State) (old new : List Mail) → Takes s t old new → KeepsOn d fits w w s t old new
-  takes w s t old new x start c k = subst (λ (z : List Mail × State). Course d fits start w c z.0 z.1) (λ i. (sym x.taken i, sym x.reached i)) (hears start w s c old x.mail x.sender k)
+  takes w s t old new x start c k =
+      ⊎_elim {C = Course d fits start w c new t}
+      (λ (e : t ≡ after_take s x.mail.sender x.mail.body). subst (λ (z : List Mail × State). Course d fits start w c z.0 z.1) (λ i. (sym x.taken i, sym e i)) (hears start w s c old x.mail x.sender k))
+      (λ (e : (x.mail.body ≡ body.Tick) × (t ≡ s)). subst (λ (z : List Mail × State). Course d fits start w c z.0 z.1) (λ i. (sym x.taken i, sym e.1 i)) (wakes start w s c old x.mail e.0 k))
+      x.reached
+
+  -- ticks pass
+  pub ticks_keep : (w : S) (s t : State) (heard : List Mail) → Ticked s t → KeepsOn d fits w w s t heard heard
+  ticks_keep w s t heard x start c k = subst (λ z. Course d fits start w c heard z) (sym x.reached) (record {
+    config = k.config;
+    taken = k.taken;
+    senders = k.senders;
+    closed = k.closed;
+    not_closed = k.not_closed;
+    totals = k.totals;
+    reached = ticks_reached x.ticks s (puts_of heard) k.reached;
+    delivers = λ is o f opening below.
+        let g = k.delivers is o f opening below in
+        goes_on fits w (after_ticks x.ticks s) (puts_of heard) o g.outside g.fitting g.continues (ticks_fit x.ticks s (puts_of heard) g.outside g.lane);
+  })
 
   -- a message was taken, or none was there
   pub takes_some : (w : S) (s t : State) (old new : List Mail) (m : Message) → (m ≢ Nothing → Takes s t old new) → (m ≡ Nothing → (t ≡ s) × (new ≡ old)) → KeepsOn d fits w w s t old new
   takes_some w s t old new Mark some none = takes w s t old new (some (λ e. absurd (cc)))
   takes_some w s t old new Other some none = takes w s t old new (some (λ e. absurd (cc)))
   takes_some w s t old new Nothing some none = λ start c k. subst (λ (z : List Mail × State). Course d fits start w c z.0 z.1) (λ i. (sym (none refl).1 i, sym (none refl).0 i)) k
+
+  -- what is forgotten is no part of the course
+  pub forgets : (w : S) (s t : State) (heard : List Mail) → t ≡ without_successes s → KeepsOn d fits w w s t heard heard
+  forgets w s t heard e start c k = subst (λ z. Course d fits start w c heard z) (sym e) (record {
+    config = k.config;
+    taken = k.taken;
+    senders = k.senders;
+    closed = k.closed;
+    not_closed = k.not_closed;
+    totals = k.totals;
+    reached = record { core = k.reached.core; next = k.reached.next };
+    delivers = λ y o f p b.
+        let g = k.delivers y o f p b in
+        record {
+          outside = g.outside;
+          fitting = g.fitting;
+          continues = g.continues;
+          lane = g.lane;
+          delivered = record { sound = g.delivered.sound; complete = g.delivered.complete; applied = g.delivered.applied; already = g.delivered.already };
+        };
+  })
 
 -- one after another
 pub keeps_on : {S : Type 0} (d e : Bool) (fits : S → Outside → Type 0) (u v w : S) (r s t : State) (a b c : List Mail) → e ≡ d → KeepsOn d fits u v r s a b → KeepsOn e fits v w s t b c → KeepsOn d fits u w r t a c

@@ -12,3 +12,4 @@ pub mod Finishing
 pub mod Delivering
 pub mod Together
 mod Results
+pub mod ToldOnce

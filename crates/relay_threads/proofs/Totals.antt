@@ -16,7 +16,7 @@ use Rattle.relay_delivery.proofs.Fates.{totals-settled}
 use Rattle.std.proofs.lemmas.List.{length-map}
 use Rattle.relay_core.specs.State.{State, after_take, after_request, next_batch, next_entries, after_answer_to, oldest, bytes_of}
 use Rattle.relay_core.specs.Ties.{ops_of}
-use Rattle.relay_lane.specs.Turns.{Turn, Sends, Fails, Settles, Pauses, after_send, after_turn, after_turns, Worked}
+use Rattle.relay_lane.specs.Turns.{Turn, Sends, Fails, Settles, Pauses, after_send, after_ticks, after_turn, after_turns, Worked}
 use Rattle.relay_threads.specs.Course.{HasTotals}
 
 -- ---- requests and answers
@@ -62,9 +62,9 @@ answered_totals s number a t = settled_totals s.core (from_zero number) (writes_
 -- ---- turns
 
 turn_totals : (t : Turn) (s : State) → HasTotals s → HasTotals (after_turn t s)
-turn_totals Sends s h = asked_totals s (next_batch s) h
-turn_totals Fails s h = answered_totals (after_send s) s.flights.next Lost (asked_totals s (next_batch s) h)
-turn_totals (Settles a) s h = answered_totals s (unwrap_or (oldest s) 0) a h
+turn_totals (Sends n) s h = asked_totals s (next_batch s) h
+turn_totals (Fails n) s h = answered_totals (after_ticks n (after_send s)) s.flights.next Lost (asked_totals s (next_batch s) h)
+turn_totals (Settles n a) s h = answered_totals (after_ticks n s) (unwrap_or (oldest s) 0) a h
 turn_totals (Pauses n) s h = h
 
 turns_totals : (ts : List Turn) (s : State) → HasTotals s → HasTotals (after_turns ts s)

@@ -9,7 +9,7 @@ use Rattle.relay_producer.specs.Puts.{ops_for, HasPut}
 use Rattle.relay_producer.specs.States.{ClosedProducerState}
 use Rattle.relay_threads.specs.declared.summary.LaneSummary.{LaneSummary}
 use Rattle.relay_threads.specs.Course.{IsBelow}
-use Rattle.relay_threads.specs.Ending.{CameTo, Carries}
+use Rattle.relay_threads.specs.Ending.{CameTo, IsExplained, IsExplainedIfStated, Carries}
 use Rattle.relay_delivery.specs.Machine.{first_in}
 
 -- the producers numbered p, p + 1 and so on put exactly these operations
@@ -19,8 +19,11 @@ HavePut puts p (c ∷ cs) = HasPut p c.put (closed_puts c.ends) (puts p) × Have
 
 module _ {W : Type 0} (describes : W → Bool) (fits : W → Outside → Type 0) (c : RelayConfig) (puts : ℕ → List Op) where
   -- What a lane has delivered: exactly the operations on its documents that the producers put, each producer's in
-  -- order. Each of them was applied or is reported, and the lane reached that by calls that it may make. Each opening
-  -- that fitted the wire at the start is continued to the end by an outside for which delivery is sound and complete.
+  -- order. Each of them was applied or is reported, and the lane reached that by calls that it may make. For each
+  -- outside that explains these calls, delivery is sound and complete, whatever wire carried them, if the versions that
+  -- were stored at the start are below those of the lane, or if the outside states the stored version in each conflict and
+  -- none of them is one that the lane assigns. Each opening that fitted the wire at the start is continued to the end by an
+  -- outside for which delivery is sound and complete.
   pub record DeliveredLane (lane : ℕ) (start : W) (s : LaneSummary W) : Type 0 where
     pub taken : List Op
     pub own : (p : ℕ) → p < c.producers → taken_of taken p ≡ ops_for c.lanes lane (puts p)
@@ -28,6 +31,8 @@ module _ {W : Type 0} (describes : W → Bool) (fits : W → Outside → Type 0)
     pub count : s.taken ≡ length taken
     pub totals : s.applied + s.already + length s.reports.items ≡ s.taken
     pub reached : CameTo describes fits c taken s
+    pub explained : IsExplained describes fits c taken s reached
+    pub explained_if_stated : IsExplainedIfStated describes fits c taken s reached
     pub delivers : IsTrue (describes start) → (o : Outside) → fits start o → IsOpening o → IsBelow (first_in c.epoch) o → Carries describes fits c taken s o
 
   -- this holds for the lanes from this one on, each with its wire

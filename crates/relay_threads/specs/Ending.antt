@@ -5,6 +5,8 @@ use Rattle.relay_action.specs.declared.mail.Mail.{Mail}
 use Rattle.relay_results.specs.Outside.{Outside, IsOpening, Continues}
 use Rattle.relay_delivery.specs.Counts.{applied_answers, settled_already}
 use Rattle.relay_delivery.specs.Delivery.{HasDistinctNames, IsSound, IsComplete, applied_ops}
+use Rattle.relay_delivery.specs.Explained.{Explains}
+use Rattle.relay_delivery.specs.Stating.{BeginsBeside, StatesVersions}
 use Rattle.relay_delivery.specs.Lane as delivery
 use Rattle.relay_delivery.specs.Reach.{Reached}
 use Rattle.relay_queue.specs.Ends.{Queue}
@@ -64,6 +66,11 @@ module _ {W : Type 0} (describes : W → Bool) (fits : W → Outside → Type 0)
     pub sound : IsSound (config_of c) ops (map report_of s.reports.items) outside (applied_ops (config_of c) ops outside)
     pub complete : IsComplete ops (map report_of s.reports.items) (applied_ops (config_of c) ops outside)
 
+  -- For this outside delivery of these operations is sound and complete.
+  pub record IsDeliveredFor (ops : List Op) (s : LaneSummary W) (p : Outside) : Type 0 where
+    pub sound : IsSound (config_of c) ops (map report_of s.reports.items) p (applied_ops (config_of c) ops p)
+    pub complete : IsComplete ops (map report_of s.reports.items) (applied_ops (config_of c) ops p)
+
   -- The lane reached this summary by calls that it may make, which took these operations, whatever its wire returned:
   -- nothing is held, and the counts and the reports are those to which the calls led.
   pub record CameTo (ops : List Op) (s : LaneSummary W) : Type 0 where
@@ -77,9 +84,21 @@ module _ {W : Type 0} (describes : W → Bool) (fits : W → Outside → Type 0)
     pub requests : s.requests ≡ state.requests
     pub reports : map report_of s.reports.items ≡ state.reports
 
+  -- For each outside that explains, from an opening on, the calls by which the lane reached its summary, delivery is
+  -- sound and complete, whatever wire carried its requests and their answers.
+  abbrev pub IsExplained : (ops : List Op) (s : LaneSummary W) → CameTo ops s → Type 0
+  IsExplained ops s came = (o p : Outside) → IsOpening o → IsBelow (first_in c.epoch) o → Explains came.reached.calls o p → IsDeliveredFor ops s p
+
+  -- The same for an outside that states the stored version in each conflict. Then the versions that it has stored at the
+  -- start may be any but those that the lane assigns, and need not be below them.
+  abbrev pub IsExplainedIfStated : (ops : List Op) (s : LaneSummary W) → CameTo ops s → Type 0
+  IsExplainedIfStated ops s came = (o p : Outside) → BeginsBeside (config_of c) o → Explains came.reached.calls o p → StatesVersions p → IsDeliveredFor ops s p
+
   -- A lane that has finished took from its queue exactly what each sender sent there, each of which has closed and
   -- has not marked the lane. Each operation that it took was applied or is reported, and it reached that by calls
-  -- that it may make. Each opening that fitted the wire at the start is continued to the end by an outside.
+  -- that it may make. Each outside that explains these calls is one for which delivery is sound and complete, if its
+  -- stored versions were below those of the lane, or if it states them in conflicts. Each opening that fitted the wire at
+  -- the start is continued to the end by an outside.
   pub record FinishedLane (rows : List (List ClosedEnd)) (lane : ℕ) (start : W) (s : LaneSummary W) : Type 0 where
     pub messages : List Mail
     pub met : AreMetAt lane 0 messages rows
@@ -87,6 +106,8 @@ module _ {W : Type 0} (describes : W → Bool) (fits : W → Outside → Type 0)
     pub taken : s.taken ≡ length (puts_of messages)
     pub totals : s.applied + s.already + length s.reports.items ≡ s.taken
     pub reached : CameTo (puts_of messages) s
+    pub explained : HasDistinctNames (puts_of messages) → IsExplained (puts_of messages) s reached
+    pub explained_if_stated : HasDistinctNames (puts_of messages) → IsExplainedIfStated (puts_of messages) s reached
     pub delivers : HasDistinctNames (puts_of messages) → IsTrue (describes start) → (o : Outside) → fits start o → IsOpening o → IsBelow (first_in c.epoch) o → Carries (puts_of messages) s o
 
   -- this holds for the lanes from this one on, each with its wire

@@ -9,3 +9,5 @@ pub mod Relay
 pub mod Rows
 pub mod Sums
 pub mod Together
+pub mod Told
+pub mod ToldAll

@@ -1,5 +1,5 @@
 -- What a lane's thread promises of its end.
-use Rattle.std.specs.Prelude.{◌≡◌, ◌<◌, ℕ, Bool}
+use Rattle.std.specs.Prelude.{◌≡◌, ◌<◌, ℕ, Bool, Option}
 use Rattle.relay_results.specs.Outside.{Outside}
 use Rattle.relay_queue.specs.Ends.{TakerEnd}
 use Rattle.relay_queue.specs.Messages.{mail_of, HasDone, IsWellTaken}
@@ -7,6 +7,7 @@ use Rattle.relay_core.specs.declared.config.RelayConfig.{RelayConfig}
 use Rattle.relay_threads.specs.declared.lane_end.LaneEnd.{LaneEnd}
 use Rattle.relay_threads.specs.declared.lane_end.LaneEndKind.TheVariants.{Finished}
 use Rattle.relay_threads.specs.Course.{EndsAs}
+use Rattle.relay_threads.specs.Told.{Told, EndsTold}
 
 -- a lane of this config, with this end of a queue and this wire, has ended as `run_lane` says
 pub record KeepsCourse {W : Type 0} (describes : W → Bool) (fits : W → Outside → Type 0) (c : RelayConfig) (take : TakerEnd) (start : W) (end : LaneEnd W) : Type 0 where
@@ -15,3 +16,7 @@ pub record KeepsCourse {W : Type 0} (describes : W → Bool) (fits : W → Outsi
   pub well_taken : IsWellTaken end.taken.senders end.taken.taken
   pub ends : EndsAs (describes start) fits start end.wire c end.taken.taken end.kind end.lane.state
   pub closed : end.kind ≡ Finished → (sender : ℕ) → sender < take.senders → HasDone (mail_of sender end.taken.taken)
+
+-- a lane that told by this at the start has ended as `run_lane` says of what it told
+abbrev pub KeepsTold : {W T : Type 0} → (T → ℕ → Option Told) → T → T → LaneEnd W → Type 0
+KeepsTold told first last end = EndsTold (told first) (told last) end.kind end.taken.taken end.lane.state

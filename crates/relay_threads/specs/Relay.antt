@@ -6,11 +6,12 @@ use Rattle.relay_producer.specs.declared.ends.ClosedEnd.{ClosedEnd}
 use Rattle.relay_producer.specs.Ends.{open_end, closed_puts, identities}
 use Rattle.relay_producer.specs.States.{ProducerState, ControlState, ClosedProducerState, ClosedControlState}
 
--- its config, its lanes' queues, and their wires as they were at the start, by lane
-pub record RelayState (W : Type 0) : Type 0 where
+-- its config, its lanes' queues, and, as they were at the start, their wires and what they tell by, by lane
+pub record RelayState (W T : Type 0) : Type 0 where
   pub config : RelayConfig
   pub queues : List Queue
   pub wires : List W
+  pub tells : List T
 
 -- ---- the start
 

@@ -12,6 +12,7 @@ ghost use Rattle.relay_threads.specs.Ending.{AllFinished, HasFault};
 ghost use Rattle.relay_threads.specs.Relay.{AreRows, rows_of};
 ghost use Rattle.relay_threads.specs.Sums.{IsClosedOn, AreClosedOn, IsMet, AreMet, AreDone};
 ghost use Rattle.relay_threads.specs.Sums.{NoneGone, queues_of_ends, SumsUp, AllSumUp};
+ghost use Rattle.relay_threads.specs.ToldAll.{AllTold};
 ghost use Rattle.relay_threads.specs.Together.{AreDeliveredTogether};
 
 use crate::fault::{FinishFault, FinishFaultKind};
@@ -19,6 +20,7 @@ use crate::lane_end::{LaneEnd, LaneEndKind};
 use crate::relay::Relay;
 use crate::rows::pop_each;
 use crate::summary::{LaneSummary, Summary};
+use crate::tell::Tell;
 use crate::thread::join_all;
 use relay_lane::Wire;
 use relay_producer::{ClosedControl, ClosedEnd, ClosedProducer};
@@ -160,7 +162,7 @@ fn meet_one(taken: Taken, end: ClosedEnd, sender: u32) -> Taken
 
 // Compares what was taken with what each sender sent.
 fn meet_all(taken: Taken, column: Vec<ClosedEnd>)
-    requires few { vec_len column ≤ 17 }
+    requires few { vec_len column ≤ 257 }
     requires column { AreClosedOn taken.queue 0 column.items }
     requires done { (sender : ℕ) → sender < vec_len column → HasDone (mail_of sender taken.taken) }
     ensures { AreMet 0 taken.taken column.items }
@@ -177,7 +179,7 @@ fn meet_all(taken: Taken, column: Vec<ClosedEnd>)
 
 // The summary of a lane in which each sender has closed.
 fn sum_up<W: Drop>(end: LaneEnd<W>, column: Vec<ClosedEnd>) -> LaneSummary<W>
-    requires few { vec_len column ≤ 17 }
+    requires few { vec_len column ≤ 257 }
     requires column { AreClosedOn end.taken.queue 0 column.items }
     requires done { (sender : ℕ) → sender < vec_len column
         → HasDone (mail_of sender end.taken.taken) }
@@ -208,7 +210,7 @@ fn sum_up_all<W: Drop>(
     ends: Vec<LaneEnd<W>>,
     rows: Vec<Vec<ClosedEnd>>,
 ) -> Result<Vec<LaneSummary<W>>, AllocError>
-    requires few { vec_len rows ≤ 17 }
+    requires few { vec_len rows ≤ 257 }
     requires rows { AreRows (queues_of_ends ends.items) 0 (map (λ r. r.items) rows.items) }
     requires none_gone { NoneGone (map (λ r. r.items) rows.items) }
     requires done { AreDone (vec_len rows) ends.items }
@@ -224,7 +226,7 @@ fn sum_up_all<W: Drop>(
     Ok(all)
 }
 
-impl<W: Wire + Drop + Send + 'static> Relay<W> {
+impl<W: Wire + Drop + Send + 'static, T: Tell + Drop + Send + 'static> Relay<W, T> {
     /// Waits until every lane has ended, and returns what each has done. Each handle that `start`
     /// returned must be closed and passed here: the producers in order, and the control.
     ///
@@ -253,14 +255,46 @@ impl<W: Wire + Drop + Send + 'static> Relay<W> {
         ensures fault { IfErr result (λ e. HasFault W.describes W.fits self.config
             self.queues self.wires (rows_of producers.items control) e) }
     {
+        let (summary, _) = self.finish_telling(rt, producers, control)?;
+        Ok(summary)
+    }
+
+    /// The same as [`Relay::finish`]; it also returns what each lane told by, after its last call.
+    ///
+    /// After `Ok` each lane has told of each operation that it took once: as applied, or by its
+    /// report in the summary. An operation that it told of as applied has the version assigned for
+    /// its place, and beside each outside that explains the lane's calls, the index has applied the
+    /// write with that version.
+    pub fn finish_telling<R: Threads>(
+        self,
+        rt: &R,
+        producers: Vec<ClosedProducer>,
+        control: ClosedControl,
+    ) -> Result<(Summary<W>, Vec<T>), FinishFault>
+        requires count { vec_len producers ≡ self.config.producers }
+        requires rows { AreRows self.queues 0 (rows_of producers.items control) }
+        ensures finished { IfOk result (λ r. AllFinished W.describes W.fits self.config
+            (rows_of producers.items control) 0 self.wires r.0.lanes.items) }
+        ensures delivered { IfOk result (λ r. (puts : ℕ → List Op)
+            → HavePut puts 0 producers.items
+            → AllDelivered W.describes W.fits self.config puts 0 self.wires r.0.lanes.items) }
+        ensures together { IfOk result (λ r. (puts : ℕ → List Op)
+            → HavePut puts 0 producers.items
+            → AreDeliveredTogether W.describes W.fits self.config puts self.wires r.0.lanes.items) }
+        ensures told { IfOk result (λ r. AllTold W.describes W.fits T.told self.config
+            (rows_of producers.items control) 0 self.tells r.1.items r.0.lanes.items) }
+        ensures fault { IfErr result (λ e. HasFault W.describes W.fits self.config
+            self.queues self.wires (rows_of producers.items control) e) }
+    {
         let Relay {
             alloc,
             config: _,
             lanes,
             ends,
+            tells,
             rows,
         } = self;
-        let ends = join_all(rt, lanes, ends);
+        let (ends, tells) = join_all(rt, lanes, ends, tells);
         let rows = give_back(rows, producers, control);
         if let Some(fault) = fault_of(&ends, &rows) {
             return Err(fault);
@@ -269,6 +303,6 @@ impl<W: Wire + Drop + Send + 'static> Relay<W> {
             kind: FinishFaultKind::Memory,
             lane: 0,
         })?;
-        Ok(Summary { lanes })
+        Ok((Summary { lanes }, tells))
     }
 }

@@ -10,8 +10,8 @@ use std::alloc::AllocError;
 pub enum LaneEndKind {
     /// Each sender's Done was taken, and nothing is held.
     Finished,
-    /// An allocation failed, for a request or for an operation that was taken, which the lane then
-    /// does not hold. What the lane holds is neither sent nor reported.
+    /// An allocation failed: for a request, for an operation that was taken, which the lane then
+    /// does not hold, or for telling of a report. What the lane holds is neither sent nor reported.
     Memory,
     /// The ends of all senders were dropped, and not all of them had closed. No contract says when.
     Gone,

@@ -17,6 +17,8 @@ mod rows;
 pub mod run;
 pub mod start;
 pub mod summary;
+pub mod tell;
+pub mod telling;
 pub mod thread;
 
 pub use fault::{FinishFault, FinishFaultKind, StartFault};
@@ -25,3 +27,4 @@ pub use lane_end::{LaneEnd, LaneEndKind};
 pub use relay::Relay;
 pub use run::run_lane;
 pub use summary::{LaneSummary, Summary};
+pub use tell::{Tell, TellNobody};

@@ -1,21 +1,24 @@
 //! A lane's thread: it takes messages and works until each sender has closed.
-ghost use Rattle.std.specs.Prelude.{◌≡◌, ◌≢◌, ◌+◌, ◌<◌, [], ◌++◌, ◌∷◌};
+ghost use Rattle.std.specs.Prelude.{◌≡◌, ◌≢◌, ◌+◌, ◌<◌, ◌≤◌, [], ◌++◌, ◌∷◌};
 ghost use Rattle.std.specs.Prelude.{ℕ, List, true, false, length, IfOk};
 ghost use Rattle.std.specs.Prelude.{OnOk, OnErr, IfErr, IfSome, IfNone};
 ghost use Rattle.relay_action.specs.declared.mail.Mail.{Mail};
 ghost use Rattle.relay_queue.specs.Messages.{mail_of, HasDone, IsWellTaken};
-ghost use Rattle.relay_core.specs.State.{fresh, all_closed};
+ghost use Rattle.relay_core.specs.State.{fresh, all_closed, without_successes};
 ghost use Rattle.relay_lane.specs.Out.{out_of};
 ghost use Rattle.relay_threads.specs.Course.{KnowsClosed, HasHeard, Course, EndsAs};
 ghost use Rattle.relay_threads.specs.Steps.{Takes, KeepsOn};
+ghost use Rattle.relay_threads.specs.Told.{HasTold, GoesOnTelling, StaysTold, EndsTold};
 
 use crate::lane_end::{LaneEnd, LaneEndKind};
+use crate::tell::Tell;
 use relay_action::{Body, Mail};
 use relay_lane::{
-    Lane, Pace, TakeFault, Wire, collect, drain, make_room, pump, send_ready, settle_next,
+    Lane, Pace, TakeFault, Wire, collect, drain, make_room, pass, send_ready, settle_next,
 };
 use relay_queue::{Gone, LaneTake};
 use std::alloc::AllocError;
+use std::hint;
 use std::sync::Wait;
 
 // Sends and settles until there is room for one operation, if the lane holds its maximum number.
@@ -32,6 +35,7 @@ fn make_place<W: Wire, P: Pace>(
     ensures keeps { (heard : List Mail)
         → KeepsOn (W.describes wire.old) W.fits wire.old wire.new lane.old.state lane.new.state
         heard heard }
+    ensures told { StaysTold lane.old.state lane.new.state }
 {
     if lane.held() < lane.max_held() {
         return Ok(());
@@ -46,12 +50,26 @@ enum Message {
     Mark,
     // An operation or a Done.
     Other,
-    // Nothing is queued, and no place in flight is free.
+    // Nothing is queued, and no place in flight is free, or something has arrived for the oldest
+    // request in flight.
     Nothing,
 }
 
-// The next message. If no place in flight is free it does not wait: `None` if nothing is queued.
-fn next_mail<R: Wait>(rt: &R, take: &mut LaneTake, is_full: bool) -> Result<Option<Mail>, Gone>
+// The number of looks at the queue before a lane rests between them, and the spins between two of
+// them. Together they take some microseconds: as long as a producer that is at work needs for its
+// next operation, and short compared with an answer.
+const LOOKS: u32 = 8;
+
+const SPINS: u32 = 64;
+
+fn spin() {
+    for _spin in 0..SPINS {
+        hint::spin_loop();
+    }
+}
+
+// The next message, or `None` if none comes within some microseconds.
+fn next_soon<R: Wait>(rt: &R, take: &mut LaneTake) -> Result<Option<Mail>, Gone>
     ensures same { (take.new.queue ≡ take.old.queue) × (take.new.senders ≡ take.old.senders) }
     ensures taken { IfOk result (λ o. IfSome o (λ m. take.new.taken ≡ take.old.taken ++ m ∷ [])) }
     ensures sender { IfOk result (λ o. IfSome o (λ m. m.sender < take.old.senders)) }
@@ -59,18 +77,90 @@ fn next_mail<R: Wait>(rt: &R, take: &mut LaneTake, is_full: bool) -> Result<Opti
     ensures none { IfOk result (λ o. IfNone o (take.new ≡ take.old)) }
     ensures gone { IfErr result (λ _. take.new ≡ take.old) }
 {
-    if is_full {
-        return take.try_take(rt);
+    for _look in 0..LOOKS {
+        if let Some(mail) = take.try_take(rt)? {
+            return Ok(Some(mail));
+        }
+        spin();
     }
-    Ok(Some(take.take(rt)?))
+    take.try_take(rt)
 }
 
-// Takes the next message from the queue into the lane, which has room. If the allocation for it
-// fails, the lane is as before.
-fn take_message<R: Wait>(
+// The next message, or `None` once something has arrived for the oldest request in flight. If no
+// message comes soon, it looks at the queue and at the connection of that request in turns, with a
+// rest of about a millisecond between.
+fn next_unless_answered<R: Wait, W: Wire, P: Pace>(
+    rt: &R,
+    take: &mut LaneTake,
+    wire: &W,
+    pace: &mut P,
+    oldest: u64,
+) -> Result<Option<Mail>, Gone>
+    ensures same { (take.new.queue ≡ take.old.queue) × (take.new.senders ≡ take.old.senders) }
+    ensures taken { IfOk result (λ o. IfSome o (λ m. take.new.taken ≡ take.old.taken ++ m ∷ [])) }
+    ensures sender { IfOk result (λ o. IfSome o (λ m. m.sender < take.old.senders)) }
+    ensures well_taken { IsWellTaken take.new.senders take.new.taken }
+    ensures none { IfOk result (λ o. IfNone o (take.new ≡ take.old)) }
+    ensures gone { IfErr result (λ _. take.new ≡ take.old) }
+{
+    if let Some(mail) = next_soon(rt, take)? {
+        return Ok(Some(mail));
+    }
+    'looks: for _ in rt.forever() {
+        if wire.has_answer(oldest) {
+            return Ok(None);
+        }
+        pace.rest();
+        if let Some(mail) = take.try_take(rt)? {
+            return Ok(Some(mail));
+        }
+    }
+    unreachable!()
+}
+
+// The next message. If there is something else to do it does not wait: `None` if nothing is queued.
+// Otherwise it waits for a message or for the oldest answer, whichever comes first. It is not inlined:
+// in the loop of the lane its messages would be moved more often.
+#[inline(never)]
+fn next_mail<R: Wait, W: Wire, P: Pace>(
+    rt: &R,
+    take: &mut LaneTake,
+    lane: &Lane,
+    wire: &W,
+    pace: &mut P,
+    is_busy: bool,
+) -> Result<Option<Mail>, Gone>
+    ensures same { (take.new.queue ≡ take.old.queue) × (take.new.senders ≡ take.old.senders) }
+    ensures taken { IfOk result (λ o. IfSome o (λ m. take.new.taken ≡ take.old.taken ++ m ∷ [])) }
+    ensures sender { IfOk result (λ o. IfSome o (λ m. m.sender < take.old.senders)) }
+    ensures well_taken { IsWellTaken take.new.senders take.new.taken }
+    ensures none { IfOk result (λ o. IfNone o (take.new ≡ take.old)) }
+    ensures gone { IfErr result (λ _. take.new ≡ take.old) }
+{
+    if is_busy {
+        return take.try_take(rt);
+    }
+    match lane.oldest() {
+        Some(oldest) => next_unless_answered(rt, take, wire, pace, oldest),
+        None => Ok(Some(take.take(rt)?)),
+    }
+}
+
+// Drops a message. It is not inlined: where a message is dropped in place, the compiler moves it field
+// by field instead of as a whole.
+#[inline(never)]
+fn let_go(_mail: Mail) {}
+
+// Takes the next message from the queue into the lane, which has room; with `more` it does not wait
+// for it. A tick only wakes a lane whose pace keeps time. If the allocation for a message fails, the
+// lane is as before.
+fn take_message<R: Wait, W: Wire, P: Pace>(
     rt: &R,
     take: &mut LaneTake,
     lane: &mut Lane,
+    wire: &W,
+    pace: &mut P,
+    more: bool,
 ) -> Result<Message, LaneEndKind>
     requires room { length lane.old.state.core.held < lane.old.state.config.max_held }
     requires senders { length lane.old.state.closed ≡ take.old.senders }
@@ -86,9 +176,13 @@ fn take_message<R: Wait>(
     ensures heard { IfErr result (λ kind. HasHeard kind take.new.taken take.old.taken) }
 {
     let is_full = lane.flying() >= lane.in_flight();
-    let Some(mail) = next_mail(rt, take, is_full)? else {
+    let Some(mail) = next_mail(rt, take, lane, wire, pace, is_full || more)? else {
         return Ok(Message::Nothing);
     };
+    if matches!(&mail.body, Body::Tick) && pace.keeps_time() {
+        let_go(mail);
+        return Ok(Message::Mark);
+    }
     let message = match mail.body {
         Body::Tick | Body::Flush => Message::Mark,
         _ => Message::Other,
@@ -101,49 +195,131 @@ fn take_message<R: Wait>(
     }
 }
 
-// Waits for answers after a message: for all after a Tick or a Flush, once all that is ready is
-// sent; for one if no place in flight is free.
-fn settle_some<W: Wire>(lane: &mut Lane, wire: &mut W, message: Message) -> Result<(), AllocError>
+// Whether the oldest answer is to be waited for after a message: if nothing is queued, or if no place
+// in flight is free for what may be ready then.
+fn awaits_answer(lane: &Lane, message: Message) -> bool {
+    match message {
+        Message::Mark => false,
+        Message::Nothing => true,
+        Message::Other => lane.flying() >= lane.in_flight(),
+    }
+}
+
+// Waits for the oldest answer after a message, if that is to be done, and settles it.
+fn settle_some<W: Wire, P: Pace>(lane: &mut Lane, wire: &mut W, pace: &mut P, message: Message)
     requires out { W.out wire.old ≡ out_of lane.old.state }
     ensures out { W.out wire.new ≡ out_of lane.new.state }
     ensures describes { W.describes wire.new ≡ W.describes wire.old }
     ensures keeps { (heard : List Mail)
         → KeepsOn (W.describes wire.old) W.fits wire.old wire.new lane.old.state lane.new.state
         heard heard }
+    ensures told { StaysTold lane.old.state lane.new.state }
 {
-    match message {
-        Message::Mark => {
-            pump(lane, wire)?;
-            collect(lane, wire);
-        }
-        Message::Nothing => {
-            settle_next(lane, wire);
-        }
-        Message::Other => {
-            if lane.flying() >= lane.in_flight() {
-                settle_next(lane, wire);
-            }
-        }
+    if awaits_answer(lane, message) {
+        settle_next(lane, wire, pace);
     }
+}
+
+// Sends every request that is ready now, while a place in flight is free.
+fn send_due<W: Wire, P: Pace>(lane: &mut Lane, wire: &mut W, pace: &mut P) -> Result<(), AllocError>
+    requires out { W.out wire.old ≡ out_of lane.old.state }
+    ensures out { W.out wire.new ≡ out_of lane.new.state }
+    ensures describes { W.describes wire.new ≡ W.describes wire.old }
+    ensures keeps { (heard : List Mail)
+        → KeepsOn (W.describes wire.old) W.fits wire.old wire.new lane.old.state lane.new.state
+        heard heard }
+    ensures told { StaysTold lane.old.state lane.new.state }
+{
+    pass(lane, pace);
+    send_ready(lane, wire, pace)?;
     Ok(())
 }
 
 // Settles what is to be settled after a message, and sends what is ready then. While the next
-// request is still being gathered there is nothing to do after an operation.
-fn go_on<W: Wire>(lane: &mut Lane, wire: &mut W, message: Message) -> Result<(), AllocError>
+// request is still being gathered there is nothing to do after an operation; and what was queued
+// while an answer was waited for is taken before more is sent.
+fn go_on<W: Wire, P: Pace>(
+    lane: &mut Lane,
+    wire: &mut W,
+    pace: &mut P,
+    message: Message,
+) -> Result<(), AllocError>
     requires out { W.out wire.old ≡ out_of lane.old.state }
     ensures out { W.out wire.new ≡ out_of lane.new.state }
     ensures describes { W.describes wire.new ≡ W.describes wire.old }
     ensures keeps { (heard : List Mail)
         → KeepsOn (W.describes wire.old) W.fits wire.old wire.new lane.old.state lane.new.state
         heard heard }
+    ensures told { StaysTold lane.old.state lane.new.state }
 {
     if matches!(message, Message::Other) && lane.is_gathering() {
         return Ok(());
     }
-    settle_some(lane, wire, message)?;
-    send_ready(lane, wire)?;
+    settle_some(lane, wire, pace, message);
+    if matches!(message, Message::Nothing) {
+        return Ok(());
+    }
+    send_due(lane, wire, pace)
+}
+
+// Tells of the reports since the last call, one after another; `told` were told of before it, and
+// as many as it says then were after it.
+fn tell_reports<R: Wait, T: Tell>(
+    rt: &R,
+    lane: &Lane,
+    tell: &mut T,
+    told: &mut usize,
+) -> Result<(), AllocError>
+    ensures told { (heard : List Mail) → GoesOnTelling (T.told tell.old) (T.told tell.new)
+        told.old told.new lane.now.state lane.now.state heard heard }
+    ensures all { OnOk result (length lane.now.state.core.reports ≤ told.new) }
+{
+    let reports = lane.reports();
+    while *told < reports.len() {
+        tell.reported(rt, &reports[*told])?;
+        *told += 1;
+    }
     Ok(())
+}
+
+// Tells how operations ended since the last call: first of those that ended as applied.
+fn tell_all<R: Wait, T: Tell>(
+    rt: &R,
+    lane: &mut Lane,
+    tell: &mut T,
+    told: &mut usize,
+) -> Result<(), AllocError>
+    ensures state { lane.new.state ≡ without_successes lane.old.state }
+    ensures told { (heard : List Mail) → GoesOnTelling (T.told tell.old) (T.told tell.new)
+        told.old told.new lane.old.state lane.new.state heard heard }
+    ensures all { OnOk result (length lane.new.state.core.reports ≤ told.new) }
+{
+    tell.applied(rt, lane.successes());
+    lane.forget_successes();
+    tell_reports(rt, lane, tell, told)
+}
+
+// Settles and sends what is to be settled and sent after a message, and tells what has ended.
+fn go_on_and_tell<R: Wait, W: Wire, P: Pace, T: Tell>(
+    rt: &R,
+    lane: &mut Lane,
+    wire: &mut W,
+    pace: &mut P,
+    message: Message,
+    tell: &mut T,
+    told: &mut usize,
+) -> Result<(), AllocError>
+    requires out { W.out wire.old ≡ out_of lane.old.state }
+    ensures out { W.out wire.new ≡ out_of lane.new.state }
+    ensures describes { W.describes wire.new ≡ W.describes wire.old }
+    ensures keeps { (heard : List Mail)
+        → KeepsOn (W.describes wire.old) W.fits wire.old wire.new lane.old.state lane.new.state
+        heard heard }
+    ensures told { (heard : List Mail) → GoesOnTelling (T.told tell.old) (T.told tell.new)
+        told.old told.new lane.old.state lane.new.state heard heard }
+{
+    go_on(lane, wire, pace, message)?;
+    tell_all(rt, lane, tell, told)
 }
 
 // Works until nothing is held.
@@ -158,6 +334,7 @@ fn drain_all<W: Wire, P: Pace>(lane: &mut Lane, wire: &mut W, pace: &mut P) -> L
     ensures keeps { (heard : List Mail)
         → KeepsOn (W.describes wire.old) W.fits wire.old wire.new lane.old.state lane.new.state
         heard heard }
+    ensures told { StaysTold lane.old.state lane.new.state }
 {
     match drain(lane, wire, pace) {
         Ok(()) => LaneEndKind::Finished,
@@ -165,15 +342,37 @@ fn drain_all<W: Wire, P: Pace>(lane: &mut Lane, wire: &mut W, pace: &mut P) -> L
     }
 }
 
+// Whether one more message, if it is queued, may still go into the next request.
+fn may_gather(lane: &Lane, message: Message) -> bool {
+    matches!(message, Message::Other) && !lane.closed() && lane.held() < lane.request_count()
+}
+
+// What was heard last: an operation, if nothing is queued behind the ones that were gathered.
+fn heard_last(message: Message, more: bool) -> Message {
+    match message {
+        Message::Nothing if more => Message::Other,
+        _ => message,
+    }
+}
+
+// Whether nothing was queued, so that an answer was waited for.
+fn is_nothing(message: Message) -> bool {
+    matches!(message, Message::Nothing)
+}
+
 // Takes one message if there is one or nothing else to wait for, and sends and settles what is to
-// be sent and settled then.
-fn take_next<R: Wait, W: Wire, P: Pace>(
+// be sent and settled then, unless one more message may be gathered first; returns whether that is
+// so. With `more` it does not wait for the message.
+fn take_next<R: Wait, W: Wire, P: Pace, T: Tell>(
     rt: &R,
     take: &mut LaneTake,
     lane: &mut Lane,
     wire: &mut W,
     pace: &mut P,
-) -> Result<(), LaneEndKind>
+    tell: &mut T,
+    told: &mut usize,
+    more: bool,
+) -> Result<bool, LaneEndKind>
     requires senders { length lane.old.state.closed ≡ take.old.senders }
     requires closed { KnowsClosed lane.old.state.closed take.old.taken }
     requires out { W.out wire.old ≡ out_of lane.old.state }
@@ -189,24 +388,38 @@ fn take_next<R: Wait, W: Wire, P: Pace>(
     ensures stopped { IfErr result (λ kind. (heard : List Mail) × HasHeard kind take.new.taken heard
         × KeepsOn (W.describes wire.old) W.fits wire.old wire.new lane.old.state lane.new.state
         take.old.taken heard) }
+    ensures told { OnOk result
+        (GoesOnTelling (T.told tell.old) (T.told tell.new) told.old told.new
+        lane.old.state lane.new.state take.old.taken take.new.taken) }
+    ensures stopped_told { IfErr result
+        (λ kind. (heard : List Mail) × HasHeard kind take.new.taken heard
+        × GoesOnTelling (T.told tell.old) (T.told tell.new) told.old told.new
+        lane.old.state lane.new.state take.old.taken heard) }
 {
     make_place(lane, wire, pace)?;
-    let message = take_message(rt, take, lane)?;
-    go_on(lane, wire, message)?;
-    Ok(())
+    let message = take_message(rt, take, lane, wire, pace, more)?;
+    if may_gather(lane, message) {
+        return Ok(true);
+    }
+    let last = heard_last(message, more);
+    go_on_and_tell(rt, lane, wire, pace, last, tell, told)?;
+    Ok(is_nothing(last))
 }
 
 // Takes until each sender has closed.
-fn take_all<R: Wait, W: Wire, P: Pace>(
+fn take_all<R: Wait, W: Wire, P: Pace, T: Tell>(
     rt: &R,
     take: &mut LaneTake,
     lane: &mut Lane,
     wire: &mut W,
     pace: &mut P,
+    tell: &mut T,
+    told: &mut usize,
 ) -> Result<(), LaneEndKind>
     requires fresh { lane.old.state ≡ fresh lane.old.state.config }
     requires senders { take.old.senders ≡ lane.old.state.config.producers + 1 }
     requires none_taken { take.old.taken ≡ [] }
+    requires none_told { told.old ≡ 0 }
     requires out { W.out wire.old ≡ out_of lane.old.state }
     ensures same { (take.new.queue ≡ take.old.queue) × (take.new.senders ≡ take.old.senders) }
     ensures out { W.out wire.new ≡ out_of lane.new.state }
@@ -221,57 +434,89 @@ fn take_all<R: Wait, W: Wire, P: Pace>(
     ensures stopped { IfErr result (λ kind. (heard : List Mail) × HasHeard kind take.new.taken heard
         × Course (W.describes wire.old) W.fits wire.old wire.new lane.old.state.config
         heard lane.new.state) }
+    ensures told { OnOk result
+        (HasTold (T.told tell.old) (T.told tell.new) told.new lane.new.state take.new.taken) }
+    ensures stopped_told { IfErr result
+        (λ kind. (heard : List Mail) × HasHeard kind take.new.taken heard
+        × HasTold (T.told tell.old) (T.told tell.new) told.new lane.new.state heard) }
 {
+    let mut more = false;
     'messages: for _ in rt.forever() {
         if lane.closed() {
             return Ok(());
         }
-        take_next(rt, take, lane, wire, pace)?;
+        more = take_next(rt, take, lane, wire, pace, tell, told, more)?;
     }
     unreachable!()
 }
 
 // Takes until each sender has closed, and works until nothing is held.
-fn work<R: Wait, W: Wire, P: Pace>(
+fn work<R: Wait, W: Wire, P: Pace, T: Tell>(
     rt: &R,
     take: &mut LaneTake,
     lane: &mut Lane,
     wire: &mut W,
     pace: &mut P,
+    tell: &mut T,
+    told: &mut usize,
 ) -> LaneEndKind
     requires fresh { lane.old.state ≡ fresh lane.old.state.config }
     requires senders { take.old.senders ≡ lane.old.state.config.producers + 1 }
     requires none_taken { take.old.taken ≡ [] }
+    requires none_told { told.old ≡ 0 }
     requires out { W.out wire.old ≡ out_of lane.old.state }
     ensures same { (take.new.queue ≡ take.old.queue) × (take.new.senders ≡ take.old.senders) }
     ensures out { W.out wire.new ≡ out_of lane.new.state }
     ensures describes { W.describes wire.new ≡ W.describes wire.old }
     ensures ends { EndsAs (W.describes wire.old) W.fits wire.old wire.new lane.old.state.config
         take.new.taken result lane.new.state }
+    ensures told { (heard : List Mail) × HasHeard result take.new.taken heard
+        × HasTold (T.told tell.old) (T.told tell.new) told.new lane.new.state heard }
 {
-    match take_all(rt, take, lane, wire, pace) {
+    match take_all(rt, take, lane, wire, pace, tell, told) {
         Ok(()) => drain_all(lane, wire, pace),
         Err(kind) => kind,
+    }
+}
+
+// How a lane ended that would have ended like this, after it has told all that is left, or failed to.
+fn kind_after(kind: LaneEndKind, told: Result<(), AllocError>) -> LaneEndKind
+    ensures told { OnOk told (result ≡ kind) }
+    ensures not_told { OnErr told
+        ((result ≢ LaneEndKind.Finished) × (result ≡ LaneEndKind.Gone → kind ≡ LaneEndKind.Gone)) }
+    ensures memory { kind ≡ LaneEndKind.Memory → result ≡ LaneEndKind.Memory }
+{
+    match (kind, told) {
+        (LaneEndKind::Finished, Err(_)) => LaneEndKind::Memory,
+        (kind, _) => kind,
     }
 }
 
 /// A lane's thread. Until each sender's Done was taken it makes room if it holds its maximum number
 /// of operations, takes one message, and sends what is ready. If no place in flight is free, it
 /// takes at most as many operations as one request carries, and then, or once nothing is queued,
-/// waits for the oldest answer and settles it; after a Tick or a Flush it waits for every answer.
-/// Then it works until nothing is held. It waits only for messages, for the wire and for the pace.
+/// waits for the oldest answer and settles it. If a place is free and a request is in flight, it
+/// waits for a message or the oldest answer, whichever comes first. Then it works until nothing is
+/// held. It waits only for messages, for the wire and for the pace, and counts the ticks that passed
+/// meanwhile, as its pace returns them, before it settles an answer and before it sends.
 /// However it ends, it first waits for what is in flight and settles it.
 ///
-/// It ends as Memory if the allocation for an operation that it took or for a request failed, and
-/// as Gone if the queue says that all senders are dropped but not all had closed; [`LaneEnd`] says
+/// After each round of that it tells `tell` of the operations that ended in it, and at the end that
+/// it ends. So if it ends as Finished, it has told of each operation that it took once, whatever
+/// its wire returned; and if it has told that an operation ended as applied, then beside each
+/// outside that explains its calls the write with that version was applied.
+///
+/// It ends as Memory if the allocation for an operation that it took, for a request or for telling
+/// of a report failed, and as Gone if the queue says that all senders are dropped but not all had closed; [`LaneEnd`] says
 /// what holds then. In each case delivery of what the lane heard from its queue is sound for each
 /// outside that the wire describes, and complete if it ends as Finished.
-pub fn run_lane<R: Wait, W: Wire, P: Pace + Drop>(
+pub fn run_lane<R: Wait, W: Wire, P: Pace + Drop, T: Tell>(
     rt: &R,
     take: LaneTake,
     lane: Lane,
     wire: W,
     pace: P,
+    tell: &mut T,
 ) -> LaneEnd<W>
     requires fresh { lane.state ≡ fresh lane.state.config }
     requires senders { take.senders ≡ lane.state.config.producers + 1 }
@@ -285,13 +530,20 @@ pub fn run_lane<R: Wait, W: Wire, P: Pace + Drop>(
         result.taken.taken result.kind result.lane.state }
     ensures closed { result.kind ≡ LaneEndKind.Finished
         → (sender : ℕ) → sender < take.senders → HasDone (mail_of sender result.taken.taken) }
+    ensures told { EndsTold (T.told tell.old) (T.told tell.new) result.kind result.taken.taken
+        result.lane.state }
 {
     let mut take = take;
     let mut lane = lane;
     let mut wire = wire;
     let mut pace = pace;
-    let kind = work(rt, &mut take, &mut lane, &mut wire, &mut pace);
-    collect(&mut lane, &mut wire);
+    let mut told: usize = 0;
+    let kind = work(
+        rt, &mut take, &mut lane, &mut wire, &mut pace, tell, &mut told,
+    );
+    collect(&mut lane, &mut wire, &mut pace);
+    let kind = kind_after(kind, tell_all(rt, &mut lane, tell, &mut told));
+    tell.ended(rt);
     LaneEnd {
         kind,
         taken: take.end(),

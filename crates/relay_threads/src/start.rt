@@ -3,12 +3,13 @@ ghost use Rattle.std.specs.Prelude.{◌≡◌, ◌≢◌, ◌+◌, ◌<◌, ◌�
 ghost use Rattle.std.specs.Prelude.{List, true, false, IfOk, IfErr, IsErrAnd, map, vec_len};
 ghost use Rattle.relay_queue.specs.Ends.{Queue, fresh_puts};
 ghost use Rattle.relay_core.specs.Limits.{is_valid};
-ghost use Rattle.relay_threads.specs.Lanes.{queues_of, wires_of, AreLanesOf};
+ghost use Rattle.relay_threads.specs.Lanes.{queues_of, wires_of, tells_of, AreLanesOf};
 ghost use Rattle.relay_threads.specs.Relay.{NoneOut, AreColumns, AreNew, new_control};
 
 use crate::fault::StartFault;
 use crate::relay::Relay;
 use crate::rows::pop_each;
+use crate::tell::{Tell, TellNobody};
 use crate::thread::{LaneThread, spawn_lane};
 use relay_lane::{Lane, Pace, RelayConfig, Wire};
 use relay_producer::{Control, Producer};
@@ -18,51 +19,60 @@ use std::sync::Wait;
 use std::thread::Threads;
 
 // A lane in its thread, and the senders' ends of its queue.
-fn make_lane<R, W, P>(
+fn make_lane<R, W, P, T>(
     rt: R,
     alloc: Global,
     config: RelayConfig,
     wire: W,
     pace: P,
-) -> Result<(LaneThread<W>, Vec<LanePut>), StartFault>
+    tell: T,
+) -> Result<(LaneThread<W, T>, Vec<LanePut>), StartFault>
 where
     R: Threads + Wait + Copy + Send + 'static,
     W: Wire + Drop + Send + 'static,
     P: Pace + Drop + Send + 'static,
+    T: Tell + Drop + Send + 'static,
     requires valid { is_valid config ≡ true }
     requires out { W.out wire ≡ [] }
     ensures config { IfOk result (λ r. r.0.promise.config.value ≡ config) }
     ensures senders { IfOk result (λ r. r.0.promise.take.value.senders ≡ config.producers + 1) }
     ensures wire { IfOk result (λ r. r.0.promise.wire.value ≡ wire) }
+    ensures tell { IfOk result (λ r. r.0.promise.tell.value ≡ tell) }
     ensures puts { IfOk result
         (λ r. r.1.items ≡ fresh_puts r.0.promise.take.value.queue (config.producers + 1)) }
     ensures late { IfErr result (λ e. (e ≡ StartFault.Memory) ⊎ (e ≡ StartFault.Thread)) }
 {
     let (take, puts) = lane_queue(alloc, config.capacity, config.producers + 1)?;
     let lane = Lane::new(alloc, config)?;
-    let thread = spawn_lane(rt, config, take, lane, wire, pace).map_err(|_| StartFault::Thread)?;
+    let thread = spawn_lane(rt, config, take, lane, wire, pace, tell).map_err(
+        |_| StartFault::Thread,
+    )?;
     Ok((thread, puts))
 }
 
 // All lanes in their threads, and the senders' ends of each lane's queue.
-fn make_lanes<R, W, P>(
+fn make_lanes<R, W, P, T>(
     rt: R,
     alloc: Global,
     config: RelayConfig,
     wires: Vec<W>,
     paces: Vec<P>,
-) -> Result<(Vec<LaneThread<W>>, Vec<Vec<LanePut>>), StartFault>
+    tells: Vec<T>,
+) -> Result<(Vec<LaneThread<W, T>>, Vec<Vec<LanePut>>), StartFault>
 where
     R: Threads + Wait + Copy + Send + 'static,
     W: Wire + Drop + Send + 'static,
     P: Pace + Drop + Send + 'static,
+    T: Tell + Drop + Send + 'static,
     requires valid { is_valid config ≡ true }
     requires out { NoneOut W.out wires.items }
     requires wires { vec_len wires ≡ config.lanes }
     requires paces { vec_len paces ≡ config.lanes }
+    requires tells { vec_len tells ≡ config.lanes }
     ensures lanes { IfOk result (λ r. AreLanesOf config r.0.items) }
     ensures count { IfOk result (λ r. vec_len r.1 ≡ config.lanes) }
     ensures wires { IfOk result (λ r. wires_of r.0.items ≡ wires.items) }
+    ensures tells { IfOk result (λ r. tells_of r.0.items ≡ tells.items) }
     ensures puts { IfOk result (λ r. map (λ c. c.items) r.1.items
         ≡ map (λ q. fresh_puts q (config.producers + 1)) (queues_of r.0.items)) }
     ensures late { IfErr result (λ e. (e ≡ StartFault.Memory) ⊎ (e ≡ StartFault.Thread)) }
@@ -70,13 +80,17 @@ where
     let mut lanes = Vec::new(alloc);
     let mut columns = Vec::new(alloc);
     let mut paces = paces.into_iter();
+    let mut tells = tells.into_iter();
     for wire in wires {
         let Some(pace) = paces.next() else {
             unreachable!();
         };
+        let Some(tell) = tells.next() else {
+            unreachable!();
+        };
         lanes.reserve(1)?;
         columns.reserve(1)?;
-        let (lane, puts) = make_lane(rt, alloc, config, wire, pace)?;
+        let (lane, puts) = make_lane(rt, alloc, config, wire, pace, tell)?;
         lanes.push_reserved(lane);
         columns.push_reserved(puts);
     }
@@ -113,38 +127,44 @@ fn deal(
     Ok((producers, control))
 }
 
-// Starts the lanes of a valid config, each with its wire and its pace.
-fn start_all<R, W, P>(
+// Starts the lanes of a valid config, each with its wire, its pace and its `Tell`.
+pub(crate) fn start_all<R, W, P, T>(
     rt: R,
     alloc: Global,
     config: RelayConfig,
     wires: Vec<W>,
     paces: Vec<P>,
-) -> Result<(Relay<W>, Vec<Producer>, Control), StartFault>
+    tells: Vec<T>,
+) -> Result<(Relay<W, T>, Vec<Producer>, Control), StartFault>
 where
     R: Threads + Wait + Copy + Send + 'static,
     W: Wire + Drop + Send + 'static,
     P: Pace + Drop + Send + 'static,
+    T: Tell + Drop + Send + 'static,
     requires valid { is_valid config ≡ true }
     requires out { NoneOut W.out wires.items }
     requires wires { vec_len wires ≡ config.lanes }
     requires paces { vec_len paces ≡ config.lanes }
+    requires tells { vec_len tells ≡ config.lanes }
     ensures config { IfOk result (λ r. r.0.config ≡ config) }
     ensures wires { IfOk result (λ r. r.0.wires ≡ wires.items) }
+    ensures tells { IfOk result (λ r. r.0.tells ≡ tells.items) }
     ensures producers { IfOk result (λ r. AreNew r.0.queues config.epoch 0 r.1.items) }
     ensures count { IfOk result (λ r. vec_len r.1 ≡ config.producers) }
     ensures control { IfOk result (λ r. r.2 ≡ new_control r.0.queues config.producers) }
     ensures late { IfErr result (λ e. (e ≡ StartFault.Memory) ⊎ (e ≡ StartFault.Thread)) }
 {
     let ends = Vec::with_capacity(alloc, wires.len())?;
+    let tell_places = Vec::with_capacity(alloc, wires.len())?;
     let rows = Vec::with_capacity(alloc, config.producers as usize + 1)?;
-    let (lanes, columns) = make_lanes(rt, alloc, config, wires, paces)?;
+    let (lanes, columns) = make_lanes(rt, alloc, config, wires, paces, tells)?;
     let (producers, control) = deal(alloc, config.epoch, config.producers, columns)?;
     let relay = Relay {
         alloc,
         config,
         lanes,
         ends,
+        tells: tell_places,
         rows,
     };
     Ok((relay, producers, control))
@@ -188,6 +208,7 @@ impl<W: Wire + Drop + Send + 'static> Relay<W> {
         if wires.len() != lanes || paces.len() != lanes {
             return Err(StartFault::WireCount);
         }
-        start_all(rt, alloc, config, wires, paces)
+        let tells = vec![in alloc; TellNobody; lanes]?;
+        start_all(rt, alloc, config, wires, paces, tells)
     }
 }

@@ -1,11 +1,12 @@
 //! The thread of a lane, and what is known of its end.
 ghost use Rattle.std.specs.Prelude.{◌≡◌, ◌+◌, ◌≤◌, [], IfOk, vec_len, vec_capacity};
 ghost use Rattle.relay_core.specs.State.{fresh};
-ghost use Rattle.relay_threads.specs.Promises.{KeepsCourse};
-ghost use Rattle.relay_threads.specs.Lanes.{EndAsPromised};
+ghost use Rattle.relay_threads.specs.Promises.{KeepsCourse, KeepsTold};
+ghost use Rattle.relay_threads.specs.Lanes.{EndAsPromised, ToldAsPromised};
 
 use crate::lane_end::LaneEnd;
 use crate::run::run_lane;
+use crate::tell::Tell;
 use relay_lane::{Lane, Pace, RelayConfig, Wire};
 use relay_queue::LaneTake;
 use std::alloc::AllocError;
@@ -14,38 +15,44 @@ use std::sync::Wait;
 use std::thread;
 use std::thread::{Promise, PromisedHandle, Threads};
 
-/// What a lane's thread was given, for proofs only: its config, its end of the queue, and its wire.
+/// What a lane's thread was given, for proofs only: its config, its end of the queue, its wire, and
+/// its `Tell`.
 #[derive(Drop)]
-pub struct LanePromise<W> {
+pub struct LanePromise<W, T> {
     /// Its config.
     pub config: Snapshot<RelayConfig>,
     /// Its end of the queue, as it was at the start.
     pub take: Snapshot<LaneTake>,
     /// Its wire, as it was at the start.
     pub wire: Snapshot<W>,
+    /// Its `Tell`, as it was at the start.
+    pub tell: Snapshot<T>,
 }
 
-impl<W: Wire> Promise<LaneEnd<W>> for LanePromise<W> {
-    ghost kept_by = { λ p end. KeepsCourse W.describes W.fits
-        p.config.value p.take.value p.wire.value end };
+impl<W: Wire, T: Tell> Promise<(LaneEnd<W>, T)> for LanePromise<W, T> {
+    ghost kept_by = { λ p r. KeepsCourse W.describes W.fits
+        p.config.value p.take.value p.wire.value r.0
+        × KeepsTold T.told p.tell.value r.1 r.0 };
 }
 
-/// A lane in its thread.
-pub type LaneThread<W> = PromisedHandle<LaneEnd<W>, LanePromise<W>>;
+/// A lane in its thread, which returns its end, and the `Tell` after its last call.
+pub type LaneThread<W, T> = PromisedHandle<(LaneEnd<W>, T), LanePromise<W, T>>;
 
 // Starts the thread of a lane. `AllocError`: it could not be started.
-pub(crate) fn spawn_lane<R, W, P>(
+pub(crate) fn spawn_lane<R, W, P, T>(
     rt: R,
     config: RelayConfig,
     take: LaneTake,
     lane: Lane,
     wire: W,
     pace: P,
-) -> Result<LaneThread<W>, AllocError>
+    tell: T,
+) -> Result<LaneThread<W, T>, AllocError>
 where
     R: Threads + Wait + Copy + Send + 'static,
     W: Wire + Drop + Send + 'static,
     P: Pace + Drop + Send + 'static,
+    T: Tell + Drop + Send + 'static,
     requires fresh { lane.state ≡ fresh config }
     requires senders { take.senders ≡ config.producers + 1 }
     requires none_taken { take.taken ≡ [] }
@@ -53,30 +60,44 @@ where
     ensures config { IfOk result (λ h. h.promise.config.value ≡ config) }
     ensures take { IfOk result (λ h. h.promise.take.value ≡ take) }
     ensures wire { IfOk result (λ h. h.promise.wire.value ≡ wire) }
+    ensures tell { IfOk result (λ h. h.promise.tell.value ≡ tell) }
 {
     let promise = LanePromise {
         config: Snapshot::of(&config),
         take: Snapshot::of(&take),
         wire: Snapshot::of(&wire),
+        tell: Snapshot::of(&tell),
     };
     Ok(thread::spawn_with(&rt, promise, move || {
-        run_lane(&rt, take, lane, wire, pace)
+        let mut tell = tell;
+        let end = run_lane(&rt, take, lane, wire, pace, &mut tell);
+        (end, tell)
     })?)
 }
 
-// Waits until each lane has ended. There is room for all ends.
-pub(crate) fn join_all<R: Threads, W: Wire + Drop + Send + 'static>(
+// Waits until each lane has ended, and returns their ends and what they told by. There is room for
+// all of them.
+pub(crate) fn join_all<R: Threads, W, T>(
     rt: &R,
-    lanes: Vec<LaneThread<W>>,
+    lanes: Vec<LaneThread<W, T>>,
     places: Vec<LaneEnd<W>>,
-) -> Vec<LaneEnd<W>>
-    requires none { places.items ≡ [] }
-    requires places { vec_len lanes ≤ vec_capacity places }
-    ensures { EndAsPromised W.describes W.fits lanes.items result.items }
+    tell_places: Vec<T>,
+) -> (Vec<LaneEnd<W>>, Vec<T>)
+where
+    W: Wire + Drop + Send + 'static,
+    T: Tell + Drop + Send + 'static,
+    requires none { (places.items ≡ []) × (tell_places.items ≡ []) }
+    requires places { (vec_len lanes ≤ vec_capacity places)
+        × (vec_len lanes ≤ vec_capacity tell_places) }
+    ensures ends { EndAsPromised W.describes W.fits lanes.items result.0.items }
+    ensures told { ToldAsPromised T.told lanes.items result.0.items result.1.items }
 {
     let mut ends = places;
+    let mut tells = tell_places;
     for lane in lanes {
-        ends.push_reserved(lane.join(rt));
+        let (end, tell) = lane.join(rt);
+        ends.push_reserved(end);
+        tells.push_reserved(tell);
     }
-    ends
+    (ends, tells)
 }

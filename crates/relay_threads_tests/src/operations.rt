@@ -27,6 +27,14 @@ impl Pace for AtOnce {
     ghost paused = { λ n. None };
 
     fn pause(&mut self, _ticks: u64) {}
+
+    fn passed(&mut self) -> u64 {
+        0
+    }
+
+    fn begin(&mut self) {}
+
+    fn rest(&mut self) {}
 }
 
 /// The number of documents that each producer writes.

@@ -1,7 +1,7 @@
 //! Lanes and relays with senders in threads, with any one of their allocations refused (`make
 //! refusals`): they succeed, or they report the refusal and the next run succeeds.
 use crate::operations::{is_whole, losing_wire};
-use crate::relays::{CONFIG, RunFault, run_one};
+use crate::relays::{CONFIG, RunFault, run_one, run_summing};
 use crate::tests::run;
 use relay_fixtures::index_wire::IndexWire;
 use relay_lane::Lane;
@@ -63,9 +63,30 @@ fn delivers<R: Threads + Wait + Copy + Send + 'static>(rt: R, alloc: Global) -> 
     }
 }
 
+// The same for a relay that passes on how operations ended.
+fn told_once<R: Threads + Wait + Copy + Send + 'static>(
+    rt: R,
+    alloc: Global,
+) -> Result<Option<bool>, RunFault> {
+    let (summary, _) = run_summing(rt, alloc, losing_wire(alloc), 100)?;
+    Ok(is_delivered(alloc, &summary))
+}
+
+fn delivers_telling<R: Threads + Wait + Copy + Send + 'static>(rt: R, alloc: Global) -> bool {
+    match told_once(rt, alloc) {
+        Ok(delivered) => delivered == Some(true),
+        Err(fault) => may_be(fault) && told_once(rt, alloc) == Ok(Some(true)),
+    }
+}
+
 #[test]
 fn refused_relay(rt: HostRuntime) {
     assert!(rt; delivers(rt, rt.alloc()));
+}
+
+#[test]
+fn refused_telling(rt: HostRuntime) {
+    assert!(rt; delivers_telling(rt, rt.alloc()));
 }
 
 // Whether each operation that a lane took is applied, reported or still held.

@@ -1,22 +1,23 @@
 //! Relays from start to finish.
-ghost use Rattle.std.specs.Prelude.{◌≡◌, [], ◌∷◌, IfOk};
+ghost use Rattle.std.specs.Prelude.{◌≡◌, [], ◌∷◌, IfOk, vec_len};
 ghost use Rattle.std.specs.Option.{option_to_list};
 ghost use Rattle.relay_producer.specs.Ends.{identities, open_puts};
-ghost use Rattle.relay_threads.specs.Relay.{NoneOut};
+ghost use Rattle.relay_threads.specs.Relay.{NoneOut, AreNew, new_control};
 ghost use Rattle.relay_wires.specs.Numbers.{numbers};
 ghost use Rattle.relay_threads_tests.specs.Handles.{open_names, closed_names};
 
 use crate::gates::{AheadWire, GateWire, LANES, ahead_of, gate_of};
 use crate::operations::{AtOnce, action_of, is_whole, key_of, losing_wire};
+use crate::told::{Summing, Sums, new_sums};
 use relay_batch::Limits;
 use relay_fixtures::config::LIMITS;
-use relay_fixtures::index_wire::IndexWire;
+use relay_fixtures::index_wire::{IndexWire, Way, wire_of};
 use relay_fixtures::{config, keys};
 use relay_index::{Index, Script};
 use relay_lane::{Pace, RelayConfig, Wire};
-use relay_loop::LoopWire;
-use relay_producer::{ClosedProducer, Producer};
-use relay_threads::{FinishFault, LaneSummary, Relay, StartFault, Summary};
+use relay_loop::{LoopEnd, LoopWire, wire_to};
+use relay_producer::{ClosedProducer, Control, Producer};
+use relay_threads::{FinishFault, LaneSummary, Relay, StartFault, Summary, Tell};
 use std::alloc::{AllocError, Global};
 use std::sync::atomic::{AtomicU32, Ordering};
 use std::sync::{Arc, Wait};
@@ -167,9 +168,40 @@ fn close_all<R: Wait>(
     Ok(closed)
 }
 
-// A relay from start to finish, to which each producer puts this many operations, which are
+// A relay that was started, to its finish: each producer puts this many operations, which are
 // counted.
-fn run<R, W, P>(
+fn run<R, W, T>(
+    rt: R,
+    alloc: Global,
+    relay: Relay<W, T>,
+    producers: Vec<Producer>,
+    control: Control,
+    lanes: u32,
+    count: u64,
+    puts: &AtomicU32,
+) -> Result<Summary<W>, RunFault>
+where
+    R: Threads + Wait + Copy + Send + 'static,
+    W: Wire + Drop + Send + 'static,
+    T: Tell + Drop + Send + 'static,
+    requires producers { AreNew relay.queues relay.config.epoch 0 producers.items }
+    requires count { vec_len producers ≡ relay.config.producers }
+    requires control { control ≡ new_control relay.queues relay.config.producers }
+{
+    let mut producers = producers;
+    let put = put_some(&rt, alloc, lanes, &mut producers, count, puts);
+    let Ok(closed) = close_all(&rt, alloc, producers) else {
+        return Err(RunFault::Memory);
+    };
+    match relay.finish(&rt, closed, control.close(&rt)) {
+        Ok(summary) if put => Ok(summary),
+        Ok(_) => Err(RunFault::NotPut),
+        Err(fault) => Err(RunFault::Finish(fault)),
+    }
+}
+
+// A relay from start to finish that tells nobody.
+fn run_all<R, W, P>(
     rt: R,
     alloc: Global,
     config: RelayConfig,
@@ -184,19 +216,20 @@ where
     P: Pace + Drop + Send + 'static,
     requires { NoneOut W.out wires.items }
 {
-    let (relay, producers, control) = match Relay::start(rt, alloc, config, wires, paces) {
-        Ok(started) => started,
-        Err(fault) => return Err(RunFault::Start(fault)),
-    };
-    let mut producers = producers;
-    let put = put_some(&rt, alloc, config.lanes, &mut producers, count, puts);
-    let Ok(closed) = close_all(&rt, alloc, producers) else {
-        return Err(RunFault::Memory);
-    };
-    match relay.finish(&rt, closed, control.close(&rt)) {
-        Ok(summary) if put => Ok(summary),
-        Ok(_) => Err(RunFault::NotPut),
-        Err(fault) => Err(RunFault::Finish(fault)),
+    match Relay::start(rt, alloc, config, wires, paces) {
+        Ok((relay, producers, control)) => {
+            run(
+                rt,
+                alloc,
+                relay,
+                producers,
+                control,
+                config.lanes,
+                count,
+                puts,
+            )
+        }
+        Err(fault) => Err(RunFault::Start(fault)),
     }
 }
 
@@ -237,7 +270,66 @@ where
     let Ok(paces) = one(alloc, AtOnce) else {
         return Err(RunFault::Memory);
     };
-    run(rt, alloc, config, wires, paces, count, puts)
+    run_all(rt, alloc, config, wires, paces, count, puts)
+}
+
+// A relay of one wire, whose lane tells how operations ended.
+fn run_telling<R, W>(
+    rt: R,
+    alloc: Global,
+    wire: W,
+    tell: Summing,
+    count: u64,
+) -> Result<Summary<W>, RunFault>
+where
+    R: Threads + Wait + Copy + Send + 'static,
+    W: Wire + Drop + Send + 'static,
+    requires { W.out wire ≡ [] }
+{
+    let Ok(wires) = one(alloc, wire) else {
+        return Err(RunFault::Memory);
+    };
+    let Ok(paces) = one(alloc, AtOnce) else {
+        return Err(RunFault::Memory);
+    };
+    let Ok(tells) = one(alloc, tell) else {
+        return Err(RunFault::Memory);
+    };
+    let puts = AtomicU32::new(0);
+    match Relay::start_telling(rt, alloc, CONFIG, wires, paces, tells) {
+        Ok((relay, producers, control)) => {
+            run(
+                rt,
+                alloc,
+                relay,
+                producers,
+                control,
+                CONFIG.lanes,
+                count,
+                &puts,
+            )
+        }
+        Err(fault) => Err(RunFault::Start(fault)),
+    }
+}
+
+/// A relay of one wire, whose lane tells how operations ended, and the sums over that.
+pub fn run_summing<R, W>(
+    rt: R,
+    alloc: Global,
+    wire: W,
+    count: u64,
+) -> Result<(Summary<W>, Arc<Sums>), RunFault>
+where
+    R: Threads + Wait + Copy + Send + 'static,
+    W: Wire + Drop + Send + 'static,
+    requires { W.out wire ≡ [] }
+{
+    let Ok((sums, tell)) = new_sums(alloc) else {
+        return Err(RunFault::Memory);
+    };
+    let summary = run_telling(rt, alloc, wire, tell, count)?;
+    Ok((summary, sums))
 }
 
 // The wire of the only lane of a summary, if that has applied everything.
@@ -262,13 +354,62 @@ fn two_producers(rt: HostRuntime) -> Result<(), Fail> {
     Ok(())
 }
 
+// Whether these are the sums over operations of two producers, each numbered from 1 to 100, of
+// which each was passed on once as applied, some of them as applied by an earlier request.
+fn are_all(sums: &Sums, already: u64) -> bool {
+    already > 0
+        && sums.successes.load(Ordering::SeqCst) == 200
+        && sums.numbers.load(Ordering::SeqCst) == 2 * 5050
+        && sums.already.load(Ordering::SeqCst) == already
+        && sums.reports.load(Ordering::SeqCst) == 0
+        && sums.ends.load(Ordering::SeqCst) == 1
+}
+
+// Whether the only lane of the summary applied everything, and passed that on.
+fn is_passed_on<W>(summary: &Summary<W>, sums: &Sums) -> bool {
+    match summary.lanes.as_slice() {
+        [lane] => all_applied(lane) && are_all(sums, lane.already),
+        _ => false,
+    }
+}
+
+#[test]
+fn successes_are_passed_on(rt: HostRuntime) -> Result<(), Fail> {
+    let alloc = rt.alloc();
+    let (summary, sums) = run_summing(rt, alloc, losing_wire(alloc), 100)?;
+    assert!(rt; is_passed_on(&summary, &sums));
+    Ok(())
+}
+
+// Whether every operation was reported, and each report was passed on.
+fn is_reported<W>(summary: &Summary<W>, sums: &Sums) -> bool {
+    match summary.lanes.as_slice() {
+        [lane] => {
+            lane.reports.len() == 200
+                && sums.successes.load(Ordering::SeqCst) == 0
+                && sums.reports.load(Ordering::SeqCst) == 200
+                && sums.ends.load(Ordering::SeqCst) == 1
+        }
+        _ => false,
+    }
+}
+
+#[test]
+fn reports_are_passed_on(rt: HostRuntime) -> Result<(), Fail> {
+    let alloc = rt.alloc();
+    let wire = wire_of(alloc, Way::Whole(400));
+    let (summary, sums) = run_summing(rt, alloc, wire, 100)?;
+    assert!(rt; is_reported(&summary, &sums));
+    Ok(())
+}
+
 // A wire to its own index, whose first reply is lost.
 fn loop_wire(alloc: Global) -> Result<LoopWire, AllocError>
     ensures { IfOk result (λ w. numbers w.out ≡ []) }
 {
-    let mut wire = LoopWire::new(alloc, Index::new(alloc), Script::new(alloc))?;
-    wire.lose(1)?;
-    Ok(wire)
+    let mut end = LoopEnd::new(alloc, Index::new(alloc), Script::new(alloc));
+    end.lose(1)?;
+    wire_to(alloc, end, 16)
 }
 
 // Whether a relay with a config and such a wire delivers what its producers put.
@@ -284,7 +425,7 @@ where
         return Err(RunFault::Memory);
     };
     let summary = run_one(rt, alloc, config, wire, 100, &AtomicU32::new(0))?;
-    Ok(wire_of_all(&summary).and_then(|wire| is_whole(alloc, wire.index())))
+    Ok(wire_of_all(&summary).and_then(|wire| is_whole(alloc, wire.peer().index())))
 }
 
 #[test]
@@ -355,7 +496,7 @@ where
     let Ok(paces) = paces(alloc) else {
         return Err(RunFault::Memory);
     };
-    run(rt, alloc, config, wires, paces, 1, &AtomicU32::new(0))
+    run_all(rt, alloc, config, wires, paces, 1, &AtomicU32::new(0))
 }
 
 // Whether each lane took one operation, and saw that all eight had sent.

@@ -7,7 +7,7 @@ use relay_action::{Body, Op};
 use relay_fixtures::index_wire::IndexWire;
 use relay_lane::Lane;
 use relay_queue::{LanePut, lane_queue};
-use relay_threads::{LaneEnd, LaneEndKind, run_lane};
+use relay_threads::{LaneEnd, LaneEndKind, TellNobody, run_lane};
 use std::alloc::{AllocError, Global};
 use std::sync::Wait;
 use std::test::Fail;
@@ -82,7 +82,7 @@ pub fn run<R: Threads + Wait + Copy + Send + 'static>(
     let (take, puts) = lane_queue(alloc, CONFIG.capacity, CONFIG.producers + 1)?;
     let lane = Lane::new(alloc, CONFIG)?;
     start_senders(rt, alloc, puts, count, close)?;
-    Ok(run_lane(&rt, take, lane, losing_wire(alloc), AtOnce))
+    Ok(run_lane(&rt, take, lane, losing_wire(alloc), AtOnce, &mut TellNobody))
 }
 
 // Whether a lane took 200 operations, applied them all, lost a reply, and knows how many requests its wire sent.

@@ -2,7 +2,7 @@ use Rattle.std.proofs.Common.{arith, ap, sym, ◌+◌, ◌∙◌, ◌∷◌, ◌
 use Rattle.std.specs.Vec.Iter.{into_iter_items}
 use Rattle.relay_threads.specs.Relay.{NoneOut}
 use Rattle.relay_threads.specs.Lanes.{AreLanesOf}
-use Rattle.relay_threads.proofs.Dealing.{lanes_more, wires_more, puts_more}
+use Rattle.relay_threads.proofs.Dealing.{lanes_more, wires_more, tells_more, puts_more}
 use Rattle.relay_threads.proofs.start.make_lanes.Goals as goal
 
 pub loop-wire-preserved : goal.loop-wire-preserved
@@ -20,4 +20,6 @@ loop-wire-preserved g c =
       puts = puts_more (λ v. v.items) (c.args.config.producers + 1) c.loop-wire.lanes.items _ h c.loop-wire.columns.items _ c.in_ok-lane.puts more_h more_c made.puts i.puts;
       out = (subst (NoneOut g.W.Wire.out) s.0 i.out).1;
       paces = omega (arith, i.paces, s.1, c.in-Some-next.ensures.len);
+      tells = omega (arith, i.tells, s.1, c.in-Some-next-2.ensures.len);
+      told = tells_more c.loop-wire.lanes.items _ h c.in-Some-next-2.tell _ (into_iter_items c.next-in-loop-wire-2.new.self) _ more_h made.tell c.in-Some-next-2.ensures.items i.told;
     }

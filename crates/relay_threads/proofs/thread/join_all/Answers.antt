@@ -8,7 +8,9 @@ loop-lane-preserved g c =
     let i = c.loop-lane.invariant in
     let s = c.in-Some.ensures.steps in
     let p = c.push_reserved.ensures in
+    let q = c.push_reserved-in-loop-lane.ensures in
     record {
       places = omega (arith, i.places, s.1, p.len, p.capacity);
-      joins = rw p.items (joins_on g.W.Wire.describes g.W.Wire.fits _ _ (into_iter_items c.next.new.self) _ c.in-Some.lane c.join.result i.joins s.0 c.join.ensures);
+      tell_places = omega (arith, i.tell_places, s.1, q.len, q.capacity);
+      joins = rw (p.items, q.items) (joins_on g.W.Wire.describes g.W.Wire.fits g.T.Tell.told _ _ (into_iter_items c.next.new.self) _ _ c.in-Some.lane c.join-end.result.0 c.join-end.result.1 i.joins s.0 c.join-end.ensures.0 c.join-end.ensures.1);
     }

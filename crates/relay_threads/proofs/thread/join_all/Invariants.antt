@@ -6,5 +6,6 @@ use Rattle.relay_threads.proofs.thread.join_all.Given as goal
 abbrev pub invariant-loop-lane : goal.invariant-loop-lane
 invariant-loop-lane g l = record {
   places : vec_len l.ends + into_iter_len l.lane-iterator ≤ vec_capacity l.ends;
-  joins : JoinsOn g.W.Wire.describes g.W.Wire.fits l.fn.lanes.items (into_iter_items l.lane-iterator) l.ends.items;
+  tell_places : vec_len l.tells + into_iter_len l.lane-iterator ≤ vec_capacity l.tells;
+  joins : JoinsOn g.W.Wire.describes g.W.Wire.fits g.T.Tell.told l.fn.lanes.items (into_iter_items l.lane-iterator) l.ends.items l.tells.items;
 }
