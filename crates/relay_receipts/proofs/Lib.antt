@@ -1,0 +1,4 @@
+pub mod Said
+pub mod Passes
+pub mod Keeping
+pub mod Windows

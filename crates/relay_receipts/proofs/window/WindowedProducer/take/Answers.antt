@@ -1,0 +1,9 @@
+use Rattle.std.proofs.Common.{sym, subst}
+use Rattle.relay_receipts.specs.Windows.{KeepsWindow}
+use Rattle.relay_receipts.proofs.Windows.{keeps_taken}
+use Rattle.relay_receipts.proofs.window.WindowedProducer.take.Goals as goal
+
+pub invariant_of-self-2 : goal.invariant_of-self-2
+invariant_of-self-2 g c =
+    let kept = keeps_taken c.self.inside.producer c.self.inside.receipts c.take.new.self c.self.inside.window c.self.inside.pending c.in_ok-notice.notice c.in_ok-notice.ensures.taken c.self.invariant in
+    subst (λ n. KeepsWindow (record { producer = c.self.inside.producer; receipts = c.take.new.self; window = c.self.inside.window; pending = n })) (sym c.left_open-self-inside.ensures) kept

@@ -1,0 +1,5 @@
+pub mod Notices
+pub mod Rule
+pub mod Steps
+pub mod Ends
+pub mod Windows

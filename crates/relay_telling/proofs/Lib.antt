@@ -1,0 +1,2 @@
+pub mod ToldTo
+pub mod New

@@ -1,0 +1,85 @@
+//! What two lanes tell two producers.
+use relay_action::{DocKey, OpName};
+use relay_lane::{Cause, Report, Success};
+use relay_receipts::{Notice, ReceiptTake};
+use relay_telling::{Ending, LaneTells, telling};
+use relay_threads::Tell;
+use std::alloc::Global;
+use std::sync::Wait;
+
+fn name_of(producer: u32, number: u64) -> OpName {
+    OpName {
+        epoch: 1,
+        producer,
+        number,
+    }
+}
+
+fn success_of(producer: u32, number: u64) -> Success {
+    Success {
+        name: name_of(producer, number),
+        version: 7,
+        status: Some(201),
+    }
+}
+
+fn report_of(alloc: Global, producer: u32, number: u64) -> Option<Report> {
+    Some(Report {
+        name: name_of(producer, number),
+        key: DocKey::new(alloc, "books", "emma").ok()?,
+        cause: Cause::Request { status: 401 },
+    })
+}
+
+// A notice as its lane and the number of its operation, which is 0 if the lane tells no more, and
+// 100 more if the operation is reported.
+fn seen(notice: &Notice<Ending>) -> (u32, u64) {
+    match &notice.told {
+        Some(Ending::Applied(success)) => (notice.lane, success.name.number),
+        Some(Ending::Reported(report)) => (notice.lane, report.name.number.saturating_add(100)),
+        None => (notice.lane, 0),
+    }
+}
+
+// Whether these notices come next, and then none.
+fn hears<R: Wait>(rt: &R, take: &mut ReceiptTake<Ending>, wanted: &[(u32, u64)]) -> bool {
+    for row in wanted {
+        match take.try_take(rt) {
+            Ok(Some(notice)) if seen(&notice) == *row => {}
+            _ => return false,
+        }
+    }
+    matches!(take.try_take(rt), Ok(None))
+}
+
+// Tells of the operation 1 of producer 0 and 2 of producer 1 as applied, of 3 of producer 1 as
+// reported, and of one of a producer that has no channel.
+fn tell_some<R: Wait>(rt: &R, alloc: Global, lane: &mut LaneTells) -> Option<()> {
+    lane.applied(rt, &[success_of(0, 1), success_of(1, 2), success_of(2, 9)]);
+    let report = report_of(alloc, 1, 3)?;
+    lane.reported(rt, &report).ok()
+}
+
+// Whether each producer hears what a lane tells it, and from another lane that it tells no more.
+fn are_told<R: Wait>(
+    rt: &R,
+    alloc: Global,
+    tells: &mut [LaneTells],
+    takes: &mut [ReceiptTake<Ending>],
+) -> Option<bool> {
+    tell_some(rt, alloc, tells.get_mut(1)?)?;
+    tells.get_mut(0)?.ended(rt);
+    let first = hears(rt, takes.get_mut(0)?, &[(1, 1), (0, 0)]);
+    let second = hears(rt, takes.get_mut(1)?, &[(1, 2), (1, 103), (0, 0)]);
+    Some(first && second)
+}
+
+fn tells_producers<R: Wait>(rt: &R, alloc: Global) -> Option<bool> {
+    let (mut tells, mut takes) = telling(alloc, 2, 2, 4).ok()?;
+    are_told(rt, alloc, &mut tells, &mut takes)
+}
+
+#[test]
+fn producers_are_told(rt: HostRuntime) {
+    assert!(rt; tells_producers(&rt, rt.alloc()) == Some(true));
+}
