@@ -1,0 +1,4 @@
+mod Escapes
+mod Splitting
+mod Naming
+pub mod Parts
