@@ -13,6 +13,7 @@
 mod command;
 mod refusals;
 mod report;
+mod stand_in;
 mod subcommand;
 
 pub use relay_commands as commands;

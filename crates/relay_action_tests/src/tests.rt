@@ -298,22 +298,36 @@ fn each_call_fails_in_turn(rt: HostRuntime) {
     }
 }
 
-// A reader and a writer of `std`, at the end and without room.
-#[test]
-fn streams_of_std(rt: HostRuntime) -> Result<(), Fail> {
+// Whether a reader of `std` gives three bytes two at a time, and then none.
+fn reads_to_the_end() -> bool {
     let mut reader = StdStream::new(b"abc".as_slice());
     let mut buffer = [0; 2];
-    assert_eq!(rt; reader.read(&mut buffer), Ok(2));
-    assert_eq!(rt; buffer, *b"ab");
-    assert_eq!(rt; reader.read(&mut buffer), Ok(1));
-    assert_eq!(rt; reader.read(&mut buffer), Ok(0));
-    let mut writer = StdStream::new(Vec::new(rt.alloc()));
-    assert_eq!(rt; write_all(&mut writer, b"abc"), Ok(()));
+    let first = reader.read(&mut buffer);
+    let is_first = first == Ok(2) && buffer == *b"ab";
+    let second = reader.read(&mut buffer);
+    let third = reader.read(&mut buffer);
+    is_first && second == Ok(1) && third == Ok(0) && reader.get_ref().len() == 0
+}
+
+// Whether a writer of `std` takes three bytes.
+fn takes_all(alloc: Global) -> bool {
+    let mut writer = StdStream::new(Vec::new(alloc));
+    write_all(&mut writer, b"abc") == Ok(())
+}
+
+// Whether a writer of `std` with room for two bytes takes two of three.
+fn takes_two() -> bool {
     let mut room = [0; 2];
-    assert_eq!(rt; reader.get_ref().len(), 0);
     let mut full = StdStream::new(room.as_mut_slice());
-    assert_eq!(rt; write_all(&mut full, b"abc"), Err(2));
-    Ok(())
+    write_all(&mut full, b"abc") == Err(2)
+}
+
+// A reader and a writer of `std`, at the end and without room.
+#[test]
+fn streams_of_std(rt: HostRuntime) {
+    assert!(rt; reads_to_the_end());
+    assert!(rt; takes_all(rt.alloc()));
+    assert!(rt; takes_two());
 }
 
 // The lanes of the ids 0 to 7 of one index, with eight lanes.

@@ -27,15 +27,18 @@ pub use relay_index::{Choice, Index, Script, ServeFault, may_refuse};
 pub use relay_batch::{Batch, BatchItem, Batcher, Limits, Offer, Room};
 pub use relay_flight::{Flight, Full, Request};
 pub use relay_lane::{
-    Lane, NotFlying, Pace, RelayConfig, Report, Settled, TakeFault, Totals, Wire, WireFault,
-    WireReply, collect, drain, make_room, pump, send_ready, settle_next,
+    Lane, NotFlying, Pace, RelayConfig, Report, Settled, Success, TakeFault, Totals, Wire,
+    WireFault, WireReply, collect, drain, make_room, pass, pump, send_ready, settle_next,
 };
 // HTTP/1.1, and the wires.
 pub use relay_http::{
     AcceptFailed, Conn, Dial, DialFault, HttpFault, HttpReply, HttpRequest, Listen, Peek, is_host,
 };
-pub use relay_loop::LoopWire;
-pub use relay_wires::HttpWire;
+pub use relay_loop::{LoopDial, LoopEnd, LoopStream, LoopWire, wire_to};
+pub use relay_wires::{HttpWire, Peer, Unknown};
+// Epochs from a counter document.
+pub use relay_epoch::{EpochFault, Patience, epoch_of, take_epoch};
+pub use relay_target::{document_target, read_name, read_target};
 // The world and its scripts.
 pub use relay_scenario::script::{ScriptFault, world_script};
 pub use relay_world::{Event, Refusal, RunEnd, StepAnswer, World};
@@ -43,11 +46,19 @@ pub use relay_world::{Event, Refusal, RunEnd, StepAnswer, World};
 pub use relay_producer::{
     ClosedControl, ClosedEnd, ClosedProducer, Control, Producer, PutFault, PutFaultKind, Receipt,
 };
-pub use relay_queue::{ClosedPut, Gone, LanePut, LaneTake, PutRefusal, Taken, lane_queue};
+pub use relay_queue::{
+    ClosedPut, Gone, LanePut, LaneTake, OfferRefusal, PutRefusal, Taken, lane_queue,
+};
 pub use relay_threads::{
     FinishFault, FinishFaultKind, LaneEnd, LaneEndKind, LaneSummary, Relay, StartFault, Summary,
-    run_lane,
+    Tell, TellNobody, run_lane,
 };
+// Receipts of a running relay.
+pub use relay_receipts::{
+    LaneTell, Notice, ReceiptTake, TakenReceipts, ToldLane, WINDOW_LIMIT, WindowFault,
+    WindowFaultKind, WindowedProducer, receipts,
+};
+pub use relay_telling::{Ending, LaneTells, ProducerTell, telling};
 // The commands as functions.
 pub use relay_commands::apply::{ApplyFault, apply};
 pub use relay_commands::lines::{LinesFault, lines};
@@ -57,5 +68,6 @@ pub use relay_report::{
     Named, PickFault, ReportFault, first_missing, pick, read_names, report_text,
 };
 pub use relay_run::files::{RunOptions, run_files};
+pub use relay_run::ticking::SleepPace;
 pub use relay_stub::{ServeError, stub_serve};
 pub use relay_words::Exit;

@@ -3,7 +3,7 @@ ghost use Rattle.std.specs.Prelude.{◌<◌, ◌≤◌, IfSome};
 
 use crate::fault::BenchFault;
 use crate::rate::tenths_each;
-use crate::{http, lane, queue, replies};
+use crate::{http, lane, queue, replies, tell};
 use std::rt::Env;
 use std::sync::Wait;
 use std::thread::Threads;
@@ -29,6 +29,8 @@ pub(crate) struct QueueTask {
 pub(crate) enum Task {
     Nothing,
     Queue(QueueTask),
+    // The same words: lanes, places, and endings of each lane.
+    Tell(QueueTask),
     Replies(u64),
     Lane(HeldTask),
     HttpRead(ReadTask),
@@ -84,6 +86,14 @@ fn queue_task(senders: &str, capacity: &str, count: &str) -> Option<Task> {
     }))
 }
 
+// The telling with these three words.
+fn tell_task(lanes: &str, places: &str, count: &str) -> Option<Task> {
+    match queue_task(lanes, places, count)? {
+        Task::Queue(task) => Some(Task::Tell(task)),
+        _ => None,
+    }
+}
+
 // The lane with these two words.
 fn lane_task(held: &str, documents: &str) -> Option<Task> {
     let held = number_of(held, 65_536)? as u32;
@@ -126,6 +136,9 @@ pub(crate) fn task_of(words: &[String]) -> Option<Task> {
         [_, name, senders, capacity, count] if name.as_str() == "queue" => {
             queue_task(senders.as_str(), capacity.as_str(), count.as_str())
         }
+        [_, name, lanes, places, count] if name.as_str() == "tell" => {
+            tell_task(lanes.as_str(), places.as_str(), count.as_str())
+        }
         _ => None,
     }
 }
@@ -145,6 +158,27 @@ fn run_queue<R: Threads + Wait + Clock + Print + AllocGlobal + Copy + Send + 'st
     let tenths = tenths_each(nanoseconds, messages);
     println!(rt;
         "{messages} messages in order, {}.{} ns a message",
+        tenths / 10,
+        tenths % 10
+    )?;
+    Ok(())
+}
+
+// Measures telling, and prints the time per notice.
+fn run_tell<R: Threads + Wait + Clock + Print + AllocGlobal + Copy + Send + 'static>(
+    rt: R,
+    task: QueueTask,
+) -> Result<(), BenchFault> {
+    let QueueTask {
+        senders,
+        capacity,
+        count,
+    } = task;
+    let nanoseconds = tell::measure(rt, rt.alloc(), senders, capacity, count)?;
+    let notices = senders as u64 * (count + 1);
+    let tenths = tenths_each(nanoseconds, notices);
+    println!(rt;
+        "{notices} notices in order, {}.{} ns a notice",
         tenths / 10,
         tenths % 10
     )?;
@@ -243,6 +277,7 @@ where
     match task_of(words.as_slice()) {
         Some(Task::Nothing) => Ok(()),
         Some(Task::Queue(task)) => run_queue(rt, task),
+        Some(Task::Tell(task)) => run_tell(rt, task),
         Some(Task::Replies(turns)) => run_replies(&rt, turns),
         Some(Task::Lane(task)) => run_lane(&rt, task),
         Some(Task::HttpRead(task)) => run_http_read(&rt, task),

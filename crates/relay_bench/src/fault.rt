@@ -9,7 +9,7 @@ use thiserror::Error;
 #[derive(Clone, Copy, Debug, PartialEq, Eq, Error)]
 pub enum BenchFault {
     /// The command line is invalid.
-    #[error("usage: relay_bench queue SENDERS CAPACITY COUNT | relay_bench replies TURNS < BODY | relay_bench lane HELD [DOCUMENTS] | relay_bench http-read PIECE TURNS < REPLY | relay_bench http-write WRITES BYTES TURNS")]
+    #[error("usage: relay_bench queue SENDERS CAPACITY COUNT | relay_bench tell LANES PLACES COUNT | relay_bench replies TURNS < BODY | relay_bench lane HELD [DOCUMENTS] | relay_bench http-read PIECE TURNS < REPLY | relay_bench http-write WRITES BYTES TURNS")]
     Usage,
     /// A message was taken out of its sender's order, or some are missing.
     #[error("not all messages came in order")]

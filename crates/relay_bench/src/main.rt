@@ -1,9 +1,9 @@
 //! The part of the benchmark that is written in Rattle: a tool that `bench/run.py` drives, to
 //! compare its figures with those of plain Rust programs. It depends on `relay_queue`,
-//! `relay_core`, `relay_results` and `relay_http`, and promises nothing about the product. Without
+//! `relay_receipts`, `relay_core`, `relay_results` and `relay_http`, and promises nothing about the product. Without
 //! arguments it prints nothing.
 //!
-//! The measurement of the queue starts threads and waits for them.
+//! The measurements of the queue and of telling start threads and wait for them.
 #![tactic(auto)]
 
 mod command;
@@ -13,6 +13,7 @@ mod lane;
 mod queue;
 mod rate;
 mod replies;
+mod tell;
 
 use std::process::ExitCode;
 

@@ -26,9 +26,9 @@ answer_text (Some seconds) = ago_text seconds
 abbrev pub counts_text : Progress → List ℕ
 counts_text p =
     codes ", sent " ++ decimal p.operations ++ codes " operations in " ++ decimal p.requests ++ codes " requests, settled " ++ decimal p.settled
-    ++ codes ", repeats " ++ decimal p.repeats ++ codes ", out " ++ decimal p.out
+    ++ codes ", refused " ++ decimal p.refused ++ codes ", repeats " ++ decimal p.repeats ++ codes ", out " ++ decimal p.out
 
--- `read R of S bytes (P %), sent N operations in Q requests, settled T, repeats U, out V, last answer W s ago`
+-- `read R of S bytes (P %), sent N operations in Q requests, settled T, refused X, repeats U, out V, last answer W s ago`
 abbrev pub progress_text : Progress → List ℕ
 progress_text p = codes "read " ++ read_text p.read p.size ++ counts_text p ++ codes ", " ++ answer_text p.idle
 

@@ -40,6 +40,7 @@ pub struct Counts {
     answers: AtomicU64,
     ended: AtomicU64,
     settled: AtomicU64,
+    refused: AtomicU64,
     repeats: AtomicU64,
     trouble: AtomicU64,
 }
@@ -61,6 +62,7 @@ impl Counts {
             answers: AtomicU64::new(0),
             ended: AtomicU64::new(0),
             settled: AtomicU64::new(0),
+            refused: AtomicU64::new(0),
             repeats: AtomicU64::new(0),
             trouble: AtomicU64::new(0),
         }
@@ -77,10 +79,12 @@ impl Counts {
         self.operations.fetch_add(operations, Ordering::SeqCst);
     }
 
-    /// Counts an answer that settled `settled` operations, and did not settle `others`.
-    pub fn add_answer(&self, settled: u64, others: u64) {
+    /// Counts an answer that settled `settled` operations, refused `refused`, and did neither with
+    /// `others`.
+    pub fn add_answer(&self, settled: u64, refused: u64, others: u64) {
         self.answers.fetch_add(1, Ordering::SeqCst);
         self.settled.fetch_add(settled, Ordering::SeqCst);
+        self.refused.fetch_add(refused, Ordering::SeqCst);
         self.add_loss(others);
     }
 
@@ -125,9 +129,14 @@ impl Counts {
         self.ended.load(Ordering::SeqCst)
     }
 
-    /// The number of operations that answers settled.
+    /// The number of operations that answers settled as applied.
     pub fn settled(&self) -> u64 {
         self.settled.load(Ordering::SeqCst)
+    }
+
+    /// The number of operations that answers refused for good.
+    pub fn refused(&self) -> u64 {
+        self.refused.load(Ordering::SeqCst)
     }
 
     /// The number of times that a request did not settle one of its operations.

@@ -19,8 +19,10 @@ pub struct Progress {
     pub requests: u64,
     /// The number of operations in them.
     pub operations: u64,
-    /// The number of operations that answers settled.
+    /// The number of operations that answers settled as applied.
     pub settled: u64,
+    /// The number of operations that answers refused for good.
+    pub refused: u64,
     /// The number of times that a request did not settle one of its operations.
     pub repeats: u64,
     /// The number of requests outstanding.
@@ -131,6 +133,8 @@ fn add_counts(text: &mut Vec<u8>, progress: &Progress) -> Result<(), AllocError>
     add_number(text, progress.requests)?;
     text.extend_from_slice(b" requests, settled ")?;
     add_number(text, progress.settled)?;
+    text.extend_from_slice(b", refused ")?;
+    add_number(text, progress.refused)?;
     text.extend_from_slice(b", repeats ")?;
     add_number(text, progress.repeats)?;
     text.extend_from_slice(b", out ")?;

@@ -160,6 +160,7 @@ fn progress_of(counts: &Counts, size: Option<u64>, idle: Option<u64>) -> Progres
         requests,
         operations: counts.operations(),
         settled: counts.settled(),
+        refused: counts.refused(),
         repeats: counts.repeats(),
         out: requests.saturating_sub(ended),
         idle,

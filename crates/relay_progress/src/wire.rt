@@ -1,9 +1,11 @@
 //! A counted wire.
-ghost use Rattle.std.specs.Prelude.{◌≡◌};
+ghost use Rattle.std.specs.Prelude.{◌≡◌, is_some, true};
+ghost use Rattle.relay_results.specs.Verdicts.{is_sent_again, verdict_of};
 
 use crate::counts::{Counts, Shared};
 use relay_action::Write;
 use relay_lane::{Wire, WireFault, WireReply};
+use relay_results::{ItemVerdict, Outcome, verdict};
 use std::alloc::Global;
 use std::marker::Model;
 
@@ -65,6 +67,10 @@ impl<W: Wire> Wire for CountedWire<W> {
         }
         result
     }
+
+    fn has_answer(&self, number: u64) -> bool {
+        self.wire.has_answer(number)
+    }
 }
 
 // Counts a request that was sent, or could not be sent.
@@ -94,22 +100,55 @@ fn take_size(sizes: &mut Vec<(u64, u64)>, number: u64) -> u64 {
 // Counts the answer to a request with this many operations.
 fn count_received(counts: &Counts, operations: u64, came: &Result<WireReply, WireFault>) {
     match came {
-        Ok(WireReply::Items(outcomes)) => {
-            let settled = outcomes
-                .iter()
-                .filter(|outcome| !is_busy(outcome.status))
-                .count() as u64;
-            counts.add_answer(settled, operations.saturating_sub(settled));
+        Ok(WireReply::Items(outcomes)) => count_entries(counts, operations, outcomes),
+        Ok(WireReply::Whole(status)) if is_sent_again(*status, operations) => {
+            counts.add_answer(0, 0, operations);
         }
-        Ok(WireReply::Whole(status)) if is_busy(*status) || (*status == 413 && operations > 1) => {
-            counts.add_answer(0, operations);
-        }
-        Ok(WireReply::Whole(_)) => counts.add_answer(operations, 0),
+        Ok(WireReply::Whole(_)) => counts.add_answer(0, operations, 0),
         Err(_) => counts.add_loss(operations),
     }
 }
 
-// Whether this status means that the operation is sent again.
-fn is_busy(status: u16) -> bool {
-    status == 429 || status == 503
+// Counts the entries of an answer to a request with this many operations.
+fn count_entries(counts: &Counts, operations: u64, outcomes: &[Outcome]) {
+    let mut settled = 0u64;
+    let mut refused = 0u64;
+    for outcome in outcomes {
+        match verdict_on(outcome) {
+            ItemVerdict::Applied | ItemVerdict::Already => settled = settled.saturating_add(1),
+            ItemVerdict::Refused => refused = refused.saturating_add(1),
+            _ => {}
+        }
+    }
+    let others = operations.saturating_sub(settled).saturating_sub(refused);
+    counts.add_answer(settled, refused, others);
+}
+
+// The lane's verdict on an entry, as if its operation had been sent before and had attempts left: of
+// a conflict a wire cannot tell whose version was stored.
+fn verdict_on(outcome: &Outcome) -> ItemVerdict
+    ensures { result ≡ verdict_of outcome.now.kind outcome.now.status (is_some outcome.now.error)
+        true 2 1 2 }
+{
+    verdict(
+        outcome.kind,
+        outcome.status,
+        outcome.error.is_some(),
+        true,
+        2,
+        1,
+        2,
+    )
+}
+
+// Whether the operations of a request that got this status as a whole are sent again, by the lane's
+// rule.
+fn is_sent_again(status: u16, operations: u64) -> bool
+    ensures { result ≡ is_sent_again operations status }
+{
+    match status {
+        413 => operations >= 2,
+        429 | 502 | 503 | 504 => true,
+        _ => false,
+    }
 }

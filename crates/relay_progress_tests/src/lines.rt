@@ -9,6 +9,7 @@ pub const SOME: Progress = Progress {
     requests: 12,
     operations: 1_500,
     settled: 1_400,
+    refused: 50,
     repeats: 7,
     out: 2,
     idle: Some(3),
@@ -16,7 +17,7 @@ pub const SOME: Progress = Progress {
 
 /// The line for these counts.
 pub const SOME_LINE: &[u8] =
-    b"read 65536 of 98304 bytes (66 %), sent 1500 operations in 12 requests, settled 1400, repeats 7, out 2, last answer 3 s ago\n";
+    b"read 65536 of 98304 bytes (66 %), sent 1500 operations in 12 requests, settled 1400, refused 50, repeats 7, out 2, last answer 3 s ago\n";
 
 const NONE: Progress = Progress {
     read: 0,
@@ -24,6 +25,7 @@ const NONE: Progress = Progress {
     requests: 0,
     operations: 0,
     settled: 0,
+    refused: 0,
     repeats: 0,
     out: 0,
     idle: None,
@@ -47,17 +49,17 @@ const ROWS: &[(&Progress, bool, &[u8])] = &[
     (
         &NONE,
         true,
-        b"\rread 0 bytes, sent 0 operations in 0 requests, settled 0, repeats 0, out 0, no answer yet\x1b[K",
+        b"\rread 0 bytes, sent 0 operations in 0 requests, settled 0, refused 0, repeats 0, out 0, no answer yet\x1b[K",
     ),
     (
         &EMPTY,
         false,
-        b"read 0 of 0 bytes (100 %), sent 0 operations in 0 requests, settled 0, repeats 0, out 0, no answer yet\n",
+        b"read 0 of 0 bytes (100 %), sent 0 operations in 0 requests, settled 0, refused 0, repeats 0, out 0, no answer yet\n",
     ),
     (
         &MORE,
         false,
-        b"read 18446744073709551615 of 9223372036854775807 bytes (100 %), sent 0 operations in 0 requests, settled 0, repeats 0, out 0, no answer yet\n",
+        b"read 18446744073709551615 of 9223372036854775807 bytes (100 %), sent 0 operations in 0 requests, settled 0, refused 0, repeats 0, out 0, no answer yet\n",
     ),
 ];
 

@@ -75,14 +75,14 @@ const ROWS: &[Row] = &[
         over: false,
         trouble: Trouble::None,
         millis: 0,
-        wanted: b"read 0 bytes, sent 0 operations in 0 requests, settled 0, repeats 0, out 0, no answer yet\n",
+        wanted: b"read 0 bytes, sent 0 operations in 0 requests, settled 0, refused 0, repeats 0, out 0, no answer yet\n",
     },
     Row {
         lines: true,
         over: true,
         trouble: Trouble::None,
         millis: 0,
-        wanted: b"\rread 0 bytes, sent 0 operations in 0 requests, settled 0, repeats 0, out 0, no answer yet\x1b[K\n",
+        wanted: b"\rread 0 bytes, sent 0 operations in 0 requests, settled 0, refused 0, repeats 0, out 0, no answer yet\x1b[K\n",
     },
     Row {
         lines: false,
@@ -103,7 +103,7 @@ const ROWS: &[Row] = &[
         over: true,
         trouble: Trouble::TimedOut,
         millis: 0,
-        wanted: b"\r\x1b[Ka:1: connection timed out, trying again\n\rread 0 bytes, sent 0 operations in 0 requests, settled 0, repeats 0, out 0, no answer yet\x1b[K\n",
+        wanted: b"\r\x1b[Ka:1: connection timed out, trying again\n\rread 0 bytes, sent 0 operations in 0 requests, settled 0, refused 0, repeats 0, out 0, no answer yet\x1b[K\n",
     },
 ];
 

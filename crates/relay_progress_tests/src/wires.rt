@@ -13,8 +13,8 @@ pub fn asks_counted(alloc: Global, way: Way, counts: Option<Shared>) -> Told {
 }
 
 // The same, and how many requests, operations, answers and ends are counted, and how many operations
-// are settled and are not.
-fn counted(alloc: Global, way: Way) -> Option<(Told, [u64; 6])> {
+// are settled, are refused and are neither.
+fn counted(alloc: Global, way: Way) -> Option<(Told, [u64; 7])> {
     let counts = Counts::shared(alloc).ok()?;
     let told = asks_counted(alloc, way, Some(Arc::try_clone(&counts).ok()?));
     let found = [
@@ -23,28 +23,60 @@ fn counted(alloc: Global, way: Way) -> Option<(Told, [u64; 6])> {
         counts.answers(),
         counts.ended(),
         counts.settled(),
+        counts.refused(),
         counts.repeats(),
     ];
     Some((told, found))
 }
 
 // What a wire does, what it returns, and the counts: requests, operations, answers, ends, operations
-// settled, and others.
-const ROWS: &[(Way, Told, [u64; 6])] = &[
-    (Way::Answers(200), Told::Entries(1, 200), [1, 1, 1, 1, 1, 0]),
-    (Way::Answers(404), Told::Entries(1, 404), [1, 1, 1, 1, 1, 0]),
-    (Way::Answers(409), Told::Entries(1, 409), [1, 1, 1, 1, 1, 0]),
-    (Way::Answers(429), Told::Entries(1, 429), [1, 1, 1, 1, 0, 1]),
-    (Way::Answers(503), Told::Entries(1, 503), [1, 1, 1, 1, 0, 1]),
-    (Way::Whole(400), Told::Whole(400), [1, 1, 1, 1, 1, 0]),
-    (Way::Whole(413), Told::Whole(413), [1, 1, 1, 1, 1, 0]),
-    (Way::Whole(429), Told::Whole(429), [1, 1, 1, 1, 0, 1]),
-    (Way::Whole(503), Told::Whole(503), [1, 1, 1, 1, 0, 1]),
-    (Way::Loses, Told::Fault(WireFault::Lost), [1, 1, 0, 1, 0, 1]),
+// settled, refused, and others.
+const ROWS: &[(Way, Told, [u64; 7])] = &[
+    (
+        Way::Answers(200),
+        Told::Entries(1, 200),
+        [1, 1, 1, 1, 1, 0, 0],
+    ),
+    (
+        Way::Answers(404),
+        Told::Entries(1, 404),
+        [1, 1, 1, 1, 1, 0, 0],
+    ),
+    (
+        Way::Answers(400),
+        Told::Entries(1, 400),
+        [1, 1, 1, 1, 0, 1, 0],
+    ),
+    (
+        Way::Answers(409),
+        Told::Entries(1, 409),
+        [1, 1, 1, 1, 1, 0, 0],
+    ),
+    (
+        Way::Answers(429),
+        Told::Entries(1, 429),
+        [1, 1, 1, 1, 0, 0, 1],
+    ),
+    (
+        Way::Answers(503),
+        Told::Entries(1, 503),
+        [1, 1, 1, 1, 0, 0, 1],
+    ),
+    (Way::Whole(400), Told::Whole(400), [1, 1, 1, 1, 0, 1, 0]),
+    (Way::Whole(413), Told::Whole(413), [1, 1, 1, 1, 0, 1, 0]),
+    (Way::Whole(429), Told::Whole(429), [1, 1, 1, 1, 0, 0, 1]),
+    (Way::Whole(502), Told::Whole(502), [1, 1, 1, 1, 0, 0, 1]),
+    (Way::Whole(503), Told::Whole(503), [1, 1, 1, 1, 0, 0, 1]),
+    (Way::Whole(504), Told::Whole(504), [1, 1, 1, 1, 0, 0, 1]),
+    (
+        Way::Loses,
+        Told::Fault(WireFault::Lost),
+        [1, 1, 0, 1, 0, 0, 1],
+    ),
     (
         Way::FailsSend(1, WireFault::Send),
         Told::Fault(WireFault::Send),
-        [1, 1, 0, 1, 0, 1],
+        [1, 1, 0, 1, 0, 0, 1],
     ),
 ];
 

@@ -3,7 +3,9 @@ ghost use Rattle.std.specs.Prelude.{◌≡◌, ◌≢◌, ◌<◌, ◌≤◌, If
 ghost use Rattle.relay_queue.specs.Ends.{Queue};
 
 use relay_action::{Action, ActionFault, Body, DocKey, Mail, Op};
-use relay_queue::{ClosedPut, Gone, LanePut, LaneTake, PutRefusal, Taken, lane_queue};
+use relay_queue::{
+    ClosedPut, Gone, LanePut, LaneTake, OfferRefusal, PutRefusal, Taken, lane_queue,
+};
 use std::alloc::{AllocError, Global};
 use std::snapshot::Snapshot;
 use std::sync::Wait;
@@ -414,5 +416,54 @@ fn sees_each<R: Wait>(rt: &R, take: &mut LaneTake, puts: Vec<LanePut>) -> bool {
 fn without_a_wait(rt: HostRuntime) -> Result<(), Fail> {
     let (mut take, puts) = made(rt.alloc(), 4, 1)?;
     assert!(rt; sees_each(&rt, &mut take, puts));
+    Ok(())
+}
+
+// Whether an offer of a tick, or of a flush, is refused for now.
+fn is_not_yet<R: Wait>(rt: &R, put: &mut LanePut, tick: bool) -> bool {
+    let body = if tick { Body::Tick } else { Body::Flush };
+    matches!(put.offer(rt, body), Err((OfferRefusal::NotYet, _)))
+}
+
+// Whether a tick, or a flush, is sent as the message with this number.
+fn is_sent_as<R: Wait>(rt: &R, put: &mut LanePut, tick: bool, number: u64) -> bool {
+    let body = if tick { Body::Tick } else { Body::Flush };
+    matches!(put.offer(rt, body), Ok(found) if found == number)
+}
+
+// Whether a tick, or a flush, is taken next.
+fn takes_one<R: Wait>(rt: &R, take: &mut LaneTake, tick: bool) -> bool {
+    match take.try_take(rt) {
+        Ok(Some(mail)) => matches!(mail.body, Body::Tick) == tick,
+        _ => false,
+    }
+}
+
+// With two places: a second tick is refused until the first one was taken, and a flush if there is
+// no room.
+fn offers<R: Wait>(rt: &R, take: &mut LaneTake, put: &mut LanePut) -> bool {
+    is_sent_as(rt, put, true, 1)
+        && is_not_yet(rt, put, true)
+        && is_sent_as(rt, put, false, 2)
+        && is_not_yet(rt, put, false)
+        && takes_one(rt, take, true)
+        && is_sent_as(rt, put, true, 3)
+        && is_not_yet(rt, put, true)
+        && takes_one(rt, take, false)
+        && is_not_yet(rt, put, true)
+        && is_sent_as(rt, put, false, 4)
+        && takes_one(rt, take, true)
+        && takes_one(rt, take, false)
+}
+
+// An offer waits neither for room nor for the taker, and at most one tick is queued.
+#[test]
+fn offers_that_do_not_wait(rt: HostRuntime) -> Result<(), Fail> {
+    let (mut take, puts) = made(rt.alloc(), 2, 1)?;
+    let mut offered = false;
+    for mut put in puts {
+        offered = offers(&rt, &mut take, &mut put);
+    }
+    assert!(rt; offered);
     Ok(())
 }

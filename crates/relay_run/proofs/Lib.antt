@@ -3,3 +3,4 @@ pub mod Handing
 pub mod Ending
 pub mod Texts
 pub mod Said
+pub mod Hinting

@@ -6,3 +6,7 @@ pub mod Readers
 pub mod Handles
 pub mod Saying
 pub mod Sources
+pub mod Leasing
+pub mod Hints
+pub mod ReportFile
+pub mod Resolving

@@ -10,6 +10,7 @@ standard_name = codes "-"
 -- whether a source is standard input
 abbrev pub is_standard : Source → Bool
 is_standard (source.File f) = false
+is_standard (source.Pipe p) = false
 is_standard (source.Standard s) = true
 
 -- how many of these names equal this one

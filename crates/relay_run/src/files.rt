@@ -16,24 +16,27 @@ ghost use Rattle.relay_run.specs.Outcomes.{reports_of, exit_of_reports, TellsOf}
 
 use crate::faults::{FileFault, add_file_fault, exit_of_file, worse};
 use crate::feed::FeedFault;
+use crate::hint::say_hint;
+use crate::leasing::{config_of, say_no_epoch};
 use crate::outcome::outcome_text;
+use crate::report_file::{open_report, say_not_opened};
+use crate::resolving::{is_known, say_unknown};
 use crate::run::{Ran, run};
-use crate::saving::{save_reports, say_not_made};
+use crate::saving::save_reports;
 use crate::source::{STANDARD_NAME, Source, count_named, open_source};
 use crate::ticking::SleepPace;
 use crate::watching::{counters_of, share, start_watch, stop_watch};
-use relay_action::{ByteOut, StdStream, write_all};
+use relay_action::{ByteOut, DocKey, StdStream, write_all};
 use relay_core::Report;
 use relay_http::is_host;
 use relay_lane::RelayConfig;
-use relay_net::{PatientDial, TcpDial};
+use relay_net::{PatientDial, TcpDial, TimedDial, TimedStream};
 use relay_progress::{CountedDial, CountedReader, CountedWire, Shared, Show};
 use relay_threads::{FinishFault, FinishFaultKind, LaneSummary, StartFault, Summary};
-use relay_wires::HttpWire;
+use relay_wires::{HttpWire, Unknown};
 use relay_words::{Exit, add_number};
 use std::alloc::{AllocError, Global};
-use std::fs::File;
-use std::io::IsTerminal;
+use std::io::{ErrorKind, IsTerminal};
 use std::net::TcpStream;
 use std::sync::Wait;
 use std::thread::Threads;
@@ -51,13 +54,18 @@ pub struct RunOptions {
     pub index: Option<String>,
     /// The config of the relay.
     pub config: RelayConfig,
-    /// For how many seconds connecting may take, and a read or a write on a connection may wait,
-    /// before it fails; 0 means no limit.
+    /// The counter document, if the epoch of the run is taken from the index and not from the
+    /// config.
+    pub epoch_from: Option<DocKey>,
+    /// For how many seconds connecting may take, and reading or writing a whole message, before it
+    /// fails; 0 means no limit.
     pub timeout: u32,
     /// For how many seconds to keep trying to connect, once a second, before that counts as failed.
     pub patience: u32,
     /// The path of the file in which the reports are saved, if they are.
     pub report: Option<String>,
+    /// Whether the reports are added to what that file has. Otherwise it has to be empty, or absent.
+    pub append: bool,
     /// Whether to show on standard error how far the run has got.
     pub progress: bool,
 }
@@ -105,11 +113,11 @@ fn is_apart(path: &str, files: &[String]) -> bool
     path != STANDARD_NAME && count_named(files, path) == 0
 }
 
-/// A dial over TCP that waits for an index that is down.
-type RunDial = PatientDial<CountedDial<HostRuntime>, HostRuntime>;
+/// A dial over TCP that waits for an index that is down, and limits the time of each message.
+type RunDial = PatientDial<TimedDial<CountedDial<HostRuntime>, HostRuntime>, HostRuntime>;
 
 /// A wire over TCP.
-type TcpWire = HttpWire<StdStream<TcpStream>, RunDial>;
+type TcpWire = HttpWire<TimedStream<TcpStream, HostRuntime>, RunDial, Unknown>;
 
 // The dial to the index.
 fn make_dial(
@@ -120,7 +128,7 @@ fn make_dial(
 ) -> Result<RunDial, AllocError>
     ensures { IfOk result (λ d.
         d ≡ (
-          (string_bytes options.now.to, 0, 0, options.now.timeout, None),
+          ((string_bytes options.now.to, 0, 0, options.now.timeout, None), options.now.timeout),
           options.now.patience,
           0,
           0,
@@ -129,6 +137,7 @@ fn make_dial(
     let address = String::from_str(alloc, options.to.as_str())?;
     let dial = TcpDial::new(rt, address).with_timeout(options.timeout);
     let dial = CountedDial::new(dial, share(counts)?);
+    let dial = TimedDial::new(dial, rt, options.timeout);
     Ok(PatientDial::new(dial, rt, options.patience))
 }
 
@@ -150,6 +159,7 @@ fn make_wires(
         wires.push(HttpWire::new(
             alloc,
             dial,
+            Unknown,
             String::from_str(alloc, to)?,
             options.config.in_flight,
         )?)?;
@@ -199,7 +209,11 @@ fn open_files(
 {
     let mut sources = Vec::new(alloc);
     for file in files {
-        sources.push(open_source(rt, file.as_str()).ok())?;
+        match open_source(rt, alloc, file.as_str()) {
+            Ok(source) => sources.push(Some(source))?,
+            Err(error) if error.kind() == ErrorKind::OutOfMemory => return Err(AllocError),
+            Err(_) => sources.push(None)?,
+        }
     }
     Ok(sources)
 }
@@ -489,8 +503,58 @@ fn conclude<W: Drop, O: ByteOut, E: ByteOut>(
     }
 }
 
-// Runs the files over TCP, writes the outcome, and returns the exit status and the reports.
+// Runs the files over TCP with this config, writes the outcome, and returns the exit status and the
+// reports.
 fn run_said<R, O, E>(
+    rt: R,
+    host: HostRuntime,
+    options: &RunOptions,
+    config: RelayConfig,
+    sources: Vec<Option<Source>>,
+    out: &mut O,
+    err: &mut E,
+) -> Result<(Exit, Vec<Report>), AllocError>
+where
+    R: Threads + Wait + Clock + Copy + Send + 'static,
+    O: ByteOut,
+    E: ByteOut,
+    requires host { IsTrue (is_host (string_bytes options.now.to)) }
+    requires files { vec_len options.now.files ≡ config.producers }
+    requires sources { vec_len sources ≡ vec_len options.now.files }
+{
+    let alloc = host.alloc();
+    let over = host.stderr().is_terminal();
+    let counters = counters_of(alloc, options.progress, over)?;
+    let wires = make_wires(host, alloc, options, &counters.dials)?;
+    let wires = count_wires(alloc, wires, &counters.all)?;
+    let paces = make_paces(host, alloc, options.config.lanes)?;
+    let size = whole_size(&sources);
+    let readers = make_readers(alloc, sources, &counters.all)?;
+    let opened = are_opened(alloc, &readers)?;
+    let show = Show {
+        lines: options.progress,
+        over,
+        address: String::from_str(alloc, options.to.as_str())?,
+        size,
+    };
+    let watch = start_watch(rt, host, alloc, show, counters.dials)?;
+    let index = options.index.as_deref();
+    let ran = run(rt, alloc, config, wires, paces, readers, index);
+    stop_watch(&rt, watch);
+    match ran {
+        Ok(ran) => {
+            let (exit, reports) = conclude(alloc, &options.files, &opened, ran, out, err)?;
+            // A hint for which there is no memory is left out.
+            let _ = say_hint(alloc, &reports, config.epoch, err);
+            Ok((exit, reports))
+        }
+        Err(fault) => Ok((say_start(fault, err), Vec::new(alloc))),
+    }
+}
+
+// Opens the files, and then does the same in the epoch of the run. If there is none, nothing is
+// sent.
+fn run_in_epoch<R, O, E>(
     rt: R,
     host: HostRuntime,
     options: &RunOptions,
@@ -505,28 +569,10 @@ where
     requires files { vec_len options.now.files ≡ options.now.config.producers }
 {
     let alloc = host.alloc();
-    let over = host.stderr().is_terminal();
-    let counters = counters_of(alloc, options.progress, over)?;
-    let wires = make_wires(host, alloc, options, &counters.dials)?;
-    let wires = count_wires(alloc, wires, &counters.all)?;
-    let paces = make_paces(host, alloc, options.config.lanes)?;
     let sources = open_files(&host, alloc, &options.files)?;
-    let size = whole_size(&sources);
-    let readers = make_readers(alloc, sources, &counters.all)?;
-    let opened = are_opened(alloc, &readers)?;
-    let show = Show {
-        lines: options.progress,
-        over,
-        address: String::from_str(alloc, options.to.as_str())?,
-        size,
-    };
-    let watch = start_watch(rt, host, alloc, show, counters.dials)?;
-    let index = options.index.as_deref();
-    let ran = run(rt, alloc, options.config, wires, paces, readers, index);
-    stop_watch(&rt, watch);
-    match ran {
-        Ok(ran) => conclude(alloc, &options.files, &opened, ran, out, err),
-        Err(fault) => Ok((say_start(fault, err), Vec::new(alloc))),
+    match config_of(host, alloc, options) {
+        Ok(config) => run_said(rt, host, options, config, sources, out, err),
+        Err(fault) => Ok((say_no_epoch(alloc, &fault, err)?, Vec::new(alloc))),
     }
 }
 
@@ -540,8 +586,8 @@ fn say_start<E: ByteOut>(fault: StartFault, err: &mut E) -> Exit {
     }
 }
 
-// Does the same, and saves the reports, if asked for, in a file that is created before anything is
-// put.
+// Looks up the address, opens the file for the reports, if asked for, and does the same. Then it
+// saves them.
 fn run_all<R, O, E>(
     rt: R,
     host: HostRuntime,
@@ -557,27 +603,36 @@ where
     requires files { vec_len options.now.files ≡ options.now.config.producers }
 {
     let alloc = host.alloc();
+    if !is_known(&host, options.to.as_str(), options.patience) {
+        return say_unknown(alloc, options.to.as_str(), err);
+    }
     let Some(name) = options.report.as_deref() else {
-        let (exit, _) = run_said(rt, host, options, out, err)?;
+        let (exit, _) = run_in_epoch(rt, host, options, out, err)?;
         return Ok(exit);
     };
-    let Ok(file) = File::create(&host, name) else {
-        return say_not_made(alloc, name, err);
+    let file = match open_report(&host, alloc, name, options.append, &options.files) {
+        Ok(file) => file,
+        Err(fault) => return say_not_opened(alloc, name, fault, err),
     };
-    let (exit, reports) = run_said(rt, host, options, out, err)?;
+    let (exit, reports) = run_in_epoch(rt, host, options, out, err)?;
     save_reports(alloc, exit, name, &reports, &mut StdStream::new(file), err)
 }
 
 /// Writes the operations of the files to the index, each file with its own producer (`-` is
 /// standard input), and writes the outcome: on `err` a line for each file that was not put in full,
 /// in order, and for a lane that did not finish; on `out` a line for each operation that could not
-/// be settled, by producer and number, and how many were applied, already applied and reported. If
-/// asked for, the reports are also saved: the file for them is created first, and if it cannot be,
-/// nothing is put. If progress is asked for, standard error shows meanwhile how far the run has
-/// got, and when no connection can be made; a terminal shows the latter in any case.
+/// be settled, by producer and number, and how many were applied, already applied and reported.
+/// First the host of the address is looked up, within the patience, and if it is unknown, `err` gets
+/// a line, nothing is put, and the exit status is `Device`. If asked for, the reports are also
+/// saved: the file for them is opened next, and if it cannot be, nothing is put. Then the files are
+/// opened. If the epoch is taken from the index, that comes next; if there is none, `err`
+/// gets a line that says why, nothing is put, and the exit status is `Device`, or `Memory`. If
+/// progress is asked for, standard error shows meanwhile how far the run has got, and when no
+/// connection can be made; a terminal shows the latter in any case.
 ///
 /// The exit status is `Usage` if the options are invalid, name standard input twice, or save the
-/// reports in a file that is read; then nothing is done. Otherwise a failed allocation takes
+/// reports in a file that is read, or in one that is not empty without being told to add to it;
+/// then nothing is done. Otherwise a failed allocation takes
 /// precedence over a device fault, that over an input fault, and that over reported operations.
 pub fn run_files<R, O, E>(
     rt: R,

@@ -4,8 +4,12 @@
 pub mod faults;
 pub mod feed;
 pub mod files;
+pub mod hint;
+pub mod leasing;
 pub mod outcome;
 pub mod producing;
+pub mod report_file;
+mod resolving;
 pub mod run;
 pub mod saving;
 pub mod source;

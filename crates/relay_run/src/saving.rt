@@ -1,6 +1,6 @@
 //! The file in which the reports of a run are saved.
-ghost use Rattle.std.specs.Prelude.{◌≡◌, IfOk, OnErr};
-ghost use Rattle.relay_run.specs.Saying.{SavesReports, StopsSaving, file_failed_text};
+ghost use Rattle.std.specs.Prelude.{◌≡◌, IfOk, OnOk, OnErr};
+ghost use Rattle.relay_run.specs.Saying.{IsSaid, SavesReports, StopsSaving, file_failed_text};
 
 use crate::faults::worse;
 use crate::files::say;
@@ -38,15 +38,18 @@ pub fn save_reports<P: ByteOut, E: ByteOut>(
     Ok(worse(exit, Exit::Device))
 }
 
-/// Writes that the file with this name could not be created, and returns the exit status.
-pub(crate) fn say_not_made<E: ByteOut>(
+/// Writes that this failed for the file with this name, and returns the exit status.
+pub(crate) fn say_failed<E: ByteOut>(
     alloc: Global,
     name: &str,
+    what: &[u8],
     err: &mut E,
 ) -> Result<Exit, AllocError>
-    ensures { IfOk result (λ end. end ≡ Exit.Device) }
+    ensures said { OnOk result (IsSaid (file_failed_text name.now what.now)
+        (E.written err.old, E.failed err.old) (E.written err.new, E.failed err.new)) }
+    ensures exit { IfOk result (λ end. end ≡ Exit.Device) }
 {
-    let fault = failed_text(alloc, name, b"create")?;
+    let fault = failed_text(alloc, name, what)?;
     let _ = say(err, &fault);
     Ok(Exit::Device)
 }

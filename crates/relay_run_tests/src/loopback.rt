@@ -108,8 +108,10 @@ fn options<R: Files>(rt: &R, alloc: Global, to: String) -> Option<RunOptions> {
         to,
         index: None,
         config: CONFIG,
+        epoch_from: None,
         timeout: 60,
         patience: 0,
+        append: false,
         report: None,
         progress: false,
     })

@@ -7,12 +7,13 @@ use crate::loopback::CONFIG;
 use relay_action::{DocKey, MemStream, OpName, Text};
 use relay_core::{Cause, Report};
 use relay_index::{Index, Script};
-use relay_loop::{LoopWire, Wire};
+use relay_loop::{LoopEnd, LoopWire, Wire, wire_to};
 use relay_ndjson::{Input, InputFault, LineKind};
 use relay_producer::Producer;
 use relay_queue::{LaneTake, lane_queue};
 use relay_run::faults::{FileFault, add_file_fault};
 use relay_run::feed::{FeedFault, feed};
+use relay_run::hint::say_hint;
 use relay_run::outcome::outcome_text;
 use relay_run::run::{Ran, run};
 use relay_run::saving::save_reports;
@@ -63,6 +64,7 @@ fn report_once(alloc: Global) -> Option<Vec<Report>> {
         cause: Cause::Refused {
             status: 400,
             kind: Text::new(alloc, "mapper_parsing_exception").ok()?,
+            reason: None,
         },
     };
     let mut reports = Vec::new(alloc);
@@ -98,6 +100,45 @@ fn stream_once(alloc: Global, input: &[u8], room: usize) -> Option<MemStream> {
 
 fn stream_of(alloc: Global, input: &[u8], room: usize) -> Option<MemStream> {
     stream_once(alloc, input, room).or_else(|| stream_once(alloc, input, room))
+}
+
+// A report of a conflict with a version of epoch 2.
+fn conflict_once(alloc: Global) -> Option<Vec<Report>> {
+    let report = Report {
+        name: OpName {
+            epoch: 0,
+            producer: 1,
+            number: 3,
+        },
+        key: DocKey::new(alloc, "books", "a document of more than thirty-eight bytes").ok()?,
+        cause: Cause::Conflict {
+            stored: Some(2_199_023_255_553),
+            reason: None,
+        },
+    };
+    let mut reports = Vec::new(alloc);
+    reports.push(report).ok()?;
+    Some(reports)
+}
+
+const HINT: &[u8] = b"the index has versions of epoch 2: run again with --epoch 3 or higher\n";
+
+// Whether the hint is said, by a second call if the first was refused and said nothing.
+fn hints(alloc: Global) -> Option<bool> {
+    let reports = conflict_once(alloc).or_else(|| conflict_once(alloc))?;
+    let mut err = stream_of(alloc, b"", 1_000)?;
+    if say_hint(alloc, &reports, 0, &mut err).is_err() {
+        if !err.written().is_empty() {
+            return Some(false);
+        }
+        say_hint(alloc, &reports, 0, &mut err).ok()?;
+    }
+    Some(err.written() == HINT)
+}
+
+#[test]
+fn refused_hint(rt: HostRuntime) {
+    assert!(rt; hints(rt.alloc()) == Some(true));
 }
 
 const SAVED: &[u8] =
@@ -250,7 +291,12 @@ fn one<T: Drop>(alloc: Global, x: T) -> Option<Vec<T>>
 fn wire_of(alloc: Global) -> Option<LoopWire>
     ensures { IfSome result (λ w. numbers w.out ≡ []) }
 {
-    LoopWire::new(alloc, Index::new(alloc), Script::new(alloc)).ok()
+    wire_to(
+        alloc,
+        LoopEnd::new(alloc, Index::new(alloc), Script::new(alloc)),
+        16,
+    )
+    .ok()
 }
 
 // Both producers' inputs.

@@ -1,5 +1,6 @@
 //! `relay apply`.
 use crate::refusals::script_of;
+use crate::stand_in::{index_of, reasons};
 use clap::{Arg, ArgAction, ArgMatches, Command};
 use relay_action::StdStream;
 use relay_commands::apply::{ApplyFault, apply};
@@ -34,7 +35,8 @@ pub fn command<'a>(alloc: Global, name: &'static str) -> Result<Command<'a>, All
     Command::new(alloc, name)
         .about(ABOUT)
         .long_about(LONG_ABOUT)
-        .arg(refuse)
+        .arg(refuse)?
+        .arg(reasons(alloc))
 }
 
 /// Runs it over standard input and output.
@@ -45,7 +47,8 @@ pub fn execute<R: Input + Print + Eprint + AllocGlobal>(rt: &R, matches: &ArgMat
     };
     let mut reader = StdStream::new(rt.reader());
     let mut writer = StdStream::new(io::writer(rt));
-    match apply(rt.alloc(), &mut reader, &mut writer, script) {
+    let index = index_of(rt.alloc(), matches);
+    match apply(rt.alloc(), &mut reader, &mut writer, index, script) {
         Ok(()) => Exit::Done,
         Err(fault) => report(rt, fault),
     }

@@ -2,9 +2,10 @@
 use crate::report::out_of_memory;
 use clap::{Arg, ArgAction, ArgMatches, Command};
 use relay_action::StdStream;
-use relay_core::config::PRODUCER_LIMIT;
 use relay_ndjson::LineKind;
-use relay_report::{Named, PickFault, ReportFault, first_missing, pick, read_names};
+use relay_report::{
+    InputEnd, Named, PickFault, ReportFault, current_names, first_missing, pick, read_names,
+};
 use relay_words::{Exit, exit_of_kind};
 use std::alloc::{AllocError, Global};
 use std::fs::File;
@@ -22,21 +23,28 @@ last line without an end gets a line feed. Blank lines are left out.
     relay run --to 127.0.0.1:9200 --report report.ndjson a.ndjson b.ndjson
     relay pick --report report.ndjson a.ndjson b.ndjson > again.ndjson
 
-Fix what was refused in again.ndjson, and submit it with a run in the next epoch. It overwrites what later
-operations have written to the same documents since: look at the report before you run it again.
+An operation is left out if a later one of the same document, in its file or in a later file, is not named:
+that one was submitted and settled, and the older one would overwrite it. So once again.ndjson is submitted
+with a run in the next epoch, each document has its last operation. Standard error gets a line if any are left
+out: `N of M operations left out: superseded by later ones of their documents`. With --all none are.
+
+Each file is read twice, and to its end or its first fault, so it has to be a regular file. With --all it is
+read once, up to the last operation that is named, and may be a pipe.
 
 A line of the report has the members that `relay run --report` writes, in any order; the epoch has no effect.
-If the files have operations that do not name an index, give --index as in the run. Each file is read up to
-the last operation that is named.
+If the files have operations that do not name an index, give --index as in the run.
 
-The first fault ends the command with status 2; what was extracted before it has been written:
+The exit status is 2 if there is a fault, and standard error gets its line. What was extracted has been written:
+all operations that are named by lines of the report before a bad one and come before the fault of their file.
+With --all the first fault of a file ends the command.
 
-    REPORT: line N: BadLine    the line is not a line of a report, or is longer than 1114112 bytes; the
-                               operations of the lines before it were written
-    FILE: line N: KIND         the line breaks the producer grammar (see `relay help lines`)
-    REPORT: line N: NoSuch     no file has the operation of that line; all others were written
+    REPORT: line N: BadLine    the line is not a line of a report, or is longer than 1114112 bytes
+    FILE: line N: KIND         the line breaks the producer grammar (see `relay help lines`), and ended the run's
+                               reading of this file too
+    REPORT: line N: NoSuch     no file has the operation of that line
 
-The exit status is 3 if a file cannot be opened or a read or write fails, and 4 if memory runs out.";
+The exit status is 3 if a file cannot be opened or a read or write fails, and 4 if memory runs out. If a read
+fails, nothing is written, except with --all.";
 
 /// Its help and its options.
 pub fn command<'a>(alloc: Global, name: &'static str) -> Result<Command<'a>, AllocError> {
@@ -51,10 +59,14 @@ pub fn command<'a>(alloc: Global, name: &'static str) -> Result<Command<'a>, All
         .value_name("NAME")
         .action(ArgAction::Set)
         .help("The index of operations that do not name one, as in the run");
+    let all = Arg::new(alloc, "all")
+        .long("all")
+        .action(ArgAction::SetTrue)
+        .help("Extract superseded operations too, and read each file once");
     let files = Arg::new(alloc, "file")
         .value_name("FILE")
         .action(ArgAction::Append)
-        .num_args(1..=PRODUCER_LIMIT as usize)
+        .num_args(1..=16)
         .required(true)
         .help("All files of the run, in the same order");
     Command::new(alloc, name)
@@ -62,6 +74,7 @@ pub fn command<'a>(alloc: Global, name: &'static str) -> Result<Command<'a>, All
         .long_about(LONG_ABOUT)
         .arg(report)?
         .arg(index)?
+        .arg(all)?
         .arg(files)
 }
 
@@ -78,12 +91,16 @@ pub fn execute<R: Print + Eprint + AllocGlobal>(
         Err(exit) => return exit,
     };
     let files = matches.get_strs("file").unwrap_or(&[]);
-    if let Err(exit) = pick_all(rt, host, &names, files, matches.get_str("index"), report) {
-        return exit;
-    }
-    match read {
-        Ok(()) => Exit::Done,
-        Err(fault) => report_fault(rt, report, fault),
+    let index = matches.get_str("index");
+    let done = if matches.get_flag("all") {
+        pick_all(rt, host, &names, files, index, report)
+    } else {
+        pick_current(rt, host, &names, files, index, report)
+    };
+    match (done, read) {
+        (Err(exit), _) => exit,
+        (Ok(()), Ok(())) => Exit::Done,
+        (Ok(()), Err(fault)) => report_fault(rt, report, fault),
     }
 }
 
@@ -100,6 +117,113 @@ fn names_of<R: Eprint + AllocGlobal>(
         Err(_) => return Err(said(rt, path, "open failed", Exit::Device)),
     };
     Ok(read_names(rt.alloc(), &mut report, names))
+}
+
+// Extracts the operations that no later one supersedes, and prints how many were left out and the
+// faults.
+fn pick_current<R: Print + Eprint + AllocGlobal>(
+    rt: &R,
+    host: HostRuntime,
+    names: &[Named],
+    files: &[&str],
+    index: Option<&str>,
+    report: &str,
+) -> Result<(), Exit> {
+    let inputs = open_files(rt, host, files)?;
+    let Ok(kept) = current_names(rt.alloc(), names, inputs, index) else {
+        return Err(out_of_memory(rt));
+    };
+    all_were_read(rt, files, &kept.ends)?;
+    pick_all(rt, host, &kept.names, files, index, report)?;
+    let left_out = kept.found.saturating_sub(kept.names.len());
+    if left_out > 0 {
+        let found = kept.found;
+        let _ = eprintln!(rt;
+            "{left_out} of {found} operations left out: superseded by later ones of their documents"
+        );
+    }
+    say_ends(rt, names, files, &kept.ends, report)
+}
+
+// Opens the files, which are read twice.
+fn open_files<R: Eprint + AllocGlobal>(
+    rt: &R,
+    host: HostRuntime,
+    files: &[&str],
+) -> Result<Vec<StdStream<File>>, Exit> {
+    let mut inputs = Vec::new(rt.alloc());
+    for path in files {
+        let Ok(file) = File::open(&host, path) else {
+            return Err(said(rt, path, "open failed", Exit::Device));
+        };
+        if !is_regular(&file) {
+            let text = "not a regular file, and only --all reads a file once";
+            return Err(said(rt, path, text, Exit::Device));
+        }
+        if inputs.push(StdStream::new(file)).is_err() {
+            return Err(out_of_memory(rt));
+        }
+    }
+    Ok(inputs)
+}
+
+fn is_regular(file: &File) -> bool {
+    match file.metadata() {
+        Ok(metadata) => metadata.is_file(),
+        Err(_) => false,
+    }
+}
+
+// Prints the first failed read, if there is one.
+fn all_were_read<R: Eprint>(rt: &R, files: &[&str], ends: &[InputEnd]) -> Result<(), Exit> {
+    for (path, end) in files.iter().zip(ends) {
+        if end.fault.is_some_and(|fault| fault.kind == LineKind::Read) {
+            return Err(said(rt, path, "read failed", Exit::Device));
+        }
+    }
+    Ok(())
+}
+
+// Prints where the files break the producer grammar, or the report's line of the first operation
+// that no file has.
+fn say_ends<R: Eprint + AllocGlobal>(
+    rt: &R,
+    names: &[Named],
+    files: &[&str],
+    ends: &[InputEnd],
+    report: &str,
+) -> Result<(), Exit> {
+    let mut counts = Vec::new(rt.alloc());
+    let mut faults = 0u32;
+    for (path, end) in files.iter().zip(ends) {
+        if let Some(fault) = end.fault {
+            let _ = eprintln!(rt; "{path}: {fault}");
+            faults = faults.saturating_add(1);
+        }
+        if counts.push(end.count).is_err() {
+            return Err(out_of_memory(rt));
+        }
+    }
+    if faults > 0 {
+        return Err(Exit::Input);
+    }
+    none_is_missing(rt, names, &counts, report)
+}
+
+// Prints the report's line of the first operation that no file has, if there is one.
+fn none_is_missing<R: Eprint>(
+    rt: &R,
+    names: &[Named],
+    counts: &[u64],
+    report: &str,
+) -> Result<(), Exit> {
+    match first_missing(names, counts) {
+        None => Ok(()),
+        Some(line) => {
+            let _ = eprintln!(rt; "{report}: line {line}: NoSuch");
+            Err(Exit::Input)
+        }
+    }
 }
 
 // Extracts the operations from the files, one file after another. Prints the report's line of the
@@ -130,13 +254,7 @@ fn pick_all<R: Print + Eprint + AllocGlobal>(
         }
         producer = producer.saturating_add(1);
     }
-    match first_missing(names, &counts) {
-        None => Ok(()),
-        Some(line) => {
-            let _ = eprintln!(rt; "{report}: line {line}: NoSuch");
-            Err(Exit::Input)
-        }
-    }
+    none_is_missing(rt, names, &counts, report)
 }
 
 // Prints the fault of a file. If that fails, the exit status is the same.

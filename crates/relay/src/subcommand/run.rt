@@ -2,14 +2,17 @@
 use crate::report::{out_of_memory, usage};
 use clap::builder::ValueParser;
 use clap::{Arg, ArgAction, ArgMatches, Command};
-use relay_action::StdStream;
+use relay_action::{DocKey, StdStream};
 use relay_core::config::{
     ATTEMPT_LIMIT, BYTES_LEAST, BYTES_LIMIT, CAPACITY_LIMIT, COUNT_LIMIT, DEAL_LIMIT, EPOCH_LIMIT,
-    FLYING_LIMIT, HELD_LIMIT, LANE_LIMIT, LINGER_LIMIT, PRODUCER_LIMIT,
+    FLYING_LIMIT, HELD_LIMIT, LANE_LIMIT, LINGER_LIMIT,
 };
 use relay_run::files::{RunOptions, run_files};
+use relay_run::report_file::NOT_APART;
 use relay_run::run::{Limits, RelayConfig};
-use relay_words::Exit;
+use relay_run::ticking::TICK;
+use relay_target::{AddressFault, read_address, read_name};
+use relay_words::{Exit, duration_of};
 use std::alloc::{AllocError, Global};
 use std::io;
 use std::sync::Wait;
@@ -21,7 +24,7 @@ const ABOUT: &str = "Writes files of operations to an index, each operation once
 const LONG_ABOUT: &str = "Writes files of operations to an index, each operation once and in order.
 
 Each FILE has operations in the form of the OpenSearch bulk API (see `relay help lines`), and is read by its
-own producer. An operation goes to the lane of its document, is assigned the lane's next external version, and
+own producer; a named pipe is opened by it too, so one without a writer holds up no other. An operation goes to the lane of its document, is assigned the lane's next external version, and
 is sent in bulk requests POST /_bulk over HTTP/1.1 to ADDR. A write that is refused with 429 or 503, or whose
 request or reply is lost, is sent again with the same version, so the index applies it once; the operations of
 a document are sent one after another. A request that gets a 413 is sent again in halves.
@@ -29,8 +32,10 @@ a document are sent one after another. A request that gets a 413 is sent again i
     relay run --to 127.0.0.1:9200 --index books ops.ndjson
     zcat dump.gz | relay run --to 127.0.0.1:9200 -
 
-An operation that arrives slowly through a pipe is sent after --linger ticks at the latest, even while the
-pipe stays open.
+An operation that arrives slowly through a pipe is sent after --linger at the latest, even while the pipe stays
+open.
+
+A DURATION is a number and ms, s, m or h, such as 200ms, 30s or 5m.
 
 At the end standard output gets a line for each operation that could not be settled, by producer (the
 position of its file, from 0) and number, and then the counts. In an epoch E above 0 a name is E.P:N.
@@ -51,19 +56,20 @@ nothing was started.
 
 With --report FILE the reports are also saved, one JSON object per line: cause, id, index, number and
 producer; kind, status and sends if the cause has them; and epoch if it is above 0. Unlike in the printed
-lines, blanks and line ends in an id are escaped. `FILE: create failed` means that the file could not be
-created, and then nothing was put; `FILE: write failed` that it could not be written, after everything was
-printed.
+lines, blanks and line ends in an id are escaped. The file has to be new or empty, or --append adds to it and
+cuts off a line that an earlier run left torn. `FILE: create failed` and `FILE: append failed` mean that the
+file could not be opened or mended, and then nothing was put; `FILE: write failed` that it could not be
+written, after everything was printed.
 
 The exit status is 0 on success, 1 if the command line is invalid, 2 if a line of a file is, 3 if a file, an
 output or a lane's thread failed, 4 if memory ran out, and 5 if operations were reported; if several apply,
 the first of 4, 3, 2 and 5.
 
 While the index is down, each request that cannot be sent is an attempt, and so is each that is not answered
-within --timeout seconds. Between the attempts of an operation its lane pauses for 1, 2, 4, 8, 16, 32 and 64
+within --timeout. Between the attempts of an operation its lane pauses for 1, 2, 4, 8, 16, 32 and 64
 ticks of 100 ms: 12.7 s in all with the default of 8 attempts, and 166 s with 32, at most 64 ticks each, plus
 the time that connecting takes. Then it is reported. With --patience each attempt keeps trying to connect for
-that many seconds before it fails, so an index that is back by then costs only the attempt of what was in
+that long before it fails, so an index that is back by then costs only the attempt of what was in
 flight when it went down.
 
 A lane holds at most --held operations, and --capacity more wait in front of it, each with its document of up
@@ -71,15 +77,37 @@ to 1048576 bytes and less than 2 KB more: at most 1.4 GB per lane with the defau
 have 1 KB. A --capacity below twice --count is slower, since the next request is then not ready when one is
 answered. Reports are kept in memory until the end: a run that is killed prints and saves none.
 
-Versions are --epoch times 2^40 plus a count from 1 in each lane. Every version that the index has stored for
-these documents must be at most --epoch times 2^40, and nobody else may write them during the run. Give each
-run over the same documents an epoch above those of all earlier runs; otherwise its writes are reported as
-conflicts.
+Versions are the epoch times 2^40 plus a count from 1 in each lane. Every version that the index has stored for
+these documents must be at most the epoch times 2^40, so each run over the same documents needs an epoch above
+those of all earlier runs; otherwise its writes are reported as conflicts. Nobody else may write these documents
+during the run. With --epoch-from INDEX/ID the index provides the epoch: before anything else is sent, the run
+writes this document by PUT /INDEX/_doc/ID, and its epoch is the version that the index gives it, one more than
+the last one. So a run that is repeated, on whatever machine, needs nothing typed. Only the relay may write that
+document, and nobody may delete it. If there is no epoch, nothing is sent, standard error gets one of these
+lines, and the exit status is 3:
 
-After a crash, make sure that the old process is gone, and run the same files again with the next epoch. A
-request of the old run that still arrives is applied before the new writes of its document, or not at all. If
-the old process is still sending, the order of the writes is kept nevertheless, but its count of operations
-already applied may be wrong.";
+    epoch: unreachable                 no connection could be made, or no whole reply came
+    epoch: status STATUS TYPE          the index refused the write, with this type of error
+    epoch: no version in the answer    the reply states no version from 1 on
+    epoch: spent                       the version is above 4194303
+
+The first, and the statuses 429, 502, 503 and 504, are tried again each second for --patience.
+
+    relay run --to 127.0.0.1:9200 --epoch-from relay/epoch --index books ops.ndjson
+
+After a crash run the same files again, in the next epoch. A request of the old run that still arrives is
+applied before the new writes of its document, or not at all. If the old process is still sending, its writes
+of a document are refused once the new run has written that document, and are applied elsewhere; the order of
+the writes is kept, but its count of operations already applied may be wrong.";
+
+// The option that names the counter document.
+const COUNTER: &str = "epoch-from";
+
+const COUNTER_HELP: &str =
+    "Take the epoch from the index: write this document, which no other program may write with a version of its own and nobody may delete, and use the version that the index gives it; INDEX ends at the first slash [default: none, so --epoch applies]";
+
+// The maximum number of files.
+const FILE_LIMIT: usize = 16;
 
 // An option whose value is a number from `least` to `most`.
 struct NumberOption {
@@ -135,13 +163,6 @@ const NUMBERS: &[NumberOption] = &[
         help: "Maximum size of a request's body in bytes, 1024 to 16777216; a single operation may have more",
     },
     NumberOption {
-        name: "linger",
-        least: 0,
-        most: LINGER_LIMIT as u64,
-        default: "2",
-        help: "How long a request waits to be filled, in ticks of 100 ms, 0 to 65535",
-    },
-    NumberOption {
         name: "attempts",
         least: 1,
         most: ATTEMPT_LIMIT as u64,
@@ -157,33 +178,64 @@ const NUMBERS: &[NumberOption] = &[
     },
 ];
 
+// An option whose value is a length of time, at most `most` units of `unit` milliseconds.
+struct DurationOption {
+    name: &'static str,
+    unit: u64,
+    most: u64,
+    default: &'static str,
+    help: &'static str,
+    range: &'static str,
+}
+
+const LINGER: DurationOption = DurationOption {
+    name: "linger",
+    unit: TICK,
+    most: LINGER_LIMIT as u64,
+    default: "200ms",
+    help: "How long a request waits to be filled, rounded up to ticks of 100 ms, up to 6553500ms; a bare number counts ticks",
+    range: "0 to 6553500ms, or 0 to 65535 ticks",
+};
+
+const TIMEOUT: DurationOption = DurationOption {
+    name: "timeout",
+    unit: 1_000,
+    most: WEEK,
+    default: "300s",
+    help: "How long connecting may take, and writing a request and reading its whole answer, each, before the request counts as lost and is sent again, rounded up to seconds, up to 168h; a bare number counts seconds, and 0 means no limit",
+    range: "0 to 168h, or 0 to 604800 seconds",
+};
+
+const PATIENCE: DurationOption = DurationOption {
+    name: "patience",
+    unit: 1_000,
+    most: WEEK,
+    default: "0s",
+    help: "How long to keep trying to connect, once a second, before it counts as an attempt, rounded up to seconds, up to 168h; a bare number counts seconds",
+    range: "0 to 168h, or 0 to 604800 seconds",
+};
+
 // The number of seconds in a week.
 const WEEK: u64 = 604_800;
 
-// The options in seconds, in the order of the help.
-const SECONDS: &[NumberOption] = &[
-    NumberOption {
-        name: "timeout",
-        least: 0,
-        most: WEEK,
-        default: "300",
-        help: "How long connecting may take, and a read or a write on a connection may wait, before the request counts as lost and is sent again, 0 to 604800; 0 means no limit",
-    },
-    NumberOption {
-        name: "patience",
-        least: 0,
-        most: WEEK,
-        default: "0",
-        help: "How long to keep trying to connect, once a second, before it counts as an attempt, 0 to 604800",
-    },
-];
+// The options that are lengths of time, in the order of the help.
+const DURATIONS: &[DurationOption] = &[LINGER, TIMEOUT, PATIENCE];
 
-fn number<'a>(alloc: Global, option: &NumberOption, value: &'static str) -> Arg<'a> {
+fn number<'a>(alloc: Global, option: &NumberOption) -> Arg<'a> {
     Arg::new(alloc, option.name)
         .long(option.name)
-        .value_name(value)
+        .value_name("N")
         .action(ArgAction::Set)
         .value_parser(ValueParser::unsigned(option.least, option.most))
+        .default_value(option.default)
+        .help(option.help)
+}
+
+fn duration<'a>(alloc: Global, option: &DurationOption) -> Arg<'a> {
+    Arg::new(alloc, option.name)
+        .long(option.name)
+        .value_name("DURATION")
+        .action(ArgAction::Set)
         .default_value(option.default)
         .help(option.help)
 }
@@ -192,10 +244,10 @@ fn number<'a>(alloc: Global, option: &NumberOption, value: &'static str) -> Arg<
 fn with_numbers<'a>(alloc: Global, command: Command<'a>) -> Result<Command<'a>, AllocError> {
     let mut command = command;
     for option in NUMBERS {
-        command = command.arg(number(alloc, option, "N"))?;
+        command = command.arg(number(alloc, option))?;
     }
-    for option in SECONDS {
-        command = command.arg(number(alloc, option, "SECONDS"))?;
+    for option in DURATIONS {
+        command = command.arg(duration(alloc, option))?;
     }
     Ok(command)
 }
@@ -207,7 +259,14 @@ fn with_outputs<'a>(alloc: Global, command: Command<'a>) -> Result<Command<'a>, 
         .value_name("FILE")
         .action(ArgAction::Set)
         .help(
-            "Save what could not be settled to this file as NDJSON, one object per line; it is created before anything is put, and written at the end",
+            "Save what could not be settled to this file as NDJSON, one object per line; it is opened before anything is put, has to be new or empty, and is written at the end",
+        );
+    let append = Arg::new(alloc, "append")
+        .long("append")
+        .action(ArgAction::SetTrue)
+        .requires_arg("report")?
+        .help(
+            "Add to what the file of --report has; a line that an earlier run left torn is cut off",
         );
     let progress = Arg::new(alloc, "progress")
         .long("progress")
@@ -215,7 +274,7 @@ fn with_outputs<'a>(alloc: Global, command: Command<'a>) -> Result<Command<'a>, 
         .help(
             "Show progress on standard error every second, and a message as soon as no connection can be made; a terminal gets these messages without this option too",
         );
-    command.arg(report)?.arg(progress)
+    command.arg(report)?.arg(append)?.arg(progress)
 }
 
 /// Its help and its options.
@@ -225,7 +284,9 @@ pub fn command<'a>(alloc: Global, name: &'static str) -> Result<Command<'a>, All
         .value_name("ADDR")
         .action(ArgAction::Set)
         .required(true)
-        .help("The address of the index, HOST:PORT, 1 to 255 visible ASCII characters");
+        .help(
+            "The address of the index, HOST:PORT, 1 to 255 visible ASCII characters; `http://` before it is dropped",
+        );
     let index = Arg::new(alloc, "index")
         .long("index")
         .value_name("NAME")
@@ -236,22 +297,66 @@ pub fn command<'a>(alloc: Global, name: &'static str) -> Result<Command<'a>, All
     let files = Arg::new(alloc, "file")
         .value_name("FILE")
         .action(ArgAction::Append)
-        .num_args(1..=PRODUCER_LIMIT as usize)
+        .num_args(1..=FILE_LIMIT)
         .required(true)
         .help(
             "Files of operations, 1 to 16, each read by its own producer; `-`, at most once, is standard input",
         );
+    let counter = Arg::new(alloc, COUNTER)
+        .long(COUNTER)
+        .value_name("INDEX/ID")
+        .action(ArgAction::Set)
+        .conflicts_with("epoch")?
+        .help(COUNTER_HELP);
     let command = Command::new(alloc, name)
         .about(ABOUT)
         .long_about(LONG_ABOUT)
         .arg(to)?
-        .arg(index)?;
+        .arg(index)?
+        .arg(counter)?;
     with_outputs(alloc, with_numbers(alloc, command)?)?.arg(files)
 }
 
 // The value of a numeric option, which has a default and a range.
 fn number_of(matches: &ArgMatches<'_>, name: &str) -> u32 {
     matches.get_one::<u32>(name).unwrap_or(0)
+}
+
+// The value of an option that is a length of time, in its units. If it is not one, or too long,
+// prints so, and returns the exit status.
+fn duration_in<R: Eprint>(
+    rt: &R,
+    matches: &ArgMatches<'_>,
+    option: &DurationOption,
+) -> Result<u32, Exit> {
+    let word = matches.get_str(option.name).unwrap_or(option.default);
+    let value = duration_of(word, option.unit.max(1)).filter(|value| *value <= option.most);
+    match value.and_then(|value| u32::try_from(value).ok()) {
+        Some(value) => Ok(value),
+        None => {
+            let (name, range) = (option.name, option.range);
+            let _ = eprintln!(rt;
+                "error: invalid value '{word}' for '--{name} <DURATION>': not a number of ms, s, m or h from {range}"
+            );
+            Err(Exit::Usage)
+        }
+    }
+}
+
+// The options that are lengths of time, each in its units.
+#[derive(Clone, Copy)]
+struct Durations {
+    linger: u32,
+    timeout: u32,
+    patience: u32,
+}
+
+fn durations_of<R: Eprint>(rt: &R, matches: &ArgMatches<'_>) -> Result<Durations, Exit> {
+    Ok(Durations {
+        linger: duration_in(rt, matches, &LINGER)?,
+        timeout: duration_in(rt, matches, &TIMEOUT)?,
+        patience: duration_in(rt, matches, &PATIENCE)?,
+    })
 }
 
 // The value of a text option, if it was given.
@@ -266,8 +371,24 @@ fn own_text(
     }
 }
 
-// The options as they were given.
-fn options_of(alloc: Global, matches: &ArgMatches<'_>) -> Result<RunOptions, AllocError> {
+// The counter document, if one was named. `Some(None)`: the name is not one of a document.
+fn counter_of(
+    alloc: Global,
+    matches: &ArgMatches<'_>,
+) -> Result<Option<Option<DocKey>>, AllocError> {
+    match matches.get_str(COUNTER) {
+        Some(name) => Ok(Some(read_name(alloc, name)?)),
+        None => Ok(None),
+    }
+}
+
+// The options as they were given, without the counter document.
+fn options_of(
+    alloc: Global,
+    matches: &ArgMatches<'_>,
+    to: &str,
+    durations: &Durations,
+) -> Result<RunOptions, AllocError> {
     let mut files = Vec::new(alloc);
     for file in matches.get_strs("file").unwrap_or(&[]) {
         files.push(String::from_str(alloc, file)?)?;
@@ -282,7 +403,7 @@ fn options_of(alloc: Global, matches: &ArgMatches<'_>) -> Result<RunOptions, All
         limits: Limits {
             count: number_of(matches, "count"),
             bytes: matches.get_one::<u64>("bytes").unwrap_or(0),
-            linger: number_of(matches, "linger"),
+            linger: durations.linger,
         },
         attempts: number_of(matches, "attempts"),
         in_flight: number_of(matches, "flying"),
@@ -291,14 +412,31 @@ fn options_of(alloc: Global, matches: &ArgMatches<'_>) -> Result<RunOptions, All
     };
     Ok(RunOptions {
         files,
-        to: String::from_str(alloc, matches.get_str("to").unwrap_or(""))?,
+        to: String::from_str(alloc, to)?,
         index,
         config,
-        timeout: number_of(matches, "timeout"),
-        patience: number_of(matches, "patience"),
+        epoch_from: None,
+        timeout: durations.timeout,
+        patience: durations.patience,
         report,
+        append: matches.get_flag("append"),
         progress: matches.get_flag("progress"),
     })
+}
+
+// What is said of an address that is none.
+fn address_fault(fault: AddressFault) -> &'static str {
+    match fault {
+        AddressFault::Secure => {
+            "error: --to ADDR: the relay speaks plain HTTP; for https:// run a proxy on this machine, as docs/OPERATING.md shows under \"TLS, credentials and compression\""
+        }
+        AddressFault::NoPort => {
+            "error: --to ADDR has no port: it has to be HOST:PORT, such as 127.0.0.1:9200"
+        }
+        AddressFault::Form => {
+            "error: --to ADDR has to be HOST:PORT, such as 127.0.0.1:9200 or [::1]:9200, without a path or credentials"
+        }
+    }
 }
 
 /// Runs it over files, sockets, standard output and standard error.
@@ -306,9 +444,28 @@ pub fn execute<R>(rt: &R, host: HostRuntime, matches: &ArgMatches<'_>) -> Exit
 where
     R: Print + Eprint + AllocGlobal + Threads + Wait + Clock + Copy + Send + 'static,
 {
-    let Ok(options) = options_of(rt.alloc(), matches) else {
+    let durations = match durations_of(rt, matches) {
+        Ok(durations) => durations,
+        Err(exit) => return exit,
+    };
+    let to = match read_address(matches.get_str("to").unwrap_or("")) {
+        Ok(address) => address,
+        Err(fault) => return usage(rt, address_fault(fault)),
+    };
+    let Ok(mut options) = options_of(rt.alloc(), matches, to, &durations) else {
         return out_of_memory(rt);
     };
+    match counter_of(rt.alloc(), matches) {
+        Ok(None) => {}
+        Ok(Some(Some(counter))) => options.epoch_from = Some(counter),
+        Ok(Some(None)) => {
+            return usage(
+                rt,
+                "error: --epoch-from INDEX/ID has to name an index, 1 to 255 bytes, and after a slash an id, 1 to 512 bytes",
+            );
+        }
+        Err(_) => return out_of_memory(rt),
+    }
     if !options.is_valid() {
         return usage(
             rt,
@@ -322,10 +479,7 @@ where
         );
     }
     if !options.saves_apart() {
-        return usage(
-            rt,
-            "error: --report FILE has to be a file of its own: not '-', and none of those that are read",
-        );
+        return usage(rt, NOT_APART.trim_end());
     }
     let mut out = StdStream::new(io::writer(rt));
     let mut err = StdStream::new(host.stderr());

@@ -1,5 +1,6 @@
 //! `relay stub`.
 use crate::refusals::script_of;
+use crate::stand_in::{index_of, reasons};
 use clap::builder::ValueParser;
 use clap::{Arg, ArgAction, ArgMatches, Command};
 use relay_action::StdStream;
@@ -17,9 +18,11 @@ const LONG_ABOUT: &str = "Serves bulk requests over HTTP with a fresh stand-in i
 It listens at ADDR and serves N connections, one after the other, with one request on each. A request
 POST /_bulk with a body of at most 16777216 bytes gets the answer that `relay apply` gives for that body: 200
 and the reply, or 400 and the first invalid line. All requests go to the same index: what one request wrote is
-there for the next. Any other request gets 400 and {\"error\":{\"type\":\"NotBulk\"},\"status\":400}. Each answer
-has `Connection: close`. A connection that ends early or carries no HTTP/1 request is dropped, and counts as
-one of the N. There is no time limit for a connection or its request.
+there for the next. PUT /INDEX/_doc/ID stores its body in that document, with the version that the index itself
+gives it, one more than the stored one, and gets 201 or 200 and an answer with `_version`. Any other request
+gets 400 and {\"error\":{\"type\":\"NotBulk\"},\"status\":400}. Each answer has `Connection: close`. A connection
+that ends early or carries no HTTP/1 request is dropped, and counts as one of the N. There is no time limit for
+a connection or its request.
 
     relay stub --listen 127.0.0.1:9200 --requests 2 &
     relay lines --index books < ops.ndjson > bulk.ndjson
@@ -78,6 +81,7 @@ pub fn command<'a>(alloc: Global, name: &'static str) -> Result<Command<'a>, All
         .arg(listen)?
         .arg(requests)?
         .arg(refuse)?
+        .arg(reasons(alloc))?
         .arg(max)
 }
 
@@ -97,7 +101,15 @@ pub fn execute<R: Print + Eprint + Net + AllocGlobal>(rt: &R, matches: &ArgMatch
         return Exit::Device;
     };
     let mut writer = StdStream::new(io::writer(rt));
-    match stub(rt.alloc(), &mut listener, requests, script, &mut writer) {
+    let index = index_of(rt.alloc(), matches);
+    match stub(
+        rt.alloc(),
+        &mut listener,
+        requests,
+        index,
+        script,
+        &mut writer,
+    ) {
         Ok(()) => Exit::Done,
         Err(fault) => report(rt, fault),
     }

@@ -1,4 +1,5 @@
 //! `relay world`.
+use crate::stand_in::{index_of, reasons};
 use clap::{ArgMatches, Command};
 use relay_action::StdStream;
 use relay_scenario::exit::exit_of_script;
@@ -20,7 +21,7 @@ The first line is the configuration, in eleven numbers:
 
     world LANES PRODUCERS CAPACITY HELD COUNT BYTES LINGER ATTEMPTS FLYING EPOCH DEAL
 
-with 1 to 8 lanes, 1 to 16 producers, 1 to 65536 messages in a lane's queue and as many operations held by
+with 1 to 8 lanes, 1 to 256 producers, 1 to 65536 messages in a lane's queue and as many operations held by
 a lane, batches of 1 to 10000 operations and 1024 to 16777216 bytes that wait at most 65535 ticks to be
 filled, 1 to 32 attempts, 1 to 8 requests of a lane in flight, an epoch from 0 to 4194303, and 1 to
 1099511627775 versions that a lane assigns in it. Each further line is an event:
@@ -71,20 +72,20 @@ A script has at most 1000000 lines. Any other line ends it with `line N: BadLine
 status 2; the answers before it have been written. The exit status is 3 if a read or write fails, and 4 if
 memory runs out.";
 
-/// Its help. It has no options.
+/// Its help and its option.
 pub fn command<'a>(alloc: Global, name: &'static str) -> Result<Command<'a>, AllocError> {
-    Ok(
-        Command::new(alloc, name)
-            .about(ABOUT)
-            .long_about(LONG_ABOUT),
-    )
+    Command::new(alloc, name)
+        .about(ABOUT)
+        .long_about(LONG_ABOUT)
+        .arg(reasons(alloc))
 }
 
 /// Runs it over standard input and output.
-pub fn execute<R: Input + Print + Eprint + AllocGlobal>(rt: &R, _: &ArgMatches<'_>) -> Exit {
+pub fn execute<R: Input + Print + Eprint + AllocGlobal>(rt: &R, matches: &ArgMatches<'_>) -> Exit {
     let mut reader = StdStream::new(rt.reader());
     let mut writer = StdStream::new(io::writer(rt));
-    match world_script(rt.alloc(), &mut reader, &mut writer) {
+    let index = index_of(rt.alloc(), matches);
+    match world_script(rt.alloc(), &mut reader, &mut writer, index) {
         Ok(()) => Exit::Done,
         Err(fault) => report(rt, fault),
     }

@@ -1,0 +1,22 @@
+-- What is written if the file for the reports is not opened, and the exit status.
+use Rattle.std.specs.Prelude.{List, ℕ, codes}
+use Rattle.relay_words.specs.declared.exit.Exit.{Exit}
+use Rattle.relay_words.specs.declared.exit.Exit.TheVariants as exit
+use Rattle.relay_run.specs.declared.report_file.ReportFileFault.{ReportFileFault}
+use Rattle.relay_run.specs.declared.report_file.ReportFileFault.TheVariants as fault
+use Rattle.relay_run.specs.Saying.{file_failed_text}
+
+abbrev pub report_file_text : List ℕ → ReportFileFault → List ℕ
+report_file_text name fault.Open = file_failed_text name (codes "create")
+report_file_text name fault.Input = codes "error: --report FILE has to be a file of its own: not '-', and none of those that are read\n"
+report_file_text name fault.Content = codes "error: --report FILE is not empty: --append adds to it, and otherwise it has to be a new or an empty file\n"
+report_file_text name fault.Mend = file_failed_text name (codes "append")
+report_file_text name fault.Memory = codes ""
+
+-- a file that the command line should not have named is a usage fault
+abbrev pub exit_of_report_file : ReportFileFault → Exit
+exit_of_report_file fault.Open = exit.Device
+exit_of_report_file fault.Input = exit.Usage
+exit_of_report_file fault.Content = exit.Usage
+exit_of_report_file fault.Mend = exit.Device
+exit_of_report_file fault.Memory = exit.Memory

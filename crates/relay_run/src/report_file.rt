@@ -1,0 +1,169 @@
+//! Opening the file in which the reports of a run are saved.
+ghost use Rattle.std.specs.Prelude.{◌≡◌, IfOk, OnOk};
+ghost use Rattle.relay_run.specs.ReportFile.{exit_of_report_file, report_file_text};
+ghost use Rattle.relay_run.specs.Saying.{IsSaid};
+
+use crate::files::say;
+use crate::saving::say_failed;
+use crate::source::STANDARD_NAME;
+use relay_action::ByteOut;
+use relay_ndjson::LINE_LIMIT;
+use relay_report::{LastLine, last_line};
+use relay_words::Exit;
+use std::alloc::{AllocError, Global};
+use std::fs;
+use std::fs::{File, Metadata, OpenOptions};
+use std::io::{ErrorKind, Read, Seek, SeekFrom, Write};
+use std::os::unix::fs::MetadataExt;
+
+/// The line about a file for the reports that a producer reads.
+pub const NOT_APART: &str =
+    "error: --report FILE has to be a file of its own: not '-', and none of those that are read\n";
+
+/// The line about a file for the reports that is not empty.
+pub const NOT_EMPTY: &str =
+    "error: --report FILE is not empty: --append adds to it, and otherwise it has to be a new or an empty file\n";
+
+/// Why the file for the reports was not opened.
+#[derive(Clone, Copy, Debug, PartialEq, Eq)]
+pub(crate) enum ReportFileFault {
+    /// The system does not open or create it, or does not say what it is.
+    Open,
+    /// It is one of the files that are read, by whatever name.
+    Input,
+    /// It has a content, and nobody asked to add to it.
+    Content,
+    /// Its end could not be read or mended.
+    Mend,
+    /// An allocation failed.
+    Memory,
+}
+
+/// The name of standard input as a file, by which it can be compared with others.
+const STANDARD_FILE: &str = "/dev/stdin";
+
+/// Opens the file for the reports, or creates it. If they are added to what it has, its last line
+/// is whole first: a part of a line is cut off. Nothing else is changed, and nothing is if the file
+/// is refused. What is no regular file, such as a pipe, is opened as it is.
+pub(crate) fn open_report(
+    host: &HostRuntime,
+    alloc: Global,
+    name: &str,
+    append: bool,
+    files: &[String],
+) -> Result<File, ReportFileFault> {
+    let Ok(file) = open(host, name, append) else {
+        return Err(ReportFileFault::Open);
+    };
+    let Ok(metadata) = file.metadata() else {
+        return Err(ReportFileFault::Open);
+    };
+    if !metadata.is_file() {
+        return Ok(file);
+    }
+    if is_among(host, &metadata, files) {
+        return Err(ReportFileFault::Input);
+    }
+    if append {
+        return mend(alloc, file, metadata.len());
+    }
+    if metadata.len() > 0 {
+        return Err(ReportFileFault::Content);
+    }
+    Ok(file)
+}
+
+// Opens a file without changing what it has. What is added goes to its end.
+fn open(host: &HostRuntime, name: &str, append: bool) -> Result<File, std::io::Error> {
+    let mut how = OpenOptions::new();
+    how.create(true);
+    if append {
+        how.read(true).append(true);
+    } else {
+        how.write(true);
+    }
+    how.open(host, name)
+}
+
+// Whether one of the names is that of this file: the same device and the same inode.
+fn is_among(host: &HostRuntime, file: &Metadata, names: &[String]) -> bool {
+    for name in names {
+        let path = if name.as_str() == STANDARD_NAME {
+            STANDARD_FILE
+        } else {
+            name.as_str()
+        };
+        if let Ok(other) = fs::metadata(host, path) {
+            if other.dev() == file.dev() && other.ino() == file.ino() {
+                return true;
+            }
+        }
+    }
+    false
+}
+
+// Makes the last line of a report of this size whole, by cutting off a part of a line, or by adding
+// a line feed. Lines that are longer than a line of a report can be are left.
+fn mend(alloc: Global, file: File, size: u64) -> Result<File, ReportFileFault> {
+    let mut file = file;
+    let start = size.saturating_sub(LINE_LIMIT as u64 + 1);
+    let text = end_of(alloc, &mut file, start)?;
+    let Ok(last) = last_line(alloc, &text) else {
+        return Err(ReportFileFault::Memory);
+    };
+    let mended = match last {
+        LastLine::Ended => Ok(()),
+        LastLine::Torn { whole } if whole > 0 || start == 0 => {
+            file.set_len(start.saturating_add(whole as u64))
+        }
+        LastLine::Torn { .. } | LastLine::Unended => file.write_all(b"\n"),
+    };
+    match mended {
+        Ok(()) => Ok(file),
+        Err(_) => Err(ReportFileFault::Mend),
+    }
+}
+
+// What a file has from this place on.
+fn end_of(alloc: Global, file: &mut File, start: u64) -> Result<Vec<u8>, ReportFileFault> {
+    let mut text = Vec::new(alloc);
+    if file.seek(SeekFrom::Start(start)).is_err() {
+        return Err(ReportFileFault::Mend);
+    }
+    match file.read_to_end(&mut text) {
+        Ok(_) => Ok(text),
+        Err(error) if error.kind() == ErrorKind::OutOfMemory => Err(ReportFileFault::Memory),
+        Err(_) => Err(ReportFileFault::Mend),
+    }
+}
+
+/// Writes why the file with this name was not opened for the reports, and returns the exit status.
+/// `AllocError`: an allocation failed, here or before.
+pub(crate) fn say_not_opened<E: ByteOut>(
+    alloc: Global,
+    name: &str,
+    fault: ReportFileFault,
+    err: &mut E,
+) -> Result<Exit, AllocError>
+    ensures said { OnOk result (IsSaid (report_file_text name.now fault)
+        (E.written err.old, E.failed err.old) (E.written err.new, E.failed err.new)) }
+    ensures exit { IfOk result (λ end. end ≡ exit_of_report_file fault) }
+{
+    match fault {
+        ReportFileFault::Open => say_failed(alloc, name, b"create", err),
+        ReportFileFault::Mend => say_failed(alloc, name, b"append", err),
+        ReportFileFault::Input => Ok(say_usage(NOT_APART, err)),
+        ReportFileFault::Content => Ok(say_usage(NOT_EMPTY, err)),
+        ReportFileFault::Memory => Err(AllocError),
+    }
+}
+
+// Writes what is wrong with the command line, and returns the exit status.
+fn say_usage<E: ByteOut>(text: &str, err: &mut E) -> Exit
+    ensures said { IsSaid text.now
+        (E.written err.old, E.failed err.old) (E.written err.new, E.failed err.new) }
+    ensures exit { result ≡ Exit.Usage }
+{
+    let _ = say(err, text.as_bytes());
+    Exit::Usage
+}
